@@ -5,9 +5,13 @@
 #![tactic(auto)]
 
 mod crc;
+mod fault;
+mod frame;
 mod laws;
 mod words;
 
 pub use crc::check_word;
+pub use fault::FrameFault;
+pub use frame::{Frame, Kind, OVERHEAD, read_frame};
 pub use laws::check_word_is_the_remainder;
 pub use words::{read_long, read_word};
