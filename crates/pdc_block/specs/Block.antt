@@ -1,0 +1,29 @@
+-- The spelling of a block of a data frame (IEEE C37.118.2-2011, 6.3 and table 6, in 16-bit formats).
+use Rattle.std.specs.Prelude.{◌≡◌, ℕ, ◌^◌, ◌<◌, List, [], ◌∷◌, ◌++◌, length, slice_index}
+use Rattle.std.specs.Int.{w16, to_be_bytes}
+use Rattle.std.specs.List.{flat_map}
+use Rattle.pdc_cfg.specs.Shape.{word_count_of}
+use Rattle.pdc_cfg.specs.declared.shape.Shape.{Shape}
+use Rattle.pdc_block.specs.declared.block.Block.{Block}
+
+-- each element is a 16-bit word
+abbrev pub AreWords : List ℕ → Type 0
+AreWords words = (i : ℕ) → slice_index words i < 2 ^ 16
+
+-- the words on the wire: each with its high byte first
+abbrev pub bytes_of_words : List ℕ → List ℕ
+bytes_of_words words = flat_map (to_be_bytes w16) words
+
+-- the words of a block, in wire order
+abbrev pub words_of : Block → List ℕ
+words_of block = block.words.items
+
+-- the bytes of a block
+abbrev pub bytes_of : Block → List ℕ
+bytes_of block = bytes_of_words (words_of block)
+
+-- The bytes are a body of this shape with these words: the words one after the other, as many as the shape has.
+pub record IsBody (shape : Shape) (bytes words : List ℕ) : Type 0 where
+  pub count : length words ≡ word_count_of shape
+  pub fits : AreWords words
+  pub spelled : bytes ≡ bytes_of_words words

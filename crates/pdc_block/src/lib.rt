@@ -1,0 +1,9 @@
+//! Data blocks of IEEE C37.118.2-2011 (6.3), in 16-bit formats.
+//!
+//! To the layers above this crate promises that the bytes of a block are its words, and that a data payload is the
+//! blocks of its sections, one after the other.
+#![tactic(auto)]
+
+mod block;
+
+pub use block::{Block, MAX_WORDS};

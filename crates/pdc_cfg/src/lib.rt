@@ -1,0 +1,9 @@
+//! Configurations of IEEE C37.118.2-2011: frames CFG-1 and CFG-2 (6.4), in 16-bit formats.
+//!
+//! To the layers above this crate promises that a configuration is its sections: each is kept byte for byte, and what
+//! is read of it stands at its place in these bytes.
+#![tactic(auto)]
+
+mod shape;
+
+pub use shape::{MAX_ANALOGS, MAX_DIGITALS, MAX_PHASORS, Shape};
