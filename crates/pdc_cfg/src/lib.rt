@@ -4,6 +4,12 @@
 //! is read of it stands at its place in these bytes.
 #![tactic(auto)]
 
+mod config;
+mod fault;
+mod section;
 mod shape;
 
+pub use config::{ConfigView, MAX_SECTIONS, read_config};
+pub use fault::CfgFault;
+pub use section::{Section, SectionView};
 pub use shape::{MAX_ANALOGS, MAX_DIGITALS, MAX_PHASORS, Shape};

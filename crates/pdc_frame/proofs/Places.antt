@@ -1,25 +1,13 @@
 -- A frame by the places of its fields: what stands there is the spelling, and a spelling has the fields there.
-use Rattle.std.proofs.Common.{◌≡◌, ◌⊎◌, inl, inr, ℕ, zero, suc, ◌+◌, ◌-◌, ◌*◌, ◌/◌, ◌%◌, ◌^◌, ◌<◌, ◌≤◌, List, [], ◌∷◌, ◌++◌, length, take, drop, get_or, refl, sym, ap, subst, ◌∙◌, arith, length-append, length-drop, append_assoc}
-use Rattle.std.proofs.Math.Seq.{drop-cons, take-append_seam, take-append-add, get_or-append_seam}
-use Rattle.std.proofs.lemmas.List.{take-append-drop, drop_all, append-nil, length-take, get_or-take, get_or_past, get_or-append-add, get_or-drop}
-use Rattle.std.proofs.lemmas.Bool.{cases_lt}
+use Rattle.std.proofs.Common.{◌≡◌, ◌⊎◌, ℕ, suc, ◌+◌, ◌-◌, ◌*◌, ◌/◌, ◌%◌, ◌^◌, ◌<◌, ◌≤◌, List, [], ◌∷◌, ◌++◌, length, take, drop, get_or, sym, ap, subst, ◌∙◌, arith, length-append, length-drop}
+use Rattle.std.proofs.Math.Seq.{take-append_seam, take-append-add, get_or-append_seam}
+use Rattle.std.proofs.lemmas.List.{take-append-drop, drop_all, length-take, get_or-append-add}
 use Rattle.std.specs.Int.{w16, w32, to_be_bytes}
 use Rattle.pdc_frame.specs.Bytes.{AreBytes, word_at, long_at}
 use Rattle.pdc_frame.specs.CheckWord.{check_word_of}
-use Rattle.pdc_frame.specs.Frame.{Fields, Fits, number_of, before_check, spelling_of, IsFrame, check_in}
+use Rattle.pdc_frame.specs.Frame.{Fields, number_of, before_check, spelling_of, IsFrame, check_in}
 use Rattle.pdc_frame.proofs.Polynomials.{IsCheckWord-check_word_of}
-
--- n elements from this place on, one by one
-abbrev cells_from : List ℕ → ℕ → ℕ → List ℕ
-cells_from bytes i zero = []
-cells_from bytes i (suc n) = get_or bytes i 0 ∷ cells_from bytes (suc i) n
-
-drop-cells_from : (bytes : List ℕ) (i n : ℕ) → i + n ≤ length bytes → drop i bytes ≡ cells_from bytes i n ++ drop (i + n) bytes
-drop-cells_from bytes i zero le = let e : i ≡ i + 0 = omega arith in ap (λ (k : ℕ). drop k bytes) e
-drop-cells_from bytes i (suc n) le =
-    let lt : i < length bytes = omega arith in
-    let e : suc i + n ≡ i + suc n = omega arith in
-    drop-cons bytes i 0 lt ∙ ap (λ (t : List ℕ). get_or bytes i 0 ∷ t) (drop-cells_from bytes (suc i) n (omega arith) ∙ ap (λ (k : ℕ). cells_from bytes (suc i) n ++ drop k bytes) e)
+use Rattle.pdc_frame.proofs.Cells.{cells_from, drop-cells_from, word_cells, long_cells, AreBytes-take, AreBytes-drop}
 
 -- the fields stand in their places
 pub record ArePlaces (bytes : List ℕ) (f : Fields) : Type 0 where
@@ -32,21 +20,6 @@ pub record ArePlaces (bytes : List ℕ) (f : Fields) : Type 0 where
   pub fracsec : f.quality * 2 ^ 24 + f.frac ≡ long_at bytes 10
   pub payload : f.payload ≡ take (length bytes - 16) (drop 14 bytes)
   pub check : check_in bytes ≡ check_word_of (take (length bytes - 2) bytes)
-
--- two words side by side
-word_cells : (n a b : ℕ) → a < 256 → b < 256 → n ≡ 256 * a + b → to_be_bytes w16 n ≡ a ∷ b ∷ []
-word_cells n a b a_fits b_fits e =
-    let high : n / 256 % 256 ≡ a = omega arith in
-    let low : n % 256 ≡ b = omega arith in
-    rw (high, low) refl
-
-long_cells : (n a b c d : ℕ) → a < 256 → b < 256 → c < 256 → d < 256 → n ≡ 65536 * (256 * a + b) + (256 * c + d) → to_be_bytes w32 n ≡ a ∷ b ∷ c ∷ d ∷ []
-long_cells n a b c d a_fits b_fits c_fits d_fits e =
-    let first : n / 16777216 % 256 ≡ a = omega arith in
-    let second : n / 65536 % 256 ≡ b = omega arith in
-    let third : n / 256 % 256 ≡ c = omega arith in
-    let fourth : n % 256 ≡ d = omega arith in
-    rw (first, second, third, fourth) refl
 
 -- fourteen cells that are those of the fields, and the payload
 before-cells : (f : Fields) (b0 b1 b2 b3 b4 b5 b6 b7 b8 b9 b10 b11 b12 b13 : ℕ) (payload : List ℕ) → b2 < 256 → b3 < 256 → b4 < 256 → b5 < 256
@@ -82,13 +55,6 @@ spelled-places bytes f fits h =
     let cells : to_be_bytes w16 (check_word_of (before_check f)) ≡ cells_from bytes (length bytes - 2) 2 = word_cells (check_word_of (before_check f)) _ _ (fits (length bytes - 2)) (fits (suc (length bytes - 2))) check in
     sym (take-append-drop (length bytes - 2) bytes) ∙ ap (λ (xs : List ℕ). xs ++ drop (length bytes - 2) bytes) before ∙ ap (λ (xs : List ℕ). before_check f ++ xs) (tail ∙ sym cells)
 
-AreBytes-take : (n : ℕ) (bytes : List ℕ) → AreBytes bytes → AreBytes (take n bytes)
-AreBytes-take n bytes h i =
-    elim (cases_lt i n) [
-      | inl lt ↦ rw (get_or-take n bytes i 0 lt) (h i)
-      | inr le ↦ rw (get_or_past (take n bytes) i 0 (omega (arith, length-take n bytes))) (omega arith)
-    ]
-
 -- what stands before CHK, and CHK itself
 ends-with : (before : List ℕ) (bytes : List ℕ) → AreBytes bytes → bytes ≡ before ++ to_be_bytes w16 (check_word_of before) → check_in bytes ≡ check_word_of (take (length bytes - 2) bytes)
 ends-with before bytes fits e =
@@ -105,9 +71,6 @@ ends-with before bytes fits e =
 
 pub check-spelled : (bytes : List ℕ) (f : Fields) → AreBytes bytes → bytes ≡ spelling_of f → check_in bytes ≡ check_word_of (take (length bytes - 2) bytes)
 check-spelled bytes f fits e = ends-with (before_check f) bytes fits e
-
-AreBytes-drop : (n : ℕ) (bytes : List ℕ) → AreBytes bytes → AreBytes (drop n bytes)
-AreBytes-drop n bytes h i = rw get_or-drop (h (n + i))
 
 -- fields that stand in their places and are in range are the frame's
 pub IsFrame-places : (bytes : List ℕ) (f : Fields) → AreBytes bytes → ArePlaces bytes f → (f.version ≡ 1) ⊎ (f.version ≡ 2) → 0 < f.id → f.id < 65535 → f.frac < 2 ^ 24 → IsFrame bytes f

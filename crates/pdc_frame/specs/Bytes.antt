@@ -1,5 +1,5 @@
 -- Numbers on the wire: most significant byte first (IEEE C37.118.2-2011, 6.2).
-use Rattle.std.specs.Prelude.{ℕ, ◌+◌, ◌*◌, ◌<◌, ◌^◌, List, slice_index}
+use Rattle.std.specs.Prelude.{ℕ, ◌+◌, ◌*◌, ◌<◌, List, slice_index}
 
 -- each element is a byte
 abbrev pub AreBytes : List ℕ → Type 0

@@ -1,10 +1,8 @@
-use Rattle.std.proofs.Common.{◌≡◌, ◌*◌, ◌+◌, ◌-◌, ◌%◌, ◌^◌, ◌≤◌, ◌<◌, ℕ, length, take, drop, arith, rules, refl, ap, sym, inl, inr, ◌∙◌}
+use Rattle.std.proofs.Common.{◌≡◌, ◌-◌, ◌%◌, ◌^◌, ℕ, length, take, drop, arith, ap, sym, ◌∙◌}
 use Rattle.std.proofs.lemmas.Nat.{and_mask}
 use Rattle.std.specs.Prelude.{bit_and}
-use Rattle.pdc_frame.specs.Bytes.{AreBytes, word_at, long_at}
-use Rattle.pdc_frame.specs.Frame.{Fields, Fits, IsFrame, fields_of, check_in}
-use Rattle.pdc_frame.specs.CheckWord.{check_word_of}
-use Rattle.pdc_frame.proofs.Places.{ArePlaces, check-spelled, IsFrame-places}
+use Rattle.pdc_frame.specs.Bytes.{AreBytes}
+use Rattle.pdc_frame.proofs.Places.{check-spelled, IsFrame-places}
 use Rattle.pdc_frame.proofs.frame.read_frame.Goals as goal
 
 pub returns-then-read_word-check_word-clause-only : goal.returns-then-read_word-check_word-clause-only

@@ -1,0 +1,52 @@
+use Rattle.std.proofs.Common.{◌≡◌, ℕ, ℤ, ◌/◌, ◌%◌, ◌^◌, ◌<◌, ◌≤◌, List, length, map, refl, sym, ap, subst, ◌∙◌, arith}
+use Rattle.std.specs.Prelude.{bit_and, FitsSigned}
+use Rattle.std.specs.Int.{w16, cast_unsigned, cast_signed}
+use Rattle.std.proofs.lemmas.List.{append-nil, length-map}
+use Rattle.std.proofs.lemmas.Nat.{and_mask}
+use Rattle.std.proofs.lemmas.Int.{of_z-to_z}
+use Rattle.std.proofs.Math.Facts.{sfits_to_z, Fits-of_z}
+use Rattle.pdc_frame.specs.Bytes.{AreBytes}
+use Rattle.std.specs.List.{AllByRecursion}
+use Rattle.pdc_cfg.specs.Section.{fields_of_view, IsSection}
+use Rattle.pdc_cfg.specs.Config.{ConfigFields, IsConfig, IsBodyFault, body_in, bytes_of_sections}
+use Rattle.pdc_cfg.proofs.Configs.{ArePlaces, spelled-places, no_fault_in, same_config}
+use Rattle.pdc_cfg.proofs.config.read_payload.Goals as goal
+
+pub returns-in_err-sections-clause-only : goal.returns-in_err-sections-clause-only
+returns-in_err-sections-clause-only c = λ config h. absurd (no_fault_in _ config _ h (subst (λ (n : ℕ). IsBodyFault n (body_in c.args.payload.now) c.in_err-sections.field-0.0) c.read_word-count.ensures c.in_err-sections.ensures.fault))
+
+-- the bits of a signed number that was read from a word
+rate-is : (z : ℤ) (n : ℕ) → n < 2 ^ 16 → FitsSigned w16 z → z ≡ cast_signed w16 n → cast_unsigned w16 (cast_signed w16 (cast_unsigned w16 z)) ≡ n
+rate-is z n n_fits z_fits e = of_z-to_z w16 (cast_unsigned w16 z) (Fits-of_z z_fits).fits ∙ ap (cast_unsigned w16) e ∙ of_z-to_z w16 n n_fits
+
+is_config : (payload : List ℕ) (config : ConfigFields) (base : ℕ) → AreBytes payload → ArePlaces payload config → config.flags ≡ base / 2 ^ 24 → config.time_base ≡ base % 2 ^ 24 → base < 2 ^ 32
+    → 0 < length config.sections → length config.sections ≤ 17 → AllByRecursion IsSection config.sections → FitsSigned w16 config.rate → IsConfig payload config
+is_config payload config base fits places flags time_base small some few sections rate = record {
+  flags = omega (arith, flags);
+  time_base = omega (arith, time_base);
+  some = some;
+  few = few;
+  sections = sections;
+  rate = rate;
+  spelled = spelled-places payload config fits places;
+}
+
+pub returns-clause-found : goal.returns-clause-found
+returns-clause-found c =
+    let payload : List ℕ = c.args.payload.now in
+    let base : ℕ = c.read_long-base.result in
+    let sections = c.in_ok-sections.sections in
+    let low : bit_and base 16777215 ≡ base % 2 ^ 24 = and_mask base 24 in
+    let begins = c.in_ok-sections.ensures.found in
+    let signed : FitsSigned w16 c.cast_signed.result = record { sfits = c.cast_signed.type_inv } in
+    let count : length (map fields_of_view sections.items) ≡ c.read_word-count.result = length-map sections.items fields_of_view ∙ c.in_ok-sections.ensures.count in
+    is_config payload _ base (λ i. omega (arith, c.type_inv.payload i)) (record {
+      long = omega arith;
+      base = omega (arith, low, c.read_long-base.ensures);
+      count = count ∙ c.read_word-count.ensures;
+      sections = sym (begins.parts ∙ append-nil (bytes_of_sections (map fields_of_view sections.items)));
+      rate = rate-is c.cast_signed.result c.read_word.result c.read_word.type_inv signed c.cast_signed.ensures ∙ c.read_word.ensures;
+    }) refl low c.read_long-base.type_inv (omega (arith, count)) (omega (arith, count)) begins.whole (sfits_to_z (Fits-of_z signed))
+
+pub returns-clause-only : goal.returns-clause-only
+returns-clause-only c = λ config h. same_config c.args.payload.now _ config (returns-clause-found c) h

@@ -1,0 +1,3 @@
+pub mod NearestLemmas
+pub mod SlotLemmas
+pub mod TagLemmas

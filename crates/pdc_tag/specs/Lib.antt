@@ -1,0 +1,4 @@
+pub mod Nearest
+pub mod Slot
+pub mod Instant
+pub mod Tag
