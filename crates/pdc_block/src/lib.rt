@@ -5,5 +5,9 @@
 #![tactic(auto)]
 
 mod block;
+mod fault;
+mod reading;
 
 pub use block::{Block, MAX_WORDS};
+pub use fault::BodyFault;
+pub use reading::{cut, read_body};

@@ -7,19 +7,13 @@ use Rattle.std.proofs.lemmas.List.{take-append-drop}
 use Rattle.std.proofs.lemmas.Grind.{flat_map-append}
 use Rattle.std.proofs.lemmas.List.{append-nil}
 use Rattle.pdc_frame.specs.Bytes.{word_at}
-use Rattle.pdc_frame.proofs.Cells.{word_at-append}
+use Rattle.pdc_frame.proofs.Cells.{word_at-append, same_parts}
 use Rattle.pdc_cfg.specs.declared.fault.CfgFault.{CfgFault}
 use Rattle.pdc_cfg.specs.declared.fault.CfgFault.TheVariants.{WrongKind, Cut, TooMany, FloatFormat}
 use Rattle.pdc_cfg.specs.Shape.{section_len_of}
 use Rattle.pdc_cfg.specs.Section.{SectionFields, IsSection, IsSectionFault, phasors_in, analogs_in, digitals_in, source_in, format_in, count_in}
 use Rattle.pdc_cfg.specs.Config.{bytes_of_sections, Begins, StopsAt, HasMore, IsBodyFault}
 use Rattle.pdc_cfg.proofs.Shapes.{same_shape}
-
--- two parts of one length, with what follows them
-same_parts : (xs ys x y : List ℕ) → length xs ≡ length ys → xs ++ x ≡ ys ++ y → (xs ≡ ys) × (x ≡ y)
-same_parts xs ys x y len e =
-    (sym (take-append_seam xs x) ∙ ap (take (length xs)) e ∙ ap (λ (n : ℕ). take n (ys ++ y)) len ∙ take-append_seam ys y,
-     sym (drop-append_seam xs x) ∙ ap (drop (length xs)) e ∙ ap (λ (n : ℕ). drop n (ys ++ y)) len ∙ drop-append_seam ys y)
 
 -- a flag is told by its number
 same_flag : (a b : Bool) (n : ℕ) → n ≡ (if a then 1 else 0) → n ≡ (if b then 1 else 0) → a ≡ b

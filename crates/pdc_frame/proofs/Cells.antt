@@ -1,6 +1,6 @@
 -- Bytes one by one, and the words that they make.
-use Rattle.std.proofs.Common.{◌≡◌, inl, inr, ℕ, zero, suc, ◌+◌, ◌*◌, ◌/◌, ◌%◌, ◌^◌, ◌<◌, ◌≤◌, List, [], ◌∷◌, ◌++◌, length, take, drop, get_or, refl, ap, ap₂, ◌∙◌, arith}
-use Rattle.std.proofs.Math.Seq.{drop-cons}
+use Rattle.std.proofs.Common.{◌≡◌, inl, inr, ℕ, zero, suc, ◌+◌, ◌*◌, ◌/◌, ◌%◌, ◌^◌, ◌<◌, ◌≤◌, List, [], ◌∷◌, ◌++◌, length, take, drop, get_or, refl, sym, ap, ap₂, ◌∙◌, arith}
+use Rattle.std.proofs.Math.Seq.{drop-cons, take-append_seam, drop-append_seam}
 use Rattle.std.proofs.lemmas.List.{length-take, get_or-take, get_or_past, get_or-drop, get_or_append_left}
 use Rattle.std.proofs.lemmas.Bool.{cases_lt}
 use Rattle.std.specs.Int.{w16, w32, to_be_bytes}
@@ -67,3 +67,9 @@ long_value n m n_fits m_fits e =
     let third : n / 256 % 256 ≡ m / 256 % 256 = cc in
     let fourth : n % 256 ≡ m % 256 = cc in
     omega (arith, first, second, third, fourth)
+
+-- two parts of one length, with what follows them
+pub same_parts : (xs ys x y : List ℕ) → length xs ≡ length ys → xs ++ x ≡ ys ++ y → (xs ≡ ys) × (x ≡ y)
+same_parts xs ys x y len e =
+    (sym (take-append_seam xs x) ∙ ap (take (length xs)) e ∙ ap (λ (n : ℕ). take n (ys ++ y)) len ∙ take-append_seam ys y,
+     sym (drop-append_seam xs x) ∙ ap (drop (length xs)) e ∙ ap (λ (n : ℕ). drop n (ys ++ y)) len ∙ drop-append_seam ys y)
