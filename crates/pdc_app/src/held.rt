@@ -1,0 +1,52 @@
+//! What is kept of a configuration, to read data by it.
+ghost use Rattle.std.specs.Prelude.{◌≤◌};
+ghost use Rattle.arrayvec.specs.ArrayVec.{array_vec_len};
+
+use arrayvec::ArrayVec;
+use pdc_cfg::{ConfigView, Shape};
+
+/// What is kept of a section.
+#[derive(Clone, Copy, Debug, Default)]
+pub struct HeldSection {
+    /// The id of the data's source.
+    pub source: u16,
+    /// How many phasors, analog values and digital words its data has.
+    pub shape: Shape,
+    /// Phasors are magnitude and angle.
+    pub polar: bool,
+}
+
+/// What is kept of the CFG-2 frame that was shown last.
+#[derive(Debug, Drop)]
+pub struct Held {
+    /// The stream's id.
+    pub id: u16,
+    /// What data frames of this stream have, in order.
+    pub sections: ArrayVec<HeldSection, 17>,
+}
+
+impl Held {
+    /// What is kept of a configuration of this stream.
+    pub fn new(id: u16, config: &ConfigView) -> Held {
+        let mut sections = ArrayVec::new();
+        for section in config.sections.as_slice() {
+            sections.push(HeldSection {
+                source: section.source,
+                shape: section.shape,
+                polar: section.polar,
+            });
+        }
+        Held { id, sections }
+    }
+
+    /// The shapes of the sections, in order.
+    pub fn shapes(&self) -> ArrayVec<Shape, 17>
+        ensures { array_vec_len result ≤ 17 }
+    {
+        let mut shapes = ArrayVec::new();
+        for section in self.sections.as_slice() {
+            shapes.push(section.shape);
+        }
+        shapes
+    }
+}

@@ -1,0 +1,11 @@
+//! The words of the command line of `pdc`.
+//!
+//! To the program this crate promises a request whose numbers are in range, or the text that tells the person at the
+//! terminal what is wrong.
+#![tactic(auto)]
+
+mod command;
+mod request;
+
+pub use command::parse;
+pub use request::Request;
