@@ -62,7 +62,7 @@ bytes_of_words-push bytes words i w fits long e w-is =
     let cells : to_be_bytes w16 w ≡ cells_from bytes at 2 = word_cells w _ _ (fits at) (fits (suc at)) (w-is ∙ ap (λ (k : ℕ). 256 * get_or bytes at 0 + get_or bytes k 0) next) in
     let here : take 2 (drop at bytes) ≡ cells_from bytes at 2 = ap (take 2) (drop-cells_from bytes at 2 long) in
     flat_map-append (to_be_bytes w16) words (w ∷ []) ∙ ap (λ (t : List ℕ). t ++ bytes_of_words (w ∷ [])) e ∙ ap (λ (t : List ℕ). take at bytes ++ t) (cells ∙ sym here)
-        ∙ sym (take-add at 2 bytes) ∙ ap (λ (n : ℕ). take n bytes) (sym wide)
+    ∙ sym (take-add at 2 bytes) ∙ ap (λ (n : ℕ). take n bytes) (sym wide)
 
 -- the bytes of one more block
 pub bytes_of_blocks-push : (xs : List (List ℕ)) (x payload : List ℕ) (place n : ℕ) → bytes_of_blocks xs ≡ take place payload → bytes_of_words x ≡ take n (drop place payload)

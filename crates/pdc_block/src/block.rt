@@ -41,7 +41,7 @@ impl Clone for Block {
     ghost is_infallible = { λ _. Unit {0} };
 
     fn clone(&self) -> Result<Block, AllocError> {
-        Ok(Block::from_words(self.shape, self.words.as_slice()))
+        Ok(Block::from_words(self.shape, self.words()))
     }
 }
 
@@ -58,7 +58,10 @@ impl Block {
         for word in words {
             taken.push(*word);
         }
-        Block { shape, words: taken }
+        Block {
+            shape,
+            words: taken,
+        }
     }
 
     /// The words in wire order.

@@ -7,6 +7,8 @@
 mod block;
 mod fault;
 mod reading;
+#[cfg(test)]
+mod tests;
 
 pub use block::{Block, MAX_WORDS};
 pub use fault::BodyFault;

@@ -34,7 +34,7 @@ spelled-places payload c fits h =
     let rate_cells : to_be_bytes w16 (cast_unsigned w16 c.rate) ≡ cells_from payload (n - 2) 2 = word_cells (cast_unsigned w16 c.rate) _ _ (fits (n - 2)) (fits (suc (n - 2))) rate in
     let split : rest ≡ bytes_of_sections c.sections ++ to_be_bytes w16 (cast_unsigned w16 c.rate) = sym (take-append-drop (n - 2 - 6) rest) ∙ ap (λ (t : List ℕ). t ++ drop (n - 2 - 6) rest) (sym h.sections) ∙ ap (λ (t : List ℕ). bytes_of_sections c.sections ++ t) (tail ∙ sym rate_cells) in
     let base' : cells_from payload 0 4 ++ (cells_from payload 4 2 ++ (bytes_of_sections c.sections ++ to_be_bytes w16 (cast_unsigned w16 c.rate))) ≡ payload_of c =
-        ap (λ (t : List ℕ). t ++ (cells_from payload 4 2 ++ (bytes_of_sections c.sections ++ to_be_bytes w16 (cast_unsigned w16 c.rate)))) (sym base_cells) ∙ ap (λ (t : List ℕ). to_be_bytes w32 (c.flags * 2 ^ 24 + c.time_base) ++ (t ++ (bytes_of_sections c.sections ++ to_be_bytes w16 (cast_unsigned w16 c.rate)))) (sym count_cells) in
+    ap (λ (t : List ℕ). t ++ (cells_from payload 4 2 ++ (bytes_of_sections c.sections ++ to_be_bytes w16 (cast_unsigned w16 c.rate)))) (sym base_cells) ∙ ap (λ (t : List ℕ). to_be_bytes w32 (c.flags * 2 ^ 24 + c.time_base) ++ (t ++ (bytes_of_sections c.sections ++ to_be_bytes w16 (cast_unsigned w16 c.rate)))) (sym count_cells) in
     head ∙ ap (λ (t : List ℕ). cells_from payload 0 6 ++ t) split ∙ base'
 
 -- a spelling has the number of sections and the sections in their places

@@ -34,7 +34,7 @@ pub same_section : (a b : SectionFields) (x y : List ℕ) → IsSection a → Is
 same_section a b x y ha hb e =
     let at : (place : ℕ) → place ≤ 28 → word_at a.bytes place ≡ word_at b.bytes place = λ place le. sym (word_at-section a x place le ha) ∙ ap (λ (t : List ℕ). word_at t place) e ∙ word_at-section b y place le hb in
     let shape : a.shape ≡ b.shape = same_shape a.shape b.shape
-        (sym ha.phasors ∙ at 20 (omega arith) ∙ hb.phasors) (sym ha.analogs ∙ at 22 (omega arith) ∙ hb.analogs) (sym ha.digitals ∙ at 24 (omega arith) ∙ hb.digitals) in
+    (sym ha.phasors ∙ at 20 (omega arith) ∙ hb.phasors) (sym ha.analogs ∙ at 22 (omega arith) ∙ hb.analogs) (sym ha.digitals ∙ at 24 (omega arith) ∙ hb.digitals) in
     let len : length a.bytes ≡ length b.bytes = ha.size ∙ ap section_len_of shape ∙ sym hb.size in
     let parts : (a.bytes ≡ b.bytes) × (x ≡ y) = same_parts a.bytes b.bytes x y len e in
     let source : a.source ≡ b.source = sym ha.source ∙ ap source_in parts.0 ∙ hb.source in

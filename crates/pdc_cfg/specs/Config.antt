@@ -39,7 +39,7 @@ bytes_of_sections sections = flat_map (λ s. s.bytes) sections
 abbrev pub payload_of : ConfigFields → List ℕ
 payload_of c =
     to_be_bytes w32 (c.flags * 2 ^ 24 + c.time_base) ++ to_be_bytes w16 (length c.sections)
-        ++ bytes_of_sections c.sections ++ to_be_bytes w16 (cast_unsigned w16 c.rate)
+    ++ bytes_of_sections c.sections ++ to_be_bytes w16 (cast_unsigned w16 c.rate)
 
 -- The payload is a configuration that says this.
 pub record IsConfig (payload : List ℕ) (c : ConfigFields) : Type 0 where

@@ -8,6 +8,8 @@ mod config;
 mod fault;
 mod section;
 mod shape;
+#[cfg(test)]
+mod tests;
 
 pub use config::{ConfigView, MAX_SECTIONS, read_config};
 pub use fault::CfgFault;

@@ -12,9 +12,13 @@ const FIXED_LEN: usize = 26;
 
 /// Where the fields stand from STN on (C37.118.2-2011, table 9).
 const SOURCE_PLACE: usize = 16;
+
 const FORMAT_PLACE: usize = 18;
+
 const PHASORS_PLACE: usize = 20;
+
 const ANALOGS_PLACE: usize = 22;
+
 const DIGITALS_PLACE: usize = 24;
 
 /// A section, lent from the frame that has it: what a configuration says of one PMU (C37.118.2-2011, table 9).

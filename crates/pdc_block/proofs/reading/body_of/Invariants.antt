@@ -6,5 +6,5 @@ abbrev pub invariant-loop-i : goal.invariant-loop-i
 invariant-loop-i l = record {
   count : length l.words.items ≡ l.i;
   fits : AreWords l.words.items;
-  spelled : bytes_of_words l.words.items ≡ take (2 * l.i) l.bytes
+  spelled : bytes_of_words l.words.items ≡ take (2 * l.i) l.bytes;
 }

@@ -8,5 +8,5 @@ invariant-loop-shape l = record {
   place : l.place ≡ sum_by body_len_of (take l.shape-index l.shapes);
   shapes : map shape_of l.blocks.items ≡ take l.shape-index l.shapes;
   shaped : AreOfShapes (take l.shape-index l.shapes) (map words_of l.blocks.items);
-  parts : bytes_of_blocks (map words_of l.blocks.items) ≡ take l.place l.payload
+  parts : bytes_of_blocks (map words_of l.blocks.items) ≡ take l.place l.payload;
 }

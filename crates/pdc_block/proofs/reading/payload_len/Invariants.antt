@@ -6,5 +6,5 @@ use Rattle.pdc_block.proofs.reading.payload_len.Given as goal
 abbrev pub invariant-loop-shape : goal.invariant-loop-shape
 invariant-loop-shape l = record {
   sum : l.len ≡ sum_by body_len_of (take l.shape-index l.shapes);
-  small : l.len ≤ 214 * l.shape-index
+  small : l.len ≤ 214 * l.shape-index;
 }

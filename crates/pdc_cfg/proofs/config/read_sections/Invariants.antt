@@ -7,5 +7,5 @@ abbrev pub invariant-loop : goal.invariant-loop
 invariant-loop l = record {
   begins : Begins l.body (map fields_of_view l.sections.items) (drop l.place l.body);
   count : length l.sections.items ≡ l.counter;
-  within : l.place ≤ length l.body
+  within : l.place ≤ length l.body;
 }
