@@ -33,7 +33,8 @@ fn show_streams(alloc: Global, rt: &(impl Input + Print)) -> Result<Shown, ShowF
 fn main(rt: HostRuntime) -> io::Result<ExitCode> {
     let alloc = rt.alloc();
     let words: Vec<String> = std::env::args(&rt)?.collect(alloc)?;
-    match parse(alloc, words.as_slice()) {
+    let arguments = words.as_slice().get(1..).unwrap_or(&[]);
+    match parse(alloc, arguments) {
         Ok(Some(Request::Show)) => match show_streams(alloc, &rt) {
             Ok(Shown::All) => Ok(ExitCode::SUCCESS),
             Ok(Shown::SomeRefused) => Ok(ExitCode::from(REFUSED)),

@@ -7,9 +7,11 @@
 mod block;
 mod fault;
 mod reading;
+mod writing;
 #[cfg(test)]
 mod tests;
 
 pub use block::{Block, MAX_WORDS};
 pub use fault::BodyFault;
 pub use reading::{cut, read_body};
+pub use writing::join;

@@ -48,11 +48,14 @@ fn pdc<'a>(alloc: Global) -> Result<Command<'a>, AllocError> {
     Command::new(alloc, "pdc")
         .about(ABOUT)
         .after_help(EXAMPLES)
+        .no_binary_name(true)
+        .bin_name("pdc")?
         .subcommand_required(true)
+        .arg_required_else_help(true)
         .subcommand(show(alloc))
 }
 
-/// The request that the words make, the program's name first; `None` where no command is named, which the parser
+/// The request that the words after the program's name make; `None` where no command is named, which the parser
 /// refuses before.
 ///
 /// # Errors
