@@ -1,5 +1,7 @@
 //! The lines of one frame.
 
+ghost use Rattle.std.specs.Prelude.{◌<◌};
+
 use crate::held::{Held, HeldSection};
 use pdc_block::Block;
 use pdc_cfg::ConfigView;
@@ -69,12 +71,18 @@ pub fn write_data<W: Write>(
     frame: &Frame,
     held: &Held,
     blocks: &[Block],
-) -> io::Result<()> {
+) -> io::Result<()>
+    requires { frame.now.frac < 16777216 }
+{
     let (id, soc, frac, quality) = (frame.id, frame.soc, frame.frac, frame.quality);
-    writeln!(
+    write!(
         writer,
         "data id={id} soc={soc} frac={frac} quality={quality:02X}"
     )?;
+    match held.instant(soc, frac) {
+        Some(instant) => writeln!(writer, " instant={instant}")?,
+        None => writeln!(writer, " instant=none")?,
+    }
     for (section, block) in held.sections.as_slice().iter().zip(blocks) {
         write_block(writer, section, block)?;
     }

@@ -1,5 +1,7 @@
 //! `pdc show`: what frames in hexadecimal say.
 
+ghost use Rattle.std.specs.Prelude.{◌<◌};
+
 use crate::held::Held;
 use crate::lines::{write_config, write_data};
 use crate::refusal::Refusal;
@@ -82,7 +84,9 @@ impl Show {
     }
 
     /// Prints the lines of a data frame.
-    fn show_data<W: Write>(&mut self, frame: &Frame, writer: &mut W) -> Result<(), ShowFault> {
+    fn show_data<W: Write>(&mut self, frame: &Frame, writer: &mut W) -> Result<(), ShowFault>
+        requires { frame.now.frac < 16777216 }
+    {
         let refusal = match &self.held {
             Some(held) if held.id == frame.id => match cut(
                 held.shapes().as_slice(),

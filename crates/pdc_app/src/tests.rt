@@ -19,7 +19,7 @@ pmu 11 count=1 phasors=1 analogs=0 digitals=0 rectangular
 const DATA_11: &str = "AA02001A000B448527F000004E200000392B000009C400002623";
 
 /// Its lines.
-const DATA_11_LINES: &str = "data id=11 soc=1149577200 frac=20000 quality=00
+const DATA_11_LINES: &str = "data id=11 soc=1149577200 frac=20000 quality=00 instant=57478860001
 pmu 11 stat=0000 phasors=[14635,0] freq=2500 dfreq=0 analogs=[] digitals=[]
 ";
 

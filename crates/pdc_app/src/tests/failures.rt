@@ -102,7 +102,7 @@ fn a_writer_that_fails(rt: HostRuntime) -> Result<(), Fail> {
     let mut input = String::from_str(alloc, CONFIG_11)?;
     input.push_str("\nxx\nAA\n")?;
     input.push_str(DATA_11)?;
-    let lines = 44 + 58 + 16 + 9 + 48 + 76;
+    let lines = 44 + 58 + 16 + 9 + 68 + 76;
     for room in 0..lines {
         let mut reader = input.as_bytes();
         let outcome = run_show(alloc, &mut reader, &mut Full { room });

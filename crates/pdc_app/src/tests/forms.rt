@@ -161,6 +161,58 @@ C3 TooMany
     )
 }
 
+/// A tag has an instant where it is less than one count off a frame of its second, at 1 to 240 frames a second.
+#[test]
+fn instants_of_tags(rt: HostRuntime) -> Result<(), Fail> {
+    let alloc = rt.alloc();
+    let pmu_11 = "pmu 11 stat=0000 phasors=[14635,0] freq=2500 dfreq=0 analogs=[] digitals=[]\n";
+    let off = joined(
+        alloc,
+        &[
+            CONFIG_11,
+            "\nAA02001A000B448527F005004E210000392B000009C4000078AE\nAA01001A000BFFFFFFFF000F42400000392B000009C40000B44A\n",
+        ],
+    )?;
+    let off_lines = joined(
+        alloc,
+        &[
+            CONFIG_11_LINES,
+            "data id=11 soc=1149577200 frac=20001 quality=05 instant=none\n",
+            pmu_11,
+            "data id=11 soc=4294967295 frac=1000000 quality=00 instant=none\n",
+            pmu_11,
+        ],
+    )?;
+    let no_base =
+        "AA320036000B000000000000000000000000000141202020202020202020202020202020000B00000000000000000001000100F05EC0\nAA020016000B00000000000000000000000000008808\n";
+    let no_base_lines = "cfg2 id=11 time_base=0 rate=240 pmus=1
+pmu 11 count=1 phasors=0 analogs=0 digitals=0 rectangular
+data id=11 soc=0 frac=0 quality=00 instant=none
+pmu 11 stat=0000 phasors=[] freq=0 dfreq=0 analogs=[] digitals=[]
+";
+    let fast =
+        "AA320036000B000000000000000000000032000141202020202020202020202020202020000B00000000000000000001000100F1B431\nAA020016000B00000000000000000000000000008808\n";
+    let fast_lines = "cfg2 id=11 time_base=50 rate=241 pmus=1
+pmu 11 count=1 phasors=0 analogs=0 digitals=0 rectangular
+data id=11 soc=0 frac=0 quality=00 instant=none
+pmu 11 stat=0000 phasors=[] freq=0 dfreq=0 analogs=[] digitals=[]
+";
+    let last =
+        "AA320036000B0000000000000000000000F0000141202020202020202020202020202020000B00000000000000000001000100F0B892\nAA020016000BFFFFFFFF000000EF0000000000003791\n";
+    let last_lines = "cfg2 id=11 time_base=240 rate=240 pmus=1
+pmu 11 count=1 phasors=0 analogs=0 digitals=0 rectangular
+data id=11 soc=4294967295 frac=239 quality=00 instant=1030792151039
+pmu 11 stat=0000 phasors=[] freq=0 dfreq=0 analogs=[] digitals=[]
+";
+    let cases = [
+        (off.as_str(), off_lines.as_str(), Shown::All),
+        (no_base, no_base_lines, Shown::All),
+        (fast, fast_lines, Shown::All),
+        (last, last_lines, Shown::All),
+    ];
+    print_as_wanted(&rt, alloc, &cases)
+}
+
 /// Two sections, of polar and of rectangular phasors, and values at the ends of their ranges.
 #[test]
 fn values_of_every_form(rt: HostRuntime) -> Result<(), Fail> {
@@ -185,7 +237,7 @@ fn values_of_every_form(rt: HostRuntime) -> Result<(), Fail> {
     let lines = "cfg2 id=20 time_base=50 rate=-2 pmus=2
 pmu 21 count=7 phasors=2 analogs=2 digitals=0 polar
 pmu 22 count=65535 phasors=1 analogs=0 digitals=2 rectangular
-data id=20 soc=1 frac=49 quality=8F
+data id=20 soc=1 frac=49 quality=8F instant=none
 pmu 21 stat=2001 phasors=[1@-1;32768@32767] freq=-2500 dfreq=2 analogs=[-100,100] digitals=[]
 pmu 22 stat=C000 phasors=[-16384,15708] freq=-1 dfreq=32767 analogs=[] digitals=[00AB,CDEF]
 ";
