@@ -1,3 +1,4 @@
 pub mod Shapes
 pub mod Sections
 pub mod Configs
+pub mod Parts

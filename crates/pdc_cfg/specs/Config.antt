@@ -3,6 +3,7 @@ use Rattle.std.specs.Prelude.{◌≡◌, ◌⊎◌, ℕ, ℤ, ◌+◌, ◌-◌, 
 use Rattle.std.specs.List.{flat_map, AllByRecursion}
 use Rattle.std.specs.Int.{w16, w32, to_be_bytes, cast_unsigned}
 use Rattle.pdc_frame.specs.Bytes.{word_at}
+use Rattle.pdc_frame.specs.Frame.{Fields}
 use Rattle.pdc_frame.specs.declared.frame.Kind.{Kind}
 use Rattle.pdc_frame.specs.declared.frame.Kind.TheVariants.{Cfg1, Cfg2}
 use Rattle.pdc_cfg.specs.declared.config.ConfigView.{ConfigView}
@@ -103,3 +104,7 @@ IsPayloadFault payload FloatFormat = IsBodyFaultIn payload FloatFormat
 abbrev pub IsFirstFault : Kind → List ℕ → CfgFault → Type 0
 IsFirstFault kind payload WrongKind = IsConfigKind kind → ⊥
 IsFirstFault kind payload fault = IsConfigKind kind × IsPayloadFault payload fault
+
+-- the frame that has this configuration: version 2, time quality 0 and count 0 in FRACSEC
+abbrev pub config_frame_of : Kind → ℕ → ℕ → ConfigFields → Fields
+config_frame_of kind id soc c = record { kind = kind; version = 2; id = id; soc = soc; quality = 0; frac = 0; payload = payload_of c }

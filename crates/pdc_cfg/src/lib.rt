@@ -10,8 +10,10 @@ mod section;
 mod shape;
 #[cfg(test)]
 mod tests;
+mod writing;
 
 pub use config::{ConfigView, MAX_SECTIONS, read_config};
 pub use fault::CfgFault;
 pub use section::{Section, SectionView};
 pub use shape::{MAX_ANALOGS, MAX_DIGITALS, MAX_PHASORS, Shape};
+pub use writing::write_config;

@@ -4,7 +4,8 @@ use crate::request::Request;
 use clap::{Command, Error};
 use std::alloc::{AllocError, Global};
 
-const ABOUT: &str = "A synchrophasor concentrator for frames of IEEE C37.118.2-2011 in 16-bit formats";
+const ABOUT: &str =
+    "A synchrophasor concentrator for frames of IEEE C37.118.2-2011 in 16-bit formats";
 
 const EXAMPLES: &str = "Examples:
   pdc show < captured.hex     print what captured frames say
@@ -14,7 +15,8 @@ Exit status: 0 done, 1 refused input, 2 wrong arguments, 3 a device failed or me
 
 const SHOW_ABOUT: &str = "Print what frames in hexadecimal say";
 
-const SHOW_LONG: &str = "Reads lines of hexadecimal from standard input, one frame a line, and prints what each frame says.
+const SHOW_LONG: &str =
+    "Reads lines of hexadecimal from standard input, one frame a line, and prints what each frame says.
 
 Spaces are passed over, and so are empty lines. Digits may be in either case.
 A configuration (CFG-1 or CFG-2) gives a line, and a line for each PMU. A data frame is

@@ -1,7 +1,7 @@
 -- Bytes one by one, and the words that they make.
-use Rattle.std.proofs.Common.{◌≡◌, inl, inr, ℕ, zero, suc, ◌+◌, ◌*◌, ◌/◌, ◌%◌, ◌^◌, ◌<◌, ◌≤◌, List, [], ◌∷◌, ◌++◌, length, take, drop, get_or, refl, sym, ap, ap₂, ◌∙◌, arith}
-use Rattle.std.proofs.Math.Seq.{drop-cons, take-append_seam, drop-append_seam}
-use Rattle.std.proofs.lemmas.List.{length-take, get_or-take, get_or_past, get_or-drop, get_or_append_left}
+use Rattle.std.proofs.Common.{◌≡◌, inl, inr, ℕ, zero, suc, ◌+◌, ◌-◌, ◌*◌, ◌/◌, ◌%◌, ◌^◌, ◌<◌, ◌≤◌, List, [], ◌∷◌, ◌++◌, length, take, drop, get_or, refl, sym, ap, ap₂, ◌∙◌, arith, append_assoc, length-drop}
+use Rattle.std.proofs.Math.Seq.{drop-cons, take-add, take-append_seam, drop-append_seam}
+use Rattle.std.proofs.lemmas.List.{take_all, length-take, get_or-take, get_or_past, get_or-drop, get_or_append_left}
 use Rattle.std.proofs.lemmas.Bool.{cases_lt}
 use Rattle.std.specs.Int.{w16, w32, to_be_bytes}
 use Rattle.pdc_frame.specs.Bytes.{AreBytes, word_at}
@@ -68,8 +68,16 @@ long_value n m n_fits m_fits e =
     let fourth : n % 256 ≡ m % 256 = cc in
     omega (arith, first, second, third, fourth)
 
+-- the first bytes of a piece, and then the first of its rest
+pub two_takes : (old mid new piece : List ℕ) (a b : ℕ) → mid ≡ old ++ take a piece → new ≡ mid ++ take b (take (length piece - a) (drop a piece)) → new ≡ old ++ take (a + b) piece
+two_takes old mid new piece a b mid-is new-is =
+    let all : take (length piece - a) (drop a piece) ≡ drop a piece = take_all (length piece - a) (drop a piece) (omega (arith, length-drop a piece)) in
+    new-is ∙ ap (λ (xs : List ℕ). mid ++ take b xs) all ∙ ap (λ (xs : List ℕ). xs ++ take b (drop a piece)) mid-is ∙ append_assoc old (take a piece) (take b (drop a piece))
+    ∙ ap (λ (xs : List ℕ). old ++ xs) (sym (take-add a b piece))
+
 -- two parts of one length, with what follows them
 pub same_parts : (xs ys x y : List ℕ) → length xs ≡ length ys → xs ++ x ≡ ys ++ y → (xs ≡ ys) × (x ≡ y)
-same_parts xs ys x y len e =
-    (sym (take-append_seam xs x) ∙ ap (take (length xs)) e ∙ ap (λ (n : ℕ). take n (ys ++ y)) len ∙ take-append_seam ys y,
-     sym (drop-append_seam xs x) ∙ ap (drop (length xs)) e ∙ ap (λ (n : ℕ). drop n (ys ++ y)) len ∙ drop-append_seam ys y)
+same_parts xs ys x y len e = (
+  sym (take-append_seam xs x) ∙ ap (take (length xs)) e ∙ ap (λ (n : ℕ). take n (ys ++ y)) len ∙ take-append_seam ys y,
+  sym (drop-append_seam xs x) ∙ ap (drop (length xs)) e ∙ ap (λ (n : ℕ). drop n (ys ++ y)) len ∙ drop-append_seam ys y,
+)

@@ -1,3 +1,6 @@
 pub mod Polynomials
 pub mod Cells
 pub mod Places
+pub mod Spellings
+pub mod Streams
+pub mod Writing

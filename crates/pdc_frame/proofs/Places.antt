@@ -43,7 +43,7 @@ before-places bytes f fits h =
     let cut : take (length bytes - 2) bytes ≡ cells_from bytes 0 14 ++ take m (drop 14 bytes) = ap (λ (k : ℕ). take k bytes) len ∙ ap (λ (xs : List ℕ). take (14 + m) xs) whole ∙ take-append-add (cells_from bytes 0 14) (drop 14 bytes) m in
     let payload_len : length f.payload + 16 ≡ length bytes = omega (arith, h.long, ap length h.payload, length-take m (drop 14 bytes), length-drop 14 bytes) in
     cut ∙ before-cells f _ _ _ _ _ _ _ _ _ _ _ _ _ _ (take m (drop 14 bytes)) (fits 2) (fits 3) (fits 4) (fits 5) (fits 6) (fits 7) (fits 8) (fits 9) (fits 10) (fits 11) (fits 12) (fits 13)
-        h.first h.second (payload_len ∙ sym h.size) h.id h.soc h.fracsec h.payload
+    h.first h.second (payload_len ∙ sym h.size) h.id h.soc h.fracsec h.payload
 
 pub spelled-places : (bytes : List ℕ) (f : Fields) → AreBytes bytes → ArePlaces bytes f → bytes ≡ spelling_of f
 spelled-places bytes f fits h =
@@ -63,9 +63,9 @@ ends-with before bytes fits e =
     let front : take (length bytes - 2) bytes ≡ before = ap (λ (k : ℕ). take k bytes) len ∙ ap (take (length before)) e ∙ take-append_seam before tail in
     let small : check_word_of before < 2 ^ 16 = (IsCheckWord-check_word_of before (subst AreBytes front (AreBytes-take (length bytes - 2) bytes fits))).small in
     let high : get_or bytes (length bytes - 2) 0 ≡ check_word_of before / 256 % 256 =
-        ap (λ (k : ℕ). get_or bytes k 0) len ∙ ap (λ (xs : List ℕ). get_or xs (length before) 0) e ∙ get_or-append_seam before (check_word_of before / 256 % 256) (check_word_of before % 256 ∷ []) 0 in
+    ap (λ (k : ℕ). get_or bytes k 0) len ∙ ap (λ (xs : List ℕ). get_or xs (length before) 0) e ∙ get_or-append_seam before (check_word_of before / 256 % 256) (check_word_of before % 256 ∷ []) 0 in
     let low : get_or bytes (length bytes - 2 + 1) 0 ≡ check_word_of before % 256 =
-        ap (λ (k : ℕ). get_or bytes (k + 1) 0) len ∙ ap (λ (xs : List ℕ). get_or xs (length before + 1) 0) e ∙ get_or-append-add before tail 1 0 in
+    ap (λ (k : ℕ). get_or bytes (k + 1) 0) len ∙ ap (λ (xs : List ℕ). get_or xs (length before + 1) 0) e ∙ get_or-append-add before tail 1 0 in
     let whole : check_in bytes ≡ check_word_of before = omega (arith, small, high, low) in
     whole ∙ ap check_word_of (sym front)
 

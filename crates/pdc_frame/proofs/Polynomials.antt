@@ -90,7 +90,7 @@ products_meet t u m low part low_product low_fits part_fits m-is m12-is =
     let both : bit_xor (m * 2 ^ 16 + low) (u * 2 ^ 16 + 0) ≡ bit_xor m u * 2 ^ 16 + bit_xor low 0 = xor_block 16 m u low 0 low_fits (pow_pos 16) in
     let back : bit_xor m u ≡ t = ap (λ (x : ℕ). bit_xor x u) m-is ∙ cancel t u in
     swap_middle high low_product rest low_product ∙ gone ∙ swap_middle (m * 2 ^ 16) (m * 2 ^ 12) low part ∙ ap (λ (x : ℕ). bit_xor x (bit_xor (m * 2 ^ 12) part)) m16
-        ∙ ap (λ (x : ℕ). bit_xor (m * 2 ^ 16 + low) x) m12' ∙ both ∙ ap (λ (x : ℕ). x * 2 ^ 16 + bit_xor low 0) back ∙ ap (λ (x : ℕ). t * 2 ^ 16 + x) (xor_zero_r low)
+    ∙ ap (λ (x : ℕ). bit_xor (m * 2 ^ 16 + low) x) m12' ∙ both ∙ ap (λ (x : ℕ). x * 2 ^ 16 + bit_xor low 0) back ∙ ap (λ (x : ℕ). t * 2 ^ 16 + x) (xor_zero_r low)
 
 -- a register and the byte that comes in, as the place that the byte takes and the rest
 register_parts : (h low byte : ℕ) → low < 2 ^ 16 → bit_xor (h * 2 ^ 16 + low) (byte * 2 ^ 16) ≡ bit_xor h byte * 2 ^ 16 + low
@@ -138,7 +138,7 @@ sum-push p f byte fits =
     let same : p * 2 ^ 16 * 2 ^ 8 ≡ p * 2 ^ 24 = omega arith in
     let split : (p * 2 ^ 8 + byte) * 2 ^ 16 ≡ bit_xor (p * 2 ^ 16 * 2 ^ 8) (byte * 2 ^ 16) = parts ∙ ap (λ (x : ℕ). x + byte * 2 ^ 16) same ∙ sym apart ∙ ap (λ (x : ℕ). bit_xor x (byte * 2 ^ 16)) (sym same) in
     ap (λ (x : ℕ). bit_xor x (f * 2 ^ 8)) split ∙ xor_assoc (p * 2 ^ 16 * 2 ^ 8) (byte * 2 ^ 16) (f * 2 ^ 8) ∙ ap (λ (x : ℕ). bit_xor (p * 2 ^ 16 * 2 ^ 8) x) (xor_comm (byte * 2 ^ 16) (f * 2 ^ 8))
-        ∙ sym (xor_assoc (p * 2 ^ 16 * 2 ^ 8) (f * 2 ^ 8) (byte * 2 ^ 16)) ∙ ap (λ (x : ℕ). bit_xor x (byte * 2 ^ 16)) (xor-shl (p * 2 ^ 16) f 8)
+    ∙ sym (xor_assoc (p * 2 ^ 16 * 2 ^ 8) (f * 2 ^ 8) (byte * 2 ^ 16)) ∙ ap (λ (x : ℕ). bit_xor x (byte * 2 ^ 16)) (xor-shl (p * 2 ^ 16) f 8)
 
 pub IsCheckWord-push : (bytes : List ℕ) (check byte : ℕ) → byte < 2 ^ 8 → IsCheckWord bytes check → IsCheckWord (bytes ++ byte ∷ []) (check_after check byte)
 IsCheckWord-push bytes check byte byte_fits h =
@@ -153,8 +153,8 @@ IsCheckWord-push bytes check byte byte_fits h =
     let moved : bit_xor (bit_xor (p * 2 ^ 16) f * 2 ^ 8) (byte * 2 ^ 16) ≡ bit_xor (bit_xor g check * 2 ^ 8) (byte * 2 ^ 16) = ap (λ (x : ℕ). bit_xor (x * 2 ^ 8) (byte * 2 ^ 16)) h.division in
     let split : bit_xor (bit_xor g check * 2 ^ 8) (byte * 2 ^ 16) ≡ bit_xor (g * 2 ^ 8) (bit_xor (check * 2 ^ 8) (byte * 2 ^ 16)) = ap (λ (x : ℕ). bit_xor x (byte * 2 ^ 16)) (sym (xor-shl g check 8)) ∙ xor_assoc (g * 2 ^ 8) (check * 2 ^ 8) (byte * 2 ^ 16) in
     let joined : bit_xor (g * 2 ^ 8) (bit_xor (check * 2 ^ 8) (byte * 2 ^ 16)) ≡ bit_xor (times_generator (bit_xor (h.quotient * 2 ^ 8) one.quotient)) next =
-        ap (λ (x : ℕ). bit_xor (g * 2 ^ 8) x) one.division ∙ sym (xor_assoc (g * 2 ^ 8) (times_generator one.quotient) next)
-            ∙ ap (λ (x : ℕ). bit_xor (bit_xor x (times_generator one.quotient)) next) (sym (times_generator-shl h.quotient 8)) ∙ ap (λ (x : ℕ). bit_xor x next) (sym (times_generator-xor (h.quotient * 2 ^ 8) one.quotient)) in
+    ap (λ (x : ℕ). bit_xor (g * 2 ^ 8) x) one.division ∙ sym (xor_assoc (g * 2 ^ 8) (times_generator one.quotient) next)
+    ∙ ap (λ (x : ℕ). bit_xor (bit_xor x (times_generator one.quotient)) next) (sym (times_generator-shl h.quotient 8)) ∙ ap (λ (x : ℕ). bit_xor x next) (sym (times_generator-xor (h.quotient * 2 ^ 8) one.quotient)) in
     record {
       quotient = bit_xor (h.quotient * 2 ^ 8) one.quotient;
       division = ap (λ (x : ℕ). bit_xor (x * 2 ^ 16) (65535 * 2 ^ (8 * length (bytes ++ byte ∷ [])))) (polynomial_of-push bytes byte) ∙ ap (λ (x : ℕ). bit_xor ((p * 2 ^ 8 + byte) * 2 ^ 16) x) start ∙ sum-push p f byte byte_fits ∙ moved ∙ split ∙ joined;

@@ -51,11 +51,16 @@ pub record Fits (f : Fields) : Type 0 where
   pub size : length f.payload + 16 < 2 ^ 16
   pub bytes : AreBytes f.payload
 
--- everything before CHK. FRACSEC has the time quality in its high byte and the count in the three others
+-- everything before the payload, in a frame of so many bytes. FRACSEC has the time quality in its high byte and the
+-- count in the three others
+abbrev pub header_of : Fields → ℕ → List ℕ
+header_of f size =
+    170 ∷ (16 * number_of f.kind + f.version) ∷ (to_be_bytes w16 size ++ to_be_bytes w16 f.id ++ to_be_bytes w32 f.soc
+    ++ to_be_bytes w32 (f.quality * 2 ^ 24 + f.frac))
+
+-- everything before CHK
 abbrev pub before_check : Fields → List ℕ
-before_check f =
-    170 ∷ (16 * number_of f.kind + f.version) ∷ (to_be_bytes w16 (length f.payload + 16) ++ to_be_bytes w16 f.id
-        ++ to_be_bytes w32 f.soc ++ to_be_bytes w32 (f.quality * 2 ^ 24 + f.frac) ++ f.payload)
+before_check f = header_of f (length f.payload + 16) ++ f.payload
 
 -- the one spelling of these fields
 abbrev pub spelling_of : Fields → List ℕ

@@ -1,3 +1,4 @@
 pub mod Bytes
 pub mod CheckWord
 pub mod Frame
+pub mod Stream

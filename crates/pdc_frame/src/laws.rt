@@ -1,11 +1,30 @@
 //! Laws of the definitions: each is the contract of a function that does nothing.
-ghost use Rattle.std.specs.Prelude.{◌≡◌, ℕ, List};
+ghost use Rattle.std.specs.Prelude.{◌≡◌, ◌++◌, ℕ, List, [], Option, None};
 ghost use Rattle.pdc_frame.specs.Bytes.{AreBytes};
 ghost use Rattle.pdc_frame.specs.CheckWord.{IsCheckWord, check_word_of};
+ghost use Rattle.pdc_frame.specs.Frame.{Fields, Fits, spelling_of};
+ghost use Rattle.pdc_frame.specs.declared.fault.FrameFault.{FrameFault};
+ghost use Rattle.pdc_frame.specs.Stream.{Held, HasTaken, Splits, pending_of, fault_of};
 
 /// Bytes have one check word, and `check_word_of` computes it.
 pub fn check_word_is_the_remainder()
     ensures found { (bytes : List ℕ) → AreBytes bytes → IsCheckWord bytes (check_word_of bytes) }
     ensures only { (bytes : List ℕ) (check : ℕ) → AreBytes bytes → IsCheckWord bytes check → check ≡ check_word_of bytes }
-{
-}
+{}
+
+/// Fields have one spelling, no two have the same, and none begins another: so a frame followed by any bytes is found
+/// in one way.
+pub fn spellings_stand_apart()
+    ensures same { (f g : Fields) → Fits f → Fits g → spelling_of f ≡ spelling_of g → f ≡ g }
+    ensures front { (f g : Fields) (rest : List ℕ) → Fits f → Fits g → spelling_of f ++ rest ≡ spelling_of g → (rest ≡ []) × (f ≡ g) }
+    ensures found { (f g : Fields) (rest other : List ℕ) → Fits f → Fits g → spelling_of f ++ rest ≡ spelling_of g ++ other → (f ≡ g) × (rest ≡ other) }
+{}
+
+/// A stream is cut into frames in one way, and a framer that has no byte left to take gave those frames, in whatever
+/// pieces the stream came.
+pub fn streams_split_in_one_way()
+    ensures only { (stream : List ℕ) (frames others : List (List ℕ)) (rest other : List ℕ) (fault late : Option FrameFault)
+        → Splits stream frames rest fault → Splits stream others other late → (frames ≡ others) × (rest ≡ other) × (fault ≡ late) }
+    ensures framer { (stream unread : List ℕ) (frames : List (List ℕ)) (held : Held) → HasTaken stream frames held
+        → (fault_of held.step ≡ None → unread ≡ []) → Splits (stream ++ unread) frames (pending_of held.step held.bytes ++ unread) (fault_of held.step) }
+{}

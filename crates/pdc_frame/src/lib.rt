@@ -7,11 +7,21 @@
 mod crc;
 mod fault;
 mod frame;
+mod framer;
 mod laws;
+mod room;
+mod step;
+mod stream;
 mod words;
 
 pub use crc::check_word;
 pub use fault::FrameFault;
-pub use frame::{Frame, Kind, OVERHEAD, read_frame};
-pub use laws::check_word_is_the_remainder;
+pub use frame::{Frame, Kind, OVERHEAD, begin_frame, end_frame, read_frame, write_frame};
+pub use framer::Framer;
+pub use laws::{check_word_is_the_remainder, spellings_stand_apart, streams_split_in_one_way};
+pub use step::Step;
+pub use stream::frames_of;
 pub use words::{read_long, read_word};
+
+#[cfg(test)]
+mod tests;

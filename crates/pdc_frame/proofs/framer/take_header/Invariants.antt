@@ -1,0 +1,14 @@
+use Rattle.std.proofs.Common.{◌≡◌, ◌-◌, ◌≤◌, ◌++◌, length, take, vec_capacity}
+use Rattle.pdc_frame.specs.Stream.{IsGoing}
+use Rattle.pdc_frame.proofs.framer.take_header.Given as goal
+
+abbrev pub invariant-loop-held : goal.invariant-loop-held
+invariant-loop-held l = record {
+  room : 65535 ≤ vec_capacity l.held;
+  taken : l.taken ≤ length l.piece;
+  bytes : l.held.items ≡ l.initial.held.items ++ take l.taken l.piece;
+  going : IsGoing l.held.items;
+}
+
+abbrev pub decreases-loop-held : goal.decreases-loop-held
+decreases-loop-held l = length l.piece - l.taken

@@ -1,0 +1,182 @@
+//! The frames of a stream that comes in pieces.
+ghost use Rattle.std.specs.Prelude.{◌≡◌, ◌+◌, ◌-◌, ◌<◌, ◌≤◌, ◌++◌, ◌⊎◌, ℕ, List, [], length, take, vec_capacity, IfOk, MatchOption};
+ghost use Rattle.pdc_frame.specs.Stream.{IsGoing, Shows, IsAt, IsBad, HasTaken, pending_of, given_at};
+
+use crate::fault::FrameFault;
+use crate::frame::{OVERHEAD, SYNC_BYTE, is_sync, read_frame};
+use crate::room::append;
+use crate::step::Step;
+use crate::words::read_word;
+use std::alloc::{AllocError, Global};
+use std::marker::Model;
+
+/// The most bytes that a frame has.
+const MAX_SIZE: usize = 65535;
+
+/// The number of bytes up to the end of FRAMESIZE.
+const SIZE_END: usize = 4;
+
+/// Finds the frames of a stream, in whatever pieces it comes.
+#[derive(Drop)]
+pub struct Framer {
+    held: Vec<u8>,
+    step: Step,
+}
+
+impl Model for Framer {
+    ghost use Rattle.std.specs.Prelude.{◌≤◌, vec_capacity};
+    ghost use Rattle.pdc_frame.specs.Stream.{Held, IsAt};
+
+    ghost Value = { Held };
+
+    ghost view = { λ f. record { bytes = f.held.items; step = f.step } };
+
+    ghost invariant = { λ f. record { room : 65535 ≤ vec_capacity f.held; at : IsAt f.held.items f.step } };
+}
+
+/// What SYNC and FRAMESIZE say so far.
+fn header_fault(held: &[u8]) -> Option<FrameFault>
+    requires some { 0 < length held.now }
+    requires few { length held.now ≤ 4 }
+    requires before { IsGoing (take (length held.now - 1) held.now) }
+    ensures { MatchOption result (IsGoing held.now) (λ fault. Shows held.now fault) }
+{
+    match held.len() {
+        1 if held[0] != SYNC_BYTE => Some(FrameFault::BadSync),
+        2 if !is_sync(held[0], held[1]) => Some(FrameFault::BadSync),
+        SIZE_END if usize::from(read_word(held, 2)) < OVERHEAD => Some(FrameFault::Short),
+        _ => None,
+    }
+}
+
+/// Takes bytes up to the end of FRAMESIZE.
+fn take_header(held: &mut Vec<u8>, piece: &[u8]) -> (usize, Step)
+    requires room { 65535 ≤ vec_capacity held.old }
+    requires going { IsGoing held.old.items }
+    ensures room { 65535 ≤ vec_capacity held.new }
+    ensures taken { result.0 ≤ length piece.now }
+    ensures bytes { held.new.items ≡ held.old.items ++ take result.0 piece.now }
+    ensures at { IsAt held.new.items result.1 }
+    ensures more { result.1 ≡ Step.More → (result.0 ≡ length piece.now) ⊎ (4 ≤ length held.new.items) }
+    ensures not_whole { result.1 ≡ Step.Whole → ⊥ }
+{
+    let mut taken = 0;
+    while held.len() < SIZE_END && taken < piece.len() {
+        held.push_reserved(piece[taken]);
+        taken += 1;
+        if let Some(fault) = header_fault(held) {
+            return (taken, Step::Bad(fault));
+        }
+    }
+    (taken, Step::More)
+}
+
+/// Takes bytes up to the end of the frame.
+fn take_rest(held: &mut Vec<u8>, piece: &[u8]) -> (usize, Step)
+    requires room { 65535 ≤ vec_capacity held.old }
+    requires going { IsGoing held.old.items }
+    requires header { 4 ≤ length held.old.items }
+    ensures room { 65535 ≤ vec_capacity held.new }
+    ensures taken { result.0 ≤ length piece.now }
+    ensures bytes { held.new.items ≡ held.old.items ++ take result.0 piece.now }
+    ensures at { IsAt held.new.items result.1 }
+    ensures more { result.1 ≡ Step.More → result.0 ≡ length piece.now }
+{
+    let wanted = usize::from(read_word(held, 2)) - held.len();
+    if piece.len() < wanted {
+        append(held, piece);
+        return (piece.len(), Step::More);
+    }
+    append(held, &piece[..wanted]);
+    match read_frame(held) {
+        Ok(_) => (wanted, Step::Whole),
+        Err(fault) => (wanted, Step::Bad(fault)),
+    }
+}
+
+/// Takes bytes up to the end of a frame, of the piece, or the byte that shows a fault.
+fn take_frame(held: &mut Vec<u8>, piece: &[u8]) -> (usize, Step)
+    requires room { 65535 ≤ vec_capacity held.old }
+    requires going { IsGoing held.old.items }
+    ensures room { 65535 ≤ vec_capacity held.new }
+    ensures taken { result.0 ≤ length piece.now }
+    ensures bytes { held.new.items ≡ held.old.items ++ take result.0 piece.now }
+    ensures at { IsAt held.new.items result.1 }
+    ensures more { result.1 ≡ Step.More → result.0 ≡ length piece.now }
+{
+    let (taken, step) = take_header(held, piece);
+    if step != Step::More || held.len() < SIZE_END {
+        return (taken, step);
+    }
+    let (more, step) = take_rest(held, &piece[taken..]);
+    (taken + more, step)
+}
+
+/// The same behind an answer: after a whole frame the next one begins, and a fault stands.
+fn take_next(held: &mut Vec<u8>, last: Step, piece: &[u8]) -> (usize, Step)
+    requires room { 65535 ≤ vec_capacity held.old }
+    requires at { IsAt held.old.items last }
+    ensures room { 65535 ≤ vec_capacity held.new }
+    ensures taken { result.0 ≤ length piece.now }
+    ensures bytes { held.new.items ≡ pending_of last held.old.items ++ take result.0 piece.now }
+    ensures at { IsAt held.new.items result.1 }
+    ensures more { result.1 ≡ Step.More → result.0 ≡ length piece.now }
+    ensures some { (IsBad last → ⊥) → 0 < length piece.now → 0 < result.0 }
+    ensures bad { IsBad last → (result.0 ≡ 0) × (result.1 ≡ last) }
+{
+    match last {
+        Step::Bad(_) => return (0, last),
+        Step::Whole => held.clear(),
+        Step::More => {}
+    }
+    take_frame(held, piece)
+}
+
+impl Framer {
+    /// Reserves room for the longest frame, once.
+    ///
+    /// # Errors
+    ///
+    /// [`AllocError`] where there is no memory for it.
+    pub fn new(alloc: Global) -> Result<Framer, AllocError>
+        ensures bytes { IfOk result (λ framer. framer.bytes ≡ []) }
+        ensures step { IfOk result (λ framer. framer.step ≡ Step.More) }
+        ensures stream { IfOk result (λ framer. HasTaken [] [] framer) }
+    {
+        Ok(Framer {
+            held: Vec::with_capacity(alloc, MAX_SIZE)?,
+            step: Step::More,
+        })
+    }
+
+    /// Takes bytes of the piece up to the end of a frame, of the piece, or the byte that shows a fault, and answers
+    /// how many, and what the bytes since the end of the last frame are. It takes no memory. After [`Step::Bad`] it
+    /// takes no byte and answers that fault again.
+    pub fn feed(&mut self, piece: &[u8]) -> (usize, Step)
+        ensures taken { result.0 ≤ length piece.now }
+        ensures bytes { self.new.bytes ≡ pending_of self.old.step self.old.bytes ++ take result.0 piece.now }
+        ensures step { self.new.step ≡ result.1 }
+        ensures at { IsAt self.new.bytes result.1 }
+        // It stops for a frame, a fault or the end of the piece alone,
+        ensures more { result.1 ≡ Step.More → result.0 ≡ length piece.now }
+        // takes at least one byte of a piece that has one,
+        ensures some { (IsBad self.old.step → ⊥) → 0 < length piece.now → 0 < result.0 }
+        // and a fault stands. So over a whole stream the frames given are the stream's, in order.
+        ensures bad { IsBad self.old.step → (result.0 ≡ 0) × (result.1 ≡ self.old.step) }
+        ensures stream { (stream : List ℕ) (frames : List (List ℕ)) → HasTaken stream frames self.old
+            → HasTaken (stream ++ take result.0 piece.now) (frames ++ given_at result.1 self.new.bytes) self.new }
+    {
+        let (taken, step) = take_next(&mut self.held, self.step, piece);
+        self.step = step;
+        (taken, step)
+    }
+
+    /// The bytes since the end of the last frame; after [`Step::Whole`] and until the next feed, the frame.
+    pub fn frame(&self) -> &[u8]
+        ensures bytes { result.now ≡ self.now.bytes }
+        ensures at { IsAt result.now self.now.step }
+    {
+        let _ = self.step;
+        &self.held
+    }
+}
