@@ -7,9 +7,9 @@
 mod block;
 mod fault;
 mod reading;
-mod writing;
 #[cfg(test)]
 mod tests;
+mod writing;
 
 pub use block::{Block, MAX_WORDS};
 pub use fault::BodyFault;

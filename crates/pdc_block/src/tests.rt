@@ -1,7 +1,8 @@
 //! Blocks of worked frames.
 
-use crate::{BodyFault, cut, read_body};
-use pdc_cfg::Shape;
+use crate::{BodyFault, cut, join, read_body};
+use pdc_cfg::{Shape, read_config, write_config};
+use pdc_frame::{Frame, Kind, read_frame, write_frame};
 use std::test::Fail;
 
 const ONE_PHASOR: Shape = Shape {
@@ -52,5 +53,56 @@ fn two_blocks(rt: HostRuntime) -> Result<(), Fail> {
     );
     assert_eq!(rt; cut(&[], &payload).err(), Some(BodyFault::WrongLength));
     assert_eq!(rt; cut(&[], &[])?.len(), 0);
+    Ok(())
+}
+
+/// CFG-2 of PMU 11.
+const CONFIG_11: [u8; 74] = [
+    0xAA, 0x32, 0x00, 0x4A, 0x00, 0x0B, 0x44, 0x85, 0x27, 0xF0, 0x00, 0x00, 0x00, 0x00, 0x00, 0x0F,
+    0x42, 0x40, 0x00, 0x01, 0x50, 0x4D, 0x55, 0x20, 0x31, 0x31, 0x20, 0x20, 0x20, 0x20, 0x20, 0x20,
+    0x20, 0x20, 0x20, 0x20, 0x00, 0x0B, 0x00, 0x00, 0x00, 0x01, 0x00, 0x00, 0x00, 0x00, 0x56, 0x41,
+    0x20, 0x20, 0x20, 0x20, 0x20, 0x20, 0x20, 0x20, 0x20, 0x20, 0x20, 0x20, 0x20, 0x20, 0x00, 0x0D,
+    0xF8, 0x47, 0x00, 0x01, 0x00, 0x01, 0x00, 0x32, 0xC2, 0xCE,
+];
+
+/// Data of PMU 11.
+const DATA_11: [u8; 26] = [
+    0xAA, 0x02, 0x00, 0x1A, 0x00, 0x0B, 0x44, 0x85, 0x27, 0xF0, 0x00, 0x00, 0x4E, 0x20, 0x00, 0x00,
+    0x39, 0x2B, 0x00, 0x00, 0x09, 0xC4, 0x00, 0x00, 0x26, 0x23,
+];
+
+/// A configuration and a data frame, read and written again byte for byte, behind what stands in `out` already.
+#[test]
+fn written_again(rt: HostRuntime) -> Result<(), Fail> {
+    let alloc = rt.alloc();
+    let config_frame = read_frame(&CONFIG_11)?;
+    let config = read_config(&config_frame)?;
+    assert_eq!(rt; config.sections.len(), 1);
+    let mut out = vec![in alloc; 7u8]?;
+    write_config(
+        &config,
+        Kind::Cfg2,
+        config_frame.id,
+        config_frame.soc,
+        &mut out,
+    )?;
+    assert_eq!(rt; out.len(), 75);
+    assert_eq!(rt; &out[1..], CONFIG_11.as_slice());
+
+    let data_frame = read_frame(&DATA_11)?;
+    let blocks = cut(&[config.sections.as_slice()[0].shape], data_frame.payload)?;
+    let mut payload = Vec::new(alloc);
+    join(blocks.as_slice(), &mut payload)?;
+    let again = Frame {
+        payload: payload.as_slice(),
+        ..data_frame
+    };
+    let mut out = Vec::new(alloc);
+    write_frame(&again, &mut out)?;
+    assert_eq!(rt; out.as_slice(), DATA_11.as_slice());
+
+    let mut nothing = Vec::new(alloc);
+    join(&[], &mut nothing)?;
+    assert!(rt; nothing.is_empty());
     Ok(())
 }

@@ -7,5 +7,5 @@ abbrev pub invariant-loop-word : goal.invariant-loop-word
 invariant-loop-word g l = record {
   items : l.out.items ≡ l.fn.out.items ++ bytes_of_words (take l.word-index l.words);
   len : vec_len l.out ≡ vec_len l.fn.out + 2 * l.word-index;
-  capacity : vec_capacity l.fn.out ≤ vec_capacity l.out
+  capacity : vec_capacity l.fn.out ≤ vec_capacity l.out;
 }

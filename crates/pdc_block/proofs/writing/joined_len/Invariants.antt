@@ -6,5 +6,5 @@ use Rattle.pdc_block.proofs.writing.joined_len.Given as goal
 abbrev pub invariant-loop-block : goal.invariant-loop-block
 invariant-loop-block l = record {
   sum : l.len ≡ sum_by (λ block. body_len_of (shape_of block)) (take l.block-index l.blocks);
-  small : l.len ≤ 214 * l.block-index
+  small : l.len ≤ 214 * l.block-index;
 }
