@@ -1,5 +1,5 @@
 //! A configuration, read from a frame CFG-1 or CFG-2.
-ghost use Rattle.std.specs.Prelude.{◌≡◌, ◌≤◌, IfOk, IfErr, IsOkAnd, [], map, length};
+ghost use Rattle.std.specs.Prelude.{◌≡◌, ◌≤◌, IfOk, IfErr, OnOk, IsOkAnd, [], map, length};
 ghost use Rattle.arrayvec.specs.ArrayVec.{array_vec_len};
 ghost use Rattle.pdc_cfg.specs.Section.{fields_of_view};
 ghost use Rattle.pdc_cfg.specs.Config.{ConfigFields, config_fields_of, IsConfigKind, IsConfig, Begins, IsBodyFault, IsPayloadFault, IsFirstFault};
@@ -34,14 +34,19 @@ pub struct ConfigView<'a> {
     pub rate: i16,
 }
 
-/// The sections that the bytes are, all of the bytes.
-fn read_sections(count: u16, body: &[u8]) -> Result<ArrayVec<SectionView<'_>, 17>, CfgFault>
-    requires { count ≤ 17 }
-    ensures found { IfOk result (λ s. Begins body.now (map fields_of_view s.items) []) }
-    ensures count { IfOk result (λ s. array_vec_len s ≡ count) }
+/// Reads the sections that the bytes are, all of the bytes. They go where the caller holds them: a list of so many views
+/// is not moved about.
+fn read_sections<'a>(
+    count: u16,
+    body: &'a [u8],
+    sections: &mut ArrayVec<SectionView<'a>, 17>,
+) -> Result<(), CfgFault>
+    requires few { count ≤ 17 }
+    requires empty { sections.old.items ≡ [] }
+    ensures found { OnOk result (Begins body.now (map fields_of_view sections.new.items) []) }
+    ensures count { OnOk result (array_vec_len sections.new ≡ count) }
     ensures fault { IfErr result (IsBodyFault count body.now) }
 {
-    let mut sections = ArrayVec::new();
     let mut place = 0;
     for _ in 0..count {
         let section = read_section(&body[place..])?;
@@ -51,7 +56,7 @@ fn read_sections(count: u16, body: &[u8]) -> Result<ArrayVec<SectionView<'_>, 17
     if place < body.len() {
         return Err(CfgFault::Cut);
     }
-    Ok(sections)
+    Ok(())
 }
 
 /// The configuration that a payload is.
@@ -68,7 +73,8 @@ fn read_payload(payload: &[u8]) -> Result<ConfigView<'_>, CfgFault>
         return Err(CfgFault::TooMany);
     }
     let end = payload.len() - 2;
-    let sections = read_sections(count, &payload[SECTIONS_PLACE..end])?;
+    let mut sections = ArrayVec::new();
+    read_sections(count, &payload[SECTIONS_PLACE..end], &mut sections)?;
     let base = read_long(payload, 0);
     Ok(ConfigView {
         flags: (base >> 24) as u8,

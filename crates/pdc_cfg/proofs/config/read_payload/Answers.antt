@@ -12,8 +12,8 @@ use Rattle.pdc_cfg.specs.Config.{ConfigFields, IsConfig, IsBodyFault, body_in, b
 use Rattle.pdc_cfg.proofs.Configs.{ArePlaces, spelled-places, no_fault_in, same_config}
 use Rattle.pdc_cfg.proofs.config.read_payload.Goals as goal
 
-pub returns-in_err-sections-clause-only : goal.returns-in_err-sections-clause-only
-returns-in_err-sections-clause-only c = λ config h. absurd (no_fault_in _ config _ h (subst (λ (n : ℕ). IsBodyFault n (body_in c.args.payload.now) c.in_err-sections.field-0.0) c.read_word-count.ensures c.in_err-sections.ensures.fault))
+pub returns-in_err-read_sections-clause-only : goal.returns-in_err-read_sections-clause-only
+returns-in_err-read_sections-clause-only c = λ config h. absurd (no_fault_in _ config _ h (subst (λ (n : ℕ). IsBodyFault n (body_in c.args.payload.now) c.in_err-read_sections.field-0.0) c.read_word-count.ensures c.in_err-read_sections.ensures.fault))
 
 -- the bits of a signed number that was read from a word
 rate-is : (z : ℤ) (n : ℕ) → n < 2 ^ 16 → FitsSigned w16 z → z ≡ cast_signed w16 n → cast_unsigned w16 (cast_signed w16 (cast_unsigned w16 z)) ≡ n
@@ -35,11 +35,11 @@ pub returns-clause-found : goal.returns-clause-found
 returns-clause-found c =
     let payload : List ℕ = c.args.payload.now in
     let base : ℕ = c.read_long-base.result in
-    let sections = c.in_ok-sections.sections in
+    let sections = c.read_sections.new.sections in
     let low : bit_and base 16777215 ≡ base % 2 ^ 24 = and_mask base 24 in
-    let begins = c.in_ok-sections.ensures.found in
+    let begins = c.in_ok-read_sections.ensures.found in
     let signed : FitsSigned w16 c.cast_signed.result = record { sfits = c.cast_signed.type_inv } in
-    let count : length (map fields_of_view sections.items) ≡ c.read_word-count.result = length-map sections.items fields_of_view ∙ c.in_ok-sections.ensures.count in
+    let count : length (map fields_of_view sections.items) ≡ c.read_word-count.result = length-map sections.items fields_of_view ∙ c.in_ok-read_sections.ensures.count in
     is_config payload _ base (λ i. omega (arith, c.type_inv.payload i)) (record {
       long = omega arith;
       base = omega (arith, low, c.read_long-base.ensures);

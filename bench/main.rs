@@ -1,0 +1,186 @@
+//! The reading and writing paths, proved and plain, side by side in one process.
+//!
+//! Each line is the best of several turns that take the two in alternation; both must give the same answer.
+
+mod plain;
+
+use std::hint::black_box;
+use std::time::Instant;
+
+mod ours {
+    // The static library `pdc_bench`: a slice is a pointer and a length.
+    extern "C" {
+        pub fn dagluwis_check_word(bytes: *const u8, len: usize) -> u16;
+        pub fn dagluwis_read_config(bytes: *const u8, len: usize) -> u64;
+        pub fn dagluwis_read_data(bytes: *const u8, len: usize, phasors: u8, analogs: u8, digitals: u8, time_base: u32, rate: u32) -> u64;
+        pub fn dagluwis_write_config(bytes: *const u8, len: usize, rounds: u32) -> u64;
+        pub fn dagluwis_write_data(bytes: *const u8, len: usize, phasors: u8, analogs: u8, digitals: u8, rounds: u32) -> u64;
+    }
+}
+
+const TIME_BASE: u32 = 1_000_000;
+const RATE: u32 = 50;
+const TURNS: usize = 15;
+
+#[inline(never)]
+fn plain_check_word(bytes: &[u8]) -> u16 {
+    plain::check_word(bytes)
+}
+
+#[inline(never)]
+fn plain_read_config(bytes: &[u8]) -> u64 {
+    let Ok(frame) = plain::read_frame(bytes) else { return 0 };
+    let Ok(config) = plain::read_config(&frame) else { return 0 };
+    let mut mixed = u64::from(config.time_base);
+    for section in config.sections.as_slice() {
+        mixed ^= u64::from(section.source) << 32 ^ u64::from(section.count) ^ section.bytes.len() as u64;
+    }
+    mixed
+}
+
+#[inline(never)]
+fn plain_read_data(bytes: &[u8], shape: plain::Shape) -> u64 {
+    let Ok(frame) = plain::read_frame(bytes) else { return 0 };
+    let Ok(blocks) = plain::cut(&[shape], frame.payload) else { return 0 };
+    let Some(instant) = plain::instant(frame.soc, frame.frac, TIME_BASE, RATE) else { return 0 };
+    let mut mixed = instant;
+    for block in blocks.as_slice() {
+        for word in block.words() {
+            mixed ^= u64::from(*word);
+        }
+    }
+    mixed
+}
+
+#[inline(never)]
+fn plain_write_config(bytes: &[u8], rounds: u32) -> u64 {
+    let Ok(frame) = plain::read_frame(bytes) else { return 0 };
+    let Ok(config) = plain::read_config(&frame) else { return 0 };
+    let mut out = Vec::new();
+    let mut mixed = 0u64;
+    for soc in 0..rounds {
+        out.clear();
+        plain::write_config(&config, frame.id, soc, &mut out);
+        mixed = mixed.rotate_left(1) ^ u64::from(*out.last().unwrap_or(&0));
+    }
+    mixed
+}
+
+#[inline(never)]
+fn plain_write_data(bytes: &[u8], shape: plain::Shape, rounds: u32) -> u64 {
+    let Ok(frame) = plain::read_frame(bytes) else { return 0 };
+    let Ok(blocks) = plain::cut(&[shape], frame.payload) else { return 0 };
+    let (mut payload, mut out) = (Vec::new(), Vec::new());
+    let mut mixed = 0u64;
+    for soc in 0..rounds {
+        payload.clear();
+        out.clear();
+        plain::join(blocks.as_slice(), &mut payload);
+        plain::write_frame(&plain::Frame { soc, payload: &payload, ..frame }, &mut out);
+        mixed = mixed.rotate_left(1) ^ u64::from(*out.last().unwrap_or(&0));
+    }
+    mixed
+}
+
+/// A frame of this kind, version 2, of stream 11.
+fn frame(kind: u8, payload: &[u8]) -> Vec<u8> {
+    let mut bytes = vec![0xAA, 16 * kind + 2];
+    bytes.extend_from_slice(&((payload.len() + 16) as u16).to_be_bytes());
+    bytes.extend_from_slice(&[0, 11, 0x44, 0x85, 0x27, 0xF0, 0, 0, 0x4E, 0x20]);
+    bytes.extend_from_slice(payload);
+    let check = plain::check_word(&bytes);
+    bytes.extend_from_slice(&check.to_be_bytes());
+    bytes
+}
+
+fn config_frame(shape: plain::Shape) -> Vec<u8> {
+    let (p, a, d) = (usize::from(shape.phasors), usize::from(shape.analogs), usize::from(shape.digitals));
+    let mut payload = TIME_BASE.to_be_bytes().to_vec();
+    payload.extend_from_slice(&[0, 1]);
+    payload.extend_from_slice(b"PMU 11          ");
+    payload.extend_from_slice(&[0, 11, 0, 0, 0, shape.phasors, 0, shape.analogs, 0, shape.digitals]);
+    payload.extend(std::iter::repeat(b' ').take(16 * (p + a + 16 * d)));
+    payload.extend(std::iter::repeat(1).take(4 * (p + a + d)));
+    payload.extend_from_slice(&[0, 1, 0, 1, 0, RATE as u8]);
+    frame(3, &payload)
+}
+
+fn data_frame(shape: plain::Shape) -> Vec<u8> {
+    let words = 3 + 2 * usize::from(shape.phasors) + usize::from(shape.analogs) + usize::from(shape.digitals);
+    let payload: Vec<u8> = (0..2 * words).map(|i| (i * 37 + 11) as u8).collect();
+    frame(0, &payload)
+}
+
+/// Nanoseconds a frame, the best of the turns, of ours and of the plain one.
+fn measure(rounds: u32, ours: &mut dyn FnMut(u32) -> u64, plain: &mut dyn FnMut(u32) -> u64) -> (f64, f64) {
+    let (mut a, mut b) = (f64::INFINITY, f64::INFINITY);
+    for _ in 0..TURNS {
+        let start = Instant::now();
+        let x = ours(rounds);
+        let first = start.elapsed().as_nanos() as f64 / f64::from(rounds);
+        let start = Instant::now();
+        let y = plain(rounds);
+        let second = start.elapsed().as_nanos() as f64 / f64::from(rounds);
+        assert_eq!(x, y, "both give the same answer");
+        a = a.min(first);
+        b = b.min(second);
+    }
+    (a, b)
+}
+
+fn line(name: &str, shape: &str, (ours, plain): (f64, f64)) {
+    println!(
+        "| {name} | {shape} | {ours:.1} | {plain:.1} | {:.2} | {:.2} | {:.2} |",
+        1000.0 / ours,
+        1000.0 / plain,
+        plain / ours
+    );
+}
+
+/// Calls `one` for each round, and mixes what it gives.
+fn each(rounds: u32, mut one: impl FnMut() -> u64) -> u64 {
+    let mut mixed = 0u64;
+    for _ in 0..rounds {
+        mixed = mixed.rotate_left(1) ^ one();
+    }
+    mixed
+}
+
+fn main() {
+    println!("| path | shape | ours, ns a frame | plain Rust, ns | ours, million frames/s | plain, million/s | ratio ours / plain |");
+    println!("|---|---|---:|---:|---:|---:|---:|");
+    for (phasors, analogs, digitals) in [(1, 0, 0), (8, 4, 1), (32, 32, 8)] {
+        let shape = plain::Shape { phasors, analogs, digitals };
+        let name = format!("{phasors}/{analogs}/{digitals}");
+        let (config, data) = (config_frame(shape), data_frame(shape));
+        let rounds = (40_000_000 / (config.len() as u32 + 200)).max(2_000);
+        line("check word alone", &format!("{} bytes", config.len()), measure(
+            rounds,
+            &mut |n| each(n, || u64::from(unsafe { ours::dagluwis_check_word(black_box(config.as_ptr()), config.len()) })),
+            &mut |n| each(n, || u64::from(plain_check_word(black_box(&config)))),
+        ));
+        line("read configuration", &name, measure(
+            rounds,
+            &mut |n| each(n, || unsafe { ours::dagluwis_read_config(black_box(config.as_ptr()), config.len()) }),
+            &mut |n| each(n, || plain_read_config(black_box(&config))),
+        ));
+        line("write configuration", &name, measure(
+            rounds,
+            &mut |n| unsafe { ours::dagluwis_write_config(black_box(config.as_ptr()), config.len(), n) },
+            &mut |n| plain_write_config(black_box(&config), n),
+        ));
+        let rounds = (40_000_000 / (data.len() as u32 + 200)).max(2_000);
+        line("read data", &name, measure(
+            rounds,
+            &mut |n| each(n, || unsafe {
+                ours::dagluwis_read_data(black_box(data.as_ptr()), data.len(), phasors, analogs, digitals, TIME_BASE, RATE)
+            }),
+            &mut |n| each(n, || plain_read_data(black_box(&data), shape)),
+        ));
+        line("write data", &name, measure(
+            rounds,
+            &mut |n| unsafe { ours::dagluwis_write_data(black_box(data.as_ptr()), data.len(), phasors, analogs, digitals, n) },
+            &mut |n| plain_write_data(black_box(&data), shape, n),
+        ));
+    }
+}

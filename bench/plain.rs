@@ -1,0 +1,290 @@
+//! Plain, careful Rust for the same work: each test is made, each fault has its name, nothing is unsafe, and no memory
+//! is taken while reading.
+
+pub fn check_word(bytes: &[u8]) -> u16 {
+    let mut check = 0xFFFFu16;
+    for &byte in bytes {
+        let high = (check >> 8) ^ u16::from(byte);
+        let mixed = high ^ (high >> 4);
+        check = (check << 8) ^ (mixed << 12) ^ (mixed << 5) ^ mixed;
+    }
+    check
+}
+
+#[derive(Clone, Copy, Debug, PartialEq, Eq)]
+pub enum Kind {
+    Data,
+    Header,
+    Cfg1,
+    Cfg2,
+    Command,
+    Cfg3,
+}
+
+#[derive(Debug)]
+pub enum Fault {
+    Short,
+    BadSync,
+    SizeMismatch,
+    BadCheck,
+    BadId,
+    WrongKind,
+    Cut,
+    TooMany,
+    FloatFormat,
+    WrongLength,
+}
+
+#[derive(Clone, Copy)]
+pub struct Frame<'a> {
+    pub kind: Kind,
+    pub version: u8,
+    pub id: u16,
+    pub soc: u32,
+    pub quality: u8,
+    pub frac: u32,
+    pub payload: &'a [u8],
+}
+
+fn word(bytes: &[u8], place: usize) -> u16 {
+    u16::from_be_bytes([bytes[place], bytes[place + 1]])
+}
+
+fn long(bytes: &[u8], place: usize) -> u32 {
+    u32::from_be_bytes([bytes[place], bytes[place + 1], bytes[place + 2], bytes[place + 3]])
+}
+
+pub fn read_frame(bytes: &[u8]) -> Result<Frame<'_>, Fault> {
+    if bytes.len() < 16 {
+        return Err(Fault::Short);
+    }
+    let kind = match bytes[1] >> 4 {
+        0 => Kind::Data,
+        1 => Kind::Header,
+        2 => Kind::Cfg1,
+        3 => Kind::Cfg2,
+        4 => Kind::Command,
+        5 => Kind::Cfg3,
+        _ => return Err(Fault::BadSync),
+    };
+    let version = bytes[1] & 0x0F;
+    if bytes[0] != 0xAA || version == 0 || version > 2 {
+        return Err(Fault::BadSync);
+    }
+    if usize::from(word(bytes, 2)) != bytes.len() {
+        return Err(Fault::SizeMismatch);
+    }
+    let end = bytes.len() - 2;
+    if word(bytes, end) != check_word(&bytes[..end]) {
+        return Err(Fault::BadCheck);
+    }
+    let id = word(bytes, 4);
+    if id == 0 || id == u16::MAX {
+        return Err(Fault::BadId);
+    }
+    let fracsec = long(bytes, 10);
+    Ok(Frame {
+        kind,
+        version,
+        id,
+        soc: long(bytes, 6),
+        quality: (fracsec >> 24) as u8,
+        frac: fracsec & 0x00FF_FFFF,
+        payload: &bytes[14..end],
+    })
+}
+
+#[derive(Clone, Copy, Default)]
+pub struct Shape {
+    pub phasors: u8,
+    pub analogs: u8,
+    pub digitals: u8,
+}
+
+impl Shape {
+    fn word_count(self) -> usize {
+        3 + 2 * usize::from(self.phasors) + usize::from(self.analogs) + usize::from(self.digitals)
+    }
+
+    fn section_len(self) -> usize {
+        let (p, a, d) = (usize::from(self.phasors), usize::from(self.analogs), usize::from(self.digitals));
+        30 + 16 * (p + a + 16 * d) + 4 * (p + a + d)
+    }
+}
+
+#[derive(Clone, Copy, Default)]
+pub struct Section<'a> {
+    pub bytes: &'a [u8],
+    pub shape: Shape,
+    pub source: u16,
+    pub count: u16,
+    pub polar: bool,
+}
+
+/// At most N values, in the value itself.
+pub struct Few<T, const N: usize> {
+    values: [T; N],
+    len: usize,
+}
+
+impl<T: Copy + Default, const N: usize> Few<T, N> {
+    fn new() -> Self {
+        Few { values: [T::default(); N], len: 0 }
+    }
+
+    fn push(&mut self, value: T) {
+        self.values[self.len] = value;
+        self.len += 1;
+    }
+
+    pub fn as_slice(&self) -> &[T] {
+        &self.values[..self.len]
+    }
+}
+
+pub struct Config<'a> {
+    pub flags: u8,
+    pub time_base: u32,
+    pub sections: Few<Section<'a>, 17>,
+    pub rate: i16,
+}
+
+fn read_section(bytes: &[u8]) -> Result<Section<'_>, Fault> {
+    if bytes.len() < 26 {
+        return Err(Fault::Cut);
+    }
+    let (phasors, analogs, digitals) = (word(bytes, 20), word(bytes, 22), word(bytes, 24));
+    if phasors > 32 || analogs > 32 || digitals > 8 {
+        return Err(Fault::TooMany);
+    }
+    let shape = Shape { phasors: phasors as u8, analogs: analogs as u8, digitals: digitals as u8 };
+    let format = word(bytes, 18);
+    if (format >> 1) & 0b111 != 0 {
+        return Err(Fault::FloatFormat);
+    }
+    let len = shape.section_len();
+    if bytes.len() < len {
+        return Err(Fault::Cut);
+    }
+    let section = &bytes[..len];
+    Ok(Section { bytes: section, shape, source: word(section, 16), count: word(section, len - 2), polar: format & 1 == 1 })
+}
+
+pub fn read_config<'a>(frame: &Frame<'a>) -> Result<Config<'a>, Fault> {
+    if !matches!(frame.kind, Kind::Cfg1 | Kind::Cfg2) {
+        return Err(Fault::WrongKind);
+    }
+    let payload = frame.payload;
+    if payload.len() < 8 {
+        return Err(Fault::Cut);
+    }
+    let count = word(payload, 4);
+    if count == 0 || count > 17 {
+        return Err(Fault::TooMany);
+    }
+    let end = payload.len() - 2;
+    let body = &payload[6..end];
+    let mut sections = Few::new();
+    let mut place = 0;
+    for _ in 0..count {
+        let section = read_section(&body[place..])?;
+        place += section.bytes.len();
+        sections.push(section);
+    }
+    if place < body.len() {
+        return Err(Fault::Cut);
+    }
+    let base = long(payload, 0);
+    Ok(Config { flags: (base >> 24) as u8, time_base: base & 0x00FF_FFFF, sections, rate: word(payload, end) as i16 })
+}
+
+#[derive(Clone, Copy)]
+pub struct Block {
+    pub shape: Shape,
+    words: [u16; 107],
+    len: usize,
+}
+
+impl Default for Block {
+    fn default() -> Self {
+        Block { shape: Shape::default(), words: [0; 107], len: 3 }
+    }
+}
+
+impl Block {
+    pub fn words(&self) -> &[u16] {
+        &self.words[..self.len]
+    }
+}
+
+pub fn cut(shapes: &[Shape], payload: &[u8]) -> Result<Few<Block, 17>, Fault> {
+    let wanted: usize = shapes.iter().map(|shape| 2 * shape.word_count()).sum();
+    if payload.len() != wanted {
+        return Err(Fault::WrongLength);
+    }
+    let mut blocks = Few::new();
+    let mut place = 0;
+    for shape in shapes {
+        let len = shape.word_count();
+        let mut block = Block { shape: *shape, words: [0; 107], len };
+        for (word, pair) in block.words[..len].iter_mut().zip(payload[place..place + 2 * len].chunks_exact(2)) {
+            *word = u16::from_be_bytes([pair[0], pair[1]]);
+        }
+        blocks.push(block);
+        place += 2 * len;
+    }
+    Ok(blocks)
+}
+
+pub fn instant(soc: u32, frac: u32, time_base: u32, rate: u32) -> Option<u64> {
+    if frac >= time_base {
+        return None;
+    }
+    let (tag, base) = (u64::from(frac) * u64::from(rate), u64::from(time_base));
+    let k = (2 * tag + base) / (2 * base);
+    (tag.abs_diff(k * base) < u64::from(rate)).then(|| u64::from(soc) * u64::from(rate) + k)
+}
+
+fn begin(kind: u8, id: u16, soc: u32, fracsec: u32, payload_len: usize, out: &mut Vec<u8>) {
+    out.reserve(payload_len + 16);
+    out.extend_from_slice(&[0xAA, 16 * kind + 2]);
+    out.extend_from_slice(&((payload_len + 16) as u16).to_be_bytes());
+    out.extend_from_slice(&id.to_be_bytes());
+    out.extend_from_slice(&soc.to_be_bytes());
+    out.extend_from_slice(&fracsec.to_be_bytes());
+}
+
+fn end(start: usize, out: &mut Vec<u8>) {
+    let check = check_word(&out[start..]);
+    out.extend_from_slice(&check.to_be_bytes());
+}
+
+pub fn write_config(config: &Config, id: u16, soc: u32, out: &mut Vec<u8>) {
+    let start = out.len();
+    let sections = config.sections.as_slice();
+    let len: usize = sections.iter().map(|section| section.bytes.len()).sum();
+    begin(3, id, soc, 0, len + 8, out);
+    out.extend_from_slice(&(u32::from(config.flags) << 24 | config.time_base).to_be_bytes());
+    out.extend_from_slice(&(sections.len() as u16).to_be_bytes());
+    for section in sections {
+        out.extend_from_slice(section.bytes);
+    }
+    out.extend_from_slice(&config.rate.to_be_bytes());
+    end(start, out);
+}
+
+pub fn join(blocks: &[Block], out: &mut Vec<u8>) {
+    out.reserve(blocks.iter().map(|block| 2 * block.len).sum());
+    for block in blocks {
+        for word in block.words() {
+            out.extend_from_slice(&word.to_be_bytes());
+        }
+    }
+}
+
+pub fn write_frame(frame: &Frame, out: &mut Vec<u8>) {
+    let start = out.len();
+    begin(frame.kind as u8, frame.id, frame.soc, u32::from(frame.quality) << 24 | frame.frac, frame.payload.len(), out);
+    out.extend_from_slice(frame.payload);
+    end(start, out);
+}

@@ -1,0 +1,76 @@
+//! From bytes to values.
+
+use pdc_block::cut;
+use pdc_cfg::{MAX_ANALOGS, MAX_DIGITALS, MAX_PHASORS, Shape, read_config};
+use pdc_frame::{check_word, read_frame};
+use pdc_tag::{COUNT_LIMIT, MAX_RATE, instant};
+
+/// The shape of these numbers, where they are within the limits.
+pub(crate) fn shape_of(phasors: u8, analogs: u8, digitals: u8) -> Option<Shape> {
+    if phasors > MAX_PHASORS || analogs > MAX_ANALOGS || digitals > MAX_DIGITALS {
+        return None;
+    }
+    Some(Shape {
+        phasors,
+        analogs,
+        digitals,
+    })
+}
+
+/// The check word of the bytes.
+#[unsafe(no_mangle)]
+pub extern "C" fn dagluwis_check_word(bytes: &[u8]) -> u16 {
+    check_word(bytes)
+}
+
+/// Reads a configuration frame, and mixes what its sections say; 0 where it is refused.
+#[unsafe(no_mangle)]
+pub extern "C" fn dagluwis_read_config(bytes: &[u8]) -> u64 {
+    let Ok(frame) = read_frame(bytes) else {
+        return 0;
+    };
+    let Ok(config) = read_config(&frame) else {
+        return 0;
+    };
+    let mut mixed = u64::from(config.time_base);
+    for section in config.sections.as_slice() {
+        mixed ^= u64::from(section.source) << 32
+            ^ u64::from(section.count)
+            ^ section.bytes.len() as u64;
+    }
+    mixed
+}
+
+/// Reads a data frame of one PMU, and mixes its instant with its words; 0 where it is refused.
+#[unsafe(no_mangle)]
+pub extern "C" fn dagluwis_read_data(
+    bytes: &[u8],
+    phasors: u8,
+    analogs: u8,
+    digitals: u8,
+    time_base: u32,
+    rate: u32,
+) -> u64 {
+    let Some(shape) = shape_of(phasors, analogs, digitals) else {
+        return 0;
+    };
+    if rate == 0 || rate > MAX_RATE || time_base >= COUNT_LIMIT {
+        return 0;
+    }
+    let Ok(frame) = read_frame(bytes) else {
+        return 0;
+    };
+    let Ok(blocks) = cut(&[shape], frame.payload) else {
+        return 0;
+    };
+    let Some(instant) = instant(frame.soc, frame.frac, time_base, rate) else {
+        return 0;
+    };
+    let mut mixed = instant;
+    for block in blocks.as_slice() {
+        for word in block.words() {
+            mixed ^= u64::from(*word);
+        }
+    }
+    mixed
+}
