@@ -5,6 +5,7 @@ ghost use Rattle.std.specs.Prelude.{◌<◌};
 use crate::held::{Held, HeldSection};
 use pdc_block::Block;
 use pdc_cfg::ConfigView;
+use pdc_command::Command;
 use pdc_frame::Frame;
 use std::io;
 use std::io::Write;
@@ -87,6 +88,16 @@ pub fn write_data<W: Write>(
         write_block(writer, section, block)?;
     }
     Ok(())
+}
+
+/// The line of a header frame.
+pub fn write_header<W: Write>(writer: &mut W, id: u16, text: &[u8]) -> io::Result<()> {
+    writeln!(writer, "header id={id} bytes={}", text.len())
+}
+
+/// The line of a command frame.
+pub fn write_command<W: Write>(writer: &mut W, id: u16, command: Command) -> io::Result<()> {
+    writeln!(writer, "command id={id} cmd={}", command as u16)
 }
 
 /// The lines of a configuration: its fields, and a line for each section.

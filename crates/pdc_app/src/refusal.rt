@@ -2,6 +2,7 @@
 
 use pdc_block::BodyFault;
 use pdc_cfg::CfgFault;
+use pdc_command::CommandFault;
 use pdc_frame::FrameFault;
 use thiserror::Error;
 
@@ -11,9 +12,12 @@ pub enum Refusal {
     /// The bytes are not a frame.
     #[error(transparent)]
     Frame(FrameFault),
-    /// The frame is neither data nor a configuration.
+    /// The frame is no configuration, or one that is not shown.
     #[error(transparent)]
     Config(CfgFault),
+    /// The frame has no command.
+    #[error(transparent)]
+    Command(CommandFault),
     /// No CFG-2 of the data frame's id was shown last.
     #[error("B1 NoConfig")]
     NoConfig,

@@ -3,11 +3,12 @@
 ghost use Rattle.std.specs.Prelude.{◌<◌};
 
 use crate::held::Held;
-use crate::lines::{write_config, write_data};
+use crate::lines::{write_command, write_config, write_data, write_header};
 use crate::refusal::Refusal;
 use hex::FromHexError;
 use pdc_block::cut;
 use pdc_cfg::read_config;
+use pdc_command::{read_command, read_header};
 use pdc_frame::{Frame, Kind, read_frame};
 use std::alloc::{AllocError, AllocFailed, Global};
 use std::io;
@@ -119,12 +120,34 @@ impl Show {
         write_config(writer, name, frame.id, &config).map_err(ShowFault::Write)
     }
 
+    /// Prints the line of a command frame.
+    fn show_command<W: Write>(&mut self, frame: &Frame, writer: &mut W) -> Result<(), ShowFault> {
+        match read_command(frame) {
+            Ok(command) => write_command(writer, frame.id, command).map_err(ShowFault::Write),
+            Err(fault) => self.refuse(Refusal::Command(fault), writer),
+        }
+    }
+
+    /// Prints the line of a header frame.
+    fn show_header<W: Write>(&mut self, frame: &Frame, writer: &mut W) -> Result<(), ShowFault> {
+        match read_header(frame) {
+            Ok(text) => write_header(writer, frame.id, text).map_err(ShowFault::Write),
+            Err(fault) => self.refuse(Refusal::Command(fault), writer),
+        }
+    }
+
     /// Prints the lines of the frame that the bytes are.
     fn show_frame<W: Write>(&mut self, bytes: &[u8], writer: &mut W) -> Result<(), ShowFault> {
-        match read_frame(bytes) {
-            Err(fault) => self.refuse(Refusal::Frame(fault), writer),
-            Ok(frame) if frame.kind == Kind::DataFrame => self.show_data(&frame, writer),
-            Ok(frame) => self.show_config(&frame, writer),
+        let frame = match read_frame(bytes) {
+            Ok(frame) => frame,
+            Err(fault) => return self.refuse(Refusal::Frame(fault), writer),
+        };
+        match frame.kind {
+            Kind::DataFrame => self.show_data(&frame, writer),
+            Kind::HeaderFrame => self.show_header(&frame, writer),
+            Kind::CommandFrame => self.show_command(&frame, writer),
+            // CFG-3 is refused as no configuration of this profile.
+            Kind::Cfg1 | Kind::Cfg2 | Kind::Cfg3 => self.show_config(&frame, writer),
         }
     }
 

@@ -21,7 +21,7 @@ const SHOW_LONG: &str =
 Spaces are passed over, and so are empty lines. Digits may be in either case.
 A configuration (CFG-1 or CFG-2) gives a line, and a line for each PMU. A data frame is
 read by the last CFG-2 shown, which must be of the same id, and gives a line, and a line for each PMU.
-A frame that is refused gives its code and name, and a line that is no hexadecimal gives its number.
+A header or command frame gives a line. A frame that is refused gives its code and name, and a line that is no hexadecimal gives its number.
 The program goes on after either, and ends with status 1.
 
 Example:
@@ -33,12 +33,14 @@ Refusals:
   F3 SizeMismatch   FRAMESIZE is not the number of bytes
   F4 BadCheck       CHK is not the check word of the bytes before it
   F5 BadId          IDCODE is 0 or 65535
-  C1 WrongKind      a header, command or CFG-3 frame, which is not shown
+  C1 WrongKind      a CFG-3 frame, which is not shown
   C2 Cut            a configuration ends too early, or goes on too long
   C3 TooMany        not 1 to 17 PMUs, or one with over 32 phasors, 32 analogs or 8 digitals
   C4 FloatFormat    FORMAT asks for floating-point numbers
   B1 NoConfig       data with no CFG-2 of its id before it
-  B2 WrongLength    data that is longer or shorter than its configuration says";
+  B2 WrongLength    data that is longer or shorter than its configuration says
+  N2 Cut            a command frame whose payload has not two bytes
+  N3 UnknownCommand a command that is none of 1 to 6";
 
 fn show<'a>(alloc: Global) -> Command<'a> {
     Command::new(alloc, "show")

@@ -60,16 +60,6 @@ fn frame_faults(rt: HostRuntime) -> Result<(), Fail> {
 fn frames_that_are_not_shown(rt: HostRuntime) -> Result<(), Fail> {
     let cases = [
         (
-            "AA120013000B00000000000000005044437C53\n",
-            "C1 WrongKind\n",
-            Shown::SomeRefused,
-        ),
-        (
-            "AA420012000B000000000000000000027417\n",
-            "C1 WrongKind\n",
-            Shown::SomeRefused,
-        ),
-        (
             "AA520010000B0000000000000000E956\n",
             "C1 WrongKind\n",
             Shown::SomeRefused,
@@ -102,6 +92,58 @@ fn frames_that_are_not_shown(rt: HostRuntime) -> Result<(), Fail> {
         (
             "AA320038000B000000000000000000000000000141202020202020202020202020202020000B000000000000000000010001000000328B6E\n",
             "C2 Cut\n",
+            Shown::SomeRefused,
+        ),
+    ];
+    print_as_wanted(&rt, rt.alloc(), &cases)
+}
+
+#[test]
+fn headers_and_commands(rt: HostRuntime) -> Result<(), Fail> {
+    let cases = [
+        (
+            "AA120013000B00000000000000005044437C53\n",
+            "header id=11 bytes=3\n",
+            Shown::All,
+        ),
+        (
+            "AA420012000B000000000000000000027417\n",
+            "command id=11 cmd=2\n",
+            Shown::All,
+        ),
+        (
+            "AA4100121E36448560300F0BBFD00002CE00\n",
+            "command id=7734 cmd=2\n",
+            Shown::All,
+        ),
+        (
+            "AA42001200C9448527F0000000000005ED85\n",
+            "command id=201 cmd=5\n",
+            Shown::All,
+        ),
+        (
+            "AA420011000B000000000000000002DFC7\n",
+            "N2 Cut\n",
+            Shown::SomeRefused,
+        ),
+        (
+            "AA420013000B00000000000000000002005272\n",
+            "N2 Cut\n",
+            Shown::SomeRefused,
+        ),
+        (
+            "AA420012000B0000000000000000000724B2\n",
+            "N3 UnknownCommand\n",
+            Shown::SomeRefused,
+        ),
+        (
+            "AA420012000B000000000000000000005455\n",
+            "N3 UnknownCommand\n",
+            Shown::SomeRefused,
+        ),
+        (
+            "AA420012000B000000000000000001024726\n",
+            "N3 UnknownCommand\n",
             Shown::SomeRefused,
         ),
     ];

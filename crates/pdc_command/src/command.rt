@@ -1,0 +1,101 @@
+//! Command frames (C37.118.2-2011, 6.6).
+ghost use Rattle.std.specs.Prelude.{◌≡◌, ◌+◌, ◌<◌, ◌≤◌, ◌++◌, length, vec_len, vec_capacity, IfOk, IfErr, OnOk, OnErr, IsOk};
+ghost use Rattle.std.specs.Int.{w16, to_be_bytes};
+ghost use Rattle.pdc_frame.specs.Frame.{fields_of, spelling_of, IsFrame};
+ghost use Rattle.pdc_command.specs.Command.{code_of, command_fields, IsCommand, IsFirstFault};
+
+use crate::fault::CommandFault;
+use pdc_frame::{Frame, Kind, read_word, write_frame};
+use std::alloc::{AllocError, Allocator};
+
+/// What a sender of data is told to do: CMD (C37.118.2-2011, table 15). Its number stands beside each.
+#[derive(Clone, Copy, Debug, PartialEq, Eq)]
+pub enum Command {
+    /// Stop sending data.
+    DataOff = 1,
+    /// Send data.
+    DataOn = 2,
+    /// Send the header frame.
+    SendHeader = 3,
+    /// Send the CFG-1 frame.
+    SendCfg1 = 4,
+    /// Send the CFG-2 frame.
+    SendCfg2 = 5,
+    /// Send the CFG-3 frame.
+    SendCfg3 = 6,
+}
+
+/// The command that a frame carries. It takes no memory.
+///
+/// # Errors
+///
+/// The first fault in the order of [`CommandFault`].
+pub fn read_command(frame: &Frame) -> Result<Command, CommandFault>
+    // The frame carries what is read,
+    ensures found { IfOk result (IsCommand (fields_of frame.now)) }
+    // and what it carries is read.
+    ensures only { (command : Command) → IsCommand (fields_of frame.now) command → result ≡ Ok command }
+    // Which fault it is.
+    ensures fault { IfErr result (IsFirstFault (fields_of frame.now)) }
+{
+    if frame.kind != Kind::CommandFrame {
+        return Err(CommandFault::WrongKind);
+    }
+    if frame.payload.len() != 2 {
+        return Err(CommandFault::Cut);
+    }
+    match read_word(frame.payload, 0) {
+        1 => Ok(Command::DataOff),
+        2 => Ok(Command::DataOn),
+        3 => Ok(Command::SendHeader),
+        4 => Ok(Command::SendCfg1),
+        5 => Ok(Command::SendCfg2),
+        6 => Ok(Command::SendCfg3),
+        _ => Err(CommandFault::UnknownCommand),
+    }
+}
+
+/// The two bytes of CMD.
+fn cmd_bytes(command: Command) -> [u8; 2]
+    ensures { result ≡ to_be_bytes w16 (code_of command) }
+{
+    (command as u16).to_be_bytes()
+}
+
+/// Appends the frame that tells the stream `id` this command: version 2, time quality 0 and count 0.
+///
+/// # Errors
+///
+/// [`AllocError`] where `out` has no room and gets none.
+pub fn write_command<A: Allocator>(
+    id: u16,
+    soc: u32,
+    command: Command,
+    out: &mut Vec<u8, A>,
+) -> Result<(), AllocError>
+    requires id_low { 0 < id }
+    requires id_high { id < 65535 }
+    // What is appended is the frame with these fields,
+    ensures ok { OnOk result (out.new.items ≡ out.old.items ++ spelling_of (command_fields id soc command)) }
+    // which is read back, and carries the command.
+    ensures frame { IsFrame (spelling_of (command_fields id soc command)) (command_fields id soc command) }
+    ensures command { IsCommand (command_fields id soc command) command }
+    // It fails only where there was no room, and then nothing is appended.
+    ensures err { OnErr result (out.new.items ≡ out.old.items) }
+    ensures room { vec_len out.old + 18 ≤ vec_capacity out.old → IsOk result }
+    ensures capacity { vec_capacity out.old ≤ vec_capacity out.new }
+{
+    let payload = cmd_bytes(command);
+    write_frame(
+        &Frame {
+            kind: Kind::CommandFrame,
+            version: 2,
+            id,
+            soc,
+            quality: 0,
+            frac: 0,
+            payload: &payload,
+        },
+        out,
+    )
+}

@@ -1,0 +1,17 @@
+//! Command and header frames of IEEE C37.118.2-2011 (6.6 and 6.5): what a concentrator is told, and the text that it
+//! tells people.
+//!
+//! To the layers above this crate promises that a frame and what it carries say the same, in both directions: what is
+//! written is read back, and what is read was spelled so.
+#![tactic(auto)]
+
+mod command;
+mod fault;
+mod header;
+
+pub use command::{Command, read_command, write_command};
+pub use fault::CommandFault;
+pub use header::{MAX_TEXT, read_header, write_header};
+
+#[cfg(test)]
+mod tests;
