@@ -3,19 +3,23 @@
 
 mod held;
 mod lines;
+mod mark_init;
 mod refusal;
 mod show;
 #[cfg(test)]
 mod tests;
 
-use pdc_command_line::{Request, parse};
+use mark_init::{MarkInitFault, make_mark};
+use pdc_command_line::{MarkInit, Request, parse};
 use show::{ShowFault, Shown, run_show};
 use std::alloc::Global;
 use std::io;
 use std::io::{BufWriter, Write};
 use std::process::ExitCode;
 
-/// The exit statuses beside 0, done.
+/// The exit statuses.
+const DONE: u8 = 0;
+
 const REFUSED: u8 = 1;
 
 const WRONG_ARGUMENTS: u8 = 2;
@@ -30,23 +34,45 @@ fn show_streams(alloc: Global, rt: &(impl Input + Print)) -> Result<Shown, ShowF
     Ok(shown)
 }
 
+fn run_show_command(rt: &HostRuntime) -> io::Result<u8> {
+    match show_streams(rt.alloc(), rt) {
+        Ok(Shown::All) => Ok(DONE),
+        Ok(Shown::SomeRefused) => Ok(REFUSED),
+        Err(fault) => {
+            eprintln!(rt; "pdc show: {fault}")?;
+            Ok(FAILED)
+        }
+    }
+}
+
+fn run_mark_init_command(rt: &HostRuntime, request: &MarkInit) -> io::Result<u8> {
+    match make_mark(rt, request) {
+        Ok(()) => Ok(DONE),
+        Err(MarkInitFault::Exists) => {
+            eprintln!(rt; "{}", MarkInitFault::Exists)?;
+            Ok(REFUSED)
+        }
+        Err(fault) => {
+            let file = request.file;
+            eprintln!(rt; "device fault")?;
+            eprintln!(rt; "pdc mark-init: {file}: {fault}")?;
+            Ok(FAILED)
+        }
+    }
+}
+
 fn main(rt: HostRuntime) -> io::Result<ExitCode> {
     let alloc = rt.alloc();
     let words: Vec<String> = std::env::args(&rt)?.collect(alloc)?;
     let arguments = words.as_slice().get(1..).unwrap_or(&[]);
-    match parse(alloc, arguments) {
-        Ok(Some(Request::Show)) => match show_streams(alloc, &rt) {
-            Ok(Shown::All) => Ok(ExitCode::SUCCESS),
-            Ok(Shown::SomeRefused) => Ok(ExitCode::from(REFUSED)),
-            Err(fault) => {
-                eprintln!(rt; "pdc show: {fault}")?;
-                Ok(ExitCode::from(FAILED))
-            }
-        },
-        Ok(None) => Ok(ExitCode::from(WRONG_ARGUMENTS)),
+    let status = match parse(alloc, arguments) {
+        Ok(Some(Request::Show)) => run_show_command(&rt)?,
+        Ok(Some(Request::MarkInit(request))) => run_mark_init_command(&rt, &request)?,
+        Ok(None) => WRONG_ARGUMENTS,
         Err(error) => {
             error.print(&rt)?;
-            Ok(ExitCode::from(error.exit_code() as u8))
+            error.exit_code() as u8
         }
-    }
+    };
+    Ok(ExitCode::from(status))
 }

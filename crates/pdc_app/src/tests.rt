@@ -1,6 +1,8 @@
-//! The lines of `show`. The check words of frames made for these tests were computed bit by bit by another program.
+//! The lines of `show`, and mark files. The check words of frames made for these tests were computed bit by bit by
+//! another program.
 mod failures;
 mod forms;
+mod mark_files;
 
 use crate::show::{ShowFault, Shown, run_show};
 use std::alloc::Global;

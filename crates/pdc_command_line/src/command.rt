@@ -1,5 +1,6 @@
 //! The commands of `pdc`, and their help.
 
+use crate::mark_init::{mark_init, mark_init_request};
 use crate::request::Request;
 use clap::{Command, Error};
 use std::alloc::{AllocError, Global};
@@ -9,6 +10,7 @@ const ABOUT: &str =
 
 const EXAMPLES: &str = "Examples:
   pdc show < captured.hex     print what captured frames say
+  pdc mark-init a.mark 201 50 make the mark file of node 201 at 50 frames a second
   pdc help show               tell more of a command
 
 Exit status: 0 done, 1 refused input, 2 wrong arguments, 3 a device failed or memory ran out";
@@ -56,7 +58,8 @@ fn pdc<'a>(alloc: Global) -> Result<Command<'a>, AllocError> {
         .bin_name("pdc")?
         .subcommand_required(true)
         .arg_required_else_help(true)
-        .subcommand(show(alloc))
+        .subcommand(show(alloc))?
+        .subcommand(mark_init(alloc)?)
 }
 
 /// The request that the words after the program's name make; `None` where no command is named, which the parser
@@ -65,10 +68,11 @@ fn pdc<'a>(alloc: Global) -> Result<Command<'a>, AllocError> {
 /// # Errors
 ///
 /// What `clap` has to say: the help that was asked for, or what is wrong.
-pub fn parse<'a>(alloc: Global, words: &'a [String]) -> Result<Option<Request>, Error> {
+pub fn parse<'a>(alloc: Global, words: &'a [String]) -> Result<Option<Request<'a>>, Error> {
     let matches = pdc(alloc)?.try_get_matches_from(words)?;
-    Ok(match matches.subcommand() {
-        Some(("show", _)) => Some(Request::Show),
-        _ => None,
-    })
+    match matches.subcommand() {
+        Some(("show", _)) => Ok(Some(Request::Show)),
+        Some(("mark-init", inner)) => Ok(mark_init_request(alloc, inner)?.map(Request::MarkInit)),
+        _ => Ok(None),
+    }
 }

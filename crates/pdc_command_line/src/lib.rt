@@ -5,7 +5,12 @@
 #![tactic(auto)]
 
 mod command;
+mod mark_init;
+mod number;
 mod request;
 
 pub use command::parse;
-pub use request::Request;
+pub use request::{MarkInit, Request};
+
+#[cfg(test)]
+mod tests;

@@ -1,7 +1,9 @@
-//! Frames of IEEE C37.118.2-2011: the fields that every message has (6.2), and its check word (annex B).
+//! Frames of IEEE C37.118.2-2011: the fields that every message has (6.2), its check word (annex B), and the frames of a
+//! stream of bytes.
 //!
 //! To the layers above this crate promises that the bytes of a frame and its fields say the same: what is read is
-//! spelled so, and what is spelled so is read, with exactly those fields.
+//! spelled so, what is spelled so is read with exactly those fields, and what is written is that spelling. A stream is
+//! cut into its frames in one way, in whatever pieces it comes.
 #![tactic(auto)]
 
 mod crc;

@@ -1,0 +1,67 @@
+//! The command `mark-init`.
+
+use crate::number::number;
+use crate::request::MarkInit;
+use clap::error::ErrorKind;
+use clap::{Arg, ArgAction, ArgMatches, Command, Error};
+use std::alloc::{AllocError, Global};
+
+const ABOUT: &str = "Make the mark file of a node or a merger";
+
+const LONG: &str =
+    "Makes a mark file: what a node or a merger has to remember over a stop, so that it never publishes
+one instant twice. It holds the number of its starts, and the instant up to which all is published.
+
+Make one for each node and for the merger, once, before its first start.
+A file that exists is left as it is: the command prints `mark exists` and ends with status 1.
+A file that cannot be made gives `device fault` and status 3.
+
+Example:
+  pdc mark-init /var/lib/pdc/a.mark 201 50";
+
+fn word<'a>(alloc: Global, name: &'a str, help: &'a str) -> Arg<'a> {
+    Arg::new(alloc, name)
+        .required(true)
+        .action(ArgAction::Set)
+        .help(help)
+}
+
+/// The command and its help.
+pub fn mark_init<'a>(alloc: Global) -> Result<Command<'a>, AllocError> {
+    Command::new(alloc, "mark-init")
+        .bin_name("pdc mark-init")?
+        .about(ABOUT)
+        .long_about(LONG)
+        .arg(word(alloc, "FILE", "The file to make"))?
+        .arg(word(alloc, "ID", "The id of the node or merger, 1 to 65534"))?
+        .arg(word(alloc, "RATE", "The data rate, 1 to 240 frames a second"))
+}
+
+/// What is wrong with a number.
+fn out_of_range(alloc: Global, name: &str, text: &str, most: u16) -> Result<Error, AllocError> {
+    let message = format!(in alloc;
+        "invalid value '{text}' for '<{name}>': a whole number from 1 to {most} is wanted"
+    )?;
+    mark_init(alloc)?.error(ErrorKind::ValueValidation, message.as_str())
+}
+
+/// What is asked by these words; `None` where one is missing, which the parser refuses before.
+pub fn mark_init_request<'a>(
+    alloc: Global,
+    matches: &ArgMatches<'a>,
+) -> Result<Option<MarkInit<'a>>, Error> {
+    let (Some(file), Some(id_text), Some(rate_text)) = (
+        matches.get_str("FILE"),
+        matches.get_str("ID"),
+        matches.get_str("RATE"),
+    ) else {
+        return Ok(None);
+    };
+    let Some(id) = number(id_text, 1, 65534) else {
+        return Err(out_of_range(alloc, "ID", id_text, 65534)?);
+    };
+    let Some(rate) = number(rate_text, 1, 240) else {
+        return Err(out_of_range(alloc, "RATE", rate_text, 240)?);
+    };
+    Ok(Some(MarkInit { file, id, rate }))
+}

@@ -1,0 +1,26 @@
+-- A real file, beside which stands what it is known to hold.
+use Rattle.std.specs.Prelude.{ℕ, Bool, IsTrue, List, ◌++◌, replicate, Result, IsErr, ◌↔◌}
+use Rattle.pdc_disk.specs.MemoryDisk as memory
+use Rattle.pdc_disk.specs.declared.disk.DiskFault.{DiskFault}
+use Rattle.pdc_disk.specs.declared.file_disk.FileDisk.{FileDisk}
+
+-- The bytes that reads give. No read tells those past the first 256, and their number alone counts.
+abbrev pub seen_of : FileDisk → List ℕ
+seen_of disk = memory.seen_of disk.known ++ replicate disk.untold 0
+
+-- the byte here was not written since the last sync
+abbrev pub is_settled_at : FileDisk → ℕ → Bool
+is_settled_at disk = memory.is_settled_at disk.known
+
+-- the calls that failed
+abbrev pub failures_of : FileDisk → ℕ
+failures_of disk = disk.failures
+
+-- a call failed, so that it isn't known what the file holds
+abbrev pub is_lost_of : FileDisk → Bool
+is_lost_of disk = disk.is_lost
+
+-- a fault leaves the disk lost, and a disk that is lost answers a fault
+pub record LosesTrack {T : Type 0} (was_lost is_lost : Bool) (result : Result T DiskFault) : Type 0 where
+  pub stands : IsTrue was_lost → IsErr result
+  pub lost : IsErr result ↔ IsTrue is_lost

@@ -1,0 +1,5 @@
+mod Fields
+mod Images
+mod Marks
+mod Runs
+mod Steps

@@ -1,0 +1,6 @@
+-- The mark that a disk holds, and why one is refused.
+pub mod DiskMark
+pub mod Faults
+pub mod Found
+pub mod ModelMark
+pub mod Slots

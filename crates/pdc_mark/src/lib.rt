@@ -1,0 +1,30 @@
+//! The stored mark: the start number and the floor of a concentrator, which must survive every stop (this
+//! profile).
+//!
+//! A start number counts the lives of one concentrator, and everything that it published lies at or below
+//! the floor. A concentrator that forgot them could publish one instant twice with different data.
+//!
+//! [`DiskMark`] keeps them on a disk of 128 bytes, in two slots behind gates. A store writes the slot that
+//! doesn't hold the mark: it closes the slot's gate, writes the fields, and opens the gate, and each of the
+//! three is on the device before the next begins. So no checksum is trusted. Its promise to the layer above:
+//! at every moment, a fault or a stop inside a call included, the disk has the old mark or the new one of
+//! the same owner, and once a store has answered `Ok`, the new one.
+//!
+//! [`ModelMark`] is the same mark in memory, and [`Mark`] is what both are.
+#![tactic(auto)]
+
+mod disk_mark;
+mod find;
+mod mark;
+mod mark_file;
+mod model_mark;
+mod slot;
+mod store;
+
+pub use disk_mark::{DiskMark, Refused};
+pub use mark::{Mark, MarkFault};
+pub use model_mark::ModelMark;
+pub use slot::MARK_LEN;
+
+#[cfg(test)]
+mod tests;
