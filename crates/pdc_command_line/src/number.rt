@@ -1,18 +1,34 @@
 //! Numbers on the command line.
-ghost use Rattle.std.specs.Prelude.{◌≤◌, IfSome};
+ghost use Rattle.std.specs.Prelude.{◌≡◌, ℕ, ◌≤◌, IfSome, Some};
+ghost use Rattle.std.specs.Str.{all_ascii_digits};
+ghost use Rattle.pdc_command_line.specs.Number.{IsNumber};
+
+/// Whether each byte is a decimal digit.
+fn are_digits(bytes: &[u8]) -> bool
+    ensures { result ≡ all_ascii_digits bytes.now }
+{
+    for byte in bytes {
+        if !byte.is_ascii_digit() {
+            return false;
+        }
+    }
+    true
+}
 
 /// The whole number that the text writes in decimal digits, where it lies from `least` to `most`. A sign is none of
 /// these digits; leading zeros are read.
 pub fn number(text: &str, least: u16, most: u16) -> Option<u16>
+    ensures found { IfSome result (IsNumber text.now) }
     ensures low { IfSome result (λ n. least ≤ n) }
     ensures high { IfSome result (λ n. n ≤ most) }
+    ensures only { (n : ℕ) → IsNumber text.now n → least ≤ n → n ≤ most → result ≡ Some n }
 {
-    for byte in text.as_bytes() {
-        if !byte.is_ascii_digit() {
-            return None;
-        }
+    if !are_digits(text.as_bytes()) {
+        return None;
     }
-    let n = text.parse::<u16>().ok()?;
+    let Ok(n) = text.parse::<u16>() else {
+        return None;
+    };
     if n < least || n > most {
         return None;
     }
