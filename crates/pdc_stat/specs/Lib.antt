@@ -1,0 +1,2 @@
+pub mod AbsentBlock
+pub mod Stat

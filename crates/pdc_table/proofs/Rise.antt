@@ -1,0 +1,233 @@
+-- Rising numbers.
+use Rattle.std.proofs.Common.{◌≡◌, ℕ, ◌+◌, ◌-◌, ◌<◌, ◌≤◌, List, [], ◌∷◌, ◌++◌, length, get_or, map, refl, sym, ◌∙◌, ap, arith, rules, zero, suc, max, Bool, true, false, cond, ltb, eqb, inl, inr, ◌&&◌, Some}
+use Rattle.std.specs.Int.{abs_diff}
+use Rattle.std.specs.List.{list_all, slice_get}
+use Rattle.std.proofs.lemmas.Bool.{cases_lt, false≢true}
+use borrow.Author.Tests.{ltb-true}
+use Rattle.pdc_table.specs.RowView.{greatest}
+use Rattle.pdc_table.specs.Rising.{Rises, AreBelow, AreNear, is_near, is_near_any, highest_of, instants_of}
+use Rattle.pdc_table.specs.RowView.{row_view}
+use Rattle.pdc_table.specs.Content.{instants_closed}
+use Rattle.pdc_table.specs.declared.due_row.DueRow.{DueRow}
+use Rattle.pdc_table.specs.declared.open_row.OpenRow.{OpenRow}
+
+-- a lower bound in place of this one
+pub rises_above : (low high : ℕ) (ns : List ℕ) → low ≤ high → Rises high ns → Rises low ns
+rises_above low high [] h r = tt
+rises_above low high (n ∷ ns) h r = (omega (arith, r.0), r.1)
+
+pub below_higher : (top high : ℕ) (ns : List ℕ) → top ≤ high → AreBelow top ns → AreBelow high ns
+below_higher top high [] h r = tt
+below_higher top high (n ∷ ns) h r = (omega (arith, r.0), below_higher top high ns h r.1)
+
+-- rising numbers in a range are no more than the range has
+pub rises-length : (low top : ℕ) (ns : List ℕ) → Rises low ns → AreBelow top ns → length ns ≤ top - (low + 1)
+rises-length low top [] r b = omega arith
+rises-length low top (n ∷ ns) r b = let h : length ns ≤ top - (n + 1) = rises-length n top ns r.1 b.1 in omega (arith, r.0, b.0)
+
+-- near each other, they are no more than the window
+pub near-length : (low window : ℕ) (ns : List ℕ) → 0 < window → Rises low ns → AreNear window ns → length ns ≤ window
+near-length low window [] w r b = omega arith
+near-length low window (n ∷ ns) w r b = let h : length ns ≤ (n + window) - (n + 1) = rises-length n (n + window) ns r.1 b in omega arith
+
+-- by place
+pub rises_get : (low : ℕ) (ns : List ℕ) (k : ℕ) → Rises low ns → k < length ns → low < get_or ns k 0
+rises_get low [] k r h = omega arith
+rises_get low (n ∷ ns) zero r h = r.0
+rises_get low (n ∷ ns) (suc k) r h = let s : n < get_or ns k 0 = rises_get n ns k r.1 (omega arith) in omega (arith, r.0)
+
+pub rises_order : (low : ℕ) (ns : List ℕ) (i j : ℕ) → Rises low ns → i < j → j < length ns → get_or ns i 0 < get_or ns j 0
+rises_order low [] i j r h k = omega arith
+rises_order low (n ∷ ns) i zero r h k = omega arith
+rises_order low (n ∷ ns) zero (suc j) r h k = rises_get n ns j r.1 (omega arith)
+rises_order low (n ∷ ns) (suc i) (suc j) r h k = rises_order n ns i j r.1 (omega arith) (omega arith)
+
+pub rises_append : (low m : ℕ) (ns ms : List ℕ) → low ≤ m → Rises low ns → AreBelow (m + 1) ns → Rises m ms → Rises low (ns ++ ms)
+rises_append low m [] ms h r b s = rises_above low m ms h s
+rises_append low m (n ∷ ns) ms h r b s = (r.0, rises_append n m ns ms (omega (arith, b.0)) r.1 b.1 s)
+
+pub rises_front : (low : ℕ) (ns ms : List ℕ) → Rises low (ns ++ ms) → Rises low ns
+rises_front low [] ms r = tt
+rises_front low (n ∷ ns) ms r = (r.0, rises_front n ns ms r.1)
+
+-- what is behind is above the greatest of the front
+pub rises_back : (low : ℕ) (ns ms : List ℕ) → Rises low (ns ++ ms) → Rises (greatest low ns) ms
+rises_back low [] ms r = r
+rises_back low (n ∷ ns) ms r = let e : max low n ≡ n = omega (arith, r.0) in rw e (rises_back n ns ms r.1)
+
+pub below_append : (top : ℕ) (ns ms : List ℕ) → AreBelow top ns → AreBelow top ms → AreBelow top (ns ++ ms)
+below_append top [] ms b d = d
+below_append top (n ∷ ns) ms b d = (b.0, below_append top ns ms b.1 d)
+
+pub below_front : (top : ℕ) (ns ms : List ℕ) → AreBelow top (ns ++ ms) → AreBelow top ns
+below_front top [] ms b = tt
+below_front top (n ∷ ns) ms b = (b.0, below_front top ns ms b.1)
+
+pub below_back : (top : ℕ) (ns ms : List ℕ) → AreBelow top (ns ++ ms) → AreBelow top ms
+below_back top [] ms b = b
+below_back top (n ∷ ns) ms b = below_back top ns ms b.1
+
+pub greatest-ge : (low : ℕ) (ns : List ℕ) → low ≤ greatest low ns
+greatest-ge low [] = omega arith
+greatest-ge low (n ∷ ns) = let h : max low n ≤ greatest (max low n) ns = greatest-ge (max low n) ns in omega arith
+
+pub below_greatest : (low : ℕ) (ns : List ℕ) → AreBelow (greatest low ns + 1) ns
+below_greatest low [] = tt
+below_greatest low (n ∷ ns) = let h : max low n ≤ greatest (max low n) ns = greatest-ge (max low n) ns in (omega arith, below_greatest (max low n) ns)
+
+pub near_tail : (low window n : ℕ) (ns : List ℕ) → Rises low (n ∷ ns) → AreNear window (n ∷ ns) → AreNear window ns
+near_tail low window n [] r b = tt
+near_tail low window n (m ∷ ns) r b = below_higher (n + window) (m + window) ns (omega (arith, r.1.0)) b.1
+
+-- the number in its place among rising ones
+abbrev pub placed : ℕ → List ℕ → List ℕ
+placed i [] = i ∷ []
+placed i (n ∷ ns) = cond (ltb i n) (i ∷ n ∷ ns) (cond (eqb n i) (n ∷ ns) (n ∷ placed i ns))
+
+pub placed_lower : (i n : ℕ) (ns : List ℕ) → i < n → placed i (n ∷ ns) ≡ i ∷ n ∷ ns
+placed_lower i n ns h = let e : ltb i n ≡ true = search rules in rw e refl
+
+pub placed_same : (i n : ℕ) (ns : List ℕ) → n ≡ i → placed i (n ∷ ns) ≡ n ∷ ns
+placed_same i n ns h = let e : ltb i n ≡ false = search rules in let f : eqb n i ≡ true = search rules in rw (e, f) refl
+
+pub placed_higher : (i n : ℕ) (ns : List ℕ) → n < i → placed i (n ∷ ns) ≡ n ∷ placed i ns
+placed_higher i n ns h = let e : ltb i n ≡ false = search rules in let f : eqb n i ≡ false = search rules in rw (e, f) refl
+
+-- i below, at or above n
+pub data Compared (i n : ℕ) : Type 0 where
+  Below : i < n → Compared i n
+  At : n ≡ i → Compared i n
+  Above : n < i → Compared i n
+
+pub compared : (i n : ℕ) → Compared i n
+compared i n = elim (cases_lt i n) [ inl h ↦ Below h | inr h ↦ elim (cases_lt n i) [ inl k ↦ Above k | inr k ↦ At (omega arith) ] ]
+
+pub rises-placed : (low i : ℕ) (ns : List ℕ) → Rises low ns → low < i → Rises low (placed i ns)
+rises-placed low i [] r h = (h, tt)
+rises-placed low i (n ∷ ns) r h = elim (compared i n) [
+  | Below l ↦ rw (placed_lower i n ns l) (h, (l, r.1))
+  | At e ↦ rw (placed_same i n ns e) r
+  | Above g ↦ rw (placed_higher i n ns g) (r.0, rises-placed n i ns r.1 g)
+]
+
+pub below-placed : (top i : ℕ) (ns : List ℕ) → AreBelow top ns → i < top → AreBelow top (placed i ns)
+below-placed top i [] b h = (h, tt)
+below-placed top i (n ∷ ns) b h = elim (compared i n) [
+  | Below l ↦ rw (placed_lower i n ns l) (h, (b.0, b.1))
+  | At e ↦ rw (placed_same i n ns e) b
+  | Above g ↦ rw (placed_higher i n ns g) (b.0, below-placed top i ns b.1 h)
+]
+
+-- each number is less than the window away from i, both ways
+abbrev pub AreAllNear : ℕ → ℕ → List ℕ → Type 0
+AreAllNear window i [] = Unit {0}
+AreAllNear window i (n ∷ ns) = ((i < n + window) × (n < i + window)) × AreAllNear window i ns
+
+both : (a b : Bool) → (a && b) ≡ true → (a ≡ true) × (b ≡ true)
+both true b h = (refl, h)
+both false b h = absurd (false≢true h)
+
+near_from_true : (window i n : ℕ) → is_near window i n ≡ true → (i < n + window) × (n < i + window)
+near_from_true window i n h = let b : (ltb i (n + window) ≡ true) × (ltb n (i + window) ≡ true) = both (ltb i (n + window)) (ltb n (i + window)) h in (ltb-true i (n + window) b.0, ltb-true n (i + window) b.1)
+
+pub all_near : (window i : ℕ) (ns : List ℕ) → list_all (is_near window i) ns ≡ true → AreAllNear window i ns
+all_near window i [] h = tt
+all_near window i (n ∷ ns) h =
+    let b : (is_near window i n ≡ true) × (list_all (is_near window i) ns ≡ true) = both (is_near window i n) (list_all (is_near window i) ns) h in
+    (near_from_true window i n b.0, all_near window i ns b.1)
+
+below_from_near : (window i : ℕ) (ns : List ℕ) → AreAllNear window i ns → AreBelow (i + window) ns
+below_from_near window i [] h = tt
+below_from_near window i (n ∷ ns) h = (h.0.1, below_from_near window i ns h.1)
+
+-- numbers near each other, and one more that is near each
+pub near-placed : (window i : ℕ) (cs os : List ℕ) → 0 < window → AreNear window (cs ++ os) → AreAllNear window i (cs ++ os) → AreNear window (cs ++ placed i os)
+near-placed window i [] [] w b h = tt
+near-placed window i [] (o ∷ os) w b h = elim (compared i o) [
+  | Below l ↦ rw (placed_lower i o os l) (h.0.1, below_from_near window i os h.1)
+  | At e ↦ rw (placed_same i o os e) b
+  | Above g ↦ rw (placed_higher i o os g) (below-placed (o + window) i os b h.0.0)
+]
+near-placed window i (c ∷ cs) os w b h = below_append (c + window) cs (placed i os) (below_front (c + window) cs os b) (below-placed (c + window) i os (below_back (c + window) cs os b) h.0.0)
+
+and_both : (a b : Bool) → a ≡ true → b ≡ true → (a && b) ≡ true
+and_both a b h k = rw (h, k) refl
+
+and_first : (a b : Bool) → a ≡ false → (a && b) ≡ false
+and_first a b h = rw h refl
+
+and_second : (a b : Bool) → b ≡ false → (a && b) ≡ false
+and_second true b h = h
+and_second false b h = refl
+
+and_true : (a : Bool) → (a && true) ≡ a
+and_true true = refl
+and_true false = refl
+
+lower : (m n : ℕ) → m < n → ltb m n ≡ true
+lower m n h = search rules
+
+not_lower : (m n : ℕ) → n ≤ m → ltb m n ≡ false
+not_lower m n h = search rules
+
+-- how far two numbers are apart
+pub apart : (window i n : ℕ) → ltb (abs_diff n i) window ≡ is_near window i n
+apart window i n = elim (cases_lt i (n + window)) [
+  | inl a ↦ elim (cases_lt n (i + window)) [
+    | inl b ↦ lower (abs_diff n i) window (omega arith) ∙ sym (and_both (ltb i (n + window)) (ltb n (i + window)) (lower i (n + window) a) (lower n (i + window) b))
+    | inr b ↦ not_lower (abs_diff n i) window (omega arith) ∙ sym (and_second (ltb i (n + window)) (ltb n (i + window)) (not_lower n (i + window) b))
+  ]
+  | inr a ↦ not_lower (abs_diff n i) window (omega arith) ∙ sym (and_first (ltb i (n + window)) (ltb n (i + window)) (not_lower i (n + window) a))
+]
+
+far_up : (window i n : ℕ) (ns : List ℕ) → Rises n ns → i + window ≤ n → is_near_any window i (highest_of (n ∷ ns)) ≡ false
+far_up window i n [] r h = and_second (ltb i (n + window)) (ltb n (i + window)) (not_lower n (i + window) h)
+far_up window i n (m ∷ ns) r h = far_up window i m ns r.1 (omega (arith, r.0))
+
+last_near : (window i n : ℕ) (ns : List ℕ) → Rises n ns → i < n + window → n < i + window → is_near_any window i (highest_of (n ∷ ns)) ≡ list_all (is_near window i) (n ∷ ns)
+last_near window i n [] r h k = sym (and_true (is_near window i n))
+last_near window i n (m ∷ ns) r h k =
+    let near : is_near window i n ≡ true = and_both (ltb i (n + window)) (ltb n (i + window)) (lower i (n + window) h) (lower n (i + window) k) in
+    elim (cases_lt m (i + window)) [
+      | inl l ↦ last_near window i m ns r.1 (omega (arith, r.0)) l ∙ sym (ap (λ b. b && list_all (is_near window i) (m ∷ ns)) near)
+      | inr g ↦ far_up window i m ns r.1 g
+          ∙ sym (and_second (is_near window i n) (list_all (is_near window i) (m ∷ ns)) (and_first (is_near window i m) (list_all (is_near window i) ns) (and_second (ltb i (m + window)) (ltb m (i + window)) (not_lower m (i + window) g))))
+    ]
+
+ends_and : (b x y : Bool) → (b ≡ true → x ≡ (b && y)) → (b && x) ≡ (b && y)
+ends_and true x y h = h refl
+ends_and false x y h = refl
+
+-- of rising numbers the first and the last tell
+pub ends_near : (window i low : ℕ) (ns : List ℕ) → Rises low ns → (is_near_any window i (slice_get ns 0) && is_near_any window i (highest_of ns)) ≡ list_all (is_near window i) ns
+ends_near window i low [] r = refl
+ends_near window i low (n ∷ ns) r =
+    ends_and (is_near window i n) (is_near_any window i (highest_of (n ∷ ns))) (list_all (is_near window i) ns)
+    (λ h. let near : (i < n + window) × (n < i + window) = near_from_true window i n h in last_near window i n ns r.1 near.0 near.1)
+
+pub highest_open : (cs : List ℕ) (rows : List OpenRow) (row : OpenRow) → Some row ≡ slice_get rows (length rows - 1) → highest_of (cs ++ instants_of rows) ≡ Some row.instant
+highest_open cs [] row e = cc
+highest_open [] (x ∷ []) row e = let f : Some row ≡ Some x = e in cc
+highest_open [] (x ∷ y ∷ ys) row e =
+    let k : suc (suc (length ys)) - 1 ≡ suc (length ys) = omega arith in
+    let j : suc (length ys) - 1 ≡ length ys = omega arith in
+    let f : Some row ≡ slice_get (y ∷ ys) (length ys) = rw k at e in
+    highest_open [] (y ∷ ys) row (f ∙ ap (λ n. slice_get (y ∷ ys) n) (sym j))
+highest_open (c ∷ []) (x ∷ xs) row e = highest_open [] (x ∷ xs) row e
+highest_open (c ∷ d ∷ cs) (x ∷ xs) row e = highest_open (d ∷ cs) (x ∷ xs) row e
+
+pub no_rows : (rows : List OpenRow) → false ≡ ltb 0 (length rows) → rows ≡ []
+no_rows [] h = refl
+no_rows (x ∷ xs) h = let k : ltb 0 (suc (length xs)) ≡ true = lower 0 (suc (length xs)) (omega arith) in absurd (false≢true (h ∙ k))
+
+highest_row : (rows : List DueRow) (row : DueRow) → 0 < length rows → row ≡ get_or rows (length rows - 1) row → highest_of (instants_closed (map row_view rows)) ≡ Some row.instant
+highest_row [] row h e = absurd (omega arith)
+highest_row (x ∷ []) row h e = ap (λ (r : DueRow). Some r.instant) (sym e)
+highest_row (x ∷ y ∷ ys) row h e =
+    let k : suc (suc (length ys)) - 1 ≡ suc (length ys) = omega arith in
+    let j : suc (length ys) - 1 ≡ length ys = omega arith in
+    let f : row ≡ get_or (y ∷ ys) (length ys) row = e ∙ ap (λ n. get_or (x ∷ y ∷ ys) n row) k in
+    highest_row (y ∷ ys) row (omega arith) (f ∙ ap (λ n. get_or (y ∷ ys) n row) (sym j))
+
+pub highest_closed : (rows : List DueRow) (row : DueRow) (n : ℕ) → n ≡ length rows → 0 < n → row ≡ get_or rows (n - 1) row → highest_of (instants_closed (map row_view rows)) ≡ Some row.instant
+highest_closed rows row n l h e = highest_row rows row (omega arith) (e ∙ ap (λ m. get_or rows (m - 1) row) l)

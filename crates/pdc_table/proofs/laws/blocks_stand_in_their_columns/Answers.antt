@@ -1,0 +1,5 @@
+use Rattle.pdc_table.proofs.Given.{stands}
+use Rattle.pdc_table.proofs.laws.blocks_stand_in_their_columns.Goals as goal
+
+pub returns : goal.returns
+returns c lane quality cells columns h k l = stands lane quality cells columns h k l

@@ -1,0 +1,87 @@
+-- Whole lists of calls of a table, by the definitions of each call (this profile).
+use Rattle.std.specs.Prelude.{◌≡◌, ℕ, ◌<◌, ◌++◌, Bool, List, [], ◌∷◌, length, slice_index_or}
+use Rattle.std.specs.Option.{option_to_list}
+use Rattle.pdc_block.specs.declared.block.Block.{Block}
+use Rattle.pdc_table.specs.RowView.{RowView}
+use Rattle.pdc_table.specs.Rising.{Rises, AreBelow}
+use Rattle.pdc_table.specs.Content.{Content, HaveOwnColumns, new_content, instants_closed}
+use Rattle.pdc_table.specs.Chosen.{empty_column}
+use Rattle.pdc_table.specs.Taking.{given_for, with_cells, with_given}
+use Rattle.pdc_table.specs.declared.column.Column.{Column}
+use Rattle.pdc_table.specs.Steps.{after_put, after_require, after_tick, after_drop_stream, after_drop_column, after_pop, closed_by, pop_answer, put_answer}
+use Rattle.pdc_table.specs.declared.row_layout.RowLayout.{RowLayout}
+use Rattle.pdc_table.specs.declared.outcome.Outcome.TheVariants.{Taken}
+
+-- one call
+pub data Call : Type 0 where
+  Put : (stream instant : ℕ) (cells : List (ℕ × Block)) (quality : ℕ) → Call
+  Require : (stream : ℕ) (is_required : Bool) → Call
+  Tick : (wait : ℕ) (layout : RowLayout) → Call
+  DropStream : (stream : ℕ) → Call
+  DropColumn : (column : ℕ) → Call
+  Pop : Call
+
+-- what a call makes of the content
+abbrev pub after : Content → Call → Content
+after c (Put stream instant cells quality) = after_put c stream instant cells quality
+after c (Require stream is_required) = after_require c stream is_required
+after c (Tick wait layout) = after_tick c wait layout
+after c (DropStream stream) = after_drop_stream c stream
+after c (DropColumn column) = after_drop_column c column
+after c Pop = after_pop c
+
+-- the rows that a call closes, and the row that it pops
+abbrev pub closed_at : Content → Call → List RowView
+closed_at c (Tick wait layout) = closed_by c wait layout
+closed_at c _ = []
+
+abbrev pub popped_at : Content → Call → List RowView
+popped_at c Pop = option_to_list (pop_answer c)
+popped_at c _ = []
+
+-- what calls make of the content, the first of them first
+abbrev pub after_all : Content → List Call → Content
+after_all c [] = c
+after_all c (call ∷ calls) = after_all (after c call) calls
+
+-- the rows that calls close, and those that they pop, the first to come first
+abbrev pub closed_in : Content → List Call → List RowView
+closed_in c [] = []
+closed_in c (call ∷ calls) = closed_at c call ++ closed_in (after c call) calls
+
+abbrev pub popped_in : Content → List Call → List RowView
+popped_in c [] = []
+popped_in c (call ∷ calls) = popped_at c call ++ popped_in (after c call) calls
+
+-- Over every list of calls on a new table, the rows come out in strictly rising order, above the floor.
+abbrev pub RowsComeOutRising : Type 0
+RowsComeOutRising =
+    (window columns lanes floor : ℕ) (calls : List Call) →
+    Rises floor (instants_closed (popped_in (new_content window columns lanes floor) calls))
+
+-- An instant closes at most once: the instants that close strictly rise.
+abbrev pub InstantsCloseOnce : Type 0
+InstantsCloseOnce =
+    (window columns lanes floor : ℕ) (calls : List Call) →
+    Rises floor (instants_closed (closed_in (new_content window columns lanes floor) calls))
+
+-- Each row that closes comes out once, in the order of closing: those that were popped and those that wait.
+abbrev pub RowsComeOutOnce : Type 0
+RowsComeOutOnce =
+    (window columns lanes floor : ℕ) (calls : List Call) →
+    popped_in (new_content window columns lanes floor) calls ++ (after_all (new_content window columns lanes floor) calls).closed
+    ≡ closed_in (new_content window columns lanes floor) calls
+
+-- Nothing is put at or below an instant that closed.
+abbrev pub NothingIsPutBelowClosed : Type 0
+NothingIsPutBelowClosed =
+    (window columns lanes floor : ℕ) (calls : List Call) (stream instant : ℕ) (cells : List (ℕ × Block)) →
+    put_answer (after_all (new_content window columns lanes floor) calls) stream instant cells ≡ Taken →
+    (floor < instant) × AreBelow instant (instants_closed (closed_in (new_content window columns lanes floor) calls))
+
+-- Where each column is given at most one block, each column holds in its lane what was given for it, and is else as before.
+abbrev pub BlocksStandInTheirColumns : Type 0
+BlocksStandInTheirColumns =
+    (lane quality : ℕ) (cells : List (ℕ × Block)) (columns : List Column) → HaveOwnColumns cells → (k : ℕ) → k < length columns →
+    slice_index_or (with_cells lane quality cells columns) k empty_column
+    ≡ with_given lane quality (given_for k cells) (slice_index_or columns k empty_column)

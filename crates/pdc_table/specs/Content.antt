@@ -1,0 +1,108 @@
+-- What a table contains, however it is kept (this profile).
+use Rattle.std.specs.Prelude.{◌≡◌, ◌≢◌, ℕ, ◌+◌, ◌<◌, ◌≤◌, ◌++◌, ◌==◌, Bool, false, if◌then◌else◌, List, [], ◌∷◌, map, replicate, Option, Some, None}
+use Rattle.std.specs.List.{All, AllByRecursion}
+use Rattle.pdc_cfg.specs.declared.shape.Shape.{Shape}
+use Rattle.pdc_block.specs.declared.block.Block.{Block}
+use Rattle.pdc_table.specs.CellView.{CellView}
+use Rattle.pdc_table.specs.RowView.{RowView}
+use Rattle.pdc_table.specs.Rising.{Rises, AreBelow, AreNear, instants_of}
+use Rattle.pdc_table.specs.declared.column.Column.{Column}
+use Rattle.pdc_table.specs.declared.open_row.OpenRow.{OpenRow}
+use Rattle.pdc_table.specs.declared.row_layout.RowLayout.{RowLayout}
+
+pub record Content : Type 0 where
+  -- what is fixed: the window, how many columns there are, and one lane or two
+  pub window : ℕ
+  pub columns : ℕ
+  pub lanes : ℕ
+  -- for each of 16 streams whether an instant waits for it
+  pub required : List Bool
+  -- the rows of the open instants, in rising order
+  pub open_rows : List OpenRow
+  -- the closed rows that were not popped, the first to close first
+  pub closed : List RowView
+  -- the greatest instant closed, at first the floor
+  pub last : ℕ
+  -- the counter of disagreements
+  pub disagree : ℕ
+
+abbrev pub new_content : (window columns lanes floor : ℕ) → Content
+new_content window columns lanes floor = record {
+  window = window;
+  columns = columns;
+  lanes = lanes;
+  required = replicate 16 false;
+  open_rows = [];
+  closed = [];
+  last = floor;
+  disagree = 0;
+}
+
+-- With one lane each stream writes its own column; with two there are two streams, and each writes its lane.
+abbrev pub streams_of : Content → ℕ
+streams_of c = if c.lanes == 1 then c.columns else 2
+
+abbrev pub lane_of : Content → ℕ → ℕ
+lane_of c stream = if c.lanes == 1 then 0 else stream
+
+abbrev pub instants_closed : List RowView → List ℕ
+instants_closed rows = map (λ (row : RowView). row.instant) rows
+
+-- The instants that are held: those of closed rows that were not popped, and the open ones.
+abbrev pub held_instants : Content → List ℕ
+held_instants c = instants_closed c.closed ++ instants_of c.open_rows
+
+-- What holds of each table: its sizes are within the limits; the instants held rise and are near each other; the open
+-- ones are above the last closed, and the closed ones are not.
+pub record IsContent (c : Content) : Type 0 where
+  pub window_least : 8 ≤ c.window
+  pub window_most : c.window ≤ 256
+  pub columns_least : 1 ≤ c.columns
+  pub columns_most : c.columns ≤ 16
+  pub lanes_least : 1 ≤ c.lanes
+  pub lanes_most : c.lanes ≤ 2
+  pub held_rise : Rises 0 (held_instants c)
+  pub held_near : AreNear c.window (held_instants c)
+  pub open_above : Rises c.last (instants_of c.open_rows)
+  pub closed_below : AreBelow (c.last + 1) (instants_closed c.closed)
+
+-- the sizes of a table never change
+pub record HasSizesOf (old new : Content) : Type 0 where
+  pub window : new.window ≡ old.window
+  pub columns : new.columns ≡ old.columns
+  pub lanes : new.lanes ≡ old.lanes
+
+-- no block is of this column
+abbrev pub NoneIsOf : ℕ → List (ℕ × Block) → Type 0
+NoneIsOf column [] = Unit {0}
+NoneIsOf column (cell ∷ cells) = (cell.0 ≢ column) × NoneIsOf column cells
+
+-- each column has at most one block
+abbrev pub HaveOwnColumns : List (ℕ × Block) → Type 0
+HaveOwnColumns [] = Unit {0}
+HaveOwnColumns (cell ∷ cells) = NoneIsOf cell.0 cells × HaveOwnColumns cells
+
+-- What a put may be given: a stream that exists, and blocks of columns that the stream writes, each once.
+pub record IsPut (c : Content) (stream : ℕ) (cells : List (ℕ × Block)) : Type 0 where
+  pub stream_exists : stream < streams_of c
+  pub columns_exist : All (λ (cell : ℕ × Block). cell.0 < c.columns) cells
+  pub own_column : c.lanes ≡ 1 → All (λ (cell : ℕ × Block). cell.0 ≡ stream) cells
+  pub once : HaveOwnColumns cells
+
+abbrev pub HasShape : Shape → Option CellView → Type 0
+HasShape shape None = Unit {0}
+HasShape shape (Some cell) = cell.block.shape ≡ shape
+
+abbrev pub ColumnHasShape : Option Shape → Column → Type 0
+ColumnHasShape None column = Unit {0}
+ColumnHasShape (Some shape) column = HasShape shape column.first × HasShape shape column.second
+
+-- each cell in a column with a shape has that shape
+abbrev pub HaveShapes : List (Option Shape) → List Column → Type 0
+HaveShapes [] columns = Unit {0}
+HaveShapes (shape ∷ shapes) [] = Unit {0}
+HaveShapes (shape ∷ shapes) (column ∷ columns) = ColumnHasShape shape column × HaveShapes shapes columns
+
+-- The cells of the open instants have the shapes of the layout.
+abbrev pub HaveLayoutShapes : Content → RowLayout → Type 0
+HaveLayoutShapes c layout = AllByRecursion (λ (row : OpenRow). HaveShapes layout.shapes.items row.columns) c.open_rows

@@ -1,0 +1,11 @@
+pub mod Calls
+pub mod CellView
+pub mod Chosen
+pub mod Closing
+pub mod Content
+pub mod Placing
+pub mod Rising
+pub mod RowView
+pub mod SortedTable
+pub mod Steps
+pub mod Taking

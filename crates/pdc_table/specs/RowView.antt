@@ -1,0 +1,82 @@
+-- The row of an instant: what a closed row shows (this profile).
+use Rattle.std.specs.Prelude.{ℕ, ◌%◌, ◌++◌, max, List, [], ◌∷◌, map, Option, Some, None}
+use Rattle.std.specs.Option.{option_map, option_to_list}
+use Rattle.pdc_cfg.specs.declared.shape.Shape.{Shape}
+use Rattle.pdc_table.specs.CellView.{BlockView, CellView, block_view}
+use Rattle.pdc_table.specs.Chosen.{chosen_of, block_in, empty_column}
+use Rattle.pdc_table.specs.declared.column.Column.{Column}
+use Rattle.pdc_table.specs.declared.open_row.OpenRow.{OpenRow}
+use Rattle.pdc_table.specs.declared.row_layout.RowLayout.{RowLayout}
+use Rattle.pdc_table.specs.declared.due_row.DueRow.{DueRow}
+
+-- what a contract sees of a closed row
+pub record RowView : Type 0 where
+  pub instant : ℕ
+  pub start : ℕ
+  pub change : ℕ
+  pub quality : ℕ
+  pub blocks : List BlockView
+
+abbrev pub row_view : DueRow → RowView
+row_view row = record {
+  instant = row.instant;
+  start = row.start;
+  change = row.change;
+  quality = row.quality;
+  blocks = map block_view row.blocks.items;
+}
+
+-- the blocks that a column gives: one where it has a shape
+abbrev pub blocks_at : Option Shape → Column → List BlockView
+blocks_at None column = []
+blocks_at (Some shape) column = block_in shape column ∷ []
+
+-- the block of each column with a shape, in column order; a column that is not there is empty
+abbrev pub blocks_of : List (Option Shape) → List Column → List BlockView
+blocks_of [] columns = []
+blocks_of (shape ∷ shapes) [] = blocks_at shape empty_column ++ blocks_of shapes []
+blocks_of (shape ∷ shapes) (column ∷ columns) = blocks_at shape column ++ blocks_of shapes columns
+
+-- The time quality of a frame: the low nibble of its byte, greater is worse.
+abbrev pub time_quality_of : CellView → ℕ
+time_quality_of cell = cell.quality % 16
+
+-- the quality that a column gives: that of its chosen cell, if there is one
+abbrev pub quality_in : Column → Option ℕ
+quality_in column = option_map time_quality_of (chosen_of column)
+
+-- the qualities that a column gives: one where it has a shape and its block is present
+abbrev pub qualities_at : Option Shape → Column → List ℕ
+qualities_at None column = []
+qualities_at (Some shape) column = option_to_list (quality_in column)
+
+-- the qualities that the columns with a shape give
+abbrev pub qualities_of : List (Option Shape) → List Column → List ℕ
+qualities_of [] columns = []
+qualities_of (shape ∷ shapes) [] = []
+qualities_of (shape ∷ shapes) (column ∷ columns) = qualities_at shape column ++ qualities_of shapes columns
+
+-- the greatest of the numbers and this one
+abbrev pub greatest : ℕ → List ℕ → ℕ
+greatest n [] = n
+greatest n (m ∷ ms) = greatest (max n m) ms
+
+-- The quality of a row: the greatest of those given, and 15, the worst there is, where none is. Of 3 and 9 it is 9.
+abbrev pub quality_of : List ℕ → ℕ
+quality_of [] = 15
+quality_of (n ∷ ns) = greatest n ns
+
+-- the quality of a row, where this is the worst that was given so far
+abbrev pub worst_of : Option ℕ → List ℕ → ℕ
+worst_of None ns = quality_of ns
+worst_of (Some n) ns = greatest n ns
+
+-- The row that an open instant closes to, under a layout.
+abbrev pub row_of : RowLayout → OpenRow → RowView
+row_of layout row = record {
+  instant = row.instant;
+  start = layout.start;
+  change = layout.change;
+  quality = quality_of (qualities_of layout.shapes.items row.columns);
+  blocks = blocks_of layout.shapes.items row.columns;
+}

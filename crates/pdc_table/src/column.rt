@@ -1,0 +1,126 @@
+//! What was taken of one column at one instant.
+ghost use Rattle.std.specs.Prelude.{◌≡◌, ℕ, ◌+◌, ◌<◌, ◌≤◌, ◌++◌, List, length, map, option_copied, IfSome};
+ghost use Rattle.pdc_table.specs.CellView.{block_view};
+ghost use Rattle.pdc_table.specs.RowView.{blocks_at, qualities_at, worst_of};
+ghost use Rattle.pdc_table.specs.Chosen.{present_of, chosen_of, disagrees, empty_column};
+ghost use Rattle.pdc_table.specs.Steps.{disagreement_at};
+ghost use Rattle.pdc_table.specs.Taking.{cell_in, holds_other, with_cell};
+
+use crate::Cell;
+use arrayvec::ArrayVec;
+use pdc_block::Block;
+use pdc_cfg::Shape;
+use pdc_stat::absent;
+
+/// What was taken of one column at one instant, lane by lane.
+#[derive(Drop)]
+pub struct Column {
+    /// What lane 0 holds.
+    pub first: Option<Cell>,
+    /// What lane 1 holds, in a table of two lanes.
+    pub second: Option<Cell>,
+}
+
+/// The column in which nothing was taken.
+impl Default for Column {
+    ghost is_default = { λ column. column ≡ empty_column };
+
+    fn default() -> Column {
+        Column {
+            first: None,
+            second: None,
+        }
+    }
+}
+
+impl Column {
+    /// The cell of the lowest lane whose block is present.
+    pub(crate) fn chosen(&self) -> Option<&Cell>
+        ensures { option_copied result ≡ chosen_of self.now }
+    {
+        present(&self.first).or(present(&self.second))
+    }
+
+    /// Puts this into the lane, 0 or else 1.
+    pub(crate) fn set(&mut self, lane: usize, cell: Option<Cell>)
+        ensures { self.new ≡ with_cell lane cell self.old }
+    {
+        if lane == 0 {
+            self.first = cell;
+        } else {
+            self.second = cell;
+        }
+    }
+
+    /// Whether the lane, 0 or else 1, holds another block than this; a lane that holds nothing does not.
+    pub(crate) fn holds_other(&self, lane: usize, block: &Block) -> bool
+        ensures { result ≡ holds_other (cell_in lane self.now) block.now }
+    {
+        let cell = if lane == 0 { &self.first } else { &self.second };
+        match cell {
+            Some(cell) => !cell.holds(block),
+            None => false,
+        }
+    }
+
+    // Adds what the column gives to a row: with a shape a block, and its time quality if it is present.
+    pub(crate) fn give(
+        &self,
+        shape: Option<Shape>,
+        blocks: &mut ArrayVec<Block, 16>,
+        quality: &mut Option<u8>,
+    )
+        requires room { length blocks.old.items < 16 }
+        requires fits { IfSome quality.old (λ n. n ≤ 15) }
+        ensures blocks { map block_view blocks.new.items ≡ map block_view blocks.old.items ++ blocks_at shape self.now }
+        ensures grown { length blocks.new.items ≤ length blocks.old.items + 1 }
+        ensures quality { (ns : List ℕ) → worst_of quality.new ns ≡ worst_of quality.old (qualities_at shape self.now ++ ns) }
+        ensures quality_fits { IfSome quality.new (λ n. n ≤ 15) }
+    {
+        let Some(shape) = shape else {
+            return;
+        };
+        let Some(cell) = self.chosen() else {
+            blocks.push(absent(shape));
+            return;
+        };
+        blocks.push(cell.block());
+        let given = cell.time_quality();
+        *quality = Some(match *quality {
+            Some(worst) => worst.max(given),
+            None => given,
+        });
+    }
+
+    /// Whether both lanes hold present blocks, and they differ.
+    pub(crate) fn disagrees(&self) -> bool
+        ensures { result ≡ disagrees self.now }
+    {
+        match (present(&self.first), present(&self.second)) {
+            (Some(first), Some(second)) => !first.agrees(second),
+            _ => false,
+        }
+    }
+
+    // One where the column has a shape and its lanes disagree.
+    pub(crate) fn disagreements(&self, shape: Option<Shape>) -> u64
+        ensures value { result ≡ disagreement_at shape self.now }
+        ensures most { result ≤ 1 }
+    {
+        if shape.is_some() && self.disagrees() {
+            1
+        } else {
+            0
+        }
+    }
+}
+
+// The cell, where its block is present.
+fn present(cell: &Option<Cell>) -> Option<&Cell>
+    ensures { option_copied result ≡ present_of cell.now }
+{
+    match cell {
+        Some(cell) if cell.is_present() => Some(cell),
+        _ => None,
+    }
+}

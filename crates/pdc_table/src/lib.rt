@@ -1,0 +1,36 @@
+//! The alignment table of a concentrator: the rows of the instants that wait for data, and the rows that are closed
+//! (this profile).
+//!
+//! `Table` is the contract of every table: what each call answers, and what it makes of the table's content, which is a
+//! finite record that knows nothing of how the rows are kept. `SortedTable` keeps them as a sorted vector.
+//!
+//! To the layers above this crate promises that a row closes exactly when every open instant up to its own is due, that
+//! it holds the first block taken for each column, and that no call but `new` takes memory.
+#![tactic(auto)]
+
+mod cell;
+mod column;
+mod due_row;
+mod laws;
+mod open_row;
+mod outcome;
+mod row_layout;
+mod rows;
+mod sorted_table;
+mod table_trait;
+
+pub use cell::Cell;
+pub use column::Column;
+pub use due_row::DueRow;
+pub use laws::{
+    blocks_stand_in_their_columns, instants_close_once, nothing_is_put_below_closed,
+    rows_come_out_once, rows_come_out_rising,
+};
+pub use open_row::{MAX_COLUMNS, OpenRow};
+pub use outcome::Outcome;
+pub use row_layout::RowLayout;
+pub use sorted_table::SortedTable;
+pub use table_trait::Table;
+
+#[cfg(test)]
+mod tests;

@@ -1,0 +1,14 @@
+//! The layout under which rows close.
+use arrayvec::ArrayVec;
+use pdc_cfg::Shape;
+
+/// The layout under which rows close (this profile): its stamp, and a shape or nothing for each column.
+#[derive(Debug, Drop)]
+pub struct RowLayout {
+    /// The start number of the stamp.
+    pub start: u32,
+    /// The change number of the stamp.
+    pub change: u32,
+    /// The shape of each column's blocks, at most 16; a column without one has no block in a row.
+    pub shapes: ArrayVec<Option<Shape>, 16>,
+}

@@ -1,0 +1,228 @@
+//! Open rows in rising order.
+ghost use Rattle.std.specs.Prelude.{◌≡◌, ℕ, ◌+◌, ◌<◌, ◌≤◌, ◌++◌, length, map, drop, vec_len, None, if◌then◌else◌};
+ghost use Rattle.std.specs.Vec.{vec_capacity};
+ghost use Rattle.std.specs.List.{All, list_all, prefix_len, slice_get};
+ghost use Rattle.std.specs.Result.{MatchResult};
+ghost use Rattle.std.specs.VecDeque.{deque_capacity, deque_len};
+ghost use Rattle.pdc_block.specs.declared.block.Block.{Block as BlockData};
+ghost use Rattle.pdc_table.specs.Closing.{aged, closing, counter, is_due, staying};
+ghost use Rattle.pdc_table.specs.Content.{instants_closed};
+ghost use Rattle.pdc_table.specs.Placing.{place_of, row_at, with_row, IsGap, IsRowPlace};
+ghost use Rattle.pdc_table.specs.Rising.{Rises, highest_of, instants_of, is_near, is_near_any};
+ghost use Rattle.pdc_table.specs.RowView.{greatest, row_of, row_view};
+ghost use Rattle.pdc_table.specs.Steps.{answer_at, disagreements_in, is_taken};
+ghost use Rattle.pdc_table.specs.Taking.{blank_row, with_frame, without_column, without_stream};
+
+use crate::{DueRow, OpenRow, Outcome, RowLayout};
+use pdc_block::Block;
+use std::collections::VecDeque;
+
+/// How many rows stand below the instant.
+pub fn place(rows: &[OpenRow], instant: u64) -> usize
+    requires { Rises 0 (instants_of rows.now) }
+    ensures place { result ≡ place_of instant rows.now }
+    ensures bound { result ≤ length rows.now }
+{
+    rows.partition_point(|row| row.instant < instant)
+}
+
+/// Where the row of the instant stands, or where it would stand.
+pub fn find(rows: &[OpenRow], instant: u64) -> Result<usize, usize>
+    requires { Rises 0 (instants_of rows.now) }
+    ensures { MatchResult result (IsRowPlace instant rows.now) (IsGap instant rows.now) }
+{
+    let place = place(rows, instant);
+    if place == rows.len() {
+        return Err(place);
+    }
+    if rows[place].instant == instant {
+        Ok(place)
+    } else {
+        Err(place)
+    }
+}
+
+/// Counts one more tick for each row.
+pub fn grow_older(rows: &mut Vec<OpenRow>)
+    ensures items { rows.new.items ≡ map aged rows.old.items }
+    ensures capacity { vec_capacity rows.new ≡ vec_capacity rows.old }
+{
+    for row in rows.iter_mut() {
+        row.grow_older();
+    }
+}
+
+/// How many rows from the front on are due.
+pub fn count_due(rows: &[OpenRow], required: &[bool; 16], wait: u64) -> usize
+    ensures count { result ≡ prefix_len (is_due required.now wait) rows.now }
+    ensures bound { result ≤ length rows.now }
+{
+    rows.iter()
+        .take_while(|row| row.is_due(required, wait))
+        .count()
+}
+
+/// Forgets what was taken of a stream, in each row.
+pub fn drop_stream(rows: &mut Vec<OpenRow>, lanes: usize, stream: usize)
+    requires { stream < 16 }
+    ensures items { rows.new.items ≡ map (without_stream lanes stream) rows.old.items }
+    ensures capacity { vec_capacity rows.new ≡ vec_capacity rows.old }
+{
+    for row in rows.iter_mut() {
+        row.drop_stream(lanes, stream);
+    }
+}
+
+/// Forgets the cells of a column, in each row.
+pub fn drop_column(rows: &mut Vec<OpenRow>, column: usize)
+    requires { column < 16 }
+    ensures items { rows.new.items ≡ map (without_column column) rows.old.items }
+    ensures capacity { vec_capacity rows.new ≡ vec_capacity rows.old }
+{
+    for row in rows.iter_mut() {
+        row.drop_column(column);
+    }
+}
+
+/// Removes this many rows from the front.
+pub fn remove_front(rows: &mut Vec<OpenRow>, count: usize)
+    requires { count ≤ vec_len rows.old }
+    ensures items { rows.new.items ≡ drop count rows.old.items }
+    ensures capacity { vec_capacity rows.new ≡ vec_capacity rows.old }
+{
+    rows.drain(..count);
+}
+
+/// Closes each of these rows under a layout, in order.
+pub fn close(rows: &[OpenRow], layout: &RowLayout, closed: &mut VecDeque<DueRow>)
+    requires { deque_len closed.old + length rows.now ≤ deque_capacity closed.old }
+    ensures items { map row_view closed.new.items ≡ map row_view closed.old.items ++ map (row_of layout.now) rows.now }
+    ensures capacity { deque_capacity closed.new ≡ deque_capacity closed.old }
+{
+    for row in rows {
+        closed.push_back_reserved(row.close(layout));
+    }
+}
+
+/// The count of disagreements after these rows closed.
+pub fn count_disagreements(rows: &[OpenRow], layout: &RowLayout, so_far: u64) -> u64
+    ensures { result ≡ counter (so_far + disagreements_in layout.now rows.now) }
+{
+    let mut count = so_far;
+    for row in rows {
+        count = count.saturating_add(row.disagreements(layout));
+    }
+    count
+}
+
+/// The greatest instant of these rows and this one.
+pub fn greatest(rows: &[OpenRow], last: u64) -> u64
+    ensures { result ≡ greatest last (instants_of rows.now) }
+{
+    let mut greatest = last;
+    for row in rows {
+        greatest = greatest.max(row.instant);
+    }
+    greatest
+}
+
+/// Takes a frame of a stream for an instant, unless the stream was taken there.
+pub fn take(
+    rows: &mut Vec<OpenRow>,
+    stream: usize,
+    lane: usize,
+    instant: u64,
+    cells: &[(usize, Block)],
+    quality: u8,
+) -> Outcome
+    requires rising { Rises 0 (instants_of rows.old.items) }
+    requires room { row_at instant rows.old.items ≡ None → vec_len rows.old < vec_capacity rows.old }
+    requires stream { stream < 16 }
+    requires columns { All (λ (cell : ℕ × BlockData). cell.0 < 16) cells.now }
+    ensures answer { result ≡ answer_at (row_at instant rows.old.items) stream lane cells.now }
+    ensures items { rows.new.items ≡ (if is_taken (answer_at (row_at instant rows.old.items) stream lane cells.now)
+        then with_row (with_frame stream lane cells.now quality) (blank_row instant) rows.old.items else rows.old.items) }
+    ensures capacity { vec_capacity rows.old ≤ vec_capacity rows.new }
+{
+    match find(rows, instant) {
+        Ok(place) => rows[place].offer(stream, lane, cells, quality),
+        Err(place) => {
+            let mut row = OpenRow::blank(instant);
+            row.take(stream, lane, cells, quality);
+            rows.insert(place, row).unwrap();
+            Outcome::Taken
+        }
+    }
+}
+
+/// Whether each held instant is less than the window away.
+pub fn are_near(rows: &[OpenRow], closed: &VecDeque<DueRow>, window: u64, instant: u64) -> bool
+    requires { Rises 0 (instants_closed (map row_view closed.now.items) ++ instants_of rows.now) }
+    ensures { result ≡ list_all (is_near window instant)
+        (instants_closed (map row_view closed.now.items) ++ instants_of rows.now) }
+{
+    is_near(lowest(rows, closed), window, instant)
+        && is_near(highest(rows, closed), window, instant)
+}
+
+// Whether the instant that is held, if there is one, is less than the window away.
+fn is_near(held: Option<u64>, window: u64, instant: u64) -> bool
+    ensures { result ≡ is_near_any window instant held }
+{
+    match held {
+        Some(held) => held.abs_diff(instant) < window,
+        None => true,
+    }
+}
+
+// The lowest instant held.
+fn lowest(rows: &[OpenRow], closed: &VecDeque<DueRow>) -> Option<u64>
+    ensures { result ≡ slice_get (instants_closed (map row_view closed.now.items) ++ instants_of rows.now) 0 }
+{
+    match closed.front() {
+        Some(row) => Some(row.instant),
+        None => Some(rows.first()?.instant),
+    }
+}
+
+// The highest instant held.
+fn highest(rows: &[OpenRow], closed: &VecDeque<DueRow>) -> Option<u64>
+    ensures { result ≡ highest_of (instants_closed (map row_view closed.now.items) ++ instants_of rows.now) }
+{
+    match (rows.last(), closed.back()) {
+        (Some(row), _) => Some(row.instant),
+        (None, Some(row)) => Some(row.instant),
+        (None, None) => None,
+    }
+}
+
+/// Closes the rows for which every row up to them is due, and answers how many.
+pub fn close_due(
+    rows: &mut Vec<OpenRow>,
+    required: &[bool; 16],
+    wait: u64,
+    layout: &RowLayout,
+    closed: &mut VecDeque<DueRow>,
+    last: &mut u64,
+    disagree: &mut u64,
+) -> usize
+    requires rising { Rises last.old (instants_of rows.old.items) }
+    requires room { deque_len closed.old + vec_len rows.old ≤ deque_capacity closed.old }
+    ensures answer { result ≡ length (closing required.now wait rows.old.items) }
+    ensures rows { rows.new.items ≡ staying required.now wait rows.old.items }
+    ensures closed { map row_view closed.new.items ≡ map row_view closed.old.items
+        ++ map (row_of layout.now) (closing required.now wait rows.old.items) }
+    ensures last { last.new ≡ greatest last.old (instants_of (closing required.now wait rows.old.items)) }
+    ensures disagree { disagree.new ≡ counter
+        (disagree.old + disagreements_in layout.now (closing required.now wait rows.old.items)) }
+    ensures capacity { vec_capacity rows.new ≡ vec_capacity rows.old }
+    ensures closed_capacity { deque_capacity closed.new ≡ deque_capacity closed.old }
+{
+    let count = count_due(rows, required, wait);
+    let due = &rows[..count];
+    close(due, layout, closed);
+    *last = greatest(due, *last);
+    *disagree = count_disagreements(due, layout, *disagree);
+    remove_front(rows, count);
+    count
+}

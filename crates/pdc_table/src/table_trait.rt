@@ -1,0 +1,100 @@
+//! What every table promises, however it is kept.
+ghost use Rattle.std.specs.Prelude.{◌≡◌, ℕ, ◌<◌, ◌≤◌, map, IfOk, option_map};
+ghost use Rattle.std.specs.List.{AllByRecursion};
+ghost use Rattle.pdc_table.specs.Content.{Content, HasSizesOf, HaveLayoutShapes, IsContent, IsPut, new_content, streams_of};
+ghost use Rattle.pdc_table.specs.RowView.{RowView, row_view};
+ghost use Rattle.pdc_table.specs.Steps.{after_drop_column, after_drop_stream, after_pop, after_put, after_require, after_tick, closed_by, pop_answer, put_answer, shape_of, shapes_given, tick_answer};
+
+use crate::{DueRow, Outcome, RowLayout};
+use pdc_block::Block;
+use std::alloc::{AllocError, Global};
+
+/// A table that aligns the streams of a concentrator by instant (this profile).
+///
+/// It has 1 to 16 columns, one for each PMU, and 1 or 2 lanes. With one lane there is a stream for each column, which
+/// writes that column; with two lanes there are two streams, and each writes its lane of all columns.
+/// An instant is open from its first take until a tick closes it, and held until its row is popped.
+pub trait Table: Drop {
+    /// What it contains, however it is kept.
+    ghost content: { Self → Content };
+
+    /// An empty table, which takes all the memory that it ever needs. The window is 8 to 256 instants; the floor counts as
+    /// the last instant closed.
+    fn new(
+        alloc: Global,
+        window: u64,
+        columns: usize,
+        lanes: usize,
+        floor: u64,
+    ) -> Result<Self, AllocError>
+    where
+        Self: Sized,
+        requires window_least { 8 ≤ window }
+        requires window_most { window ≤ 256 }
+        requires columns_least { 1 ≤ columns }
+        requires columns_most { columns ≤ 16 }
+        requires lanes_least { 1 ≤ lanes }
+        requires lanes_most { lanes ≤ 2 }
+        ensures content { IfOk result (λ table. content table ≡ new_content window columns lanes floor) }
+        ensures well_formed { IfOk result (λ table. IsContent (content table)) };
+
+    /// Offers a frame of a stream for an instant: its blocks, each with its column, and its time quality byte.
+    ///
+    /// The blocks are of columns that the stream writes, each at most once; there may be none.
+    fn put(&mut self, stream: usize, instant: u64, cells: &[(usize, Block)], quality: u8) -> Outcome
+        requires { IsPut (content self.old) stream cells.now }
+        ensures answer { result ≡ put_answer (content self.old) stream instant cells.now }
+        ensures content { content self.new ≡ after_put (content self.old) stream instant cells.now quality }
+        ensures sizes { HasSizesOf (content self.old) (content self.new) }
+        ensures well_formed { IsContent (content self.new) };
+
+    /// Sets whether an instant waits for the stream. In a new table none is waited for.
+    fn require(&mut self, stream: usize, is_required: bool)
+        requires { stream < streams_of (content self.old) }
+        ensures content { content self.new ≡ after_require (content self.old) stream is_required }
+        ensures sizes { HasSizesOf (content self.old) (content self.new) }
+        ensures well_formed { IsContent (content self.new) };
+
+    /// Counts one more tick for each open instant, closes those for which every open one up to them is due, and answers
+    /// how many. An instant is due where every required stream was taken, or its age is at least the wait, in ticks.
+    ///
+    /// Where the cells of the open instants have the shapes of the layout, so have the blocks of the rows that close.
+    fn tick(&mut self, wait: u64, layout: &RowLayout) -> u32
+        ensures answer { result ≡ tick_answer (content self.old) wait }
+        ensures content { content self.new ≡ after_tick (content self.old) wait layout.now }
+        ensures shapes { HaveLayoutShapes (content self.old) layout.now →
+            AllByRecursion (λ (row : RowView). map shape_of row.blocks ≡ shapes_given layout.now.shapes.items)
+            (closed_by (content self.old) wait layout.now) }
+        ensures sizes { HasSizesOf (content self.old) (content self.new) }
+        ensures well_formed { IsContent (content self.new) };
+
+    /// Takes the stream out of every open instant, as if it had not been taken. The instants stay open.
+    fn drop_stream(&mut self, stream: usize)
+        requires { stream < streams_of (content self.old) }
+        ensures content { content self.new ≡ after_drop_stream (content self.old) stream }
+        ensures sizes { HasSizesOf (content self.old) (content self.new) }
+        ensures well_formed { IsContent (content self.new) };
+
+    /// Takes the cells of the column out of every open instant, and leaves the streams taken. The instants stay open.
+    fn drop_column(&mut self, column: usize)
+        requires { column < (content self.old).columns }
+        ensures content { content self.new ≡ after_drop_column (content self.old) column }
+        ensures sizes { HasSizesOf (content self.old) (content self.new) }
+        ensures well_formed { IsContent (content self.new) };
+
+    /// The lowest closed row that was not popped.
+    fn pop_due(&mut self) -> Option<DueRow>
+        ensures answer { option_map row_view result ≡ pop_answer (content self.old) }
+        ensures content { content self.new ≡ after_pop (content self.old) }
+        ensures sizes { HasSizesOf (content self.old) (content self.new) }
+        ensures well_formed { IsContent (content self.new) };
+
+    /// The greatest instant closed, at first the floor.
+    fn last(&self) -> u64
+        ensures { result ≡ (content self.now).last };
+
+    /// How often, at a closing, a column with a shape had present blocks in both lanes that differed. It is a counter: it
+    /// stays at its greatest value.
+    fn disagree(&self) -> u64
+        ensures { result ≡ (content self.now).disagree };
+}
