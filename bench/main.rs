@@ -1,8 +1,9 @@
-//! The reading and writing paths, proved and plain, side by side in one process.
+//! The reading and writing paths and the table, proved and plain, side by side in one process.
 //!
 //! Each line is the best of several turns that take the two in alternation; both must give the same answer.
 
 mod plain;
+mod tables;
 
 use std::hint::black_box;
 use std::time::Instant;
@@ -14,6 +15,8 @@ mod ours {
         pub fn dagluwis_read_config(bytes: *const u8, len: usize) -> u64;
         pub fn dagluwis_read_data(bytes: *const u8, len: usize, phasors: u8, analogs: u8, digitals: u8, time_base: u32, rate: u32) -> u64;
         pub fn dagluwis_write_config(bytes: *const u8, len: usize, rounds: u32) -> u64;
+        pub fn dagluwis_table_steady(window: u64, behind: u64, instants: u32) -> u64;
+        pub fn dagluwis_table_fill(window: u64, rounds: u32) -> u64;
         pub fn dagluwis_write_data(bytes: *const u8, len: usize, phasors: u8, analogs: u8, digitals: u8, rounds: u32) -> u64;
     }
 }
@@ -146,6 +149,55 @@ fn each(rounds: u32, mut one: impl FnMut() -> u64) -> u64 {
     mixed
 }
 
+const STREAMS: f64 = 16.0;
+const TICKS: f64 = 4.0;
+
+/// The table of alignment: proved, over a `BTreeMap`, over a ring.
+fn tables() {
+    println!("\n| alignment of 16 streams | window | table | ns a put | million puts/s | ticks/s | ratio ours / this |");
+    println!("|---|---:|---|---:|---:|---:|---:|");
+    let line = |name: &str, window: u64, table: &str, instant: f64, ticks: f64, ours: f64| {
+        println!(
+            "| {name} | {window} | {table} | {:.0} | {:.2} | {:.0} | {:.2} |",
+            instant / STREAMS,
+            1000.0 * STREAMS / instant,
+            1e9 * ticks / instant,
+            instant / ours
+        );
+    };
+    let rows = |name: &str, window: u64, instants: u32, ticks: f64, each: &mut dyn FnMut(u32) -> u64, map: &mut dyn FnMut(u32) -> u64, ring: &mut dyn FnMut(u32) -> u64| {
+        let (first, mapped) = measure(instants, each, map);
+        let (second, ringed) = measure(instants, each, ring);
+        let ours = first.min(second);
+        line(name, window, "proved, sorted rows", ours, ticks, ours);
+        line(name, window, "plain, `BTreeMap`", mapped, ticks, ours);
+        line(name, window, "plain, ring", ringed, ticks, ours);
+    };
+    let (window, behind) = (64, 48);
+    rows(
+        "16 puts, 4 ticks an instant, one stream 48 behind",
+        window,
+        2_000,
+        TICKS,
+        &mut |n| unsafe { ours::dagluwis_table_steady(window, behind, n) },
+        &mut |n| tables::steady::<tables::MapTable>(window, behind, n),
+        &mut |n| tables::steady::<tables::RingTable>(window, behind, n),
+    );
+    for window in [8u64, 64, 256] {
+        // As many instants as whole windows have.
+        let instants = 2_048;
+        rows(
+            "fill the window, close it with one tick",
+            window,
+            instants,
+            1.0 / window as f64,
+            &mut |n| unsafe { ours::dagluwis_table_fill(window, n / window as u32) },
+            &mut |n| tables::fill::<tables::MapTable>(window, n / window as u32),
+            &mut |n| tables::fill::<tables::RingTable>(window, n / window as u32),
+        );
+    }
+}
+
 fn main() {
     println!("| path | shape | ours, ns a frame | plain Rust, ns | ours, million frames/s | plain, million/s | ratio ours / plain |");
     println!("|---|---|---:|---:|---:|---:|---:|");
@@ -183,4 +235,5 @@ fn main() {
             &mut |n| plain_write_data(black_box(&data), shape, n),
         ));
     }
+    tables();
 }

@@ -94,7 +94,7 @@ pub fn read_frame(bytes: &[u8]) -> Result<Frame<'_>, Fault> {
     })
 }
 
-#[derive(Clone, Copy, Default)]
+#[derive(Clone, Copy, Default, PartialEq, Eq)]
 pub struct Shape {
     pub phasors: u8,
     pub analogs: u8,
@@ -102,7 +102,7 @@ pub struct Shape {
 }
 
 impl Shape {
-    fn word_count(self) -> usize {
+    pub fn word_count(self) -> usize {
         3 + 2 * usize::from(self.phasors) + usize::from(self.analogs) + usize::from(self.digitals)
     }
 
@@ -128,11 +128,11 @@ pub struct Few<T, const N: usize> {
 }
 
 impl<T: Copy + Default, const N: usize> Few<T, N> {
-    fn new() -> Self {
+    pub fn new() -> Self {
         Few { values: [T::default(); N], len: 0 }
     }
 
-    fn push(&mut self, value: T) {
+    pub fn push(&mut self, value: T) {
         self.values[self.len] = value;
         self.len += 1;
     }
@@ -212,6 +212,12 @@ impl Default for Block {
 }
 
 impl Block {
+    pub fn from_words(shape: Shape, from: &[u16]) -> Block {
+        let mut words = [0; 107];
+        words[..from.len()].copy_from_slice(from);
+        Block { shape, words, len: from.len() }
+    }
+
     pub fn words(&self) -> &[u16] {
         &self.words[..self.len]
     }

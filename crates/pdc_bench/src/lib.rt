@@ -1,7 +1,8 @@
-//! The reading and writing paths, as a static library that `bench/` calls beside plain Rust.
+//! The reading and writing paths and the table, as a static library that `bench/` calls beside plain Rust.
 //!
 //! Each call does the work and gives a number that depends on all of it, so that no compiler leaves any out.
 #![tactic(auto)]
 
 mod reading;
+mod table;
 mod writing;

@@ -1,0 +1,155 @@
+//! The alignment table: 16 streams of one PMU each.
+ghost use Rattle.std.specs.Prelude.{◌≡◌, ◌<◌, ◌≤◌};
+
+use arrayvec::ArrayVec;
+use pdc_block::Block;
+use pdc_cfg::Shape;
+use pdc_table::{DueRow, RowLayout, SortedTable, Table};
+use std::alloc::{AllocError, Global};
+
+const STREAMS: usize = 16;
+
+const SHAPE: Shape = Shape {
+    phasors: 8,
+    analogs: 4,
+    digitals: 1,
+};
+
+/// A table of 16 streams, one for each column.
+#[derive(Drop)]
+struct Aligner<T: Table> {
+    table: T,
+    layout: RowLayout,
+    mixed: u64,
+    ghost one_lane: { (T.content table).lanes ≡ 1 },
+    ghost counted: { (T.content table).columns ≡ 16 },
+}
+
+impl<T: Table> Aligner<T> {
+    fn new(alloc: Global, window: u64) -> Result<Self, AllocError>
+        requires least { 8 ≤ window }
+        requires most { window ≤ 256 }
+    {
+        let mut shapes = ArrayVec::new();
+        for _ in 0..STREAMS {
+            if !shapes.is_full() {
+                shapes.push(Some(SHAPE));
+            }
+        }
+        Ok(Aligner {
+            table: T::new(alloc, window, STREAMS, 1, 0)?,
+            layout: RowLayout {
+                start: 1,
+                change: 0,
+                shapes,
+            },
+            mixed: 0,
+        })
+    }
+
+    fn require(&mut self) {
+        for stream in 0..STREAMS {
+            self.table.require(stream, true);
+        }
+    }
+
+    fn put(&mut self, stream: usize, instant: u64)
+        requires { stream < 16 }
+    {
+        let mut words = [0u16; 24];
+        words[1] = (instant % 65536) as u16;
+        words[2] = stream as u16;
+        let block = Block::from_words(SHAPE, &words);
+        let outcome = self.table.put(stream, instant, &[(stream, block)], 0);
+        self.mixed = self.mixed.rotate_left(1) ^ outcome as u64;
+    }
+
+    fn tick(&mut self, wait: u64) {
+        let closed = self.table.tick(wait, &self.layout);
+        for _ in 0..closed {
+            if let Some(row) = self.table.pop_due() {
+                self.mixed = self.mixed.rotate_left(1) ^ mix(&row);
+            }
+        }
+    }
+}
+
+// A number that depends on all of the row.
+fn mix(row: &DueRow) -> u64 {
+    let mut mixed = row.instant ^ u64::from(row.quality) << 60;
+    for block in row.blocks.as_slice() {
+        for word in block.words() {
+            mixed = mixed.rotate_left(1) ^ u64::from(*word);
+        }
+    }
+    mixed
+}
+
+// For each instant 16 puts, of which the last is this much behind, and 4 ticks.
+fn steady<T: Table>(
+    alloc: Global,
+    window: u64,
+    behind: u64,
+    instants: u32,
+) -> Result<u64, AllocError>
+    requires least { 8 ≤ window }
+    requires most { window ≤ 256 }
+{
+    let mut aligner = Aligner::<T>::new(alloc, window)?;
+    aligner.require();
+    for instant in 0..instants {
+        let instant = u64::from(instant) + 1;
+        for stream in 0..STREAMS - 1 {
+            aligner.put(stream, instant);
+        }
+        aligner.put(STREAMS - 1, instant.saturating_sub(behind));
+        for _ in 0..4 {
+            aligner.tick(1000);
+        }
+    }
+    Ok(aligner.mixed)
+}
+
+// Fills the window with 16 puts an instant, in rising order, and closes it with one tick, so many times.
+fn fill<T: Table>(alloc: Global, window: u64, rounds: u32) -> Result<u64, AllocError>
+    requires least { 8 ≤ window }
+    requires most { window ≤ 256 }
+{
+    let mut aligner = Aligner::<T>::new(alloc, window)?;
+    aligner.require();
+    for round in 0..rounds {
+        for place in 0..window {
+            let instant = u64::from(round) * window + place + 1;
+            for stream in 0..STREAMS {
+                aligner.put(stream, instant);
+            }
+        }
+        aligner.tick(1);
+    }
+    Ok(aligner.mixed)
+}
+
+/// Runs a table for so many instants: for each 16 puts, of which the last is `behind` instants behind, 4 ticks, and the
+/// rows that close taken out; 0 where the window is not 8 to 256 or memory runs out.
+#[unsafe(no_mangle)]
+pub extern "C" fn dagluwis_table_steady(
+    alloc: Global,
+    window: u64,
+    behind: u64,
+    instants: u32,
+) -> u64 {
+    if window < 8 || window > 256 {
+        return 0;
+    }
+    steady::<SortedTable>(alloc, window, behind, instants).unwrap_or(0)
+}
+
+/// Fills the window and closes it so many times: 16 puts an instant, one tick, and the rows taken out; 0 where the window
+/// is not 8 to 256 or memory runs out.
+#[unsafe(no_mangle)]
+pub extern "C" fn dagluwis_table_fill(alloc: Global, window: u64, rounds: u32) -> u64 {
+    if window < 8 || window > 256 {
+        return 0;
+    }
+    fill::<SortedTable>(alloc, window, rounds).unwrap_or(0)
+}
