@@ -1,6 +1,6 @@
 //! What is kept of a configuration, to read data by it.
-ghost use Rattle.std.specs.Prelude.{◌≡◌, ◌<◌, ◌≤◌};
-ghost use Rattle.arrayvec.specs.ArrayVec.{array_vec_len};
+ghost use Rattle.std.specs.Prelude.{◌≡◌, ◌<◌, map};
+ghost use Rattle.pdc_app.specs.declared.held.HeldSection.{HeldSection as HeldSectionData};
 
 use arrayvec::ArrayVec;
 use pdc_cfg::{ConfigView, Shape};
@@ -65,7 +65,7 @@ impl Held {
 
     /// The shapes of the sections, in order.
     pub fn shapes(&self) -> ArrayVec<Shape, 17>
-        ensures { array_vec_len result ≤ 17 }
+        ensures { result.items ≡ map (λ (section : HeldSectionData). section.shape) self.now.sections.items }
     {
         let mut shapes = ArrayVec::new();
         for section in self.sections.as_slice() {

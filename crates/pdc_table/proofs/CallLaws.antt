@@ -126,7 +126,7 @@ closed_below c (DropStream stream ∷ calls) = closed_below (after c (DropStream
 closed_below c (DropColumn column ∷ calls) = closed_below (after c (DropColumn column)) calls
 closed_below c (Pop ∷ calls) = closed_below (after c Pop) calls
 
-first_rest : (rows : List RowView) → option_to_list (slice_get rows 0) ++ drop 1 rows ≡ rows
+first_rest : (all : List RowView) → option_to_list (slice_get all 0) ++ drop 1 all ≡ all
 first_rest [] = refl
 first_rest (x ∷ xs) = refl
 

@@ -1,5 +1,6 @@
-use Rattle.std.proofs.Common.{◌≤◌, length}
+use Rattle.std.proofs.Common.{◌≡◌, take, map}
+use Rattle.pdc_app.specs.declared.held.HeldSection.{HeldSection}
 use Rattle.pdc_app.proofs.held.Held.shapes.Given as goal
 
 abbrev pub invariant-loop-section : goal.invariant-loop-section
-invariant-loop-section l = length l.shapes.items ≤ l.section-index
+invariant-loop-section l = l.shapes.items ≡ map (λ (section : HeldSection). section.shape) (take l.section-index l.self.sections.items)
