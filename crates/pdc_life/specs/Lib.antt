@@ -1,0 +1,5 @@
+pub mod Answer
+pub mod Arrival
+pub mod Layout
+pub mod Life
+pub mod Row

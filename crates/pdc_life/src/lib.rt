@@ -1,0 +1,16 @@
+//! One life of a node, from a start to a stop: what each step is answered, which rows close, and what is published (this
+//! profile).
+//!
+//! Nothing here keeps a table. A life is the list of its steps, newest first, each with its answer, and every definition of
+//! `specs/` is a filter, a count or a greatest element over that list. So there is one page to read, and one text that
+//! the node, the merger and the world cite.
+//!
+//! To the layers above this crate promises nothing yet beyond the shape of its settings: it has the definitions, and the
+//! values that they speak of.
+#![tactic(auto)]
+
+mod given;
+mod outcome;
+
+pub use given::{Given, Nominal, Pmu, Settings};
+pub use outcome::{Outcome, Refusal};
