@@ -1,17 +1,18 @@
 -- What a node says of itself, and the frames that it publishes (the own section and the own block: this profile; the frames:
 -- IEEE C37.118.2-2011, 6.3 and 6.4).
-use Rattle.std.specs.Prelude.{ℕ, ◌+◌, ◌*◌, ◌/◌, ◌%◌, ◌^◌, List, [], ◌∷◌, ◌++◌, map, replicate}
-use Rattle.std.specs.Int.{w16, to_be_bytes}
-use Rattle.std.specs.List.{flat_map}
+use Rattle.std.specs.Prelude.{ℕ, ◌*◌, ◌/◌, ◌%◌, ◌^◌, ◌+◌, List, [], ◌∷◌, ◌++◌, length, map, replicate}
+use Rattle.std.specs.Int.{w16, w32, to_be_bytes}
+use Rattle.std.specs.List.{flat_map, filter_map}
 use Rattle.pdc_frame.specs.Frame.{Fields, spelling_of}
-use Rattle.pdc_frame.specs.declared.frame.Kind.TheVariants.{DataFrame}
+use Rattle.pdc_frame.specs.declared.frame.Kind.TheVariants.{DataFrame, Cfg2}
+use Rattle.pdc_cfg.specs.Section.{SectionFields}
 use Rattle.pdc_block.specs.Block.{bytes_of_words}
 use Rattle.pdc_stat.specs.CellView.{BlockView}
 use Rattle.pdc_tag.specs.Tag.{tag_of}
 use Rattle.pdc_life.specs.declared.given.Given.{Given}
 use Rattle.pdc_life.specs.declared.given.Nominal.{Nominal}
 use Rattle.pdc_life.specs.declared.given.Nominal.TheVariants.{Hz50, Hz60}
-use Rattle.pdc_life.specs.Life.{Entry, Row, popped}
+use Rattle.pdc_life.specs.Life.{Entry, Row, changes, count_of, pmus_of, popped}
 
 -- The stamp of a layout, as four words: the start number and the change number, each the high word first.
 abbrev pub stamp_words : ℕ → ℕ → List ℕ
@@ -68,3 +69,29 @@ wire_of g row = spelling_of (row_fields g row)
 -- What a life published: the rows that pops gave, the newest first.
 abbrev pub published : Given → List Entry → List (List ℕ)
 published g E = map (wire_of g) (popped E)
+
+-- The sections of the layout after a life: the own one, and those in force in the order of the settings.
+abbrev pub sections_of : Given → List Entry → List (List ℕ)
+sections_of g E = own_bytes g (changes E) ∷ map (λ (s : SectionFields). s.bytes) (filter_map (count_of E) (pmus_of g))
+
+-- TIME_BASE, NUM_PMU, the sections, DATA_RATE
+abbrev pub layout_payload : Given → List Entry → List ℕ
+layout_payload g E =
+    to_be_bytes w32 g.settings.time_base ++ to_be_bytes w16 (length (sections_of g E)) ++ flat_map (λ bytes. bytes) (sections_of g E)
+    ++ to_be_bytes w16 g.settings.rate
+
+-- The frame of the layout: a CFG-2 frame with time quality 0 and count 0.
+abbrev pub layout_fields : Given → List Entry → ℕ → Fields
+layout_fields g E soc = record {
+  kind = Cfg2;
+  version = 2;
+  id = g.settings.id;
+  soc = soc;
+  quality = 0;
+  frac = 0;
+  payload = layout_payload g E;
+}
+
+-- The bytes of the layout on the wire.
+abbrev pub layout_wire : Given → List Entry → ℕ → List ℕ
+layout_wire g E soc = spelling_of (layout_fields g E soc)

@@ -81,13 +81,6 @@ is_newer None in_force = false
 is_newer (Some held) None = true
 is_newer (Some held) (Some in_force) = nat_lt in_force.count held.count
 
--- what came since the tick at which the count in force of a PMU last changed
-abbrev pub since_adopted : List Entry → ℕ → List Entry
-since_adopted [] p = []
-since_adopted (Tick now rows adopted used_up ∷ E) p =
-    if adopted && is_newer (held_of E p) (count_of E p) then [] else Tick now rows adopted used_up ∷ since_adopted E p
-since_adopted (e ∷ E) p = e ∷ since_adopted E p
-
 abbrev pub is_taken : Outcome → Bool
 is_taken Taken = true
 is_taken _ = false
@@ -104,13 +97,26 @@ cells_of None p quality payload = []
 cells_of (Some s) p quality payload =
     (p, record { block = record { shape = s.shape; words = words_in payload }; quality = quality }) ∷ []
 
--- the data that was taken, the newest first
+-- what a step took after E: the blocks are those of the section that was in force then
+abbrev pub take_at : List Entry → Entry → List Take
+take_at E (Arrive p bytes (Data i quality payload) answer) =
+    if is_taken answer then record { stream = p; instant = i; cells = cells_of (count_of E p) p quality payload } ∷ [] else []
+take_at E e = []
+
+-- all that was taken, the newest first
 abbrev pub takes : List Entry → List Take
 takes [] = []
-takes (Arrive p bytes (Data i quality payload) answer ∷ E) =
-    if is_taken answer
-    then record { stream = p; instant = i; cells = cells_of (count_of E p) p quality payload } ∷ takes E else takes E
-takes (e ∷ E) = takes E
+takes (e ∷ E) = take_at E e ++ takes E
+
+-- the step after E is a tick at which the count in force of a PMU changed
+abbrev pub is_adoption_of : List Entry → ℕ → Entry → Bool
+is_adoption_of E p (Tick now rows adopted used_up) = adopted && is_newer (held_of E p) (count_of E p)
+is_adoption_of E p e = false
+
+-- what was taken since then
+abbrev pub takes_since_adopted : List Entry → ℕ → List Take
+takes_since_adopted [] p = []
+takes_since_adopted (e ∷ E) p = if is_adoption_of E p e then [] else take_at E e ++ takes_since_adopted E p
 
 abbrev pub is_take_of : ℕ → ℕ → Take → Bool
 is_take_of p i t = (t.stream == p) && (t.instant == i)
@@ -125,7 +131,7 @@ cell_in column (Some t) = option_map (λ (cell : ℕ × CellView). cell.1) (find
 
 -- The data taken of a PMU for an instant since its count in force changed.
 abbrev pub take_of : List Entry → ℕ → ℕ → Option Take
-take_of E p i = find (is_take_of p i) (takes (since_adopted E p))
+take_of E p i = find (is_take_of p i) (takes_since_adopted E p)
 
 abbrev pub cell_of : List Entry → ℕ → ℕ → Option CellView
 cell_of E p i = cell_in p (take_of E p i)
