@@ -1,7 +1,7 @@
 -- Lives worked out by computing the definitions: the frames are those of two PMUs, 11 and 12, with one phasor each, at 50
 -- frames a second from SOC 1149577200 on, whose first instant is 57478860000. What arrives is given as read; where only the
 -- answer matters, the bytes beside it stand for any that say so.
-use Rattle.std.specs.Prelude.{◌≡◌, ℕ, ◌+◌, List, [], ◌∷◌, length, map, false, true, None, Some, refl}
+use Rattle.std.specs.Prelude.{◌≡◌, ℕ, ◌+◌, List, [], ◌∷◌, length, map, false, refl}
 use Rattle.std.proofs.Common.{arith}
 use Rattle.pdc_cfg.specs.declared.shape.Shape.{Shape}
 use Rattle.pdc_cfg.specs.Section.{SectionFields}
@@ -14,8 +14,8 @@ use Rattle.pdc_life.specs.declared.given.Nominal.TheVariants.{Hz50}
 use Rattle.pdc_life.specs.declared.outcome.Outcome.{Outcome}
 use Rattle.pdc_life.specs.declared.outcome.Outcome.TheVariants.{Taken, Candidate, Known, Refused}
 use Rattle.pdc_life.specs.declared.outcome.Refusal.TheVariants.{StaleCount, CountConflict, NoConfig, Late, Ahead, OutOfWindow, Duplicate, Conflict}
-use Rattle.pdc_life.specs.Arrival.{Arrival, Data, Configuration}
-use Rattle.pdc_life.specs.Life.{Entry, Arrive, Tick, Pop, Row, changes, open_instants, popped, words_in}
+use Rattle.pdc_life.specs.Arrival.{Data, Configuration}
+use Rattle.pdc_life.specs.Life.{Entry, Arrive, Row, changes, open_instants, popped, words_in}
 use Rattle.pdc_life.specs.Answer.{Step, Arrives, Ticks, Pops, life_from}
 use Rattle.pdc_life.specs.Layout.{layout_wire, published}
 

@@ -5,12 +5,13 @@
 //! `specs/` is a filter, a count or a greatest element over that list. So there is one page to read, and one text that
 //! the node, the merger and the world cite.
 //!
-//! To the layers above this crate promises nothing yet beyond the shape of its settings: it has the definitions, and the
-//! values that they speak of.
+//! To the layers above this crate promises what holds of every life: its rows rise strictly above the floor.
 #![tactic(auto)]
 
 mod given;
+mod laws;
 mod outcome;
 
 pub use given::{Given, Nominal, Pmu, Settings};
+pub use laws::{answers_are_one, counts_stay, rows_rise};
 pub use outcome::{Outcome, Refusal};
