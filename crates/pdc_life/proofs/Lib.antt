@@ -1,2 +1,3 @@
+pub mod InTime
 pub mod Rows
 pub mod Worked

@@ -1,10 +1,14 @@
 -- What holds of every life (this profile).
-use Rattle.std.specs.Prelude.{◌≡◌, ℕ, ◌<◌, List, [], ◌∷◌, ◌++◌, IsTrue, is_some}
+use Rattle.std.specs.Prelude.{◌≡◌, ◌↔◌, ℕ, ◌+◌, ◌*◌, ◌<◌, ◌≤◌, List, [], ◌∷◌, ◌++◌, length, true, IsTrue, is_some, Some, None}
+use Rattle.std.specs.List.{list_all}
+use Rattle.pdc_cfg.specs.Shape.{word_count_of}
+use Rattle.pdc_cfg.specs.Section.{SectionFields}
 use Rattle.pdc_life.specs.declared.given.Given.{Given}
 use Rattle.pdc_life.specs.declared.outcome.Outcome.{Outcome}
 use Rattle.pdc_life.specs.Arrival.{Arrival}
-use Rattle.pdc_life.specs.Life.{Entry, Arrive, Tick, Row, count_of, instants_of}
-use Rattle.pdc_life.specs.Answer.{IsLife}
+use Rattle.pdc_life.specs.Life.{Entry, Arrive, Tick, Row, count_of, held_instants, instants_of, last_of, now_of, take_of}
+use Rattle.pdc_life.specs.Answer.{IsLife, data_answer, is_near}
+use Rattle.pdc_life.specs.declared.outcome.Outcome.TheVariants.{Taken}
 
 -- the numbers rise strictly, and are above this one
 abbrev pub Rises : ℕ → List ℕ → Type 0
@@ -30,3 +34,20 @@ abbrev pub AnswersAreOne : Type 0
 AnswersAreOne =
     (g : Given) (E : List Entry) (p : ℕ) (bytes : List ℕ) (arrival : Arrival) (a b : Outcome) →
     IsLife g (Arrive p bytes arrival a ∷ E) → IsLife g (Arrive p bytes arrival b ∷ E) → a ≡ b
+
+-- Data of a PMU for an instant that comes in time: a section is in force, the data has its length, the instant is above the
+-- last one closed, at most ahead above now, and near every instant held, and nothing was taken of the PMU for it.
+pub record IsInTime (g : Given) (E : List Entry) (p i : ℕ) (payload : List ℕ) : Type 0 where
+  pub section : SectionFields
+  pub in_force : count_of E p ≡ Some section
+  pub size : length payload ≡ 2 * word_count_of section.shape
+  pub later : last_of g E < i
+  pub not_ahead : i ≤ now_of g E + g.settings.ahead
+  pub near : list_all (is_near g.settings.window i) (held_instants g E) ≡ true
+  pub first : take_of E p i ≡ None
+
+-- What is taken came in time, and what comes in time is taken.
+abbrev pub TakenIsInTime : Type 0
+TakenIsInTime =
+    (g : Given) (E : List Entry) (p i : ℕ) (payload : List ℕ) →
+    (data_answer g E p i payload ≡ Taken) ↔ IsInTime g E p i payload

@@ -1,5 +1,5 @@
 //! Laws of every life, by the definitions.
-ghost use Rattle.pdc_life.specs.Laws.{AnswersAreOne, CountsStay, RowsRise};
+ghost use Rattle.pdc_life.specs.Laws.{AnswersAreOne, CountsStay, RowsRise, TakenIsInTime};
 
 /// In every life the instants of the rows rise strictly, and lie above the floor.
 pub fn rows_rise()
@@ -14,4 +14,9 @@ pub fn counts_stay()
 /// An arrival that says one thing has one answer.
 pub fn answers_are_one()
     ensures { AnswersAreOne }
+{}
+
+/// What is taken came in time, and what comes in time is taken.
+pub fn taken_is_in_time()
+    ensures { TakenIsInTime }
 {}

@@ -13,5 +13,5 @@ mod laws;
 mod outcome;
 
 pub use given::{Given, Nominal, Pmu, Settings};
-pub use laws::{answers_are_one, counts_stay, rows_rise};
+pub use laws::{answers_are_one, counts_stay, rows_rise, taken_is_in_time};
 pub use outcome::{Outcome, Refusal};
