@@ -32,7 +32,7 @@ instants_rows g E [] = refl
 instants_rows g E (i ∷ is) = ap (λ ns. i ∷ ns) (instants_rows g E is)
 
 -- last is the greatest instant of all that closed, else the floor
-last_is : (g : Given) (E : List Entry) → last_of g E ≡ greatest g.floor (instants_of (closed E))
+pub last_is : (g : Given) (E : List Entry) → last_of g E ≡ greatest g.floor (instants_of (closed E))
 last_is g [] = refl
 last_is g (Tick now rows adopted used_up ∷ E) =
     ap (λ n. greatest n (instants_of rows)) (last_is g E)

@@ -1,12 +1,13 @@
 -- What holds of every life (this profile).
-use Rattle.std.specs.Prelude.{◌≡◌, ◌↔◌, ℕ, ◌+◌, ◌*◌, ◌<◌, ◌≤◌, List, [], ◌∷◌, ◌++◌, length, true, IsTrue, is_some, Some, None}
-use Rattle.std.specs.List.{list_all}
+use Rattle.std.specs.Prelude.{◌≡◌, ◌↔◌, ℕ, ◌+◌, ◌*◌, ◌<◌, ◌≤◌, List, [], ◌∷◌, ◌++◌, length, true, IsTrue, is_some, Option, Some, None, ◌==◌, if◌then◌else◌}
+use Rattle.std.specs.List.{AllByRecursion, list_all}
 use Rattle.pdc_cfg.specs.Shape.{word_count_of}
 use Rattle.pdc_cfg.specs.Section.{SectionFields}
 use Rattle.pdc_life.specs.declared.given.Given.{Given}
 use Rattle.pdc_life.specs.declared.outcome.Outcome.{Outcome}
-use Rattle.pdc_life.specs.Arrival.{Arrival}
-use Rattle.pdc_life.specs.Life.{Entry, Arrive, Tick, Row, count_of, held_instants, instants_of, last_of, now_of, take_of}
+use Rattle.pdc_life.specs.Arrival.{Arrival, Configuration}
+use Rattle.pdc_life.specs.Life.{Entry, Arrive, Tick, Row, count_of, held_instants, held_of, instants_of, last_of, now_of, open_instants, take_of}
+use Rattle.pdc_life.specs.Row.{closing, is_due}
 use Rattle.pdc_life.specs.Answer.{IsLife, data_answer, is_near}
 use Rattle.pdc_life.specs.declared.outcome.Outcome.TheVariants.{Taken}
 
@@ -51,3 +52,42 @@ abbrev pub TakenIsInTime : Type 0
 TakenIsInTime =
     (g : Given) (E : List Entry) (p i : ℕ) (payload : List ℕ) →
     (data_answer g E p i payload ≡ Taken) ↔ IsInTime g E p i payload
+
+-- each number is below this one
+abbrev pub AreBelow : ℕ → List ℕ → Type 0
+AreBelow top [] = Unit {0}
+AreBelow top (n ∷ ns) = (n < top) × AreBelow top ns
+
+-- An instant that closed never opens again: data is taken only for an instant above the floor and each one that closed.
+abbrev pub ClosedStayClosed : Type 0
+ClosedStayClosed =
+    (g : Given) (E : List Entry) (p i : ℕ) (payload : List ℕ) →
+    data_answer g E p i payload ≡ Taken → (g.floor < i) × AreBelow i (instants_of (closed E))
+
+-- No instant closes while an open one below it is not due.
+abbrev pub NoneOvertakes : Type 0
+NoneOvertakes =
+    (g : Given) (E : List Entry) →
+    AllByRecursion (λ i. AllByRecursion (λ j. j ≤ i → is_due g E j ≡ true) (open_instants g E)) (closing g E)
+
+-- the valid configurations of a PMU that arrived, the newest first
+abbrev pub arrived : List Entry → ℕ → List SectionFields
+arrived [] p = []
+arrived (Arrive q bytes (Configuration s) answer ∷ E) p = if q == p then s ∷ arrived E p else arrived E p
+arrived (e ∷ E) p = arrived E p
+
+-- the section is of the greatest count of these, which came the newest first, and the first of that count to come
+pub record IsFirstGreatest (sections : List SectionFields) (s : SectionFields) : Type 0 where
+  pub newer : List SectionFields
+  pub older : List SectionFields
+  pub stands : sections ≡ newer ++ s ∷ older
+  pub not_greater : AllByRecursion (λ (t : SectionFields). t.count ≤ s.count) newer
+  pub lower : AllByRecursion (λ (t : SectionFields). t.count < s.count) older
+
+-- Held is the greatest count that came, with the first section of it; none where none came.
+abbrev pub IsHeld : List SectionFields → Option SectionFields → Type 0
+IsHeld sections None = sections ≡ []
+IsHeld sections (Some s) = IsFirstGreatest sections s
+
+abbrev pub HeldIsGreatest : Type 0
+HeldIsGreatest = (E : List Entry) (p : ℕ) → IsHeld (arrived E p) (held_of E p)

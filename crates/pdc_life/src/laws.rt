@@ -1,5 +1,5 @@
 //! Laws of every life, by the definitions.
-ghost use Rattle.pdc_life.specs.Laws.{AnswersAreOne, CountsStay, RowsRise, TakenIsInTime};
+ghost use Rattle.pdc_life.specs.Laws.{AnswersAreOne, ClosedStayClosed, CountsStay, HeldIsGreatest, NoneOvertakes, RowsRise, TakenIsInTime};
 
 /// In every life the instants of the rows rise strictly, and lie above the floor.
 pub fn rows_rise()
@@ -19,4 +19,19 @@ pub fn answers_are_one()
 /// What is taken came in time, and what comes in time is taken.
 pub fn taken_is_in_time()
     ensures { TakenIsInTime }
+{}
+
+/// Data is taken only for an instant above the floor and above each one that closed.
+pub fn closed_stay_closed()
+    ensures { ClosedStayClosed }
+{}
+
+/// No instant closes while an open one below it is not due.
+pub fn none_overtakes()
+    ensures { NoneOvertakes }
+{}
+
+/// Held is the greatest count that came, with the first section of it.
+pub fn held_is_greatest()
+    ensures { HeldIsGreatest }
 {}

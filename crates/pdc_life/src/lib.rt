@@ -13,5 +13,8 @@ mod laws;
 mod outcome;
 
 pub use given::{Given, Nominal, Pmu, Settings};
-pub use laws::{answers_are_one, counts_stay, rows_rise, taken_is_in_time};
+pub use laws::{
+    answers_are_one, closed_stay_closed, counts_stay, held_is_greatest, none_overtakes, rows_rise,
+    taken_is_in_time,
+};
 pub use outcome::{Outcome, Refusal};
