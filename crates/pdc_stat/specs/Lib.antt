@@ -1,2 +1,5 @@
 pub mod AbsentBlock
+pub mod CellView
+pub mod Chosen
+pub mod Quality
 pub mod Stat

@@ -8,7 +8,8 @@ use Rattle.pdc_block.specs.declared.block.Block.{Block}
 use Rattle.pdc_table.specs.Closing.{aged, staying}
 use Rattle.pdc_table.specs.Content.{Content, instants_closed, lane_of}
 use Rattle.pdc_table.specs.Rising.{Rises, AreBelow, instants_of}
-use Rattle.pdc_table.specs.RowView.{RowView, greatest}
+use Rattle.pdc_table.specs.RowView.{RowView}
+use Rattle.pdc_stat.specs.Quality.{greatest}
 use Rattle.pdc_table.specs.Steps.{after_put, answer_at, closing_of, closed_by, first_cause, is_near_all, is_taken, put_answer, with_taken}
 use Rattle.pdc_table.specs.Placing.{row_at}
 use Rattle.pdc_table.specs.Taking.{blank_row, with_frame, without_stream, without_column}

@@ -4,13 +4,15 @@ use Rattle.std.specs.List.{prefix_len, AllByRecursion}
 use Rattle.std.proofs.lemmas.List.{map-append, take-append-drop, length-map}
 use Rattle.std.proofs.lemmas.List.Sums.{count_by-le-length, length-filter}
 use Rattle.pdc_cfg.specs.declared.shape.Shape.{Shape}
-use Rattle.pdc_table.specs.CellView.{CellView, is_present}
-use Rattle.pdc_table.specs.Chosen.{present_of, first_of, block_in, block_or_absent}
+use Rattle.pdc_stat.specs.CellView.{CellView, is_present}
+use Rattle.pdc_table.specs.Chosen.{block_in}
+use Rattle.pdc_stat.specs.Chosen.{present_of, first_of, block_or_absent}
 use Rattle.pdc_table.specs.Closing.{aged, is_due, closes, closing, staying}
 use Rattle.pdc_table.specs.Content.{Content, IsContent, HaveLayoutShapes, HasShape, HaveShapes, held_instants, instants_closed}
 use Rattle.pdc_table.specs.Placing.{row_at, with_row}
 use Rattle.pdc_table.specs.Rising.{Rises, AreBelow, AreNear, instants_of}
-use Rattle.pdc_table.specs.RowView.{RowView, row_of, blocks_of, greatest}
+use Rattle.pdc_table.specs.RowView.{RowView, row_of, blocks_of}
+use Rattle.pdc_stat.specs.Quality.{greatest}
 use Rattle.pdc_table.specs.Steps.{after_drop_column, after_drop_stream, after_pop, after_tick, closing_of, closed_by, is_near_all, shape_of, shapes_given}
 use Rattle.pdc_table.specs.Taking.{blank_row, without_stream, without_column}
 use Rattle.pdc_table.specs.declared.column.Column.{Column}

@@ -4,7 +4,7 @@ use Rattle.std.specs.Int.{abs_diff}
 use Rattle.std.specs.List.{list_all, slice_get}
 use Rattle.std.proofs.lemmas.Bool.{cases_lt, false≢true}
 use borrow.Author.Tests.{ltb-true}
-use Rattle.pdc_table.specs.RowView.{greatest}
+use Rattle.pdc_stat.specs.Quality.{greatest}
 use Rattle.pdc_table.specs.Rising.{Rises, AreBelow, AreNear, is_near, is_near_any, highest_of, instants_of}
 use Rattle.pdc_table.specs.RowView.{row_view}
 use Rattle.pdc_table.specs.Content.{instants_closed}

@@ -1,29 +1,17 @@
 -- The block that a column gives to the row of its instant (this profile).
-use Rattle.std.specs.Prelude.{Bool, not, false, Option, Some, None, if◌then◌else◌}
+use Rattle.std.specs.Prelude.{Bool, not, false, Option, Some, None}
 use Rattle.pdc_cfg.specs.declared.shape.Shape.{Shape}
-use Rattle.pdc_table.specs.CellView.{BlockView, CellView, absent_view, is_present, same_block}
+use Rattle.pdc_stat.specs.Chosen.{block_or_absent, first_of, present_of}
+use Rattle.pdc_stat.specs.CellView.{BlockView, CellView, same_block}
 use Rattle.pdc_table.specs.declared.column.Column.{Column}
 
 -- the column in which nothing was taken
 abbrev pub empty_column : Column
 empty_column = record { first = None; second = None }
 
--- the cell, where its block is present
-abbrev pub present_of : Option CellView → Option CellView
-present_of None = None
-present_of (Some cell) = if is_present cell.block then Some cell else None
-
-abbrev pub first_of : Option CellView → Option CellView → Option CellView
-first_of None other = other
-first_of (Some cell) other = Some cell
-
 -- The cell of the lowest lane whose block is present.
 abbrev pub chosen_of : Column → Option CellView
 chosen_of column = first_of (present_of column.first) (present_of column.second)
-
-abbrev pub block_or_absent : Shape → Option CellView → BlockView
-block_or_absent shape None = absent_view shape
-block_or_absent shape (Some cell) = cell.block
 
 -- The block of a column of this shape: the chosen one, else the absent one.
 abbrev pub block_in : Shape → Column → BlockView

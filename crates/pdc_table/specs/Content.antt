@@ -3,7 +3,7 @@ use Rattle.std.specs.Prelude.{◌≡◌, ◌≢◌, ℕ, ◌+◌, ◌<◌, ◌�
 use Rattle.std.specs.List.{All, AllByRecursion}
 use Rattle.pdc_cfg.specs.declared.shape.Shape.{Shape}
 use Rattle.pdc_block.specs.declared.block.Block.{Block}
-use Rattle.pdc_table.specs.CellView.{CellView}
+use Rattle.pdc_stat.specs.CellView.{CellView}
 use Rattle.pdc_table.specs.RowView.{RowView}
 use Rattle.pdc_table.specs.Rising.{Rises, AreBelow, AreNear, instants_of}
 use Rattle.pdc_table.specs.declared.column.Column.{Column}

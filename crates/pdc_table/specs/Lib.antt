@@ -1,5 +1,4 @@
 pub mod Calls
-pub mod CellView
 pub mod Chosen
 pub mod Closing
 pub mod Content

@@ -1,8 +1,9 @@
 -- The row of an instant: what a closed row shows (this profile).
-use Rattle.std.specs.Prelude.{ℕ, ◌%◌, ◌++◌, max, List, [], ◌∷◌, map, Option, Some, None}
+use Rattle.std.specs.Prelude.{ℕ, ◌++◌, List, [], ◌∷◌, map, Option, Some, None}
 use Rattle.std.specs.Option.{option_map, option_to_list}
 use Rattle.pdc_cfg.specs.declared.shape.Shape.{Shape}
-use Rattle.pdc_table.specs.CellView.{BlockView, CellView, block_view}
+use Rattle.pdc_stat.specs.CellView.{BlockView, block_view}
+use Rattle.pdc_stat.specs.Quality.{greatest, quality_of, time_quality_of}
 use Rattle.pdc_table.specs.Chosen.{chosen_of, block_in, empty_column}
 use Rattle.pdc_table.specs.declared.column.Column.{Column}
 use Rattle.pdc_table.specs.declared.open_row.OpenRow.{OpenRow}
@@ -37,10 +38,6 @@ blocks_of [] columns = []
 blocks_of (shape ∷ shapes) [] = blocks_at shape empty_column ++ blocks_of shapes []
 blocks_of (shape ∷ shapes) (column ∷ columns) = blocks_at shape column ++ blocks_of shapes columns
 
--- The time quality of a frame: the low nibble of its byte, greater is worse.
-abbrev pub time_quality_of : CellView → ℕ
-time_quality_of cell = cell.quality % 16
-
 -- the quality that a column gives: that of its chosen cell, if there is one
 abbrev pub quality_in : Column → Option ℕ
 quality_in column = option_map time_quality_of (chosen_of column)
@@ -55,16 +52,6 @@ abbrev pub qualities_of : List (Option Shape) → List Column → List ℕ
 qualities_of [] columns = []
 qualities_of (shape ∷ shapes) [] = []
 qualities_of (shape ∷ shapes) (column ∷ columns) = qualities_at shape column ++ qualities_of shapes columns
-
--- the greatest of the numbers and this one
-abbrev pub greatest : ℕ → List ℕ → ℕ
-greatest n [] = n
-greatest n (m ∷ ms) = greatest (max n m) ms
-
--- The quality of a row: the greatest of those given, and 15, the worst there is, where none is. Of 3 and 9 it is 9.
-abbrev pub quality_of : List ℕ → ℕ
-quality_of [] = 15
-quality_of (n ∷ ns) = greatest n ns
 
 -- the quality of a row, where this is the worst that was given so far
 abbrev pub worst_of : Option ℕ → List ℕ → ℕ

@@ -9,7 +9,8 @@ ghost use Rattle.pdc_table.specs.Closing.{aged, closing, counter, is_due, stayin
 ghost use Rattle.pdc_table.specs.Content.{instants_closed};
 ghost use Rattle.pdc_table.specs.Placing.{place_of, row_at, with_row, IsGap, IsRowPlace};
 ghost use Rattle.pdc_table.specs.Rising.{Rises, highest_of, instants_of, is_near, is_near_any};
-ghost use Rattle.pdc_table.specs.RowView.{greatest, row_of, row_view};
+ghost use Rattle.pdc_table.specs.RowView.{row_of, row_view};
+ghost use Rattle.pdc_stat.specs.Quality.{greatest};
 ghost use Rattle.pdc_table.specs.Steps.{answer_at, disagreements_in, is_taken};
 ghost use Rattle.pdc_table.specs.Taking.{blank_row, with_frame, without_column, without_stream};
 

@@ -1,6 +1,7 @@
 use Rattle.std.proofs.Common.{rules, ◌+◌, ◌++◌, ◌∙◌, ap, map}
 use Rattle.pdc_table.specs.Closing.{counter}
-use Rattle.pdc_table.specs.RowView.{greatest, row_of, row_view}
+use Rattle.pdc_table.specs.RowView.{row_of, row_view}
+use Rattle.pdc_stat.specs.Quality.{greatest}
 use Rattle.pdc_table.specs.Rising.{instants_of}
 use Rattle.pdc_table.specs.Steps.{disagreements_in}
 use Rattle.pdc_table.proofs.Closes.{front_is, back_is, front_length}

@@ -1,0 +1,97 @@
+-- What a node says of itself, and the frames that it publishes (the own section and the own block: this profile; the frames:
+-- IEEE C37.118.2-2011, 6.3 and 6.4).
+use Rattle.std.specs.Prelude.{ℕ, ◌*◌, ◌/◌, ◌%◌, ◌^◌, ◌+◌, List, [], ◌∷◌, ◌++◌, length, map, replicate}
+use Rattle.std.specs.Int.{w16, w32, to_be_bytes}
+use Rattle.std.specs.List.{flat_map, filter_map}
+use Rattle.pdc_frame.specs.Frame.{Fields, spelling_of}
+use Rattle.pdc_frame.specs.declared.frame.Kind.TheVariants.{DataFrame, Cfg2}
+use Rattle.pdc_cfg.specs.Section.{SectionFields}
+use Rattle.pdc_block.specs.Block.{bytes_of_words}
+use Rattle.pdc_stat.specs.CellView.{BlockView}
+use Rattle.pdc_tag.specs.Tag.{tag_of}
+use Rattle.pdc_life.specs.declared.given.Given.{Given}
+use Rattle.pdc_life.specs.declared.given.Nominal.{Nominal}
+use Rattle.pdc_life.specs.declared.given.Nominal.TheVariants.{Hz50, Hz60}
+use Rattle.pdc_life.specs.Life.{Entry, Row, changes, count_of, pmus_of, popped}
+
+-- The stamp of a layout, as four words: the start number and the change number, each the high word first.
+abbrev pub stamp_words : ℕ → ℕ → List ℕ
+stamp_words start change = start / 2 ^ 16 ∷ start % 2 ^ 16 ∷ change / 2 ^ 16 ∷ change % 2 ^ 16 ∷ []
+
+-- The own block: STAT 0, FREQ 0, DFREQ 0, and the stamp as digital words.
+abbrev pub own_block : ℕ → ℕ → List ℕ
+own_block start change = 0 ∷ 0 ∷ 0 ∷ stamp_words start change
+
+abbrev pub digit : ℕ → ℕ
+digit n = 48 + n % 10
+
+-- STN: "PDC ", the id with five digits, and spaces
+abbrev pub own_name : ℕ → List ℕ
+own_name id =
+    80 ∷ 68 ∷ 67 ∷ 32 ∷ digit (id / 10000) ∷ digit (id / 1000) ∷ digit (id / 100) ∷ digit (id / 10) ∷ digit id ∷ replicate 7 32
+
+-- FNOM: 1 for 50 Hz
+abbrev pub nominal_word : Nominal → ℕ
+nominal_word Hz50 = 1
+nominal_word Hz60 = 0
+
+-- a digital word's masks: its normal status is the word, and each bit is valid
+abbrev pub masks_of : ℕ → List ℕ
+masks_of word = to_be_bytes w16 word ++ to_be_bytes w16 0xFFFF
+
+-- STN, IDCODE, FORMAT, no phasors, no analog values, four digital words with 64 names of spaces, their masks, FNOM, CFGCNT
+abbrev pub own_bytes : Given → ℕ → List ℕ
+own_bytes g change =
+    own_name g.settings.id ++ to_be_bytes w16 g.settings.id ++ to_be_bytes w16 0 ++ to_be_bytes w16 0 ++ to_be_bytes w16 0
+    ++ to_be_bytes w16 4 ++ replicate (64 * 16) 32 ++ flat_map masks_of (stamp_words g.start change)
+    ++ to_be_bytes w16 (nominal_word g.settings.nominal) ++ to_be_bytes w16 (change % 2 ^ 16)
+
+-- the bytes of the data frame's payload: the own block, then the blocks of the row
+abbrev pub row_payload : Row → List ℕ
+row_payload row = bytes_of_words (own_block row.start row.change) ++ flat_map (λ (b : BlockView). bytes_of_words b.words) row.blocks
+
+-- The frame of a row: its instant as a tag, its time quality, the own block and the blocks.
+abbrev pub row_fields : Given → Row → Fields
+row_fields g row = record {
+  kind = DataFrame;
+  version = 2;
+  id = g.settings.id;
+  soc = (tag_of row.instant g.settings.time_base g.settings.rate).0;
+  quality = row.quality;
+  frac = (tag_of row.instant g.settings.time_base g.settings.rate).1;
+  payload = row_payload row;
+}
+
+-- The bytes of a row on the wire.
+abbrev pub wire_of : Given → Row → List ℕ
+wire_of g row = spelling_of (row_fields g row)
+
+-- What a life published: the rows that pops gave, the newest first.
+abbrev pub published : Given → List Entry → List (List ℕ)
+published g E = map (wire_of g) (popped E)
+
+-- The sections of the layout after a life: the own one, and those in force in the order of the settings.
+abbrev pub sections_of : Given → List Entry → List (List ℕ)
+sections_of g E = own_bytes g (changes E) ∷ map (λ (s : SectionFields). s.bytes) (filter_map (count_of E) (pmus_of g))
+
+-- TIME_BASE, NUM_PMU, the sections, DATA_RATE
+abbrev pub layout_payload : Given → List Entry → List ℕ
+layout_payload g E =
+    to_be_bytes w32 g.settings.time_base ++ to_be_bytes w16 (length (sections_of g E)) ++ flat_map (λ bytes. bytes) (sections_of g E)
+    ++ to_be_bytes w16 g.settings.rate
+
+-- The frame of the layout: a CFG-2 frame with time quality 0 and count 0.
+abbrev pub layout_fields : Given → List Entry → ℕ → Fields
+layout_fields g E soc = record {
+  kind = Cfg2;
+  version = 2;
+  id = g.settings.id;
+  soc = soc;
+  quality = 0;
+  frac = 0;
+  payload = layout_payload g E;
+}
+
+-- The bytes of the layout on the wire.
+abbrev pub layout_wire : Given → List Entry → ℕ → List ℕ
+layout_wire g E soc = spelling_of (layout_fields g E soc)

@@ -1,0 +1,6 @@
+pub mod Answer
+pub mod Arrival
+pub mod Laws
+pub mod Layout
+pub mod Life
+pub mod Row

@@ -1,0 +1,37 @@
+//! Laws of every life, by the definitions.
+ghost use Rattle.pdc_life.specs.Laws.{AnswersAreOne, ClosedStayClosed, CountsStay, HeldIsGreatest, NoneOvertakes, RowsRise, TakenIsInTime};
+
+/// In every life the instants of the rows rise strictly, and lie above the floor.
+pub fn rows_rise()
+    ensures { RowsRise }
+{}
+
+/// A PMU that has a count never loses it.
+pub fn counts_stay()
+    ensures { CountsStay }
+{}
+
+/// An arrival that says one thing has one answer.
+pub fn answers_are_one()
+    ensures { AnswersAreOne }
+{}
+
+/// What is taken came in time, and what comes in time is taken.
+pub fn taken_is_in_time()
+    ensures { TakenIsInTime }
+{}
+
+/// Data is taken only for an instant above the floor and above each one that closed.
+pub fn closed_stay_closed()
+    ensures { ClosedStayClosed }
+{}
+
+/// No instant closes while an open one below it is not due.
+pub fn none_overtakes()
+    ensures { NoneOvertakes }
+{}
+
+/// Held is the greatest count that came, with the first section of it.
+pub fn held_is_greatest()
+    ensures { HeldIsGreatest }
+{}

@@ -1,0 +1,20 @@
+//! One life of a node, from a start to a stop: what each step is answered, which rows close, and what is published (this
+//! profile).
+//!
+//! Nothing here keeps a table. A life is the list of its steps, newest first, each with its answer, and every definition of
+//! `specs/` is a filter, a count or a greatest element over that list. So there is one page to read, and one text that
+//! the node, the merger and the world cite.
+//!
+//! To the layers above this crate promises what holds of every life: its rows rise strictly above the floor.
+#![tactic(auto)]
+
+mod given;
+mod laws;
+mod outcome;
+
+pub use given::{Given, Nominal, Pmu, Settings};
+pub use laws::{
+    answers_are_one, closed_stay_closed, counts_stay, held_is_greatest, none_overtakes, rows_rise,
+    taken_is_in_time,
+};
+pub use outcome::{Outcome, Refusal};
