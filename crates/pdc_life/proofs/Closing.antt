@@ -1,35 +1,28 @@
 -- What closes, and what stays closed.
-use Rattle.std.proofs.Common.{◌≡◌, ℕ, ◌<◌, ◌≤◌, Bool, true, false, List, [], ◌∷◌, filter, max, cond, not, refl, arith, rules, ◌||◌, ◌&&◌}
+use Rattle.std.proofs.Common.{◌≡◌, ℕ, ◌+◌, ◌<◌, ◌≤◌, Bool, true, false, List, [], ◌∷◌, filter, cond, not, refl, arith, rules, ◌||◌, ◌&&◌}
 use Rattle.std.specs.Prelude.{nat_le}
 use Rattle.std.specs.List.{AllByRecursion, list_all}
 use Rattle.std.proofs.lemmas.Bool.{false≢true}
-use Rattle.pdc_stat.specs.Quality.{greatest}
+use Rattle.pdc_row.specs.Quality.{greatest}
+use Rattle.pdc_row.proofs.Rising.{below_greatest, below_higher, greatest-ge}
 use Rattle.pdc_life.specs.declared.given.Given.{Given}
 use Rattle.pdc_life.specs.declared.outcome.Outcome.TheVariants.{Taken}
-use Rattle.pdc_life.specs.Life.{Entry, instants_of, last_of, open_instants}
+use Rattle.pdc_row.specs.RowView.{row_instants}
+use Rattle.pdc_life.specs.Life.{Entry, last_of, open_instants}
 use Rattle.pdc_life.specs.Row.{closing, is_due}
 use Rattle.pdc_life.specs.Answer.{data_answer}
-use Rattle.pdc_life.specs.Laws.{AreBelow, IsInTime, closed}
+use Rattle.pdc_row.specs.Rising.{AreBelow}
+use Rattle.pdc_life.specs.Laws.{IsInTime, closed}
 use Rattle.pdc_life.proofs.InTime.{in_time}
 use Rattle.pdc_life.proofs.Rows.{last_is}
 
-greatest_above : (low : ℕ) (ns : List ℕ) → low ≤ greatest low ns
-greatest_above low [] = omega arith
-greatest_above low (n ∷ ns) = let h : max low n ≤ greatest (max low n) ns = greatest_above (max low n) ns in omega arith
-
-below_greatest : (low top : ℕ) (ns : List ℕ) → greatest low ns < top → AreBelow top ns
-below_greatest low top [] h = tt
-below_greatest low top (n ∷ ns) h =
-    let k : max low n ≤ greatest (max low n) ns = greatest_above (max low n) ns in
-    (omega arith, below_greatest (max low n) top ns h)
-
-pub closed_stay_closed : (g : Given) (E : List Entry) (p i : ℕ) (payload : List ℕ) → data_answer g E p i payload ≡ Taken → (g.floor < i) × AreBelow i (instants_of (closed E))
+pub closed_stay_closed : (g : Given) (E : List Entry) (p i : ℕ) (payload : List ℕ) → data_answer g E p i payload ≡ Taken → (g.floor < i) × AreBelow i (row_instants (closed E))
 closed_stay_closed g E p i payload h =
     let t : IsInTime g E p i payload = in_time g E p i payload h in
-    let e : last_of g E ≡ greatest g.floor (instants_of (closed E)) = last_is g E in
-    let k : g.floor ≤ greatest g.floor (instants_of (closed E)) = greatest_above g.floor (instants_of (closed E)) in
-    let l : greatest g.floor (instants_of (closed E)) < i = omega (arith, t.later) in
-    (omega arith, below_greatest g.floor i (instants_of (closed E)) l)
+    let e : last_of g E ≡ greatest g.floor (row_instants (closed E)) = last_is g E in
+    let k : g.floor ≤ greatest g.floor (row_instants (closed E)) = greatest-ge g.floor (row_instants (closed E)) in
+    let l : greatest g.floor (row_instants (closed E)) < i = omega (arith, t.later) in
+    (omega arith, below_higher (greatest g.floor (row_instants (closed E)) + 1) i (row_instants (closed E)) (omega (arith, l)) (below_greatest g.floor (row_instants (closed E))))
 
 both : (a b : Bool) → (a && b) ≡ true → (a ≡ true) × (b ≡ true)
 both true b h = (refl, h)

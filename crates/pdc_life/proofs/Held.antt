@@ -4,7 +4,7 @@ use Rattle.std.specs.List.{AllByRecursion}
 use Rattle.std.proofs.lemmas.Bool.{cases_lt}
 use Rattle.pdc_cfg.specs.Section.{SectionFields}
 use Rattle.pdc_life.specs.Arrival.{Unread, Data, Configuration}
-use Rattle.pdc_life.specs.Life.{Entry, Arrive, Tick, Pop, greater, held_of}
+use Rattle.pdc_life.specs.Life.{Entry, Arrive, Tick, Pop, greater, held_section}
 use Rattle.pdc_life.specs.Laws.{IsHeld, arrived}
 
 all_lower : (s t : SectionFields) (newer older : List SectionFields) → s.count < t.count → AllByRecursion (λ (u : SectionFields). u.count ≤ s.count) newer → AllByRecursion (λ (u : SectionFields). u.count < s.count) older → AllByRecursion (λ (u : SectionFields). u.count < t.count) (newer ++ s ∷ older)
@@ -37,9 +37,9 @@ held_or : (b : Bool) (sections : List SectionFields) (held : Option SectionField
 held_or true sections held s h = held_after sections held s h
 held_or false sections held s h = h
 
-pub held_is_greatest : (E : List Entry) (p : ℕ) → IsHeld (arrived E p) (held_of E p)
+pub held_is_greatest : (E : List Entry) (p : ℕ) → IsHeld (arrived E p) (held_section E p)
 held_is_greatest [] p = refl
-held_is_greatest (Arrive q bytes (Configuration s) answer ∷ E) p = held_or (eqb q p) (arrived E p) (held_of E p) s (held_is_greatest E p)
+held_is_greatest (Arrive q bytes (Configuration s) answer ∷ E) p = held_or (eqb q p) (arrived E p) (held_section E p) s (held_is_greatest E p)
 held_is_greatest (Arrive q bytes (Unread refusal) answer ∷ E) p = held_is_greatest E p
 held_is_greatest (Arrive q bytes (Data i quality payload) answer ∷ E) p = held_is_greatest E p
 held_is_greatest (Tick now rows adopted used_up ∷ E) p = held_is_greatest E p

@@ -6,14 +6,15 @@ use Rattle.std.specs.Cmp.Lexicographic.{pointwise}
 use Rattle.std.proofs.lemmas.Bool.{false≢true}
 use Rattle.pdc_cfg.specs.Shape.{word_count_of}
 use Rattle.pdc_cfg.specs.Section.{SectionFields}
-use Rattle.pdc_stat.specs.CellView.{CellView}
+use Rattle.pdc_row.specs.CellView.{CellView}
 use Rattle.pdc_life.specs.declared.given.Given.{Given}
 use Rattle.pdc_life.specs.declared.outcome.Outcome.{Outcome}
 use Rattle.pdc_life.specs.declared.outcome.Outcome.TheVariants.{Taken, Refused}
 use Rattle.pdc_life.specs.declared.outcome.Refusal.{Refusal}
 use Rattle.pdc_life.specs.declared.outcome.Refusal.TheVariants.{WrongLength, Late, Ahead, OutOfWindow, Duplicate, Conflict}
-use Rattle.pdc_life.specs.Life.{Entry, Take, cell_in, count_of, held_instants, is_taken, last_of, now_of, take_of, words_in}
-use Rattle.pdc_life.specs.Answer.{answer_again, data_answer, first_cause, is_near, take_answer}
+use Rattle.pdc_life.specs.Life.{Entry, Take, cell_in, section_in_force, held_instants, is_taken, last_of, now_of, take_of, words_in}
+use Rattle.pdc_row.specs.Rising.{is_near}
+use Rattle.pdc_life.specs.Answer.{answer_again, data_answer, first_cause, take_answer}
 use Rattle.pdc_life.specs.Laws.{IsInTime}
 
 peel : (b : Bool) (r : Refusal) (rest : Outcome) → cond b (Refused r) rest ≡ Taken → (b ≡ false) × (rest ≡ Taken)
@@ -65,8 +66,8 @@ is_not_ahead top i h = search rules
 
 pub in_time : (g : Given) (E : List Entry) (p i : ℕ) (payload : List ℕ) → data_answer g E p i payload ≡ Taken → IsInTime g E p i payload
 in_time g E p i payload h =
-    let f : Facts (count_of E p) payload (nat_le i (last_of g E)) (nat_lt (now_of g E + g.settings.ahead) i) (not (list_all (is_near g.settings.window i) (held_instants g E))) (take_answer p (take_of E p i) payload)
-    = facts (count_of E p) payload (nat_le i (last_of g E)) (nat_lt (now_of g E + g.settings.ahead) i) (not (list_all (is_near g.settings.window i) (held_instants g E))) (take_answer p (take_of E p i) payload) h in
+    let f : Facts (section_in_force E p) payload (nat_le i (last_of g E)) (nat_lt (now_of g E + g.settings.ahead) i) (not (list_all (is_near g.settings.window i) (held_instants g E))) (take_answer p (take_of E p i) payload)
+    = facts (section_in_force E p) payload (nat_le i (last_of g E)) (nat_lt (now_of g E + g.settings.ahead) i) (not (list_all (is_near g.settings.window i) (held_instants g E))) (take_answer p (take_of E p i) payload) h in
     record {
       section = f.section;
       in_force = f.is;

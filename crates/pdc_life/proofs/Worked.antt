@@ -5,7 +5,7 @@ use Rattle.std.specs.Prelude.{◌≡◌, ℕ, ◌+◌, List, [], ◌∷◌, leng
 use Rattle.std.proofs.Common.{arith}
 use Rattle.pdc_cfg.specs.declared.shape.Shape.{Shape}
 use Rattle.pdc_cfg.specs.Section.{SectionFields}
-use Rattle.pdc_stat.specs.CellView.{BlockView}
+use Rattle.pdc_row.specs.CellView.{BlockView}
 use Rattle.pdc_frame.specs.CheckWord.{check_word_of}
 use Rattle.pdc_tag.specs.Nearest.{nearest_of}
 use Rattle.pdc_tag.specs.Tag.{tag_of}
@@ -15,7 +15,8 @@ use Rattle.pdc_life.specs.declared.outcome.Outcome.{Outcome}
 use Rattle.pdc_life.specs.declared.outcome.Outcome.TheVariants.{Taken, Candidate, Known, Refused}
 use Rattle.pdc_life.specs.declared.outcome.Refusal.TheVariants.{StaleCount, CountConflict, NoConfig, Late, Ahead, OutOfWindow, Duplicate, Conflict}
 use Rattle.pdc_life.specs.Arrival.{Data, Configuration}
-use Rattle.pdc_life.specs.Life.{Entry, Arrive, Row, changes, open_instants, popped, words_in}
+use Rattle.pdc_row.specs.RowView.{RowView}
+use Rattle.pdc_life.specs.Life.{Entry, Arrive, changes, open_instants, popped, words_in}
 use Rattle.pdc_life.specs.Answer.{Step, Arrives, Ticks, Pops, life_from}
 use Rattle.pdc_life.specs.Layout.{layout_wire, published}
 
@@ -192,7 +193,7 @@ out_of_order : List Step
 out_of_order =
     data_of 0 2 body_3 ∷ data_of 1 2 body_4 ∷ data_of 0 1 body_3 ∷ data_of 1 1 body_4 ∷ Ticks 57478860002 ∷ Pops ∷ Pops ∷ data_of 0 1 body_3 ∷ []
 
-closed_in_order : map (λ (r : Row). r.instant) (popped (after 64 out_of_order)) ≡ 57478860002 ∷ 57478860001 ∷ []
+closed_in_order : map (λ (r : RowView). r.instant) (popped (after 64 out_of_order)) ≡ 57478860002 ∷ 57478860001 ∷ []
 unfolding out_of_order
 closed_in_order = refl
 
@@ -224,12 +225,12 @@ the_instant_stays_open : open_instants (given 64) (after 64 raised) ≡ 57478860
 unfolding raised
 the_instant_stays_open = refl
 
-closed_without_a_block : map (λ (r : Row). r.quality) (popped (life_from (given 64) (after 64 raised) (Ticks 57478860002 ∷ Pops ∷ []))) ≡ 15 ∷ []
+closed_without_a_block : map (λ (r : RowView). r.quality) (popped (life_from (given 64) (after 64 raised) (Ticks 57478860002 ∷ Pops ∷ []))) ≡ 15 ∷ []
 unfolding raised
 closed_without_a_block = refl
 
 -- The stamp of the row is that of its closing: change 2.
-the_stamp_of_its_closing : map (λ (r : Row). r.change) (popped (life_from (given 64) (after 64 raised) (Ticks 57478860002 ∷ Pops ∷ []))) ≡ 2 ∷ []
+the_stamp_of_its_closing : map (λ (r : RowView). r.change) (popped (life_from (given 64) (after 64 raised) (Ticks 57478860002 ∷ Pops ∷ []))) ≡ 2 ∷ []
 unfolding raised
 the_stamp_of_its_closing = refl
 
@@ -241,7 +242,7 @@ absent_words_are_taken : answers (after 64 absent_words) ≡ Taken ∷ Candidate
 unfolding absent_words
 absent_words_are_taken = refl
 
-absent_words_count_as_absent : map (λ (r : Row). r.quality) (popped (after 64 absent_words)) ≡ 15 ∷ []
+absent_words_count_as_absent : map (λ (r : RowView). r.quality) (popped (after 64 absent_words)) ≡ 15 ∷ []
 unfolding absent_words
 absent_words_count_as_absent = refl
 
@@ -276,8 +277,8 @@ waits_for_the_third : popped third_comes_later ≡ []
 unfolding three third_comes_later
 waits_for_the_third = refl
 
-blocks_of : List Row → List (List (List ℕ))
-blocks_of rows = map (λ (r : Row). map (λ (b : BlockView). b.words) r.blocks) rows
+blocks_of : List RowView → List (List (List ℕ))
+blocks_of rows = map (λ (r : RowView). map (λ (b : BlockView). b.words) r.blocks) rows
 
 closes_with_the_third : blocks_of (popped (life_from three third_comes_later (data_of 2 1 body_absent ∷ Ticks 57478860002 ∷ Pops ∷ []))) ≡ (words_in body_3 ∷ words_in body_4 ∷ words_in body_absent ∷ []) ∷ []
 unfolding three third_comes_later blocks_of

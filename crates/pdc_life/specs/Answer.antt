@@ -4,19 +4,17 @@ use Rattle.std.specs.List.{list_all, list_any, slice_get}
 use Rattle.std.specs.Cmp.Lexicographic.{pointwise}
 use Rattle.pdc_cfg.specs.Shape.{word_count_of}
 use Rattle.pdc_cfg.specs.Section.{SectionFields}
-use Rattle.pdc_stat.specs.CellView.{CellView}
+use Rattle.pdc_row.specs.CellView.{CellView}
 use Rattle.pdc_life.specs.declared.given.Given.{Given}
 use Rattle.pdc_life.specs.declared.given.Pmu.{Pmu}
 use Rattle.pdc_life.specs.declared.outcome.Outcome.{Outcome}
 use Rattle.pdc_life.specs.declared.outcome.Outcome.TheVariants.{Taken, Candidate, Known, Refused}
 use Rattle.pdc_life.specs.declared.outcome.Refusal.TheVariants.{StaleCount, CountConflict, NoConfig, WrongLength, Late, Ahead, OutOfWindow, Duplicate, Conflict}
 use Rattle.pdc_life.specs.Arrival.{Arrival, Unread, Data, Configuration, Reads}
-use Rattle.pdc_life.specs.Life.{Entry, Arrive, Tick, Pop, Row, Take, cell_in, changes, count_of, held_instants, held_of, is_newer, last_of, now_of, pmus_of, take_of, waiting, words_in}
+use Rattle.pdc_row.specs.RowView.{RowView}
+use Rattle.pdc_life.specs.Life.{Entry, Arrive, Tick, Pop, Take, cell_in, changes, section_in_force, held_instants, held_section, is_newer, last_of, now_of, pmus_of, take_of, waiting, words_in}
+use Rattle.pdc_row.specs.Rising.{is_near}
 use Rattle.pdc_life.specs.Row.{rows_of}
-
--- the two instants are less than the window apart
-abbrev pub is_near : ℕ → ℕ → ℕ → Bool
-is_near window i j = nat_lt i (j + window) && nat_lt j (i + window)
 
 -- data of which the same was taken already is a duplicate; other data conflicts
 abbrev pub answer_again : Option CellView → List ℕ → Outcome
@@ -36,7 +34,7 @@ first_cause (Some s) payload late ahead far other =
 
 abbrev pub data_answer : Given → List Entry → ℕ → ℕ → List ℕ → Outcome
 data_answer g E p i payload =
-    first_cause (count_of E p) payload (nat_le i (last_of g E)) (nat_lt (now_of g E + g.settings.ahead) i)
+    first_cause (section_in_force E p) payload (nat_le i (last_of g E)) (nat_lt (now_of g E + g.settings.ahead) i)
     (not (list_all (is_near g.settings.window i) (held_instants g E))) (take_answer p (take_of E p i) payload)
 
 -- A section is stale below the held count, new above it, and at the same count known where it has the same bytes.
@@ -51,11 +49,11 @@ configuration_answer (Some held) s =
 abbrev pub arrival_answer : Given → List Entry → ℕ → Arrival → Outcome
 arrival_answer g E p (Unread refusal) = Refused refusal
 arrival_answer g E p (Data i quality payload) = data_answer g E p i payload
-arrival_answer g E p (Configuration s) = configuration_answer (held_of E p) s
+arrival_answer g E p (Configuration s) = configuration_answer (held_section E p) s
 
 -- some PMU holds a count that is newer than the one in force
 abbrev pub has_candidate : Given → List Entry → Bool
-has_candidate g E = list_any (λ p. is_newer (held_of E p) (count_of E p)) (pmus_of g)
+has_candidate g E = list_any (λ p. is_newer (held_section E p) (section_in_force E p)) (pmus_of g)
 
 -- a change number is left
 abbrev pub has_change : List Entry → Bool
@@ -69,7 +67,7 @@ abbrev pub is_used_up : Given → List Entry → Bool
 is_used_up g E = not (has_change E) && has_candidate g E
 
 -- the row that the pop after E gives: the first that waits
-abbrev pub pop_answer : List Entry → Option Row
+abbrev pub pop_answer : List Entry → Option RowView
 pop_answer E = slice_get (waiting E) 0
 
 abbrev pub pmu_at : Given → ℕ → Pmu

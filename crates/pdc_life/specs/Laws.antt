@@ -6,29 +6,26 @@ use Rattle.pdc_cfg.specs.Section.{SectionFields}
 use Rattle.pdc_life.specs.declared.given.Given.{Given}
 use Rattle.pdc_life.specs.declared.outcome.Outcome.{Outcome}
 use Rattle.pdc_life.specs.Arrival.{Arrival, Configuration}
-use Rattle.pdc_life.specs.Life.{Entry, Arrive, Tick, Row, count_of, held_instants, held_of, instants_of, last_of, now_of, open_instants, take_of}
+use Rattle.pdc_row.specs.RowView.{RowView, row_instants}
+use Rattle.pdc_life.specs.Life.{Entry, Arrive, Tick, section_in_force, held_instants, held_section, last_of, now_of, open_instants, take_of}
+use Rattle.pdc_row.specs.Rising.{AreBelow, Rises, is_near}
 use Rattle.pdc_life.specs.Row.{closing, is_due}
-use Rattle.pdc_life.specs.Answer.{IsLife, data_answer, is_near}
+use Rattle.pdc_life.specs.Answer.{IsLife, data_answer}
 use Rattle.pdc_life.specs.declared.outcome.Outcome.TheVariants.{Taken}
 
--- the numbers rise strictly, and are above this one
-abbrev pub Rises : ℕ → List ℕ → Type 0
-Rises low [] = Unit {0}
-Rises low (n ∷ ns) = (low < n) × Rises n ns
-
 -- the rows that closed, the first to close first
-abbrev pub closed : List Entry → List Row
+abbrev pub closed : List Entry → List RowView
 closed [] = []
 closed (Tick now rows adopted used_up ∷ E) = closed E ++ rows
 closed (e ∷ E) = closed E
 
 -- In every life the instants of the rows rise strictly, and lie above the floor.
 abbrev pub RowsRise : Type 0
-RowsRise = (g : Given) (E : List Entry) → IsLife g E → Rises g.floor (instants_of (closed E))
+RowsRise = (g : Given) (E : List Entry) → IsLife g E → Rises g.floor (row_instants (closed E))
 
 -- A PMU that has a count never loses it.
 abbrev pub CountsStay : Type 0
-CountsStay = (E : List Entry) (e : Entry) (p : ℕ) → IsTrue (is_some (count_of E p)) → IsTrue (is_some (count_of (e ∷ E) p))
+CountsStay = (E : List Entry) (e : Entry) (p : ℕ) → IsTrue (is_some (section_in_force E p)) → IsTrue (is_some (section_in_force (e ∷ E) p))
 
 -- An arrival that says one thing has one answer.
 abbrev pub AnswersAreOne : Type 0
@@ -40,7 +37,7 @@ AnswersAreOne =
 -- last one closed, at most ahead above now, and near every instant held, and nothing was taken of the PMU for it.
 pub record IsInTime (g : Given) (E : List Entry) (p i : ℕ) (payload : List ℕ) : Type 0 where
   pub section : SectionFields
-  pub in_force : count_of E p ≡ Some section
+  pub in_force : section_in_force E p ≡ Some section
   pub size : length payload ≡ 2 * word_count_of section.shape
   pub later : last_of g E < i
   pub not_ahead : i ≤ now_of g E + g.settings.ahead
@@ -53,16 +50,11 @@ TakenIsInTime =
     (g : Given) (E : List Entry) (p i : ℕ) (payload : List ℕ) →
     (data_answer g E p i payload ≡ Taken) ↔ IsInTime g E p i payload
 
--- each number is below this one
-abbrev pub AreBelow : ℕ → List ℕ → Type 0
-AreBelow top [] = Unit {0}
-AreBelow top (n ∷ ns) = (n < top) × AreBelow top ns
-
 -- An instant that closed never opens again: data is taken only for an instant above the floor and each one that closed.
 abbrev pub ClosedStayClosed : Type 0
 ClosedStayClosed =
     (g : Given) (E : List Entry) (p i : ℕ) (payload : List ℕ) →
-    data_answer g E p i payload ≡ Taken → (g.floor < i) × AreBelow i (instants_of (closed E))
+    data_answer g E p i payload ≡ Taken → (g.floor < i) × AreBelow i (row_instants (closed E))
 
 -- No instant closes while an open one below it is not due.
 abbrev pub NoneOvertakes : Type 0
@@ -90,4 +82,4 @@ IsHeld sections None = sections ≡ []
 IsHeld sections (Some s) = IsFirstGreatest sections s
 
 abbrev pub HeldIsGreatest : Type 0
-HeldIsGreatest = (E : List Entry) (p : ℕ) → IsHeld (arrived E p) (held_of E p)
+HeldIsGreatest = (E : List Entry) (p : ℕ) → IsHeld (arrived E p) (held_section E p)

@@ -7,12 +7,13 @@ use Rattle.pdc_frame.specs.Frame.{Fields, spelling_of}
 use Rattle.pdc_frame.specs.declared.frame.Kind.TheVariants.{DataFrame, Cfg2}
 use Rattle.pdc_cfg.specs.Section.{SectionFields}
 use Rattle.pdc_block.specs.Block.{bytes_of_words}
-use Rattle.pdc_stat.specs.CellView.{BlockView}
+use Rattle.pdc_row.specs.CellView.{BlockView}
 use Rattle.pdc_tag.specs.Tag.{tag_of}
 use Rattle.pdc_life.specs.declared.given.Given.{Given}
 use Rattle.pdc_life.specs.declared.given.Nominal.{Nominal}
 use Rattle.pdc_life.specs.declared.given.Nominal.TheVariants.{Hz50, Hz60}
-use Rattle.pdc_life.specs.Life.{Entry, Row, changes, count_of, pmus_of, popped}
+use Rattle.pdc_row.specs.RowView.{RowView}
+use Rattle.pdc_life.specs.Life.{Entry, changes, section_in_force, pmus_of, popped}
 
 -- The stamp of a layout, as four words: the start number and the change number, each the high word first.
 abbrev pub stamp_words : ℕ → ℕ → List ℕ
@@ -47,11 +48,11 @@ own_bytes g change =
     ++ to_be_bytes w16 (nominal_word g.settings.nominal) ++ to_be_bytes w16 (change % 2 ^ 16)
 
 -- the bytes of the data frame's payload: the own block, then the blocks of the row
-abbrev pub row_payload : Row → List ℕ
+abbrev pub row_payload : RowView → List ℕ
 row_payload row = bytes_of_words (own_block row.start row.change) ++ flat_map (λ (b : BlockView). bytes_of_words b.words) row.blocks
 
 -- The frame of a row: its instant as a tag, its time quality, the own block and the blocks.
-abbrev pub row_fields : Given → Row → Fields
+abbrev pub row_fields : Given → RowView → Fields
 row_fields g row = record {
   kind = DataFrame;
   version = 2;
@@ -63,7 +64,7 @@ row_fields g row = record {
 }
 
 -- The bytes of a row on the wire.
-abbrev pub wire_of : Given → Row → List ℕ
+abbrev pub wire_of : Given → RowView → List ℕ
 wire_of g row = spelling_of (row_fields g row)
 
 -- What a life published: the rows that pops gave, the newest first.
@@ -72,7 +73,7 @@ published g E = map (wire_of g) (popped E)
 
 -- The sections of the layout after a life: the own one, and those in force in the order of the settings.
 abbrev pub sections_of : Given → List Entry → List (List ℕ)
-sections_of g E = own_bytes g (changes E) ∷ map (λ (s : SectionFields). s.bytes) (filter_map (count_of E) (pmus_of g))
+sections_of g E = own_bytes g (changes E) ∷ map (λ (s : SectionFields). s.bytes) (filter_map (section_in_force E) (pmus_of g))
 
 -- TIME_BASE, NUM_PMU, the sections, DATA_RATE
 abbrev pub layout_payload : Given → List Entry → List ℕ

@@ -5,30 +5,23 @@
 use Rattle.std.specs.Prelude.{ℕ, ◌+◌, ◌*◌, ◌==◌, Bool, true, false, ◌&&◌, List, [], ◌∷◌, ◌++◌, length, map, filter, find, drop, nat_lt, if◌then◌else◌, Option, None, Some, option_map}
 use Rattle.std.specs.List.{list_any, range_with_len}
 use Rattle.pdc_cfg.specs.Section.{SectionFields}
-use Rattle.pdc_stat.specs.CellView.{BlockView, CellView}
-use Rattle.pdc_stat.specs.Quality.{greatest}
+use Rattle.pdc_row.specs.CellView.{CellView}
+use Rattle.pdc_row.specs.Quality.{greatest}
+use Rattle.pdc_row.specs.Rising.{rising}
+use Rattle.pdc_row.specs.RowView.{RowView, row_instants}
 use Rattle.pdc_life.specs.declared.given.Given.{Given}
 use Rattle.pdc_life.specs.declared.outcome.Outcome.{Outcome}
 use Rattle.pdc_life.specs.declared.outcome.Outcome.TheVariants.{Taken}
 use Rattle.pdc_life.specs.Arrival.{Arrival, Data, Configuration}
-
--- A row that closed: the stamp under which it did, its instant, its time quality, and a block for each PMU that had a count
--- in force, in the order of the settings.
-pub record Row : Type 0 where
-  pub start : ℕ
-  pub change : ℕ
-  pub instant : ℕ
-  pub quality : ℕ
-  pub blocks : List BlockView
 
 -- one step of a life, with its answer
 pub data Entry : Type 0 where
   -- bytes arrived for a PMU, its number from 0, and this is what they said
   Arrive : (p : ℕ) (bytes : List ℕ) (arrival : Arrival) (answer : Outcome) → Entry
   -- a tick: the instant that is now, the rows that it closed, whether it adopted, and whether the change numbers were used up
-  Tick : (now : ℕ) (rows : List Row) (adopted used_up : Bool) → Entry
+  Tick : (now : ℕ) (rows : List RowView) (adopted used_up : Bool) → Entry
   -- a row was taken out, if one waited
-  Pop : (row : Option Row) → Entry
+  Pop : (row : Option RowView) → Entry
 
 -- data that was taken of a stream, and the cells that it gave: each the number of its column and what it holds. The stream of
 -- a PMU gives one cell, of its own column.
@@ -43,13 +36,10 @@ now_of g [] = g.opening
 now_of g (Tick now rows adopted used_up ∷ E) = now
 now_of g (e ∷ E) = now_of g E
 
-abbrev pub instants_of : List Row → List ℕ
-instants_of rows = map (λ (r : Row). r.instant) rows
-
 -- the greatest instant closed, else the floor
 abbrev pub last_of : Given → List Entry → ℕ
 last_of g [] = g.floor
-last_of g (Tick now rows adopted used_up ∷ E) = greatest (last_of g E) (instants_of rows)
+last_of g (Tick now rows adopted used_up ∷ E) = greatest (last_of g E) (row_instants rows)
 last_of g (e ∷ E) = last_of g E
 
 -- Counts of configurations. Of two sections the one of the greater count; of two with one count the first to come.
@@ -58,16 +48,16 @@ greater None s = Some s
 greater (Some held) s = if nat_lt held.count s.count then Some s else Some held
 
 -- The section held of a PMU: of the greatest count that arrived in the life, the first of that count.
-abbrev pub held_of : List Entry → ℕ → Option SectionFields
-held_of [] p = None
-held_of (Arrive q bytes (Configuration s) answer ∷ E) p = if q == p then greater (held_of E p) s else held_of E p
-held_of (e ∷ E) p = held_of E p
+abbrev pub held_section : List Entry → ℕ → Option SectionFields
+held_section [] p = None
+held_section (Arrive q bytes (Configuration s) answer ∷ E) p = if q == p then greater (held_section E p) s else held_section E p
+held_section (e ∷ E) p = held_section E p
 
 -- The section in force: what was held before the last tick that adopted.
-abbrev pub count_of : List Entry → ℕ → Option SectionFields
-count_of [] p = None
-count_of (Tick now rows adopted used_up ∷ E) p = if adopted then held_of E p else count_of E p
-count_of (e ∷ E) p = count_of E p
+abbrev pub section_in_force : List Entry → ℕ → Option SectionFields
+section_in_force [] p = None
+section_in_force (Tick now rows adopted used_up ∷ E) p = if adopted then held_section E p else section_in_force E p
+section_in_force (e ∷ E) p = section_in_force E p
 
 -- The change number: how many ticks of the life adopted.
 abbrev pub changes : List Entry → ℕ
@@ -100,7 +90,7 @@ cells_of (Some s) p quality payload =
 -- what a step took after E: the blocks are those of the section that was in force then
 abbrev pub take_at : List Entry → Entry → List Take
 take_at E (Arrive p bytes (Data i quality payload) answer) =
-    if is_taken answer then record { stream = p; instant = i; cells = cells_of (count_of E p) p quality payload } ∷ [] else []
+    if is_taken answer then record { stream = p; instant = i; cells = cells_of (section_in_force E p) p quality payload } ∷ [] else []
 take_at E e = []
 
 -- all that was taken, the newest first
@@ -110,7 +100,7 @@ takes (e ∷ E) = take_at E e ++ takes E
 
 -- the step after E is a tick at which the count in force of a PMU changed
 abbrev pub is_adoption_of : List Entry → ℕ → Entry → Bool
-is_adoption_of E p (Tick now rows adopted used_up) = adopted && is_newer (held_of E p) (count_of E p)
+is_adoption_of E p (Tick now rows adopted used_up) = adopted && is_newer (held_section E p) (section_in_force E p)
 is_adoption_of E p e = false
 
 -- what was taken since then
@@ -148,22 +138,12 @@ abbrev pub age_of : List Entry → ℕ → ℕ
 age_of [] i = 0
 age_of (e ∷ E) i = if was_taken E i then age_of E i + ticks_in e else 0
 
--- a number in its place among rising ones
-abbrev pub place : ℕ → List ℕ → List ℕ
-place x [] = x ∷ []
-place x (y ∷ ys) = if nat_lt x y then x ∷ y ∷ ys else (if y == x then y ∷ ys else y ∷ place x ys)
-
--- the numbers, each once, in rising order
-abbrev pub rising : List ℕ → List ℕ
-rising [] = []
-rising (x ∷ xs) = place x (rising xs)
-
 -- The open instants: those taken that are above the last one closed, in rising order.
 abbrev pub open_instants : Given → List Entry → List ℕ
 open_instants g E = rising (filter (λ i. nat_lt (last_of g E) i) (map (λ (t : Take). t.instant) (takes E)))
 
 -- the rows that closed and were not popped, the first to close first
-abbrev pub waiting : List Entry → List Row
+abbrev pub waiting : List Entry → List RowView
 waiting [] = []
 waiting (Tick now rows adopted used_up ∷ E) = waiting E ++ rows
 waiting (Pop row ∷ E) = drop 1 (waiting E)
@@ -171,10 +151,10 @@ waiting (e ∷ E) = waiting E
 
 -- The held instants: the open ones, and those of rows that wait.
 abbrev pub held_instants : Given → List Entry → List ℕ
-held_instants g E = open_instants g E ++ instants_of (waiting E)
+held_instants g E = open_instants g E ++ row_instants (waiting E)
 
 -- the rows that pops gave, the newest first
-abbrev pub popped : List Entry → List Row
+abbrev pub popped : List Entry → List RowView
 popped [] = []
 popped (Pop (Some row) ∷ E) = row ∷ popped E
 popped (e ∷ E) = popped E
@@ -185,8 +165,8 @@ pmus_of g = range_with_len 0 (length g.settings.pmus.items)
 
 -- how many steps of the life were answered so
 abbrev pub is_answered : (Outcome → Bool) → Entry → Bool
-is_answered is (Arrive p bytes arrival answer) = is answer
-is_answered is _ = false
+is_answered matches (Arrive p bytes arrival answer) = matches answer
+is_answered matches _ = false
 
 abbrev pub count_answers : (Outcome → Bool) → List Entry → ℕ
-count_answers is E = length (filter (is_answered is) E)
+count_answers matches E = length (filter (is_answered matches) E)

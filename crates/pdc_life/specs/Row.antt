@@ -1,17 +1,17 @@
 -- When an open instant closes, and the row that it closes to (this profile).
-use Rattle.std.specs.Prelude.{ℕ, ◌+◌, Bool, ◌||◌, not, List, map, filter, nat_le, Option, None, Some, is_none, is_some}
+use Rattle.std.specs.Prelude.{ℕ, ◌+◌, Bool, ◌||◌, not, List, map, filter, nat_le, Option, None, Some, is_none, is_some, option_map}
 use Rattle.std.specs.List.{list_all, filter_map}
 use Rattle.pdc_cfg.specs.Section.{SectionFields}
-use Rattle.pdc_stat.specs.CellView.{BlockView, CellView}
-use Rattle.pdc_stat.specs.Chosen.{block_or_absent, present_of}
-use Rattle.pdc_stat.specs.Quality.{quality_of, time_quality_of}
-use Rattle.std.specs.Prelude.{option_map}
+use Rattle.pdc_row.specs.CellView.{BlockView, CellView}
+use Rattle.pdc_row.specs.Chosen.{block_or_absent, present_of}
+use Rattle.pdc_row.specs.Quality.{quality_of, time_quality_of}
 use Rattle.pdc_life.specs.declared.given.Given.{Given}
-use Rattle.pdc_life.specs.Life.{Entry, Row, age_of, cell_of, changes, count_of, open_instants, pmus_of, take_of}
+use Rattle.pdc_row.specs.RowView.{RowView}
+use Rattle.pdc_life.specs.Life.{Entry, age_of, cell_of, changes, section_in_force, open_instants, pmus_of, take_of}
 
 -- the PMU has no count in force, or its data for the instant was taken since it has
 abbrev pub has_come : List Entry → ℕ → ℕ → Bool
-has_come E i p = is_none (count_of E p) || is_some (take_of E p i)
+has_come E i p = is_none (section_in_force E p) || is_some (take_of E p i)
 
 -- At the tick after E an instant is due where the data of every PMU with a count has come, or its age has reached the wait,
 -- this tick counted.
@@ -33,15 +33,15 @@ quality_in None cell = None
 quality_in (Some s) cell = option_map time_quality_of (present_of cell)
 
 -- The row of an instant, under the counts and the stamp before the tick.
-abbrev pub row_of : Given → List Entry → ℕ → Row
+abbrev pub row_of : Given → List Entry → ℕ → RowView
 row_of g E i = record {
   start = g.start;
   change = changes E;
   instant = i;
-  quality = quality_of (filter_map (λ p. quality_in (count_of E p) (cell_of E p i)) (pmus_of g));
-  blocks = filter_map (λ p. block_in (count_of E p) (cell_of E p i)) (pmus_of g);
+  quality = quality_of (filter_map (λ p. quality_in (section_in_force E p) (cell_of E p i)) (pmus_of g));
+  blocks = filter_map (λ p. block_in (section_in_force E p) (cell_of E p i)) (pmus_of g);
 }
 
 -- The rows that close at the tick after E, in rising order.
-abbrev pub rows_of : Given → List Entry → List Row
+abbrev pub rows_of : Given → List Entry → List RowView
 rows_of g E = map (row_of g E) (closing g E)

@@ -6,10 +6,11 @@ use Rattle.std.proofs.lemmas.List.{map-append}
 use Rattle.std.proofs.lemmas.Bool.{false≢true, leb-false}
 use Rattle.pdc_block.specs.declared.block.Block.{Block}
 use Rattle.pdc_table.specs.Closing.{aged, staying}
-use Rattle.pdc_table.specs.Content.{Content, instants_closed, lane_of}
-use Rattle.pdc_table.specs.Rising.{Rises, AreBelow, instants_of}
-use Rattle.pdc_table.specs.RowView.{RowView}
-use Rattle.pdc_stat.specs.Quality.{greatest}
+use Rattle.pdc_row.specs.RowView.{row_instants, RowView}
+use Rattle.pdc_table.specs.Content.{Content, lane_of}
+use Rattle.pdc_row.specs.Rising.{Rises, AreBelow}
+use Rattle.pdc_table.specs.OpenInstants.{instants_of}
+use Rattle.pdc_row.specs.Quality.{greatest}
 use Rattle.pdc_table.specs.Steps.{after_put, answer_at, closing_of, closed_by, first_cause, is_near_all, is_taken, put_answer, with_taken}
 use Rattle.pdc_table.specs.Placing.{row_at}
 use Rattle.pdc_table.specs.Taking.{blank_row, with_frame, without_stream, without_column}
@@ -17,7 +18,7 @@ use Rattle.pdc_table.specs.Calls.{Call, Put, Require, Tick, DropStream, DropColu
 use Rattle.pdc_table.specs.declared.outcome.Outcome.{Outcome}
 use Rattle.pdc_table.specs.declared.outcome.Outcome.TheVariants.{Taken}
 use Rattle.pdc_table.proofs.Keeps.{closed_stayed, instants-map, instants-row_of, instants-with_row}
-use Rattle.pdc_table.proofs.Rise.{below_append, below_greatest, below_higher, greatest-ge, rises_append, rises_back, rises_front, rises-placed}
+use Rattle.pdc_row.proofs.Rising.{below_append, below_greatest, below_higher, greatest-ge, rises_append, rises_back, rises_front, rises-place}
 
 -- the open instants rise above the last
 abbrev pub IsAbove : Content → Type 0
@@ -53,7 +54,7 @@ put_closed c stream instant cells quality = either_closed c (with_taken c stream
 above_taken : (c : Content) (stream instant : ℕ) (cells : List (ℕ × Block)) (quality : ℕ) → IsAbove c → c.last < instant → IsAbove (with_taken c stream instant cells quality)
 above_taken c stream instant cells quality a h =
     rw (instants-with_row (with_frame stream (lane_of c stream) cells quality) (blank_row instant) (λ r. refl) c.open_rows)
-    (rises-placed c.last instant (instants_of c.open_rows) a h)
+    (rises-place c.last instant (instants_of c.open_rows) a h)
 
 above_tick : (c : Content) (wait : ℕ) → IsAbove c → Rises (greatest c.last (instants_of (closing_of c wait))) (instants_of (staying c.required wait (map aged c.open_rows)))
 above_tick c wait a =
@@ -76,21 +77,21 @@ closing_rise c wait a =
     rises_front c.last (instants_of (closing_of c wait)) (instants_of (staying c.required wait (map aged c.open_rows)))
     (subst (λ ns. Rises c.last ns) (sym (closed_stayed c wait a)) a)
 
-instants-append : (xs ys : List RowView) → instants_closed (xs ++ ys) ≡ instants_closed xs ++ instants_closed ys
+instants-append : (xs ys : List RowView) → row_instants (xs ++ ys) ≡ row_instants xs ++ row_instants ys
 instants-append xs ys = map-append (λ (r : RowView). r.instant) xs ys
 
-pub closed_rise : (c : Content) (calls : List Call) → IsAbove c → Rises c.last (instants_closed (closed_in c calls))
+pub closed_rise : (c : Content) (calls : List Call) → IsAbove c → Rises c.last (row_instants (closed_in c calls))
 closed_rise c [] a = tt
 closed_rise c (Put stream instant cells quality ∷ calls) a =
-    subst (λ n. Rises n (instants_closed (closed_in (after_put c stream instant cells quality) calls))) (put_last c stream instant cells quality)
+    subst (λ n. Rises n (row_instants (closed_in (after_put c stream instant cells quality) calls))) (put_last c stream instant cells quality)
     (closed_rise (after c (Put stream instant cells quality)) calls (above_after c (Put stream instant cells quality) a))
 closed_rise c (Require stream is_required ∷ calls) a = closed_rise (after c (Require stream is_required)) calls a
 closed_rise c (Tick wait layout ∷ calls) a =
     let ns : List ℕ = instants_of (closing_of c wait) in
     let rest : List RowView = closed_in (after c (Tick wait layout)) calls in
-    let later : Rises (greatest c.last ns) (instants_closed rest) = closed_rise (after c (Tick wait layout)) calls (above_tick c wait a) in
-    let e : instants_closed (closed_by c wait layout ++ rest) ≡ ns ++ instants_closed rest = instants-append (closed_by c wait layout) rest ∙ ap (λ ms. ms ++ instants_closed rest) (instants-row_of layout (closing_of c wait)) in
-    subst (λ ms. Rises c.last ms) (sym e) (rises_append c.last (greatest c.last ns) ns (instants_closed rest) (greatest-ge c.last ns) (closing_rise c wait a) (below_greatest c.last ns) later)
+    let later : Rises (greatest c.last ns) (row_instants rest) = closed_rise (after c (Tick wait layout)) calls (above_tick c wait a) in
+    let e : row_instants (closed_by c wait layout ++ rest) ≡ ns ++ row_instants rest = instants-append (closed_by c wait layout) rest ∙ ap (λ ms. ms ++ row_instants rest) (instants-row_of layout (closing_of c wait)) in
+    subst (λ ms. Rises c.last ms) (sym e) (rises_append c.last (greatest c.last ns) ns (row_instants rest) (greatest-ge c.last ns) (closing_rise c wait a) (below_greatest c.last ns) later)
 closed_rise c (DropStream stream ∷ calls) a = closed_rise (after c (DropStream stream)) calls (above_after c (DropStream stream) a)
 closed_rise c (DropColumn column ∷ calls) a = closed_rise (after c (DropColumn column)) calls (above_after c (DropColumn column) a)
 closed_rise c (Pop ∷ calls) a = closed_rise (after c Pop) calls a
@@ -111,7 +112,7 @@ last_grows c (DropColumn column ∷ calls) = last_grows (after c (DropColumn col
 last_grows c (Pop ∷ calls) = last_grows (after c Pop) calls
 
 -- what closed is at most the last
-pub closed_below : (c : Content) (calls : List Call) → AreBelow ((after_all c calls).last + 1) (instants_closed (closed_in c calls))
+pub closed_below : (c : Content) (calls : List Call) → AreBelow ((after_all c calls).last + 1) (row_instants (closed_in c calls))
 closed_below c [] = tt
 closed_below c (Put stream instant cells quality ∷ calls) = closed_below (after c (Put stream instant cells quality)) calls
 closed_below c (Require stream is_required ∷ calls) = closed_below (after c (Require stream is_required)) calls
@@ -120,9 +121,9 @@ closed_below c (Tick wait layout ∷ calls) =
     let rest : List RowView = closed_in (after c (Tick wait layout)) calls in
     let top : ℕ = (after_all (after c (Tick wait layout)) calls).last + 1 in
     let grows : greatest c.last ns ≤ (after_all (after c (Tick wait layout)) calls).last = last_grows (after c (Tick wait layout)) calls in
-    let e : instants_closed (closed_by c wait layout ++ rest) ≡ ns ++ instants_closed rest = instants-append (closed_by c wait layout) rest ∙ ap (λ ms. ms ++ instants_closed rest) (instants-row_of layout (closing_of c wait)) in
+    let e : row_instants (closed_by c wait layout ++ rest) ≡ ns ++ row_instants rest = instants-append (closed_by c wait layout) rest ∙ ap (λ ms. ms ++ row_instants rest) (instants-row_of layout (closing_of c wait)) in
     subst (λ ms. AreBelow top ms) (sym e)
-    (below_append top ns (instants_closed rest) (below_higher (greatest c.last ns + 1) top ns (omega arith) (below_greatest c.last ns)) (closed_below (after c (Tick wait layout)) calls))
+    (below_append top ns (row_instants rest) (below_higher (greatest c.last ns + 1) top ns (omega arith) (below_greatest c.last ns)) (closed_below (after c (Tick wait layout)) calls))
 closed_below c (DropStream stream ∷ calls) = closed_below (after c (DropStream stream)) calls
 closed_below c (DropColumn column ∷ calls) = closed_below (after c (DropColumn column)) calls
 closed_below c (Pop ∷ calls) = closed_below (after c Pop) calls
@@ -148,16 +149,16 @@ popped_once c (Pop ∷ calls) =
     ∙ sym (append_assoc (option_to_list (slice_get c.closed 0)) (drop 1 c.closed) (closed_in (after c Pop) calls))
     ∙ ap (λ rows. rows ++ closed_in (after c Pop) calls) (first_rest c.closed)
 
-pub popped_rise : (c : Content) (calls : List Call) → IsAbove c → c.closed ≡ [] → Rises c.last (instants_closed (popped_in c calls))
+pub popped_rise : (c : Content) (calls : List Call) → IsAbove c → c.closed ≡ [] → Rises c.last (row_instants (popped_in c calls))
 popped_rise c calls a e =
     let all : popped_in c calls ++ (after_all c calls).closed ≡ closed_in c calls = popped_once c calls ∙ ap (λ rows. rows ++ closed_in c calls) e in
-    let rise : Rises c.last (instants_closed (popped_in c calls ++ (after_all c calls).closed)) = subst (λ rows. Rises c.last (instants_closed rows)) (sym all) (closed_rise c calls a) in
-    rises_front c.last (instants_closed (popped_in c calls)) (instants_closed (after_all c calls).closed)
+    let rise : Rises c.last (row_instants (popped_in c calls ++ (after_all c calls).closed)) = subst (λ rows. Rises c.last (row_instants rows)) (sym all) (closed_rise c calls a) in
+    rises_front c.last (row_instants (popped_in c calls)) (row_instants (after_all c calls).closed)
     (subst (λ ms. Rises c.last ms) (instants-append (popped_in c calls) (after_all c calls).closed) rise)
 
 -- what is taken after calls is above each instant that closed, and above the last before them
-pub taken_above_all : (c : Content) (calls : List Call) (stream instant : ℕ) (cells : List (ℕ × Block)) → put_answer (after_all c calls) stream instant cells ≡ Taken → (c.last < instant) × AreBelow instant (instants_closed (closed_in c calls))
+pub taken_above_all : (c : Content) (calls : List Call) (stream instant : ℕ) (cells : List (ℕ × Block)) → put_answer (after_all c calls) stream instant cells ≡ Taken → (c.last < instant) × AreBelow instant (row_instants (closed_in c calls))
 taken_above_all c calls stream instant cells e =
     let h : (after_all c calls).last < instant = taken_above (after_all c calls) stream instant cells (ap is_taken e) in
     let g : c.last ≤ (after_all c calls).last = last_grows c calls in
-    (omega arith, below_higher ((after_all c calls).last + 1) instant (instants_closed (closed_in c calls)) (omega arith) (closed_below c calls))
+    (omega arith, below_higher ((after_all c calls).last + 1) instant (row_instants (closed_in c calls)) (omega arith) (closed_below c calls))

@@ -2,7 +2,8 @@
 use Rattle.std.proofs.Common.{◌≡◌, ℕ, ◌+◌, ◌<◌, ◌≤◌, Bool, true, false, cond, not, ◌&&◌, leb, List, [], ◌∷◌, length, take, drop, filter, refl, sym, ◌∙◌, ap, arith, suc, rules}
 use Rattle.std.specs.List.{prefix_len}
 use Rattle.std.proofs.lemmas.List.Folds.{length-prefix_len}
-use Rattle.pdc_table.specs.Rising.{Rises, instants_of}
+use Rattle.pdc_row.specs.Rising.{Rises}
+use Rattle.pdc_table.specs.OpenInstants.{instants_of}
 use Rattle.pdc_table.specs.Closing.{is_due, closes, closing, staying}
 use Rattle.pdc_table.specs.declared.open_row.OpenRow.{OpenRow}
 

@@ -3,7 +3,7 @@ use Rattle.std.proofs.Common.{◌≡◌, ◌≢◌, ℕ, ◌<◌, true, false, e
 use Rattle.std.proofs.lemmas.Bool.{cases_eq}
 use Rattle.std.proofs.lemmas.List.{get_or-set_same, get_or-set_other}
 use Rattle.pdc_block.specs.declared.block.Block.{Block}
-use Rattle.pdc_stat.specs.CellView.{cell_view}
+use Rattle.pdc_row.specs.CellView.{cell_view}
 use Rattle.pdc_table.specs.Chosen.{empty_column}
 use Rattle.pdc_table.specs.Content.{HaveOwnColumns, NoneIsOf}
 use Rattle.pdc_table.specs.Taking.{given_for, with_cell, with_cells, with_given}

@@ -4,22 +4,24 @@ use Rattle.std.specs.List.{prefix_len, AllByRecursion}
 use Rattle.std.proofs.lemmas.List.{map-append, take-append-drop, length-map}
 use Rattle.std.proofs.lemmas.List.Sums.{count_by-le-length, length-filter}
 use Rattle.pdc_cfg.specs.declared.shape.Shape.{Shape}
-use Rattle.pdc_stat.specs.CellView.{CellView, is_present}
+use Rattle.pdc_row.specs.CellView.{CellView, is_present}
 use Rattle.pdc_table.specs.Chosen.{block_in}
-use Rattle.pdc_stat.specs.Chosen.{present_of, first_of, block_or_absent}
+use Rattle.pdc_row.specs.Chosen.{present_of, first_of, block_or_absent}
 use Rattle.pdc_table.specs.Closing.{aged, is_due, closes, closing, staying}
-use Rattle.pdc_table.specs.Content.{Content, IsContent, HaveLayoutShapes, HasShape, HaveShapes, held_instants, instants_closed}
+use Rattle.pdc_row.specs.RowView.{row_instants, RowView}
+use Rattle.pdc_table.specs.Content.{Content, IsContent, HaveLayoutShapes, HasShape, HaveShapes, held_instants}
 use Rattle.pdc_table.specs.Placing.{row_at, with_row}
-use Rattle.pdc_table.specs.Rising.{Rises, AreBelow, AreNear, instants_of}
-use Rattle.pdc_table.specs.RowView.{RowView, row_of, blocks_of}
-use Rattle.pdc_stat.specs.Quality.{greatest}
+use Rattle.pdc_row.specs.Rising.{Rises, AreBelow, AreNear, place}
+use Rattle.pdc_table.specs.OpenInstants.{instants_of}
+use Rattle.pdc_table.specs.Row.{row_of, blocks_of}
+use Rattle.pdc_row.specs.Quality.{greatest}
 use Rattle.pdc_table.specs.Steps.{after_drop_column, after_drop_stream, after_pop, after_tick, closing_of, closed_by, is_near_all, shape_of, shapes_given}
 use Rattle.pdc_table.specs.Taking.{blank_row, without_stream, without_column}
 use Rattle.pdc_table.specs.declared.column.Column.{Column}
 use Rattle.pdc_table.specs.declared.open_row.OpenRow.{OpenRow}
 use Rattle.pdc_table.specs.declared.row_layout.RowLayout.{RowLayout}
 use Rattle.pdc_table.proofs.Closes.{closing-front, staying-back}
-use Rattle.pdc_table.proofs.Rise.{Below, At, Above, compared, placed, rises-placed, near-placed, all_near, rises_append, rises_front, rises_above, rises_back, below_append, below_higher, below_greatest, greatest-ge, near_tail, near-length}
+use Rattle.pdc_row.proofs.Rising.{Below, At, Above, compared, rises-place, near-place, all_near, rises_append, rises_front, rises_above, rises_back, below_append, below_higher, below_greatest, greatest-ge, near_tail, near-length}
 
 -- a change that keeps each row's instant keeps the list of them
 pub instants-map : (f : OpenRow → OpenRow) → ((r : OpenRow) → (f r).instant ≡ r.instant) → (rows : List OpenRow) → instants_of (map f rows) ≡ instants_of rows
@@ -61,9 +63,9 @@ popped c [] e h = record {
   closed_below = tt;
 }
 popped c (x ∷ xs) e h =
-    let rise : Rises 0 (x.instant ∷ (instants_closed xs ++ instants_of c.open_rows)) = rw e at h.held_rise in
-    let near : AreNear c.window (x.instant ∷ (instants_closed xs ++ instants_of c.open_rows)) = rw e at h.held_near in
-    let low : AreBelow (c.last + 1) (x.instant ∷ instants_closed xs) = rw e at h.closed_below in
+    let rise : Rises 0 (x.instant ∷ (row_instants xs ++ instants_of c.open_rows)) = rw e at h.held_rise in
+    let near : AreNear c.window (x.instant ∷ (row_instants xs ++ instants_of c.open_rows)) = rw e at h.held_near in
+    let low : AreBelow (c.last + 1) (x.instant ∷ row_instants xs) = rw e at h.closed_below in
     record {
       window_least = h.window_least;
       window_most = h.window_most;
@@ -71,8 +73,8 @@ popped c (x ∷ xs) e h =
       columns_most = h.columns_most;
       lanes_least = h.lanes_least;
       lanes_most = h.lanes_most;
-      held_rise = rises_above 0 x.instant (instants_closed xs ++ instants_of c.open_rows) (omega arith) rise.1;
-      held_near = near_tail 0 c.window x.instant (instants_closed xs ++ instants_of c.open_rows) rise near;
+      held_rise = rises_above 0 x.instant (row_instants xs ++ instants_of c.open_rows) (omega arith) rise.1;
+      held_near = near_tail 0 c.window x.instant (row_instants xs ++ instants_of c.open_rows) rise near;
       open_above = h.open_above;
       closed_below = low.1;
     }
@@ -80,7 +82,7 @@ popped c (x ∷ xs) e h =
 pub keeps-pop : (c : Content) → IsContent c → IsContent (after_pop c)
 keeps-pop c h = popped c c.closed refl h
 
-pub instants-with_row : (change : OpenRow → OpenRow) (fresh : OpenRow) → ((r : OpenRow) → (change r).instant ≡ r.instant) → (rows : List OpenRow) → instants_of (with_row change fresh rows) ≡ placed fresh.instant (instants_of rows)
+pub instants-with_row : (change : OpenRow → OpenRow) (fresh : OpenRow) → ((r : OpenRow) → (change r).instant ≡ r.instant) → (rows : List OpenRow) → instants_of (with_row change fresh rows) ≡ place fresh.instant (instants_of rows)
 instants-with_row change fresh h [] = ap (λ n. n ∷ []) (h fresh)
 instants-with_row change fresh h (x ∷ xs) = elim (compared fresh.instant x.instant) [
   | Below l ↦ (let e : ltb fresh.instant x.instant ≡ true = search rules in rw e (ap (λ n. n ∷ x.instant ∷ instants_of xs) (h fresh)))
@@ -91,8 +93,8 @@ instants-with_row change fresh h (x ∷ xs) = elim (compared fresh.instant x.ins
 -- a frame is taken for an instant that is above the last and near each held one
 pub keeps-taken : (c : Content) (change : OpenRow → OpenRow) (instant : ℕ) → ((r : OpenRow) → (change r).instant ≡ r.instant) → c.last < instant → is_near_all c instant ≡ true → IsContent c → IsContent (record c { open_rows = with_row change (blank_row instant) c.open_rows })
 keeps-taken c change instant same l n h =
-    let e : instants_of (with_row change (blank_row instant) c.open_rows) ≡ placed instant (instants_of c.open_rows) = instants-with_row change (blank_row instant) same c.open_rows in
-    let above : Rises c.last (placed instant (instants_of c.open_rows)) = rises-placed c.last instant (instants_of c.open_rows) h.open_above l in
+    let e : instants_of (with_row change (blank_row instant) c.open_rows) ≡ place instant (instants_of c.open_rows) = instants-with_row change (blank_row instant) same c.open_rows in
+    let above : Rises c.last (place instant (instants_of c.open_rows)) = rises-place c.last instant (instants_of c.open_rows) h.open_above l in
     record {
       window_least = h.window_least;
       window_most = h.window_most;
@@ -100,8 +102,8 @@ keeps-taken c change instant same l n h =
       columns_most = h.columns_most;
       lanes_least = h.lanes_least;
       lanes_most = h.lanes_most;
-      held_rise = rw e (rises_append 0 c.last (instants_closed c.closed) (placed instant (instants_of c.open_rows)) (omega arith) (rises_front 0 (instants_closed c.closed) (instants_of c.open_rows) h.held_rise) h.closed_below above);
-      held_near = rw e (near-placed c.window instant (instants_closed c.closed) (instants_of c.open_rows) (omega (arith, h.window_least)) h.held_near (all_near c.window instant (held_instants c) n));
+      held_rise = rw e (rises_append 0 c.last (row_instants c.closed) (place instant (instants_of c.open_rows)) (omega arith) (rises_front 0 (row_instants c.closed) (instants_of c.open_rows) h.held_rise) h.closed_below above);
+      held_near = rw e (near-place c.window instant (row_instants c.closed) (instants_of c.open_rows) (omega (arith, h.window_least)) h.held_near (all_near c.window instant (held_instants c) n));
       open_above = rw e above;
       closed_below = h.closed_below;
     }
@@ -120,7 +122,7 @@ length-with_row change fresh (x ∷ xs) e = elim (compared fresh.instant x.insta
       let i : length (with_row change fresh xs) ≡ length xs + 1 = length-with_row change fresh xs n in rw (f, k) (omega arith))
 ]
 
-length-held : (cs : List RowView) (os : List OpenRow) → length (instants_closed cs ++ instants_of os) ≡ length cs + length os
+length-held : (cs : List RowView) (os : List OpenRow) → length (row_instants cs ++ instants_of os) ≡ length cs + length os
 length-held cs os = simp (length-append, length-map) refl
 
 -- an instant that has no row yet has room for one
@@ -128,7 +130,7 @@ pub has_room : (c : Content) (instant : ℕ) → c.last < instant → is_near_al
 has_room c instant l n e h =
     let rows : List OpenRow = with_row (λ r. r) (blank_row instant) c.open_rows in
     let k : IsContent (record c { open_rows = rows }) = keeps-taken c (λ r. r) instant (λ r. refl) l n h in
-    let most : length (instants_closed c.closed ++ instants_of rows) ≤ c.window = near-length 0 c.window (instants_closed c.closed ++ instants_of rows) (omega (arith, h.window_least)) k.held_rise k.held_near in
+    let most : length (row_instants c.closed ++ instants_of rows) ≤ c.window = near-length 0 c.window (row_instants c.closed ++ instants_of rows) (omega (arith, h.window_least)) k.held_rise k.held_near in
     omega (arith, length-held c.closed rows, length-with_row (λ r. r) (blank_row instant) c.open_rows e)
 
 -- at most as many are held as the window has
@@ -142,7 +144,7 @@ front_back : (required : List Bool) (wait low : ℕ) (rows : List OpenRow) → R
 front_back required wait low rows r =
     rw (closing-front required wait low rows r, staying-back required wait low rows r) (take-append-drop (prefix_len (is_due required wait) rows) rows)
 
-pub instants-row_of : (layout : RowLayout) (rows : List OpenRow) → instants_closed (map (row_of layout) rows) ≡ instants_of rows
+pub instants-row_of : (layout : RowLayout) (rows : List OpenRow) → row_instants (map (row_of layout) rows) ≡ instants_of rows
 instants-row_of layout [] = refl
 instants-row_of layout (x ∷ xs) = ap (λ ns. x.instant ∷ ns) (instants-row_of layout xs)
 
@@ -160,10 +162,10 @@ keeps-tick c wait layout h =
     let ns : List ℕ = instants_of (closing_of c wait) in
     let rest : List OpenRow = staying c.required wait (map aged c.open_rows) in
     let e : ns ++ instants_of rest ≡ instants_of c.open_rows = closed_stayed c wait h.open_above in
-    let new : instants_closed (c.closed ++ closed_by c wait layout) ≡ instants_closed c.closed ++ ns =
-    map-append (λ (r : RowView). r.instant) c.closed (closed_by c wait layout) ∙ ap (λ ms. instants_closed c.closed ++ ms) (instants-row_of layout (closing_of c wait)) in
-    let held : instants_closed (c.closed ++ closed_by c wait layout) ++ instants_of rest ≡ held_instants c =
-    ap (λ ms. ms ++ instants_of rest) new ∙ append_assoc (instants_closed c.closed) ns (instants_of rest) ∙ ap (λ ms. instants_closed c.closed ++ ms) e in
+    let new : row_instants (c.closed ++ closed_by c wait layout) ≡ row_instants c.closed ++ ns =
+    map-append (λ (r : RowView). r.instant) c.closed (closed_by c wait layout) ∙ ap (λ ms. row_instants c.closed ++ ms) (instants-row_of layout (closing_of c wait)) in
+    let held : row_instants (c.closed ++ closed_by c wait layout) ++ instants_of rest ≡ held_instants c =
+    ap (λ ms. ms ++ instants_of rest) new ∙ append_assoc (row_instants c.closed) ns (instants_of rest) ∙ ap (λ ms. row_instants c.closed ++ ms) e in
     record {
       window_least = h.window_least;
       window_most = h.window_most;
@@ -175,8 +177,8 @@ keeps-tick c wait layout h =
       held_near = subst (λ ms. AreNear c.window ms) (sym held) h.held_near;
       open_above = rises_back c.last ns (instants_of rest) (subst (λ ms. Rises c.last ms) (sym e) h.open_above);
       closed_below = subst (λ ms. AreBelow (greatest c.last ns + 1) ms) (sym new)
-          (below_append (greatest c.last ns + 1) (instants_closed c.closed) ns
-          (below_higher (c.last + 1) (greatest c.last ns + 1) (instants_closed c.closed) (omega (arith, greatest-ge c.last ns)) h.closed_below)
+          (below_append (greatest c.last ns + 1) (row_instants c.closed) ns
+          (below_higher (c.last + 1) (greatest c.last ns + 1) (row_instants c.closed) (omega (arith, greatest-ge c.last ns)) h.closed_below)
           (below_greatest c.last ns));
     }
 

@@ -3,5 +3,5 @@ pub mod Given
 pub mod Closes
 pub mod Keeps
 pub mod Places
-pub mod Rise
+pub mod Highest
 pub mod RowSteps

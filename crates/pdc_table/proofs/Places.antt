@@ -4,7 +4,8 @@ use Rattle.std.specs.List.Sorted.{IsNonDecreasingBy, IsPartitionPoint}
 use Rattle.std.proofs.lemmas.List.{set-get_or, get_or_default}
 use Rattle.std.proofs.lemmas.List.Sums.{prefix_len_is}
 use Rattle.std.proofs.lemmas.Bool.{cases_lt}
-use Rattle.pdc_table.specs.Rising.{Rises, instants_of}
+use Rattle.pdc_row.specs.Rising.{Rises}
+use Rattle.pdc_table.specs.OpenInstants.{instants_of}
 use Rattle.pdc_table.specs.Placing.{place_of, row_at, with_row, IsGap, IsRowPlace}
 use Rattle.pdc_table.specs.Taking.{blank_row}
 use Rattle.pdc_table.specs.declared.open_row.OpenRow.{OpenRow}

@@ -2,7 +2,7 @@
 use Rattle.std.proofs.Common.{◌≡◌, ℕ, ◌+◌, ◌<◌, Bool, false, not, ◌||◌, ◌&&◌, List, ◌++◌, length, get_or, drop, refl, Option, None, add-one, drop-cons}
 use Rattle.pdc_cfg.specs.declared.shape.Shape.{Shape}
 use Rattle.pdc_table.specs.Chosen.{empty_column}
-use Rattle.pdc_table.specs.RowView.{blocks_at, blocks_of, qualities_at, qualities_of}
+use Rattle.pdc_table.specs.Row.{blocks_at, blocks_of, qualities_at, qualities_of}
 use Rattle.pdc_table.specs.Closing.{all_taken}
 use Rattle.pdc_table.specs.Steps.{disagreement_at, disagreements_of}
 use Rattle.pdc_table.specs.declared.column.Column.{Column}

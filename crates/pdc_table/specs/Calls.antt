@@ -2,9 +2,9 @@
 use Rattle.std.specs.Prelude.{◌≡◌, ℕ, ◌<◌, ◌++◌, Bool, List, [], ◌∷◌, length, slice_index_or}
 use Rattle.std.specs.Option.{option_to_list}
 use Rattle.pdc_block.specs.declared.block.Block.{Block}
-use Rattle.pdc_table.specs.RowView.{RowView}
-use Rattle.pdc_table.specs.Rising.{Rises, AreBelow}
-use Rattle.pdc_table.specs.Content.{Content, HaveOwnColumns, new_content, instants_closed}
+use Rattle.pdc_row.specs.RowView.{RowView, row_instants}
+use Rattle.pdc_row.specs.Rising.{Rises, AreBelow}
+use Rattle.pdc_table.specs.Content.{Content, HaveOwnColumns, new_content}
 use Rattle.pdc_table.specs.Chosen.{empty_column}
 use Rattle.pdc_table.specs.Taking.{given_for, with_cells, with_given}
 use Rattle.pdc_table.specs.declared.column.Column.{Column}
@@ -57,13 +57,13 @@ popped_in c (call ∷ calls) = popped_at c call ++ popped_in (after c call) call
 abbrev pub RowsComeOutRising : Type 0
 RowsComeOutRising =
     (window columns lanes floor : ℕ) (calls : List Call) →
-    Rises floor (instants_closed (popped_in (new_content window columns lanes floor) calls))
+    Rises floor (row_instants (popped_in (new_content window columns lanes floor) calls))
 
 -- An instant closes at most once: the instants that close strictly rise.
 abbrev pub InstantsCloseOnce : Type 0
 InstantsCloseOnce =
     (window columns lanes floor : ℕ) (calls : List Call) →
-    Rises floor (instants_closed (closed_in (new_content window columns lanes floor) calls))
+    Rises floor (row_instants (closed_in (new_content window columns lanes floor) calls))
 
 -- Each row that closes comes out once, in the order of closing: those that were popped and those that wait.
 abbrev pub RowsComeOutOnce : Type 0
@@ -77,7 +77,7 @@ abbrev pub NothingIsPutBelowClosed : Type 0
 NothingIsPutBelowClosed =
     (window columns lanes floor : ℕ) (calls : List Call) (stream instant : ℕ) (cells : List (ℕ × Block)) →
     put_answer (after_all (new_content window columns lanes floor) calls) stream instant cells ≡ Taken →
-    (floor < instant) × AreBelow instant (instants_closed (closed_in (new_content window columns lanes floor) calls))
+    (floor < instant) × AreBelow instant (row_instants (closed_in (new_content window columns lanes floor) calls))
 
 -- Where each column is given at most one block, each column holds in its lane what was given for it, and is else as before.
 abbrev pub BlocksStandInTheirColumns : Type 0

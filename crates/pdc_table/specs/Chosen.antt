@@ -1,8 +1,8 @@
 -- The block that a column gives to the row of its instant (this profile).
 use Rattle.std.specs.Prelude.{Bool, not, false, Option, Some, None}
 use Rattle.pdc_cfg.specs.declared.shape.Shape.{Shape}
-use Rattle.pdc_stat.specs.Chosen.{block_or_absent, first_of, present_of}
-use Rattle.pdc_stat.specs.CellView.{BlockView, CellView, same_block}
+use Rattle.pdc_row.specs.Chosen.{block_or_absent, first_of, present_of}
+use Rattle.pdc_row.specs.CellView.{BlockView, CellView, same_block}
 use Rattle.pdc_table.specs.declared.column.Column.{Column}
 
 -- the column in which nothing was taken

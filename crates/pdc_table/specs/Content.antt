@@ -1,11 +1,12 @@
 -- What a table contains, however it is kept (this profile).
-use Rattle.std.specs.Prelude.{◌≡◌, ◌≢◌, ℕ, ◌+◌, ◌<◌, ◌≤◌, ◌++◌, ◌==◌, Bool, false, if◌then◌else◌, List, [], ◌∷◌, map, replicate, Option, Some, None}
+use Rattle.std.specs.Prelude.{◌≡◌, ◌≢◌, ℕ, ◌+◌, ◌<◌, ◌≤◌, ◌++◌, ◌==◌, Bool, false, if◌then◌else◌, List, [], ◌∷◌, replicate, Option, Some, None}
 use Rattle.std.specs.List.{All, AllByRecursion}
 use Rattle.pdc_cfg.specs.declared.shape.Shape.{Shape}
 use Rattle.pdc_block.specs.declared.block.Block.{Block}
-use Rattle.pdc_stat.specs.CellView.{CellView}
-use Rattle.pdc_table.specs.RowView.{RowView}
-use Rattle.pdc_table.specs.Rising.{Rises, AreBelow, AreNear, instants_of}
+use Rattle.pdc_row.specs.CellView.{CellView}
+use Rattle.pdc_row.specs.RowView.{RowView, row_instants}
+use Rattle.pdc_row.specs.Rising.{Rises, AreBelow, AreNear}
+use Rattle.pdc_table.specs.OpenInstants.{instants_of}
 use Rattle.pdc_table.specs.declared.column.Column.{Column}
 use Rattle.pdc_table.specs.declared.open_row.OpenRow.{OpenRow}
 use Rattle.pdc_table.specs.declared.row_layout.RowLayout.{RowLayout}
@@ -45,12 +46,9 @@ streams_of c = if c.lanes == 1 then c.columns else 2
 abbrev pub lane_of : Content → ℕ → ℕ
 lane_of c stream = if c.lanes == 1 then 0 else stream
 
-abbrev pub instants_closed : List RowView → List ℕ
-instants_closed rows = map (λ (row : RowView). row.instant) rows
-
 -- The instants that are held: those of closed rows that were not popped, and the open ones.
 abbrev pub held_instants : Content → List ℕ
-held_instants c = instants_closed c.closed ++ instants_of c.open_rows
+held_instants c = row_instants c.closed ++ instants_of c.open_rows
 
 -- What holds of each table: its sizes are within the limits; the instants held rise and are near each other; the open
 -- ones are above the last closed, and the closed ones are not.
@@ -64,7 +62,7 @@ pub record IsContent (c : Content) : Type 0 where
   pub held_rise : Rises 0 (held_instants c)
   pub held_near : AreNear c.window (held_instants c)
   pub open_above : Rises c.last (instants_of c.open_rows)
-  pub closed_below : AreBelow (c.last + 1) (instants_closed c.closed)
+  pub closed_below : AreBelow (c.last + 1) (row_instants c.closed)
 
 -- the sizes of a table never change
 pub record HasSizesOf (old new : Content) : Type 0 where

@@ -3,8 +3,8 @@ pub mod Chosen
 pub mod Closing
 pub mod Content
 pub mod Placing
-pub mod Rising
-pub mod RowView
+pub mod OpenInstants
+pub mod Row
 pub mod SortedTable
 pub mod Steps
 pub mod Taking

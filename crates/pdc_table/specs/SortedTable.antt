@@ -2,7 +2,7 @@
 use Rattle.std.specs.Prelude.{◌≤◌, map}
 use Rattle.std.specs.Vec.{vec_capacity}
 use Rattle.std.specs.VecDeque.{deque_capacity}
-use Rattle.pdc_table.specs.RowView.{row_view}
+use Rattle.pdc_row.specs.RowView.{row_view}
 use Rattle.pdc_table.specs.Content.{Content, IsContent}
 use Rattle.pdc_table.specs.declared.sorted_table.SortedTable.TheInside.{Inside}
 

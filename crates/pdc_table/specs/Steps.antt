@@ -3,11 +3,13 @@ use Rattle.std.specs.Prelude.{ℕ, ◌+◌, ◌++◌, nat_le, Bool, true, false,
 use Rattle.std.specs.List.{list_all, slice_get}
 use Rattle.pdc_cfg.specs.declared.shape.Shape.{Shape}
 use Rattle.pdc_block.specs.declared.block.Block.{Block}
-use Rattle.pdc_stat.specs.CellView.{BlockView}
+use Rattle.pdc_row.specs.CellView.{BlockView}
 use Rattle.pdc_table.specs.Chosen.{disagrees}
-use Rattle.pdc_table.specs.RowView.{RowView, row_of}
-use Rattle.pdc_stat.specs.Quality.{greatest}
-use Rattle.pdc_table.specs.Rising.{instants_of, is_near}
+use Rattle.pdc_row.specs.RowView.{RowView}
+use Rattle.pdc_table.specs.Row.{row_of}
+use Rattle.pdc_row.specs.Quality.{greatest}
+use Rattle.pdc_row.specs.Rising.{is_near}
+use Rattle.pdc_table.specs.OpenInstants.{instants_of}
 use Rattle.pdc_table.specs.Closing.{aged, closing, staying, counter}
 use Rattle.pdc_table.specs.Placing.{row_at, with_row}
 use Rattle.pdc_table.specs.Taking.{blank_row, conflicts, with_frame, without_stream, without_column}

@@ -2,7 +2,7 @@
 use Rattle.std.specs.Prelude.{ℕ, ◌==◌, Bool, true, false, not, if◌then◌else◌, List, [], ◌∷◌, map, replicate, Option, Some, None, slice_set, slice_index_or}
 use Rattle.std.specs.List.{list_any}
 use Rattle.pdc_block.specs.declared.block.Block.{Block}
-use Rattle.pdc_stat.specs.CellView.{CellView, block_view, cell_view, same_block}
+use Rattle.pdc_row.specs.CellView.{CellView, block_view, cell_view, same_block}
 use Rattle.pdc_table.specs.Chosen.{empty_column}
 use Rattle.pdc_table.specs.declared.column.Column.{Column}
 use Rattle.pdc_table.specs.declared.open_row.OpenRow.{OpenRow}

@@ -10,7 +10,6 @@
 
 mod cell;
 mod column;
-mod due_row;
 mod laws;
 mod open_row;
 mod outcome;
@@ -21,13 +20,13 @@ mod table_trait;
 
 pub use cell::Cell;
 pub use column::Column;
-pub use due_row::DueRow;
 pub use laws::{
     blocks_stand_in_their_columns, instants_close_once, nothing_is_put_below_closed,
     rows_come_out_once, rows_come_out_rising,
 };
 pub use open_row::{MAX_COLUMNS, OpenRow};
 pub use outcome::Outcome;
+pub use pdc_row::DueRow;
 pub use row_layout::RowLayout;
 pub use sorted_table::SortedTable;
 pub use table_trait::Table;

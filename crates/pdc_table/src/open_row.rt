@@ -2,14 +2,16 @@
 ghost use Rattle.std.specs.Prelude.{◌≡◌, ℕ, ◌<◌, ◌≤◌, map, Some, if◌then◌else◌};
 ghost use Rattle.std.specs.List.{All};
 ghost use Rattle.pdc_block.specs.declared.block.Block.{Block as BlockData};
-ghost use Rattle.pdc_table.specs.RowView.{row_of, row_view};
+ghost use Rattle.pdc_row.specs.RowView.{row_view};
+ghost use Rattle.pdc_table.specs.Row.{row_of};
 ghost use Rattle.pdc_table.specs.Closing.{aged, all_taken, is_due};
 ghost use Rattle.pdc_table.specs.Steps.{answer_at, disagreements_of, is_taken};
 ghost use Rattle.pdc_table.specs.Taking.{blank_row, conflicts, with_cell, with_frame, without_column, without_stream};
 
-use crate::{Cell, Column, DueRow, Outcome, RowLayout};
+use crate::{Cell, Column, Outcome, RowLayout};
 use arrayvec::ArrayVec;
 use pdc_block::Block;
+use pdc_row::DueRow;
 
 /// The most streams, and the most columns, of a table.
 pub const MAX_COLUMNS: usize = 16;

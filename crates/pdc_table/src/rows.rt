@@ -6,16 +6,18 @@ ghost use Rattle.std.specs.Result.{MatchResult};
 ghost use Rattle.std.specs.VecDeque.{deque_capacity, deque_len};
 ghost use Rattle.pdc_block.specs.declared.block.Block.{Block as BlockData};
 ghost use Rattle.pdc_table.specs.Closing.{aged, closing, counter, is_due, staying};
-ghost use Rattle.pdc_table.specs.Content.{instants_closed};
+ghost use Rattle.pdc_row.specs.RowView.{row_instants, row_view};
 ghost use Rattle.pdc_table.specs.Placing.{place_of, row_at, with_row, IsGap, IsRowPlace};
-ghost use Rattle.pdc_table.specs.Rising.{Rises, highest_of, instants_of, is_near, is_near_any};
-ghost use Rattle.pdc_table.specs.RowView.{row_of, row_view};
-ghost use Rattle.pdc_stat.specs.Quality.{greatest};
+ghost use Rattle.pdc_row.specs.Rising.{Rises, highest_of, is_near, is_near_any};
+ghost use Rattle.pdc_table.specs.OpenInstants.{instants_of};
+ghost use Rattle.pdc_table.specs.Row.{row_of};
+ghost use Rattle.pdc_row.specs.Quality.{greatest};
 ghost use Rattle.pdc_table.specs.Steps.{answer_at, disagreements_in, is_taken};
 ghost use Rattle.pdc_table.specs.Taking.{blank_row, with_frame, without_column, without_stream};
 
-use crate::{DueRow, OpenRow, Outcome, RowLayout};
+use crate::{OpenRow, Outcome, RowLayout};
 use pdc_block::Block;
+use pdc_row::DueRow;
 use std::collections::VecDeque;
 
 /// How many rows stand below the instant.
@@ -158,9 +160,9 @@ pub fn take(
 
 /// Whether each held instant is less than the window away.
 pub fn are_near(rows: &[OpenRow], closed: &VecDeque<DueRow>, window: u64, instant: u64) -> bool
-    requires { Rises 0 (instants_closed (map row_view closed.now.items) ++ instants_of rows.now) }
+    requires { Rises 0 (row_instants (map row_view closed.now.items) ++ instants_of rows.now) }
     ensures { result ≡ list_all (is_near window instant)
-        (instants_closed (map row_view closed.now.items) ++ instants_of rows.now) }
+        (row_instants (map row_view closed.now.items) ++ instants_of rows.now) }
 {
     is_near(lowest(rows, closed), window, instant)
         && is_near(highest(rows, closed), window, instant)
@@ -178,7 +180,7 @@ fn is_near(held: Option<u64>, window: u64, instant: u64) -> bool
 
 // The lowest instant held.
 fn lowest(rows: &[OpenRow], closed: &VecDeque<DueRow>) -> Option<u64>
-    ensures { result ≡ slice_get (instants_closed (map row_view closed.now.items) ++ instants_of rows.now) 0 }
+    ensures { result ≡ slice_get (row_instants (map row_view closed.now.items) ++ instants_of rows.now) 0 }
 {
     match closed.front() {
         Some(row) => Some(row.instant),
@@ -188,7 +190,7 @@ fn lowest(rows: &[OpenRow], closed: &VecDeque<DueRow>) -> Option<u64>
 
 // The highest instant held.
 fn highest(rows: &[OpenRow], closed: &VecDeque<DueRow>) -> Option<u64>
-    ensures { result ≡ highest_of (instants_closed (map row_view closed.now.items) ++ instants_of rows.now) }
+    ensures { result ≡ highest_of (row_instants (map row_view closed.now.items) ++ instants_of rows.now) }
 {
     match (rows.last(), closed.back()) {
         (Some(row), _) => Some(row.instant),

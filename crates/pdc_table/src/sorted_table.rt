@@ -1,8 +1,9 @@
 //! A table kept as sorted rows.
 ghost use Rattle.std.specs.Prelude.{◌≡◌};
 
-use crate::{DueRow, OpenRow, Outcome, RowLayout, Table, rows};
+use crate::{OpenRow, Outcome, RowLayout, Table, rows};
 use pdc_block::Block;
+use pdc_row::DueRow;
 use std::alloc::{AllocError, Global};
 use std::collections::VecDeque;
 use std::marker::Model;

@@ -2,11 +2,12 @@
 ghost use Rattle.std.specs.Prelude.{◌≡◌, ℕ, ◌<◌, ◌≤◌, map, IfOk, option_map};
 ghost use Rattle.std.specs.List.{AllByRecursion};
 ghost use Rattle.pdc_table.specs.Content.{Content, HasSizesOf, HaveLayoutShapes, IsContent, IsPut, new_content, streams_of};
-ghost use Rattle.pdc_table.specs.RowView.{RowView, row_view};
+ghost use Rattle.pdc_row.specs.RowView.{RowView, row_view};
 ghost use Rattle.pdc_table.specs.Steps.{after_drop_column, after_drop_stream, after_pop, after_put, after_require, after_tick, closed_by, pop_answer, put_answer, shape_of, shapes_given, tick_answer};
 
-use crate::{DueRow, Outcome, RowLayout};
+use crate::{Outcome, RowLayout};
 use pdc_block::Block;
+use pdc_row::DueRow;
 use std::alloc::{AllocError, Global};
 
 /// A table that aligns the streams of a concentrator by instant (this profile).

@@ -2,10 +2,11 @@
 mod alone;
 mod pair;
 
-use crate::{DueRow, RowLayout};
+use crate::RowLayout;
 use arrayvec::ArrayVec;
 use pdc_block::Block;
 use pdc_cfg::Shape;
+use pdc_row::DueRow;
 use std::process::Abort;
 
 const ONE_PHASOR: Shape = Shape {

@@ -1,8 +1,9 @@
 use Rattle.std.proofs.Common.{rules, ◌+◌, ◌++◌, ◌∙◌, ap, map}
 use Rattle.pdc_table.specs.Closing.{counter}
-use Rattle.pdc_table.specs.RowView.{row_of, row_view}
-use Rattle.pdc_stat.specs.Quality.{greatest}
-use Rattle.pdc_table.specs.Rising.{instants_of}
+use Rattle.pdc_row.specs.RowView.{row_view}
+use Rattle.pdc_table.specs.Row.{row_of}
+use Rattle.pdc_row.specs.Quality.{greatest}
+use Rattle.pdc_table.specs.OpenInstants.{instants_of}
 use Rattle.pdc_table.specs.Steps.{disagreements_in}
 use Rattle.pdc_table.proofs.Closes.{front_is, back_is, front_length}
 use Rattle.pdc_table.proofs.rows.close_due.Goals as goal

@@ -1,6 +1,6 @@
 use Rattle.std.proofs.Common.{◌≡◌, drop}
-use Rattle.pdc_table.specs.Rising.{instants_of}
-use Rattle.pdc_stat.specs.Quality.{greatest}
+use Rattle.pdc_table.specs.OpenInstants.{instants_of}
+use Rattle.pdc_row.specs.Quality.{greatest}
 use Rattle.pdc_table.proofs.rows.greatest.Given as goal
 
 abbrev pub invariant-loop-row : goal.invariant-loop-row

@@ -1,6 +1,6 @@
 use Rattle.std.proofs.Common.{◌≡◌, ◌∙◌, ap, sym, map, drop}
 use Rattle.std.proofs.lemmas.List.{drop-map}
-use Rattle.pdc_table.specs.RowView.{row_view}
+use Rattle.pdc_row.specs.RowView.{row_view}
 use Rattle.pdc_table.specs.SortedTable.{content_of}
 use Rattle.pdc_table.proofs.Keeps.{keeps-pop}
 use Rattle.pdc_table.proofs.sorted_table.SortedTableTable.pop_due.Goals as goal

@@ -1,10 +1,10 @@
 use Rattle.std.proofs.Common.{arith, ◌≡◌, ◌<◌, sym, true, refl, length}
 use Rattle.pdc_table.specs.SortedTable.{content_of}
 use Rattle.pdc_table.specs.Placing.{row_at}
-use Rattle.pdc_table.specs.Rising.{instants_of}
+use Rattle.pdc_table.specs.OpenInstants.{instants_of}
 use Rattle.pdc_table.specs.Steps.{answer_at, is_near_all, is_taken}
 use Rattle.pdc_table.specs.Taking.{with_frame}
-use Rattle.pdc_table.proofs.Rise.{rises_above}
+use Rattle.pdc_row.proofs.Rising.{rises_above}
 use Rattle.pdc_table.proofs.Keeps.{has_room, keeps-offered}
 use Rattle.pdc_table.proofs.sorted_table.SortedTableTable.put.Goals as goal
 

@@ -1,7 +1,7 @@
 -- Time quality: how far a clock may be off, greater is worse (FRACSEC, C37.118.2-2011, 6.2; that the low nibble alone is the
 -- number is a rule of this profile).
 use Rattle.std.specs.Prelude.{ℕ, ◌%◌, max, List, [], ◌∷◌}
-use Rattle.pdc_stat.specs.CellView.{CellView}
+use Rattle.pdc_row.specs.CellView.{CellView}
 
 -- The time quality of a frame: the low nibble of its byte, greater is worse.
 abbrev pub time_quality_of : CellView → ℕ

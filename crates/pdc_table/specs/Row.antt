@@ -1,31 +1,14 @@
 -- The row of an instant: what a closed row shows (this profile).
-use Rattle.std.specs.Prelude.{ℕ, ◌++◌, List, [], ◌∷◌, map, Option, Some, None}
+use Rattle.std.specs.Prelude.{ℕ, ◌++◌, List, [], ◌∷◌, Option, Some, None}
 use Rattle.std.specs.Option.{option_map, option_to_list}
 use Rattle.pdc_cfg.specs.declared.shape.Shape.{Shape}
-use Rattle.pdc_stat.specs.CellView.{BlockView, block_view}
-use Rattle.pdc_stat.specs.Quality.{greatest, quality_of, time_quality_of}
+use Rattle.pdc_row.specs.CellView.{BlockView}
+use Rattle.pdc_row.specs.RowView.{RowView}
+use Rattle.pdc_row.specs.Quality.{greatest, quality_of, time_quality_of}
 use Rattle.pdc_table.specs.Chosen.{chosen_of, block_in, empty_column}
 use Rattle.pdc_table.specs.declared.column.Column.{Column}
 use Rattle.pdc_table.specs.declared.open_row.OpenRow.{OpenRow}
 use Rattle.pdc_table.specs.declared.row_layout.RowLayout.{RowLayout}
-use Rattle.pdc_table.specs.declared.due_row.DueRow.{DueRow}
-
--- what a contract sees of a closed row
-pub record RowView : Type 0 where
-  pub instant : ℕ
-  pub start : ℕ
-  pub change : ℕ
-  pub quality : ℕ
-  pub blocks : List BlockView
-
-abbrev pub row_view : DueRow → RowView
-row_view row = record {
-  instant = row.instant;
-  start = row.start;
-  change = row.change;
-  quality = row.quality;
-  blocks = map block_view row.blocks.items;
-}
 
 -- the blocks that a column gives: one where it has a shape
 abbrev pub blocks_at : Option Shape → Column → List BlockView

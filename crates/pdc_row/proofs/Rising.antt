@@ -1,15 +1,11 @@
 -- Rising numbers.
-use Rattle.std.proofs.Common.{◌≡◌, ℕ, ◌+◌, ◌-◌, ◌<◌, ◌≤◌, List, [], ◌∷◌, ◌++◌, length, get_or, map, refl, sym, ◌∙◌, ap, arith, rules, zero, suc, max, Bool, true, false, cond, ltb, eqb, inl, inr, ◌&&◌, Some}
+use Rattle.std.proofs.Common.{◌≡◌, ℕ, ◌+◌, ◌-◌, ◌<◌, ◌≤◌, List, [], ◌∷◌, ◌++◌, length, get_or, filter, refl, sym, ◌∙◌, ap, arith, rules, zero, suc, max, Bool, true, false, cond, ltb, eqb, inl, inr, ◌&&◌, Some, nat_lt}
 use Rattle.std.specs.Int.{abs_diff}
 use Rattle.std.specs.List.{list_all, slice_get}
 use Rattle.std.proofs.lemmas.Bool.{cases_lt, false≢true}
 use borrow.Author.Tests.{ltb-true}
-use Rattle.pdc_stat.specs.Quality.{greatest}
-use Rattle.pdc_table.specs.Rising.{Rises, AreBelow, AreNear, is_near, is_near_any, highest_of, instants_of}
-use Rattle.pdc_table.specs.RowView.{row_view}
-use Rattle.pdc_table.specs.Content.{instants_closed}
-use Rattle.pdc_table.specs.declared.due_row.DueRow.{DueRow}
-use Rattle.pdc_table.specs.declared.open_row.OpenRow.{OpenRow}
+use Rattle.pdc_row.specs.Quality.{greatest}
+use Rattle.pdc_row.specs.Rising.{Rises, AreAbove, AreBelow, AreNear, is_near, is_near_any, highest_of, place, rising}
 
 -- a lower bound in place of this one
 pub rises_above : (low high : ℕ) (ns : List ℕ) → low ≤ high → Rises high ns → Rises low ns
@@ -79,19 +75,14 @@ pub near_tail : (low window n : ℕ) (ns : List ℕ) → Rises low (n ∷ ns) �
 near_tail low window n [] r b = tt
 near_tail low window n (m ∷ ns) r b = below_higher (n + window) (m + window) ns (omega (arith, r.1.0)) b.1
 
--- the number in its place among rising ones
-abbrev pub placed : ℕ → List ℕ → List ℕ
-placed i [] = i ∷ []
-placed i (n ∷ ns) = cond (ltb i n) (i ∷ n ∷ ns) (cond (eqb n i) (n ∷ ns) (n ∷ placed i ns))
+pub place_lower : (i n : ℕ) (ns : List ℕ) → i < n → place i (n ∷ ns) ≡ i ∷ n ∷ ns
+place_lower i n ns h = let e : ltb i n ≡ true = search rules in rw e refl
 
-pub placed_lower : (i n : ℕ) (ns : List ℕ) → i < n → placed i (n ∷ ns) ≡ i ∷ n ∷ ns
-placed_lower i n ns h = let e : ltb i n ≡ true = search rules in rw e refl
+pub place_same : (i n : ℕ) (ns : List ℕ) → n ≡ i → place i (n ∷ ns) ≡ n ∷ ns
+place_same i n ns h = let e : ltb i n ≡ false = search rules in let f : eqb n i ≡ true = search rules in rw (e, f) refl
 
-pub placed_same : (i n : ℕ) (ns : List ℕ) → n ≡ i → placed i (n ∷ ns) ≡ n ∷ ns
-placed_same i n ns h = let e : ltb i n ≡ false = search rules in let f : eqb n i ≡ true = search rules in rw (e, f) refl
-
-pub placed_higher : (i n : ℕ) (ns : List ℕ) → n < i → placed i (n ∷ ns) ≡ n ∷ placed i ns
-placed_higher i n ns h = let e : ltb i n ≡ false = search rules in let f : eqb n i ≡ false = search rules in rw (e, f) refl
+pub place_higher : (i n : ℕ) (ns : List ℕ) → n < i → place i (n ∷ ns) ≡ n ∷ place i ns
+place_higher i n ns h = let e : ltb i n ≡ false = search rules in let f : eqb n i ≡ false = search rules in rw (e, f) refl
 
 -- i below, at or above n
 pub data Compared (i n : ℕ) : Type 0 where
@@ -102,20 +93,20 @@ pub data Compared (i n : ℕ) : Type 0 where
 pub compared : (i n : ℕ) → Compared i n
 compared i n = elim (cases_lt i n) [ inl h ↦ Below h | inr h ↦ elim (cases_lt n i) [ inl k ↦ Above k | inr k ↦ At (omega arith) ] ]
 
-pub rises-placed : (low i : ℕ) (ns : List ℕ) → Rises low ns → low < i → Rises low (placed i ns)
-rises-placed low i [] r h = (h, tt)
-rises-placed low i (n ∷ ns) r h = elim (compared i n) [
-  | Below l ↦ rw (placed_lower i n ns l) (h, (l, r.1))
-  | At e ↦ rw (placed_same i n ns e) r
-  | Above g ↦ rw (placed_higher i n ns g) (r.0, rises-placed n i ns r.1 g)
+pub rises-place : (low i : ℕ) (ns : List ℕ) → Rises low ns → low < i → Rises low (place i ns)
+rises-place low i [] r h = (h, tt)
+rises-place low i (n ∷ ns) r h = elim (compared i n) [
+  | Below l ↦ rw (place_lower i n ns l) (h, (l, r.1))
+  | At e ↦ rw (place_same i n ns e) r
+  | Above g ↦ rw (place_higher i n ns g) (r.0, rises-place n i ns r.1 g)
 ]
 
-pub below-placed : (top i : ℕ) (ns : List ℕ) → AreBelow top ns → i < top → AreBelow top (placed i ns)
-below-placed top i [] b h = (h, tt)
-below-placed top i (n ∷ ns) b h = elim (compared i n) [
-  | Below l ↦ rw (placed_lower i n ns l) (h, (b.0, b.1))
-  | At e ↦ rw (placed_same i n ns e) b
-  | Above g ↦ rw (placed_higher i n ns g) (b.0, below-placed top i ns b.1 h)
+pub below-place : (top i : ℕ) (ns : List ℕ) → AreBelow top ns → i < top → AreBelow top (place i ns)
+below-place top i [] b h = (h, tt)
+below-place top i (n ∷ ns) b h = elim (compared i n) [
+  | Below l ↦ rw (place_lower i n ns l) (h, (b.0, b.1))
+  | At e ↦ rw (place_same i n ns e) b
+  | Above g ↦ rw (place_higher i n ns g) (b.0, below-place top i ns b.1 h)
 ]
 
 -- each number is less than the window away from i, both ways
@@ -141,14 +132,14 @@ below_from_near window i [] h = tt
 below_from_near window i (n ∷ ns) h = (h.0.1, below_from_near window i ns h.1)
 
 -- numbers near each other, and one more that is near each
-pub near-placed : (window i : ℕ) (cs os : List ℕ) → 0 < window → AreNear window (cs ++ os) → AreAllNear window i (cs ++ os) → AreNear window (cs ++ placed i os)
-near-placed window i [] [] w b h = tt
-near-placed window i [] (o ∷ os) w b h = elim (compared i o) [
-  | Below l ↦ rw (placed_lower i o os l) (h.0.1, below_from_near window i os h.1)
-  | At e ↦ rw (placed_same i o os e) b
-  | Above g ↦ rw (placed_higher i o os g) (below-placed (o + window) i os b h.0.0)
+pub near-place : (window i : ℕ) (cs os : List ℕ) → 0 < window → AreNear window (cs ++ os) → AreAllNear window i (cs ++ os) → AreNear window (cs ++ place i os)
+near-place window i [] [] w b h = tt
+near-place window i [] (o ∷ os) w b h = elim (compared i o) [
+  | Below l ↦ rw (place_lower i o os l) (h.0.1, below_from_near window i os h.1)
+  | At e ↦ rw (place_same i o os e) b
+  | Above g ↦ rw (place_higher i o os g) (below-place (o + window) i os b h.0.0)
 ]
-near-placed window i (c ∷ cs) os w b h = below_append (c + window) cs (placed i os) (below_front (c + window) cs os b) (below-placed (c + window) i os (below_back (c + window) cs os b) h.0.0)
+near-place window i (c ∷ cs) os w b h = below_append (c + window) cs (place i os) (below_front (c + window) cs os b) (below-place (c + window) i os (below_back (c + window) cs os b) h.0.0)
 
 and_both : (a b : Bool) → a ≡ true → b ≡ true → (a && b) ≡ true
 and_both a b h k = rw (h, k) refl
@@ -164,7 +155,7 @@ and_true : (a : Bool) → (a && true) ≡ a
 and_true true = refl
 and_true false = refl
 
-lower : (m n : ℕ) → m < n → ltb m n ≡ true
+pub lower : (m n : ℕ) → m < n → ltb m n ≡ true
 lower m n h = search rules
 
 not_lower : (m n : ℕ) → n ≤ m → ltb m n ≡ false
@@ -205,29 +196,27 @@ ends_near window i low (n ∷ ns) r =
     ends_and (is_near window i n) (is_near_any window i (highest_of (n ∷ ns))) (list_all (is_near window i) ns)
     (λ h. let near : (i < n + window) × (n < i + window) = near_from_true window i n h in last_near window i n ns r.1 near.0 near.1)
 
-pub highest_open : (cs : List ℕ) (rows : List OpenRow) (row : OpenRow) → Some row ≡ slice_get rows (length rows - 1) → highest_of (cs ++ instants_of rows) ≡ Some row.instant
-highest_open cs [] row e = cc
-highest_open [] (x ∷ []) row e = let f : Some row ≡ Some x = e in cc
-highest_open [] (x ∷ y ∷ ys) row e =
-    let k : suc (suc (length ys)) - 1 ≡ suc (length ys) = omega arith in
-    let j : suc (length ys) - 1 ≡ length ys = omega arith in
-    let f : Some row ≡ slice_get (y ∷ ys) (length ys) = rw k at e in
-    highest_open [] (y ∷ ys) row (f ∙ ap (λ n. slice_get (y ∷ ys) n) (sym j))
-highest_open (c ∷ []) (x ∷ xs) row e = highest_open [] (x ∷ xs) row e
-highest_open (c ∷ d ∷ cs) (x ∷ xs) row e = highest_open (d ∷ cs) (x ∷ xs) row e
+pub greatest_append : (low : ℕ) (ns ms : List ℕ) → greatest low (ns ++ ms) ≡ greatest (greatest low ns) ms
+greatest_append low [] ms = refl
+greatest_append low (n ∷ ns) ms = greatest_append (max low n) ns ms
 
-pub no_rows : (rows : List OpenRow) → false ≡ ltb 0 (length rows) → rows ≡ []
-no_rows [] h = refl
-no_rows (x ∷ xs) h = let k : ltb 0 (suc (length xs)) ≡ true = lower 0 (suc (length xs)) (omega arith) in absurd (false≢true (h ∙ k))
+pub above_filter : (low : ℕ) (ns : List ℕ) → AreAbove low (filter (λ i. nat_lt low i) ns)
+above_filter low [] = tt
+above_filter low (n ∷ ns) = elim (cases_lt low n) [
+  | inl h ↦ (let e : ltb low n ≡ true = search rules in rw e (h, above_filter low ns))
+  | inr h ↦ (let e : ltb low n ≡ false = search rules in rw e (above_filter low ns))
+]
 
-highest_row : (rows : List DueRow) (row : DueRow) → 0 < length rows → row ≡ get_or rows (length rows - 1) row → highest_of (instants_closed (map row_view rows)) ≡ Some row.instant
-highest_row [] row h e = absurd (omega arith)
-highest_row (x ∷ []) row h e = ap (λ (r : DueRow). Some r.instant) (sym e)
-highest_row (x ∷ y ∷ ys) row h e =
-    let k : suc (suc (length ys)) - 1 ≡ suc (length ys) = omega arith in
-    let j : suc (length ys) - 1 ≡ length ys = omega arith in
-    let f : row ≡ get_or (y ∷ ys) (length ys) row = e ∙ ap (λ n. get_or (x ∷ y ∷ ys) n row) k in
-    highest_row (y ∷ ys) row (omega arith) (f ∙ ap (λ n. get_or (y ∷ ys) n row) (sym j))
+pub rises_rising : (low : ℕ) (ns : List ℕ) → AreAbove low ns → Rises low (rising ns)
+rises_rising low [] a = tt
+rises_rising low (n ∷ ns) a = rises-place low n (rising ns) (rises_rising low ns a.1) a.0
 
-pub highest_closed : (rows : List DueRow) (row : DueRow) (n : ℕ) → n ≡ length rows → 0 < n → row ≡ get_or rows (n - 1) row → highest_of (instants_closed (map row_view rows)) ≡ Some row.instant
-highest_closed rows row n l h e = highest_row rows row (omega arith) (e ∙ ap (λ m. get_or rows (m - 1) row) l)
+either : (b : Bool) (low : ℕ) (ns ms : List ℕ) → Rises low ns → Rises low ms → Rises low (cond b ns ms)
+either true low ns ms r s = r
+either false low ns ms r s = s
+
+pub rises_filter : (f : ℕ → Bool) (low : ℕ) (ns : List ℕ) → Rises low ns → Rises low (filter f ns)
+rises_filter f low [] r = tt
+rises_filter f low (n ∷ ns) r =
+    let rest : Rises n (filter f ns) = rises_filter f n ns r.1 in
+    either (f n) low (n ∷ filter f ns) (filter f ns) (r.0, rest) (rises_above low n (filter f ns) (omega (arith, r.0)) rest)

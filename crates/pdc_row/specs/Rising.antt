@@ -1,11 +1,15 @@
 -- Instants in rising order, and instants that lie near each other.
-use Rattle.std.specs.Prelude.{ℕ, ◌+◌, ◌<◌, Bool, true, ◌&&◌, nat_lt, List, [], ◌∷◌, map, Option, Some, None}
-use Rattle.pdc_table.specs.declared.open_row.OpenRow.{OpenRow}
+use Rattle.std.specs.Prelude.{ℕ, ◌+◌, ◌<◌, ◌==◌, Bool, true, ◌&&◌, nat_lt, if◌then◌else◌, List, [], ◌∷◌, Option, Some, None}
 
 -- the numbers rise strictly, and are above this one
 abbrev pub Rises : ℕ → List ℕ → Type 0
 Rises low [] = Unit {0}
 Rises low (n ∷ ns) = (low < n) × Rises n ns
+
+-- each number is above this one
+abbrev pub AreAbove : ℕ → List ℕ → Type 0
+AreAbove low [] = Unit {0}
+AreAbove low (n ∷ ns) = (low < n) × AreAbove low ns
 
 -- each number is below this one
 abbrev pub AreBelow : ℕ → List ℕ → Type 0
@@ -26,12 +30,18 @@ abbrev pub is_near_any : ℕ → ℕ → Option ℕ → Bool
 is_near_any window i None = true
 is_near_any window i (Some j) = is_near window i j
 
--- the instants of open rows
-abbrev pub instants_of : List OpenRow → List ℕ
-instants_of rows = map (λ (row : OpenRow). row.instant) rows
-
 -- the last of the numbers
 abbrev pub highest_of : List ℕ → Option ℕ
 highest_of [] = None
 highest_of (n ∷ []) = Some n
 highest_of (n ∷ m ∷ ns) = highest_of (m ∷ ns)
+
+-- a number in its place among rising ones: 5 among 3 and 8 makes 3, 5 and 8
+abbrev pub place : ℕ → List ℕ → List ℕ
+place x [] = x ∷ []
+place x (y ∷ ys) = if nat_lt x y then x ∷ y ∷ ys else (if y == x then y ∷ ys else y ∷ place x ys)
+
+-- the numbers, each once, in rising order
+abbrev pub rising : List ℕ → List ℕ
+rising [] = []
+rising (x ∷ xs) = place x (rising xs)

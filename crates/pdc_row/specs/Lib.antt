@@ -1,0 +1,5 @@
+pub mod CellView
+pub mod Chosen
+pub mod Quality
+pub mod Rising
+pub mod RowView

@@ -1,0 +1,37 @@
+-- The highest instant that is held.
+use Rattle.std.proofs.Common.{◌≡◌, ℕ, ◌-◌, ◌<◌, List, [], ◌∷◌, ◌++◌, length, get_or, map, refl, sym, ◌∙◌, ap, arith, suc, true, false, ltb, Some}
+use Rattle.std.specs.List.{slice_get}
+use Rattle.std.proofs.lemmas.Bool.{false≢true}
+use Rattle.pdc_row.specs.Rising.{highest_of}
+use Rattle.pdc_row.proofs.Rising.{lower}
+use Rattle.pdc_table.specs.OpenInstants.{instants_of}
+use Rattle.pdc_row.specs.RowView.{row_view, row_instants}
+use Rattle.pdc_row.specs.declared.due_row.DueRow.{DueRow}
+use Rattle.pdc_table.specs.declared.open_row.OpenRow.{OpenRow}
+
+pub highest_open : (cs : List ℕ) (rows : List OpenRow) (row : OpenRow) → Some row ≡ slice_get rows (length rows - 1) → highest_of (cs ++ instants_of rows) ≡ Some row.instant
+highest_open cs [] row e = cc
+highest_open [] (x ∷ []) row e = let f : Some row ≡ Some x = e in cc
+highest_open [] (x ∷ y ∷ ys) row e =
+    let k : suc (suc (length ys)) - 1 ≡ suc (length ys) = omega arith in
+    let j : suc (length ys) - 1 ≡ length ys = omega arith in
+    let f : Some row ≡ slice_get (y ∷ ys) (length ys) = rw k at e in
+    highest_open [] (y ∷ ys) row (f ∙ ap (λ n. slice_get (y ∷ ys) n) (sym j))
+highest_open (c ∷ []) (x ∷ xs) row e = highest_open [] (x ∷ xs) row e
+highest_open (c ∷ d ∷ cs) (x ∷ xs) row e = highest_open (d ∷ cs) (x ∷ xs) row e
+
+pub no_rows : (rows : List OpenRow) → false ≡ ltb 0 (length rows) → rows ≡ []
+no_rows [] h = refl
+no_rows (x ∷ xs) h = let k : ltb 0 (suc (length xs)) ≡ true = lower 0 (suc (length xs)) (omega arith) in absurd (false≢true (h ∙ k))
+
+highest_row : (rows : List DueRow) (row : DueRow) → 0 < length rows → row ≡ get_or rows (length rows - 1) row → highest_of (row_instants (map row_view rows)) ≡ Some row.instant
+highest_row [] row h e = absurd (omega arith)
+highest_row (x ∷ []) row h e = ap (λ (r : DueRow). Some r.instant) (sym e)
+highest_row (x ∷ y ∷ ys) row h e =
+    let k : suc (suc (length ys)) - 1 ≡ suc (length ys) = omega arith in
+    let j : suc (length ys) - 1 ≡ length ys = omega arith in
+    let f : row ≡ get_or (y ∷ ys) (length ys) row = e ∙ ap (λ n. get_or (x ∷ y ∷ ys) n row) k in
+    highest_row (y ∷ ys) row (omega arith) (f ∙ ap (λ n. get_or (y ∷ ys) n row) (sym j))
+
+pub highest_closed : (rows : List DueRow) (row : DueRow) (n : ℕ) → n ≡ length rows → 0 < n → row ≡ get_or rows (n - 1) row → highest_of (row_instants (map row_view rows)) ≡ Some row.instant
+highest_closed rows row n l h e = highest_row rows row (omega arith) (e ∙ ap (λ m. get_or rows (m - 1) row) l)
