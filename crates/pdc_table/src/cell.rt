@@ -14,7 +14,7 @@ pub struct Cell {
 }
 
 impl Model for Cell {
-    ghost use Rattle.pdc_row.specs.CellView.{CellView, cell_view, is_present, same_block, block_view};
+    ghost use Rattle.pdc_row.specs.CellView.{CellView, cell_view};
 
     ghost Value = { CellView };
 
@@ -22,6 +22,8 @@ impl Model for Cell {
 }
 
 impl Cell {
+    ghost use Rattle.pdc_row.specs.CellView.{cell_view, is_present, same_block, block_view};
+
     /// A copy of the block, and the time quality byte of its frame.
     pub(crate) fn new(block: &Block, quality: u8) -> Cell
         ensures { result ≡ cell_view block.now quality }
