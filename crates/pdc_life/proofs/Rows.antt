@@ -39,12 +39,12 @@ closing_rises g E =
 pub rows_rise : (g : Given) (E : List Entry) → IsLife g E → Rises g.floor (row_instants (closed E))
 rows_rise g [] life = tt
 rows_rise g (Tick now rows adopted used_up ∷ E) life =
-    let before : Rises g.floor (row_instants (closed E)) = rows_rise g E life.3 in
-    let e : row_instants rows ≡ closing g E = ap row_instants life.0 ∙ instants_rows g E (closing g E) in
+    let before : Rises g.floor (row_instants (closed E)) = rows_rise g E life.1 in
+    let e : row_instants rows ≡ closing g E = ap row_instants life.0.closes ∙ instants_rows g E (closing g E) in
     let now_closed : Rises (greatest g.floor (row_instants (closed E))) (row_instants rows) =
     subst (λ n. Rises n (row_instants rows)) (last_is g E) (subst (λ ns. Rises (last_of g E) ns) (sym e) (closing_rises g E)) in
     subst (λ ns. Rises g.floor ns) (sym (instants_append (closed E) rows)) (rises_append g.floor (greatest g.floor (row_instants (closed E))) (row_instants (closed E)) (row_instants rows) (greatest-ge g.floor (row_instants (closed E))) before (below_greatest g.floor (row_instants (closed E))) now_closed)
-rows_rise g (Arrive p bytes arrival answer ∷ E) life = rows_rise g E life.3
+rows_rise g (Arrive p bytes arrival answer ∷ E) life = rows_rise g E life.1
 rows_rise g (Pop row ∷ E) life = rows_rise g E life.1
 
 some_either : (b : Bool) (s t : SectionFields) → IsTrue (is_some (cond b (Some s) (Some t)))

@@ -1,12 +1,12 @@
 -- What a step is answered after a life, and which lives there are (this profile).
-use Rattle.std.specs.Prelude.{◌≡◌, ℕ, ◌+◌, ◌-◌, ◌*◌, ◌^◌, ◌<◌, ◌==◌, Bool, ◌&&◌, not, List, [], ◌∷◌, length, nat_eq, nat_lt, nat_le, if◌then◌else◌, Option, None, Some, slice_index_or}
+use Rattle.std.specs.Prelude.{◌≡◌, ℕ, ◌+◌, ◌-◌, ◌*◌, ◌^◌, ◌<◌, ◌==◌, Bool, ◌&&◌, not, List, [], ◌∷◌, length, map, nat_eq, nat_lt, nat_le, if◌then◌else◌, Option, None, Some, slice_index_or}
 use Rattle.std.specs.List.{list_all, list_any, slice_get}
 use Rattle.std.specs.Cmp.Lexicographic.{pointwise}
 use Rattle.pdc_cfg.specs.Shape.{word_count_of}
 use Rattle.pdc_cfg.specs.Section.{SectionFields}
 use Rattle.pdc_row.specs.CellView.{CellView}
 use Rattle.pdc_life.specs.declared.given.Given.{Given}
-use Rattle.pdc_life.specs.declared.given.Pmu.{Pmu}
+use Rattle.pdc_life.specs.declared.pmu.Pmu.{Pmu}
 use Rattle.pdc_life.specs.declared.outcome.Outcome.{Outcome}
 use Rattle.pdc_life.specs.declared.outcome.Outcome.TheVariants.{Taken, Candidate, Known, Refused}
 use Rattle.pdc_life.specs.declared.outcome.Refusal.TheVariants.{StaleCount, CountConflict, NoConfig, WrongLength, Late, Ahead, OutOfWindow, Duplicate, Conflict}
@@ -70,32 +70,59 @@ is_used_up g E = not (has_change E) && has_candidate g E
 abbrev pub pop_answer : List Entry → Option RowView
 pop_answer E = slice_get (waiting E) 0
 
-abbrev pub pmu_at : Given → ℕ → Pmu
-pmu_at g p = slice_index_or g.settings.pmus.items p (record { stream = 0; source = 0; time_base = 0 })
+-- Bytes arrived for a PMU of the settings, they say this, and it was answered as what came before says.
+pub record HasArrived (g : Given) (E : List Entry) (p : ℕ) (bytes : List ℕ) (arrival : Arrival) (answer : Outcome) : Type 0 where
+  pub pmu : Pmu
+  pub listed : slice_get g.settings.pmus.items p ≡ Some pmu
+  pub reads : Reads g.settings pmu bytes arrival
+  pub answers : answer ≡ arrival_answer g E p arrival
+
+-- A tick closed the rows that close then, adopted where a count was newer, and told whether the change numbers were used up.
+pub record HasTicked (g : Given) (E : List Entry) (rows : List RowView) (adopted used_up : Bool) : Type 0 where
+  pub closes : rows ≡ rows_of g E
+  pub adoption : adopted ≡ adopts g E
+  pub change_left : used_up ≡ is_used_up g E
 
 -- Each step was answered as the steps before it say.
 abbrev pub IsLife : Given → List Entry → Type 0
 IsLife g [] = Unit {0}
-IsLife g (Arrive p bytes arrival answer ∷ E) =
-    (p < length g.settings.pmus.items) × Reads g.settings (pmu_at g p) bytes arrival
-    × (answer ≡ arrival_answer g E p arrival) × IsLife g E
-IsLife g (Tick now rows adopted used_up ∷ E) =
-    (rows ≡ rows_of g E) × (adopted ≡ adopts g E) × (used_up ≡ is_used_up g E) × IsLife g E
+IsLife g (Arrive p bytes arrival answer ∷ E) = HasArrived g E p bytes arrival answer × IsLife g E
+IsLife g (Tick now rows adopted used_up ∷ E) = HasTicked g E rows adopted used_up × IsLife g E
 IsLife g (Pop row ∷ E) = (row ≡ pop_answer E) × IsLife g E
 
--- a step without its answer
-pub data Step : Type 0 where
-  Arrives : (p : ℕ) (bytes : List ℕ) (arrival : Arrival) → Step
-  Ticks : (now : ℕ) → Step
-  Pops : Step
+-- A step as it happens: bytes arrive for a PMU, its number from 0; a tick, with the instant that is now; a pop.
+pub data StepView : Type 0 where
+  Arrives : (p : ℕ) (bytes : List ℕ) → StepView
+  Ticks : (now : ℕ) → StepView
+  Pops : StepView
+
+abbrev pub step_of : Entry → StepView
+step_of (Arrive p bytes arrival answer) = Arrives p bytes
+step_of (Tick now rows adopted used_up) = Ticks now
+step_of (Pop row) = Pops
+
+-- the steps of a life, the newest first
+abbrev pub steps_of : List Entry → List StepView
+steps_of E = map step_of E
+
+-- the life of these steps, the newest first
+pub record IsLifeOf (g : Given) (steps : List StepView) (E : List Entry) : Type 0 where
+  pub life : IsLife g E
+  pub same_steps : steps_of E ≡ steps
+
+-- a step whose bytes are read
+pub data ReadStep : Type 0 where
+  Heard : (p : ℕ) (bytes : List ℕ) (arrival : Arrival) → ReadStep
+  Ticked : (now : ℕ) → ReadStep
+  Popped : ReadStep
 
 -- the step with the answer that it gets after E
-abbrev pub answered : Given → List Entry → Step → Entry
-answered g E (Arrives p bytes arrival) = Arrive p bytes arrival (arrival_answer g E p arrival)
-answered g E (Ticks now) = Tick now (rows_of g E) (adopts g E) (is_used_up g E)
-answered g E Pops = Pop (pop_answer E)
+abbrev pub answered : Given → List Entry → ReadStep → Entry
+answered g E (Heard p bytes arrival) = Arrive p bytes arrival (arrival_answer g E p arrival)
+answered g E (Ticked now) = Tick now (rows_of g E) (adopts g E) (is_used_up g E)
+answered g E Popped = Pop (pop_answer E)
 
 -- the life after these steps, the first of them first
-abbrev pub life_from : Given → List Entry → List Step → List Entry
+abbrev pub life_from : Given → List Entry → List ReadStep → List Entry
 life_from g E [] = E
 life_from g E (s ∷ ss) = life_from g (answered g E s ∷ E) ss

@@ -11,7 +11,7 @@ use Rattle.pdc_cfg.specs.declared.fault.CfgFault.{CfgFault}
 use Rattle.pdc_cfg.specs.declared.fault.CfgFault.TheVariants.{WrongKind, Cut, TooMany, FloatFormat}
 use Rattle.pdc_tag.specs.Instant.{IsInstant}
 use Rattle.pdc_life.specs.declared.given.Settings.{Settings}
-use Rattle.pdc_life.specs.declared.given.Pmu.{Pmu}
+use Rattle.pdc_life.specs.declared.pmu.Pmu.{Pmu}
 use Rattle.pdc_life.specs.declared.outcome.Refusal.{Refusal}
 use Rattle.pdc_life.specs.declared.outcome.Refusal.TheVariants.{NoFrame, WrongId, NoLayout, WrongTimeBase, WrongRate, WrongSource, BadTag}
 

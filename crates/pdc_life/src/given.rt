@@ -1,18 +1,10 @@
 //! What is fixed in a life.
-ghost use Rattle.std.specs.Prelude.{◌≡◌, ◌<◌, ◌≤◌, length};
+ghost use Rattle.std.specs.Prelude.{◌^◌, ◌<◌, ◌≤◌, IsTrue, length, nat_le};
+ghost use Rattle.std.specs.List.{list_all};
+ghost use Rattle.pdc_life.specs.declared.pmu.Pmu.{Pmu as PmuData};
 
+use crate::pmu::Pmu;
 use arrayvec::ArrayVec;
-
-/// A PMU whose stream a node takes.
-#[derive(Clone, Copy, Debug, Default)]
-pub struct Pmu {
-    /// The id of its stream, 1 to 65534.
-    pub stream: u16,
-    /// The id of the source that its section names, 1 to 65534.
-    pub source: u16,
-    /// The counts of FRACSEC in a second, from the rate to 16777215.
-    pub time_base: u32,
-}
 
 /// The nominal frequency of the grid.
 #[derive(Clone, Copy, Debug, PartialEq, Eq)]
@@ -40,8 +32,22 @@ pub struct Settings {
     pub window: u64,
     /// How far above the last tick's now an instant may lie, 0 to 1000 instants.
     pub ahead: u64,
-    /// The PMUs, 1 to 16, in the order of the columns.
+    /// The PMUs, 1 to 16, in the order of the columns. Each one's TIME_BASE is at least the rate.
     pub pmus: ArrayVec<Pmu, 16>,
+    pub ghost id_low: { 0 < id },
+    pub ghost id_high: { id < 65535 },
+    pub ghost rate_low: { 1 ≤ rate },
+    pub ghost rate_high: { rate ≤ 240 },
+    pub ghost time_base_low: { rate ≤ time_base },
+    pub ghost time_base_high: { time_base < 2 ^ 24 },
+    pub ghost wait_low: { 1 ≤ wait },
+    pub ghost wait_high: { wait ≤ 1000 },
+    pub ghost window_low: { 8 ≤ window },
+    pub ghost window_high: { window ≤ 256 },
+    pub ghost ahead_high: { ahead ≤ 1000 },
+    pub ghost some: { 0 < length pmus.items },
+    pub ghost few: { length pmus.items ≤ 16 },
+    pub ghost bases: { IsTrue (list_all (λ (pmu : PmuData). nat_le rate pmu.time_base) pmus.items) },
 }
 
 /// What is given to a life: its settings, and what it starts with.

@@ -11,10 +11,12 @@
 mod given;
 mod laws;
 mod outcome;
+mod pmu;
 
-pub use given::{Given, Nominal, Pmu, Settings};
+pub use given::{Given, Nominal, Settings};
 pub use laws::{
     answers_are_one, closed_stay_closed, counts_stay, held_is_greatest, none_overtakes, rows_rise,
     taken_is_in_time,
 };
 pub use outcome::{Outcome, Refusal};
+pub use pmu::Pmu;

@@ -1,0 +1,29 @@
+//! What a node is told of a PMU.
+ghost use Rattle.std.specs.Prelude.{◌^◌, ◌<◌};
+
+/// A PMU whose stream a node takes.
+#[derive(Clone, Copy, Debug)]
+pub struct Pmu {
+    /// The id of its stream, 1 to 65534.
+    pub stream: u16,
+    /// The id of the source that its section names, 1 to 65534.
+    pub source: u16,
+    /// The counts of FRACSEC in a second, from the rate to 16777215.
+    pub time_base: u32,
+    pub ghost stream_low: { 0 < stream },
+    pub ghost stream_high: { stream < 65535 },
+    pub ghost source_low: { 0 < source },
+    pub ghost source_high: { source < 65535 },
+    pub ghost time_base_high: { time_base < 2 ^ 24 },
+}
+
+/// A PMU to fill places of a list with: every id is 1, and TIME_BASE is the greatest.
+impl Default for Pmu {
+    fn default() -> Pmu {
+        Pmu {
+            stream: 1,
+            source: 1,
+            time_base: 0x00FF_FFFF,
+        }
+    }
+}
