@@ -2,7 +2,7 @@
 -- frames a second from SOC 1149577200 on, whose first instant is 57478860000. What arrives is given as read; where only the
 -- answer matters, the bytes beside it stand for any that say so.
 use Rattle.std.specs.Prelude.{◌≡◌, ℕ, ◌+◌, ◌<◌, ◌≤◌, List, [], ◌∷◌, length, map, false, refl}
-use Rattle.std.proofs.Common.{arith, IsTrue}
+use Rattle.std.proofs.Common.{arith, IsTrue, nat_le}
 use Rattle.pdc_cfg.specs.declared.shape.Shape.{Shape}
 use Rattle.pdc_cfg.specs.Section.{SectionFields}
 use Rattle.pdc_row.specs.CellView.{BlockView}
