@@ -1,8 +1,10 @@
 //! A closed row.
-ghost use Rattle.std.specs.Prelude.{◌≤◌, length};
+ghost use Rattle.std.specs.Prelude.{◌≡◌, ◌≤◌, length, map};
+ghost use Rattle.pdc_row.specs.CellView.{block_view};
 
 use arrayvec::ArrayVec;
 use pdc_block::Block;
+use std::alloc::AllocError;
 
 /// The row of an instant that is closed (this profile).
 #[derive(Debug, Drop)]
@@ -19,4 +21,35 @@ pub struct DueRow {
     pub blocks: ArrayVec<Block, 16>,
     pub ghost quality_fits: { quality ≤ 15 },
     pub ghost few: { length blocks.items ≤ 16 },
+}
+
+/// A copy takes no memory.
+impl Clone for DueRow {
+    ghost use Rattle.pdc_row.specs.RowView.{row_view};
+
+    ghost is_clone = { λ row copy. row_view copy ≡ row_view row };
+
+    ghost is_infallible = { λ _. Unit {0} };
+
+    fn clone(&self) -> Result<DueRow, AllocError> {
+        Ok(DueRow {
+            instant: self.instant,
+            start: self.start,
+            change: self.change,
+            quality: self.quality,
+            blocks: copies(self.blocks.as_slice()),
+        })
+    }
+}
+
+// The same blocks again.
+fn copies(blocks: &[Block]) -> ArrayVec<Block, 16>
+    requires { length blocks.now ≤ 16 }
+    ensures { map block_view result.items ≡ map block_view blocks.now }
+{
+    let mut copies = ArrayVec::new();
+    for block in blocks {
+        copies.push(Block::from_words(block.shape, block.words()));
+    }
+    copies
 }
