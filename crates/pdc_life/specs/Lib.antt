@@ -4,3 +4,4 @@ pub mod Laws
 pub mod Layout
 pub mod Life
 pub mod Row
+pub mod Views

@@ -11,7 +11,12 @@
 mod given;
 mod laws;
 mod outcome;
+mod past;
 mod pmu;
+mod reading;
+mod steps;
+mod take;
+mod taking;
 
 pub use given::{Given, Nominal, Settings};
 pub use laws::{
@@ -19,4 +24,7 @@ pub use laws::{
     taken_is_in_time,
 };
 pub use outcome::{Outcome, Refusal};
+pub use past::now_of;
 pub use pmu::Pmu;
+pub use reading::Reading;
+pub use steps::{Answered, Step};

@@ -1,0 +1,40 @@
+-- What contracts see of steps and of what bytes say, wherever they lie in memory.
+use Rattle.std.specs.Prelude.{ℕ, List, [], ◌∷◌, map, option_map, Some}
+use Rattle.pdc_cfg.specs.Section.{fields_of_view}
+use Rattle.pdc_row.specs.RowView.{row_view}
+use Rattle.pdc_life.specs.declared.take.Take.{Take as TakeData}
+use Rattle.pdc_life.specs.declared.reading.Reading.{Reading}
+use Rattle.pdc_life.specs.declared.reading.Reading.TheVariants as reading
+use Rattle.pdc_life.specs.declared.steps.Step.{Step}
+use Rattle.pdc_life.specs.declared.steps.Step.TheVariants as step
+use Rattle.pdc_life.specs.declared.steps.Answered.{Answered}
+use Rattle.pdc_life.specs.declared.steps.Answered.TheVariants as answered
+use Rattle.pdc_life.specs.Arrival.{Arrival, Unread, Data, Configuration}
+use Rattle.pdc_life.specs.Life.{Entry, Arrive, Tick, Pop, Take, cells_of}
+use Rattle.pdc_life.specs.Answer.{StepView, Arrives, Ticks, Pops}
+
+abbrev pub arrival_view : Reading → Arrival
+arrival_view (reading.Unread refusal) = Unread refusal
+arrival_view (reading.Data instant quality payload) = Data instant quality payload.now
+arrival_view (reading.Configuration section) = Configuration (fields_of_view section)
+
+abbrev pub step_view : Step → StepView
+step_view (step.Arrive pmu bytes) = Arrives pmu bytes.now
+step_view (step.Tick now) = Ticks now
+step_view step.Pop = Pops
+
+abbrev pub entry_view : Answered → Entry
+entry_view (answered.Arrival pmu bytes reading answer) = Arrive pmu bytes.now (arrival_view reading) answer
+entry_view (answered.Tick now rows adopted used_up) = Tick now (map row_view rows.items) adopted used_up
+entry_view (answered.Pop row) = Pop (option_map row_view row)
+
+-- the life that is kept newest first
+abbrev pub life_view : List Answered → List Entry
+life_view entries = map entry_view entries
+
+abbrev pub take_view : TakeData → Take
+take_view t = record {
+  stream = t.pmu;
+  instant = t.instant;
+  cells = cells_of (Some (fields_of_view t.section)) t.pmu t.quality t.payload.now;
+}
