@@ -1,6 +1,6 @@
 -- The spelling of a block, and of the payload of a data frame (IEEE C37.118.2-2011, 6.3 and table 6, in 16-bit
 -- formats).
-use Rattle.std.specs.Prelude.{◌≡◌, ℕ, ◌*◌, ◌^◌, ◌<◌, List, [], ◌∷◌, length, slice_index}
+use Rattle.std.specs.Prelude.{◌≡◌, ℕ, ◌+◌, ◌*◌, ◌^◌, ◌<◌, List, [], ◌∷◌, length, slice_index}
 use Rattle.std.specs.Int.{w16, to_be_bytes}
 use Rattle.std.specs.List.{flat_map}
 use Rattle.pdc_cfg.specs.Shape.{word_count_of}
@@ -14,6 +14,13 @@ AreWords words = (i : ℕ) → slice_index words i < 2 ^ 16
 -- the words on the wire: each with its high byte first
 abbrev pub bytes_of_words : List ℕ → List ℕ
 bytes_of_words words = flat_map (to_be_bytes w16) words
+
+-- The words that the bytes write: each two bytes, the high one first. `bodies_are_their_words` is the law that these are
+-- the words of a body.
+abbrev pub words_in : List ℕ → List ℕ
+words_in [] = []
+words_in (byte ∷ []) = []
+words_in (high ∷ low ∷ bytes) = (256 * high + low) ∷ words_in bytes
 
 -- the words of a block, in wire order
 abbrev pub words_of : Block → List ℕ

@@ -6,6 +6,7 @@
 
 mod block;
 mod fault;
+mod laws;
 mod reading;
 #[cfg(test)]
 mod tests;
@@ -13,5 +14,6 @@ mod writing;
 
 pub use block::{Block, MAX_WORDS};
 pub use fault::BodyFault;
+pub use laws::bodies_are_their_words;
 pub use reading::{cut, read_body};
 pub use writing::join;

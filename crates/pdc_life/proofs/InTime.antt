@@ -12,7 +12,8 @@ use Rattle.pdc_life.specs.declared.outcome.Outcome.{Outcome}
 use Rattle.pdc_life.specs.declared.outcome.Outcome.TheVariants.{Taken, Refused}
 use Rattle.pdc_life.specs.declared.outcome.Refusal.{Refusal}
 use Rattle.pdc_life.specs.declared.outcome.Refusal.TheVariants.{WrongLength, Late, Ahead, OutOfWindow, Duplicate, Conflict}
-use Rattle.pdc_life.specs.Life.{Entry, Take, cell_in, section_in_force, held_instants, is_taken, last_of, now_of, take_of, words_in}
+use Rattle.pdc_life.specs.Life.{Entry, Take, cell_in, section_in_force, held_instants, is_taken, last_of, now_of, take_of}
+use Rattle.pdc_block.specs.Block.{words_in}
 use Rattle.pdc_row.specs.Rising.{is_near}
 use Rattle.pdc_life.specs.Answer.{answer_again, data_answer, first_cause, take_answer}
 use Rattle.pdc_life.specs.Laws.{IsInTime}

@@ -19,7 +19,8 @@ use Rattle.pdc_life.specs.declared.outcome.Outcome.TheVariants.{Taken, Candidate
 use Rattle.pdc_life.specs.declared.outcome.Refusal.TheVariants.{StaleCount, CountConflict, NoConfig, Late, Ahead, OutOfWindow, Duplicate, Conflict}
 use Rattle.pdc_life.specs.Arrival.{Data, Configuration}
 use Rattle.pdc_row.specs.RowView.{RowView}
-use Rattle.pdc_life.specs.Life.{Entry, Arrive, changes, open_instants, popped, words_in}
+use Rattle.pdc_life.specs.Life.{Entry, Arrive, changes, open_instants, popped}
+use Rattle.pdc_block.specs.Block.{words_in}
 use Rattle.pdc_life.specs.Answer.{ReadStep, Heard, Ticked, Popped, life_from}
 use Rattle.pdc_life.specs.Layout.{layout_wire, published}
 

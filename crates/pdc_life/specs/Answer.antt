@@ -12,7 +12,8 @@ use Rattle.pdc_life.specs.declared.outcome.Outcome.TheVariants.{Taken, Candidate
 use Rattle.pdc_life.specs.declared.outcome.Refusal.TheVariants.{StaleCount, CountConflict, NoConfig, WrongLength, Late, Ahead, OutOfWindow, Duplicate, Conflict}
 use Rattle.pdc_life.specs.Arrival.{Arrival, Unread, Data, Configuration, Reads}
 use Rattle.pdc_row.specs.RowView.{RowView}
-use Rattle.pdc_life.specs.Life.{Entry, Arrive, Tick, Pop, Take, cell_in, changes, section_in_force, held_instants, held_section, is_newer, last_of, now_of, pmus_of, take_of, waiting, words_in}
+use Rattle.pdc_life.specs.Life.{Entry, Arrive, Tick, Pop, Take, cell_in, changes, section_in_force, held_instants, held_section, is_newer, last_of, now_of, pmus_of, take_of, waiting}
+use Rattle.pdc_block.specs.Block.{words_in}
 use Rattle.pdc_row.specs.Rising.{is_near}
 use Rattle.pdc_life.specs.Row.{rows_of}
 

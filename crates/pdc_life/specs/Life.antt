@@ -5,6 +5,7 @@
 use Rattle.std.specs.Prelude.{ℕ, ◌+◌, ◌*◌, ◌==◌, Bool, true, false, ◌&&◌, List, [], ◌∷◌, ◌++◌, length, map, filter, find, drop, nat_lt, if◌then◌else◌, Option, None, Some, option_map}
 use Rattle.std.specs.List.{list_any, range_with_len}
 use Rattle.pdc_cfg.specs.Section.{SectionFields}
+use Rattle.pdc_block.specs.Block.{words_in}
 use Rattle.pdc_row.specs.CellView.{CellView}
 use Rattle.pdc_row.specs.Quality.{greatest}
 use Rattle.pdc_row.specs.Rising.{rising}
@@ -75,12 +76,6 @@ abbrev pub is_taken : Outcome → Bool
 is_taken Taken = true
 is_taken _ = false
 
--- the words of a body: each two bytes, the high one first
-abbrev pub words_in : List ℕ → List ℕ
-words_in [] = []
-words_in (byte ∷ []) = []
-words_in (high ∷ low ∷ bytes) = (256 * high + low) ∷ words_in bytes
-
 -- the cells that a PMU's data gives, where this section is in force: its words, in its own column
 abbrev pub cells_of : Option SectionFields → ℕ → ℕ → List ℕ → List (ℕ × CellView)
 cells_of None p quality payload = []
@@ -138,9 +133,12 @@ abbrev pub age_of : List Entry → ℕ → ℕ
 age_of [] i = 0
 age_of (e ∷ E) i = if was_taken E i then age_of E i + ticks_in e else 0
 
+abbrev pub taken_instants : List Entry → List ℕ
+taken_instants E = map (λ (t : Take). t.instant) (takes E)
+
 -- The open instants: those taken that are above the last one closed, in rising order.
 abbrev pub open_instants : Given → List Entry → List ℕ
-open_instants g E = rising (filter (λ i. nat_lt (last_of g E) i) (map (λ (t : Take). t.instant) (takes E)))
+open_instants g E = rising (filter (λ i. nat_lt (last_of g E) i) (taken_instants E))
 
 -- the rows that closed and were not popped, the first to close first
 abbrev pub waiting : List Entry → List RowView

@@ -9,6 +9,7 @@
 #![tactic(auto)]
 
 mod given;
+mod instants;
 mod laws;
 mod outcome;
 mod past;

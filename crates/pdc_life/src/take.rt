@@ -1,8 +1,10 @@
 //! Data that was taken.
 ghost use Rattle.std.specs.Prelude.{◌≡◌, ◌*◌, length};
 ghost use Rattle.pdc_cfg.specs.Shape.{word_count_of};
+ghost use Rattle.pdc_block.specs.Block.{words_in, words_of};
 
-use pdc_cfg::SectionView;
+use pdc_block::{Block, bodies_are_their_words, read_body};
+use pdc_cfg::{SectionView, Shape};
 
 /// Data that was taken of a PMU.
 #[derive(Clone, Copy, Debug)]
@@ -18,4 +20,25 @@ pub struct Take<'a> {
     /// The payload of the frame, as long as the section says.
     pub payload: &'a [u8],
     pub ghost sized: { length payload.now ≡ 2 * word_count_of section.shape },
+}
+
+impl Take<'_> {
+    ghost use Rattle.pdc_row.specs.CellView.{block_view};
+
+    /// The block that the payload is.
+    pub fn block(&self) -> Block
+        ensures { block_view result ≡ record { shape = self.now.section.shape; words = words_in self.now.payload.now } }
+    {
+        body(self.section.shape, self.payload)
+    }
+}
+
+// The block of this shape that the bytes are.
+fn body(shape: Shape, bytes: &[u8]) -> Block
+    requires { length bytes.now ≡ 2 * word_count_of shape }
+    ensures shape { result.shape ≡ shape }
+    ensures words { words_of result ≡ words_in bytes.now }
+{
+    bodies_are_their_words();
+    read_body(shape, bytes).unwrap()
 }

@@ -1,4 +1,4 @@
-use Rattle.std.proofs.Common.{◌≡◌, ◌≤◌, ◌*◌, ◌+◌, ◌++◌, take, map, vec_len}
+use Rattle.std.proofs.Common.{◌≡◌, ◌≤◌, ◌+◌, ◌++◌, take, map, vec_len}
 use Rattle.std.specs.Prelude.{sum_by, vec_capacity}
 use Rattle.pdc_block.specs.Block.{bytes_of_blocks, words_of, body_len_of, shape_of}
 use Rattle.pdc_block.proofs.writing.join.Given as goal
