@@ -1,5 +1,6 @@
-pub mod Closing
+pub mod StayClosed
 pub mod Held
 pub mod InTime
-pub mod Rows
+pub mod RowsRise
 pub mod Worked
+pub mod Ranges

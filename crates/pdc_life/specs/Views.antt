@@ -1,6 +1,8 @@
 -- What contracts see of steps and of what bytes say, wherever they lie in memory.
-use Rattle.std.specs.Prelude.{ℕ, List, [], ◌∷◌, map, option_map, Some}
+use Rattle.std.specs.Prelude.{ℕ, List, [], ◌∷◌, map, option_map}
 use Rattle.pdc_cfg.specs.Section.{fields_of_view}
+use Rattle.pdc_block.specs.Block.{words_in}
+use Rattle.pdc_row.specs.CellView.{CellView}
 use Rattle.pdc_row.specs.RowView.{row_view}
 use Rattle.pdc_life.specs.declared.take.Take.{Take as TakeData}
 use Rattle.pdc_life.specs.declared.reading.Reading.{Reading}
@@ -10,7 +12,7 @@ use Rattle.pdc_life.specs.declared.steps.Step.TheVariants as step
 use Rattle.pdc_life.specs.declared.steps.Answered.{Answered}
 use Rattle.pdc_life.specs.declared.steps.Answered.TheVariants as answered
 use Rattle.pdc_life.specs.Arrival.{Arrival, Unread, Data, Configuration}
-use Rattle.pdc_life.specs.Life.{Entry, Arrive, Tick, Pop, Take, cells_of}
+use Rattle.pdc_life.specs.Life.{Entry, Arrive, Tick, Pop, Take}
 use Rattle.pdc_life.specs.Answer.{StepView, Arrives, Ticks, Pops}
 
 abbrev pub arrival_view : Reading → Arrival
@@ -32,9 +34,9 @@ entry_view (answered.Pop row) = Pop (option_map row_view row)
 abbrev pub life_view : List Answered → List Entry
 life_view entries = map entry_view entries
 
+-- the cell that data gives to the column of its PMU
+abbrev pub cell_of_take : TakeData → CellView
+cell_of_take t = record { block = record { shape = t.section.shape; words = words_in t.payload.now }; quality = t.quality }
+
 abbrev pub take_view : TakeData → Take
-take_view t = record {
-  stream = t.pmu;
-  instant = t.instant;
-  cells = cells_of (Some (fields_of_view t.section)) t.pmu t.quality t.payload.now;
-}
+take_view t = record { stream = t.pmu; instant = t.instant; cells = (t.pmu, cell_of_take t) ∷ [] }

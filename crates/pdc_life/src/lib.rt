@@ -8,6 +8,7 @@
 //! To the layers above this crate promises what holds of every life: its rows rise strictly above the floor.
 #![tactic(auto)]
 
+mod closing;
 mod given;
 mod instants;
 mod laws;

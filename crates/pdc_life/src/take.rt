@@ -5,6 +5,7 @@ ghost use Rattle.pdc_block.specs.Block.{words_in, words_of};
 
 use pdc_block::{Block, bodies_are_their_words, read_body};
 use pdc_cfg::{SectionView, Shape};
+use pdc_row::is_present;
 
 /// Data that was taken of a PMU.
 #[derive(Clone, Copy, Debug)]
@@ -23,13 +24,21 @@ pub struct Take<'a> {
 }
 
 impl Take<'_> {
-    ghost use Rattle.pdc_row.specs.CellView.{block_view};
+    ghost use Rattle.pdc_row.specs.CellView.{block_view, is_present};
+    ghost use Rattle.pdc_life.specs.Views.{cell_of_take};
 
     /// The block that the payload is.
     pub fn block(&self) -> Block
-        ensures { block_view result ≡ record { shape = self.now.section.shape; words = words_in self.now.payload.now } }
+        ensures { block_view result ≡ (cell_of_take self.now).block }
     {
         body(self.section.shape, self.payload)
+    }
+
+    /// Whether the block is any other than the absent one of its shape.
+    pub fn is_present(&self) -> bool
+        ensures { result ≡ is_present (cell_of_take self.now).block }
+    {
+        is_present(&self.block())
     }
 }
 

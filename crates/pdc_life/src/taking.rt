@@ -1,9 +1,10 @@
 //! What was taken, asked of the whole list. A life is kept newest first.
-ghost use Rattle.std.specs.Prelude.{◌≡◌, ◌*◌, ◌≤◌, ◌∷◌, length, option_map};
+ghost use Rattle.std.specs.Prelude.{◌≡◌, ◌*◌, ◌≤◌, ◌∷◌, IfSome, length, option_map};
 ghost use Rattle.std.specs.Option.{option_to_list};
+ghost use Rattle.pdc_row.specs.Chosen.{present_of};
 ghost use Rattle.pdc_life.specs.Answer.{IsLife};
-ghost use Rattle.pdc_life.specs.Life.{age_of, is_adoption_of, take_at, take_of, ticks_in, was_taken};
-ghost use Rattle.pdc_life.specs.Views.{entry_view, life_view, take_view};
+ghost use Rattle.pdc_life.specs.Life.{age_of, cell_of, is_adoption_of, take_at, take_of, ticks_in, was_taken};
+ghost use Rattle.pdc_life.specs.Views.{cell_of_take, entry_view, life_view, take_view};
 
 use crate::given::Given;
 use crate::outcome::Outcome;
@@ -62,7 +63,8 @@ pub fn take_of<'a>(
     instant: u64,
 ) -> Option<Take<'a>>
     requires { IsLife given.now (life_view life.now) }
-    ensures { take_of (life_view life.now) pmu instant ≡ option_map take_view result }
+    ensures take { take_of (life_view life.now) pmu instant ≡ option_map take_view result }
+    ensures pmu { IfSome result (λ take. take.pmu ≡ pmu) }
 {
     let (newest, earlier) = life.split_first()?;
     if is_adoption_of(newest, earlier, pmu) {
@@ -78,6 +80,20 @@ pub fn take_of<'a>(
         }
         None => take_of(given, earlier, pmu, instant),
     }
+}
+
+/// The data taken of a PMU for an instant since its count in force changed, where its block is present.
+pub fn present_take<'a>(
+    given: &Given,
+    life: &[Answered<'a>],
+    pmu: usize,
+    instant: u64,
+) -> Option<Take<'a>>
+    requires { IsLife given.now (life_view life.now) }
+    ensures { option_map cell_of_take result ≡ present_of (cell_of (life_view life.now) pmu instant) }
+{
+    let take = take_of(given, life, pmu, instant)?;
+    if take.is_present() { Some(take) } else { None }
 }
 
 /// Whether anything was taken for the instant, though it were dropped since.

@@ -7,5 +7,7 @@
 #![tactic(auto)]
 
 mod due_row;
+mod present;
 
 pub use due_row::DueRow;
+pub use present::is_present;

@@ -3,7 +3,7 @@ ghost use Rattle.std.specs.Prelude.{◌≡◌, ◌%◌, not};
 ghost use Rattle.pdc_block.specs.Block.{words_of};
 
 use pdc_block::Block;
-use pdc_stat::is_absent;
+use pdc_row::is_present;
 use std::marker::Model;
 
 /// A block that was taken, and the time quality byte of its frame.
@@ -52,7 +52,7 @@ impl Cell {
     pub(crate) fn is_present(&self) -> bool
         ensures { result ≡ is_present self.now.block }
     {
-        !is_absent(&self.block)
+        is_present(&self.block)
     }
 
     /// Whether the block has this shape and these words.

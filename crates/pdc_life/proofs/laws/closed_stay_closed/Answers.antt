@@ -1,4 +1,4 @@
-use Rattle.pdc_life.proofs.Closing.{closed_stay_closed}
+use Rattle.pdc_life.proofs.StayClosed.{closed_stay_closed}
 use Rattle.pdc_life.proofs.laws.closed_stay_closed.Goals as goal
 
 pub returns : goal.returns

@@ -1,4 +1,4 @@
-use Rattle.pdc_life.proofs.Rows.{counts_stay}
+use Rattle.pdc_life.proofs.RowsRise.{counts_stay}
 use Rattle.pdc_life.proofs.laws.counts_stay.Goals as goal
 
 pub returns : goal.returns

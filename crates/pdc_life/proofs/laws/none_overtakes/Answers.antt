@@ -1,4 +1,4 @@
-use Rattle.pdc_life.proofs.Closing.{none_overtakes}
+use Rattle.pdc_life.proofs.StayClosed.{none_overtakes}
 use Rattle.pdc_life.proofs.laws.none_overtakes.Goals as goal
 
 pub returns : goal.returns

@@ -1,4 +1,4 @@
-use Rattle.pdc_life.proofs.Rows.{rows_rise}
+use Rattle.pdc_life.proofs.RowsRise.{rows_rise}
 use Rattle.pdc_life.proofs.laws.rows_rise.Goals as goal
 
 pub returns : goal.returns

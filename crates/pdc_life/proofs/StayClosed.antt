@@ -14,7 +14,7 @@ use Rattle.pdc_life.specs.Answer.{data_answer}
 use Rattle.pdc_row.specs.Rising.{AreBelow}
 use Rattle.pdc_life.specs.Laws.{IsInTime, closed}
 use Rattle.pdc_life.proofs.InTime.{in_time}
-use Rattle.pdc_life.proofs.Rows.{last_is}
+use Rattle.pdc_life.proofs.RowsRise.{last_is}
 
 pub closed_stay_closed : (g : Given) (E : List Entry) (p i : ℕ) (payload : List ℕ) → data_answer g E p i payload ≡ Taken → (g.floor < i) × AreBelow i (row_instants (closed E))
 closed_stay_closed g E p i payload h =
