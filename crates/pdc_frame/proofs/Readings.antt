@@ -1,4 +1,4 @@
--- Bytes are read in one way: as one frame, or with one fault.
+-- Bytes are at most one frame and have at most one fault, and no frame has a fault.
 use Rattle.std.proofs.Common.{◌≡◌, ◌++◌, [], ℕ, List, refl, sym, ap, ◌∙◌, arith}
 use Rattle.pdc_frame.specs.declared.fault.FrameFault.{FrameFault}
 use Rattle.pdc_frame.specs.declared.fault.FrameFault.TheVariants.{Short, BadSync, SizeMismatch, BadCheck, BadId}

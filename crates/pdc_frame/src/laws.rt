@@ -20,7 +20,7 @@ pub fn spellings_stand_apart()
     ensures found { (f g : Fields) (rest other : List ℕ) → Fits f → Fits g → spelling_of f ++ rest ≡ spelling_of g ++ other → (f ≡ g) × (rest ≡ other) }
 {}
 
-/// Bytes are read in one way: they are one frame, or none for one cause, and never both.
+/// Bytes are read in one way: they are at most one frame, they have at most one fault, and no frame has a fault.
 pub fn frames_are_read_in_one_way()
     ensures same { (bytes : List ℕ) (f g : Fields) → IsFrame bytes f → IsFrame bytes g → f ≡ g }
     ensures fault { (bytes : List ℕ) (a b : FrameFault) → IsFirstFault bytes a → IsFirstFault bytes b → a ≡ b }
