@@ -1,4 +1,5 @@
 pub mod Shapes
 pub mod Sections
 pub mod Configs
+pub mod Faults
 pub mod Parts

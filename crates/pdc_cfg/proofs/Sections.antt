@@ -61,14 +61,14 @@ pub record Follows (rest : List ℕ) : Type 0 where
   pub parts : rest ≡ next.bytes ++ tail
 
 -- behind fewer sections than there are stands another
-next_section : (xs ys : List SectionFields) (x : List ℕ) → AllByRecursion IsSection xs → AllByRecursion IsSection ys → length xs < length ys
-    → bytes_of_sections xs ++ x ≡ bytes_of_sections ys → Follows x
-next_section [] [] x ha hb lt e = absurd (omega arith)
-next_section [] (b ∷ ys) x ha hb lt e = record { next = b; whole = hb.0; tail = bytes_of_sections ys; parts = e }
-next_section (a ∷ xs) [] x ha hb lt e = absurd (omega arith)
-next_section (a ∷ xs) (b ∷ ys) x ha hb lt e =
-    let grouped : a.bytes ++ (bytes_of_sections xs ++ x) ≡ b.bytes ++ bytes_of_sections ys = sym (append_assoc a.bytes (bytes_of_sections xs) x) ∙ e in
-    next_section xs ys x ha.1 hb.1 (omega arith) (same_section a b (bytes_of_sections xs ++ x) (bytes_of_sections ys) ha.0 hb.0 grouped).1
+pub next_section : (xs ys : List SectionFields) (x y : List ℕ) → AllByRecursion IsSection xs → AllByRecursion IsSection ys → length xs < length ys
+    → bytes_of_sections xs ++ x ≡ bytes_of_sections ys ++ y → Follows x
+next_section [] [] x y ha hb lt e = absurd (omega arith)
+next_section [] (b ∷ ys) x y ha hb lt e = record { next = b; whole = hb.0; tail = bytes_of_sections ys ++ y; parts = e ∙ append_assoc b.bytes (bytes_of_sections ys) y }
+next_section (a ∷ xs) [] x y ha hb lt e = absurd (omega arith)
+next_section (a ∷ xs) (b ∷ ys) x y ha hb lt e =
+    let grouped : a.bytes ++ (bytes_of_sections xs ++ x) ≡ b.bytes ++ (bytes_of_sections ys ++ y) = sym (append_assoc a.bytes (bytes_of_sections xs) x) ∙ e ∙ append_assoc b.bytes (bytes_of_sections ys) y in
+    next_section xs ys x y ha.1 hb.1 (omega arith) (same_section a b (bytes_of_sections xs ++ x) (bytes_of_sections ys ++ y) ha.0 hb.0 grouped).1
 
 -- a word of the section that stands here
 word_at-Follows : (rest : List ℕ) (f : Follows rest) (place : ℕ) → place ≤ 28 → word_at rest place ≡ word_at f.next.bytes place
@@ -78,7 +78,7 @@ length-Follows : (rest : List ℕ) (f : Follows rest) → length rest ≡ length
 length-Follows rest f = ap length f.parts ∙ length-append f.next.bytes f.tail
 
 -- Where a section stands there is no fault.
-no_fault : (rest : List ℕ) (fault : CfgFault) → Follows rest → IsSectionFault rest fault → ⊥
+pub no_fault : (rest : List ℕ) (fault : CfgFault) → Follows rest → IsSectionFault rest fault → ⊥
 no_fault rest WrongKind f cause = cause
 no_fault rest Cut f (inl short) = omega (arith, length-Follows rest f, long f.next f.whole)
 no_fault rest Cut f (inr cut) =
@@ -116,7 +116,7 @@ Begins-push body before rest s h whole front =
     }
 
 never_stops : (sections : List SectionFields) (fault : CfgFault) → AllByRecursion IsSection sections → StopsAt (length sections) (bytes_of_sections sections) fault → ⊥
-never_stops sections fault whole h = no_fault h.rest fault (next_section h.sections sections h.rest h.begins.whole whole h.fewer (sym h.begins.parts)) h.cause
+never_stops sections fault whole h = no_fault h.rest fault (next_section h.sections sections h.rest [] h.begins.whole whole h.fewer (sym h.begins.parts ∙ sym (append-nil (bytes_of_sections sections)))) h.cause
 
 nothing_more : (sections : List SectionFields) → AllByRecursion IsSection sections → HasMore (length sections) (bytes_of_sections sections) → ⊥
 nothing_more sections whole h =

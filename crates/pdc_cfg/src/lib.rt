@@ -6,6 +6,7 @@
 
 mod config;
 mod fault;
+mod laws;
 mod section;
 mod shape;
 #[cfg(test)]
@@ -14,6 +15,7 @@ mod writing;
 
 pub use config::{ConfigView, MAX_SECTIONS, read_config};
 pub use fault::CfgFault;
+pub use laws::configurations_are_read_in_one_way;
 pub use section::{Section, SectionView};
 pub use shape::{MAX_ANALOGS, MAX_DIGITALS, MAX_PHASORS, Shape};
 pub use writing::write_config;

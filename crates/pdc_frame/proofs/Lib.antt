@@ -3,4 +3,5 @@ pub mod Cells
 pub mod Places
 pub mod Spellings
 pub mod Streams
+pub mod Readings
 pub mod Writing

@@ -128,7 +128,7 @@ going-no_cause bytes BadId h cause = absurd (omega (arith, cause.0.0.0.0, cause.
 going-not_sized : (bytes : List ℕ) → IsGoing bytes → IsSized bytes → ⊥
 going-not_sized bytes h sized = absurd (omega (arith, sized.0.0, sized.1, h.more (omega (arith, sized.0.0))))
 
-whole-no_cause : (bytes : List ℕ) (f : Fields) (fault : FrameFault) → IsFrame bytes f → IsCause bytes fault → ⊥
+pub whole-no_cause : (bytes : List ℕ) (f : Fields) (fault : FrameFault) → IsFrame bytes f → IsCause bytes fault → ⊥
 whole-no_cause bytes f Short h cause = absurd (omega (arith, cause.0, (whole-sized bytes f h).0.0))
 whole-no_cause bytes f BadSync h (inl cause) = absurd (omega (arith, cause.0, (whole-sized bytes f h).0.0))
 whole-no_cause bytes f BadSync h (inr cause) = absurd (omega (arith, cause.0, (whole-sized bytes f h).0.0))

@@ -2,7 +2,7 @@
 ghost use Rattle.std.specs.Prelude.{◌≡◌, ◌++◌, ℕ, List, [], Option, None};
 ghost use Rattle.pdc_frame.specs.Bytes.{AreBytes};
 ghost use Rattle.pdc_frame.specs.CheckWord.{IsCheckWord, check_word_of};
-ghost use Rattle.pdc_frame.specs.Frame.{Fields, Fits, spelling_of};
+ghost use Rattle.pdc_frame.specs.Frame.{Fields, Fits, spelling_of, IsFrame, IsFirstFault};
 ghost use Rattle.pdc_frame.specs.declared.fault.FrameFault.{FrameFault};
 ghost use Rattle.pdc_frame.specs.Stream.{Held, HasTaken, Splits, pending_of, fault_of};
 
@@ -18,6 +18,13 @@ pub fn spellings_stand_apart()
     ensures same { (f g : Fields) → Fits f → Fits g → spelling_of f ≡ spelling_of g → f ≡ g }
     ensures front { (f g : Fields) (rest : List ℕ) → Fits f → Fits g → spelling_of f ++ rest ≡ spelling_of g → (rest ≡ []) × (f ≡ g) }
     ensures found { (f g : Fields) (rest other : List ℕ) → Fits f → Fits g → spelling_of f ++ rest ≡ spelling_of g ++ other → (f ≡ g) × (rest ≡ other) }
+{}
+
+/// Bytes are read in one way: they are at most one frame, they have at most one fault, and no frame has a fault.
+pub fn frames_are_read_in_one_way()
+    ensures same { (bytes : List ℕ) (f g : Fields) → IsFrame bytes f → IsFrame bytes g → f ≡ g }
+    ensures fault { (bytes : List ℕ) (a b : FrameFault) → IsFirstFault bytes a → IsFirstFault bytes b → a ≡ b }
+    ensures apart { (bytes : List ℕ) (f : Fields) (fault : FrameFault) → IsFrame bytes f → IsFirstFault bytes fault → ⊥ }
 {}
 
 /// A stream is cut into frames in one way, and a framer that has no byte left to take gave those frames, in whatever

@@ -20,7 +20,10 @@ pub use crc::check_word;
 pub use fault::FrameFault;
 pub use frame::{Frame, Kind, OVERHEAD, begin_frame, end_frame, read_frame, write_frame};
 pub use framer::Framer;
-pub use laws::{check_word_is_the_remainder, spellings_stand_apart, streams_split_in_one_way};
+pub use laws::{
+    check_word_is_the_remainder, frames_are_read_in_one_way, spellings_stand_apart,
+    streams_split_in_one_way,
+};
 pub use step::Step;
 pub use stream::frames_of;
 pub use words::{read_long, read_word};
