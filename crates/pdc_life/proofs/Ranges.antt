@@ -1,6 +1,7 @@
 -- Numbers from one on.
-use Rattle.std.proofs.Common.{◌≡◌, ℕ, ◌+◌, ◌-◌, ◌<◌, ◌&&◌, Bool, true, ◌∷◌, suc, refl, sym, ap, ◌∙◌, arith}
-use Rattle.std.specs.List.{list_all, range_with_len}
+use Rattle.std.proofs.Common.{◌≡◌, ℕ, ◌+◌, ◌-◌, ◌<◌, ◌&&◌, ◌||◌, Bool, true, false, ◌∷◌, ◌++◌, List, Option, Some, None, suc, refl, sym, ap, ◌∙◌, arith}
+use Rattle.std.specs.List.{cons_option, filter_map, list_all, list_any, range_with_len}
+use Rattle.std.specs.Option.{option_to_list}
 
 pub range_step : (k n : ℕ) → k < n → range_with_len k (n - k) ≡ k ∷ range_with_len (k + 1) (n - (k + 1))
 range_step k n h = let e : n - k ≡ suc (n - (k + 1)) = omega (arith, h) in ap (range_with_len k) e
@@ -8,3 +9,15 @@ range_step k n h = let e : n - k ≡ suc (n - (k + 1)) = omega (arith, h) in ap 
 -- where the first holds, the others tell
 pub all_step : (f : ℕ → Bool) (k n : ℕ) → k < n → f k ≡ true → list_all f (range_with_len (k + 1) (n - (k + 1))) ≡ list_all f (range_with_len k (n - k))
 all_step f k n h e = sym (ap (list_all f) (range_step k n h) ∙ ap (λ b. b && list_all f (range_with_len (k + 1) (n - (k + 1)))) e)
+
+-- where the first does not hold, the others tell
+pub any_step : (f : ℕ → Bool) (k n : ℕ) → k < n → f k ≡ false → list_any f (range_with_len (k + 1) (n - (k + 1))) ≡ list_any f (range_with_len k (n - k))
+any_step f k n h e = sym (ap (list_any f) (range_step k n h) ∙ ap (λ b. b || list_any f (range_with_len (k + 1) (n - (k + 1)))) e)
+
+cons_or_not : {A : Type 0} (x : Option A) (xs : List A) → cons_option x xs ≡ option_to_list x ++ xs
+cons_or_not None xs = refl
+cons_or_not (Some x) xs = refl
+
+-- what the first gives, and then the others
+pub filter_map_step : {A : Type 0} (f : ℕ → Option A) (k n : ℕ) → k < n → filter_map f (range_with_len k (n - k)) ≡ option_to_list (f k) ++ filter_map f (range_with_len (k + 1) (n - (k + 1)))
+filter_map_step f k n h = ap (filter_map f) (range_step k n h) ∙ cons_or_not (f k) (filter_map f (range_with_len (k + 1) (n - (k + 1))))

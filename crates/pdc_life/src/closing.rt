@@ -20,9 +20,6 @@ use pdc_row::DueRow;
 use pdc_stat::absent;
 use std::alloc::{AllocError, Global};
 
-/// The quality of a row in which no block is present.
-const WORST_QUALITY: u8 = 15;
-
 // Whether the PMU has no count in force, or its data for the instant was taken since it has.
 fn has_come(given: &Given, life: &[Answered], instant: u64, pmu: usize) -> bool
     requires { IsLife given.now (life_view life.now) }
@@ -93,26 +90,4 @@ fn closing_among(
         }
     }
     Ok(closing)
-}
-
-// The block of a PMU under the section in force: what was taken and is present, else the absent block.
-fn block_at(given: &Given, life: &[Answered], instant: u64, pmu: usize) -> Option<Block>
-    requires { IsLife given.now (life_view life.now) }
-    ensures { option_map block_view result ≡ block_in (section_in_force (life_view life.now) pmu) (cell_of (life_view life.now) pmu instant) }
-{
-    let section = section_in_force(life, pmu)?;
-    match present_take(given, life, pmu, instant) {
-        Some(take) => Some(take.block()),
-        None => Some(absent(section.shape)),
-    }
-}
-
-// The time quality that a PMU's data gives: that of a block that is present.
-fn quality_at(given: &Given, life: &[Answered], instant: u64, pmu: usize) -> Option<u8>
-    requires { IsLife given.now (life_view life.now) }
-    ensures { result ≡ quality_in (section_in_force (life_view life.now) pmu) (cell_of (life_view life.now) pmu instant) }
-{
-    section_in_force(life, pmu)?;
-    let take = present_take(given, life, pmu, instant)?;
-    Some(take.quality % 16)
 }

@@ -8,6 +8,7 @@
 //! To the layers above this crate promises what holds of every life: its rows rise strictly above the floor.
 #![tactic(auto)]
 
+mod answering;
 mod closing;
 mod given;
 mod instants;
@@ -16,6 +17,7 @@ mod outcome;
 mod past;
 mod pmu;
 mod reading;
+mod row_of;
 mod steps;
 mod take;
 mod taking;

@@ -42,8 +42,8 @@ impl Take<'_> {
     }
 }
 
-// The block of this shape that the bytes are.
-fn body(shape: Shape, bytes: &[u8]) -> Block
+/// The block of this shape that the bytes are.
+pub fn body(shape: Shape, bytes: &[u8]) -> Block
     requires { length bytes.now ≡ 2 * word_count_of shape }
     ensures shape { result.shape ≡ shape }
     ensures words { words_of result ≡ words_in bytes.now }

@@ -1,6 +1,6 @@
 -- Time quality: how far a clock may be off, greater is worse (FRACSEC, C37.118.2-2011, 6.2; that the low nibble alone is the
 -- number is a rule of this profile).
-use Rattle.std.specs.Prelude.{ℕ, ◌%◌, max, List, [], ◌∷◌}
+use Rattle.std.specs.Prelude.{ℕ, ◌%◌, max, List, [], ◌∷◌, Option, Some, None}
 use Rattle.pdc_row.specs.CellView.{CellView}
 
 -- The time quality of a frame: the low nibble of its byte, greater is worse.
@@ -16,3 +16,8 @@ greatest n (m ∷ ms) = greatest (max n m) ms
 abbrev pub quality_of : List ℕ → ℕ
 quality_of [] = 15
 quality_of (n ∷ ns) = greatest n ns
+
+-- the quality of a row, where this is the worst that was given so far
+abbrev pub worst_of : Option ℕ → List ℕ → ℕ
+worst_of None ns = quality_of ns
+worst_of (Some n) ns = greatest n ns

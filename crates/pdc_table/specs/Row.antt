@@ -4,7 +4,7 @@ use Rattle.std.specs.Option.{option_map, option_to_list}
 use Rattle.pdc_cfg.specs.declared.shape.Shape.{Shape}
 use Rattle.pdc_row.specs.CellView.{BlockView}
 use Rattle.pdc_row.specs.RowView.{RowView}
-use Rattle.pdc_row.specs.Quality.{greatest, quality_of, time_quality_of}
+use Rattle.pdc_row.specs.Quality.{quality_of, time_quality_of}
 use Rattle.pdc_table.specs.Chosen.{chosen_of, block_in, empty_column}
 use Rattle.pdc_table.specs.declared.column.Column.{Column}
 use Rattle.pdc_table.specs.declared.open_row.OpenRow.{OpenRow}
@@ -35,11 +35,6 @@ abbrev pub qualities_of : List (Option Shape) → List Column → List ℕ
 qualities_of [] columns = []
 qualities_of (shape ∷ shapes) [] = []
 qualities_of (shape ∷ shapes) (column ∷ columns) = qualities_at shape column ++ qualities_of shapes columns
-
--- the quality of a row, where this is the worst that was given so far
-abbrev pub worst_of : Option ℕ → List ℕ → ℕ
-worst_of None ns = quality_of ns
-worst_of (Some n) ns = greatest n ns
 
 -- The row that an open instant closes to, under a layout.
 abbrev pub row_of : RowLayout → OpenRow → RowView

@@ -1,7 +1,8 @@
 //! What was taken of one column at one instant.
 ghost use Rattle.std.specs.Prelude.{◌≡◌, ℕ, ◌+◌, ◌<◌, ◌≤◌, ◌++◌, List, length, map, option_copied, IfSome};
 ghost use Rattle.pdc_row.specs.CellView.{block_view};
-ghost use Rattle.pdc_table.specs.Row.{blocks_at, qualities_at, worst_of};
+ghost use Rattle.pdc_table.specs.Row.{blocks_at, qualities_at};
+ghost use Rattle.pdc_row.specs.Quality.{worst_of};
 ghost use Rattle.pdc_table.specs.Chosen.{chosen_of, disagrees, empty_column};
 ghost use Rattle.pdc_row.specs.Chosen.{present_of};
 ghost use Rattle.pdc_table.specs.Steps.{disagreement_at};

@@ -1,4 +1,4 @@
-use Rattle.std.proofs.Common.{◌≡◌, ◌++◌, drop, take, length}
+use Rattle.std.proofs.Common.{◌≡◌, ◌++◌, drop, take}
 use Rattle.pdc_row.specs.Rising.{place}
 use Rattle.pdc_life.proofs.instants.place.Given as goal
 

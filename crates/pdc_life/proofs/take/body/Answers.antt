@@ -1,4 +1,4 @@
-use Rattle.std.proofs.Common.{◌≡◌, ◌<◌, ℕ, arith, refl, subst}
+use Rattle.std.proofs.Common.{arith, refl, subst}
 use Rattle.std.specs.Prelude.{IfOk, IsOk, IsOkAnd, Ok, Err}
 use Rattle.std.specs.declared.result.Result.{Result}
 use Rattle.pdc_frame.specs.Bytes.{AreBytes}
