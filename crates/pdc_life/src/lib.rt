@@ -30,5 +30,5 @@ pub use laws::{
 pub use outcome::{Outcome, Refusal};
 pub use past::now_of;
 pub use pmu::Pmu;
-pub use reading::Reading;
+pub use reading::{Reading, read_arrival};
 pub use steps::{Answered, Step};

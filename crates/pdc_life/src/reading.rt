@@ -1,6 +1,17 @@
 //! What bytes say that arrived for a PMU.
+ghost use Rattle.std.specs.Prelude.{◌≡◌, ◌^◌, ◌<◌, ℕ, List};
+ghost use Rattle.pdc_frame.specs.Frame.{fields_of};
+ghost use Rattle.pdc_frame.specs.declared.frame.Kind.TheVariants.{DataFrame, Cfg2};
+ghost use Rattle.pdc_cfg.specs.Config.{config_fields_of};
+ghost use Rattle.pdc_life.specs.Arrival.{HasConfig, IsOfStream, Reads};
+ghost use Rattle.pdc_life.specs.Views.{arrival_view};
+
+use crate::given::Settings;
 use crate::outcome::Refusal;
-use pdc_cfg::SectionView;
+use crate::pmu::Pmu;
+use pdc_cfg::{CfgFault, ConfigView, SectionView, read_config};
+use pdc_frame::{Frame, Kind, read_frame};
+use pdc_tag::instant;
 
 /// What bytes say that arrived for a PMU, whatever came before.
 #[derive(Clone, Copy, Debug)]
@@ -18,4 +29,70 @@ pub enum Reading<'a> {
     },
     /// A valid configuration of the PMU: its one section.
     Configuration(SectionView<'a>),
+}
+
+/// What bytes say that arrived for a PMU. It takes no memory: the payload and the section are lent from the bytes.
+pub fn read_arrival<'a>(settings: &Settings, pmu: &Pmu, bytes: &'a [u8]) -> Reading<'a>
+    ensures { Reads settings.now pmu.now bytes.now (arrival_view result) }
+{
+    let frame = match read_frame(bytes) {
+        Ok(frame) => frame,
+        Err(fault) => return Reading::Unread(Refusal::NoFrame(fault)),
+    };
+    if frame.id != pmu.stream {
+        return Reading::Unread(Refusal::WrongId);
+    }
+    match frame.kind {
+        Kind::DataFrame => read_data(settings, pmu, &frame),
+        Kind::Cfg2 => read_configuration(settings, pmu, &frame),
+        _ => Reading::Unread(Refusal::NoLayout(CfgFault::WrongKind)),
+    }
+}
+
+// What a data frame of the PMU's stream says.
+fn read_data<'a>(settings: &Settings, pmu: &Pmu, frame: &Frame<'a>) -> Reading<'a>
+    requires { frame.now.frac < 2 ^ 24 }
+    ensures { (bytes : List ℕ) → IsOfStream pmu.now bytes (fields_of frame.now) → frame.now.kind ≡ DataFrame
+        → Reads settings.now pmu.now bytes (arrival_view result) }
+{
+    let rate = u32::from(settings.rate);
+    match instant(frame.soc, frame.frac, pmu.time_base, rate) {
+        Some(instant) => Reading::Data {
+            instant,
+            quality: frame.quality,
+            payload: frame.payload,
+        },
+        None => Reading::Unread(Refusal::BadTag),
+    }
+}
+
+// What a CFG-2 frame of the PMU's stream says.
+fn read_configuration<'a>(settings: &Settings, pmu: &Pmu, frame: &Frame<'a>) -> Reading<'a>
+    ensures { (bytes : List ℕ) → IsOfStream pmu.now bytes (fields_of frame.now) → frame.now.kind ≡ Cfg2
+        → Reads settings.now pmu.now bytes (arrival_view result) }
+{
+    match read_config(frame) {
+        Ok(config) => read_section(settings, pmu, &config),
+        Err(fault) => Reading::Unread(Refusal::NoLayout(fault)),
+    }
+}
+
+// What a configuration of the PMU's stream says.
+fn read_section<'a>(settings: &Settings, pmu: &Pmu, config: &ConfigView<'a>) -> Reading<'a>
+    ensures { (bytes : List ℕ) → HasConfig pmu.now bytes (config_fields_of config.now) → Reads settings.now pmu.now bytes (arrival_view result) }
+{
+    if config.sections.len() != 1 {
+        return Reading::Unread(Refusal::NoLayout(CfgFault::TooMany));
+    }
+    if config.time_base != pmu.time_base {
+        return Reading::Unread(Refusal::WrongTimeBase);
+    }
+    if config.rate.cast_unsigned() != settings.rate {
+        return Reading::Unread(Refusal::WrongRate);
+    }
+    let section = config.sections[0];
+    if section.source != pmu.source {
+        return Reading::Unread(Refusal::WrongSource);
+    }
+    Reading::Configuration(section)
 }
