@@ -1,5 +1,5 @@
 -- What a step is answered after a life, and which lives there are (this profile).
-use Rattle.std.specs.Prelude.{◌≡◌, ℕ, ◌+◌, ◌-◌, ◌*◌, ◌^◌, ◌<◌, ◌==◌, Bool, ◌&&◌, not, List, [], ◌∷◌, length, map, nat_eq, nat_lt, nat_le, if◌then◌else◌, Option, None, Some, slice_index_or}
+use Rattle.std.specs.Prelude.{◌≡◌, ℕ, ◌+◌, ◌-◌, ◌*◌, ◌^◌, ◌<◌, ◌==◌, Bool, ◌&&◌, not, List, [], ◌∷◌, ◌++◌, length, nat_eq, nat_lt, nat_le, if◌then◌else◌, Option, None, Some, slice_index_or}
 use Rattle.std.specs.List.{list_all, list_any, slice_get}
 use Rattle.std.specs.Cmp.Lexicographic.{pointwise}
 use Rattle.pdc_cfg.specs.Shape.{word_count_of}
@@ -102,14 +102,21 @@ step_of (Arrive p bytes arrival answer) = Arrives p bytes
 step_of (Tick now rows adopted used_up) = Ticks now
 step_of (Pop row) = Pops
 
--- the steps of a life, the newest first
+-- the steps of a life, the first of them first
 abbrev pub steps_of : List Entry → List StepView
-steps_of E = map step_of E
+steps_of [] = []
+steps_of (e ∷ E) = steps_of E ++ step_of e ∷ []
 
--- the life of these steps, the newest first
+-- The entries are the life of these steps.
 pub record IsLifeOf (g : Given) (steps : List StepView) (E : List Entry) : Type 0 where
   pub life : IsLife g E
   pub same_steps : steps_of E ≡ steps
+
+-- The step is of a PMU that the settings list.
+abbrev pub IsOfSettings : Given → StepView → Type 0
+IsOfSettings g (Arrives p bytes) = p < length g.settings.pmus.items
+IsOfSettings g (Ticks now) = Unit {0}
+IsOfSettings g Pops = Unit {0}
 
 -- a step whose bytes are read
 pub data ReadStep : Type 0 where

@@ -13,6 +13,7 @@ mod closing;
 mod given;
 mod instants;
 mod laws;
+mod living;
 mod outcome;
 mod past;
 mod pmu;
