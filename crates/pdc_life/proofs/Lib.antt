@@ -1,5 +1,7 @@
+pub mod Bytes
 pub mod Closing
 pub mod Held
 pub mod InTime
+pub mod OwnSections
 pub mod Rows
 pub mod Worked

@@ -12,6 +12,8 @@ mod given;
 mod laws;
 mod outcome;
 mod pmu;
+mod section;
+mod stamp;
 
 pub use given::{Given, Nominal, Settings};
 pub use laws::{
@@ -20,3 +22,4 @@ pub use laws::{
 };
 pub use outcome::{Outcome, Refusal};
 pub use pmu::Pmu;
+pub use section::own_section;
