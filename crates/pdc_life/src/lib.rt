@@ -12,6 +12,7 @@ mod given;
 mod laws;
 mod outcome;
 mod pmu;
+mod row_frame;
 mod section;
 mod stamp;
 
@@ -22,4 +23,5 @@ pub use laws::{
 };
 pub use outcome::{Outcome, Refusal};
 pub use pmu::Pmu;
+pub use row_frame::append_row;
 pub use section::own_section;
