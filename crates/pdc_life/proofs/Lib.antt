@@ -2,6 +2,7 @@ pub mod Bytes
 pub mod Closing
 pub mod Held
 pub mod InTime
+pub mod Layouts
 pub mod OwnSections
 pub mod RowFrames
 pub mod Rows

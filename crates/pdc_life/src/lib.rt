@@ -10,6 +10,7 @@
 
 mod given;
 mod laws;
+mod layout_frame;
 mod outcome;
 mod pmu;
 mod row_frame;
@@ -21,6 +22,7 @@ pub use laws::{
     answers_are_one, closed_stay_closed, counts_stay, held_is_greatest, none_overtakes, rows_rise,
     taken_is_in_time,
 };
+pub use layout_frame::append_layout;
 pub use outcome::{Outcome, Refusal};
 pub use pmu::Pmu;
 pub use row_frame::append_row;

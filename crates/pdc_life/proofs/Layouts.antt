@@ -1,0 +1,30 @@
+-- The payload of a layout's frame, as a configuration.
+use Rattle.std.proofs.Common.{◌≡◌, ℕ, ◌+◌, ◌*◌, ◌^◌, List, ◌∷◌, ◌++◌, length, sym, ap, ◌∙◌, append_assoc, arith}
+use Rattle.std.specs.Int.{w16, w32, to_be_bytes, cast_unsigned}
+use Rattle.pdc_frame.specs.declared.frame.Kind.TheVariants.{Cfg2}
+use Rattle.pdc_frame.specs.Frame.{spelling_of}
+use Rattle.pdc_cfg.specs.Section.{SectionFields}
+use Rattle.pdc_cfg.specs.Config.{ConfigFields, bytes_of_sections, payload_of, config_frame_of}
+use Rattle.pdc_life.specs.declared.given.Settings.{Settings}
+use Rattle.pdc_life.specs.Layout.{own_bytes, layout_payload_of, layout_wire_of}
+
+same_payload : (settings : Settings) (start change : ℕ) (own : SectionFields) (xs : List SectionFields) (c : ConfigFields) → c.flags ≡ 0 → c.time_base ≡ settings.time_base → c.sections ≡ own ∷ xs
+    → own.bytes ≡ own_bytes settings start change → cast_unsigned w16 c.rate ≡ settings.rate → payload_of c ≡ layout_payload_of settings start change xs
+same_payload settings start change own xs c flags time_base sections bytes rate =
+    let base : c.flags * 2 ^ 24 + c.time_base ≡ settings.time_base = omega (arith, flags, time_base) in
+    let count : length (own ∷ xs) ≡ 1 + length xs = omega arith in
+    let first : List ℕ = to_be_bytes w32 settings.time_base ++ to_be_bytes w16 (1 + length xs) in
+    let last : List ℕ = to_be_bytes w16 settings.rate in
+    ap (λ (n : ℕ). to_be_bytes w32 n ++ to_be_bytes w16 (length c.sections) ++ bytes_of_sections c.sections ++ to_be_bytes w16 (cast_unsigned w16 c.rate)) base
+    ∙ ap (λ (n : ℕ). to_be_bytes w32 settings.time_base ++ to_be_bytes w16 (length c.sections) ++ bytes_of_sections c.sections ++ to_be_bytes w16 n) rate
+    ∙ ap (λ (t : List SectionFields). to_be_bytes w32 settings.time_base ++ to_be_bytes w16 (length t) ++ bytes_of_sections t ++ last) sections
+    ∙ ap (λ (n : ℕ). to_be_bytes w32 settings.time_base ++ to_be_bytes w16 n ++ bytes_of_sections (own ∷ xs) ++ last) count
+    ∙ ap (λ (t : List ℕ). first ++ (t ++ bytes_of_sections xs) ++ last) bytes
+    ∙ ap (λ (t : List ℕ). t ++ last) (sym (append_assoc first (own_bytes settings start change) (bytes_of_sections xs)))
+
+-- the frame of the configuration is that of the layout
+pub same_wire : (settings : Settings) (start change soc : ℕ) (own : SectionFields) (xs : List SectionFields) (c : ConfigFields) → c.flags ≡ 0 → c.time_base ≡ settings.time_base → c.sections ≡ own ∷ xs
+    → own.bytes ≡ own_bytes settings start change → cast_unsigned w16 c.rate ≡ settings.rate → spelling_of (config_frame_of Cfg2 settings.id soc c) ≡ layout_wire_of settings start change xs soc
+same_wire settings start change soc own xs c flags time_base sections bytes rate =
+    let spelled : List ℕ → List ℕ = λ (payload : List ℕ). spelling_of (record { kind = Cfg2; version = 2; id = settings.id; soc = soc; quality = 0; frac = 0; payload = payload }) in
+    ap spelled (same_payload settings start change own xs c flags time_base sections bytes rate)
