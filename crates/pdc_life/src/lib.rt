@@ -27,3 +27,6 @@ pub use outcome::{Outcome, Refusal};
 pub use pmu::Pmu;
 pub use row_frame::append_row;
 pub use section::own_section;
+
+#[cfg(test)]
+mod tests;
