@@ -1,6 +1,6 @@
 -- Lists of bytes, put together.
 use Rattle.std.proofs.Common.{◌≡◌, ℕ, zero, suc, ◌+◌, ◌-◌, ◌*◌, ◌<◌, List, [], ◌∷◌, ◌++◌, length, get_or, replicate, ap, ap₂, ◌∙◌, arith}
-use Rattle.std.specs.Int.{w16, to_be_bytes}
+use Rattle.std.specs.Int.{w16, w32, to_be_bytes}
 use Rattle.std.specs.List.{flat_map}
 use Rattle.std.proofs.lemmas.List.{get_or-append_right}
 use Rattle.pdc_frame.specs.Bytes.{AreBytes, word_at}
@@ -48,3 +48,13 @@ word_at-behind front rest n e =
     let next : n + 1 - n ≡ 1 = omega arith in
     ap₂ (λ (a b : ℕ). 256 * a + b) (get_or-append_right front rest n n 0 e (omega arith) ∙ ap (λ (k : ℕ). get_or rest k 0) here)
     (get_or-append_right front rest n (n + 1) 0 e (omega arith) ∙ ap (λ (k : ℕ). get_or rest k 0) next)
+
+AreBytes-long : (n : ℕ) → AreBytes (to_be_bytes w32 n)
+AreBytes-long n zero = omega arith
+AreBytes-long n (suc zero) = omega arith
+AreBytes-long n (suc (suc zero)) = omega arith
+AreBytes-long n (suc (suc (suc zero))) = omega arith
+AreBytes-long n (suc (suc (suc (suc i)))) = omega arith
+
+pub Bytes-long : (n : ℕ) → Bytes (to_be_bytes w32 n)
+Bytes-long n = record { all = AreBytes-long n }

@@ -38,7 +38,7 @@ front_of settings start change =
     ++ to_be_bytes w16 4 ++ replicate (64 * 16) 32 ++ flat_map masks_of (stamp_words start change)
     ++ to_be_bytes w16 (nominal_word settings.nominal)
 
-Bytes-own : (settings : Settings) (start change : ℕ) → Bytes (own_bytes settings start change)
+pub Bytes-own : (settings : Settings) (start change : ℕ) → Bytes (own_bytes settings start change)
 Bytes-own settings start change =
     let numbers = Bytes-append (Bytes-append (Bytes-append (Bytes-append (Bytes-append (Bytes-name settings.id) (Bytes-word settings.id)) (Bytes-word 0)) (Bytes-word 0)) (Bytes-word 0)) (Bytes-word 4) in
     let masks = Bytes-append (Bytes-append numbers (Bytes-replicate (64 * 16) 32 (omega arith))) (Bytes-flat_map masks_of Bytes-masks (stamp_words start change)) in

@@ -67,8 +67,10 @@ pub fn append_layout<A: Allocator>(
 ) -> Result<(), AllocError>
     requires few { length sections.now ≤ 16 }
     requires sections { AllByRecursion IsSection (map fields_of_view sections.now) }
-    // What is appended is the frame.
+    // What is appended is the frame,
     ensures ok { OnOk result (out.new.items ≡ out.old.items ++ layout_wire_of settings.now start change (map fields_of_view sections.now) soc) }
+    // which is read back with these fields.
+    ensures frame { IsFrame (layout_wire_of settings.now start change (map fields_of_view sections.now) soc) (layout_fields_of settings.now start change (map fields_of_view sections.now) soc) }
     // It fails only where there was no room, and then nothing is appended.
     ensures err { OnErr result (out.new.items ≡ out.old.items) }
     ensures room { vec_len out.old + length (layout_wire_of settings.now start change (map fields_of_view sections.now) soc) ≤ vec_capacity out.old → IsOk result }
