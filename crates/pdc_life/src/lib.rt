@@ -5,6 +5,9 @@
 //! `specs/` is a filter, a count or a greatest element over that list. So there is one page to read, and one text that
 //! the node, the merger and the world cite.
 //!
+//! The frames that a life publishes are appended here too: the data frame of a closed row, and the configuration frame of a
+//! layout with the node's own section.
+//!
 //! To the layers above this crate promises what holds of every life: its rows rise strictly above the floor.
 #![tactic(auto)]
 
