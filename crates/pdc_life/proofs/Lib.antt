@@ -1,6 +1,9 @@
-pub mod StayClosed
+pub mod Bytes
 pub mod Held
 pub mod InTime
+pub mod Layouts
+pub mod OwnSections
+pub mod RowFrames
 pub mod RowsRise
+pub mod StayClosed
 pub mod Worked
-pub mod Ranges

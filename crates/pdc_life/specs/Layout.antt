@@ -6,10 +6,12 @@ use Rattle.std.specs.List.{flat_map, filter_map}
 use Rattle.pdc_frame.specs.Frame.{Fields, spelling_of}
 use Rattle.pdc_frame.specs.declared.frame.Kind.TheVariants.{DataFrame, Cfg2}
 use Rattle.pdc_cfg.specs.Section.{SectionFields}
+use Rattle.pdc_cfg.specs.Config.{bytes_of_sections}
 use Rattle.pdc_block.specs.Block.{bytes_of_words}
 use Rattle.pdc_row.specs.CellView.{BlockView}
 use Rattle.pdc_tag.specs.Tag.{tag_of}
 use Rattle.pdc_life.specs.declared.given.Given.{Given}
+use Rattle.pdc_life.specs.declared.given.Settings.{Settings}
 use Rattle.pdc_life.specs.declared.given.Nominal.{Nominal}
 use Rattle.pdc_life.specs.declared.given.Nominal.TheVariants.{Hz50, Hz60}
 use Rattle.pdc_row.specs.RowView.{RowView}
@@ -40,59 +42,64 @@ nominal_word Hz60 = 0
 abbrev pub masks_of : ℕ → List ℕ
 masks_of word = to_be_bytes w16 word ++ to_be_bytes w16 0xFFFF
 
--- STN, IDCODE, FORMAT, no phasors, no analog values, four digital words with 64 names of spaces, their masks, FNOM, CFGCNT
-abbrev pub own_bytes : Given → ℕ → List ℕ
-own_bytes g change =
-    own_name g.settings.id ++ to_be_bytes w16 g.settings.id ++ to_be_bytes w16 0 ++ to_be_bytes w16 0 ++ to_be_bytes w16 0
-    ++ to_be_bytes w16 4 ++ replicate (64 * 16) 32 ++ flat_map masks_of (stamp_words g.start change)
-    ++ to_be_bytes w16 (nominal_word g.settings.nominal) ++ to_be_bytes w16 (change % 2 ^ 16)
+-- STN, IDCODE, FORMAT, no phasors, no analog values, four digital words with 64 names of spaces, their masks, FNOM, CFGCNT:
+-- 1070 bytes
+abbrev pub own_bytes : Settings → (start change : ℕ) → List ℕ
+own_bytes settings start change =
+    own_name settings.id ++ to_be_bytes w16 settings.id ++ to_be_bytes w16 0 ++ to_be_bytes w16 0 ++ to_be_bytes w16 0
+    ++ to_be_bytes w16 4 ++ replicate (64 * 16) 32 ++ flat_map masks_of (stamp_words start change)
+    ++ to_be_bytes w16 (nominal_word settings.nominal) ++ to_be_bytes w16 (change % 2 ^ 16)
 
 -- the bytes of the data frame's payload: the own block, then the blocks of the row
 abbrev pub row_payload : RowView → List ℕ
 row_payload row = bytes_of_words (own_block row.start row.change) ++ flat_map (λ (b : BlockView). bytes_of_words b.words) row.blocks
 
 -- The frame of a row: its instant as a tag, its time quality, the own block and the blocks.
-abbrev pub row_fields : Given → RowView → Fields
-row_fields g row = record {
+abbrev pub row_fields : Settings → RowView → Fields
+row_fields settings row = record {
   kind = DataFrame;
   version = 2;
-  id = g.settings.id;
-  soc = (tag_of row.instant g.settings.time_base g.settings.rate).0;
+  id = settings.id;
+  soc = (tag_of row.instant settings.time_base settings.rate).0;
   quality = row.quality;
-  frac = (tag_of row.instant g.settings.time_base g.settings.rate).1;
+  frac = (tag_of row.instant settings.time_base settings.rate).1;
   payload = row_payload row;
 }
 
 -- The bytes of a row on the wire.
-abbrev pub wire_of : Given → RowView → List ℕ
-wire_of g row = spelling_of (row_fields g row)
+abbrev pub wire_of : Settings → RowView → List ℕ
+wire_of settings row = spelling_of (row_fields settings row)
 
 -- What a life published: the rows that pops gave, the newest first.
 abbrev pub published : Given → List Entry → List (List ℕ)
-published g E = map (wire_of g) (popped E)
+published g E = map (wire_of g.settings) (popped E)
 
--- The sections of the layout after a life: the own one, and those in force in the order of the settings.
-abbrev pub sections_of : Given → List Entry → List (List ℕ)
-sections_of g E = own_bytes g (changes E) ∷ map (λ (s : SectionFields). s.bytes) (filter_map (section_in_force E) (pmus_of g))
+-- TIME_BASE, NUM_PMU, the own section and those in force, DATA_RATE
+abbrev pub layout_payload_of : Settings → (start change : ℕ) → List SectionFields → List ℕ
+layout_payload_of settings start change sections =
+    to_be_bytes w32 settings.time_base ++ to_be_bytes w16 (1 + length sections) ++ own_bytes settings start change
+    ++ bytes_of_sections sections ++ to_be_bytes w16 settings.rate
 
--- TIME_BASE, NUM_PMU, the sections, DATA_RATE
-abbrev pub layout_payload : Given → List Entry → List ℕ
-layout_payload g E =
-    to_be_bytes w32 g.settings.time_base ++ to_be_bytes w16 (length (sections_of g E)) ++ flat_map (λ bytes. bytes) (sections_of g E)
-    ++ to_be_bytes w16 g.settings.rate
-
--- The frame of the layout: a CFG-2 frame with time quality 0 and count 0.
-abbrev pub layout_fields : Given → List Entry → ℕ → Fields
-layout_fields g E soc = record {
+-- The frame of a layout: a CFG-2 frame with time quality 0 and count 0.
+abbrev pub layout_fields_of : Settings → (start change : ℕ) → List SectionFields → (soc : ℕ) → Fields
+layout_fields_of settings start change sections soc = record {
   kind = Cfg2;
   version = 2;
-  id = g.settings.id;
+  id = settings.id;
   soc = soc;
   quality = 0;
   frac = 0;
-  payload = layout_payload g E;
+  payload = layout_payload_of settings start change sections;
 }
 
--- The bytes of the layout on the wire.
-abbrev pub layout_wire : Given → List Entry → ℕ → List ℕ
-layout_wire g E soc = spelling_of (layout_fields g E soc)
+-- The bytes of a layout on the wire.
+abbrev pub layout_wire_of : Settings → (start change : ℕ) → List SectionFields → (soc : ℕ) → List ℕ
+layout_wire_of settings start change sections soc = spelling_of (layout_fields_of settings start change sections soc)
+
+-- The sections in force after a life, in the order of the settings.
+abbrev pub sections_in_force : Given → List Entry → List SectionFields
+sections_in_force g E = filter_map (section_in_force E) (pmus_of g)
+
+-- The bytes of the layout after a life.
+abbrev pub layout_wire : Given → List Entry → (soc : ℕ) → List ℕ
+layout_wire g E soc = layout_wire_of g.settings g.start (changes E) (sections_in_force g E) soc

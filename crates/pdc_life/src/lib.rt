@@ -5,31 +5,33 @@
 //! `specs/` is a filter, a count or a greatest element over that list. So there is one page to read, and one text that
 //! the node, the merger and the world cite.
 //!
+//! The frames that a life publishes are appended here too: the data frame of a closed row, and the configuration frame of a
+//! layout with the node's own section.
+//!
 //! To the layers above this crate promises what holds of every life: its rows rise strictly above the floor.
 #![tactic(auto)]
 
-mod answering;
-mod closing;
 mod given;
-mod instants;
 mod laws;
-mod living;
+mod layout_frame;
 mod outcome;
-mod past;
 mod pmu;
 mod reading;
-mod row_of;
-mod steps;
-mod take;
-mod taking;
+mod row_frame;
+mod section;
+mod stamp;
 
 pub use given::{Given, Nominal, Settings};
 pub use laws::{
     answers_are_one, closed_stay_closed, counts_stay, held_is_greatest, none_overtakes, rows_rise,
     taken_is_in_time,
 };
+pub use layout_frame::append_layout;
 pub use outcome::{Outcome, Refusal};
-pub use past::now_of;
 pub use pmu::Pmu;
 pub use reading::{Reading, read_arrival};
-pub use steps::{Answered, Step};
+pub use row_frame::append_row;
+pub use section::own_section;
+
+#[cfg(test)]
+mod tests;

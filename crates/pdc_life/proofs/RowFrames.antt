@@ -1,0 +1,56 @@
+-- The payload of a row's frame.
+use Rattle.std.proofs.Common.{◌≡◌, inr, ℕ, ◌^◌, ◌<◌, ◌≤◌, List, [], ◌∷◌, length, map, refl, sym, subst, ◌∙◌, arith, length-append}
+use Rattle.std.specs.Prelude.{sum_by}
+use Rattle.std.specs.Int.{w16, to_be_bytes}
+use Rattle.std.specs.List.{flat_map}
+use Rattle.std.proofs.lemmas.List.Folds.{flat_map-map}
+use Rattle.std.proofs.lemmas.List.Sums.{sum_by-cons}
+use Rattle.pdc_frame.specs.Frame.{Fields, Fits, IsFrame}
+use Rattle.pdc_frame.specs.declared.frame.Kind.TheVariants.{DataFrame}
+use Rattle.pdc_tag.specs.Tag.{tag_of}
+use Rattle.pdc_block.specs.declared.block.Block.{Block}
+use Rattle.pdc_block.specs.Block.{bytes_of_words, bytes_of_blocks, body_len_of, words_of, shape_of}
+use Rattle.pdc_block.proofs.Words.{length-bytes_of_words}
+use Rattle.pdc_row.specs.CellView.{BlockView, block_view}
+use Rattle.pdc_row.specs.RowView.{RowView}
+use Rattle.pdc_life.specs.declared.given.Settings.{Settings}
+use Rattle.pdc_life.specs.Layout.{own_block, row_payload, row_fields, wire_of}
+use Rattle.pdc_life.proofs.Bytes.{Bytes, Bytes-append, Bytes-flat_map, Bytes-word}
+
+-- the bytes of blocks, by their words
+pub same_blocks : (blocks : List Block) → bytes_of_blocks (map words_of blocks) ≡ flat_map (λ (b : BlockView). bytes_of_words b.words) (map block_view blocks)
+same_blocks blocks = flat_map-map bytes_of_words words_of blocks ∙ sym (flat_map-map (λ (b : BlockView). bytes_of_words b.words) block_view blocks)
+
+-- what they take
+pub length-blocks : (blocks : List Block) → length (flat_map (λ (b : BlockView). bytes_of_words b.words) (map block_view blocks)) ≡ sum_by (λ block. body_len_of (shape_of block)) blocks
+length-blocks [] = refl
+length-blocks (b ∷ blocks) =
+    let rest : List ℕ = flat_map (λ (x : BlockView). bytes_of_words x.words) (map block_view blocks) in
+    omega (arith, length-append (bytes_of_words (words_of b)) rest, length-bytes_of_words (words_of b), b.counted, length-blocks blocks, sum_by-cons (λ block. body_len_of (shape_of block)) b blocks)
+
+Bytes-words : (words : List ℕ) → Bytes (bytes_of_words words)
+Bytes-words words = Bytes-flat_map (to_be_bytes w16) Bytes-word words
+
+Bytes-row_payload : (row : RowView) → Bytes (row_payload row)
+Bytes-row_payload row =
+    Bytes-append (Bytes-words (own_block row.start row.change)) (Bytes-flat_map (λ (b : BlockView). bytes_of_words b.words) (λ (b : BlockView). Bytes-words b.words) row.blocks)
+
+-- the fields before the payload of a row's frame, for any time tag
+abbrev pub head_of : Settings → RowView → ℕ × ℕ → Fields
+head_of settings row tag = record { kind = DataFrame; version = 2; id = settings.id; soc = tag.0; quality = row.quality; frac = tag.1; payload = row_payload row }
+
+-- what a row is on the wire is a frame
+pub row_is_frame : (settings : Settings) (row : RowView) (tag : ℕ × ℕ) → tag ≡ tag_of row.instant settings.time_base settings.rate → tag.0 < 2 ^ 32 → tag.1 < settings.time_base
+    → row.quality < 2 ^ 8 → length (row_payload row) ≤ 3438 → IsFrame (wire_of settings row) (row_fields settings row)
+row_is_frame settings row tag e soc frac quality size =
+    let fits : Fits (head_of settings row tag) = record {
+      version = inr refl;
+      id_low = settings.id_low;
+      id_high = settings.id_high;
+      soc = soc;
+      quality = quality;
+      frac = omega (arith, frac, settings.time_base_high);
+      size = omega (arith, size);
+      bytes = (Bytes-row_payload row).all;
+    } in
+    record { fits = subst (λ (t : ℕ × ℕ). Fits (head_of settings row t)) e fits; spelled = refl }

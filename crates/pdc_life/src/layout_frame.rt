@@ -1,0 +1,82 @@
+//! The configuration frame of a node's layout (this profile; C37.118.2-2011, 6.4).
+ghost use Rattle.std.specs.Prelude.{◌≡◌, ◌+◌, ◌≤◌, ◌++◌, ◌∷◌, map, length, vec_len, vec_capacity, IsOk, OnOk, OnErr};
+ghost use Rattle.std.specs.Int.{w16, cast_unsigned};
+ghost use Rattle.std.specs.List.{AllByRecursion};
+ghost use Rattle.pdc_frame.specs.Frame.{IsFrame};
+ghost use Rattle.pdc_cfg.specs.Section.{IsSection, fields_of_view, fields_of_section};
+ghost use Rattle.pdc_life.specs.Layout.{layout_fields_of, layout_wire_of};
+
+use crate::given::Settings;
+use crate::section::own_section;
+use arrayvec::ArrayVec;
+use pdc_cfg::{ConfigView, Section, SectionView, write_config};
+use pdc_frame::Kind;
+use std::alloc::{AllocError, Allocator};
+
+/// The same section, lent for as long as the view of it is.
+fn lent<'a>(section: &'a SectionView) -> SectionView<'a>
+    ensures { fields_of_view result ≡ fields_of_view section.now }
+{
+    SectionView {
+        bytes: section.bytes,
+        shape: section.shape,
+        source: section.source,
+        count: section.count,
+        polar: section.polar,
+    }
+}
+
+/// The configuration that the node's own section and these make.
+fn config_of<'a>(
+    settings: &Settings,
+    own: &'a Section,
+    sections: &'a [SectionView],
+) -> ConfigView<'a>
+    requires { length sections.now ≤ 16 }
+    ensures flags { result.flags ≡ 0 }
+    ensures time_base { result.time_base ≡ settings.now.time_base }
+    ensures sections { map fields_of_view result.sections.items ≡ fields_of_section own.now ∷ map fields_of_view sections.now }
+    ensures rate { cast_unsigned w16 result.rate ≡ settings.now.rate }
+{
+    let mut all = ArrayVec::new();
+    all.push(own.view());
+    for section in sections {
+        all.push(lent(section));
+    }
+    ConfigView {
+        flags: 0,
+        time_base: settings.time_base,
+        sections: all,
+        rate: settings.rate.cast_signed(),
+    }
+}
+
+/// Appends the CFG-2 frame of a layout: the node's own section first, and then the sections in force, at most 16, in the
+/// order of the settings. `soc` is the second that it is dated with; its time quality and count are 0.
+///
+/// # Errors
+///
+/// [`AllocError`] where `out` has no room and gets none.
+pub fn append_layout<A: Allocator>(
+    settings: &Settings,
+    start: u32,
+    change: u32,
+    sections: &[SectionView],
+    soc: u32,
+    out: &mut Vec<u8, A>,
+) -> Result<(), AllocError>
+    requires few { length sections.now ≤ 16 }
+    requires sections { AllByRecursion IsSection (map fields_of_view sections.now) }
+    // What is appended is the frame,
+    ensures ok { OnOk result (out.new.items ≡ out.old.items ++ layout_wire_of settings.now start change (map fields_of_view sections.now) soc) }
+    // which is read back with these fields.
+    ensures frame { IsFrame (layout_wire_of settings.now start change (map fields_of_view sections.now) soc) (layout_fields_of settings.now start change (map fields_of_view sections.now) soc) }
+    // It fails only where there was no room, and then nothing is appended.
+    ensures err { OnErr result (out.new.items ≡ out.old.items) }
+    ensures room { vec_len out.old + length (layout_wire_of settings.now start change (map fields_of_view sections.now) soc) ≤ vec_capacity out.old → IsOk result }
+    ensures capacity { vec_capacity out.old ≤ vec_capacity out.new }
+{
+    let own = own_section(settings, start, change);
+    let config = config_of(settings, &own, sections);
+    write_config(&config, Kind::Cfg2, settings.id, soc, out)
+}

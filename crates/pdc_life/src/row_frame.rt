@@ -1,0 +1,111 @@
+//! The data frame of a closed row (this profile; C37.118.2-2011, 6.3).
+ghost use Rattle.std.specs.Prelude.{◌≡◌, ◌+◌, ◌*◌, ◌<◌, ◌≤◌, ◌++◌, map, length, sum_by, vec_len, vec_capacity, IsOk, OnOk, OnErr};
+ghost use Rattle.pdc_frame.specs.Frame.{IsFrame};
+ghost use Rattle.pdc_block.specs.Block.{bytes_of_words, body_len_of, shape_of};
+ghost use Rattle.pdc_row.specs.RowView.{row_view};
+ghost use Rattle.pdc_life.specs.Layout.{own_block, row_payload, row_fields, wire_of};
+
+use crate::given::Settings;
+use crate::stamp::stamp_words;
+use pdc_block::{Block, join};
+use pdc_frame::{Frame, Kind, begin_frame, end_frame};
+use pdc_row::DueRow;
+use pdc_tag::tag_of;
+use std::alloc::{AllocError, Allocator};
+
+/// The bytes of the own block: STAT, FREQ, DFREQ and four digital words.
+const OWN_BLOCK_LEN: usize = 14;
+
+/// The bytes of the blocks.
+fn blocks_len(blocks: &[Block]) -> usize
+    requires { length blocks.now ≤ 16 }
+    ensures value { result ≡ sum_by (λ block. body_len_of (shape_of block)) blocks.now }
+    ensures most { result ≤ 3424 }
+{
+    let mut len = 0;
+    for block in blocks {
+        len += 2 * block.shape.word_count();
+    }
+    len
+}
+
+/// The bytes of the frame's payload.
+fn payload_len(row: &DueRow) -> usize
+    ensures value { result ≡ length (row_payload (row_view row.now)) }
+    ensures blocks { result ≡ 14 + sum_by (λ block. body_len_of (shape_of block)) row.now.blocks.items }
+    ensures most { result ≤ 3438 }
+{
+    OWN_BLOCK_LEN + blocks_len(row.blocks.as_slice())
+}
+
+/// Appends the words, each with its high byte first. It takes no memory.
+fn append_words<A: Allocator>(words: &[u16], out: &mut Vec<u8, A>)
+    requires { vec_len out.old + 2 * length words.now ≤ vec_capacity out.old }
+    ensures items { out.new.items ≡ out.old.items ++ bytes_of_words words.now }
+    ensures len { vec_len out.new ≡ vec_len out.old + 2 * length words.now }
+    ensures capacity { vec_capacity out.old ≤ vec_capacity out.new }
+{
+    for word in words {
+        out.extend_from_slice(&word.to_be_bytes()).unwrap();
+    }
+}
+
+/// Appends the own block. It takes no memory.
+fn append_own_block<A: Allocator>(start: u32, change: u32, out: &mut Vec<u8, A>)
+    requires { vec_len out.old + 14 ≤ vec_capacity out.old }
+    ensures items { out.new.items ≡ out.old.items ++ bytes_of_words (own_block start change) }
+    ensures len { vec_len out.new ≡ vec_len out.old + 14 }
+    ensures capacity { vec_capacity out.old ≤ vec_capacity out.new }
+{
+    append_words(&[0; 3], out);
+    append_words(&stamp_words(start, change), out);
+}
+
+/// Appends the payload: the own block and the blocks of the row. It takes no memory.
+fn append_payload<A: Allocator>(row: &DueRow, out: &mut Vec<u8, A>)
+    requires { vec_len out.old + 14 + sum_by (λ block. body_len_of (shape_of block)) row.now.blocks.items ≤ vec_capacity out.old }
+    ensures items { out.new.items ≡ out.old.items ++ row_payload (row_view row.now) }
+    ensures len { vec_len out.new ≡ vec_len out.old + length (row_payload (row_view row.now)) }
+    ensures capacity { vec_capacity out.old ≤ vec_capacity out.new }
+{
+    append_own_block(row.start, row.change, out);
+    join(row.blocks.as_slice(), out).unwrap();
+}
+
+/// Appends the data frame of the row: its instant as a time tag, its time quality, the own block with the stamp that the row
+/// closed under, and its blocks. SOC has 32 bits, so the instant is below 2^32 times the rate.
+///
+/// # Errors
+///
+/// [`AllocError`] where `out` has no room and gets none.
+pub fn append_row<A: Allocator>(
+    settings: &Settings,
+    row: &DueRow,
+    out: &mut Vec<u8, A>,
+) -> Result<(), AllocError>
+    requires instant { row.now.instant < 4294967296 * settings.now.rate }
+    // What is appended is the frame,
+    ensures ok { OnOk result (out.new.items ≡ out.old.items ++ wire_of settings.now (row_view row.now)) }
+    // which is read back with these fields.
+    ensures frame { IsFrame (wire_of settings.now (row_view row.now)) (row_fields settings.now (row_view row.now)) }
+    // It fails only where there was no room, and then nothing is appended.
+    ensures err { OnErr result (out.new.items ≡ out.old.items) }
+    ensures room { vec_len out.old + length (wire_of settings.now (row_view row.now)) ≤ vec_capacity out.old → IsOk result }
+    ensures capacity { vec_capacity out.old ≤ vec_capacity out.new }
+{
+    let (soc, frac) = tag_of(row.instant, settings.time_base, u32::from(settings.rate));
+    let head = Frame {
+        kind: Kind::DataFrame,
+        version: 2,
+        id: settings.id,
+        soc,
+        quality: row.quality,
+        frac,
+        payload: &[],
+    };
+    let start = out.len();
+    begin_frame(&head, payload_len(row), out)?;
+    append_payload(row, out);
+    end_frame(start, out);
+    Ok(())
+}

@@ -1,0 +1,192 @@
+//! Worked frames of node 201, byte for byte.
+
+ghost use Rattle.std.specs.Prelude.{◌≡◌};
+
+use crate::{Nominal, Pmu, Settings, append_layout, append_row, own_section};
+use arrayvec::ArrayVec;
+use pdc_block::Block;
+use pdc_cfg::{Shape, read_config};
+use pdc_frame::{Frame, Kind, read_frame};
+use pdc_row::DueRow;
+use std::test::Fail;
+
+const ONE_PHASOR: Shape = Shape {
+    phasors: 1,
+    analogs: 0,
+    digitals: 0,
+};
+
+/// Data of PMU 11: phasor 14635, 0 and FREQ 2500 mHz above nominal.
+const WORDS_11: [u16; 5] = [0x0000, 0x392B, 0x0000, 0x09C4, 0x0000];
+
+/// Data of PMU 12: phasor 5000, -5000 and FREQ 2 mHz below nominal.
+const WORDS_12: [u16; 5] = [0x0000, 0x1388, 0xEC78, 0xFFFE, 0x0000];
+
+const ABSENT: [u16; 5] = [0xA1F0, 0x8000, 0x8000, 0x8000, 0x8000];
+
+/// The row of both.
+const BOTH: [u8; 50] = [
+    0xAA, 0x02, 0x00, 0x32, 0x00, 0xC9, 0x44, 0x85, 0x27, 0xF0, 0x00, 0x00, 0x4E, 0x20, 0x00, 0x00,
+    0x00, 0x00, 0x00, 0x00, 0x00, 0x00, 0x00, 0x01, 0x00, 0x00, 0x00, 0x01, 0x00, 0x00, 0x39, 0x2B,
+    0x00, 0x00, 0x09, 0xC4, 0x00, 0x00, 0x00, 0x00, 0x13, 0x88, 0xEC, 0x78, 0xFF, 0xFE, 0x00, 0x00,
+    0xAF, 0x55,
+];
+
+/// The row without the data of PMU 12.
+const ONE_ABSENT: [u8; 50] = [
+    0xAA, 0x02, 0x00, 0x32, 0x00, 0xC9, 0x44, 0x85, 0x27, 0xF0, 0x00, 0x00, 0x4E, 0x20, 0x00, 0x00,
+    0x00, 0x00, 0x00, 0x00, 0x00, 0x00, 0x00, 0x01, 0x00, 0x00, 0x00, 0x01, 0x00, 0x00, 0x39, 0x2B,
+    0x00, 0x00, 0x09, 0xC4, 0x00, 0x00, 0xA1, 0xF0, 0x80, 0x00, 0x80, 0x00, 0x80, 0x00, 0x80, 0x00,
+    0x07, 0x54,
+];
+
+/// TIME_BASE 1000000, the sections of PMU 11 and PMU 12 with one phasor each, and 50 frames a second.
+const SECTIONS: [u8; 108] = [
+    0x00, 0x0F, 0x42, 0x40, 0x00, 0x02, 0x50, 0x4D, 0x55, 0x20, 0x31, 0x31, 0x20, 0x20, 0x20, 0x20,
+    0x20, 0x20, 0x20, 0x20, 0x20, 0x20, 0x00, 0x0B, 0x00, 0x00, 0x00, 0x01, 0x00, 0x00, 0x00, 0x00,
+    0x56, 0x41, 0x20, 0x20, 0x20, 0x20, 0x20, 0x20, 0x20, 0x20, 0x20, 0x20, 0x20, 0x20, 0x20, 0x20,
+    0x00, 0x0D, 0xF8, 0x47, 0x00, 0x01, 0x00, 0x01, 0x50, 0x4D, 0x55, 0x20, 0x31, 0x32, 0x20, 0x20,
+    0x20, 0x20, 0x20, 0x20, 0x20, 0x20, 0x20, 0x20, 0x00, 0x0C, 0x00, 0x00, 0x00, 0x01, 0x00, 0x00,
+    0x00, 0x00, 0x56, 0x41, 0x20, 0x20, 0x20, 0x20, 0x20, 0x20, 0x20, 0x20, 0x20, 0x20, 0x20, 0x20,
+    0x20, 0x20, 0x00, 0x0D, 0xF8, 0x47, 0x00, 0x01, 0x00, 0x01, 0x00, 0x32,
+];
+
+/// The head of the own section of node 201: STN, IDCODE, FORMAT, PHNMR, ANNMR and DGNMR.
+const OWN_HEAD: [u8; 26] = [
+    0x50, 0x44, 0x43, 0x20, 0x30, 0x30, 0x32, 0x30, 0x31, 0x20, 0x20, 0x20, 0x20, 0x20, 0x20, 0x20,
+    0x00, 0xC9, 0x00, 0x00, 0x00, 0x00, 0x00, 0x00, 0x00, 0x04,
+];
+
+/// Its end under the stamp (1, 65538): the masks of the four words, FNOM and CFGCNT.
+const OWN_END: [u8; 20] = [
+    0x00, 0x00, 0xFF, 0xFF, 0x00, 0x01, 0xFF, 0xFF, 0x00, 0x01, 0xFF, 0xFF, 0x00, 0x02, 0xFF, 0xFF,
+    0x00, 0x01, 0x00, 0x02,
+];
+
+const PMU_11: Pmu = Pmu {
+    stream: 11,
+    source: 11,
+    time_base: 1_000_000,
+};
+
+const PMU_12: Pmu = Pmu {
+    stream: 12,
+    source: 12,
+    time_base: 1_000_000,
+};
+
+/// Node 201: 50 Hz, 50 frames a second, TIME_BASE 1000000, and the PMUs 11 and 12.
+fn node_201() -> Settings
+    ensures { result.rate ≡ 50 }
+{
+    let mut pmus = ArrayVec::new();
+    pmus.push(PMU_11);
+    pmus.push(PMU_12);
+    Settings {
+        id: 201,
+        rate: 50,
+        nominal: Nominal::Hz50,
+        time_base: 1_000_000,
+        wait: 2,
+        window: 64,
+        ahead: 32,
+        pmus,
+    }
+}
+
+/// The row of 57478860001 with the stamp (1, 1), and these words in its blocks.
+fn row(first: [u16; 5], second: [u16; 5]) -> DueRow
+    ensures { result.instant ≡ 57478860001 }
+{
+    let mut blocks = ArrayVec::new();
+    blocks.push(Block::from_words(ONE_PHASOR, &first));
+    blocks.push(Block::from_words(ONE_PHASOR, &second));
+    DueRow {
+        instant: 57_478_860_001,
+        start: 1,
+        change: 1,
+        quality: 0,
+        blocks,
+    }
+}
+
+#[test]
+fn rows_on_the_wire(rt: HostRuntime) -> Result<(), Fail> {
+    let alloc = rt.alloc();
+    let settings = node_201();
+    let mut out = vec![in alloc; 7u8]?;
+    append_row(&settings, &row(WORDS_11, WORDS_12), &mut out)?;
+    assert_eq!(rt; out.len(), 51);
+    assert_eq!(rt; &out[1..], BOTH.as_slice());
+
+    let mut out = Vec::new(alloc);
+    append_row(&settings, &row(WORDS_11, ABSENT), &mut out)?;
+    assert_eq!(rt; out.as_slice(), ONE_ABSENT.as_slice());
+    Ok(())
+}
+
+#[test]
+fn own_section_of_node_201(rt: HostRuntime) -> Result<(), Fail> {
+    let section = own_section(&node_201(), 1, 65538);
+    let bytes = section.bytes.as_slice();
+    assert_eq!(rt; bytes.len(), 1070);
+    assert_eq!(rt; &bytes[..26], OWN_HEAD.as_slice());
+    for byte in &bytes[26..1050] {
+        assert_eq!(rt; *byte, b' ');
+    }
+    assert_eq!(rt; &bytes[1050..], OWN_END.as_slice());
+    assert_eq!(rt;
+        (section.source, section.count, section.polar),
+        (201, 2, false)
+    );
+    assert_eq!(rt; section.shape.section_len(), 1070);
+    Ok(())
+}
+
+#[test]
+fn layout_of_no_pmu(rt: HostRuntime) -> Result<(), Fail> {
+    let mut out = Vec::new(rt.alloc());
+    append_layout(&node_201(), 1, 65538, &[], 1_149_577_200, &mut out)?;
+    assert_eq!(rt; out.len(), 1094);
+    let frame = read_frame(&out)?;
+    assert_eq!(rt; frame.kind, Kind::Cfg2);
+    assert_eq!(rt;
+        (frame.version, frame.id, frame.soc),
+        (2, 201, 1_149_577_200)
+    );
+    assert_eq!(rt; (frame.quality, frame.frac), (0, 0));
+    let config = read_config(&frame)?;
+    assert_eq!(rt; config.sections.len(), 1);
+    assert_eq!(rt; config.sections.as_slice()[0].count, 2);
+    Ok(())
+}
+
+#[test]
+fn layout_of_two_pmus(rt: HostRuntime) -> Result<(), Fail> {
+    let frame = Frame {
+        kind: Kind::Cfg2,
+        version: 2,
+        id: 1,
+        soc: 0,
+        quality: 0,
+        frac: 0,
+        payload: &SECTIONS,
+    };
+    let sent = read_config(&frame)?;
+    assert_eq!(rt; sent.sections.len(), 2);
+    let mut out = Vec::new(rt.alloc());
+    append_layout(&node_201(), 1, 1, sent.sections.as_slice(), 0, &mut out)?;
+    assert_eq!(rt; out.len(), 1194);
+    let frame = read_frame(&out)?;
+    let config = read_config(&frame)?;
+    assert_eq!(rt;
+        (config.flags, config.time_base, config.rate),
+        (0, 1_000_000, 50)
+    );
+    let sections = config.sections.as_slice();
+    assert_eq!(rt; sections.len(), 3);
+    assert_eq!(rt; (sections[0].source, sections[0].count), (201, 1));
+    assert_eq!(rt; sections[1].bytes, &SECTIONS[6..56]);
+    assert_eq!(rt; sections[2].bytes, &SECTIONS[56..106]);
+    Ok(())
+}

@@ -1,0 +1,22 @@
+//! The plain program of a life: steps in, answers, rows, layout and published frames out (this profile).
+//!
+//! Nothing is kept but the list of the steps with their answers, newest first, and each question is asked of the whole
+//! list. It is slow, and it is meant to be read: each function is one definition of pdc_life, and its contract says so. The
+//! worked examples run through it with real frames.
+//!
+//! The promise to the layers above: what these steps are answered, close, publish and lay out is what the one life of these
+//! steps has.
+#![tactic(auto)]
+
+mod answering;
+mod closing;
+mod instants;
+mod living;
+mod past;
+mod row_of;
+mod steps;
+mod take;
+mod taking;
+
+pub use living::live;
+pub use steps::{Answered, Step};
