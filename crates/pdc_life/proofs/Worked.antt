@@ -226,7 +226,7 @@ out_of_order : List ReadStep
 out_of_order =
     data_of 0 2 body_3 ∷ data_of 1 2 body_4 ∷ data_of 0 1 body_3 ∷ data_of 1 1 body_4 ∷ Ticked 57478860002 ∷ Popped ∷ Popped ∷ data_of 0 1 body_3 ∷ []
 
-closed_in_order : map (λ (r : RowView). r.instant) (popped (after wide out_of_order)) ≡ 57478860002 ∷ 57478860001 ∷ []
+closed_in_order : map (λ (r : RowView). r.instant) (popped (after wide out_of_order)) ≡ 57478860001 ∷ 57478860002 ∷ []
 unfolding out_of_order
 closed_in_order = refl
 

@@ -70,7 +70,7 @@ row_fields settings row = record {
 abbrev pub wire_of : Settings → RowView → List ℕ
 wire_of settings row = spelling_of (row_fields settings row)
 
--- What a life published: the rows that pops gave, the newest first.
+-- What a life published: the rows that pops gave, the first to be given first.
 abbrev pub published : Given → List Entry → List (List ℕ)
 published g E = map (wire_of g.settings) (popped E)
 

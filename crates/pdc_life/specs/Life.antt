@@ -151,10 +151,10 @@ waiting (e ∷ E) = waiting E
 abbrev pub held_instants : Given → List Entry → List ℕ
 held_instants g E = open_instants g E ++ row_instants (waiting E)
 
--- the rows that pops gave, the newest first
+-- the rows that pops gave, the first to be given first
 abbrev pub popped : List Entry → List RowView
 popped [] = []
-popped (Pop (Some row) ∷ E) = row ∷ popped E
+popped (Pop (Some row) ∷ E) = popped E ++ row ∷ []
 popped (e ∷ E) = popped E
 
 -- the numbers of the PMUs, from 0, in the order of the settings

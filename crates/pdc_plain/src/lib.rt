@@ -13,6 +13,7 @@ mod closing;
 mod instants;
 mod living;
 mod past;
+mod published;
 mod row_of;
 mod steps;
 mod take;
