@@ -1,5 +1,5 @@
 -- Numbers from one on.
-use Rattle.std.proofs.Common.{◌≡◌, ℕ, ◌+◌, ◌-◌, ◌<◌, ◌&&◌, ◌||◌, Bool, true, false, ◌∷◌, ◌++◌, List, Option, Some, None, suc, refl, sym, ap, ◌∙◌, arith}
+use Rattle.std.proofs.Common.{append_assoc, ◌≡◌, ℕ, ◌+◌, ◌-◌, ◌<◌, ◌&&◌, ◌||◌, Bool, true, false, ◌∷◌, ◌++◌, List, Option, Some, None, suc, refl, sym, ap, ◌∙◌, arith}
 use Rattle.std.specs.List.{cons_option, filter_map, list_all, list_any, range_with_len}
 use Rattle.std.specs.Option.{option_to_list}
 
@@ -21,3 +21,11 @@ cons_or_not (Some x) xs = refl
 -- what the first gives, and then the others
 pub filter_map_step : {A : Type 0} (f : ℕ → Option A) (k n : ℕ) → k < n → filter_map f (range_with_len k (n - k)) ≡ option_to_list (f k) ++ filter_map f (range_with_len (k + 1) (n - (k + 1)))
 filter_map_step f k n h = ap (filter_map f) (range_step k n h) ∙ cons_or_not (f k) (filter_map f (range_with_len (k + 1) (n - (k + 1))))
+
+-- what was given so far and what one more gives, before what the others give
+pub one_more : {A : Type 0} (f : ℕ → Option A) (k n : ℕ) (before after all : List A) (x : Option A) → k < n → x ≡ f k → after ≡ before ++ option_to_list x
+    → before ++ filter_map f (range_with_len k (n - k)) ≡ all → after ++ filter_map f (range_with_len (k + 1) (n - (k + 1))) ≡ all
+one_more f k n before after all x h e a i =
+    ap (λ bs. bs ++ filter_map f (range_with_len (k + 1) (n - (k + 1)))) (a ∙ ap (λ y. before ++ option_to_list y) e)
+    ∙ append_assoc before (option_to_list (f k)) (filter_map f (range_with_len (k + 1) (n - (k + 1))))
+    ∙ ap (λ bs. before ++ bs) (sym (filter_map_step f k n h)) ∙ i

@@ -13,11 +13,12 @@ mod closing;
 mod instants;
 mod living;
 mod past;
+mod plain;
 mod published;
 mod row_of;
 mod steps;
 mod take;
 mod taking;
 
-pub use living::live;
+pub use plain::{answers, rows};
 pub use steps::{Answered, Step};

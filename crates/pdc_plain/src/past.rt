@@ -1,5 +1,7 @@
 //! What the steps so far say, each question asked of the whole list. A life is kept newest first.
-ghost use Rattle.std.specs.Prelude.{◌≡◌, ◌≤◌, ◌^◌, ◌<◌, length, map, option_map};
+ghost use Rattle.std.specs.Prelude.{◌≡◌, ◌≤◌, ◌<◌, ◌+◌, ◌++◌, length, map, option_map};
+ghost use Rattle.std.specs.Option.{option_to_list};
+ghost use Rattle.pdc_life.specs.Layout.{sections_in_force};
 ghost use Rattle.pdc_cfg.specs.Section.{fields_of_view};
 ghost use Rattle.pdc_row.specs.Quality.{greatest};
 ghost use Rattle.pdc_row.specs.RowView.{row_instants, row_view};
@@ -8,6 +10,7 @@ ghost use Rattle.pdc_life.specs.Life.{changes, greater, held_section, is_newer, 
 ghost use Rattle.pdc_plain.specs.Views.{life_view};
 
 use crate::steps::Answered;
+use arrayvec::ArrayVec;
 use pdc_cfg::SectionView;
 use pdc_life::{Given, Reading};
 use pdc_row::DueRow;
@@ -114,5 +117,30 @@ pub fn changes(given: &Given, life: &[Answered]) -> u32
         Some((Answered::Tick { adopted: true, .. }, earlier)) => changes(given, earlier) + 1,
         Some((_, earlier)) => changes(given, earlier),
         None => 0,
+    }
+}
+
+/// The sections in force, in the order of the settings.
+#[tactic(auto, using(crate::proofs::Ranges::filter_map_step))]
+pub fn sections_in_force<'a>(given: &Given, life: &[Answered<'a>]) -> ArrayVec<SectionView<'a>, 16>
+    ensures sections { map fields_of_view result.items ≡ sections_in_force given.now (life_view life.now) }
+    ensures few { length result.items ≤ 16 }
+{
+    let mut sections = ArrayVec::new();
+    for pmu in 0..given.settings.pmus.len() {
+        push_some(section_in_force(life, pmu), &mut sections);
+    }
+    sections
+}
+
+// Appends the section, if there is one.
+fn push_some<'a>(section: Option<SectionView<'a>>, sections: &mut ArrayVec<SectionView<'a>, 16>)
+    requires { length sections.old.items < 16 }
+    ensures sections { map fields_of_view sections.new.items
+        ≡ map fields_of_view sections.old.items ++ option_to_list (option_map fields_of_view section.entry) }
+    ensures grown { length sections.new.items ≤ length sections.old.items + 1 }
+{
+    if let Some(section) = section {
+        sections.push(section);
     }
 }

@@ -5,21 +5,13 @@ use Rattle.pdc_row.specs.CellView.{BlockView}
 use Rattle.pdc_life.specs.Life.{cell_of, section_in_force}
 use Rattle.pdc_life.specs.Row.{block_in}
 use Rattle.pdc_plain.specs.Views.{life_view}
-use Rattle.pdc_plain.proofs.Ranges.{filter_map_step}
+use Rattle.pdc_plain.proofs.Ranges.{one_more}
 use Rattle.pdc_plain.proofs.row_of.blocks_at.Goals as goal
-
--- one more block, and the others that are left
-step : (f : ℕ → Option BlockView) (k n : ℕ) (before after all : List BlockView) (x : Option BlockView) → k < n → x ≡ f k → after ≡ before ++ option_to_list x
-    → before ++ filter_map f (range_with_len k (n - k)) ≡ all → after ++ filter_map f (range_with_len (k + 1) (n - (k + 1))) ≡ all
-step f k n before after all x h e a i =
-    ap (λ bs. bs ++ filter_map f (range_with_len (k + 1) (n - (k + 1)))) (a ∙ ap (λ y. before ++ option_to_list y) e)
-    ∙ append_assoc before (option_to_list (f k)) (filter_map f (range_with_len (k + 1) (n - (k + 1))))
-    ∙ ap (λ bs. before ++ bs) (sym (filter_map_step f k n h)) ∙ i
 
 pub loop-pmu-preserved : goal.loop-pmu-preserved
 loop-pmu-preserved c =
     let E = life_view c.args.life.now in
     record {
       few = omega (arith, c.push_some.ensures.grown, c.loop-pmu.invariant.few);
-      all = step (λ p. block_in (section_in_force E p) (cell_of E p c.args.instant)) c.loop-pmu.pmu (length c.args.given.now.settings.pmus.items) _ _ _ _ (omega arith) c.block_at.ensures c.push_some.ensures.blocks c.loop-pmu.invariant.all;
+      all = one_more (λ p. block_in (section_in_force E p) (cell_of E p c.args.instant)) c.loop-pmu.pmu (length c.args.given.now.settings.pmus.items) _ _ _ _ (omega arith) c.block_at.ensures c.push_some.ensures.blocks c.loop-pmu.invariant.all;
     }
