@@ -19,6 +19,8 @@ mod row_of;
 mod steps;
 mod take;
 mod taking;
+#[cfg(test)]
+mod tests;
 
-pub use plain::{answers, rows};
+pub use plain::{answers, are_of_settings, rows};
 pub use steps::{Answered, Step};

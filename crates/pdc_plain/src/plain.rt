@@ -1,5 +1,5 @@
 //! The plain program: steps in, answers, rows, published frames and the layout out.
-ghost use Rattle.std.specs.Prelude.{◌≡◌, ◌++◌, List, IfOk, OnErr, OnOk, map, reverse};
+ghost use Rattle.std.specs.Prelude.{◌≡◌, ◌↔◌, ◌++◌, List, IfOk, IsTrue, OnErr, OnOk, map, reverse};
 ghost use Rattle.std.specs.List.{All};
 ghost use Rattle.pdc_row.specs.RowView.{row_view};
 ghost use Rattle.pdc_life.specs.Answer.{IsLifeOf, IsOfSettings};
@@ -44,4 +44,21 @@ pub fn rows(alloc: Global, given: &Given, steps: &[Step]) -> Result<Vec<DueRow>,
 {
     let life = live(alloc, given, steps)?;
     closed(alloc, &life)
+}
+
+/// Whether each arrival among the steps is for a PMU that the settings list.
+pub fn are_of_settings(given: &Given, steps: &[Step]) -> bool
+    ensures { IsTrue result ↔ All (λ step. IsOfSettings given.now (step_view step)) steps.now }
+{
+    steps.iter().all(|step| is_of_settings(given, step))
+}
+
+// Whether the step is of a PMU that the settings list.
+fn is_of_settings(given: &Given, step: &Step) -> bool
+    ensures { IsTrue result ↔ IsOfSettings given.now (step_view step.now) }
+{
+    match step {
+        Step::Arrive { pmu, .. } => *pmu < given.settings.pmus.len(),
+        _ => true,
+    }
 }
