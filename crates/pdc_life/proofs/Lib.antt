@@ -6,4 +6,5 @@ pub mod OwnSections
 pub mod RowFrames
 pub mod RowsRise
 pub mod StayClosed
+pub mod Tagged
 pub mod Worked

@@ -4,4 +4,5 @@ pub mod Laws
 pub mod Layout
 pub mod Life
 pub mod Row
+pub mod Tagged
 pub mod Views
