@@ -7,4 +7,5 @@ pub mod RowFrames
 pub mod RowsRise
 pub mod StayClosed
 pub mod Tagged
+pub mod Valid
 pub mod Worked

@@ -5,4 +5,5 @@ pub mod Layout
 pub mod Life
 pub mod Row
 pub mod Tagged
+pub mod Valid
 pub mod Views
