@@ -6,4 +6,6 @@ pub mod OwnSections
 pub mod RowFrames
 pub mod RowsRise
 pub mod StayClosed
+pub mod Tagged
+pub mod Valid
 pub mod Worked

@@ -4,4 +4,6 @@ pub mod Laws
 pub mod Layout
 pub mod Life
 pub mod Row
+pub mod Tagged
+pub mod Valid
 pub mod Views

@@ -1,5 +1,7 @@
 //! Laws of every life, by the definitions.
 ghost use Rattle.pdc_life.specs.Laws.{AnswersAreOne, ClosedStayClosed, CountsStay, HeldIsGreatest, NoneOvertakes, RowsRise, TakenIsInTime};
+ghost use Rattle.pdc_life.specs.Tagged.{RowsHaveTags};
+ghost use Rattle.pdc_life.specs.Valid.{HeldIsSection, InForceIsSection};
 
 /// In every life the instants of the rows rise strictly, and lie above the floor.
 pub fn rows_rise()
@@ -34,4 +36,15 @@ pub fn none_overtakes()
 /// Held is the greatest count that came, with the first section of it.
 pub fn held_is_greatest()
     ensures { HeldIsGreatest }
+{}
+
+/// Each row's instant is below 2^32 seconds, at the rate: SOC can name its second.
+pub fn rows_have_tags()
+    ensures { RowsHaveTags }
+{}
+
+/// What is held of a PMU, and what is in force, is a section as a configuration spells it.
+pub fn sections_are_valid()
+    ensures held { HeldIsSection }
+    ensures in_force { InForceIsSection }
 {}
