@@ -114,4 +114,4 @@ popped_low g [] life = tt
 popped_low g (Tick now rows adopted used_up ∷ E) life = popped_low g E life.1
 popped_low g (Arrive p bytes arrival answer ∷ E) life = popped_low g E life.1
 popped_low g (Pop None ∷ E) life = popped_low g E life.1
-popped_low g (Pop (Some row) ∷ E) life = (of_first (IsLow g) (waiting E) row life.0 (waiting_low g E life.1), popped_low g E life.1)
+popped_low g (Pop (Some row) ∷ E) life = appended (IsLow g) (popped E) (row ∷ []) (popped_low g E life.1) (of_first (IsLow g) (waiting E) row life.0 (waiting_low g E life.1), tt)
