@@ -14,7 +14,7 @@ mod instants;
 mod living;
 mod past;
 mod plain;
-mod published;
+mod publishing;
 mod row_of;
 mod steps;
 mod take;
@@ -22,5 +22,5 @@ mod taking;
 #[cfg(test)]
 mod tests;
 
-pub use plain::{answers, are_of_settings, rows};
+pub use plain::{answers, are_of_settings, layout, published, rows};
 pub use steps::{Answered, Step};

@@ -9,7 +9,7 @@ ghost use Rattle.pdc_life.specs.Life.{Entry};
 ghost use Rattle.pdc_plain.specs.Views.{life_view, step_view};
 
 use crate::living::live;
-use crate::published::closed;
+use crate::publishing::{append_layout_of, closed, frames_of};
 use crate::steps::{Answered, Step};
 use pdc_life::Given;
 use pdc_row::DueRow;
@@ -44,6 +44,44 @@ pub fn rows(alloc: Global, given: &Given, steps: &[Step]) -> Result<Vec<DueRow>,
 {
     let life = live(alloc, given, steps)?;
     closed(alloc, &life)
+}
+
+/// The frames that are published of the rows that the pops among these steps give, the first to be given first.
+///
+/// # Errors
+///
+/// [`AllocError`] where there is no room and none is got.
+pub fn published(
+    alloc: Global,
+    given: &Given,
+    steps: &[Step],
+) -> Result<Vec<Vec<u8>>, AllocError>
+    requires { All (λ step. IsOfSettings given.now (step_view step)) steps.now }
+    ensures { IfOk result (λ frames. (E : List Entry) × IsLifeOf given.now (map step_view steps.now) E × (map (λ frame. frame.items) frames.items ≡ published given.now E)) }
+{
+    let life = live(alloc, given, steps)?;
+    frames_of(alloc, given, &life)
+}
+
+/// Appends the configuration frame of the layout after these steps: the node's own section, and those in force. `soc` is
+/// the second that it is dated with.
+///
+/// # Errors
+///
+/// [`AllocError`] where there is no room and none is got; `out` is then unchanged.
+pub fn layout(
+    alloc: Global,
+    given: &Given,
+    steps: &[Step],
+    soc: u32,
+    out: &mut Vec<u8>,
+) -> Result<(), AllocError>
+    requires { All (λ step. IsOfSettings given.now (step_view step)) steps.now }
+    ensures ok { OnOk result ((E : List Entry) × IsLifeOf given.now (map step_view steps.now) E × (out.new.items ≡ out.old.items ++ layout_wire given.now E soc)) }
+    ensures err { OnErr result (out.new.items ≡ out.old.items) }
+{
+    let life = live(alloc, given, steps)?;
+    append_layout_of(given, &life, soc, out)
 }
 
 /// Whether each arrival among the steps is for a PMU that the settings list.

@@ -3,7 +3,7 @@ use Rattle.std.proofs.lemmas.List.{map-append, take_more}
 use Rattle.pdc_row.specs.RowView.{row_view}
 use Rattle.pdc_row.specs.declared.due_row.DueRow.{DueRow}
 use Rattle.pdc_life.specs.Layout.{wire_of}
-use Rattle.pdc_plain.proofs.published.frames.Goals as goal
+use Rattle.pdc_plain.proofs.publishing.frames.Goals as goal
 
 -- one more frame is that of one more row
 more : (f : DueRow → List ℕ) (rows : List DueRow) (i : ℕ) (row : DueRow) (before after : List (Vec ℕ Global)) (frame : Vec ℕ Global) → i < length rows → row ≡ get_or rows i row

@@ -1,15 +1,19 @@
 //! What a life closed and published, asked of the whole list. A life is kept newest first.
-ghost use Rattle.std.specs.Prelude.{◌≡◌, ◌*◌, ◌<◌, IfOk, map};
+ghost use Rattle.std.specs.Prelude.{◌≡◌, ◌*◌, ◌<◌, ◌++◌, IfOk, OnErr, OnOk, map};
 ghost use Rattle.std.specs.List.{All};
 ghost use Rattle.pdc_row.specs.RowView.{row_view};
 ghost use Rattle.pdc_life.specs.Laws.{closed};
-ghost use Rattle.pdc_life.specs.Layout.{wire_of};
+ghost use Rattle.pdc_life.specs.Answer.{IsLife};
+ghost use Rattle.pdc_life.specs.Layout.{layout_wire, published, wire_of};
 ghost use Rattle.pdc_life.specs.Life.{popped};
 ghost use Rattle.pdc_plain.specs.Views.{life_view};
 
 use crate::instants::append;
+use crate::past::{changes, sections_in_force};
 use crate::steps::Answered;
-use pdc_life::{Settings, append_row};
+use pdc_life::{
+    Given, Settings, append_layout, append_row, rows_have_tags, sections_are_valid,
+};
 use pdc_row::DueRow;
 use std::alloc::{AllocError, Global};
 
@@ -41,8 +45,35 @@ pub fn popped(alloc: Global, life: &[Answered]) -> Result<Vec<DueRow>, AllocErro
     Ok(rows)
 }
 
-/// The frames of the rows, in their order.
-pub fn frames(
+/// The frames of the rows that pops gave, in their order.
+pub fn frames_of(alloc: Global, given: &Given, life: &[Answered]) -> Result<Vec<Vec<u8>>, AllocError>
+    requires { IsLife given.now (life_view life.now) }
+    ensures { IfOk result (λ frames. map (λ frame. frame.items) frames.items ≡ published given.now (life_view life.now)) }
+{
+    rows_have_tags();
+    let rows = popped(alloc, life)?;
+    frames(alloc, &given.settings, &rows)
+}
+
+/// Appends the frame of the layout.
+pub fn append_layout_of(
+    given: &Given,
+    life: &[Answered],
+    soc: u32,
+    out: &mut Vec<u8>,
+) -> Result<(), AllocError>
+    requires { IsLife given.now (life_view life.now) }
+    ensures ok { OnOk result (out.new.items ≡ out.old.items ++ layout_wire given.now (life_view life.now) soc) }
+    ensures err { OnErr result (out.new.items ≡ out.old.items) }
+{
+    sections_are_valid();
+    let sections = sections_in_force(given, life);
+    let change = changes(given, life);
+    append_layout(&given.settings, given.start, change, sections.as_slice(), soc, out)
+}
+
+// The frames of the rows, in their order.
+fn frames(
     alloc: Global,
     settings: &Settings,
     rows: &[DueRow],
