@@ -2,6 +2,8 @@ pub mod Bytes
 pub mod Held
 pub mod InTime
 pub mod Layouts
+pub mod OneLife
+pub mod OneReading
 pub mod OwnSections
 pub mod RowFrames
 pub mod RowsRise

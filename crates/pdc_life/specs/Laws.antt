@@ -4,8 +4,7 @@ use Rattle.std.specs.List.{AllByRecursion, list_all}
 use Rattle.pdc_cfg.specs.Shape.{word_count_of}
 use Rattle.pdc_cfg.specs.Section.{SectionFields}
 use Rattle.pdc_life.specs.declared.given.Given.{Given}
-use Rattle.pdc_life.specs.declared.outcome.Outcome.{Outcome}
-use Rattle.pdc_life.specs.Arrival.{Arrival, Configuration}
+use Rattle.pdc_life.specs.Arrival.{Configuration}
 use Rattle.pdc_row.specs.RowView.{RowView, row_instants}
 use Rattle.pdc_life.specs.Life.{Entry, Arrive, Tick, section_in_force, held_instants, held_section, last_of, now_of, open_instants, take_of}
 use Rattle.pdc_row.specs.Rising.{AreBelow, Rises, is_near}
@@ -26,12 +25,6 @@ RowsRise = (g : Given) (E : List Entry) → IsLife g E → Rises g.floor (row_in
 -- A PMU that has a count never loses it.
 abbrev pub CountsStay : Type 0
 CountsStay = (E : List Entry) (e : Entry) (p : ℕ) → IsTrue (is_some (section_in_force E p)) → IsTrue (is_some (section_in_force (e ∷ E) p))
-
--- An arrival that says one thing has one answer.
-abbrev pub AnswersAreOne : Type 0
-AnswersAreOne =
-    (g : Given) (E : List Entry) (p : ℕ) (bytes : List ℕ) (arrival : Arrival) (a b : Outcome) →
-    IsLife g (Arrive p bytes arrival a ∷ E) → IsLife g (Arrive p bytes arrival b ∷ E) → a ≡ b
 
 -- Data of a PMU for an instant that comes in time: a section is in force, the data has its length, the instant is above the
 -- last one closed, at most ahead above now, and near every instant held, and nothing was taken of the PMU for it.

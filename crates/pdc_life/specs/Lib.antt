@@ -3,6 +3,7 @@ pub mod Arrival
 pub mod Laws
 pub mod Layout
 pub mod Life
+pub mod OneLife
 pub mod Row
 pub mod Tagged
 pub mod Valid

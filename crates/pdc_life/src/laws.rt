@@ -1,7 +1,8 @@
 //! Laws of every life, by the definitions.
-ghost use Rattle.pdc_life.specs.Laws.{AnswersAreOne, ClosedStayClosed, CountsStay, HeldIsGreatest, NoneOvertakes, RowsRise, TakenIsInTime};
 ghost use Rattle.pdc_life.specs.Tagged.{RowsHaveTags};
 ghost use Rattle.pdc_life.specs.Valid.{HeldIsSection, InForceIsSection};
+ghost use Rattle.pdc_life.specs.Laws.{ClosedStayClosed, CountsStay, HeldIsGreatest, NoneOvertakes, RowsRise, TakenIsInTime};
+ghost use Rattle.pdc_life.specs.OneLife.{AnswersAreOne, BytesAreReadOnce, StepsHaveOneLife};
 
 /// In every life the instants of the rows rise strictly, and lie above the floor.
 pub fn rows_rise()
@@ -13,9 +14,19 @@ pub fn counts_stay()
     ensures { CountsStay }
 {}
 
-/// An arrival that says one thing has one answer.
+/// Bytes that arrive for a PMU say one thing at most.
+pub fn bytes_are_read_in_one_way()
+    ensures { BytesAreReadOnce }
+{}
+
+/// Two answers to the same bytes cannot both hold, nor can the bytes say two things.
 pub fn answers_are_one()
     ensures { AnswersAreOne }
+{}
+
+/// Steps have one life at most.
+pub fn steps_have_one_life()
+    ensures { StepsHaveOneLife }
 {}
 
 /// What is taken came in time, and what comes in time is taken.

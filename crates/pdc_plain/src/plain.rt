@@ -51,11 +51,7 @@ pub fn rows(alloc: Global, given: &Given, steps: &[Step]) -> Result<Vec<DueRow>,
 /// # Errors
 ///
 /// [`AllocError`] where there is no room and none is got.
-pub fn published(
-    alloc: Global,
-    given: &Given,
-    steps: &[Step],
-) -> Result<Vec<Vec<u8>>, AllocError>
+pub fn published(alloc: Global, given: &Given, steps: &[Step]) -> Result<Vec<Vec<u8>>, AllocError>
     requires { All (λ step. IsOfSettings given.now (step_view step)) steps.now }
     ensures { IfOk result (λ frames. (E : List Entry) × IsLifeOf given.now (map step_view steps.now) E × (map (λ frame. frame.items) frames.items ≡ published given.now E)) }
 {

@@ -11,9 +11,7 @@ ghost use Rattle.pdc_plain.specs.Views.{life_view};
 use crate::instants::append;
 use crate::past::{changes, sections_in_force};
 use crate::steps::Answered;
-use pdc_life::{
-    Given, Settings, append_layout, append_row, rows_have_tags, sections_are_valid,
-};
+use pdc_life::{Given, Settings, append_layout, append_row, rows_have_tags, sections_are_valid};
 use pdc_row::DueRow;
 use std::alloc::{AllocError, Global};
 
@@ -46,7 +44,11 @@ pub fn popped(alloc: Global, life: &[Answered]) -> Result<Vec<DueRow>, AllocErro
 }
 
 /// The frames of the rows that pops gave, in their order.
-pub fn frames_of(alloc: Global, given: &Given, life: &[Answered]) -> Result<Vec<Vec<u8>>, AllocError>
+pub fn frames_of(
+    alloc: Global,
+    given: &Given,
+    life: &[Answered],
+) -> Result<Vec<Vec<u8>>, AllocError>
     requires { IsLife given.now (life_view life.now) }
     ensures { IfOk result (λ frames. map (λ frame. frame.items) frames.items ≡ published given.now (life_view life.now)) }
 {
@@ -69,15 +71,18 @@ pub fn append_layout_of(
     sections_are_valid();
     let sections = sections_in_force(given, life);
     let change = changes(given, life);
-    append_layout(&given.settings, given.start, change, sections.as_slice(), soc, out)
+    append_layout(
+        &given.settings,
+        given.start,
+        change,
+        sections.as_slice(),
+        soc,
+        out,
+    )
 }
 
 // The frames of the rows, in their order.
-fn frames(
-    alloc: Global,
-    settings: &Settings,
-    rows: &[DueRow],
-) -> Result<Vec<Vec<u8>>, AllocError>
+fn frames(alloc: Global, settings: &Settings, rows: &[DueRow]) -> Result<Vec<Vec<u8>>, AllocError>
     requires { All (λ row. row.instant < 4294967296 * settings.now.rate) rows.now }
     ensures { IfOk result (λ frames. map (λ frame. frame.items) frames.items ≡ map (λ row. wire_of settings.now (row_view row)) rows.now) }
 {

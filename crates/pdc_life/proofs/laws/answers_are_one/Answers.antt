@@ -1,5 +1,5 @@
-use Rattle.std.proofs.Common.{sym, ◌∙◌}
+use Rattle.pdc_life.proofs.OneLife.{answers_are_one}
 use Rattle.pdc_life.proofs.laws.answers_are_one.Goals as goal
 
 pub returns : goal.returns
-returns c g E p bytes arrival a b first second = first.0.answers ∙ sym second.0.answers
+returns c g E p bytes r s a b h k = answers_are_one g E p bytes r s a b h k

@@ -1,4 +1,4 @@
-use Rattle.std.proofs.Common.{◌≡◌, List, [], ◌∷◌, length, map, slice_index_or, ap, arith, rules, sym, refl}
+use Rattle.std.proofs.Common.{◌≡◌, List, [], ◌∷◌, length, map, slice_index_or, ap, arith, rules, sym}
 use Rattle.pdc_cfg.specs.Config.{config_fields_of}
 use Rattle.pdc_cfg.specs.Section.{fields_of_view}
 use Rattle.pdc_cfg.specs.declared.section.SectionView.{SectionView}

@@ -1,6 +1,4 @@
-use Rattle.std.proofs.Common.{◌≡◌, ◌≤◌, ◌-◌, ◌+◌, ◌<◌, ◌++◌, ◌∙◌, List, ℕ, Option, append_assoc, ap, arith, length, map, option_map, sym}
-use Rattle.std.specs.List.{filter_map, range_with_len}
-use Rattle.std.specs.Option.{option_to_list}
+use Rattle.std.proofs.Common.{arith, length}
 use Rattle.pdc_life.specs.Life.{section_in_force}
 use Rattle.pdc_plain.specs.Views.{life_view}
 use Rattle.pdc_plain.proofs.Ranges.{one_more}

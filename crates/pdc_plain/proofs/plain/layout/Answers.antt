@@ -1,9 +1,8 @@
-use Rattle.std.proofs.Common.{◌≡◌, ◌++◌, map, rules}
+use Rattle.std.proofs.Common.{rules}
 use Rattle.std.specs.Prelude.{OnOk, Ok, Err}
 use Rattle.std.specs.declared.alloc.AllocError.{AllocError}
 use Rattle.std.specs.declared.result.Result.{Result}
-use Rattle.pdc_life.specs.Answer.{IsLifeOf}
-use Rattle.pdc_plain.specs.Views.{life_view, step_view}
+use Rattle.pdc_plain.specs.Views.{life_view}
 use Rattle.pdc_plain.proofs.plain.layout.Goals as goal
 
 where_ok : {P Q : Type 0} (r : Result (Unit {0}) AllocError) → (P → Q) → OnOk r P → OnOk r Q

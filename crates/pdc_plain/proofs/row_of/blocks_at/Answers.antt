@@ -1,7 +1,4 @@
-use Rattle.std.proofs.Common.{◌≡◌, ◌-◌, ◌+◌, ◌<◌, ◌++◌, ◌∙◌, List, ℕ, Option, append_assoc, ap, arith, length, sym}
-use Rattle.std.specs.List.{filter_map, range_with_len}
-use Rattle.std.specs.Option.{option_to_list}
-use Rattle.pdc_row.specs.CellView.{BlockView}
+use Rattle.std.proofs.Common.{arith, length}
 use Rattle.pdc_life.specs.Life.{cell_of, section_in_force}
 use Rattle.pdc_life.specs.Row.{block_in}
 use Rattle.pdc_plain.specs.Views.{life_view}

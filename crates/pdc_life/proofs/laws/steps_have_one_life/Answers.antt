@@ -1,0 +1,5 @@
+use Rattle.pdc_life.proofs.OneLife.{steps_have_one_life}
+use Rattle.pdc_life.proofs.laws.steps_have_one_life.Goals as goal
+
+pub returns : goal.returns
+returns c g steps E F h k = steps_have_one_life g steps E F h k
