@@ -1,4 +1,6 @@
 pub mod Bytes
+pub mod Genuine
+pub mod GenuineRows
 pub mod Held
 pub mod InTime
 pub mod Layouts

@@ -1,5 +1,6 @@
 pub mod Answer
 pub mod Arrival
+pub mod Genuine
 pub mod Laws
 pub mod Layout
 pub mod Life

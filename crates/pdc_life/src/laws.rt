@@ -1,4 +1,5 @@
 //! Laws of every life, by the definitions.
+ghost use Rattle.pdc_life.specs.Genuine.{BlocksAreGenuine, RowsAreGenuine};
 ghost use Rattle.pdc_life.specs.Tagged.{RowsHaveTags};
 ghost use Rattle.pdc_life.specs.Valid.{HeldIsSection, InForceIsSection};
 ghost use Rattle.pdc_life.specs.Laws.{ClosedStayClosed, CountsStay, HeldIsGreatest, NoneOvertakes, RowsRise, TakenIsInTime};
@@ -58,4 +59,16 @@ pub fn rows_have_tags()
 pub fn sections_are_valid()
     ensures held { HeldIsSection }
     ensures in_force { InForceIsSection }
+{}
+
+/// The block that a PMU has for an instant is the absent one, or the body of a data frame of that PMU for that instant that was
+/// taken in this life when the section in force was so already.
+pub fn blocks_are_genuine()
+    ensures { BlocksAreGenuine }
+{}
+
+/// The blocks of a row are such ones: one for each PMU that had a section in force when the row closed, in the order of the
+/// settings.
+pub fn rows_are_genuine()
+    ensures { RowsAreGenuine }
 {}

@@ -23,9 +23,9 @@ mod stamp;
 
 pub use given::{Given, Nominal, Settings};
 pub use laws::{
-    answers_are_one, bytes_are_read_in_one_way, closed_stay_closed, counts_stay, held_is_greatest,
-    none_overtakes, rows_have_tags, rows_rise, sections_are_valid, steps_have_one_life,
-    taken_is_in_time,
+    answers_are_one, blocks_are_genuine, bytes_are_read_in_one_way, closed_stay_closed,
+    counts_stay, held_is_greatest, none_overtakes, rows_are_genuine, rows_have_tags, rows_rise,
+    sections_are_valid, steps_have_one_life, taken_is_in_time,
 };
 pub use layout_frame::append_layout;
 pub use outcome::{Outcome, Refusal};

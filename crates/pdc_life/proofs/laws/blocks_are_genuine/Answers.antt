@@ -1,0 +1,5 @@
+use Rattle.pdc_life.proofs.Genuine.{block_genuine}
+use Rattle.pdc_life.proofs.laws.blocks_are_genuine.Goals as goal
+
+pub returns : goal.returns
+returns c g E p i s b life in_force is = block_genuine g E p i s b life in_force is

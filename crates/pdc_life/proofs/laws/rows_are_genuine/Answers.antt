@@ -1,0 +1,5 @@
+use Rattle.pdc_life.proofs.GenuineRows.{closed_genuine, popped_genuine, waiting_genuine}
+use Rattle.pdc_life.proofs.laws.rows_are_genuine.Goals as goal
+
+pub returns : goal.returns
+returns c g E life = (closed_genuine g E life, waiting_genuine g E life, popped_genuine g E life)
