@@ -3,7 +3,7 @@ ghost use Rattle.std.specs.Prelude.{◌≤◌};
 
 mod vectors;
 
-use crate::{Answered, Step, answers, are_of_settings};
+use crate::{Answered, Step, answers, are_of_settings, layout, published, rows};
 use arrayvec::ArrayVec;
 use pdc_life::{Given, Nominal, Pmu, Settings};
 use std::alloc::{AllocError, Global};
@@ -322,5 +322,81 @@ fn adopted_later_and_waited_for(rt: HostRuntime) -> Result<(), Fail> {
         told(rt.alloc(), &node_of_three(), &steps)?.as_str(),
         "Candidate Candidate tick 0 adopts Taken Candidate tick 0 adopts Taken tick 0 Taken tick 1 row 57478860001/0 "
     );
+    Ok(())
+}
+
+#[test]
+fn published_of_both(rt: HostRuntime) -> Result<(), Fail> {
+    let steps = begun(
+        rt.alloc(),
+        &[
+            arrive(0, &DATA_11_AFTER_1),
+            arrive(1, &DATA_12_AFTER_1),
+            tick(57_478_860_001),
+            Step::Pop,
+        ],
+    )?;
+    let given = node(64);
+    assert!(rt; are_of_settings(&given, &steps));
+    let frames = published(rt.alloc(), &given, &steps)?;
+    assert_eq!(rt; frames.len(), 1);
+    assert_eq!(rt; frames[0].as_slice(), NODE_FRAME.as_slice());
+    Ok(())
+}
+
+#[test]
+fn published_of_one(rt: HostRuntime) -> Result<(), Fail> {
+    let steps = begun(
+        rt.alloc(),
+        &[
+            arrive(0, &DATA_11_AFTER_1),
+            tick(57_478_860_001),
+            tick(57_478_860_002),
+            Step::Pop,
+        ],
+    )?;
+    let given = node(64);
+    assert!(rt; are_of_settings(&given, &steps));
+    let frames = published(rt.alloc(), &given, &steps)?;
+    assert_eq!(rt; frames.len(), 1);
+    assert_eq!(rt; frames[0].as_slice(), NODE_FRAME_12_ABSENT.as_slice());
+    Ok(())
+}
+
+/// A row that closed and waits keeps the stamp under which it closed: the tick after it adopts count 2 of PMU 11, and only
+/// then it is taken out.
+#[test]
+fn stamp_of_its_closing(rt: HostRuntime) -> Result<(), Fail> {
+    let steps = begun(
+        rt.alloc(),
+        &[
+            arrive(0, &DATA_11_AFTER_1),
+            arrive(1, &DATA_12_AFTER_1),
+            arrive(0, &CONFIG_11_COUNT_2),
+            tick(57_478_860_001),
+            Step::Pop,
+        ],
+    )?;
+    let given = node(64);
+    assert!(rt; are_of_settings(&given, &steps));
+    let closed = rows(rt.alloc(), &given, &steps)?;
+    assert_eq!(rt; closed.len(), 1);
+    assert_eq!(rt; (closed[0].start, closed[0].change), (1, 1));
+    let frames = published(rt.alloc(), &given, &steps)?;
+    assert_eq!(rt; frames.len(), 1);
+    assert_eq!(rt; frames[0].as_slice(), NODE_FRAME.as_slice());
+    Ok(())
+}
+
+#[test]
+fn layout_after_both_configurations(rt: HostRuntime) -> Result<(), Fail> {
+    let steps = begun(rt.alloc(), &[])?;
+    let given = node(64);
+    assert!(rt; are_of_settings(&given, &steps));
+    let mut frame = Vec::new(rt.alloc());
+    layout(rt.alloc(), &given, &steps, 1_149_577_200, &mut frame)?;
+    assert_eq!(rt; frame.len(), 1194);
+    assert_eq!(rt; &frame[..14], LAYOUT_HEAD.as_slice());
+    assert_eq!(rt; &frame[1192..], LAYOUT_CHECK.as_slice());
     Ok(())
 }
