@@ -16,4 +16,4 @@ pub use block::{Block, MAX_WORDS};
 pub use fault::BodyFault;
 pub use laws::bodies_are_their_words;
 pub use reading::{cut, read_body};
-pub use writing::join;
+pub use writing::{append_words, join, joined_len};

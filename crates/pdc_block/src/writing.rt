@@ -5,8 +5,8 @@ ghost use Rattle.pdc_block.specs.Block.{words_of, shape_of, body_len_of, bytes_o
 use crate::block::Block;
 use std::alloc::{AllocError, Allocator};
 
-/// Appends the words, each with its high byte first. It takes no memory.
-fn append_words<A: Allocator>(words: &[u16], out: &mut Vec<u8, A>)
+/// Appends the words, each with its high byte first. It takes no memory: there is room for them.
+pub fn append_words<A: Allocator>(words: &[u16], out: &mut Vec<u8, A>)
     requires { vec_len out.old + 2 * length words.now ≤ vec_capacity out.old }
     ensures items { out.new.items ≡ out.old.items ++ bytes_of_words words.now }
     ensures len { vec_len out.new ≡ vec_len out.old + 2 * length words.now }
@@ -17,9 +17,10 @@ fn append_words<A: Allocator>(words: &[u16], out: &mut Vec<u8, A>)
     }
 }
 
-/// The bytes that the blocks take, one after the other.
-fn joined_len(blocks: &[Block]) -> usize
-    ensures { result ≡ sum_by (λ block. body_len_of (shape_of block)) blocks.now }
+/// The bytes that the blocks take, one after the other: 6 to 214 each.
+pub fn joined_len(blocks: &[Block]) -> usize
+    ensures value { result ≡ sum_by (λ block. body_len_of (shape_of block)) blocks.now }
+    ensures most { result ≤ 214 * length blocks.now }
 {
     let mut len = 0;
     for block in blocks {

@@ -1,4 +1,4 @@
--- Lives worked out by computing the definitions: the frames are those of two PMUs, 11 and 12, with one phasor each, at 50
+-- Lives worked out by computing the definitions: the frames are those of the PMUs 11, 12 and 13, with one phasor each, at 50
 -- frames a second from SOC 1149577200 on, whose first instant is 57478860000. What arrives is given as read; where only the
 -- answer matters, the bytes beside it stand for any that say so.
 use Rattle.std.specs.Prelude.{◌≡◌, ℕ, ◌+◌, ◌<◌, ◌≤◌, List, [], ◌∷◌, length, map, false, refl}
@@ -42,6 +42,15 @@ e2 =
     0x20 ∷ 0x20 ∷ 0x20 ∷ 0x20 ∷ 0x20 ∷ 0x20 ∷ 0x20 ∷ 0x20 ∷ 0x20 ∷ 0x20 ∷ 0x20 ∷ 0x20 ∷ 0x20 ∷ 0x20 ∷ 0x00 ∷ 0x0D ∷
     0xF8 ∷ 0x47 ∷ 0x00 ∷ 0x01 ∷ 0x00 ∷ 0x01 ∷ 0x00 ∷ 0x32 ∷ 0xC2 ∷ 0x9B ∷ []
 
+-- the CFG-2 frame of PMU 13, count 1
+abbrev pub e13 : List ℕ
+e13 =
+    0xAA ∷ 0x32 ∷ 0x00 ∷ 0x4A ∷ 0x00 ∷ 0x0D ∷ 0x44 ∷ 0x85 ∷ 0x27 ∷ 0xF0 ∷ 0x00 ∷ 0x00 ∷ 0x00 ∷ 0x00 ∷ 0x00 ∷ 0x0F ∷
+    0x42 ∷ 0x40 ∷ 0x00 ∷ 0x01 ∷ 0x50 ∷ 0x4D ∷ 0x55 ∷ 0x20 ∷ 0x31 ∷ 0x33 ∷ 0x20 ∷ 0x20 ∷ 0x20 ∷ 0x20 ∷ 0x20 ∷ 0x20 ∷
+    0x20 ∷ 0x20 ∷ 0x20 ∷ 0x20 ∷ 0x00 ∷ 0x0D ∷ 0x00 ∷ 0x00 ∷ 0x00 ∷ 0x01 ∷ 0x00 ∷ 0x00 ∷ 0x00 ∷ 0x00 ∷ 0x56 ∷ 0x41 ∷
+    0x20 ∷ 0x20 ∷ 0x20 ∷ 0x20 ∷ 0x20 ∷ 0x20 ∷ 0x20 ∷ 0x20 ∷ 0x20 ∷ 0x20 ∷ 0x20 ∷ 0x20 ∷ 0x20 ∷ 0x20 ∷ 0x00 ∷ 0x0D ∷
+    0xF8 ∷ 0x47 ∷ 0x00 ∷ 0x01 ∷ 0x00 ∷ 0x01 ∷ 0x00 ∷ 0x32 ∷ 0x7E ∷ 0x04 ∷ []
+
 -- data of 11 for the instant 57478860001
 abbrev pub e3 : List ℕ
 e3 =
@@ -67,6 +76,14 @@ abbrev pub section_12 : List ℕ
 section_12 =
     0x50 ∷ 0x4D ∷ 0x55 ∷ 0x20 ∷ 0x31 ∷ 0x32 ∷ 0x20 ∷ 0x20 ∷ 0x20 ∷ 0x20 ∷ 0x20 ∷ 0x20 ∷ 0x20 ∷ 0x20 ∷ 0x20 ∷ 0x20 ∷
     0x00 ∷ 0x0C ∷ 0x00 ∷ 0x00 ∷ 0x00 ∷ 0x01 ∷ 0x00 ∷ 0x00 ∷ 0x00 ∷ 0x00 ∷ 0x56 ∷ 0x41 ∷ 0x20 ∷ 0x20 ∷ 0x20 ∷ 0x20 ∷
+    0x20 ∷ 0x20 ∷ 0x20 ∷ 0x20 ∷ 0x20 ∷ 0x20 ∷ 0x20 ∷ 0x20 ∷ 0x20 ∷ 0x20 ∷ 0x00 ∷ 0x0D ∷ 0xF8 ∷ 0x47 ∷ 0x00 ∷ 0x01 ∷
+    0x00 ∷ 0x01 ∷ []
+
+-- the section of 13
+abbrev pub section_13 : List ℕ
+section_13 =
+    0x50 ∷ 0x4D ∷ 0x55 ∷ 0x20 ∷ 0x31 ∷ 0x33 ∷ 0x20 ∷ 0x20 ∷ 0x20 ∷ 0x20 ∷ 0x20 ∷ 0x20 ∷ 0x20 ∷ 0x20 ∷ 0x20 ∷ 0x20 ∷
+    0x00 ∷ 0x0D ∷ 0x00 ∷ 0x00 ∷ 0x00 ∷ 0x01 ∷ 0x00 ∷ 0x00 ∷ 0x00 ∷ 0x00 ∷ 0x56 ∷ 0x41 ∷ 0x20 ∷ 0x20 ∷ 0x20 ∷ 0x20 ∷
     0x20 ∷ 0x20 ∷ 0x20 ∷ 0x20 ∷ 0x20 ∷ 0x20 ∷ 0x20 ∷ 0x20 ∷ 0x20 ∷ 0x20 ∷ 0x00 ∷ 0x0D ∷ 0xF8 ∷ 0x47 ∷ 0x00 ∷ 0x01 ∷
     0x00 ∷ 0x01 ∷ []
 
@@ -139,6 +156,9 @@ pmu_12 = record { stream = 12; source = 12; time_base = 1000000; stream_low = om
 
 abbrev pub pmu_13 : Pmu
 pmu_13 = record { stream = 13; source = 13; time_base = 1000000; stream_low = omega arith; stream_high = omega arith; source_low = omega arith; source_high = omega arith; time_base_high = omega arith }
+
+abbrev pub fields_13 : SectionFields
+fields_13 = record { bytes = section_13; shape = one_phasor; source = 13; count = 1; polar = false }
 
 -- Node 201: ahead 32, and this wait, window and list of PMUs.
 abbrev pub settings : (wait window : ℕ) → (1 ≤ wait) × (wait ≤ 1000) → (8 ≤ window) × (window ≤ 256) → (pmus : List Pmu) → (0 < length pmus) × (length pmus ≤ 16) → IsTrue (list_all (λ (p : Pmu). nat_le 50 p.time_base) pmus) → Settings
@@ -291,15 +311,15 @@ ahead = refl
 data_before_a_configuration : answers (life_from wide [] (Heard 0 e1 (Configuration (fields_11 1 section_11)) ∷ Ticked 57478860000 ∷ data_of 1 1 body_4 ∷ [])) ≡ Refused NoConfig ∷ Candidate ∷ []
 data_before_a_configuration = refl
 
--- Three PMUs and a wait of 3. The third is adopted when an instant is open already: the instant waits for it too.
+-- Three PMUs and a wait of 10. The third is adopted when an instant is open already: the instant waits for it too.
 abbrev pub three : Given
-three = given (settings 3 64 (omega arith, omega arith) (omega arith, omega arith) (pmu_11 ∷ pmu_12 ∷ pmu_13 ∷ []) (omega arith, omega arith) refl)
+three = given (settings 10 64 (omega arith, omega arith) (omega arith, omega arith) (pmu_11 ∷ pmu_12 ∷ pmu_13 ∷ []) (omega arith, omega arith) refl)
 
 third_comes_later : List Entry
 third_comes_later =
     life_from three []
     (Heard 0 e1 (Configuration (fields_11 1 section_11)) ∷ Heard 1 e2 (Configuration fields_12) ∷ Ticked 57478860000
-    ∷ data_of 0 1 body_3 ∷ Heard 2 e2 (Configuration fields_12) ∷ Ticked 57478860001 ∷ data_of 1 1 body_4 ∷ Ticked 57478860002 ∷ Popped ∷ [])
+    ∷ data_of 0 1 body_3 ∷ Heard 2 e13 (Configuration fields_13) ∷ Ticked 57478860001 ∷ data_of 1 1 body_4 ∷ Ticked 57478860002 ∷ Popped ∷ [])
 
 waits_for_the_third : popped third_comes_later ≡ []
 unfolding third_comes_later

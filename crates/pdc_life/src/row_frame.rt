@@ -7,7 +7,7 @@ ghost use Rattle.pdc_life.specs.Layout.{own_block, row_payload, row_fields, wire
 
 use crate::given::Settings;
 use crate::stamp::stamp_words;
-use pdc_block::{Block, join};
+use pdc_block::{append_words, join, joined_len};
 use pdc_frame::{Frame, Kind, begin_frame, end_frame};
 use pdc_row::DueRow;
 use pdc_tag::tag_of;
@@ -16,38 +16,13 @@ use std::alloc::{AllocError, Allocator};
 /// The bytes of the own block: STAT, FREQ, DFREQ and four digital words.
 const OWN_BLOCK_LEN: usize = 14;
 
-/// The bytes of the blocks.
-fn blocks_len(blocks: &[Block]) -> usize
-    requires { length blocks.now ≤ 16 }
-    ensures value { result ≡ sum_by (λ block. body_len_of (shape_of block)) blocks.now }
-    ensures most { result ≤ 3424 }
-{
-    let mut len = 0;
-    for block in blocks {
-        len += 2 * block.shape.word_count();
-    }
-    len
-}
-
 /// The bytes of the frame's payload.
 fn payload_len(row: &DueRow) -> usize
     ensures value { result ≡ length (row_payload (row_view row.now)) }
     ensures blocks { result ≡ 14 + sum_by (λ block. body_len_of (shape_of block)) row.now.blocks.items }
     ensures most { result ≤ 3438 }
 {
-    OWN_BLOCK_LEN + blocks_len(row.blocks.as_slice())
-}
-
-/// Appends the words, each with its high byte first. It takes no memory.
-fn append_words<A: Allocator>(words: &[u16], out: &mut Vec<u8, A>)
-    requires { vec_len out.old + 2 * length words.now ≤ vec_capacity out.old }
-    ensures items { out.new.items ≡ out.old.items ++ bytes_of_words words.now }
-    ensures len { vec_len out.new ≡ vec_len out.old + 2 * length words.now }
-    ensures capacity { vec_capacity out.old ≤ vec_capacity out.new }
-{
-    for word in words {
-        out.extend_from_slice(&word.to_be_bytes()).unwrap();
-    }
+    OWN_BLOCK_LEN + joined_len(row.blocks.as_slice())
 }
 
 /// Appends the own block. It takes no memory.

@@ -11,6 +11,9 @@ use std::fmt::Write;
 use std::test::Fail;
 use vectors::*;
 
+/// What `begun` is answered first.
+const ADOPTED: &str = "Candidate Candidate tick 0 adopts ";
+
 const PMU_11: Pmu = Pmu {
     stream: 11,
     source: 11,
@@ -97,7 +100,7 @@ fn begun<'a>(alloc: Global, more: &[Step<'a>]) -> Result<Vec<Step<'a>>, AllocErr
     Ok(steps)
 }
 
-/// What the steps are answered: an arrival by its outcome, a tick by how many rows it closed and whether it adopted, a
+/// What the steps are answered, in one line: an arrival by its outcome, a tick by how many rows it closed and whether it adopted, a
 /// pop by the instant and the quality of its row.
 fn told(alloc: Global, given: &Given, steps: &[Step]) -> Result<String, Fail> {
     let mut text = String::new(alloc);
@@ -123,119 +126,108 @@ fn told(alloc: Global, given: &Given, steps: &[Step]) -> Result<String, Fail> {
     Ok(text)
 }
 
+/// Lives of node 201 after it adopted both configurations.
 #[test]
-fn both_present(rt: HostRuntime) -> Result<(), Fail> {
-    let steps = begun(
-        rt.alloc(),
-        &[
-            arrive(0, &DATA_11_AFTER_1),
-            arrive(1, &DATA_12_AFTER_1),
-            tick(57_478_860_001),
-            Step::Pop,
-            Step::Pop,
-        ],
-    )?;
-    assert_eq!(rt;
-        told(rt.alloc(), &node(64), &steps)?.as_str(),
-        "Candidate Candidate tick 0 adopts Taken Taken tick 1 row 57478860001/0 none "
-    );
-    Ok(())
-}
-
-#[test]
-fn one_absent(rt: HostRuntime) -> Result<(), Fail> {
-    let steps = begun(
-        rt.alloc(),
-        &[
-            arrive(0, &DATA_11_AFTER_1),
-            tick(57_478_860_001),
-            tick(57_478_860_002),
-            Step::Pop,
-        ],
-    )?;
-    assert_eq!(rt;
-        told(rt.alloc(), &node(64), &steps)?.as_str(),
-        "Candidate Candidate tick 0 adopts Taken tick 0 tick 1 row 57478860001/0 "
-    );
-    Ok(())
-}
-
-#[test]
-fn closed_in_order_and_late(rt: HostRuntime) -> Result<(), Fail> {
-    let steps = begun(
-        rt.alloc(),
-        &[
-            arrive(0, &DATA_11_AFTER_2),
-            arrive(1, &DATA_12_AFTER_2),
-            arrive(0, &DATA_11_AFTER_1),
-            arrive(1, &DATA_12_AFTER_1),
-            tick(57_478_860_002),
-            Step::Pop,
-            Step::Pop,
-            arrive(0, &DATA_11_AFTER_1),
-        ],
-    )?;
-    assert_eq!(rt;
-        told(rt.alloc(), &node(64), &steps)?.as_str(),
-        "Candidate Candidate tick 0 adopts Taken Taken Taken Taken tick 2 row 57478860001/0 row 57478860002/0 Refused(Late) "
-    );
-    Ok(())
-}
-
-#[test]
-fn duplicate_and_conflict(rt: HostRuntime) -> Result<(), Fail> {
-    let steps = begun(
-        rt.alloc(),
-        &[
-            arrive(0, &DATA_11_AFTER_1),
-            arrive(0, &DATA_11_AFTER_1),
-            arrive(0, &DATA_11_OTHER),
-        ],
-    )?;
-    assert_eq!(rt;
-        told(rt.alloc(), &node(64), &steps)?.as_str(),
-        "Candidate Candidate tick 0 adopts Taken Refused(Duplicate) Refused(Conflict) "
-    );
-    Ok(())
-}
-
-#[test]
-fn count_raised(rt: HostRuntime) -> Result<(), Fail> {
-    let steps = begun(
-        rt.alloc(),
-        &[
-            arrive(0, &DATA_11_AFTER_1),
-            arrive(0, &CONFIG_11_COUNT_2),
-            tick(57_478_860_001),
-            arrive(0, &CONFIG_11),
-            arrive(0, &CONFIG_11_COUNT_2_RENAMED),
-            arrive(0, &CONFIG_11_COUNT_2),
-            tick(57_478_860_002),
-            Step::Pop,
-        ],
-    )?;
-    assert_eq!(rt;
-        told(rt.alloc(), &node(64), &steps)?.as_str(),
-        "Candidate Candidate tick 0 adopts Taken Candidate tick 0 adopts Refused(StaleCount) Refused(CountConflict) Known tick 1 row 57478860001/15 "
-    );
-    Ok(())
-}
-
-#[test]
-fn absent_words_sent(rt: HostRuntime) -> Result<(), Fail> {
-    let steps = begun(
-        rt.alloc(),
-        &[
-            arrive(0, &DATA_11_ABSENT),
-            tick(57_478_860_001),
-            tick(57_478_860_002),
-            Step::Pop,
-        ],
-    )?;
-    assert_eq!(rt;
-        told(rt.alloc(), &node(64), &steps)?.as_str(),
-        "Candidate Candidate tick 0 adopts Taken tick 0 tick 1 row 57478860001/15 "
-    );
+fn worked_lives(rt: HostRuntime) -> Result<(), Fail> {
+    let alloc = rt.alloc();
+    let cases: [(&str, &[Step], &str); 9] = [
+        (
+            "both present",
+            &[
+                arrive(0, &DATA_11_AFTER_1),
+                arrive(1, &DATA_12_AFTER_1),
+                tick(57_478_860_001),
+                Step::Pop,
+                Step::Pop,
+            ],
+            "Taken Taken tick 1 row 57478860001/0 none ",
+        ),
+        (
+            "one absent",
+            &[
+                arrive(0, &DATA_11_AFTER_1),
+                tick(57_478_860_001),
+                tick(57_478_860_002),
+                Step::Pop,
+            ],
+            "Taken tick 0 tick 1 row 57478860001/0 ",
+        ),
+        (
+            "closed in order, and late",
+            &[
+                arrive(0, &DATA_11_AFTER_2),
+                arrive(1, &DATA_12_AFTER_2),
+                arrive(0, &DATA_11_AFTER_1),
+                arrive(1, &DATA_12_AFTER_1),
+                tick(57_478_860_002),
+                Step::Pop,
+                Step::Pop,
+                arrive(0, &DATA_11_AFTER_1),
+            ],
+            "Taken Taken Taken Taken tick 2 row 57478860001/0 row 57478860002/0 Refused(Late) ",
+        ),
+        (
+            "duplicate and conflict",
+            &[
+                arrive(0, &DATA_11_AFTER_1),
+                arrive(0, &DATA_11_AFTER_1),
+                arrive(0, &DATA_11_OTHER),
+            ],
+            "Taken Refused(Duplicate) Refused(Conflict) ",
+        ),
+        (
+            "a raised count",
+            &[
+                arrive(0, &DATA_11_AFTER_1),
+                arrive(0, &CONFIG_11_COUNT_2),
+                tick(57_478_860_001),
+                arrive(0, &CONFIG_11),
+                arrive(0, &CONFIG_11_COUNT_2_RENAMED),
+                arrive(0, &CONFIG_11_COUNT_2),
+            ],
+            "Taken Candidate tick 0 adopts Refused(StaleCount) Refused(CountConflict) Known ",
+        ),
+        (
+            "an open instant whose only take was dropped",
+            &[
+                arrive(0, &DATA_11_AFTER_1),
+                arrive(0, &CONFIG_11_COUNT_2),
+                tick(57_478_860_001),
+                tick(57_478_860_002),
+                Step::Pop,
+            ],
+            "Taken Candidate tick 0 adopts tick 1 row 57478860001/15 ",
+        ),
+        (
+            "absent words that a PMU sent",
+            &[
+                arrive(0, &DATA_11_ABSENT),
+                tick(57_478_860_001),
+                tick(57_478_860_002),
+                Step::Pop,
+            ],
+            "Taken tick 0 tick 1 row 57478860001/15 ",
+        ),
+        (
+            "ahead",
+            &[arrive(0, &DATA_11_AFTER_33), arrive(0, &DATA_11_AFTER_32)],
+            "Refused(Ahead) Taken ",
+        ),
+        (
+            "bytes that are refused",
+            &[
+                arrive(0, &DATA_12_AFTER_1),
+                arrive(0, &DATA_11_AFTER_1[..25]),
+                arrive(1, &CONFIG_11),
+            ],
+            "Refused(WrongId) Refused(NoFrame(SizeMismatch)) Refused(WrongId) ",
+        ),
+    ];
+    for (name, more, want) in cases {
+        let steps = begun(alloc, more)?;
+        let told = told(alloc, &node(64), &steps)?;
+        assert_eq!(rt; told.strip_prefix(ADOPTED), Some(want), "{name}");
+    }
     Ok(())
 }
 
@@ -249,39 +241,10 @@ fn window(rt: HostRuntime) -> Result<(), Fail> {
             arrive(0, &DATA_11_AFTER_8),
         ],
     )?;
+    let told = told(rt.alloc(), &node(8), &steps)?;
     assert_eq!(rt;
-        told(rt.alloc(), &node(8), &steps)?.as_str(),
-        "Candidate Candidate tick 0 adopts Taken Refused(OutOfWindow) Taken "
-    );
-    Ok(())
-}
-
-#[test]
-fn ahead(rt: HostRuntime) -> Result<(), Fail> {
-    let steps = begun(
-        rt.alloc(),
-        &[arrive(0, &DATA_11_AFTER_33), arrive(0, &DATA_11_AFTER_32)],
-    )?;
-    assert_eq!(rt;
-        told(rt.alloc(), &node(64), &steps)?.as_str(),
-        "Candidate Candidate tick 0 adopts Refused(Ahead) Taken "
-    );
-    Ok(())
-}
-
-#[test]
-fn bytes_that_are_refused(rt: HostRuntime) -> Result<(), Fail> {
-    let steps = begun(
-        rt.alloc(),
-        &[
-            arrive(0, &DATA_12_AFTER_1),
-            arrive(0, &DATA_11_AFTER_1[..25]),
-            arrive(1, &CONFIG_11),
-        ],
-    )?;
-    assert_eq!(rt;
-        told(rt.alloc(), &node(64), &steps)?.as_str(),
-        "Candidate Candidate tick 0 adopts Refused(WrongId) Refused(NoFrame(SizeMismatch)) Refused(WrongId) "
+        told.strip_prefix(ADOPTED),
+        Some("Taken Refused(OutOfWindow) Taken ")
     );
     Ok(())
 }
@@ -303,6 +266,7 @@ fn data_before_a_configuration(rt: HostRuntime) -> Result<(), Fail> {
     Ok(())
 }
 
+/// PMU 13 is adopted when an instant is open already: data of 11 and 12 does not close it, that of 13 does.
 #[test]
 fn adopted_later_and_waited_for(rt: HostRuntime) -> Result<(), Fail> {
     let steps = begun(
@@ -318,73 +282,81 @@ fn adopted_later_and_waited_for(rt: HostRuntime) -> Result<(), Fail> {
             Step::Pop,
         ],
     )?;
-    assert_eq!(rt;
-        told(rt.alloc(), &node_of_three(), &steps)?.as_str(),
-        "Candidate Candidate tick 0 adopts Taken Candidate tick 0 adopts Taken tick 0 Taken tick 1 row 57478860001/0 "
-    );
+    let told = told(rt.alloc(), &node_of_three(), &steps)?;
+    let want = "Taken Candidate tick 0 adopts Taken tick 0 Taken tick 1 row 57478860001/0 ";
+    assert_eq!(rt; told.strip_prefix(ADOPTED), Some(want));
     Ok(())
 }
 
 #[test]
-fn published_of_both(rt: HostRuntime) -> Result<(), Fail> {
-    let steps = begun(
-        rt.alloc(),
-        &[
-            arrive(0, &DATA_11_AFTER_1),
-            arrive(1, &DATA_12_AFTER_1),
-            tick(57_478_860_001),
-            Step::Pop,
-        ],
-    )?;
+fn published_frames(rt: HostRuntime) -> Result<(), Fail> {
+    let alloc = rt.alloc();
     let given = node(64);
-    assert!(rt; are_of_settings(&given, &steps));
-    let frames = published(rt.alloc(), &given, &steps)?;
-    assert_eq!(rt; frames.len(), 1);
-    assert_eq!(rt; frames[0].as_slice(), NODE_FRAME.as_slice());
+    let cases: [(&str, &[Step], &[u8]); 3] = [
+        (
+            "both present",
+            &[
+                arrive(0, &DATA_11_AFTER_1),
+                arrive(1, &DATA_12_AFTER_1),
+                tick(57_478_860_001),
+                Step::Pop,
+            ],
+            &NODE_FRAME,
+        ),
+        (
+            "one absent",
+            &[
+                arrive(0, &DATA_11_AFTER_1),
+                tick(57_478_860_001),
+                tick(57_478_860_002),
+                Step::Pop,
+            ],
+            &NODE_FRAME_12_ABSENT,
+        ),
+        (
+            "the tick that closes it adopts count 2 of PMU 11: the row keeps change 1",
+            &[
+                arrive(0, &DATA_11_AFTER_1),
+                arrive(1, &DATA_12_AFTER_1),
+                arrive(0, &CONFIG_11_COUNT_2),
+                tick(57_478_860_001),
+                Step::Pop,
+            ],
+            &NODE_FRAME,
+        ),
+    ];
+    for (name, more, want) in cases {
+        let steps = begun(alloc, more)?;
+        assert!(rt; are_of_settings(&given, &steps));
+        let frames = published(alloc, &given, &steps)?;
+        assert_eq!(rt; frames.len(), 1, "{name}");
+        assert_eq!(rt; frames[0].as_slice(), want, "{name}");
+    }
     Ok(())
 }
 
+/// Rows that closed and were not taken out.
 #[test]
-fn published_of_one(rt: HostRuntime) -> Result<(), Fail> {
+fn rows_that_wait(rt: HostRuntime) -> Result<(), Fail> {
     let steps = begun(
         rt.alloc(),
         &[
+            arrive(0, &DATA_11_AFTER_2),
             arrive(0, &DATA_11_AFTER_1),
             tick(57_478_860_001),
             tick(57_478_860_002),
-            Step::Pop,
-        ],
-    )?;
-    let given = node(64);
-    assert!(rt; are_of_settings(&given, &steps));
-    let frames = published(rt.alloc(), &given, &steps)?;
-    assert_eq!(rt; frames.len(), 1);
-    assert_eq!(rt; frames[0].as_slice(), NODE_FRAME_12_ABSENT.as_slice());
-    Ok(())
-}
-
-/// A row that closed and waits keeps the stamp under which it closed: the tick after it adopts count 2 of PMU 11, and only
-/// then it is taken out.
-#[test]
-fn stamp_of_its_closing(rt: HostRuntime) -> Result<(), Fail> {
-    let steps = begun(
-        rt.alloc(),
-        &[
-            arrive(0, &DATA_11_AFTER_1),
-            arrive(1, &DATA_12_AFTER_1),
-            arrive(0, &CONFIG_11_COUNT_2),
-            tick(57_478_860_001),
-            Step::Pop,
         ],
     )?;
     let given = node(64);
     assert!(rt; are_of_settings(&given, &steps));
     let closed = rows(rt.alloc(), &given, &steps)?;
-    assert_eq!(rt; closed.len(), 1);
-    assert_eq!(rt; (closed[0].start, closed[0].change), (1, 1));
-    let frames = published(rt.alloc(), &given, &steps)?;
-    assert_eq!(rt; frames.len(), 1);
-    assert_eq!(rt; frames[0].as_slice(), NODE_FRAME.as_slice());
+    assert_eq!(rt; closed.len(), 2);
+    let first = &closed[0];
+    assert_eq!(rt;
+        (first.instant, first.start, first.change),
+        (57_478_860_001, 1, 1)
+    );
+    assert_eq!(rt; closed[1].instant, 57_478_860_002);
     Ok(())
 }
 
