@@ -11,9 +11,6 @@ use std::fmt::Write;
 use std::test::Fail;
 use vectors::*;
 
-/// What `begun` is answered first.
-const ADOPTED: &str = "Candidate Candidate tick 0 adopts ";
-
 const PMU_11: Pmu = Pmu {
     stream: 11,
     source: 11,
@@ -126,125 +123,132 @@ fn told(alloc: Global, given: &Given, steps: &[Step]) -> Result<String, Fail> {
     Ok(text)
 }
 
-/// Lives of node 201 after it adopted both configurations.
+/// What node 201 answers these steps after it adopted both configurations.
+fn told_after(alloc: Global, given: &Given, more: &[Step]) -> Result<String, Fail> {
+    let text = told(alloc, given, &begun(alloc, more)?)?;
+    match text.strip_prefix("Candidate Candidate tick 0 adopts ") {
+        Some(rest) => Ok(rest.to_string(alloc)?),
+        None => Ok(text),
+    }
+}
+
 #[test]
 fn worked_lives(rt: HostRuntime) -> Result<(), Fail> {
     let alloc = rt.alloc();
-    let cases: [(&str, &[Step], &str); 9] = [
-        (
-            "both present",
-            &[
-                arrive(0, &DATA_11_AFTER_1),
-                arrive(1, &DATA_12_AFTER_1),
-                tick(57_478_860_001),
-                Step::Pop,
-                Step::Pop,
-            ],
-            "Taken Taken tick 1 row 57478860001/0 none ",
-        ),
-        (
-            "one absent",
-            &[
-                arrive(0, &DATA_11_AFTER_1),
-                tick(57_478_860_001),
-                tick(57_478_860_002),
-                Step::Pop,
-            ],
-            "Taken tick 0 tick 1 row 57478860001/0 ",
-        ),
-        (
-            "closed in order, and late",
-            &[
-                arrive(0, &DATA_11_AFTER_2),
-                arrive(1, &DATA_12_AFTER_2),
-                arrive(0, &DATA_11_AFTER_1),
-                arrive(1, &DATA_12_AFTER_1),
-                tick(57_478_860_002),
-                Step::Pop,
-                Step::Pop,
-                arrive(0, &DATA_11_AFTER_1),
-            ],
-            "Taken Taken Taken Taken tick 2 row 57478860001/0 row 57478860002/0 Refused(Late) ",
-        ),
-        (
-            "duplicate and conflict",
-            &[
-                arrive(0, &DATA_11_AFTER_1),
-                arrive(0, &DATA_11_AFTER_1),
-                arrive(0, &DATA_11_OTHER),
-            ],
-            "Taken Refused(Duplicate) Refused(Conflict) ",
-        ),
-        (
-            "a raised count",
-            &[
-                arrive(0, &DATA_11_AFTER_1),
-                arrive(0, &CONFIG_11_COUNT_2),
-                tick(57_478_860_001),
-                arrive(0, &CONFIG_11),
-                arrive(0, &CONFIG_11_COUNT_2_RENAMED),
-                arrive(0, &CONFIG_11_COUNT_2),
-            ],
-            "Taken Candidate tick 0 adopts Refused(StaleCount) Refused(CountConflict) Known ",
-        ),
-        (
-            "an open instant whose only take was dropped",
-            &[
-                arrive(0, &DATA_11_AFTER_1),
-                arrive(0, &CONFIG_11_COUNT_2),
-                tick(57_478_860_001),
-                tick(57_478_860_002),
-                Step::Pop,
-            ],
-            "Taken Candidate tick 0 adopts tick 1 row 57478860001/15 ",
-        ),
-        (
-            "absent words that a PMU sent",
-            &[
-                arrive(0, &DATA_11_ABSENT),
-                tick(57_478_860_001),
-                tick(57_478_860_002),
-                Step::Pop,
-            ],
-            "Taken tick 0 tick 1 row 57478860001/15 ",
-        ),
-        (
-            "ahead",
-            &[arrive(0, &DATA_11_AFTER_33), arrive(0, &DATA_11_AFTER_32)],
-            "Refused(Ahead) Taken ",
-        ),
-        (
-            "bytes that are refused",
-            &[
-                arrive(0, &DATA_12_AFTER_1),
-                arrive(0, &DATA_11_AFTER_1[..25]),
-                arrive(1, &CONFIG_11),
-            ],
-            "Refused(WrongId) Refused(NoFrame(SizeMismatch)) Refused(WrongId) ",
-        ),
+    let given = node(64);
+    let steps = [
+        arrive(0, &DATA_11_AFTER_1),
+        arrive(1, &DATA_12_AFTER_1),
+        tick(57_478_860_001),
+        Step::Pop,
+        Step::Pop,
     ];
-    for (name, more, want) in cases {
-        let steps = begun(alloc, more)?;
-        let told = told(alloc, &node(64), &steps)?;
-        assert_eq!(rt; told.strip_prefix(ADOPTED), Some(want), "{name}");
-    }
+    assert_eq!(rt;
+        told_after(alloc, &given, &steps)?.as_str(),
+        "Taken Taken tick 1 row 57478860001/0 none ",
+        "both present"
+    );
+    let steps = [
+        arrive(0, &DATA_11_AFTER_1),
+        tick(57_478_860_001),
+        tick(57_478_860_002),
+        Step::Pop,
+    ];
+    assert_eq!(rt;
+        told_after(alloc, &given, &steps)?.as_str(),
+        "Taken tick 0 tick 1 row 57478860001/0 ",
+        "one absent"
+    );
+    let steps = [
+        arrive(0, &DATA_11_AFTER_2),
+        arrive(1, &DATA_12_AFTER_2),
+        arrive(0, &DATA_11_AFTER_1),
+        arrive(1, &DATA_12_AFTER_1),
+        tick(57_478_860_002),
+        Step::Pop,
+        Step::Pop,
+        arrive(0, &DATA_11_AFTER_1),
+    ];
+    assert_eq!(rt;
+        told_after(alloc, &given, &steps)?.as_str(),
+        "Taken Taken Taken Taken tick 2 row 57478860001/0 row 57478860002/0 Refused(Late) ",
+        "closed in order, and late"
+    );
+    let steps = [
+        arrive(0, &DATA_11_AFTER_1),
+        arrive(0, &DATA_11_AFTER_1),
+        arrive(0, &DATA_11_OTHER),
+    ];
+    assert_eq!(rt;
+        told_after(alloc, &given, &steps)?.as_str(),
+        "Taken Refused(Duplicate) Refused(Conflict) ",
+        "duplicate and conflict"
+    );
+    let steps = [
+        arrive(0, &DATA_11_AFTER_1),
+        arrive(0, &CONFIG_11_COUNT_2),
+        tick(57_478_860_001),
+        arrive(0, &CONFIG_11),
+        arrive(0, &CONFIG_11_COUNT_2_RENAMED),
+        arrive(0, &CONFIG_11_COUNT_2),
+    ];
+    assert_eq!(rt;
+        told_after(alloc, &given, &steps)?.as_str(),
+        "Taken Candidate tick 0 adopts Refused(StaleCount) Refused(CountConflict) Known ",
+        "a raised count"
+    );
+    let steps = [
+        arrive(0, &DATA_11_AFTER_1),
+        arrive(0, &CONFIG_11_COUNT_2),
+        tick(57_478_860_001),
+        tick(57_478_860_002),
+        Step::Pop,
+    ];
+    assert_eq!(rt;
+        told_after(alloc, &given, &steps)?.as_str(),
+        "Taken Candidate tick 0 adopts tick 1 row 57478860001/15 ",
+        "an open instant whose only take was dropped"
+    );
+    let steps = [
+        arrive(0, &DATA_11_ABSENT),
+        tick(57_478_860_001),
+        tick(57_478_860_002),
+        Step::Pop,
+    ];
+    assert_eq!(rt;
+        told_after(alloc, &given, &steps)?.as_str(),
+        "Taken tick 0 tick 1 row 57478860001/15 ",
+        "absent words that a PMU sent"
+    );
+    let steps = [arrive(0, &DATA_11_AFTER_33), arrive(0, &DATA_11_AFTER_32)];
+    assert_eq!(rt;
+        told_after(alloc, &given, &steps)?.as_str(),
+        "Refused(Ahead) Taken ",
+        "ahead"
+    );
+    let steps = [
+        arrive(0, &DATA_12_AFTER_1),
+        arrive(0, &DATA_11_AFTER_1[..25]),
+        arrive(1, &CONFIG_11),
+    ];
+    assert_eq!(rt;
+        told_after(alloc, &given, &steps)?.as_str(),
+        "Refused(WrongId) Refused(NoFrame(SizeMismatch)) Refused(WrongId) ",
+        "bytes that are refused"
+    );
     Ok(())
 }
 
 #[test]
 fn window(rt: HostRuntime) -> Result<(), Fail> {
-    let steps = begun(
-        rt.alloc(),
-        &[
-            arrive(0, &DATA_11_AFTER_1),
-            arrive(0, &DATA_11_AFTER_9),
-            arrive(0, &DATA_11_AFTER_8),
-        ],
-    )?;
-    let told = told(rt.alloc(), &node(8), &steps)?;
+    let steps = [
+        arrive(0, &DATA_11_AFTER_1),
+        arrive(0, &DATA_11_AFTER_9),
+        arrive(0, &DATA_11_AFTER_8),
+    ];
     assert_eq!(rt;
-        told.strip_prefix(ADOPTED),
-        Some("Taken Refused(OutOfWindow) Taken ")
+        told_after(rt.alloc(), &node(8), &steps)?.as_str(),
+        "Taken Refused(OutOfWindow) Taken "
     );
     Ok(())
 }
@@ -269,69 +273,71 @@ fn data_before_a_configuration(rt: HostRuntime) -> Result<(), Fail> {
 /// PMU 13 is adopted when an instant is open already: data of 11 and 12 does not close it, that of 13 does.
 #[test]
 fn adopted_later_and_waited_for(rt: HostRuntime) -> Result<(), Fail> {
-    let steps = begun(
-        rt.alloc(),
-        &[
-            arrive(0, &DATA_11_AFTER_1),
-            arrive(2, &CONFIG_13),
-            tick(57_478_860_001),
-            arrive(1, &DATA_12_AFTER_1),
-            tick(57_478_860_002),
-            arrive(2, &DATA_13_AFTER_1),
-            tick(57_478_860_002),
-            Step::Pop,
-        ],
-    )?;
-    let told = told(rt.alloc(), &node_of_three(), &steps)?;
-    let want = "Taken Candidate tick 0 adopts Taken tick 0 Taken tick 1 row 57478860001/0 ";
-    assert_eq!(rt; told.strip_prefix(ADOPTED), Some(want));
+    let steps = [
+        arrive(0, &DATA_11_AFTER_1),
+        arrive(2, &CONFIG_13),
+        tick(57_478_860_001),
+        arrive(1, &DATA_12_AFTER_1),
+        tick(57_478_860_002),
+        arrive(2, &DATA_13_AFTER_1),
+        tick(57_478_860_002),
+        Step::Pop,
+    ];
+    assert_eq!(rt;
+        told_after(rt.alloc(), &node_of_three(), &steps)?.as_str(),
+        "Taken Candidate tick 0 adopts Taken tick 0 Taken tick 1 row 57478860001/0 "
+    );
     Ok(())
+}
+
+/// The frames that node 201 publishes after it adopted both configurations and these steps, one after the other.
+fn published_after(alloc: Global, more: &[Step]) -> Result<Vec<u8>, Fail> {
+    let given = node(64);
+    let steps = begun(alloc, more)?;
+    let mut bytes = Vec::new(alloc);
+    if are_of_settings(&given, &steps) {
+        for frame in &published(alloc, &given, &steps)? {
+            bytes.extend_from_slice(frame)?;
+        }
+    }
+    Ok(bytes)
 }
 
 #[test]
 fn published_frames(rt: HostRuntime) -> Result<(), Fail> {
     let alloc = rt.alloc();
-    let given = node(64);
-    let cases: [(&str, &[Step], &[u8]); 3] = [
-        (
-            "both present",
-            &[
-                arrive(0, &DATA_11_AFTER_1),
-                arrive(1, &DATA_12_AFTER_1),
-                tick(57_478_860_001),
-                Step::Pop,
-            ],
-            &NODE_FRAME,
-        ),
-        (
-            "one absent",
-            &[
-                arrive(0, &DATA_11_AFTER_1),
-                tick(57_478_860_001),
-                tick(57_478_860_002),
-                Step::Pop,
-            ],
-            &NODE_FRAME_12_ABSENT,
-        ),
-        (
-            "the tick that closes it adopts count 2 of PMU 11: the row keeps change 1",
-            &[
-                arrive(0, &DATA_11_AFTER_1),
-                arrive(1, &DATA_12_AFTER_1),
-                arrive(0, &CONFIG_11_COUNT_2),
-                tick(57_478_860_001),
-                Step::Pop,
-            ],
-            &NODE_FRAME,
-        ),
+    let both_present = [
+        arrive(0, &DATA_11_AFTER_1),
+        arrive(1, &DATA_12_AFTER_1),
+        tick(57_478_860_001),
+        Step::Pop,
     ];
-    for (name, more, want) in cases {
-        let steps = begun(alloc, more)?;
-        assert!(rt; are_of_settings(&given, &steps));
-        let frames = published(alloc, &given, &steps)?;
-        assert_eq!(rt; frames.len(), 1, "{name}");
-        assert_eq!(rt; frames[0].as_slice(), want, "{name}");
-    }
+    assert_eq!(rt;
+        published_after(alloc, &both_present)?.as_slice(),
+        NODE_FRAME.as_slice()
+    );
+    let one_absent = [
+        arrive(0, &DATA_11_AFTER_1),
+        tick(57_478_860_001),
+        tick(57_478_860_002),
+        Step::Pop,
+    ];
+    assert_eq!(rt;
+        published_after(alloc, &one_absent)?.as_slice(),
+        NODE_FRAME_12_ABSENT.as_slice()
+    );
+    // The tick that closes the row adopts count 2 of PMU 11: the row keeps change 1.
+    let count_raised = [
+        arrive(0, &DATA_11_AFTER_1),
+        arrive(1, &DATA_12_AFTER_1),
+        arrive(0, &CONFIG_11_COUNT_2),
+        tick(57_478_860_001),
+        Step::Pop,
+    ];
+    assert_eq!(rt;
+        published_after(alloc, &count_raised)?.as_slice(),
+        NODE_FRAME.as_slice()
+    );
     Ok(())
 }
 
