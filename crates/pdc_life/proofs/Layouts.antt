@@ -11,7 +11,7 @@ use Rattle.pdc_life.specs.Layout.{own_bytes, layout_fields_of, layout_payload_of
 use Rattle.pdc_life.proofs.Bytes.{Bytes, Bytes-nil, Bytes-append, Bytes-word, Bytes-long}
 use Rattle.pdc_life.proofs.OwnSections.{Bytes-own, length-own}
 
-same_payload : (settings : Settings) (start change : ℕ) (own : SectionFields) (xs : List SectionFields) (c : ConfigFields) → c.flags ≡ 0 → c.time_base ≡ settings.time_base → c.sections ≡ own ∷ xs
+pub same_payload : (settings : Settings) (start change : ℕ) (own : SectionFields) (xs : List SectionFields) (c : ConfigFields) → c.flags ≡ 0 → c.time_base ≡ settings.time_base → c.sections ≡ own ∷ xs
     → own.bytes ≡ own_bytes settings start change → cast_unsigned w16 c.rate ≡ settings.rate → payload_of c ≡ layout_payload_of settings start change xs
 same_payload settings start change own xs c flags time_base sections bytes rate =
     let base : c.flags * 2 ^ 24 + c.time_base ≡ settings.time_base = omega (arith, flags, time_base) in

@@ -1,12 +1,12 @@
 -- What a node says of itself, and the frames that it publishes (the own section and the own block: this profile; the frames:
 -- IEEE C37.118.2-2011, 6.3 and 6.4).
-use Rattle.std.specs.Prelude.{ℕ, ◌*◌, ◌/◌, ◌%◌, ◌^◌, ◌+◌, List, [], ◌∷◌, ◌++◌, length, map, replicate}
-use Rattle.std.specs.Int.{w16, w32, to_be_bytes}
+use Rattle.std.specs.Prelude.{◌≡◌, ℕ, ◌*◌, ◌/◌, ◌%◌, ◌^◌, ◌+◌, List, [], ◌∷◌, ◌++◌, length, map, replicate}
+use Rattle.std.specs.Int.{w16, w32, to_be_bytes, cast_unsigned}
 use Rattle.std.specs.List.{flat_map, filter_map}
 use Rattle.pdc_frame.specs.Frame.{Fields, spelling_of}
 use Rattle.pdc_frame.specs.declared.frame.Kind.TheVariants.{DataFrame, Cfg2}
 use Rattle.pdc_cfg.specs.Section.{SectionFields}
-use Rattle.pdc_cfg.specs.Config.{bytes_of_sections}
+use Rattle.pdc_cfg.specs.Config.{ConfigFields, IsConfig, bytes_of_sections}
 use Rattle.pdc_block.specs.Block.{bytes_of_words}
 use Rattle.pdc_row.specs.CellView.{BlockView}
 use Rattle.pdc_tag.specs.Tag.{tag_of}
@@ -79,6 +79,16 @@ abbrev pub layout_payload_of : Settings → (start change : ℕ) → List Sectio
 layout_payload_of settings start change sections =
     to_be_bytes w32 settings.time_base ++ to_be_bytes w16 (1 + length sections) ++ own_bytes settings start change
     ++ bytes_of_sections sections ++ to_be_bytes w16 settings.rate
+
+-- The payload is a configuration, with the TIME_BASE and the rate of the settings: the own section, and then those in force.
+pub record IsLayout (settings : Settings) (start change : ℕ) (in_force : List SectionFields) (payload : List ℕ) : Type 0 where
+  pub config : ConfigFields
+  pub own : SectionFields
+  pub spelled : IsConfig payload config
+  pub itself : own.bytes ≡ own_bytes settings start change
+  pub sections : config.sections ≡ own ∷ in_force
+  pub time_base : config.time_base ≡ settings.time_base
+  pub rate : cast_unsigned w16 config.rate ≡ settings.rate
 
 -- The frame of a layout: a CFG-2 frame with time quality 0 and count 0.
 abbrev pub layout_fields_of : Settings → (start change : ℕ) → List SectionFields → (soc : ℕ) → Fields

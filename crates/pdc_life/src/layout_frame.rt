@@ -4,7 +4,7 @@ ghost use Rattle.std.specs.Int.{w16, cast_unsigned};
 ghost use Rattle.std.specs.List.{AllByRecursion};
 ghost use Rattle.pdc_frame.specs.Frame.{IsFrame};
 ghost use Rattle.pdc_cfg.specs.Section.{IsSection, fields_of_view, fields_of_section};
-ghost use Rattle.pdc_life.specs.Layout.{layout_fields_of, layout_wire_of};
+ghost use Rattle.pdc_life.specs.Layout.{IsLayout, layout_fields_of, layout_payload_of, layout_wire_of};
 
 use crate::given::Settings;
 use crate::section::own_section;
@@ -71,6 +71,8 @@ pub fn append_layout<A: Allocator>(
     ensures ok { OnOk result (out.new.items ≡ out.old.items ++ layout_wire_of settings.now start change (map fields_of_view sections.now) soc) }
     // which is read back with these fields.
     ensures frame { IsFrame (layout_wire_of settings.now start change (map fields_of_view sections.now) soc) (layout_fields_of settings.now start change (map fields_of_view sections.now) soc) }
+    // Its payload is a configuration: the own section, and then these.
+    ensures config { OnOk result (IsLayout settings.now start change (map fields_of_view sections.now) (layout_payload_of settings.now start change (map fields_of_view sections.now))) }
     // It fails only where there was no room, and then nothing is appended.
     ensures err { OnErr result (out.new.items ≡ out.old.items) }
     ensures room { vec_len out.old + length (layout_wire_of settings.now start change (map fields_of_view sections.now) soc) ≤ vec_capacity out.old → IsOk result }

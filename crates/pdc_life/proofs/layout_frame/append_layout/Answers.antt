@@ -1,9 +1,11 @@
 use Rattle.std.proofs.Common.{◌≡◌, ℕ, ◌+◌, ◌≤◌, List, ◌++◌, length, map, subst, vec_len, arith}
 use Rattle.std.proofs.lemmas.List.{length-map}
-use Rattle.std.specs.Prelude.{vec_capacity, IsOk, OnOk}
+use Rattle.std.specs.Prelude.{vec_capacity, IsOk, OnOk, Ok, Err}
 use Rattle.pdc_cfg.specs.Section.{fields_of_view, fields_of_section}
-use Rattle.pdc_cfg.specs.Config.{config_fields_of}
-use Rattle.pdc_life.proofs.Layouts.{layout_is_frame, same_wire}
+use Rattle.pdc_cfg.specs.Config.{IsConfig, config_fields_of}
+use Rattle.std.specs.declared.alloc.AllocError.{AllocError}
+use Rattle.std.specs.declared.result.Result.{Result}
+use Rattle.pdc_life.proofs.Layouts.{layout_is_frame, same_payload, same_wire}
 use Rattle.pdc_life.proofs.layout_frame.append_layout.Goals as goal
 
 pub returns-clause-ok : goal.returns-clause-ok
@@ -22,3 +24,23 @@ returns-clause-room g c =
 
 pub returns-clause-frame : goal.returns-clause-frame
 returns-clause-frame g c = layout_is_frame c.args.settings.now c.args.start c.args.change c.args.soc (map fields_of_view c.args.sections.now) (omega (arith, c.requires.few, length-map c.args.sections.now fields_of_view)) c.requires.sections (omega (arith, c.ranges.soc.fits))
+
+where_ok : {P Q : Type 0} (r : Result (Unit {0}) AllocError) → (P → Q) → OnOk r P → OnOk r Q
+where_ok (Ok u) f h = f h
+where_ok (Err e) f h = h
+
+pub returns-clause-config : goal.returns-clause-config
+returns-clause-config g c =
+    let config = c.config_of-config in
+    let own = fields_of_section c.own_section-own.result in
+    let same = same_payload c.args.settings.now c.args.start c.args.change own (map fields_of_view c.args.sections.now) (config_fields_of config.result)
+    config.ensures.flags config.ensures.time_base config.ensures.sections c.own_section-own.ensures.bytes config.ensures.rate in
+    where_ok c.write_config.result (λ h. record {
+      config = config_fields_of config.result;
+      own = own;
+      spelled = subst (λ (t : List ℕ). IsConfig t (config_fields_of config.result)) same h;
+      itself = c.own_section-own.ensures.bytes;
+      sections = config.ensures.sections;
+      time_base = config.ensures.time_base;
+      rate = config.ensures.rate;
+    }) c.write_config.ensures.config
