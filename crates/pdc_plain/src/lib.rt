@@ -1,8 +1,9 @@
 //! The plain program of a life: steps in, answers, rows, layout and published frames out (this profile).
 //!
 //! Nothing is kept but the list of the steps with their answers, newest first, and each question is asked of the whole
-//! list. It is slow, and it is meant to be read: each function is one definition of pdc_life, and its contract says so. The
-//! worked examples run through it with real frames.
+//! list. It is meant to be read: each function is one definition of pdc_life, and its contract says so. It goes down the list
+//! by recursion, time and again, so it is for lists of some hundred steps and not for a running node. The worked examples run
+//! through it with real frames.
 //!
 //! The promise to the layers above: what these steps are answered, close, publish and lay out is what the one life of these
 //! steps has.
