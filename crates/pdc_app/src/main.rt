@@ -1,20 +1,16 @@
 //! The program `pdc`.
 #![tactic(auto)]
 
-mod held;
-mod lines;
 mod mark_init;
-mod refusal;
-mod show;
 #[cfg(test)]
 mod tests;
 
 use mark_init::{MarkInitFault, make_mark};
 use pdc_command_line::{MarkInit, Request, parse};
-use show::{ShowFault, Shown, run_show};
+use pdc_show::{ShowFault, Shown, run_show};
 use std::alloc::Global;
 use std::io;
-use std::io::{BufWriter, Write};
+use std::io::BufWriter;
 use std::process::ExitCode;
 
 /// The exit statuses.
@@ -29,9 +25,7 @@ const FAILED: u8 = 3;
 fn show_streams(alloc: Global, rt: &(impl Input + Print)) -> Result<Shown, ShowFault> {
     let mut reader = rt.reader();
     let mut writer = BufWriter::new(alloc, io::writer(rt)).map_err(|_| ShowFault::Memory)?;
-    let shown = run_show(alloc, &mut reader, &mut writer)?;
-    writer.flush().map_err(ShowFault::Write)?;
-    Ok(shown)
+    run_show(alloc, &mut reader, &mut writer)
 }
 
 fn run_show_command(rt: &HostRuntime) -> io::Result<u8> {

@@ -74,7 +74,7 @@ impl<T: Table> Aligner<T> {
     }
 }
 
-// A number that depends on all of the row.
+/// A number that depends on all of the row.
 fn mix(row: &DueRow) -> u64 {
     let mut mixed = row.instant ^ u64::from(row.quality) << 60;
     for block in row.blocks.as_slice() {
@@ -85,7 +85,7 @@ fn mix(row: &DueRow) -> u64 {
     mixed
 }
 
-// For each instant 16 puts, of which the last is this much behind, and 4 ticks.
+/// For each instant 16 puts, of which the last is this much behind, and 4 ticks.
 fn steady<T: Table>(
     alloc: Global,
     window: u64,
@@ -110,7 +110,7 @@ fn steady<T: Table>(
     Ok(aligner.mixed)
 }
 
-// Fills the window with 16 puts an instant, in rising order, and closes it with one tick, so many times.
+/// Fills the window with 16 puts an instant, in rising order, and closes it with one tick, so many times.
 fn fill<T: Table>(alloc: Global, window: u64, rounds: u32) -> Result<u64, AllocError>
     requires least { 8 ≤ window }
     requires most { window ≤ 256 }

@@ -8,6 +8,7 @@ mod command;
 mod mark_init;
 mod number;
 mod request;
+mod show;
 
 pub use command::parse;
 pub use request::{MarkInit, Request};

@@ -34,5 +34,3 @@ pub use reading::{Reading, read_arrival};
 pub use row_frame::append_row;
 pub use section::own_section;
 
-#[cfg(test)]
-mod tests;

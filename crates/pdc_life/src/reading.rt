@@ -49,7 +49,7 @@ pub fn read_arrival<'a>(settings: &Settings, pmu: &Pmu, bytes: &'a [u8]) -> Read
     }
 }
 
-// What a data frame of the PMU's stream says.
+/// What a data frame of the PMU's stream says.
 fn read_data<'a>(settings: &Settings, pmu: &Pmu, frame: &Frame<'a>) -> Reading<'a>
     requires { frame.now.frac < 2 ^ 24 }
     ensures { (bytes : List ℕ) → IsOfStream pmu.now bytes (fields_of frame.now) → frame.now.kind ≡ DataFrame
@@ -66,7 +66,7 @@ fn read_data<'a>(settings: &Settings, pmu: &Pmu, frame: &Frame<'a>) -> Reading<'
     }
 }
 
-// What a CFG-2 frame of the PMU's stream says.
+/// What a CFG-2 frame of the PMU's stream says.
 fn read_configuration<'a>(settings: &Settings, pmu: &Pmu, frame: &Frame<'a>) -> Reading<'a>
     ensures { (bytes : List ℕ) → IsOfStream pmu.now bytes (fields_of frame.now) → frame.now.kind ≡ Cfg2
         → Reads settings.now pmu.now bytes (arrival_view result) }
@@ -77,7 +77,7 @@ fn read_configuration<'a>(settings: &Settings, pmu: &Pmu, frame: &Frame<'a>) -> 
     }
 }
 
-// What a configuration of the PMU's stream says.
+/// What a configuration of the PMU's stream says.
 fn read_section<'a>(settings: &Settings, pmu: &Pmu, config: &ConfigView<'a>) -> Reading<'a>
     ensures { (bytes : List ℕ) → HasConfig pmu.now bytes (config_fields_of config.now) → Reads settings.now pmu.now bytes (arrival_view result) }
 {

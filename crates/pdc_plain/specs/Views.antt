@@ -4,15 +4,15 @@ use Rattle.pdc_block.specs.Block.{words_in}
 use Rattle.pdc_row.specs.CellView.{CellView}
 use Rattle.pdc_row.specs.RowView.{row_view}
 use Rattle.pdc_plain.specs.declared.take.Take.{Take as TakeData}
-use Rattle.pdc_plain.specs.declared.steps.Step.{Step}
-use Rattle.pdc_plain.specs.declared.steps.Step.TheVariants as step
+use Rattle.pdc_plain.specs.declared.steps.LifeStep.{LifeStep}
+use Rattle.pdc_plain.specs.declared.steps.LifeStep.TheVariants as step
 use Rattle.pdc_plain.specs.declared.steps.Answered.{Answered}
 use Rattle.pdc_plain.specs.declared.steps.Answered.TheVariants as answered
 use Rattle.pdc_life.specs.Views.{arrival_view}
 use Rattle.pdc_life.specs.Life.{Entry, Arrive, Tick, Pop, Take}
 use Rattle.pdc_life.specs.Answer.{StepView, Arrives, Ticks, Pops}
 
-abbrev pub step_view : Step → StepView
+abbrev pub step_view : LifeStep → StepView
 step_view (step.Arrive pmu bytes) = Arrives pmu bytes.now
 step_view (step.Tick now) = Ticks now
 step_view step.Pop = Pops

@@ -19,6 +19,10 @@ use pdc_row::DueRow;
 use std::alloc::{AllocError, Global};
 
 /// The answer to an arrival for a PMU.
+///
+/// # Errors
+///
+/// [`AllocError`] where there is no room and none is got.
 pub fn arrival_answer(
     alloc: Global,
     given: &Given,
@@ -42,7 +46,7 @@ pub fn arrival_answer(
     }
 }
 
-// The answer to data of a PMU: the first cause that holds.
+/// The answer to data of a PMU: the first cause that holds.
 fn data_answer(
     alloc: Global,
     given: &Given,
@@ -73,14 +77,14 @@ fn data_answer(
     Ok(take_answer(taken, &body(section.shape, payload)))
 }
 
-// Whether the instant is more than `ahead` above now. It does not wrap.
+/// Whether the instant is more than `ahead` above now. It does not wrap.
 fn is_ahead(now: u64, ahead: u64, instant: u64) -> bool
     ensures { result ≡ nat_lt (now + ahead) instant }
 {
     now < instant && ahead < instant - now
 }
 
-// Data is taken where nothing was; the same data is a duplicate, and other data conflicts.
+/// Data is taken where nothing was; the same data is a duplicate, and other data conflicts.
 fn take_answer(taken: Option<Take>, block: &Block) -> Outcome
     ensures { (pmu : ℕ) (payload : List ℕ) → IfSome taken.entry (λ take. take.pmu ≡ pmu) → words_of block.now ≡ words_in payload
         → result ≡ take_answer pmu (option_map take_view taken.entry) payload }
@@ -97,7 +101,7 @@ fn take_answer(taken: Option<Take>, block: &Block) -> Outcome
     }
 }
 
-// A section is stale below the held count, new above it, and at the same count known where it has the same bytes.
+/// A section is stale below the held count, new above it, and at the same count known where it has the same bytes.
 fn configuration_answer(held: Option<SectionView>, section: &SectionView) -> Outcome
     ensures { result ≡ configuration_answer (option_map fields_of_view held.entry) (fields_of_view section.now) }
 {
@@ -115,7 +119,7 @@ fn configuration_answer(held: Option<SectionView>, section: &SectionView) -> Out
     }
 }
 
-// Whether some PMU holds a count that is newer than the one in force.
+/// Whether some PMU holds a count that is newer than the one in force.
 #[tactic(auto, using(crate::proofs::Ranges::any_step))]
 fn has_candidate(given: &Given, life: &[Answered]) -> bool
     ensures { result ≡ has_candidate given.now (life_view life.now) }
@@ -145,6 +149,10 @@ pub fn is_used_up(given: &Given, life: &[Answered]) -> bool
 }
 
 /// The row that the next pop gives: the first that waits.
+///
+/// # Errors
+///
+/// [`AllocError`] where there is no room and none is got.
 pub fn pop_answer(alloc: Global, life: &[Answered]) -> Result<Option<DueRow>, AllocError>
     ensures { IfOk result (λ row. option_map row_view row ≡ pop_answer (life_view life.now)) }
 {

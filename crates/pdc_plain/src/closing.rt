@@ -20,7 +20,7 @@ use pdc_row::DueRow;
 use pdc_stat::absent;
 use std::alloc::{AllocError, Global};
 
-// Whether the PMU has no count in force, or its data for the instant was taken since it has.
+/// Whether the PMU has no count in force, or its data for the instant was taken since it has.
 fn has_come(given: &Given, life: &[Answered], instant: u64, pmu: usize) -> bool
     requires { IsLife given.now (life_view life.now) }
     ensures { result ≡ has_come (life_view life.now) instant pmu }
@@ -28,7 +28,7 @@ fn has_come(given: &Given, life: &[Answered], instant: u64, pmu: usize) -> bool
     section_in_force(life, pmu).is_none() || take_of(given, life, pmu, instant).is_some()
 }
 
-// Whether the data of every PMU with a count has come.
+/// Whether the data of every PMU with a count has come.
 #[tactic(auto, using(crate::proofs::Ranges::all_step))]
 fn have_all_come(given: &Given, life: &[Answered], instant: u64) -> bool
     requires { IsLife given.now (life_view life.now) }
@@ -50,7 +50,7 @@ pub fn is_due(given: &Given, life: &[Answered], instant: u64) -> bool
     have_all_come(given, life, instant) || given.settings.wait <= age_of(given, life, instant) + 1
 }
 
-// Whether each of these open instants up to this one is due.
+/// Whether each of these open instants up to this one is due.
 fn are_due_up_to(given: &Given, life: &[Answered], open_instants: &[u64], instant: u64) -> bool
     requires { IsLife given.now (life_view life.now) }
     ensures { result ≡ list_all (λ j. not (nat_le j instant) || is_due given.now (life_view life.now) j) open_instants.now }
@@ -64,6 +64,10 @@ fn are_due_up_to(given: &Given, life: &[Answered], open_instants: &[u64], instan
 }
 
 /// The instants that close at the next tick, in rising order: the open ones for which every open one up to them is due.
+///
+/// # Errors
+///
+/// [`AllocError`] where there is no room and none is got.
 pub fn closing(alloc: Global, given: &Given, life: &[Answered]) -> Result<Vec<u64>, AllocError>
     requires { IsLife given.now (life_view life.now) }
     ensures { IfOk result (λ instants. instants.items ≡ closing given.now (life_view life.now)) }
@@ -72,7 +76,7 @@ pub fn closing(alloc: Global, given: &Given, life: &[Answered]) -> Result<Vec<u6
     closing_among(alloc, given, life, &open_instants)
 }
 
-// Those of the open instants that close.
+/// Those of the open instants that close.
 fn closing_among(
     alloc: Global,
     given: &Given,

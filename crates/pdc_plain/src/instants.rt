@@ -15,6 +15,10 @@ use pdc_row::DueRow;
 use std::alloc::{AllocError, Global};
 
 /// The open instants, in rising order: those taken that are above the last one closed.
+///
+/// # Errors
+///
+/// [`AllocError`] where there is no room and none is got.
 pub fn open_instants(
     alloc: Global,
     given: &Given,
@@ -26,7 +30,7 @@ pub fn open_instants(
     taken_above(alloc, given, life, last_of(given, life))
 }
 
-// The instants above this one for which something was taken, in rising order.
+/// The instants above this one for which something was taken, in rising order.
 fn taken_above(
     alloc: Global,
     given: &Given,
@@ -48,7 +52,7 @@ fn taken_above(
     Ok(instants)
 }
 
-// Puts the number into its place among rising ones, unless it is there.
+/// Puts the number into its place among rising ones, unless it is there.
 fn place(numbers: &mut Vec<u64>, number: u64) -> Result<(), AllocError>
     ensures { OnOk result (numbers.new.items ≡ place number numbers.old.items) }
 {
@@ -66,6 +70,10 @@ fn place(numbers: &mut Vec<u64>, number: u64) -> Result<(), AllocError>
 }
 
 /// The rows that closed and were not taken out, the first to close first.
+///
+/// # Errors
+///
+/// [`AllocError`] where there is no room and none is got.
 pub fn waiting(alloc: Global, life: &[Answered]) -> Result<Vec<DueRow>, AllocError>
     ensures { IfOk result (λ rows. map row_view rows.items ≡ waiting (life_view life.now)) }
 {
@@ -86,6 +94,10 @@ pub fn waiting(alloc: Global, life: &[Answered]) -> Result<Vec<DueRow>, AllocErr
 }
 
 /// Appends copies of the rows.
+///
+/// # Errors
+///
+/// [`AllocError`] where there is no room and none is got.
 pub fn append(more: &[DueRow], rows: &mut Vec<DueRow>) -> Result<(), AllocError>
     ensures { OnOk result (map row_view rows.new.items ≡ map row_view rows.old.items ++ map row_view more.now) }
 {
@@ -96,6 +108,10 @@ pub fn append(more: &[DueRow], rows: &mut Vec<DueRow>) -> Result<(), AllocError>
 }
 
 /// Whether the instant is less than the window away from each held one.
+///
+/// # Errors
+///
+/// [`AllocError`] where there is no room and none is got.
 pub fn is_near_held(
     alloc: Global,
     given: &Given,
@@ -111,7 +127,7 @@ pub fn is_near_held(
     Ok(are_near(&open, window, instant) && rows_are_near(&rows, window, instant))
 }
 
-// Whether the instant is less than the window away from each of these.
+/// Whether the instant is less than the window away from each of these.
 fn are_near(instants: &[u64], window: u64, instant: u64) -> bool
     ensures { result ≡ list_all (is_near window instant) instants.now }
 {
@@ -123,7 +139,7 @@ fn are_near(instants: &[u64], window: u64, instant: u64) -> bool
     true
 }
 
-// Whether the instant is less than the window away from that of each of these rows.
+/// Whether the instant is less than the window away from that of each of these rows.
 fn rows_are_near(rows: &[DueRow], window: u64, instant: u64) -> bool
     ensures { result ≡ list_all (is_near window instant) (row_instants (map row_view rows.now)) }
 {
@@ -135,7 +151,7 @@ fn rows_are_near(rows: &[DueRow], window: u64, instant: u64) -> bool
     true
 }
 
-// Whether the instants are less than the window apart.
+/// Whether the instants are less than the window apart.
 fn is_near(other: u64, window: u64, instant: u64) -> bool
     ensures { result ≡ is_near window instant other }
 {

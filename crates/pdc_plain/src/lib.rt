@@ -20,8 +20,6 @@ mod row_of;
 mod steps;
 mod take;
 mod taking;
-#[cfg(test)]
-mod tests;
 
 pub use plain::{answers, are_of_settings, layout, published, rows};
-pub use steps::{Answered, Step};
+pub use steps::{Answered, LifeStep};

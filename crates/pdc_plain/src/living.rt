@@ -6,16 +6,16 @@ ghost use Rattle.pdc_plain.specs.Views.{entry_view, life_view, step_view};
 
 use crate::answering::{adopts, arrival_answer, is_used_up, pop_answer};
 use crate::row_of::rows_of;
-use crate::steps::{Answered, Step};
+use crate::steps::{Answered, LifeStep};
 use pdc_life::{Given, read_arrival};
 use std::alloc::{AllocError, Global};
 
-// The step with its answer.
+/// The step with its answer.
 fn answer<'a>(
     alloc: Global,
     given: &Given,
     life: &[Answered<'a>],
-    step: &Step<'a>,
+    step: &LifeStep<'a>,
 ) -> Result<Answered<'a>, AllocError>
     requires life { IsLife given.now (life_view life.now) }
     requires step { IsOfSettings given.now (step_view step.now) }
@@ -23,7 +23,7 @@ fn answer<'a>(
     ensures step { IfOk result (λ answered. step_of (entry_view answered) ≡ step_view step.now) }
 {
     match step {
-        Step::Arrive { pmu, bytes } => {
+        LifeStep::Arrive { pmu, bytes } => {
             let reading = read_arrival(&given.settings, &given.settings.pmus[*pmu], bytes);
             let answer = arrival_answer(alloc, given, life, *pmu, &reading)?;
             Ok(Answered::Arrival {
@@ -33,23 +33,27 @@ fn answer<'a>(
                 answer,
             })
         }
-        Step::Tick { now } => Ok(Answered::Tick {
+        LifeStep::Tick { now } => Ok(Answered::Tick {
             now: *now,
             rows: rows_of(alloc, given, life)?,
             adopted: adopts(given, life),
             used_up: is_used_up(given, life),
         }),
-        Step::Pop => Ok(Answered::Pop {
+        LifeStep::Pop => Ok(Answered::Pop {
             row: pop_answer(alloc, life)?,
         }),
     }
 }
 
 /// The life of these steps, newest first.
+///
+/// # Errors
+///
+/// [`AllocError`] where there is no room and none is got.
 pub fn live<'a>(
     alloc: Global,
     given: &Given,
-    steps: &[Step<'a>],
+    steps: &[LifeStep<'a>],
 ) -> Result<Vec<Answered<'a>>, AllocError>
     requires { All (λ step. IsOfSettings given.now (step_view step)) steps.now }
     ensures { IfOk result (λ life. IsLifeOf given.now (map step_view steps.now) (life_view life.items)) }

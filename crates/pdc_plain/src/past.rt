@@ -37,7 +37,7 @@ pub fn last_of(given: &Given, life: &[Answered]) -> u64
     }
 }
 
-// The greatest instant of these rows and this one.
+/// The greatest instant of these rows and this one.
 fn greatest(rows: &[DueRow], last: u64) -> u64
     ensures { result ≡ greatest last (row_instants (map row_view rows.now)) }
 {
@@ -70,7 +70,7 @@ pub fn held_section<'a>(life: &[Answered<'a>], pmu: usize) -> Option<SectionView
     }
 }
 
-// Of two sections the one of the greater count, and of one count the first.
+/// Of two sections the one of the greater count, and of one count the first.
 fn greater<'a>(held: Option<SectionView<'a>>, section: SectionView<'a>) -> SectionView<'a>
     ensures { Some (fields_of_view result) ≡ greater (option_map fields_of_view held.entry) (fields_of_view section.entry) }
 {
@@ -133,7 +133,7 @@ pub fn sections_in_force<'a>(given: &Given, life: &[Answered<'a>]) -> ArrayVec<S
     sections
 }
 
-// Appends the section, if there is one.
+/// Appends the section, if there is one.
 fn push_some<'a>(section: Option<SectionView<'a>>, sections: &mut ArrayVec<SectionView<'a>, 16>)
     requires { length sections.old.items < 16 }
     ensures sections { map fields_of_view sections.new.items

@@ -10,7 +10,7 @@ ghost use Rattle.pdc_plain.specs.Views.{life_view, step_view};
 
 use crate::living::live;
 use crate::publishing::{append_layout_of, closed, frames_of};
-use crate::steps::{Answered, Step};
+use crate::steps::{Answered, LifeStep};
 use pdc_life::Given;
 use pdc_row::DueRow;
 use std::alloc::{AllocError, Global};
@@ -23,7 +23,7 @@ use std::alloc::{AllocError, Global};
 pub fn answers<'a>(
     alloc: Global,
     given: &Given,
-    steps: &[Step<'a>],
+    steps: &[LifeStep<'a>],
 ) -> Result<Vec<Answered<'a>>, AllocError>
     requires { All (λ step. IsOfSettings given.now (step_view step)) steps.now }
     ensures { IfOk result (λ answers. IsLifeOf given.now (map step_view steps.now) (life_view (reverse answers.items))) }
@@ -38,7 +38,7 @@ pub fn answers<'a>(
 /// # Errors
 ///
 /// [`AllocError`] where there is no room and none is got.
-pub fn rows(alloc: Global, given: &Given, steps: &[Step]) -> Result<Vec<DueRow>, AllocError>
+pub fn rows(alloc: Global, given: &Given, steps: &[LifeStep]) -> Result<Vec<DueRow>, AllocError>
     requires { All (λ step. IsOfSettings given.now (step_view step)) steps.now }
     ensures { IfOk result (λ rows. (E : List Entry) × IsLifeOf given.now (map step_view steps.now) E × (map row_view rows.items ≡ closed E)) }
 {
@@ -51,7 +51,11 @@ pub fn rows(alloc: Global, given: &Given, steps: &[Step]) -> Result<Vec<DueRow>,
 /// # Errors
 ///
 /// [`AllocError`] where there is no room and none is got.
-pub fn published(alloc: Global, given: &Given, steps: &[Step]) -> Result<Vec<Vec<u8>>, AllocError>
+pub fn published(
+    alloc: Global,
+    given: &Given,
+    steps: &[LifeStep],
+) -> Result<Vec<Vec<u8>>, AllocError>
     requires { All (λ step. IsOfSettings given.now (step_view step)) steps.now }
     ensures { IfOk result (λ frames. (E : List Entry) × IsLifeOf given.now (map step_view steps.now) E × (map (λ frame. frame.items) frames.items ≡ published given.now E)) }
 {
@@ -68,7 +72,7 @@ pub fn published(alloc: Global, given: &Given, steps: &[Step]) -> Result<Vec<Vec
 pub fn layout(
     alloc: Global,
     given: &Given,
-    steps: &[Step],
+    steps: &[LifeStep],
     soc: u32,
     out: &mut Vec<u8>,
 ) -> Result<(), AllocError>
@@ -81,18 +85,18 @@ pub fn layout(
 }
 
 /// Whether each arrival among the steps is for a PMU that the settings list.
-pub fn are_of_settings(given: &Given, steps: &[Step]) -> bool
+pub fn are_of_settings(given: &Given, steps: &[LifeStep]) -> bool
     ensures { IsTrue result ↔ All (λ step. IsOfSettings given.now (step_view step)) steps.now }
 {
     steps.iter().all(|step| is_of_settings(given, step))
 }
 
-// Whether the step is of a PMU that the settings list.
-fn is_of_settings(given: &Given, step: &Step) -> bool
+/// Whether the step is of a PMU that the settings list.
+fn is_of_settings(given: &Given, step: &LifeStep) -> bool
     ensures { IsTrue result ↔ IsOfSettings given.now (step_view step.now) }
 {
     match step {
-        Step::Arrive { pmu, .. } => *pmu < given.settings.pmus.len(),
+        LifeStep::Arrive { pmu, .. } => *pmu < given.settings.pmus.len(),
         _ => true,
     }
 }

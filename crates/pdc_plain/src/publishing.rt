@@ -16,6 +16,10 @@ use pdc_row::DueRow;
 use std::alloc::{AllocError, Global};
 
 /// The rows that closed, the first to close first.
+///
+/// # Errors
+///
+/// [`AllocError`] where there is no room and none is got.
 pub fn closed(alloc: Global, life: &[Answered]) -> Result<Vec<DueRow>, AllocError>
     ensures { IfOk result (λ rows. map row_view rows.items ≡ closed (life_view life.now)) }
 {
@@ -30,6 +34,10 @@ pub fn closed(alloc: Global, life: &[Answered]) -> Result<Vec<DueRow>, AllocErro
 }
 
 /// The rows that pops gave, the first to be given first.
+///
+/// # Errors
+///
+/// [`AllocError`] where there is no room and none is got.
 pub fn popped(alloc: Global, life: &[Answered]) -> Result<Vec<DueRow>, AllocError>
     ensures { IfOk result (λ rows. map row_view rows.items ≡ popped (life_view life.now)) }
 {
@@ -44,6 +52,10 @@ pub fn popped(alloc: Global, life: &[Answered]) -> Result<Vec<DueRow>, AllocErro
 }
 
 /// The frames of the rows that pops gave, in their order.
+///
+/// # Errors
+///
+/// [`AllocError`] where there is no room and none is got.
 pub fn frames_of(
     alloc: Global,
     given: &Given,
@@ -58,6 +70,10 @@ pub fn frames_of(
 }
 
 /// Appends the frame of the layout.
+///
+/// # Errors
+///
+/// [`AllocError`] where there is no room and none is got.
 pub fn append_layout_of(
     given: &Given,
     life: &[Answered],
@@ -81,7 +97,7 @@ pub fn append_layout_of(
     )
 }
 
-// The frames of the rows, in their order.
+/// The frames of the rows, in their order.
 fn frames(alloc: Global, settings: &Settings, rows: &[DueRow]) -> Result<Vec<Vec<u8>>, AllocError>
     requires { All (λ row. row.instant < 4294967296 * settings.now.rate) rows.now }
     ensures { IfOk result (λ frames. map (λ frame. frame.items) frames.items ≡ map (λ row. wire_of settings.now (row_view row)) rows.now) }
@@ -93,7 +109,7 @@ fn frames(alloc: Global, settings: &Settings, rows: &[DueRow]) -> Result<Vec<Vec
     Ok(frames)
 }
 
-// The frame of the row.
+/// The frame of the row.
 fn frame(alloc: Global, settings: &Settings, row: &DueRow) -> Result<Vec<u8>, AllocError>
     requires { row.now.instant < 4294967296 * settings.now.rate }
     ensures { IfOk result (λ frame. frame.items ≡ wire_of settings.now (row_view row.now)) }

@@ -24,7 +24,7 @@ use std::alloc::{AllocError, Global};
 /// The quality of a row in which no block is present.
 const WORST_QUALITY: u8 = 15;
 
-// The block of a PMU under the section in force: what was taken and is present, else the absent block.
+/// The block of a PMU under the section in force: what was taken and is present, else the absent block.
 fn block_at(given: &Given, life: &[Answered], instant: u64, pmu: usize) -> Option<Block>
     requires { IsLife given.now (life_view life.now) }
     ensures { option_map block_view result ≡ block_in (section_in_force (life_view life.now) pmu) (cell_of (life_view life.now) pmu instant) }
@@ -36,7 +36,7 @@ fn block_at(given: &Given, life: &[Answered], instant: u64, pmu: usize) -> Optio
     }
 }
 
-// The time quality that a PMU's data gives: that of a block that is present.
+/// The time quality that a PMU's data gives: that of a block that is present.
 fn quality_at(given: &Given, life: &[Answered], instant: u64, pmu: usize) -> Option<u8>
     requires { IsLife given.now (life_view life.now) }
     ensures quality { result ≡ quality_in (section_in_force (life_view life.now) pmu) (cell_of (life_view life.now) pmu instant) }
@@ -47,7 +47,7 @@ fn quality_at(given: &Given, life: &[Answered], instant: u64, pmu: usize) -> Opt
     Some(take.quality % 16)
 }
 
-// The blocks of the row of an instant: one for each PMU with a count, in the order of the settings.
+/// The blocks of the row of an instant: one for each PMU with a count, in the order of the settings.
 #[tactic(auto, using(crate::proofs::Ranges::filter_map_step))]
 fn blocks_at(given: &Given, life: &[Answered], instant: u64) -> ArrayVec<Block, 16>
     requires { IsLife given.now (life_view life.now) }
@@ -61,7 +61,7 @@ fn blocks_at(given: &Given, life: &[Answered], instant: u64) -> ArrayVec<Block, 
     blocks
 }
 
-// Appends the block, if there is one.
+/// Appends the block, if there is one.
 fn push_some(block: Option<Block>, blocks: &mut ArrayVec<Block, 16>)
     requires { length blocks.old.items < 16 }
     ensures blocks { map block_view blocks.new.items ≡ map block_view blocks.old.items ++ option_to_list (option_map block_view block) }
@@ -72,7 +72,7 @@ fn push_some(block: Option<Block>, blocks: &mut ArrayVec<Block, 16>)
     }
 }
 
-// The time quality of the row of an instant: the worst that its present blocks give.
+/// The time quality of the row of an instant: the worst that its present blocks give.
 #[tactic(auto, using(crate::proofs::Ranges::filter_map_step))]
 fn row_quality(given: &Given, life: &[Answered], instant: u64) -> u8
     requires { IsLife given.now (life_view life.now) }
@@ -87,7 +87,7 @@ fn row_quality(given: &Given, life: &[Answered], instant: u64) -> u8
     worst.unwrap_or(WORST_QUALITY)
 }
 
-// The worse of two qualities, where there are two.
+/// The worse of two qualities, where there are two.
 fn worse(worst: Option<u8>, quality: Option<u8>) -> Option<u8>
     requires worst { IfSome worst (λ n. n ≤ 15) }
     requires quality { IfSome quality (λ n. n ≤ 15) }
@@ -116,6 +116,10 @@ pub fn row_of(given: &Given, life: &[Answered], instant: u64) -> DueRow
 }
 
 /// The rows that close at the next tick, in rising order.
+///
+/// # Errors
+///
+/// [`AllocError`] where there is no room and none is got.
 pub fn rows_of(alloc: Global, given: &Given, life: &[Answered]) -> Result<Vec<DueRow>, AllocError>
     requires { IsLife given.now (life_view life.now) }
     ensures { IfOk result (λ rows. map row_view rows.items ≡ rows_of given.now (life_view life.now)) }
@@ -124,7 +128,7 @@ pub fn rows_of(alloc: Global, given: &Given, life: &[Answered]) -> Result<Vec<Du
     rows_at(alloc, given, life, &closing)
 }
 
-// The rows of these instants.
+/// The rows of these instants.
 fn rows_at(
     alloc: Global,
     given: &Given,

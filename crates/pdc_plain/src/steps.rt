@@ -4,7 +4,7 @@ use pdc_row::DueRow;
 
 /// A step of a life as it happens.
 #[derive(Clone, Copy, Debug)]
-pub enum Step<'a> {
+pub enum LifeStep<'a> {
     /// Bytes arrive for a PMU.
     Arrive {
         /// The number of the PMU in the settings, from 0.

@@ -41,7 +41,7 @@ pub fn taken_at<'a>(
     }
 }
 
-// Whether the step is a tick at which the count in force of a PMU changed.
+/// Whether the step is a tick at which the count in force of a PMU changed.
 fn is_adoption_of(newest: &Answered, earlier: &[Answered], pmu: usize) -> bool
     ensures { result ≡ is_adoption_of (life_view earlier.now) pmu (entry_view newest.now) }
 {
@@ -126,7 +126,7 @@ pub fn age_of(given: &Given, life: &[Answered], instant: u64) -> u64
     }
 }
 
-// How many ticks the step is.
+/// How many ticks the step is.
 fn ticks_in(step: &Answered) -> u64
     ensures count { result ≡ ticks_in (entry_view step.now) }
     ensures most { result ≤ 1 }

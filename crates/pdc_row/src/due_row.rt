@@ -42,7 +42,7 @@ impl Clone for DueRow {
     }
 }
 
-// The same blocks again.
+/// The same blocks again.
 fn copies(blocks: &[Block]) -> ArrayVec<Block, 16>
     requires { length blocks.now ≤ 16 }
     ensures { map block_view result.items ≡ map block_view blocks.now }

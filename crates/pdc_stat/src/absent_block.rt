@@ -37,7 +37,7 @@ pub fn is_absent(block: &Block) -> bool
     block.words() == absent(block.shape).words()
 }
 
-// Appends the word so many times.
+/// Appends the word so many times.
 fn push_times(words: &mut ArrayVec<u16, 107>, word: u16, times: u8)
     requires { array_vec_len words.old + times ≤ 107 }
     ensures items { words.new.items ≡ words.old.items ++ replicate times word }

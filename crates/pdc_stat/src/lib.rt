@@ -10,5 +10,3 @@ mod stat;
 pub use absent_block::{ABSENT_STAT, NO_VALUE, absent, is_absent};
 pub use stat::{ErrorClass, Stat};
 
-#[cfg(test)]
-mod tests;

@@ -15,8 +15,8 @@ use Rattle.pdc_table.specs.Steps.{after_put, answer_at, closing_of, closed_by, f
 use Rattle.pdc_table.specs.Placing.{row_at}
 use Rattle.pdc_table.specs.Taking.{blank_row, with_frame, without_stream, without_column}
 use Rattle.pdc_table.specs.Calls.{Call, Put, Require, Tick, DropStream, DropColumn, Pop, after, after_all, closed_in, popped_in}
-use Rattle.pdc_table.specs.declared.outcome.Outcome.{Outcome}
-use Rattle.pdc_table.specs.declared.outcome.Outcome.TheVariants.{Taken}
+use Rattle.pdc_table.specs.declared.outcome.PutOutcome.{PutOutcome}
+use Rattle.pdc_table.specs.declared.outcome.PutOutcome.TheVariants.{Taken}
 use Rattle.pdc_table.proofs.Keeps.{closed_stayed, instants-map, instants-row_of, instants-with_row}
 use Rattle.pdc_row.proofs.Rising.{below_append, below_greatest, below_higher, greatest-ge, rises_append, rises_back, rises_front, rises-place}
 
@@ -24,7 +24,7 @@ use Rattle.pdc_row.proofs.Rising.{below_append, below_greatest, below_higher, gr
 abbrev pub IsAbove : Content → Type 0
 IsAbove c = Rises c.last (instants_of c.open_rows)
 
-taken_late : (late far : Bool) (other : Outcome) → is_taken (first_cause late far other) ≡ true → late ≡ false
+taken_late : (late far : Bool) (other : PutOutcome) → is_taken (first_cause late far other) ≡ true → late ≡ false
 taken_late true far other h = absurd (false≢true h)
 taken_late false far other h = refl
 

@@ -10,7 +10,7 @@ use Rattle.pdc_table.specs.Taking.{given_for, with_cells, with_given}
 use Rattle.pdc_table.specs.declared.column.Column.{Column}
 use Rattle.pdc_table.specs.Steps.{after_put, after_require, after_tick, after_drop_stream, after_drop_column, after_pop, closed_by, pop_answer, put_answer}
 use Rattle.pdc_table.specs.declared.row_layout.RowLayout.{RowLayout}
-use Rattle.pdc_table.specs.declared.outcome.Outcome.TheVariants.{Taken}
+use Rattle.pdc_table.specs.declared.outcome.PutOutcome.TheVariants.{Taken}
 
 -- one call
 pub data Call : Type 0 where

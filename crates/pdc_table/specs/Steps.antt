@@ -17,29 +17,29 @@ use Rattle.pdc_table.specs.Content.{Content, lane_of, held_instants}
 use Rattle.pdc_table.specs.declared.column.Column.{Column}
 use Rattle.pdc_table.specs.declared.open_row.OpenRow.{OpenRow}
 use Rattle.pdc_table.specs.declared.row_layout.RowLayout.{RowLayout}
-use Rattle.pdc_table.specs.declared.outcome.Outcome.{Outcome}
-use Rattle.pdc_table.specs.declared.outcome.Outcome.TheVariants.{Taken, Late, OutOfWindow, Duplicate, Conflict}
+use Rattle.pdc_table.specs.declared.outcome.PutOutcome.{PutOutcome}
+use Rattle.pdc_table.specs.declared.outcome.PutOutcome.TheVariants.{Taken, Late, OutOfWindow, Duplicate, Conflict}
 
 -- what a frame is answered at an instant whose row is this: the first to be taken stays
-abbrev pub answer_at : Option OpenRow → ℕ → ℕ → List (ℕ × Block) → Outcome
+abbrev pub answer_at : Option OpenRow → ℕ → ℕ → List (ℕ × Block) → PutOutcome
 answer_at None stream lane cells = Taken
 answer_at (Some row) stream lane cells =
     if slice_index_or row.taken stream false then (if conflicts lane cells row.columns then Conflict else Duplicate) else Taken
 
 -- the first cause that holds
-abbrev pub first_cause : (late far : Bool) → Outcome → Outcome
+abbrev pub first_cause : (late far : Bool) → PutOutcome → PutOutcome
 first_cause late far other = if late then Late else (if far then OutOfWindow else other)
 
 -- each held instant is less than the window away
 abbrev pub is_near_all : Content → ℕ → Bool
 is_near_all c instant = list_all (is_near c.window instant) (held_instants c)
 
-abbrev pub put_answer : Content → ℕ → ℕ → List (ℕ × Block) → Outcome
+abbrev pub put_answer : Content → ℕ → ℕ → List (ℕ × Block) → PutOutcome
 put_answer c stream instant cells =
     first_cause (nat_le instant c.last) (not (is_near_all c instant))
     (answer_at (row_at instant c.open_rows) stream (lane_of c stream) cells)
 
-abbrev pub is_taken : Outcome → Bool
+abbrev pub is_taken : PutOutcome → Bool
 is_taken Taken = true
 is_taken _ = false
 

@@ -8,7 +8,7 @@ ghost use Rattle.pdc_row.specs.Chosen.{present_of};
 ghost use Rattle.pdc_table.specs.Steps.{disagreement_at};
 ghost use Rattle.pdc_table.specs.Taking.{cell_in, holds_other, with_cell};
 
-use crate::Cell;
+use crate::{Cell, MAX_COLUMNS};
 use arrayvec::ArrayVec;
 use pdc_block::Block;
 use pdc_cfg::Shape;
@@ -65,14 +65,14 @@ impl Column {
         }
     }
 
-    // Adds what the column gives to a row: with a shape a block, and its time quality if it is present.
+    /// Adds what the column gives to a row: with a shape a block, and its time quality if it is present.
     pub(crate) fn give(
         &self,
         shape: Option<Shape>,
         blocks: &mut ArrayVec<Block, 16>,
         quality: &mut Option<u8>,
     )
-        requires room { length blocks.old.items < 16 }
+        requires room { length blocks.old.items < MAX_COLUMNS }
         requires fits { IfSome quality.old (λ n. n ≤ 15) }
         ensures blocks { map block_view blocks.new.items ≡ map block_view blocks.old.items ++ blocks_at shape self.now }
         ensures grown { length blocks.new.items ≤ length blocks.old.items + 1 }
@@ -104,7 +104,7 @@ impl Column {
         }
     }
 
-    // One where the column has a shape and its lanes disagree.
+    /// One where the column has a shape and its lanes disagree.
     pub(crate) fn disagreements(&self, shape: Option<Shape>) -> u64
         ensures value { result ≡ disagreement_at shape self.now }
         ensures most { result ≤ 1 }
@@ -117,7 +117,7 @@ impl Column {
     }
 }
 
-// The cell, where its block is present.
+/// The cell, where its block is present.
 fn present(cell: &Option<Cell>) -> Option<&Cell>
     ensures { option_copied result ≡ present_of cell.now }
 {

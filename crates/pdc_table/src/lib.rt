@@ -11,6 +11,7 @@
 mod cell;
 mod column;
 mod laws;
+mod limits;
 mod open_row;
 mod outcome;
 mod row_layout;
@@ -24,12 +25,10 @@ pub use laws::{
     blocks_stand_in_their_columns, instants_close_once, nothing_is_put_below_closed,
     rows_come_out_once, rows_come_out_rising,
 };
-pub use open_row::{MAX_COLUMNS, OpenRow};
-pub use outcome::Outcome;
+pub use limits::{MAX_COLUMNS, MAX_LANES, MAX_WINDOW, MIN_WINDOW};
+pub use open_row::OpenRow;
+pub use outcome::PutOutcome;
 pub use pdc_row::DueRow;
 pub use row_layout::RowLayout;
 pub use sorted_table::SortedTable;
 pub use table_trait::Table;
-
-#[cfg(test)]
-mod tests;

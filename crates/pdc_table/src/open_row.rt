@@ -8,13 +8,10 @@ ghost use Rattle.pdc_table.specs.Closing.{aged, all_taken, is_due};
 ghost use Rattle.pdc_table.specs.Steps.{answer_at, disagreements_of, is_taken};
 ghost use Rattle.pdc_table.specs.Taking.{blank_row, conflicts, with_cell, with_frame, without_column, without_stream};
 
-use crate::{Cell, Column, Outcome, RowLayout};
+use crate::{Cell, Column, MAX_COLUMNS, PutOutcome, RowLayout};
 use arrayvec::ArrayVec;
 use pdc_block::Block;
 use pdc_row::DueRow;
-
-/// The most streams, and the most columns, of a table.
-pub const MAX_COLUMNS: usize = 16;
 
 /// The quality of a row in which no block is present.
 const WORST_QUALITY: u8 = 15;
@@ -47,8 +44,8 @@ impl OpenRow {
 
     /// Takes a frame of the stream: its blocks go into their columns, in this lane.
     pub(crate) fn take(&mut self, stream: usize, lane: usize, cells: &[(usize, Block)], quality: u8)
-        requires stream { stream < 16 }
-        requires columns { All (λ (cell : ℕ × BlockData). cell.0 < 16) cells.now }
+        requires stream { stream < MAX_COLUMNS }
+        requires columns { All (λ (cell : ℕ × BlockData). cell.0 < MAX_COLUMNS) cells.now }
         ensures { self.new ≡ with_frame stream lane cells.now quality self.old }
     {
         self.taken[stream] = true;
@@ -64,27 +61,27 @@ impl OpenRow {
         lane: usize,
         cells: &[(usize, Block)],
         quality: u8,
-    ) -> Outcome
-        requires stream { stream < 16 }
-        requires columns { All (λ (cell : ℕ × BlockData). cell.0 < 16) cells.now }
+    ) -> PutOutcome
+        requires stream { stream < MAX_COLUMNS }
+        requires columns { All (λ (cell : ℕ × BlockData). cell.0 < MAX_COLUMNS) cells.now }
         ensures answer { result ≡ answer_at (Some self.old) stream lane cells.now }
         ensures row { self.new ≡ (if is_taken (answer_at (Some self.old) stream lane cells.now)
             then with_frame stream lane cells.now quality self.old else self.old) }
     {
         if self.taken[stream] {
             return if self.conflicts(lane, cells) {
-                Outcome::Conflict
+                PutOutcome::Conflict
             } else {
-                Outcome::Duplicate
+                PutOutcome::Duplicate
             };
         }
         self.take(stream, lane, cells, quality);
-        Outcome::Taken
+        PutOutcome::Taken
     }
 
     /// Whether some of these blocks differs from what this lane of its column holds.
     pub(crate) fn conflicts(&self, lane: usize, cells: &[(usize, Block)]) -> bool
-        requires { All (λ (cell : ℕ × BlockData). cell.0 < 16) cells.now }
+        requires { All (λ (cell : ℕ × BlockData). cell.0 < MAX_COLUMNS) cells.now }
         ensures { result ≡ conflicts lane cells.now self.now.columns }
     {
         for (column, block) in cells {
@@ -97,7 +94,7 @@ impl OpenRow {
 
     /// Forgets what was taken of a stream: with one lane its own column, with two its lane of each column.
     pub(crate) fn drop_stream(&mut self, lanes: usize, stream: usize)
-        requires { stream < 16 }
+        requires { stream < MAX_COLUMNS }
         ensures { self.new ≡ without_stream lanes stream self.old }
     {
         self.taken[stream] = false;
@@ -110,7 +107,7 @@ impl OpenRow {
 
     /// Forgets the cells of a column; the streams stay taken.
     pub(crate) fn drop_column(&mut self, column: usize)
-        requires { column < 16 }
+        requires { column < MAX_COLUMNS }
         ensures { self.new ≡ without_column column self.old }
     {
         self.columns[column] = Column::default();
@@ -133,7 +130,7 @@ impl OpenRow {
     /// How many columns with a shape hold present blocks in both lanes that differ.
     pub(crate) fn disagreements(&self, layout: &RowLayout) -> u64
         ensures value { result ≡ disagreements_of layout.now.shapes.items self.now.columns }
-        ensures most { result ≤ 16 }
+        ensures most { result ≤ MAX_COLUMNS }
     {
         let mut count = 0;
         for (place, shape) in layout.shapes.as_slice().iter().enumerate() {
@@ -161,7 +158,7 @@ impl OpenRow {
     }
 }
 
-// Whether each required stream was taken.
+/// Whether each required stream was taken.
 fn all_taken(required: &[bool; 16], taken: &[bool; 16]) -> bool
     ensures { result ≡ all_taken required.now taken.now }
 {
@@ -173,7 +170,7 @@ fn all_taken(required: &[bool; 16], taken: &[bool; 16]) -> bool
     true
 }
 
-// Empties the lane of each column.
+/// Empties the lane of each column.
 fn clear_lane(columns: &mut [Column], lane: usize)
     ensures { columns.new ≡ map (with_cell lane None) columns.old }
 {

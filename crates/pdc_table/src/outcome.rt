@@ -2,7 +2,7 @@
 
 /// What a put is answered.
 #[derive(Clone, Copy, Debug, PartialEq, Eq)]
-pub enum Outcome {
+pub enum PutOutcome {
     /// The frame was taken.
     Taken,
     /// The instant is not above the last one closed.

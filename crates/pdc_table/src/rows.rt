@@ -15,7 +15,7 @@ ghost use Rattle.pdc_row.specs.Quality.{greatest};
 ghost use Rattle.pdc_table.specs.Steps.{answer_at, disagreements_in, is_taken};
 ghost use Rattle.pdc_table.specs.Taking.{blank_row, with_frame, without_column, without_stream};
 
-use crate::{OpenRow, Outcome, RowLayout};
+use crate::{MAX_COLUMNS, OpenRow, PutOutcome, RowLayout};
 use pdc_block::Block;
 use pdc_row::DueRow;
 use std::collections::VecDeque;
@@ -67,7 +67,7 @@ pub fn count_due(rows: &[OpenRow], required: &[bool; 16], wait: u64) -> usize
 
 /// Forgets what was taken of a stream, in each row.
 pub fn drop_stream(rows: &mut Vec<OpenRow>, lanes: usize, stream: usize)
-    requires { stream < 16 }
+    requires { stream < MAX_COLUMNS }
     ensures items { rows.new.items ≡ map (without_stream lanes stream) rows.old.items }
     ensures capacity { vec_capacity rows.new ≡ vec_capacity rows.old }
 {
@@ -78,7 +78,7 @@ pub fn drop_stream(rows: &mut Vec<OpenRow>, lanes: usize, stream: usize)
 
 /// Forgets the cells of a column, in each row.
 pub fn drop_column(rows: &mut Vec<OpenRow>, column: usize)
-    requires { column < 16 }
+    requires { column < MAX_COLUMNS }
     ensures items { rows.new.items ≡ map (without_column column) rows.old.items }
     ensures capacity { vec_capacity rows.new ≡ vec_capacity rows.old }
 {
@@ -137,11 +137,11 @@ pub fn take(
     instant: u64,
     cells: &[(usize, Block)],
     quality: u8,
-) -> Outcome
+) -> PutOutcome
     requires rising { Rises 0 (instants_of rows.old.items) }
     requires room { row_at instant rows.old.items ≡ None → vec_len rows.old < vec_capacity rows.old }
-    requires stream { stream < 16 }
-    requires columns { All (λ (cell : ℕ × BlockData). cell.0 < 16) cells.now }
+    requires stream { stream < MAX_COLUMNS }
+    requires columns { All (λ (cell : ℕ × BlockData). cell.0 < MAX_COLUMNS) cells.now }
     ensures answer { result ≡ answer_at (row_at instant rows.old.items) stream lane cells.now }
     ensures items { rows.new.items ≡ (if is_taken (answer_at (row_at instant rows.old.items) stream lane cells.now)
         then with_row (with_frame stream lane cells.now quality) (blank_row instant) rows.old.items else rows.old.items) }
@@ -153,7 +153,7 @@ pub fn take(
             let mut row = OpenRow::blank(instant);
             row.take(stream, lane, cells, quality);
             rows.insert(place, row).unwrap();
-            Outcome::Taken
+            PutOutcome::Taken
         }
     }
 }
@@ -168,7 +168,7 @@ pub fn are_near(rows: &[OpenRow], closed: &VecDeque<DueRow>, window: u64, instan
         && is_near(highest(rows, closed), window, instant)
 }
 
-// Whether the instant that is held, if there is one, is less than the window away.
+/// Whether the instant that is held, if there is one, is less than the window away.
 fn is_near(held: Option<u64>, window: u64, instant: u64) -> bool
     ensures { result ≡ is_near_any window instant held }
 {
@@ -178,7 +178,7 @@ fn is_near(held: Option<u64>, window: u64, instant: u64) -> bool
     }
 }
 
-// The lowest instant held.
+/// The lowest instant held.
 fn lowest(rows: &[OpenRow], closed: &VecDeque<DueRow>) -> Option<u64>
     ensures { result ≡ slice_get (row_instants (map row_view closed.now.items) ++ instants_of rows.now) 0 }
 {
@@ -188,7 +188,7 @@ fn lowest(rows: &[OpenRow], closed: &VecDeque<DueRow>) -> Option<u64>
     }
 }
 
-// The highest instant held.
+/// The highest instant held.
 fn highest(rows: &[OpenRow], closed: &VecDeque<DueRow>) -> Option<u64>
     ensures { result ≡ highest_of (row_instants (map row_view closed.now.items) ++ instants_of rows.now) }
 {

@@ -1,7 +1,7 @@
 //! A table kept as sorted rows.
 ghost use Rattle.std.specs.Prelude.{◌≡◌};
 
-use crate::{OpenRow, Outcome, RowLayout, Table, rows};
+use crate::{OpenRow, PutOutcome, RowLayout, Table, rows};
 use pdc_block::Block;
 use pdc_row::DueRow;
 use std::alloc::{AllocError, Global};
@@ -62,12 +62,12 @@ impl Table for SortedTable {
         instant: u64,
         cells: &[(usize, Block)],
         quality: u8,
-    ) -> Outcome {
+    ) -> PutOutcome {
         if instant <= self.last {
-            return Outcome::Late;
+            return PutOutcome::Late;
         }
         if !rows::are_near(&self.rows, &self.closed, self.window, instant) {
-            return Outcome::OutOfWindow;
+            return PutOutcome::OutOfWindow;
         }
         let lane = if self.lanes == 1 { 0 } else { stream };
         rows::take(&mut self.rows, stream, lane, instant, cells, quality)

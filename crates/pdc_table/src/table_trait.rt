@@ -5,7 +5,7 @@ ghost use Rattle.pdc_table.specs.Content.{Content, HasSizesOf, HaveLayoutShapes,
 ghost use Rattle.pdc_row.specs.RowView.{RowView, row_view};
 ghost use Rattle.pdc_table.specs.Steps.{after_drop_column, after_drop_stream, after_pop, after_put, after_require, after_tick, closed_by, pop_answer, put_answer, shape_of, shapes_given, tick_answer};
 
-use crate::{Outcome, RowLayout};
+use crate::{MAX_COLUMNS, MAX_LANES, MAX_WINDOW, MIN_WINDOW, PutOutcome, RowLayout};
 use pdc_block::Block;
 use pdc_row::DueRow;
 use std::alloc::{AllocError, Global};
@@ -30,19 +30,25 @@ pub trait Table: Drop {
     ) -> Result<Self, AllocError>
     where
         Self: Sized,
-        requires window_least { 8 ≤ window }
-        requires window_most { window ≤ 256 }
+        requires window_least { MIN_WINDOW ≤ window }
+        requires window_most { window ≤ MAX_WINDOW }
         requires columns_least { 1 ≤ columns }
-        requires columns_most { columns ≤ 16 }
+        requires columns_most { columns ≤ MAX_COLUMNS }
         requires lanes_least { 1 ≤ lanes }
-        requires lanes_most { lanes ≤ 2 }
+        requires lanes_most { lanes ≤ MAX_LANES }
         ensures content { IfOk result (λ table. content table ≡ new_content window columns lanes floor) }
         ensures well_formed { IfOk result (λ table. IsContent (content table)) };
 
     /// Offers a frame of a stream for an instant: its blocks, each with its column, and its time quality byte.
     ///
     /// The blocks are of columns that the stream writes, each at most once; there may be none.
-    fn put(&mut self, stream: usize, instant: u64, cells: &[(usize, Block)], quality: u8) -> Outcome
+    fn put(
+        &mut self,
+        stream: usize,
+        instant: u64,
+        cells: &[(usize, Block)],
+        quality: u8,
+    ) -> PutOutcome
         requires { IsPut (content self.old) stream cells.now }
         ensures answer { result ≡ put_answer (content self.old) stream instant cells.now }
         ensures content { content self.new ≡ after_put (content self.old) stream instant cells.now quality }

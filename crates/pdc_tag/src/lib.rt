@@ -13,8 +13,6 @@ mod limits;
 mod nearest;
 mod slots;
 mod tags;
-#[cfg(test)]
-mod tests;
 
 pub use laws::{instant_is_nearest, slot_is_nearest, tag_comes_back, tag_is_nearest};
 pub use limits::{COUNT_LIMIT, MAX_RATE, SECONDS};

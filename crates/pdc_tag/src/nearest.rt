@@ -2,7 +2,7 @@
 ghost use Rattle.std.specs.Prelude.{◌≡◌, ◌+◌, ◌*◌, ◌^◌, ◌<◌, ◌≤◌};
 ghost use Rattle.pdc_tag.specs.Nearest.{IsNearest, nearest_of};
 
-// Which multiple of `step` is nearest to `x`, the upper of two equally near.
+/// Which multiple of `step` is nearest to `x`, the upper of two equally near.
 #[tactic(auto, unfolding(crate::specs::Nearest::nearest_of))]
 pub(crate) fn nearest(x: u64, step: u64) -> u64
     requires step { 0 < step }

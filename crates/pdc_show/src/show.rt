@@ -1,0 +1,231 @@
+//! The command: lines in, lines out.
+
+ghost use Rattle.std.specs.Prelude.{◌<◌};
+
+use crate::held::Held;
+use crate::line::{Digits, Line};
+use crate::lines::{write_command, write_config, write_data, write_header};
+use crate::refusal::NotShown;
+use hex::FromHexError;
+use pdc_block::cut;
+use pdc_cfg::read_config;
+use pdc_command::{read_command, read_header};
+use pdc_frame::{Frame, Kind, read_frame};
+use std::alloc::{AllocError, AllocFailed, Global};
+use std::io;
+use std::io::{ErrorKind, Read, Write};
+use thiserror::Error;
+
+/// The most reads of a run.
+pub const MAX_READS: u32 = 1_000_000;
+
+/// The most bytes of one read.
+const PIECE_LEN: usize = 65536;
+
+/// Whether each line was shown.
+#[derive(Clone, Copy, Debug, PartialEq, Eq)]
+pub enum Shown {
+    /// Each was.
+    All,
+    /// Some were refused.
+    SomeRefused,
+}
+
+/// Why a run ended early.
+#[derive(Debug, Drop, Error)]
+pub enum ShowFault {
+    /// The reader failed.
+    #[error("the input cannot be read: {0}")]
+    Read(io::Error),
+    /// The writer failed.
+    #[error("the output cannot be written: {0}")]
+    Write(io::Error),
+    /// The input goes on after the last read.
+    #[error("the input goes on after {MAX_READS} reads")]
+    TooLong,
+    /// No memory was left.
+    #[error("out of memory")]
+    Memory,
+}
+
+impl From<AllocError> for ShowFault {
+    fn from(_error: AllocError) -> ShowFault {
+        ShowFault::Memory
+    }
+}
+
+impl<T: Drop> From<AllocFailed<T>> for ShowFault {
+    fn from(_error: AllocFailed<T>) -> ShowFault {
+        ShowFault::Memory
+    }
+}
+
+/// What is kept from one line to the next.
+#[derive(Drop)]
+struct Show {
+    alloc: Global,
+    /// The number of lines before the one that is read now.
+    number: u64,
+    /// What was read of it.
+    line: Line,
+    /// The CFG-2 frame that was shown last.
+    held: Option<Held>,
+    /// Whether each line was shown.
+    shown: Shown,
+}
+
+impl Show {
+    fn new(alloc: Global) -> Show {
+        Show {
+            alloc,
+            number: 0,
+            line: Line::new(alloc),
+            held: None,
+            shown: Shown::All,
+        }
+    }
+
+    /// Prints the lines of a data frame.
+    fn show_data<W: Write>(&mut self, frame: &Frame, writer: &mut W) -> Result<(), ShowFault>
+        requires { frame.now.frac < 16777216 }
+    {
+        let refusal = match &self.held {
+            Some(held) if held.id == frame.id => match cut(
+                held.shapes().as_slice(),
+                frame.payload,
+            ) {
+                Ok(blocks) => {
+                    return write_data(writer, frame, held, blocks.as_slice()).map_err(
+                        ShowFault::Write,
+                    );
+                }
+                Err(fault) => NotShown::Body(fault),
+            },
+            _ => NotShown::NoConfig,
+        };
+        self.refuse(refusal, writer)
+    }
+
+    /// Prints the lines of a configuration, and holds it where it is a CFG-2.
+    fn show_config<W: Write>(&mut self, frame: &Frame, writer: &mut W) -> Result<(), ShowFault> {
+        let config = match read_config(frame) {
+            Ok(config) => config,
+            Err(fault) => return self.refuse(NotShown::Config(fault), writer),
+        };
+        let name = if frame.kind == Kind::Cfg2 {
+            self.held = Some(Held::new(frame.id, &config));
+            "cfg2"
+        } else {
+            "cfg1"
+        };
+        write_config(writer, name, frame.id, &config).map_err(ShowFault::Write)
+    }
+
+    /// Prints the line of a command frame.
+    fn show_command<W: Write>(&mut self, frame: &Frame, writer: &mut W) -> Result<(), ShowFault> {
+        match read_command(frame) {
+            Ok(command) => write_command(writer, frame.id, command).map_err(ShowFault::Write),
+            Err(fault) => self.refuse(NotShown::Command(fault), writer),
+        }
+    }
+
+    /// Prints the line of a header frame.
+    fn show_header<W: Write>(&mut self, frame: &Frame, writer: &mut W) -> Result<(), ShowFault> {
+        match read_header(frame) {
+            Ok(text) => write_header(writer, frame.id, text).map_err(ShowFault::Write),
+            Err(fault) => self.refuse(NotShown::Command(fault), writer),
+        }
+    }
+
+    /// Prints the lines of the frame that the bytes are.
+    fn show_frame<W: Write>(&mut self, bytes: &[u8], writer: &mut W) -> Result<(), ShowFault> {
+        let frame = match read_frame(bytes) {
+            Ok(frame) => frame,
+            Err(fault) => return self.refuse(NotShown::Frame(fault), writer),
+        };
+        match frame.kind {
+            Kind::DataFrame => self.show_data(&frame, writer),
+            Kind::HeaderFrame => self.show_header(&frame, writer),
+            Kind::CommandFrame => self.show_command(&frame, writer),
+            // CFG-3 is refused as no configuration of this profile.
+            Kind::Cfg1 | Kind::Cfg2 | Kind::Cfg3 => self.show_config(&frame, writer),
+        }
+    }
+
+    fn refuse<W: Write>(&mut self, refusal: NotShown, writer: &mut W) -> Result<(), ShowFault> {
+        self.shown = Shown::SomeRefused;
+        writeln!(writer, "{refusal}").map_err(ShowFault::Write)
+    }
+
+    /// Says that the line is no hexadecimal.
+    fn refuse_line<W: Write>(&mut self, writer: &mut W) -> Result<(), ShowFault> {
+        self.shown = Shown::SomeRefused;
+        writeln!(writer, "line {}: not hex", self.number).map_err(ShowFault::Write)
+    }
+
+    /// Shows the line that was read. Its end is LF, CR LF or the end of the input.
+    fn end_line<W: Write>(&mut self, writer: &mut W) -> Result<(), ShowFault> {
+        self.number = self.number.saturating_add(1);
+        let decoded = match self.line.digits() {
+            Digits::Empty => None,
+            Digits::Broken => Some(Err(FromHexError::OddLength)),
+            Digits::Text(text) => Some(hex::decode(self.alloc, text)),
+        };
+        self.line.clear();
+        match decoded {
+            None => Ok(()),
+            Some(Ok(bytes)) => self.show_frame(bytes.as_slice(), writer),
+            Some(Err(FromHexError::OutOfMemory)) => Err(ShowFault::Memory),
+            Some(Err(_)) => self.refuse_line(writer),
+        }
+    }
+
+    /// Takes what was read, and shows each line that it ends.
+    fn feed<W: Write>(&mut self, piece: &[u8], writer: &mut W) -> Result<(), ShowFault> {
+        for byte in piece {
+            if *byte == b'\n' {
+                self.end_line(writer)?;
+            } else {
+                self.line.take(*byte)?;
+            }
+        }
+        Ok(())
+    }
+
+    /// Shows the last line, which the end of the input ends.
+    fn end<W: Write>(&mut self, writer: &mut W) -> Result<Shown, ShowFault> {
+        self.line.take_end()?;
+        self.end_line(writer)?;
+        writer.flush().map_err(ShowFault::Write)?;
+        Ok(self.shown)
+    }
+}
+
+/// Reads lines of hexadecimal, one frame a line, and prints what each frame says. It holds one line at a time, and no more of
+/// it than the longest frame has; it goes on after a line that is refused. What was printed is flushed before each read, so that
+/// it can stand behind a live source.
+///
+/// # Errors
+///
+/// The first failure of the reader or the writer, an input that goes on after [`MAX_READS`] reads, or want of memory.
+pub fn run_show<R: Read, W: Write>(
+    alloc: Global,
+    reader: &mut R,
+    writer: &mut W,
+) -> Result<Shown, ShowFault> {
+    let mut show = Show::new(alloc);
+    let mut piece = vec![in alloc; 0u8; PIECE_LEN]?;
+    for _ in 0..MAX_READS {
+        let len = match reader.read(piece.as_mut_slice()) {
+            Ok(len) => len,
+            Err(error) if error.kind() == ErrorKind::Interrupted => continue,
+            Err(error) => return Err(ShowFault::Read(error)),
+        };
+        if len == 0 {
+            return show.end(writer);
+        }
+        show.feed(&piece[..len], writer)?;
+        writer.flush().map_err(ShowFault::Write)?;
+    }
+    Err(ShowFault::TooLong)
+}

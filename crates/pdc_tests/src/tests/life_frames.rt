@@ -1,0 +1,152 @@
+//! Worked frames of node 201, byte for byte.
+
+ghost use Rattle.std.specs.Prelude.{◌≡◌};
+
+use super::same::is;
+use super::vectors::{BOTH, ONE_ABSENT, OWN_END, OWN_HEAD, SECTIONS};
+use arrayvec::ArrayVec;
+use pdc_block::Block;
+use pdc_cfg::{Shape, read_config};
+use pdc_frame::{Frame, Kind, read_frame};
+use pdc_life::{Nominal, Pmu, Settings, append_layout, append_row, own_section};
+use pdc_row::DueRow;
+use std::test::Fail;
+
+const ONE_PHASOR: Shape = Shape {
+    phasors: 1,
+    analogs: 0,
+    digitals: 0,
+};
+
+/// Data of PMU 11: phasor 14635, 0 and FREQ 2500 mHz above nominal.
+const WORDS_11: [u16; 5] = [0x0000, 0x392B, 0x0000, 0x09C4, 0x0000];
+
+/// Data of PMU 12: phasor 5000, -5000 and FREQ 2 mHz below nominal.
+const WORDS_12: [u16; 5] = [0x0000, 0x1388, 0xEC78, 0xFFFE, 0x0000];
+
+const ABSENT: [u16; 5] = [0xA1F0, 0x8000, 0x8000, 0x8000, 0x8000];
+
+const PMU_11: Pmu = Pmu {
+    stream: 11,
+    source: 11,
+    time_base: 1_000_000,
+};
+
+const PMU_12: Pmu = Pmu {
+    stream: 12,
+    source: 12,
+    time_base: 1_000_000,
+};
+
+/// Node 201: 50 Hz, 50 frames a second, TIME_BASE 1000000, and the PMUs 11 and 12.
+fn node_201() -> Settings
+    ensures { result.rate ≡ 50 }
+{
+    let mut pmus = ArrayVec::new();
+    pmus.push(PMU_11);
+    pmus.push(PMU_12);
+    Settings {
+        id: 201,
+        rate: 50,
+        nominal: Nominal::Hz50,
+        time_base: 1_000_000,
+        wait: 2,
+        window: 64,
+        ahead: 32,
+        pmus,
+    }
+}
+
+/// The row of 57478860001 with the stamp (1, 1), and these words in its blocks.
+fn row(first: [u16; 5], second: [u16; 5]) -> DueRow
+    ensures { result.instant ≡ 57478860001 }
+{
+    let mut blocks = ArrayVec::new();
+    blocks.push(Block::from_words(ONE_PHASOR, &first));
+    blocks.push(Block::from_words(ONE_PHASOR, &second));
+    DueRow {
+        instant: 57_478_860_001,
+        start: 1,
+        change: 1,
+        quality: 0,
+        blocks,
+    }
+}
+
+#[test]
+fn rows_on_the_wire(rt: HostRuntime) -> Result<(), Fail> {
+    let alloc = rt.alloc();
+    let settings = node_201();
+    let mut out = vec![in alloc; 7u8]?;
+    append_row(&settings, &row(WORDS_11, WORDS_12), &mut out)?;
+    is!(&rt; out.len(), 51);
+    is!(&rt; &out[1..], BOTH.as_slice());
+
+    let mut out = Vec::new(alloc);
+    append_row(&settings, &row(WORDS_11, ABSENT), &mut out)?;
+    is!(&rt; out.as_slice(), ONE_ABSENT.as_slice());
+    Ok(())
+}
+
+#[test]
+fn own_section_of_node_201(rt: HostRuntime) -> Result<(), Fail> {
+    let section = own_section(&node_201(), 1, 65538);
+    let bytes = section.bytes.as_slice();
+    is!(&rt; bytes.len(), 1070);
+    is!(&rt; &bytes[..26], OWN_HEAD.as_slice());
+    for byte in &bytes[26..1050] {
+        is!(&rt; *byte, b' ');
+    }
+    is!(&rt; &bytes[1050..], OWN_END.as_slice());
+    is!(&rt; (section.source, section.count, section.polar),
+        (201, 2, false)
+    );
+    is!(&rt; section.shape.section_len(), 1070);
+    Ok(())
+}
+
+#[test]
+fn layout_of_no_pmu(rt: HostRuntime) -> Result<(), Fail> {
+    let mut out = Vec::new(rt.alloc());
+    append_layout(&node_201(), 1, 65538, &[], 1_149_577_200, &mut out)?;
+    is!(&rt; out.len(), 1094);
+    let frame = read_frame(&out)?;
+    is!(&rt; frame.kind, Kind::Cfg2);
+    is!(&rt; (frame.version, frame.id, frame.soc),
+        (2, 201, 1_149_577_200)
+    );
+    is!(&rt; (frame.quality, frame.frac), (0, 0));
+    let config = read_config(&frame)?;
+    is!(&rt; config.sections.len(), 1);
+    is!(&rt; config.sections.as_slice()[0].count, 2);
+    Ok(())
+}
+
+#[test]
+fn layout_of_two_pmus(rt: HostRuntime) -> Result<(), Fail> {
+    let frame = Frame {
+        kind: Kind::Cfg2,
+        version: 2,
+        id: 1,
+        soc: 0,
+        quality: 0,
+        frac: 0,
+        payload: &SECTIONS,
+    };
+    let sent = read_config(&frame)?;
+    is!(&rt; sent.sections.len(), 2);
+    let mut out = Vec::new(rt.alloc());
+    append_layout(&node_201(), 1, 1, sent.sections.as_slice(), 0, &mut out)?;
+    is!(&rt; out.len(), 1194);
+    let frame = read_frame(&out)?;
+    let config = read_config(&frame)?;
+    is!(&rt; (config.flags, config.time_base, config.rate),
+        (0, 1_000_000, 50)
+    );
+    let sections = config.sections.as_slice();
+    is!(&rt; sections.len(), 3);
+    is!(&rt; (sections[0].source, sections[0].count), (201, 1));
+    is!(&rt; sections[1].bytes, &SECTIONS[6..56]);
+    is!(&rt; sections[2].bytes, &SECTIONS[56..106]);
+    Ok(())
+}

@@ -1,0 +1,229 @@
+//! A life of a node that a script tells, lived by the plain program.
+//!
+//! | Call | Answer |
+//! |---|---|
+//! | `node WINDOW WAIT PMUS` | `ok`; a new life of node 201 with the PMUs 11 and 12, or 11 to 13 |
+//! | `arrive PMU FRAME [LENGTH]` | the outcome; the frame is one of the names, or its first bytes |
+//! | `tick NOW` | how many rows closed, and `adopts` where it adopted |
+//! | `pop` | the row's instant, quality and stamp, as `5/0 (1, 1)`, or `none` |
+//! | `rows` | the instants and stamps of the rows that closed |
+//! | `published` | the frames that are published, in hexadecimal |
+//! | `layout SOC` | the length of the layout's frame, its first 14 bytes and its last two |
+//!
+//! What is none of these is answered `no such call`.
+
+ghost use Rattle.std.specs.Prelude.{◌≤◌};
+
+use crate::frames::Frames;
+use crate::script::Player;
+use arrayvec::ArrayVec;
+use pdc_life::{Given, Nominal, Pmu, Settings};
+use pdc_plain::{Answered, LifeStep, answers, are_of_settings, layout, published, rows};
+use pdc_row::DueRow;
+use std::alloc::{AllocError, Global};
+
+const PMU_11: Pmu = Pmu {
+    stream: 11,
+    source: 11,
+    time_base: 1_000_000,
+};
+
+const PMU_12: Pmu = Pmu {
+    stream: 12,
+    source: 12,
+    time_base: 1_000_000,
+};
+
+const PMU_13: Pmu = Pmu {
+    stream: 13,
+    source: 13,
+    time_base: 1_000_000,
+};
+
+/// What node 201 of the PMUs 11 and 12, or 11 to 13, is given: 50 frames a second, ahead 32, this window and wait.
+fn node(window: u64, wait: u64, has_third: bool) -> Given
+    requires window_low { 8 ≤ window }
+    requires window_high { window ≤ 256 }
+    requires wait_low { 1 ≤ wait }
+    requires wait_high { wait ≤ 1000 }
+{
+    let mut pmus = ArrayVec::new();
+    pmus.push(PMU_11);
+    pmus.push(PMU_12);
+    if has_third {
+        pmus.push(PMU_13);
+    }
+    Given {
+        settings: Settings {
+            id: 201,
+            rate: 50,
+            nominal: Nominal::Hz50,
+            time_base: 1_000_000,
+            wait,
+            window,
+            ahead: 32,
+            pmus,
+        },
+        start: 1,
+        floor: 0,
+        opening: 0,
+    }
+}
+
+/// A life, and the frames that its steps name.
+#[derive(Drop)]
+pub struct LifePlayer<'a> {
+    given: Given,
+    steps: Vec<LifeStep<'a>>,
+    frames: &'a Frames,
+}
+
+impl<'a> LifePlayer<'a> {
+    /// The life of a node of two PMUs, without steps.
+    pub fn new(alloc: Global, frames: &'a Frames) -> LifePlayer<'a> {
+        LifePlayer {
+            given: node(64, 2, false),
+            steps: Vec::new(alloc),
+            frames,
+        }
+    }
+
+    /// Begins another life, where the sizes are in range.
+    fn begin(&mut self, alloc: Global, window: &str, wait: &str, pmus: &str) -> Option<bool> {
+        let (window, wait): (u64, u64) = (window.parse().ok()?, wait.parse().ok()?);
+        if window < 8 || window > 256 || wait < 1 || wait > 1000 {
+            return None;
+        }
+        self.given = node(window, wait, pmus == "3");
+        self.steps = Vec::new(alloc);
+        Some(true)
+    }
+
+    /// The bytes of the frame of this name, or the first of them.
+    fn bytes(&self, name: &str, len: Option<&str>) -> Option<&'a [u8]> {
+        let bytes = self.frames.named(name)?;
+        match len {
+            Some(len) => bytes.get(..len.parse().ok()?),
+            None => Some(bytes),
+        }
+    }
+
+    /// The arrival of a frame for a PMU.
+    fn arrival(&self, pmu: &str, name: &str, len: Option<&str>) -> Option<LifeStep<'a>> {
+        Some(LifeStep::Arrive {
+            pmu: pmu.parse().ok()?,
+            bytes: self.bytes(name, len)?,
+        })
+    }
+
+    /// What this step is answered after those before it.
+    fn step(&mut self, alloc: Global, step: Option<LifeStep<'a>>) -> Result<String, AllocError> {
+        let Some(step) = step else {
+            return "no such call".to_string(alloc);
+        };
+        self.steps.push(step)?;
+        if !are_of_settings(&self.given, &self.steps) {
+            self.steps.pop();
+            return "no such PMU".to_string(alloc);
+        }
+        match answers(alloc, &self.given, &self.steps)?.last() {
+            Some(answered) => answer_text(alloc, answered),
+            None => Ok(String::new(alloc)),
+        }
+    }
+}
+
+/// Its instant, quality and stamp.
+fn row_text(alloc: Global, row: &DueRow) -> Result<String, AllocError> {
+    let (instant, quality) = (row.instant, row.quality);
+    format!(in alloc; "{instant}/{quality} ({}, {})", row.start, row.change)
+}
+
+/// What a step was answered.
+fn answer_text(alloc: Global, answered: &Answered) -> Result<String, AllocError> {
+    match answered {
+        Answered::Arrival { answer, .. } => format!(in alloc; "{answer:?}"),
+        Answered::Tick {
+            rows,
+            adopted: true,
+            ..
+        } => format!(in alloc; "{} adopts", rows.len()),
+        Answered::Tick { rows, .. } => rows.len().to_string(alloc),
+        Answered::Pop { row: Some(row) } => row_text(alloc, row),
+        Answered::Pop { row: None } => "none".to_string(alloc),
+    }
+}
+
+/// The rows that closed, the first of them first.
+fn rows_text(alloc: Global, given: &Given, steps: &[LifeStep]) -> Result<String, AllocError> {
+    let mut text = String::new(alloc);
+    if are_of_settings(given, steps) {
+        for row in &rows(alloc, given, steps)? {
+            text.push_str(" ")?;
+            text.push_str(&row_text(alloc, row)?)?;
+        }
+    }
+    text.trim_start().to_string(alloc)
+}
+
+/// The frames that are published, one after the other.
+fn published_text(alloc: Global, given: &Given, steps: &[LifeStep]) -> Result<String, AllocError> {
+    let mut bytes = Vec::new(alloc);
+    if are_of_settings(given, steps) {
+        for frame in &published(alloc, given, steps)? {
+            bytes.extend_from_slice(frame)?;
+        }
+    }
+    hex::encode_upper(alloc, bytes.as_slice())
+}
+
+/// The length of the layout's frame, its fields before the payload and its check word.
+fn layout_text(
+    alloc: Global,
+    given: &Given,
+    steps: &[LifeStep],
+    soc: u32,
+) -> Result<String, AllocError> {
+    let mut frame = Vec::new(alloc);
+    if are_of_settings(given, steps) {
+        layout(alloc, given, steps, soc, &mut frame)?;
+    }
+    if frame.len() < 16 {
+        return "no frame".to_string(alloc);
+    }
+    let head = hex::encode_upper(alloc, &frame[..14])?;
+    let check = hex::encode_upper(alloc, &frame[frame.len() - 2..])?;
+    format!(in alloc; "{} {head} {check}", frame.len())
+}
+
+impl Player for LifePlayer<'_> {
+    fn play(&mut self, alloc: Global, call: &str) -> Result<String, AllocError> {
+        let words: Vec<&str> = call.split_whitespace().collect(alloc)?;
+        match words.as_slice() {
+            ["node", window, wait, pmus] => match self.begin(alloc, window, wait, pmus) {
+                Some(_) => "ok".to_string(alloc),
+                None => "no such node".to_string(alloc),
+            },
+            ["arrive", pmu, frame] => {
+                let step = self.arrival(pmu, frame, None);
+                self.step(alloc, step)
+            }
+            ["arrive", pmu, frame, len] => {
+                let step = self.arrival(pmu, frame, Some(len));
+                self.step(alloc, step)
+            }
+            ["tick", now] => {
+                let step = now.parse().ok().map(|now| LifeStep::Tick { now });
+                self.step(alloc, step)
+            }
+            ["pop"] => self.step(alloc, Some(LifeStep::Pop)),
+            ["rows"] => rows_text(alloc, &self.given, &self.steps),
+            ["published"] => published_text(alloc, &self.given, &self.steps),
+            ["layout", soc] => match soc.parse() {
+                Ok(soc) => layout_text(alloc, &self.given, &self.steps, soc),
+                Err(_) => "no such call".to_string(alloc),
+            },
+            _ => "no such call".to_string(alloc),
+        }
+    }
+}
