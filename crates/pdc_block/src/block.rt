@@ -1,5 +1,5 @@
 //! A block: what one PMU says of one instant.
-ghost use Rattle.std.specs.Prelude.{◌≡◌, ◌≤◌, length};
+ghost use Rattle.std.specs.Prelude.{◌≡◌, ◌<◌, ◌≤◌, ◌^◌, ℕ, length, slice_index};
 ghost use Rattle.arrayvec.specs.ArrayVec.{array_vec_len};
 ghost use Rattle.pdc_cfg.specs.Shape.{word_count_of};
 
@@ -17,8 +17,9 @@ pub struct Block {
     /// How many phasors, analog values and digital words there are.
     pub shape: Shape,
     /// The words, 3 to 107.
-    pub words: ArrayVec<u16, 107>,
+    pub words: ArrayVec<u16, MAX_WORDS>,
     pub ghost counted: { length words.items ≡ word_count_of shape },
+    pub ghost words_fit: { (i : ℕ) → slice_index words.items i < 2 ^ 16 },
 }
 
 /// The block without values whose three words are 0.

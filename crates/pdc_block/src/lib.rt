@@ -14,6 +14,6 @@ mod writing;
 
 pub use block::{Block, MAX_WORDS};
 pub use fault::BodyFault;
-pub use laws::bodies_are_their_words;
+pub use laws::{bodies_are_their_words, payloads_are_cut_in_one_way};
 pub use reading::{cut, read_body};
 pub use writing::{append_words, join, joined_len};

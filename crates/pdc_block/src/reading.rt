@@ -5,7 +5,7 @@ ghost use Rattle.pdc_block.specs.Block.{IsBody, IsCut, words_of, shape_of, body_
 use crate::block::Block;
 use crate::fault::BodyFault;
 use arrayvec::ArrayVec;
-use pdc_cfg::Shape;
+use pdc_cfg::{MAX_SECTIONS, Shape};
 use pdc_frame::read_word;
 
 /// The block that the bytes are, where there are as many as the shape takes.
@@ -43,7 +43,7 @@ pub fn read_body(shape: Shape, bytes: &[u8]) -> Result<Block, BodyFault>
 
 /// The bytes that blocks of these shapes take, one after the other.
 fn payload_len(shapes: &[Shape]) -> usize
-    requires { length shapes.now ≤ 17 }
+    requires { length shapes.now ≤ MAX_SECTIONS }
     ensures { result ≡ sum_by body_len_of shapes.now }
 {
     let mut len = 0;
@@ -58,8 +58,8 @@ fn payload_len(shapes: &[Shape]) -> usize
 /// # Errors
 ///
 /// `WrongLength` where no blocks of these shapes have these bytes.
-pub fn cut(shapes: &[Shape], payload: &[u8]) -> Result<ArrayVec<Block, 17>, BodyFault>
-    requires { length shapes.now ≤ 17 }
+pub fn cut(shapes: &[Shape], payload: &[u8]) -> Result<ArrayVec<Block, MAX_SECTIONS>, BodyFault>
+    requires { length shapes.now ≤ MAX_SECTIONS }
     ensures shapes { IfOk result (λ blocks. map shape_of blocks.items ≡ shapes.now) }
     // What is read is spelled so.
     ensures found { IfOk result (λ blocks. IsCut shapes.now payload.now (map words_of blocks.items)) }
