@@ -1,5 +1,5 @@
 use Rattle.std.proofs.Common.{◌≡◌, ◌+◌, ◌*◌, ◌%◌, ◌^◌, arith}
-use Rattle.pdc_frame.proofs.frame.header_bytes.Goals as goal
+use Rattle.pdc_frame.proofs.writing.header_bytes.Goals as goal
 
 pub returns-clause-value : goal.returns-clause-value
 returns-clause-value c =

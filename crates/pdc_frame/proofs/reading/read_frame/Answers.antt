@@ -3,7 +3,7 @@ use Rattle.std.proofs.lemmas.Nat.{and_mask}
 use Rattle.std.specs.Prelude.{bit_and}
 use Rattle.pdc_frame.specs.Bytes.{AreBytes}
 use Rattle.pdc_frame.proofs.Places.{check-spelled, IsFrame-places}
-use Rattle.pdc_frame.proofs.frame.read_frame.Goals as goal
+use Rattle.pdc_frame.proofs.reading.read_frame.Goals as goal
 
 pub returns-then-read_word-check_word-clause-only : goal.returns-then-read_word-check_word-clause-only
 returns-then-read_word-check_word-clause-only c = λ f h.
