@@ -25,8 +25,8 @@ pub use fault::FrameFault;
 pub use frame::{Frame, Kind};
 pub use framer::Framer;
 pub use laws::{
-    check_word_is_the_remainder, frames_are_read_in_one_way, spellings_stand_apart,
-    streams_split_in_one_way,
+    check_word_is_the_remainder, frames_are_read_in_one_way, frames_are_written_in_parts,
+    parts_keep_their_words, spellings_stand_apart, streams_split_in_one_way, words_are_their_bytes,
 };
 pub use limits::{
     CHECK_LEN, HEADER_LEN, MAX_FRAC, MAX_ID, MAX_PAYLOAD, MAX_SIZE, MAX_VERSION, OVERHEAD,
