@@ -3,7 +3,7 @@ use Rattle.std.proofs.lemmas.List.{map_push, drop-drop, take_all}
 use Rattle.pdc_cfg.specs.Section.{SectionFields, fields_of_view}
 use Rattle.pdc_cfg.specs.Config.{Begins}
 use Rattle.pdc_cfg.proofs.Sections.{Begins-push}
-use Rattle.pdc_cfg.proofs.config.read_sections.Goals as goal
+use Rattle.pdc_cfg.proofs.section_reading.read_sections.Goals as goal
 
 pub loop-preserved : goal.loop-preserved
 loop-preserved c =
@@ -13,7 +13,7 @@ loop-preserved c =
     let whole : take (length body - c.loop.place) rest ≡ rest = take_all (length body - c.loop.place) rest (omega (arith, length-drop c.loop.place body)) in
     let front : section.bytes.now ≡ take (length section.bytes.now) rest = c.in_ok-section.ensures.front ∙ ap (take (length section.bytes.now)) whole in
     let more : Begins body (map fields_of_view c.loop.sections.items ++ fields_of_view section ∷ []) (drop (length section.bytes.now) rest) =
-    Begins-push body (map fields_of_view c.loop.sections.items) rest (fields_of_view section) c.loop.invariant.begins c.in_ok-section.ensures.found front in
+    Begins-push body (map fields_of_view c.loop.sections.items) rest (fields_of_view section) c.loop.invariant.begins section.whole front in
     let pushed : map fields_of_view c.push.new.self.items ≡ map fields_of_view c.loop.sections.items ++ fields_of_view section ∷ [] = ap (map fields_of_view) c.push.ensures.items ∙ map_push fields_of_view c.loop.sections.items section in
     let behind : drop (length section.bytes.now) rest ≡ drop (c.loop.place + length section.bytes.now) body = drop-drop (length section.bytes.now) c.loop.place body in
     record {

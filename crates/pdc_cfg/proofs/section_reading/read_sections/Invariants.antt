@@ -1,7 +1,7 @@
 use Rattle.std.proofs.Common.{◌≡◌, ◌≤◌, drop, length, map}
 use Rattle.pdc_cfg.specs.Section.{fields_of_view}
 use Rattle.pdc_cfg.specs.Config.{Begins}
-use Rattle.pdc_cfg.proofs.config.read_sections.Given as goal
+use Rattle.pdc_cfg.proofs.section_reading.read_sections.Given as goal
 
 abbrev pub invariant-loop : goal.invariant-loop
 invariant-loop l = record {
