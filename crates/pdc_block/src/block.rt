@@ -4,11 +4,8 @@ ghost use Rattle.arrayvec.specs.ArrayVec.{array_vec_len};
 ghost use Rattle.pdc_cfg.specs.Shape.{word_count_of};
 
 use arrayvec::ArrayVec;
-use pdc_cfg::Shape;
+use pdc_cfg::{MAX_WORDS, Shape};
 use std::alloc::AllocError;
-
-/// The most words of a block: STAT, 64 of phasors, FREQ, DFREQ, 32 analog values and 8 digital words.
-pub const MAX_WORDS: usize = 107;
 
 /// What one PMU says of one instant: its shape and its words in wire order (C37.118.2-2011, table 6), which are STAT,
 /// two for each phasor, FREQ, DFREQ, the analog values and the digital words.
