@@ -1,7 +1,7 @@
 -- The words that bytes write.
-use Rattle.std.proofs.Common.{◌≡◌, ℕ, ◌+◌, ◌*◌, List, [], ◌∷◌, ◌++◌, length, refl, sym, ap, ◌∙◌, arith, zero, suc}
+use Rattle.std.proofs.Common.{◌≡◌, ℕ, ◌*◌, List, [], ◌∷◌, ◌++◌, length, refl, sym, ap, ◌∙◌, arith, zero, suc}
 use Rattle.pdc_frame.specs.Bytes.{AreBytes}
-use Rattle.pdc_frame.proofs.Cells.{word_cells}
+use Rattle.pdc_frame.specs.Parts.{WordsAreTheirBytes}
 use Rattle.pdc_block.proofs.Words.{length-bytes_of_words, same_words}
 use Rattle.pdc_cfg.specs.Shape.{word_count_of}
 use Rattle.pdc_cfg.specs.declared.shape.Shape.{Shape}
@@ -10,14 +10,6 @@ use Rattle.pdc_block.specs.Block.{AreWords, IsBody, bytes_of_words, words_in}
 -- the bytes of a list without its first two
 tail_bytes : (high low : ℕ) (bytes : List ℕ) → AreBytes (high ∷ low ∷ bytes) → AreBytes bytes
 tail_bytes high low bytes fits i = fits (suc (suc i))
-
-pub words_spell : (bytes : List ℕ) (n : ℕ) → AreBytes bytes → length bytes ≡ 2 * n → bytes ≡ bytes_of_words (words_in bytes)
-words_spell [] n fits e = refl
-words_spell (byte ∷ []) n fits e = absurd (omega (arith, e))
-words_spell (high ∷ low ∷ bytes) zero fits e = absurd (omega (arith, e))
-words_spell (high ∷ low ∷ bytes) (suc n) fits e =
-    let rest : bytes ≡ bytes_of_words (words_in bytes) = words_spell bytes n (tail_bytes high low bytes fits) (omega (arith, e)) in
-    ap (λ more. high ∷ low ∷ more) rest ∙ ap (λ two. two ++ bytes_of_words (words_in bytes)) (sym (word_cells (256 * high + low) high low (fits 0) (fits 1) refl))
 
 pub words_count : (bytes : List ℕ) (n : ℕ) → length bytes ≡ 2 * n → length (words_in bytes) ≡ n
 words_count [] n e = omega (arith, e)
@@ -31,17 +23,28 @@ words_fit (byte ∷ []) fits i = omega arith
 words_fit (high ∷ low ∷ bytes) fits zero = omega (arith, fits 0, fits 1)
 words_fit (high ∷ low ∷ bytes) fits (suc i) = words_fit bytes (tail_bytes high low bytes fits) i
 
--- bytes of the length of a shape are a body of it, with the words that they write
-pub body_of_bytes : (shape : Shape) (bytes : List ℕ) → AreBytes bytes → length bytes ≡ 2 * word_count_of shape → IsBody shape bytes (words_in bytes)
-body_of_bytes shape bytes fits e = record {
-  count = words_count bytes (word_count_of shape) e;
-  fits = words_fit bytes fits;
-  spelled = words_spell bytes (word_count_of shape) fits e;
-}
+-- ---- what follows from the law of words
 
--- and its only one
-pub one_body : (shape : Shape) (bytes words : List ℕ) → AreBytes bytes → IsBody shape bytes words → words ≡ words_in bytes
-one_body shape bytes words fits h =
-    let len : length bytes ≡ 2 * word_count_of shape = ap length h.spelled ∙ length-bytes_of_words words ∙ ap (λ n. 2 * n) h.count in
-    let body : IsBody shape bytes (words_in bytes) = body_of_bytes shape bytes fits len in
-    same_words words (words_in bytes) (h.count ∙ sym body.count) h.fits body.fits (sym h.spelled ∙ body.spelled)
+module _ (words : WordsAreTheirBytes) where
+  pub words_spell : (bytes : List ℕ) (n : ℕ) → AreBytes bytes → length bytes ≡ 2 * n → bytes ≡ bytes_of_words (words_in bytes)
+  words_spell [] n fits e = refl
+  words_spell (byte ∷ []) n fits e = absurd (omega (arith, e))
+  words_spell (high ∷ low ∷ bytes) zero fits e = absurd (omega (arith, e))
+  words_spell (high ∷ low ∷ bytes) (suc n) fits e =
+      let rest : bytes ≡ bytes_of_words (words_in bytes) = words_spell bytes n (tail_bytes high low bytes fits) (omega (arith, e)) in
+      ap (λ more. high ∷ low ∷ more) rest ∙ ap (λ two. two ++ bytes_of_words (words_in bytes)) (sym (words.word_of high low (fits 0) (fits 1)))
+
+  -- bytes of the length of a shape are a body of it, with the words that they write
+  pub body_of_bytes : (shape : Shape) (bytes : List ℕ) → AreBytes bytes → length bytes ≡ 2 * word_count_of shape → IsBody shape bytes (words_in bytes)
+  body_of_bytes shape bytes fits e = record {
+    count = words_count bytes (word_count_of shape) e;
+    fits = words_fit bytes fits;
+    spelled = words_spell bytes (word_count_of shape) fits e;
+  }
+
+  -- and its only one
+  pub one_body : (shape : Shape) (bytes xs : List ℕ) → AreBytes bytes → IsBody shape bytes xs → xs ≡ words_in bytes
+  one_body shape bytes xs fits h =
+      let len : length bytes ≡ 2 * word_count_of shape = ap length h.spelled ∙ length-bytes_of_words xs ∙ ap (λ n. 2 * n) h.count in
+      let body : IsBody shape bytes (words_in bytes) = body_of_bytes shape bytes fits len in
+      same_words words xs (words_in bytes) (h.count ∙ sym body.count) h.fits body.fits (sym h.spelled ∙ body.spelled)

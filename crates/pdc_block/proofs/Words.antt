@@ -1,5 +1,5 @@
 -- Words and their bytes: as many words as bytes have room for are told by their bytes.
-use Rattle.std.proofs.Common.{◌≡◌, ℕ, zero, suc, ◌+◌, ◌*◌, ◌^◌, ◌<◌, ◌≤◌, List, [], ◌∷◌, ◌++◌, length, take, drop, get_or, refl, sym, ap, ◌∙◌, arith, length-append}
+use Rattle.std.proofs.Common.{◌≡◌, ℕ, zero, suc, ◌+◌, ◌*◌, ◌^◌, ◌<◌, ◌≤◌, List, [], ◌∷◌, ◌++◌, length, take, drop, refl, sym, ap, ◌∙◌, arith, length-append}
 use Rattle.std.specs.Prelude.{sum_by}
 use Rattle.std.specs.Int.{w16, to_be_bytes}
 use Rattle.std.proofs.lemmas.List.{append-nil}
@@ -7,7 +7,7 @@ use Rattle.std.proofs.lemmas.Grind.{flat_map-append}
 use Rattle.std.proofs.Math.Seq.{take-add}
 use Rattle.std.proofs.lemmas.List.Sums.{sum_by-cons}
 use Rattle.pdc_frame.specs.Bytes.{AreBytes, word_at}
-use Rattle.pdc_frame.proofs.Cells.{cells_from, drop-cells_from, word_cells, word_value, same_parts}
+use Rattle.pdc_frame.specs.Parts.{WordsAreTheirBytes, PartsKeepTheirWords}
 use Rattle.pdc_cfg.specs.declared.shape.Shape.{Shape}
 use Rattle.pdc_cfg.specs.Shape.{word_count_of}
 use Rattle.pdc_block.specs.Block.{AreWords, bytes_of_words, body_len_of, AreOfShapes, bytes_of_blocks}
@@ -15,30 +15,6 @@ use Rattle.pdc_block.specs.Block.{AreWords, bytes_of_words, body_len_of, AreOfSh
 pub length-bytes_of_words : (words : List ℕ) → length (bytes_of_words words) ≡ 2 * length words
 length-bytes_of_words [] = omega arith
 length-bytes_of_words (w ∷ words) = omega (arith, length-bytes_of_words words)
-
--- words are told by their bytes
-pub same_words : (xs ys : List ℕ) → length xs ≡ length ys → AreWords xs → AreWords ys → bytes_of_words xs ≡ bytes_of_words ys → xs ≡ ys
-same_words [] [] len hx hy e = refl
-same_words [] (y ∷ ys) len hx hy e = absurd (omega arith)
-same_words (x ∷ xs) [] len hx hy e = absurd (omega arith)
-same_words (x ∷ xs) (y ∷ ys) len hx hy e =
-    let first : x ≡ y = word_value x y (hx 0) (hy 0) (ap (take 2) e) in
-    let others : xs ≡ ys = same_words xs ys (omega arith) (λ i. hx (suc i)) (λ i. hy (suc i)) (ap (drop 2) e) in
-    λ i. first i ∷ others i
-
--- blocks are told by their bytes
-pub same_blocks : (shapes : List Shape) (xs ys : List (List ℕ)) → AreOfShapes shapes xs → AreOfShapes shapes ys → bytes_of_blocks xs ≡ bytes_of_blocks ys → xs ≡ ys
-same_blocks [] [] [] hx hy e = refl
-same_blocks [] [] (y ∷ ys) hx hy e = absurd hy
-same_blocks [] (x ∷ xs) ys hx hy e = absurd hx
-same_blocks (s ∷ shapes) [] ys hx hy e = absurd hx
-same_blocks (s ∷ shapes) (x ∷ xs) [] hx hy e = absurd hy
-same_blocks (s ∷ shapes) (x ∷ xs) (y ∷ ys) hx hy e =
-    let len : length x ≡ length y = hx.0 ∙ sym hy.0 in
-    let parts = same_parts (bytes_of_words x) (bytes_of_words y) (bytes_of_blocks xs) (bytes_of_blocks ys) (omega (arith, length-bytes_of_words x, length-bytes_of_words y, len)) e in
-    let first : x ≡ y = same_words x y len hx.1 hy.1 parts.0 in
-    let others : xs ≡ ys = same_blocks shapes xs ys hx.2 hy.2 parts.1 in
-    λ i. first i ∷ others i
 
 pub length-bytes_of_blocks : (shapes : List Shape) (xs : List (List ℕ)) → AreOfShapes shapes xs → length (bytes_of_blocks xs) ≡ sum_by body_len_of shapes
 length-bytes_of_blocks [] [] h = refl
@@ -53,17 +29,6 @@ AreWords-push [] w h fits (suc i) = omega arith
 AreWords-push (x ∷ words) w h fits zero = h 0
 AreWords-push (x ∷ words) w h fits (suc i) = AreWords-push words w (λ j. h (suc j)) fits i
 
-pub bytes_of_words-push : (bytes words : List ℕ) (i w : ℕ) → AreBytes bytes → 2 * i + 2 ≤ length bytes → bytes_of_words words ≡ take (2 * i) bytes → w ≡ word_at bytes (2 * i)
-    → bytes_of_words (words ++ w ∷ []) ≡ take (2 * (i + 1)) bytes
-bytes_of_words-push bytes words i w fits long e w-is =
-    let at : ℕ = 2 * i in
-    let wide : 2 * (i + 1) ≡ at + 2 = omega arith in
-    let next : at + 1 ≡ suc at = omega arith in
-    let cells : to_be_bytes w16 w ≡ cells_from bytes at 2 = word_cells w _ _ (fits at) (fits (suc at)) (w-is ∙ ap (λ (k : ℕ). 256 * get_or bytes at 0 + get_or bytes k 0) next) in
-    let here : take 2 (drop at bytes) ≡ cells_from bytes at 2 = ap (take 2) (drop-cells_from bytes at 2 long) in
-    flat_map-append (to_be_bytes w16) words (w ∷ []) ∙ ap (λ (t : List ℕ). t ++ bytes_of_words (w ∷ [])) e ∙ ap (λ (t : List ℕ). take at bytes ++ t) (cells ∙ sym here)
-    ∙ sym (take-add at 2 bytes) ∙ ap (λ (n : ℕ). take n bytes) (sym wide)
-
 -- the bytes of one more block
 pub bytes_of_blocks-push : (xs : List (List ℕ)) (x payload : List ℕ) (place n : ℕ) → bytes_of_blocks xs ≡ take place payload → bytes_of_words x ≡ take n (drop place payload)
     → bytes_of_blocks (xs ++ x ∷ []) ≡ take (place + n) payload
@@ -76,3 +41,43 @@ AreOfShapes-push [] [] s x h count fits = (count, fits, tt)
 AreOfShapes-push [] (y ∷ xs) s x h count fits = absurd h
 AreOfShapes-push (t ∷ shapes) [] s x h count fits = absurd h
 AreOfShapes-push (t ∷ shapes) (y ∷ xs) s x h count fits = (h.0, h.1, AreOfShapes-push shapes xs s x h.2 count fits)
+
+-- ---- what follows from the laws of words and of parts
+
+module _ (words : WordsAreTheirBytes) where
+  -- a word is told by its bytes
+  same_word : (m n : ℕ) → m < 2 ^ 16 → n < 2 ^ 16 → to_be_bytes w16 m ≡ to_be_bytes w16 n → m ≡ n
+  same_word m n m_fits n_fits e = sym (words.word m m_fits) ∙ ap (λ (t : List ℕ). word_at t 0) e ∙ words.word n n_fits
+
+  -- words are told by their bytes
+  pub same_words : (xs ys : List ℕ) → length xs ≡ length ys → AreWords xs → AreWords ys → bytes_of_words xs ≡ bytes_of_words ys → xs ≡ ys
+  same_words [] [] len hx hy e = refl
+  same_words [] (y ∷ ys) len hx hy e = absurd (omega arith)
+  same_words (x ∷ xs) [] len hx hy e = absurd (omega arith)
+  same_words (x ∷ xs) (y ∷ ys) len hx hy e =
+      let first : x ≡ y = same_word x y (hx 0) (hy 0) (ap (take 2) e) in
+      let others : xs ≡ ys = same_words xs ys (omega arith) (λ i. hx (suc i)) (λ i. hy (suc i)) (ap (drop 2) e) in
+      λ i. first i ∷ others i
+
+  pub bytes_of_words-push : (bytes xs : List ℕ) (i w : ℕ) → AreBytes bytes → 2 * i + 2 ≤ length bytes → bytes_of_words xs ≡ take (2 * i) bytes → w ≡ word_at bytes (2 * i)
+      → bytes_of_words (xs ++ w ∷ []) ≡ take (2 * (i + 1)) bytes
+  bytes_of_words-push bytes xs i w fits long e w-is =
+      let at : ℕ = 2 * i in
+      let wide : 2 * (i + 1) ≡ at + 2 = omega arith in
+      let here : to_be_bytes w16 w ≡ take 2 (drop at bytes) = ap (to_be_bytes w16) w-is ∙ words.word_again bytes at fits long in
+      flat_map-append (to_be_bytes w16) xs (w ∷ []) ∙ ap (λ (t : List ℕ). t ++ bytes_of_words (w ∷ [])) e ∙ ap (λ (t : List ℕ). take at bytes ++ t) here
+      ∙ sym (take-add at 2 bytes) ∙ ap (λ (n : ℕ). take n bytes) (sym wide)
+
+  -- blocks are told by their bytes
+  pub same_blocks : (keep : PartsKeepTheirWords) (shapes : List Shape) (xs ys : List (List ℕ)) → AreOfShapes shapes xs → AreOfShapes shapes ys → bytes_of_blocks xs ≡ bytes_of_blocks ys → xs ≡ ys
+  same_blocks keep [] [] [] hx hy e = refl
+  same_blocks keep [] [] (y ∷ ys) hx hy e = absurd hy
+  same_blocks keep [] (x ∷ xs) ys hx hy e = absurd hx
+  same_blocks keep (s ∷ shapes) [] ys hx hy e = absurd hx
+  same_blocks keep (s ∷ shapes) (x ∷ xs) [] hx hy e = absurd hy
+  same_blocks keep (s ∷ shapes) (x ∷ xs) (y ∷ ys) hx hy e =
+      let len : length x ≡ length y = hx.0 ∙ sym hy.0 in
+      let parts = keep.apart (bytes_of_words x) (bytes_of_words y) (bytes_of_blocks xs) (bytes_of_blocks ys) (omega (arith, length-bytes_of_words x, length-bytes_of_words y, len)) e in
+      let first : x ≡ y = same_words x y len hx.1 hy.1 parts.0 in
+      let others : xs ≡ ys = same_blocks keep shapes xs ys hx.2 hy.2 parts.1 in
+      λ i. first i ∷ others i

@@ -1,14 +1,11 @@
 //! A block: what one PMU says of one instant.
-ghost use Rattle.std.specs.Prelude.{◌≡◌, ◌≤◌, length};
+ghost use Rattle.std.specs.Prelude.{◌≡◌, ◌<◌, ◌≤◌, ◌^◌, ℕ, length, slice_index};
 ghost use Rattle.arrayvec.specs.ArrayVec.{array_vec_len};
 ghost use Rattle.pdc_cfg.specs.Shape.{word_count_of};
 
 use arrayvec::ArrayVec;
-use pdc_cfg::Shape;
+use pdc_cfg::{MAX_WORDS, Shape};
 use std::alloc::AllocError;
-
-/// The most words of a block: STAT, 64 of phasors, FREQ, DFREQ, 32 analog values and 8 digital words.
-pub const MAX_WORDS: usize = 107;
 
 /// What one PMU says of one instant: its shape and its words in wire order (C37.118.2-2011, table 6), which are STAT,
 /// two for each phasor, FREQ, DFREQ, the analog values and the digital words.
@@ -17,8 +14,9 @@ pub struct Block {
     /// How many phasors, analog values and digital words there are.
     pub shape: Shape,
     /// The words, 3 to 107.
-    pub words: ArrayVec<u16, 107>,
+    pub words: ArrayVec<u16, MAX_WORDS>,
     pub ghost counted: { length words.items ≡ word_count_of shape },
+    pub ghost words_fit: { (i : ℕ) → slice_index words.items i < 2 ^ 16 },
 }
 
 /// The block without values whose three words are 0.

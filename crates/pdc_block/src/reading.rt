@@ -5,8 +5,8 @@ ghost use Rattle.pdc_block.specs.Block.{IsBody, IsCut, words_of, shape_of, body_
 use crate::block::Block;
 use crate::fault::BodyFault;
 use arrayvec::ArrayVec;
-use pdc_cfg::Shape;
-use pdc_frame::read_word;
+use pdc_cfg::{MAX_SECTIONS, Shape};
+use pdc_frame::{parts_keep_their_words, read_word, words_are_their_bytes};
 
 /// The block that the bytes are, where there are as many as the shape takes.
 fn body_of(shape: Shape, bytes: &[u8]) -> Block
@@ -14,6 +14,7 @@ fn body_of(shape: Shape, bytes: &[u8]) -> Block
     ensures shape { shape_of result ≡ shape }
     ensures found { IsBody shape bytes.now (words_of result) }
 {
+    words_are_their_bytes();
     let mut words = ArrayVec::new();
     for i in 0..shape.word_count() {
         words.push(read_word(bytes, 2 * i));
@@ -35,6 +36,7 @@ pub fn read_body(shape: Shape, bytes: &[u8]) -> Result<Block, BodyFault>
     // Else nothing is spelled so.
     ensures refused { IfErr result (λ _. (words : List ℕ) → IsBody shape bytes.now words → ⊥) }
 {
+    words_are_their_bytes();
     if bytes.len() != 2 * shape.word_count() {
         return Err(BodyFault::WrongLength);
     }
@@ -43,7 +45,7 @@ pub fn read_body(shape: Shape, bytes: &[u8]) -> Result<Block, BodyFault>
 
 /// The bytes that blocks of these shapes take, one after the other.
 fn payload_len(shapes: &[Shape]) -> usize
-    requires { length shapes.now ≤ 17 }
+    requires { length shapes.now ≤ MAX_SECTIONS }
     ensures { result ≡ sum_by body_len_of shapes.now }
 {
     let mut len = 0;
@@ -58,8 +60,8 @@ fn payload_len(shapes: &[Shape]) -> usize
 /// # Errors
 ///
 /// `WrongLength` where no blocks of these shapes have these bytes.
-pub fn cut(shapes: &[Shape], payload: &[u8]) -> Result<ArrayVec<Block, 17>, BodyFault>
-    requires { length shapes.now ≤ 17 }
+pub fn cut(shapes: &[Shape], payload: &[u8]) -> Result<ArrayVec<Block, MAX_SECTIONS>, BodyFault>
+    requires { length shapes.now ≤ MAX_SECTIONS }
     ensures shapes { IfOk result (λ blocks. map shape_of blocks.items ≡ shapes.now) }
     // What is read is spelled so.
     ensures found { IfOk result (λ blocks. IsCut shapes.now payload.now (map words_of blocks.items)) }
@@ -69,6 +71,8 @@ pub fn cut(shapes: &[Shape], payload: &[u8]) -> Result<ArrayVec<Block, 17>, Body
     // Else nothing is spelled so.
     ensures refused { IfErr result (λ _. (blocks : List (List ℕ)) → IsCut shapes.now payload.now blocks → ⊥) }
 {
+    words_are_their_bytes();
+    parts_keep_their_words();
     if payload.len() != payload_len(shapes) {
         return Err(BodyFault::WrongLength);
     }

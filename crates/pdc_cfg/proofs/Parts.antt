@@ -1,19 +1,20 @@
 -- A configuration written in parts.
-use Rattle.std.proofs.Common.{◌≡◌, ℕ, zero, suc, ◌+◌, ◌<◌, List, [], ◌∷◌, ◌++◌, length, take, get_or, map, sym, ap, ◌∙◌, append_assoc, arith, length-append}
+use Rattle.std.proofs.Common.{◌≡◌, ℕ, ◌+◌, ◌*◌, ◌^◌, ◌<◌, List, [], ◌∷◌, ◌++◌, length, take, get_or, map, sym, ap, ◌∙◌, append_assoc, arith, length-append}
 use Rattle.std.specs.List.{flat_map, AllByRecursion}
-use Rattle.std.specs.Int.{w16, to_be_bytes, cast_unsigned}
+use Rattle.std.specs.Int.{w16, w32, to_be_bytes, cast_unsigned}
 use Rattle.std.proofs.lemmas.List.{take_more, append-nil}
 use Rattle.std.proofs.lemmas.Grind.{flat_map-append}
 use Rattle.std.proofs.lemmas.List.Folds.{flat_map-map}
+use Rattle.pdc_frame.specs.Bytes.{AreBytes}
+use Rattle.pdc_frame.specs.Parts.{WordsAreTheirBytes, PartsKeepTheirWords}
 use Rattle.pdc_cfg.specs.declared.section.SectionView.{SectionView}
 use Rattle.pdc_cfg.specs.Section.{SectionFields, fields_of_view, IsSection}
 use Rattle.pdc_cfg.specs.Config.{ConfigFields, payload_of, bytes_of_sections}
 
--- one of the sections
-pub section_at : (xs : List SectionView) (i : ℕ) (d : SectionView) → AllByRecursion IsSection (map fields_of_view xs) → i < length xs → IsSection (fields_of_view (get_or xs i d))
-section_at [] i d h lt = absurd (omega arith)
-section_at (x ∷ xs) zero d h lt = h.0
-section_at (x ∷ xs) (suc i) d h lt = section_at xs i d h.1 (omega arith)
+-- views are of sections, by their type
+pub whole_sections : (xs : List SectionView) → AllByRecursion IsSection (map fields_of_view xs)
+whole_sections [] = tt
+whole_sections (x ∷ xs) = (x.whole, whole_sections xs)
 
 -- the bytes of one more section
 pub bytes_more : (xs : List SectionView) (i : ℕ) (s : SectionView) → i < length xs → s ≡ get_or xs i s
@@ -34,3 +35,17 @@ length-payload_of c = omega (arith, length-append (bytes_of_sections c.sections)
 pub in_parts : (front start sections rate one two three : List ℕ) → one ≡ front ++ start → two ≡ one ++ sections → three ≡ two ++ rate → three ≡ front ++ ((start ++ sections) ++ rate)
 in_parts front start sections rate one two three a b c =
     c ∙ ap (λ (t : List ℕ). t ++ rate) (b ∙ ap (λ (t : List ℕ). t ++ sections) a ∙ append_assoc front start sections) ∙ append_assoc front (start ++ sections) rate
+
+bytes_in : (keep : PartsKeepTheirWords) (xs : List SectionFields) → AllByRecursion IsSection xs → AreBytes (bytes_of_sections xs)
+bytes_in keep [] h = λ i. omega arith
+bytes_in keep (x ∷ xs) h = keep.bytes_joined x.bytes (bytes_of_sections xs) h.0.fits (bytes_in keep xs h.1)
+
+-- what a configuration is spelled in
+pub payload_bytes : (words : WordsAreTheirBytes) (keep : PartsKeepTheirWords) (c : ConfigFields) → AllByRecursion IsSection c.sections → AreBytes (payload_of c)
+payload_bytes words keep c h =
+    let base : List ℕ = to_be_bytes w32 (c.flags * 2 ^ 24 + c.time_base) in
+    let count : List ℕ = to_be_bytes w16 (length c.sections) in
+    let flat : List ℕ = bytes_of_sections c.sections in
+    let rate : List ℕ = to_be_bytes w16 (cast_unsigned w16 c.rate) in
+    let start : AreBytes (base ++ count) = keep.bytes_joined base count (words.long_bytes (c.flags * 2 ^ 24 + c.time_base)) (words.word_bytes (length c.sections)) in
+    keep.bytes_joined ((base ++ count) ++ flat) rate (keep.bytes_joined (base ++ count) flat start (bytes_in keep c.sections h)) (words.word_bytes (cast_unsigned w16 c.rate))

@@ -1,3 +1,4 @@
 pub mod Shape
+pub mod SectionBytes
 pub mod Section
 pub mod Config

@@ -7,15 +7,18 @@
 mod config;
 mod fault;
 mod laws;
+mod reading;
 mod section;
+mod section_reading;
 mod shape;
 #[cfg(test)]
 mod tests;
 mod writing;
 
-pub use config::{ConfigView, MAX_SECTIONS, read_config};
+pub use config::{ConfigView, MAX_SECTIONS, MAX_TIME_BASE};
 pub use fault::CfgFault;
 pub use laws::configurations_are_read_in_one_way;
-pub use section::{Section, SectionView};
-pub use shape::{MAX_ANALOGS, MAX_DIGITALS, MAX_PHASORS, Shape};
+pub use reading::read_config;
+pub use section::{MAX_SECTION_LEN, Section, SectionView};
+pub use shape::{MAX_ANALOGS, MAX_DIGITALS, MAX_PHASORS, MAX_WORDS, Shape};
 pub use writing::write_config;

@@ -1,5 +1,8 @@
 //! How many phasors, analog values and digital words a PMU sends.
 ghost use Rattle.std.specs.Prelude.{◌≡◌, ◌≤◌};
+ghost use Rattle.pdc_cfg.specs.declared.shape.TheConstants.{MAX_PHASORS, MAX_ANALOGS, MAX_DIGITALS};
+
+use crate::section::MAX_SECTION_LEN;
 
 /// The most phasors of a PMU in this profile.
 pub const MAX_PHASORS: u8 = 32;
@@ -9,6 +12,9 @@ pub const MAX_ANALOGS: u8 = 32;
 
 /// The most digital words of a PMU in this profile.
 pub const MAX_DIGITALS: u8 = 8;
+
+/// The most words of a block: STAT, 64 of phasors, FREQ, DFREQ, 32 analog values and 8 digital words.
+pub const MAX_WORDS: usize = 107;
 
 /// How many phasors, analog values and digital words a PMU sends: PHNMR, ANNMR and DGNMR of its section
 /// (C37.118.2-2011, table 9), within this profile's limits.
@@ -20,9 +26,9 @@ pub struct Shape {
     pub analogs: u8,
     /// Digital words, at most 8.
     pub digitals: u8,
-    pub ghost phasors_fit: { phasors ≤ 32 },
-    pub ghost analogs_fit: { analogs ≤ 32 },
-    pub ghost digitals_fit: { digitals ≤ 8 },
+    pub ghost phasors_fit: { phasors ≤ MAX_PHASORS },
+    pub ghost analogs_fit: { analogs ≤ MAX_ANALOGS },
+    pub ghost digitals_fit: { digitals ≤ MAX_DIGITALS },
 }
 
 /// No values at all: a block of this shape has STAT, FREQ and DFREQ.
@@ -45,7 +51,7 @@ impl Shape {
     #[inline]
     pub fn word_count(self) -> usize
         ensures value { result ≡ word_count_of self }
-        ensures most { result ≤ 107 }
+        ensures most { result ≤ MAX_WORDS }
     {
         3 + 2 * usize::from(self.phasors) + usize::from(self.analogs) + usize::from(self.digitals)
     }
@@ -54,7 +60,7 @@ impl Shape {
     #[inline]
     pub fn section_len(self) -> usize
         ensures value { result ≡ section_len_of self }
-        ensures most { result ≤ 3390 }
+        ensures most { result ≤ MAX_SECTION_LEN }
     {
         let (phasors, analogs) = (usize::from(self.phasors), usize::from(self.analogs));
         let digitals = usize::from(self.digitals);

@@ -1,22 +1,26 @@
 //! A configuration, written as a frame CFG-1 or CFG-2.
-ghost use Rattle.std.specs.Prelude.{◌≡◌, ◌+◌, ◌*◌, ◌^◌, ◌<◌, ◌≤◌, ◌++◌, map, length, vec_len, vec_capacity, FitsSigned, IsOk, OnOk, OnErr};
-ghost use Rattle.std.specs.List.{flat_map, AllByRecursion};
+ghost use Rattle.std.specs.Prelude.{◌≡◌, ◌+◌, ◌*◌, ◌^◌, ◌<◌, ◌≤◌, ◌++◌, length, FitsSigned, IsOk, OnOk, OnErr};
+ghost use Rattle.std.specs.List.{flat_map};
 ghost use Rattle.std.specs.Int.{w16, w32, to_be_bytes, cast_unsigned};
-ghost use Rattle.pdc_frame.specs.Frame.{spelling_of};
-ghost use Rattle.pdc_cfg.specs.Section.{fields_of_view, IsSection};
+ghost use Rattle.pdc_frame.specs.Frame.{spelling_of, IsFrame};
 ghost use Rattle.pdc_cfg.specs.Config.{IsConfigKind, IsConfig, config_fields_of, config_frame_of, payload_of};
 
-use crate::config::ConfigView;
-use crate::section::SectionView;
-use pdc_frame::{Frame, Kind, begin_frame, end_frame};
-use std::alloc::{AllocError, Allocator};
+use crate::config::{ConfigView, MAX_SECTIONS};
+use crate::section::{MAX_SECTION_LEN, SectionView};
+use pdc_frame::{
+    Buffer, Frame, Kind, MAX_ID, begin_frame, end_frame, frames_are_written_in_parts,
+    parts_keep_their_words, words_are_their_bytes,
+};
+use std::alloc::AllocError;
+
+/// TIME_BASE, NUM_PMU and DATA_RATE.
+const FIXED_LEN: usize = 8;
 
 /// The bytes of the sections, one after the other.
 fn sections_len(sections: &[SectionView]) -> usize
-    requires few { length sections.now ≤ 17 }
-    requires sections { AllByRecursion IsSection (map fields_of_view sections.now) }
+    requires { length sections.now ≤ MAX_SECTIONS }
     ensures value { result ≡ length (flat_map (λ s. s.bytes.now) sections.now) }
-    ensures most { result ≤ 57630 }
+    ensures most { result ≤ MAX_SECTION_LEN * MAX_SECTIONS }
 {
     let mut len = 0;
     for section in sections {
@@ -26,65 +30,54 @@ fn sections_len(sections: &[SectionView]) -> usize
 }
 
 /// Appends TIME_BASE and NUM_PMU. It takes no memory.
-fn append_start<A: Allocator>(config: &ConfigView, out: &mut Vec<u8, A>)
-    requires time_base { config.now.time_base < 2 ^ 24 }
-    requires few { length config.now.sections.items ≤ 17 }
-    requires room { vec_len out.old + 6 ≤ vec_capacity out.old }
-    ensures items { out.new.items ≡ out.old.items ++ (to_be_bytes w32 (config.now.flags * 2 ^ 24 + config.now.time_base)
+fn append_start<B: Buffer>(config: &ConfigView, out: &mut B)
+    requires { length (B.content out.old) + 6 ≤ B.capacity out.old }
+    ensures content { B.content out.new ≡ B.content out.old ++ (to_be_bytes w32 (config.now.flags * 2 ^ 24 + config.now.time_base)
         ++ to_be_bytes w16 (length config.now.sections.items)) }
-    ensures len { vec_len out.new ≡ vec_len out.old + 6 }
-    ensures capacity { vec_capacity out.old ≤ vec_capacity out.new }
+    ensures in_place { B.capacity out.new ≡ B.capacity out.old }
     ensures flags { config.now.flags < 2 ^ 8 }
 {
     let base = (u32::from(config.flags) << 24) + config.time_base;
-    out.extend_from_slice(&base.to_be_bytes()).unwrap();
+    out.append_bytes(&base.to_be_bytes());
     let count = config.sections.len() as u16;
-    out.extend_from_slice(&count.to_be_bytes()).unwrap();
+    out.append_bytes(&count.to_be_bytes());
 }
 
 /// Appends the bytes of the sections, one after the other. It takes no memory.
-fn append_sections<A: Allocator>(sections: &[SectionView], out: &mut Vec<u8, A>)
-    requires { vec_len out.old + length (flat_map (λ s. s.bytes.now) sections.now) ≤ vec_capacity out.old }
-    ensures items { out.new.items ≡ out.old.items ++ flat_map (λ s. s.bytes.now) sections.now }
-    ensures len { vec_len out.new ≡ vec_len out.old + length (flat_map (λ s. s.bytes.now) sections.now) }
-    ensures capacity { vec_capacity out.old ≤ vec_capacity out.new }
+fn append_sections<B: Buffer>(sections: &[SectionView], out: &mut B)
+    requires { length (B.content out.old) + length (flat_map (λ s. s.bytes.now) sections.now) ≤ B.capacity out.old }
+    ensures content { B.content out.new ≡ B.content out.old ++ flat_map (λ s. s.bytes.now) sections.now }
+    ensures in_place { B.capacity out.new ≡ B.capacity out.old }
 {
     for section in sections {
-        out.extend_from_slice(section.bytes).unwrap();
+        out.append_bytes(section.bytes);
     }
 }
 
 /// Appends DATA_RATE. It takes no memory.
-fn append_rate<A: Allocator>(rate: i16, out: &mut Vec<u8, A>)
-    requires { vec_len out.old + 2 ≤ vec_capacity out.old }
-    ensures items { out.new.items ≡ out.old.items ++ to_be_bytes w16 (cast_unsigned w16 rate) }
-    ensures len { vec_len out.new ≡ vec_len out.old + 2 }
-    ensures capacity { vec_capacity out.old ≤ vec_capacity out.new }
+fn append_rate<B: Buffer>(rate: i16, out: &mut B)
+    requires { length (B.content out.old) + 2 ≤ B.capacity out.old }
+    ensures content { B.content out.new ≡ B.content out.old ++ to_be_bytes w16 (cast_unsigned w16 rate) }
+    ensures in_place { B.capacity out.new ≡ B.capacity out.old }
 {
     let word = rate.cast_unsigned();
-    out.extend_from_slice(&word.to_be_bytes()).unwrap();
+    out.append_bytes(&word.to_be_bytes());
 }
 
 /// The bytes of the configuration.
 fn payload_len(config: &ConfigView) -> usize
-    requires few { length config.now.sections.items ≤ 17 }
-    requires sections { AllByRecursion IsSection (map fields_of_view config.now.sections.items) }
     ensures value { result ≡ length (payload_of (config_fields_of config.now)) }
-    ensures most { result ≤ 57638 }
+    ensures most { result ≤ FIXED_LEN + MAX_SECTION_LEN * MAX_SECTIONS }
 {
-    8 + sections_len(config.sections.as_slice())
+    FIXED_LEN + sections_len(config.sections.as_slice())
 }
 
 /// Appends the bytes of the configuration. It takes no memory.
-fn append_payload<A: Allocator>(config: &ConfigView, out: &mut Vec<u8, A>)
-    requires time_base { config.now.time_base < 2 ^ 24 }
-    requires few { length config.now.sections.items ≤ 17 }
-    requires room { vec_len out.old + length (payload_of (config_fields_of config.now)) ≤ vec_capacity out.old }
-    ensures items { out.new.items ≡ out.old.items ++ payload_of (config_fields_of config.now) }
-    ensures len { vec_len out.new ≡ vec_len out.old + length (payload_of (config_fields_of config.now)) }
-    ensures capacity { vec_capacity out.old ≤ vec_capacity out.new }
-    ensures flags { config.now.flags < 2 ^ 8 }
-    ensures rate { FitsSigned w16 config.now.rate }
+fn append_payload<B: Buffer>(config: &ConfigView, out: &mut B)
+    requires { length (B.content out.old) + length (payload_of (config_fields_of config.now)) ≤ B.capacity out.old }
+    ensures content { B.content out.new ≡ B.content out.old ++ payload_of (config_fields_of config.now) }
+    ensures in_place { B.capacity out.new ≡ B.capacity out.old }
+    ensures config { IsConfig (payload_of (config_fields_of config.now)) (config_fields_of config.now) }
 {
     append_start(config, out);
     append_sections(config.sections.as_slice(), out);
@@ -96,28 +89,32 @@ fn append_payload<A: Allocator>(config: &ConfigView, out: &mut Vec<u8, A>)
 /// # Errors
 ///
 /// [`AllocError`] where `out` has no room and gets none.
-pub fn write_config<A: Allocator>(
+pub fn write_config<B: Buffer>(
     config: &ConfigView,
     kind: Kind,
     id: u16,
     soc: u32,
-    out: &mut Vec<u8, A>,
+    out: &mut B,
 ) -> Result<(), AllocError>
     requires kind { IsConfigKind kind }
     requires id_low { 0 < id }
-    requires id_high { id < 65535 }
-    requires time_base { config.now.time_base < 2 ^ 24 }
-    requires some { 0 < length config.now.sections.items }
-    requires few { length config.now.sections.items ≤ 17 }
-    requires sections { AllByRecursion IsSection (map fields_of_view config.now.sections.items) }
-    // What is appended is a frame that has this configuration.
-    ensures ok { OnOk result (out.new.items ≡ out.old.items ++ spelling_of (config_frame_of kind id soc (config_fields_of config.now))) }
+    requires id_high { id ≤ MAX_ID }
+    // What is appended is the frame with these fields,
+    ensures ok { OnOk result (B.content out.new ≡ B.content out.old ++ spelling_of (config_frame_of kind id soc (config_fields_of config.now))) }
+    // which is read back, and its payload is this configuration.
+    ensures frame { IsFrame (spelling_of (config_frame_of kind id soc (config_fields_of config.now))) (config_frame_of kind id soc (config_fields_of config.now)) }
     ensures config { OnOk result (IsConfig (payload_of (config_fields_of config.now)) (config_fields_of config.now)) }
     // It fails only where there was no room, and then nothing is appended.
-    ensures err { OnErr result (out.new.items ≡ out.old.items) }
-    ensures room { vec_len out.old + length (spelling_of (config_frame_of kind id soc (config_fields_of config.now))) ≤ vec_capacity out.old → IsOk result }
-    ensures capacity { vec_capacity out.old ≤ vec_capacity out.new }
+    ensures err { OnErr result ((B.content out.new ≡ B.content out.old) × (B.capacity out.new ≡ B.capacity out.old)) }
+    ensures room { length (B.content out.old) + length (spelling_of (config_frame_of kind id soc (config_fields_of config.now))) ≤ B.capacity out.old → IsOk result }
+    // Where there was room, it takes no memory.
+    ensures in_place { length (B.content out.old) + length (spelling_of (config_frame_of kind id soc (config_fields_of config.now))) ≤ B.capacity out.old
+        → B.capacity out.new ≡ B.capacity out.old }
+    ensures capacity { B.capacity out.old ≤ B.capacity out.new }
 {
+    words_are_their_bytes();
+    parts_keep_their_words();
+    frames_are_written_in_parts();
     let head = Frame {
         kind,
         version: 2,
@@ -127,7 +124,7 @@ pub fn write_config<A: Allocator>(
         frac: 0,
         payload: &[],
     };
-    let start = out.len();
+    let start = out.content().len();
     begin_frame(&head, payload_len(config), out)?;
     append_payload(config, out);
     end_frame(start, out);

@@ -35,6 +35,11 @@ IsFirstFault f WrongKind = f.kind ≢ CommandFrame
 IsFirstFault f Cut = (f.kind ≡ CommandFrame) × (length f.payload ≢ 2)
 IsFirstFault f UnknownCommand = (f.kind ≡ CommandFrame) × (length f.payload ≡ 2) × ((command : Command) → word_at f.payload 0 ≢ code_of command)
 
+-- Why it carries no text: it is of another kind.
+abbrev pub IsHeaderFault : Fields → CommandFault → Type 0
+IsHeaderFault f WrongKind = f.kind ≢ HeaderFrame
+IsHeaderFault f fault = ⊥
+
 -- the fields of the frame that tells a stream this command
 abbrev pub command_fields : ℕ → ℕ → Command → Fields
 command_fields id soc command = record {

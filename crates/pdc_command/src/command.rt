@@ -1,12 +1,18 @@
 //! Command frames (C37.118.2-2011, 6.6).
-ghost use Rattle.std.specs.Prelude.{◌≡◌, ◌+◌, ◌<◌, ◌≤◌, ◌++◌, length, vec_len, vec_capacity, IfOk, IfErr, OnOk, OnErr, IsOk};
+ghost use Rattle.std.specs.Prelude.{◌≡◌, ◌+◌, ◌<◌, ◌≤◌, ◌++◌, length, IfOk, IfErr, OnOk, OnErr, IsOk};
 ghost use Rattle.std.specs.Int.{w16, to_be_bytes};
 ghost use Rattle.pdc_frame.specs.Frame.{fields_of, spelling_of, IsFrame};
 ghost use Rattle.pdc_command.specs.Command.{code_of, command_fields, IsCommand, IsFirstFault};
 
 use crate::fault::CommandFault;
-use pdc_frame::{Frame, Kind, read_word, write_frame};
-use std::alloc::{AllocError, Allocator};
+use pdc_frame::{Buffer, Frame, Kind, MAX_ID, frames_are_written_in_parts, read_word, write_frame};
+use std::alloc::AllocError;
+
+/// The bytes of a command frame.
+pub const COMMAND_SIZE: usize = 18;
+
+/// The bytes of CMD.
+const CMD_LEN: usize = 2;
 
 /// What a sender of data is told to do: CMD (C37.118.2-2011, table 15). Its number stands beside each.
 #[derive(Clone, Copy, Debug, PartialEq, Eq)]
@@ -41,7 +47,7 @@ pub fn read_command(frame: &Frame) -> Result<Command, CommandFault>
     if frame.kind != Kind::CommandFrame {
         return Err(CommandFault::WrongKind);
     }
-    if frame.payload.len() != 2 {
+    if frame.payload.len() != CMD_LEN {
         return Err(CommandFault::Cut);
     }
     match read_word(frame.payload, 0) {
@@ -56,7 +62,7 @@ pub fn read_command(frame: &Frame) -> Result<Command, CommandFault>
 }
 
 /// The two bytes of CMD.
-fn cmd_bytes(command: Command) -> [u8; 2]
+fn cmd_bytes(command: Command) -> [u8; CMD_LEN]
     ensures { result ≡ to_be_bytes w16 (code_of command) }
 {
     (command as u16).to_be_bytes()
@@ -67,24 +73,27 @@ fn cmd_bytes(command: Command) -> [u8; 2]
 /// # Errors
 ///
 /// [`AllocError`] where `out` has no room and gets none.
-pub fn write_command<A: Allocator>(
+pub fn write_command<B: Buffer>(
     id: u16,
     soc: u32,
     command: Command,
-    out: &mut Vec<u8, A>,
+    out: &mut B,
 ) -> Result<(), AllocError>
     requires id_low { 0 < id }
-    requires id_high { id < 65535 }
+    requires id_high { id ≤ MAX_ID }
     // What is appended is the frame with these fields,
-    ensures ok { OnOk result (out.new.items ≡ out.old.items ++ spelling_of (command_fields id soc command)) }
+    ensures ok { OnOk result (B.content out.new ≡ B.content out.old ++ spelling_of (command_fields id soc command)) }
     // which is read back, and carries the command.
     ensures frame { IsFrame (spelling_of (command_fields id soc command)) (command_fields id soc command) }
     ensures command { IsCommand (command_fields id soc command) command }
     // It fails only where there was no room, and then nothing is appended.
-    ensures err { OnErr result (out.new.items ≡ out.old.items) }
-    ensures room { vec_len out.old + 18 ≤ vec_capacity out.old → IsOk result }
-    ensures capacity { vec_capacity out.old ≤ vec_capacity out.new }
+    ensures err { OnErr result ((B.content out.new ≡ B.content out.old) × (B.capacity out.new ≡ B.capacity out.old)) }
+    ensures room { length (B.content out.old) + COMMAND_SIZE ≤ B.capacity out.old → IsOk result }
+    // Where there was room, it takes no memory.
+    ensures in_place { length (B.content out.old) + COMMAND_SIZE ≤ B.capacity out.old → B.capacity out.new ≡ B.capacity out.old }
+    ensures capacity { B.capacity out.old ≤ B.capacity out.new }
 {
+    frames_are_written_in_parts();
     let payload = cmd_bytes(command);
     write_frame(
         &Frame {

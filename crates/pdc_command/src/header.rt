@@ -1,14 +1,16 @@
 //! Header frames (C37.118.2-2011, 6.5).
-ghost use Rattle.std.specs.Prelude.{◌≡◌, ◌≢◌, ◌+◌, ◌<◌, ◌≤◌, ◌++◌, ℕ, List, length, vec_len, vec_capacity, IfOk, IfErr, OnOk, OnErr, IsOk, IsOkAnd};
+ghost use Rattle.std.specs.Prelude.{◌≡◌, ◌+◌, ◌<◌, ◌≤◌, ◌++◌, ℕ, List, length, IfOk, IfErr, OnOk, OnErr, IsOk, IsOkAnd};
 ghost use Rattle.pdc_frame.specs.Frame.{fields_of, spelling_of, IsFrame};
-ghost use Rattle.pdc_command.specs.Command.{header_fields, IsHeader};
+ghost use Rattle.pdc_command.specs.Command.{header_fields, IsHeader, IsHeaderFault};
 
 use crate::fault::CommandFault;
-use pdc_frame::{Frame, Kind, write_frame};
-use std::alloc::{AllocError, Allocator};
+use pdc_frame::{
+    Buffer, Frame, Kind, MAX_ID, MAX_PAYLOAD, OVERHEAD, frames_are_written_in_parts, write_frame,
+};
+use std::alloc::AllocError;
 
-/// The most bytes that the text of a header frame has.
-pub const MAX_TEXT: usize = 65519;
+/// The most bytes that the text of a header frame has: as many as a payload.
+pub const MAX_TEXT: usize = MAX_PAYLOAD;
 
 /// The text that a header frame carries. It takes no memory: the text is lent from where the frame's bytes are.
 ///
@@ -21,7 +23,7 @@ pub fn read_header<'a>(frame: &Frame<'a>) -> Result<&'a [u8], CommandFault>
     // and what it carries is read.
     ensures only { (text : List ℕ) → IsHeader (fields_of frame.now) text → IsOkAnd result (λ found. found.now ≡ text) }
     // Which fault it is.
-    ensures fault { IfErr result (λ fault. (fault ≡ CommandFault.WrongKind) × (frame.now.kind ≢ Kind.HeaderFrame)) }
+    ensures fault { IfErr result (IsHeaderFault (fields_of frame.now)) }
 {
     if frame.kind != Kind::HeaderFrame {
         return Err(CommandFault::WrongKind);
@@ -35,25 +37,28 @@ pub fn read_header<'a>(frame: &Frame<'a>) -> Result<&'a [u8], CommandFault>
 /// # Errors
 ///
 /// [`AllocError`] where `out` has no room and gets none.
-pub fn write_header<A: Allocator>(
+pub fn write_header<B: Buffer>(
     id: u16,
     soc: u32,
     text: &[u8],
-    out: &mut Vec<u8, A>,
+    out: &mut B,
 ) -> Result<(), AllocError>
     requires id_low { 0 < id }
-    requires id_high { id < 65535 }
+    requires id_high { id ≤ MAX_ID }
     requires size { length text.now ≤ MAX_TEXT }
     // What is appended is the frame with these fields,
-    ensures ok { OnOk result (out.new.items ≡ out.old.items ++ spelling_of (header_fields id soc text.now)) }
+    ensures ok { OnOk result (B.content out.new ≡ B.content out.old ++ spelling_of (header_fields id soc text.now)) }
     // which is read back, and carries the text.
     ensures frame { IsFrame (spelling_of (header_fields id soc text.now)) (header_fields id soc text.now) }
     ensures text { IsHeader (header_fields id soc text.now) text.now }
     // It fails only where there was no room, and then nothing is appended.
-    ensures err { OnErr result (out.new.items ≡ out.old.items) }
-    ensures room { vec_len out.old + (length text.now + 16) ≤ vec_capacity out.old → IsOk result }
-    ensures capacity { vec_capacity out.old ≤ vec_capacity out.new }
+    ensures err { OnErr result ((B.content out.new ≡ B.content out.old) × (B.capacity out.new ≡ B.capacity out.old)) }
+    ensures room { length (B.content out.old) + (length text.now + OVERHEAD) ≤ B.capacity out.old → IsOk result }
+    // Where there was room, it takes no memory.
+    ensures in_place { length (B.content out.old) + (length text.now + OVERHEAD) ≤ B.capacity out.old → B.capacity out.new ≡ B.capacity out.old }
+    ensures capacity { B.capacity out.old ≤ B.capacity out.new }
 {
+    frames_are_written_in_parts();
     write_frame(
         &Frame {
             kind: Kind::HeaderFrame,

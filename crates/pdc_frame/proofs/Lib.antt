@@ -4,4 +4,4 @@ pub mod Places
 pub mod Spellings
 pub mod Streams
 pub mod Readings
-pub mod Writing
+pub mod Framed

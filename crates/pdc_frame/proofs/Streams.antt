@@ -18,7 +18,7 @@ use Rattle.pdc_frame.specs.Bytes.{AreBytes, word_at}
 use Rattle.pdc_frame.specs.CheckWord.{check_word_of}
 use Rattle.pdc_frame.specs.Frame.{Fields, Fits, number_of, before_check, spelling_of, IsFrame, IsSync, IsSized}
 use Rattle.pdc_frame.specs.Stream.{IsGoing, IsWhole, IsCause, IsAt, IsBad, Held, HasTaken, GoesOn, IsRest, Splits, pending_of, fault_of, given_at}
-use Rattle.pdc_frame.proofs.Cells.{word_at-append, two_takes}
+use Rattle.pdc_frame.proofs.Cells.{AreBytes-cons, AreBytes-append, word_at-append, two_takes}
 use Rattle.pdc_frame.proofs.Places.{check-spelled}
 
 -- ---- a frame by its first places
@@ -50,14 +50,6 @@ id-spelled : (bytes : List ℕ) (f : Fields) → IsFrame bytes f → word_at byt
 id-spelled bytes f h =
     let id : word_at (spelling_of f) 4 ≡ f.id = omega (arith, h.fits.id_high) in
     ap (λ (xs : List ℕ). word_at xs 4) h.spelled ∙ id
-
-AreBytes-cons : (x : ℕ) (xs : List ℕ) → x < 256 → AreBytes xs → AreBytes (x ∷ xs)
-AreBytes-cons x xs lt h zero = lt
-AreBytes-cons x xs lt h (suc i) = h i
-
-AreBytes-append : (xs ys : List ℕ) → AreBytes xs → AreBytes ys → AreBytes (xs ++ ys)
-AreBytes-append [] ys h k = k
-AreBytes-append (x ∷ xs) ys h k = AreBytes-cons x (xs ++ ys) (h 0) (AreBytes-append xs ys (λ i. h (suc i)) k)
 
 record Bytes (xs : List ℕ) : Type 0 where
   all : AreBytes xs

@@ -1,4 +1,5 @@
 pub mod Bytes
 pub mod CheckWord
 pub mod Frame
+pub mod Parts
 pub mod Stream

@@ -2,16 +2,14 @@
 ghost use Rattle.std.specs.Prelude.{◌≡◌, ◌+◌, ◌-◌, ◌<◌, ◌≤◌, ◌++◌, ◌⊎◌, ℕ, List, [], length, take, vec_capacity, IfOk, MatchOption};
 ghost use Rattle.pdc_frame.specs.Stream.{IsGoing, Shows, IsAt, IsBad, HasTaken, pending_of, given_at};
 
+use crate::buffer::Buffer;
 use crate::fault::FrameFault;
-use crate::frame::{OVERHEAD, SYNC_BYTE, is_sync, read_frame};
-use crate::room::append;
+use crate::limits::{MAX_SIZE, OVERHEAD};
+use crate::reading::{SYNC_BYTE, is_sync, read_frame};
 use crate::step::Step;
 use crate::words::read_word;
 use std::alloc::{AllocError, Global};
 use std::marker::Model;
-
-/// The most bytes that a frame has.
-const MAX_SIZE: usize = 65535;
 
 /// The number of bytes up to the end of FRAMESIZE.
 const SIZE_END: usize = 4;
@@ -84,10 +82,10 @@ fn take_rest(held: &mut Vec<u8>, piece: &[u8]) -> (usize, Step)
 {
     let wanted = usize::from(read_word(held, 2)) - held.len();
     if piece.len() < wanted {
-        append(held, piece);
+        held.append_bytes(piece);
         return (piece.len(), Step::More);
     }
-    append(held, &piece[..wanted]);
+    held.append_bytes(&piece[..wanted]);
     match read_frame(held) {
         Ok(_) => (wanted, Step::Whole),
         Err(fault) => (wanted, Step::Bad(fault)),

@@ -1,15 +1,38 @@
 //! Laws of the definitions: each is the contract of a function that does nothing.
-ghost use Rattle.std.specs.Prelude.{◌≡◌, ◌++◌, ℕ, List, [], Option, None};
+ghost use Rattle.std.specs.Prelude.{◌≡◌, ◌+◌, ◌++◌, ℕ, List, [], Option, None, length, drop};
+ghost use Rattle.std.specs.Int.{w16, to_be_bytes};
 ghost use Rattle.pdc_frame.specs.Bytes.{AreBytes};
 ghost use Rattle.pdc_frame.specs.CheckWord.{IsCheckWord, check_word_of};
-ghost use Rattle.pdc_frame.specs.Frame.{Fields, Fits, spelling_of, IsFrame, IsFirstFault};
+ghost use Rattle.pdc_frame.specs.Frame.{Fields, Fits, header_of, spelling_of, IsFrame, IsFirstFault};
+ghost use Rattle.pdc_frame.specs.Parts.{WordsAreTheirBytes, PartsKeepTheirWords};
 ghost use Rattle.pdc_frame.specs.declared.fault.FrameFault.{FrameFault};
 ghost use Rattle.pdc_frame.specs.Stream.{Held, HasTaken, Splits, pending_of, fault_of};
+
+use crate::limits::OVERHEAD;
+
+/// A word and its bytes say the same: what was written is read, and what is read is written again.
+pub fn words_are_their_bytes()
+    ensures { WordsAreTheirBytes }
+{}
+
+/// A part of bytes has the bytes and the words that stand there in the whole.
+pub fn parts_keep_their_words()
+    ensures { PartsKeepTheirWords }
+{}
 
 /// Bytes have one check word, and `check_word_of` computes it.
 pub fn check_word_is_the_remainder()
     ensures found { (bytes : List ℕ) → AreBytes bytes → IsCheckWord bytes (check_word_of bytes) }
     ensures only { (bytes : List ℕ) (check : ℕ) → AreBytes bytes → IsCheckWord bytes check → check ≡ check_word_of bytes }
+{}
+
+/// A frame is what [`begin_frame`](crate::begin_frame) appends, the payload, and what
+/// [`end_frame`](crate::end_frame) appends.
+pub fn frames_are_written_in_parts()
+    ensures spelled { (f : Fields) (old begun joined whole : List ℕ) (start : ℕ) → start ≡ length old
+        → begun ≡ old ++ header_of f (length f.payload + OVERHEAD) → joined ≡ begun ++ f.payload
+        → whole ≡ joined ++ to_be_bytes w16 (check_word_of (drop start joined)) → whole ≡ old ++ spelling_of f }
+    ensures len { (f : Fields) → length (spelling_of f) ≡ length f.payload + OVERHEAD }
 {}
 
 /// Fields have one spelling, no two have the same, and none begins another: so a frame followed by any bytes is found

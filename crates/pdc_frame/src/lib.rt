@@ -6,27 +6,36 @@
 //! cut into its frames in one way, in whatever pieces it comes.
 #![tactic(auto)]
 
+mod buffer;
 mod crc;
 mod fault;
 mod frame;
 mod framer;
 mod laws;
-mod room;
+mod limits;
+mod reading;
 mod step;
 mod stream;
 mod words;
+mod writing;
 
+pub use buffer::Buffer;
 pub use crc::check_word;
 pub use fault::FrameFault;
-pub use frame::{Frame, Kind, OVERHEAD, begin_frame, end_frame, read_frame, write_frame};
+pub use frame::{Frame, Kind};
 pub use framer::Framer;
 pub use laws::{
-    check_word_is_the_remainder, frames_are_read_in_one_way, spellings_stand_apart,
-    streams_split_in_one_way,
+    check_word_is_the_remainder, frames_are_read_in_one_way, frames_are_written_in_parts,
+    parts_keep_their_words, spellings_stand_apart, streams_split_in_one_way, words_are_their_bytes,
 };
+pub use limits::{
+    CHECK_LEN, HEADER_LEN, MAX_FRAC, MAX_ID, MAX_PAYLOAD, MAX_SIZE, MAX_VERSION, OVERHEAD,
+};
+pub use reading::read_frame;
 pub use step::Step;
 pub use stream::frames_of;
 pub use words::{read_long, read_word};
+pub use writing::{begin_frame, end_frame, write_frame};
 
 #[cfg(test)]
 mod tests;

@@ -2,7 +2,7 @@ use Rattle.pdc_block.proofs.Bodies.{body_of_bytes, one_body}
 use Rattle.pdc_block.proofs.laws.bodies_are_their_words.Goals as goal
 
 pub returns-clause-found : goal.returns-clause-found
-returns-clause-found c = body_of_bytes
+returns-clause-found c = body_of_bytes c.words_are_their_bytes.ensures
 
 pub returns-clause-only : goal.returns-clause-only
-returns-clause-only c = one_body
+returns-clause-only c = one_body c.words_are_their_bytes.ensures

@@ -50,4 +50,4 @@ is_cut shapes payload n place blocks le place-is shaped parts len =
 pub returns-clause-only : goal.returns-clause-only
 returns-clause-only c = λ blocks h.
     let found = is_cut c.args.shapes.now c.args.payload.now c.loop-shape.shape-index c.loop-shape.place _ c.loop-shape-test.false c.loop-shape.invariant.place c.loop-shape.invariant.shaped c.loop-shape.invariant.parts (c.if-payload-payload_len.false ∙ c.payload_len.ensures) in
-    same_blocks c.args.shapes.now _ blocks found.shaped h.shaped (sym found.parts ∙ h.parts)
+    same_blocks c.words_are_their_bytes.ensures c.parts_keep_their_words.ensures c.args.shapes.now _ blocks found.shaped h.shaped (sym found.parts ∙ h.parts)

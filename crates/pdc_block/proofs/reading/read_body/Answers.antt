@@ -11,4 +11,4 @@ returns-then-bytes-word_count-clause-refused c = returns-then-bytes-word_count-c
 pub returns-clause-only : goal.returns-clause-only
 returns-clause-only c = λ words h.
     let found = c.body_of.ensures.found in
-    same_words _ words (found.count ∙ sym h.count) found.fits h.fits (sym found.spelled ∙ h.spelled)
+    same_words c.words_are_their_bytes.ensures _ words (found.count ∙ sym h.count) found.fits h.fits (sym found.spelled ∙ h.spelled)

@@ -1,28 +1,51 @@
-use Rattle.std.proofs.Common.{◌≡◌, ℕ, ◌+◌, List, ◌++◌, length, map, ap, ◌∙◌, refl, arith}
-use Rattle.std.proofs.lemmas.List.{length-map}
-use Rattle.pdc_cfg.specs.Section.{fields_of_view}
-use Rattle.pdc_frame.specs.Frame.{Fields, header_of}
-use Rattle.pdc_frame.proofs.Writing.{framed}
-use Rattle.pdc_cfg.specs.Config.{config_fields_of, config_frame_of}
+use Rattle.std.proofs.Common.{inr, ℕ, ◌+◌, ◌^◌, ◌<◌, ◌≤◌, List, ◌++◌, length, ap, ◌∙◌, refl, arith}
+use Rattle.std.proofs.lemmas.Bool.{false≢true}
+use Rattle.pdc_frame.specs.Frame.{Fields, IsFrame, header_of, spelling_of}
+use Rattle.pdc_frame.specs.Parts.{WordsAreTheirBytes, PartsKeepTheirWords}
+use Rattle.pdc_frame.specs.declared.frame.Kind.{Kind}
+use Rattle.pdc_cfg.specs.declared.config.ConfigView.{ConfigView}
+use Rattle.pdc_cfg.specs.Config.{config_fields_of, config_frame_of, payload_of}
+use Rattle.pdc_cfg.proofs.Parts.{payload_bytes, whole_sections}
 use Rattle.pdc_cfg.proofs.writing.write_config.Goals as goal
+
+-- what is written is a frame
+is_frame : (words : WordsAreTheirBytes) (keep : PartsKeepTheirWords) (kind : Kind) (id soc : ℕ) (config : ConfigView) → 0 < id → id ≤ 65534 → soc < 2 ^ 32
+    → length (payload_of (config_fields_of config)) ≤ 57638 → IsFrame (spelling_of (config_frame_of kind id soc (config_fields_of config))) (config_frame_of kind id soc (config_fields_of config))
+is_frame words keep kind id soc config low high soc_fits size = record {
+  fits = record {
+    version = inr refl;
+    id_low = low;
+    id_high = omega (arith, high);
+    soc = soc_fits;
+    quality = omega arith;
+    frac = omega arith;
+    size = omega (arith, size);
+    bytes = payload_bytes words keep (config_fields_of config) (whole_sections config.sections.items);
+  };
+  spelled = refl;
+}
 
 pub returns-clause-ok : goal.returns-clause-ok
 returns-clause-ok g c =
     let f : Fields = config_frame_of c.args.kind c.args.id c.args.soc (config_fields_of c.args.config.now) in
-    let header : List ℕ = header_of f (length f.payload + 16) in
-    let begun = c.in_ok-begin_frame.ensures.ok ∙ ap (λ (n : ℕ). c.args.out.now.items ++ header_of f (n + 16)) c.payload_len.ensures.value in
-    framed c.args.out.now.items header f.payload c.append_payload.new.out.items c.end_frame.new.out.items c.len-start.result (c.len-start.ensures ∙ c.args.out.now.ok.0)
-    (c.append_payload.ensures.items ∙ ap (λ (xs : List ℕ). xs ++ f.payload) begun) c.end_frame.ensures.items
+    let old : List ℕ = g.B.Buffer.content c.args.out.now in
+    let begun = c.in_ok-begin_frame.ensures.ok ∙ ap (λ (n : ℕ). old ++ header_of f (n + 16)) c.payload_len.ensures.value in
+    c.frames_are_written_in_parts.ensures.spelled f old _ _ _ _ (ap length c.content-start.ensures) begun c.append_payload.ensures.content c.end_frame.ensures.items
 
-pub returns-clause-config : goal.returns-clause-config
-returns-clause-config g c =
-    let count : length (map fields_of_view c.args.config.now.sections.items) ≡ length c.args.config.now.sections.items = length-map c.args.config.now.sections.items fields_of_view in
-    record {
-      flags = c.append_payload.ensures.flags;
-      time_base = c.requires.time_base;
-      some = omega (arith, count, c.requires.some);
-      few = omega (arith, count, c.requires.few);
-      sections = c.requires.sections;
-      rate = c.append_payload.ensures.rate;
-      spelled = refl;
-    }
+pub returns-clause-frame : goal.returns-clause-frame
+returns-clause-frame g c =
+    is_frame c.words_are_their_bytes.ensures c.parts_keep_their_words.ensures c.args.kind c.args.id c.args.soc c.args.config.now c.requires.id_low c.requires.id_high c.in_ok-begin_frame.ensures.soc (omega (arith, c.payload_len.ensures.value, c.payload_len.ensures.most))
+
+pub returns-in_err-begin_frame-clause-frame : goal.returns-in_err-begin_frame-clause-frame
+returns-in_err-begin_frame-clause-frame g c =
+    is_frame c.words_are_their_bytes.ensures c.parts_keep_their_words.ensures c.args.kind c.args.id c.args.soc c.args.config.now c.requires.id_low c.requires.id_high c.in_err-begin_frame.ensures.soc (omega (arith, c.payload_len.ensures.value, c.payload_len.ensures.most))
+
+pub returns-in_err-begin_frame-clause-room : goal.returns-in_err-begin_frame-clause-room
+returns-in_err-begin_frame-clause-room g c =
+    let f : Fields = config_frame_of c.args.kind c.args.id c.args.soc (config_fields_of c.args.config.now) in
+    λ room. absurd (false≢true (c.in_err-begin_frame.ensures.room (omega (arith, room, c.payload_len.ensures.value, c.frames_are_written_in_parts.ensures.len f))))
+
+pub returns-clause-in_place : goal.returns-clause-in_place
+returns-clause-in_place g c =
+    let f : Fields = config_frame_of c.args.kind c.args.id c.args.soc (config_fields_of c.args.config.now) in
+    λ room. c.end_frame.ensures.in_place ∙ c.append_payload.ensures.in_place ∙ c.in_ok-begin_frame.ensures.in_place (omega (arith, room, c.payload_len.ensures.value, c.frames_are_written_in_parts.ensures.len f))

@@ -1,0 +1,42 @@
+-- A frame written in parts.
+use Rattle.std.proofs.Common.{◌≡◌, ◌⊎◌, inl, inr, ℕ, ◌+◌, ◌^◌, ◌<◌, ◌≤◌, List, ◌++◌, length, drop, refl, ap, ◌∙◌, append_assoc, arith, length-append}
+use Rattle.std.proofs.Math.Seq.{drop-append_seam}
+use Rattle.std.specs.Int.{w16, to_be_bytes}
+use Rattle.pdc_frame.specs.CheckWord.{check_word_of}
+use Rattle.std.proofs.lemmas.Bool.{cases_lt}
+use Rattle.pdc_frame.specs.declared.frame.Frame.{Frame}
+use Rattle.pdc_frame.specs.Bytes.{AreBytes}
+use Rattle.pdc_frame.specs.Frame.{Fields, fields_of, before_check, spelling_of, IsFrame}
+
+-- what stands before a payload, the payload, and CHK over both
+pub framed : (old header payload middle new : List ℕ) (start : ℕ) → start ≡ length old → middle ≡ (old ++ header) ++ payload → new ≡ middle ++ to_be_bytes w16 (check_word_of (drop start middle))
+    → new ≡ old ++ ((header ++ payload) ++ to_be_bytes w16 (check_word_of (header ++ payload)))
+framed old header payload middle new start at middle-is new-is =
+    let whole : middle ≡ old ++ (header ++ payload) = middle-is ∙ append_assoc old header payload in
+    let behind : drop start middle ≡ header ++ payload = ap (λ (n : ℕ). drop n middle) at ∙ ap (drop (length old)) whole ∙ drop-append_seam old (header ++ payload) in
+    let check : List ℕ = to_be_bytes w16 (check_word_of (header ++ payload)) in
+    new-is ∙ ap (λ (xs : List ℕ). middle ++ to_be_bytes w16 (check_word_of xs)) behind ∙ ap (λ (xs : List ℕ). xs ++ check) whole ∙ append_assoc old (header ++ payload) check
+
+-- what a frame takes
+pub length-spelling_of : (f : Fields) → length (spelling_of f) ≡ length f.payload + 16
+length-spelling_of f = omega (arith, length-append (before_check f) (to_be_bytes w16 (check_word_of (before_check f))))
+
+-- a version that is read is 1 or 2
+known_version : (version : ℕ) → 0 < version → version ≤ 2 → (version ≡ 1) ⊎ (version ≡ 2)
+known_version version low high = elim (cases_lt version 2) [ inl lt ↦ inl (omega arith) | inr le ↦ inr (omega arith) ]
+
+-- the spelling of a frame is read back: its type keeps the ranges
+pub writable : (frame : Frame) → frame.soc < 2 ^ 32 → frame.quality < 2 ^ 8 → AreBytes frame.payload.now → IsFrame (spelling_of (fields_of frame)) (fields_of frame)
+writable frame soc quality bytes = record {
+  fits = record {
+    version = known_version frame.version frame.version_low frame.version_high;
+    id_low = frame.id_low;
+    id_high = omega (arith, frame.id_high);
+    soc = soc;
+    quality = quality;
+    frac = omega (arith, frame.frac_fits);
+    size = omega (arith, frame.payload_fits);
+    bytes = bytes;
+  };
+  spelled = refl;
+}

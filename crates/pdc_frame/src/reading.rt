@@ -1,0 +1,82 @@
+//! The fields of a frame, read from its bytes.
+ghost use Rattle.std.specs.Prelude.{◌≡◌, ◌+◌, ◌*◌, ◌⊎◌, IfOk, IfErr, IsOkAnd, MatchOption, IsTrue, ◌↔◌};
+ghost use Rattle.pdc_frame.specs.Frame.{Fields, fields_of, number_of, IsFrame, IsSync, IsFirstFault};
+
+use crate::crc::check_word;
+use crate::fault::FrameFault;
+use crate::frame::{Frame, Kind};
+use crate::limits::{CHECK_LEN, HEADER_LEN, MAX_FRAC, MAX_VERSION, OVERHEAD};
+use crate::words::{read_long, read_word};
+
+/// The first byte of SYNC.
+pub(crate) const SYNC_BYTE: u8 = 0xAA;
+
+/// What the two bytes of SYNC say.
+fn read_sync(first: u8, second: u8) -> Option<(Kind, u8)>
+    ensures { MatchOption result (IsSync first second → ⊥)
+        (λ x. (second ≡ 16 * number_of x.0 + x.1) × (first ≡ 170) × ((x.1 ≡ 1) ⊎ (x.1 ≡ 2))) }
+{
+    let kind = match second >> 4 {
+        0 => Kind::DataFrame,
+        1 => Kind::HeaderFrame,
+        2 => Kind::Cfg1,
+        3 => Kind::Cfg2,
+        4 => Kind::CommandFrame,
+        5 => Kind::Cfg3,
+        _ => return None,
+    };
+    let version = second & 0x0F;
+    if first != SYNC_BYTE || version == 0 || version > MAX_VERSION {
+        return None;
+    }
+    Some((kind, version))
+}
+
+/// The two bytes are SYNC.
+pub(crate) fn is_sync(first: u8, second: u8) -> bool
+    ensures { IsTrue result ↔ IsSync first second }
+{
+    read_sync(first, second).is_some()
+}
+
+/// The frame that the bytes are, all of them. It takes no memory: the payload is lent from `bytes`.
+///
+/// # Errors
+///
+/// The first fault in the order of [`FrameFault`].
+pub fn read_frame(bytes: &[u8]) -> Result<Frame<'_>, FrameFault>
+    // What is read is spelled so.
+    ensures found { IfOk result (λ frame. IsFrame bytes.now (fields_of frame)) }
+    // What is spelled so is read, with these fields.
+    ensures only { (f : Fields) → IsFrame bytes.now f → IsOkAnd result (λ frame. fields_of frame ≡ f) }
+    // Which fault it is.
+    ensures fault { IfErr result (IsFirstFault bytes.now) }
+{
+    if bytes.len() < OVERHEAD {
+        return Err(FrameFault::Short);
+    }
+    let Some((kind, version)) = read_sync(bytes[0], bytes[1]) else {
+        return Err(FrameFault::BadSync);
+    };
+    if usize::from(read_word(bytes, 2)) != bytes.len() {
+        return Err(FrameFault::SizeMismatch);
+    }
+    let check_place = bytes.len() - CHECK_LEN;
+    if read_word(bytes, check_place) != check_word(&bytes[..check_place]) {
+        return Err(FrameFault::BadCheck);
+    }
+    let id = read_word(bytes, 4);
+    if id == 0 || id == u16::MAX {
+        return Err(FrameFault::BadId);
+    }
+    let fracsec = read_long(bytes, 10);
+    Ok(Frame {
+        kind,
+        version,
+        id,
+        soc: read_long(bytes, 6),
+        quality: (fracsec >> 24) as u8,
+        frac: fracsec & MAX_FRAC,
+        payload: &bytes[HEADER_LEN..check_place],
+    })
+}
