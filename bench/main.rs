@@ -31,6 +31,11 @@ fn plain_check_word(bytes: &[u8]) -> u16 {
 }
 
 #[inline(never)]
+fn plain_check_word_by_bytes(bytes: &[u8]) -> u16 {
+    plain::check_word_by_bytes(bytes)
+}
+
+#[inline(never)]
 fn plain_read_config(bytes: &[u8]) -> u64 {
     let Ok(frame) = plain::read_frame(bytes) else { return 0 };
     let Ok(config) = plain::read_config(&frame) else { return 0 };
@@ -201,16 +206,26 @@ fn tables() {
 fn main() {
     println!("| path | shape | ours, ns a frame | plain Rust, ns | ours, million frames/s | plain, million/s | ratio ours / plain |");
     println!("|---|---|---:|---:|---:|---:|---:|");
+    for len in [24usize, 72, 552, 3452] {
+        let bytes: Vec<u8> = (0..len).map(|i| (i * 37 + 11) as u8).collect();
+        let rounds = (40_000_000 / (len as u32 + 200)).max(2_000);
+        let name = format!("frame of {} bytes", len + 2);
+        line("check word, plain: slicing by 8", &name, measure(
+            rounds,
+            &mut |n| each(n, || u64::from(unsafe { ours::dagluwis_check_word(black_box(bytes.as_ptr()), bytes.len()) })),
+            &mut |n| each(n, || u64::from(plain_check_word(black_box(&bytes)))),
+        ));
+        line("check word, plain: a byte a step", &name, measure(
+            rounds,
+            &mut |n| each(n, || u64::from(unsafe { ours::dagluwis_check_word(black_box(bytes.as_ptr()), bytes.len()) })),
+            &mut |n| each(n, || u64::from(plain_check_word_by_bytes(black_box(&bytes)))),
+        ));
+    }
     for (phasors, analogs, digitals) in [(1, 0, 0), (8, 4, 1), (32, 32, 8)] {
         let shape = plain::Shape { phasors, analogs, digitals };
         let name = format!("{phasors}/{analogs}/{digitals}");
         let (config, data) = (config_frame(shape), data_frame(shape));
         let rounds = (40_000_000 / (config.len() as u32 + 200)).max(2_000);
-        line("check word alone", &format!("{} bytes", config.len()), measure(
-            rounds,
-            &mut |n| each(n, || u64::from(unsafe { ours::dagluwis_check_word(black_box(config.as_ptr()), config.len()) })),
-            &mut |n| each(n, || u64::from(plain_check_word(black_box(&config)))),
-        ));
         line("read configuration", &name, measure(
             rounds,
             &mut |n| each(n, || unsafe { ours::dagluwis_read_config(black_box(config.as_ptr()), config.len()) }),

@@ -1,9 +1,11 @@
 //! What is kept of a configuration, to read data by it.
-ghost use Rattle.std.specs.Prelude.{◌≡◌, ◌<◌, map};
+ghost use Rattle.std.specs.Prelude.{◌≡◌, ◌≤◌, map};
+ghost use Rattle.pdc_cfg.specs.declared.config.TheConstants.{MAX_TIME_BASE};
 ghost use Rattle.pdc_show.specs.declared.held.HeldSection.{HeldSection as HeldSectionData};
 
 use arrayvec::ArrayVec;
 use pdc_cfg::{ConfigView, Shape};
+use pdc_frame::Frame;
 use pdc_tag::{MAX_RATE, instant};
 
 /// What is kept of a section.
@@ -28,14 +30,12 @@ pub struct Held {
     pub rate: i16,
     /// What data frames of this stream have, in order.
     pub sections: ArrayVec<HeldSection, 17>,
-    pub ghost time_base_fits: { time_base < 16777216 },
+    pub ghost time_base_fits: { time_base ≤ MAX_TIME_BASE },
 }
 
 impl Held {
     /// What is kept of a configuration of this stream.
-    pub fn new(id: u16, config: &ConfigView) -> Held
-        requires { config.now.time_base < 16777216 }
-    {
+    pub fn new(id: u16, config: &ConfigView) -> Held {
         let mut sections = ArrayVec::new();
         for section in config.sections.as_slice() {
             sections.push(HeldSection {
@@ -53,14 +53,12 @@ impl Held {
     }
 
     /// The instant of a data frame's tag; `None` where the tag has none, or the rate is not 1 to 240.
-    pub fn instant(&self, soc: u32, frac: u32) -> Option<u64>
-        requires { frac < 16777216 }
-    {
+    pub fn instant(&self, frame: &Frame) -> Option<u64> {
         let rate = u32::try_from(self.rate).ok()?;
         if rate == 0 || rate > MAX_RATE {
             return None;
         }
-        instant(soc, frac, self.time_base, rate)
+        instant(frame.soc, frame.frac, self.time_base, rate)
     }
 
     /// The shapes of the sections, in order.

@@ -1,7 +1,5 @@
 //! The lines of one frame.
 
-ghost use Rattle.std.specs.Prelude.{◌<◌};
-
 use crate::held::{Held, HeldSection};
 use pdc_block::Block;
 use pdc_cfg::ConfigView;
@@ -76,15 +74,13 @@ pub fn write_data<W: Write>(
     frame: &Frame,
     held: &Held,
     blocks: &[Block],
-) -> io::Result<()>
-    requires { frame.now.frac < 16777216 }
-{
+) -> io::Result<()> {
     let (id, soc, frac, quality) = (frame.id, frame.soc, frame.frac, frame.quality);
     write!(
         writer,
         "data id={id} soc={soc} frac={frac} quality={quality:02X}"
     )?;
-    match held.instant(soc, frac) {
+    match held.instant(frame) {
         Some(instant) => writeln!(writer, " instant={instant}")?,
         None => writeln!(writer, " instant=none")?,
     }

@@ -1,7 +1,5 @@
 //! The command: lines in, lines out.
 
-ghost use Rattle.std.specs.Prelude.{◌<◌};
-
 use crate::held::Held;
 use crate::line::{Digits, Line};
 use crate::lines::{write_command, write_config, write_data, write_header};
@@ -86,9 +84,7 @@ impl Show {
     }
 
     /// Prints the lines of a data frame.
-    fn show_data<W: Write>(&mut self, frame: &Frame, writer: &mut W) -> Result<(), ShowFault>
-        requires { frame.now.frac < 16777216 }
-    {
+    fn show_data<W: Write>(&mut self, frame: &Frame, writer: &mut W) -> Result<(), ShowFault> {
         let refusal = match &self.held {
             Some(held) if held.id == frame.id => match cut(
                 held.shapes().as_slice(),
