@@ -1,4 +1,6 @@
 pub mod Polynomials
+pub mod Powers
+pub mod WordSteps
 pub mod Cells
 pub mod Places
 pub mod Spellings

@@ -14,6 +14,16 @@ pub record IsRemainder (p remainder : ℕ) : Type 0 where
   pub division : p ≡ bit_xor (times_generator quotient) remainder
   pub small : remainder < 2 ^ 16
 
+-- p and q have the same remainder: they are apart by a multiple of the generator
+pub record IsCongruent (p q : ℕ) : Type 0 where
+  pub quotient : ℕ
+  pub division : p ≡ bit_xor (times_generator quotient) q
+
+-- the part at degree k and above of the product of p with x^k + x^(k - a) + x^(k - b) + 1: the generator's first, fourth
+-- and eighth power have this form, with a, b and k 4, 11 and 16, then 16, 44 and 64, then 32, 88 and 128
+abbrev pub high_of_product : ℕ → ℕ → ℕ → ℕ → ℕ
+high_of_product a b k p = bit_xor (bit_xor p (p / 2 ^ a)) (bit_xor (p / 2 ^ b) (p / 2 ^ k))
+
 -- the bytes as one polynomial, the first bit highest
 abbrev pub polynomial_of : List ℕ → ℕ
 polynomial_of [] = 0

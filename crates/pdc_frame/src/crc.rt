@@ -1,15 +1,155 @@
-//! The check word, one step for each byte.
-ghost use Rattle.std.specs.Prelude.{◌≡◌};
-ghost use Rattle.pdc_frame.specs.CheckWord.{IsCheckWord, check_after, check_word_of};
+//! The check word, sixteen bytes a step.
+//!
+//! It is the remainder of state * x^16, where the state stands for the bytes so far. Over bits a square has no mixed
+//! terms, so the generator's fourth power has four terms as the generator itself, and its eighth power too. A state of
+//! as many bits as such a power has is moved up by them, and reduced again, with a few shifts.
+ghost use Rattle.std.specs.Prelude.{◌≡◌, ◌+◌, ◌*◌, ◌^◌, ◌≤◌, ◌<◌, ℕ, fold, length, take, drop};
+ghost use Rattle.pdc_frame.specs.CheckWord.{IsCheckWord, IsCongruent, IsRemainder, check_after, check_word_of, high_of_product, polynomial_of};
 
-/// The remainder after one more byte, in closed form: the eight steps of the shift register at once.
+/// The highest exponent of the generator, x^16 + x^12 + x^5 + 1.
+const DEGREE: u32 = 16;
+
+/// The exponents of its middle terms.
+const UPPER: u32 = 12;
+
+const LOWER: u32 = 5;
+
+/// How far these stand below the highest.
+const UPPER_GAP: u32 = DEGREE - UPPER;
+
+const LOWER_GAP: u32 = DEGREE - LOWER;
+
+/// The state before the first byte: its product with x^16 has the remainder FFFF.
+const START: u128 = 0x84CF;
+
+/// The number of bytes of a wide step.
+const WIDE_STEP: usize = 16;
+
+/// The number of bytes of a step.
+const STEP: usize = 8;
+
+/// The number of bits of a state of one step.
+const STATE_BITS: usize = 8 * STEP;
+
+/// The quotient of state * x^64 by the generator's fourth power, x^64 + x^48 + x^20 + 1.
 #[inline]
-fn next_check(check: u16, byte: u8) -> u16
-    ensures { result ≡ check_after check byte }
+fn quotient(state: u64) -> u64
+    ensures { high_of_product 16 44 64 result ≡ state }
 {
-    let high = (check >> 8) ^ u16::from(byte);
-    let mixed = high ^ (high >> 4);
-    ((check << 8) ^ (mixed << 12)) ^ ((mixed << 5) ^ mixed)
+    let half = state ^ (state >> (8 * UPPER_GAP));
+    (half ^ (half >> (4 * UPPER_GAP))) ^ (half >> (4 * LOWER_GAP))
+}
+
+/// The quotient of state * x^128 by the generator's eighth power, x^128 + x^96 + x^40 + 1.
+#[inline]
+fn wide_quotient(state: u128) -> u128
+    ensures { high_of_product 32 88 128 result ≡ state }
+{
+    let half = state ^ (state >> (16 * UPPER_GAP));
+    (half ^ (half >> (8 * UPPER_GAP))) ^ (half >> (8 * LOWER_GAP))
+}
+
+/// A state that stands for state * x^64: what is left of it behind the fourth power.
+#[inline]
+fn moved_up(state: u64) -> u64
+    ensures { IsCongruent (state * 2 ^ 64) result }
+{
+    let quotient = quotient(state);
+    (quotient << (4 * UPPER)) ^ ((quotient << (4 * LOWER)) ^ quotient)
+}
+
+/// A state that stands for state * x^128: what is left of it behind the eighth power.
+#[inline]
+fn wide_moved_up(state: u128) -> u128
+    ensures { IsCongruent (state * 2 ^ 128) result }
+{
+    let quotient = wide_quotient(state);
+    (quotient << (8 * UPPER)) ^ ((quotient << (8 * LOWER)) ^ quotient)
+}
+
+/// A state that stands for the same in half the bits.
+#[inline]
+fn narrowed(state: u128) -> u64
+    ensures { IsCongruent state result }
+{
+    moved_up((state >> u64::BITS) as u64) ^ ((state % (1 << u64::BITS)) as u64)
+}
+
+/// The check word that a state stands for.
+fn check_of_state(state: u64) -> u16
+    ensures { IsRemainder (state * 2 ^ 16) result }
+{
+    let half = quotient(state);
+    let quarter = (half ^ (half >> (2 * UPPER_GAP)))
+        ^ ((half >> (2 * LOWER_GAP)) ^ (half >> (2 * DEGREE)));
+    let quotient = (quarter ^ (quarter >> UPPER_GAP))
+        ^ ((quarter >> LOWER_GAP) ^ (quarter >> DEGREE));
+    (((quotient << UPPER) ^ ((quotient << LOWER) ^ quotient)) % (1 << u16::BITS)) as u16
+}
+
+/// The eight bytes from `place` on as one number, the first highest.
+#[inline]
+fn read_step(bytes: &[u8], place: usize) -> u64
+    requires { place + STEP ≤ length bytes.now }
+    ensures { result ≡ polynomial_of (take STEP (drop place bytes.now)) }
+{
+    u64::from_be_bytes([
+        bytes[place],
+        bytes[place + 1],
+        bytes[place + 2],
+        bytes[place + 3],
+        bytes[place + 4],
+        bytes[place + 5],
+        bytes[place + 6],
+        bytes[place + 7],
+    ])
+}
+
+/// The sixteen bytes from `place` on as one number, the first highest.
+#[inline]
+fn read_wide_step(bytes: &[u8], place: usize) -> u128
+    requires { place + WIDE_STEP ≤ length bytes.now }
+    ensures { result ≡ polynomial_of (take WIDE_STEP (drop place bytes.now)) }
+{
+    (u128::from(read_step(bytes, place)) << u64::BITS) | u128::from(read_step(bytes, place + STEP))
+}
+
+/// The bytes of the last, shorter word as one number, the first highest.
+#[inline]
+fn read_last(bytes: &[u8]) -> u64
+    requires { length bytes.now < STEP }
+    ensures { result ≡ polynomial_of bytes.now }
+{
+    let mut number = 0;
+    for byte in bytes {
+        number = (number << u8::BITS) | u64::from(*byte);
+    }
+    number
+}
+
+/// The state after fewer than eight bytes more.
+#[inline]
+fn after_last(state: u64, last: &[u8]) -> u64
+    requires { length last.now < STEP }
+    ensures step { (check : ℕ) → IsRemainder (state * 2 ^ 16) check → IsRemainder (result * 2 ^ 16) (fold check_after check last.now) }
+{
+    if last.is_empty() {
+        return state;
+    }
+    let bits = 8 * last.len();
+    moved_up(state >> (STATE_BITS - bits)) ^ ((state << bits) ^ read_last(last))
+}
+
+/// The state after fewer than sixteen bytes more.
+#[inline]
+fn after_rest(state: u64, rest: &[u8]) -> u64
+    requires { length rest.now < WIDE_STEP }
+    ensures step { (check : ℕ) → IsRemainder (state * 2 ^ 16) check → IsRemainder (result * 2 ^ 16) (fold check_after check rest.now) }
+{
+    if rest.len() < STEP {
+        return after_last(state, rest);
+    }
+    after_last(moved_up(state) ^ read_step(rest, 0), &rest[STEP..])
 }
 
 /// The check word of the bytes: CRC-CCITT with generator x^16 + x^12 + x^5 + 1, start value FFFF and no final mask
@@ -20,9 +160,11 @@ pub fn check_word(bytes: &[u8]) -> u16
     // of which there is one.
     ensures value { result ≡ check_word_of bytes.now }
 {
-    let mut check = u16::MAX;
-    for byte in bytes {
-        check = next_check(check, *byte);
+    let mut state = START;
+    let mut at = 0;
+    while bytes.len() - at >= WIDE_STEP {
+        state = wide_moved_up(state) ^ read_wide_step(bytes, at);
+        at += WIDE_STEP;
     }
-    check
+    check_of_state(after_rest(narrowed(state), &bytes[at..]))
 }
