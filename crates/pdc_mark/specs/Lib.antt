@@ -4,5 +4,7 @@ pub mod DiskMark
 pub mod Faults
 pub mod Found
 pub mod ModelMark
+pub mod OldMark
 pub mod Slots
 pub mod Stored
+pub mod VersionOne

@@ -41,17 +41,21 @@ pub record FitsWidths (slot : Slot) : Type 0 where
 abbrev pub slot_bytes : ℕ → Slot → List ℕ
 slot_bytes gate slot = gate ∷ replicate (FIELDS_AT - 1) 0 ++ fields_of slot ++ replicate REST_LEN 0
 
--- what a slot's bytes of fields say
-abbrev pub slot_of : List ℕ → Slot
-slot_of fields = record {
-  id = from_be_bytes w16 (slice_range fields 0 2);
-  rate = from_be_bytes w16 (slice_range fields 2 4);
+-- what the bytes before the counts say, beside these counts
+abbrev pub slot_with : List ℕ → List ℕ → Slot
+slot_with counts numbers = record {
+  id = from_be_bytes w16 (slice_range numbers 0 2);
+  rate = from_be_bytes w16 (slice_range numbers 2 4);
   stored = record {
-    start = from_be_bytes w32 (slice_range fields 4 8);
-    floor = from_be_bytes w64 (slice_range fields 8 COUNTS_AT);
-    counts = counts_of (slice_range fields COUNTS_AT FIELDS_LEN);
+    start = from_be_bytes w32 (slice_range numbers 4 8);
+    floor = from_be_bytes w64 (slice_range numbers 8 COUNTS_AT);
+    counts = counts;
   };
 }
+
+-- what a slot's bytes of fields say
+abbrev pub slot_of : List ℕ → Slot
+slot_of fields = slot_with (counts_of (slice_range fields COUNTS_AT FIELDS_LEN)) fields
 
 -- what the fields of the slot that begins here say, whatever its gate
 abbrev pub slot_at : List ℕ → ℕ → Slot

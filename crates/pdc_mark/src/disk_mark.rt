@@ -15,7 +15,7 @@ use crate::mark::Mark;
 use crate::mark_file::{read_file, write_file};
 use crate::slot::{Place, Slot};
 use crate::store::store;
-use crate::stored::{Stored, counts_rise};
+use crate::stored::Stored;
 use pdc_disk::Disk;
 
 /// The mark on a disk of 256 bytes.
@@ -239,12 +239,8 @@ impl<D: Disk> Mark for DiskMark<D> {
         if self.slot.stored.start == u32::MAX {
             return Err(MarkFault::StartsUsedUp);
         }
-        let start = self.slot.stored.start + 1;
-        self.put(Stored {
-            start,
-            ..self.slot.stored
-        })?;
-        Ok(start)
+        self.put(self.slot.stored.with_next_start())?;
+        Ok(self.slot.stored.start)
     }
 
     fn reserve(&mut self, floor: u64) -> Result<(), MarkFault>
@@ -267,10 +263,7 @@ impl<D: Disk> Mark for DiskMark<D> {
         // A call that finds a fault standing makes no device call.
         ensures standing { is_broken_of self.old ≡ true → disk_of self.new ≡ disk_of self.old }
     {
-        self.put(Stored {
-            floor,
-            ..self.slot.stored
-        })
+        self.put(self.slot.stored.with_floor(floor))
     }
 
     fn raise(&mut self, counts: &[u16; COUNTS]) -> Result<(), MarkFault>
@@ -293,11 +286,7 @@ impl<D: Disk> Mark for DiskMark<D> {
         // A call that finds a fault standing makes no device call.
         ensures standing { is_broken_of self.old ≡ true → disk_of self.new ≡ disk_of self.old }
     {
-        counts_rise(&self.slot.stored.counts, counts);
-        self.put(Stored {
-            counts: *counts,
-            ..self.slot.stored
-        })
+        self.put(self.slot.stored.with_counts(*counts))
     }
 
     fn failures(&self) -> u64 {

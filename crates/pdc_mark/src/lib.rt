@@ -13,6 +13,7 @@
 //! [`ModelMark`] is the same mark in memory, and [`Mark`] is what both are.
 #![tactic(auto)]
 
+mod convert;
 mod disk_mark;
 mod fault;
 mod find;
@@ -31,3 +32,4 @@ pub use layout::{COUNTS, MARK_LEN};
 pub use mark::Mark;
 pub use model_mark::ModelMark;
 pub use stored::Stored;
+pub use version_1::{OLD_LEN, OldMark};

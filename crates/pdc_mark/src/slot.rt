@@ -67,7 +67,7 @@ fn count_bytes(counts: &[u16; COUNTS]) -> [u8; COUNTS_LEN]
 }
 
 impl Slot {
-    ghost use Rattle.pdc_mark.specs.Slots.{fields_of, numbers_of, slot_at, slot_bytes, FitsWidths};
+    ghost use Rattle.pdc_mark.specs.Slots.{fields_of, numbers_of, slot_at, slot_bytes, slot_with, FitsWidths};
 
     /// The bytes of the fields before the counts.
     fn numbers(self) -> [u8; COUNTS_AT]
@@ -106,23 +106,37 @@ impl Slot {
         bytes
     }
 
+    /// What the numbers of a slot say, beside these counts.
+    pub fn of_numbers(numbers: &[u8], counts: [u16; COUNTS]) -> Slot
+        requires { COUNTS_AT ≤ length numbers.now }
+        ensures { result ≡ slot_with counts numbers.now }
+    {
+        Slot {
+            id: u16::from_be_bytes([numbers[0], numbers[1]]),
+            rate: u16::from_be_bytes([numbers[2], numbers[3]]),
+            stored: Stored {
+                start: u32::from_be_bytes([numbers[4], numbers[5], numbers[6], numbers[7]]),
+                floor: u64::from_be_bytes([
+                    numbers[8],
+                    numbers[9],
+                    numbers[10],
+                    numbers[11],
+                    numbers[12],
+                    numbers[13],
+                    numbers[14],
+                    numbers[15],
+                ]),
+                counts,
+            },
+        }
+    }
+
     /// What the fields of a slot say, whatever its gate.
     pub fn read(bytes: &[u8], at: usize) -> Slot
         requires { at + SLOT_LEN ≤ length bytes.now }
         ensures { result ≡ slot_at bytes.now at }
     {
         let fields = &bytes[at + FIELDS_AT..at + FIELDS_END];
-        Slot {
-            id: u16::from_be_bytes([fields[0], fields[1]]),
-            rate: u16::from_be_bytes([fields[2], fields[3]]),
-            stored: Stored {
-                start: u32::from_be_bytes([fields[4], fields[5], fields[6], fields[7]]),
-                floor: u64::from_be_bytes([
-                    fields[8], fields[9], fields[10], fields[11], fields[12], fields[13],
-                    fields[14], fields[15],
-                ]),
-                counts: read_counts(&fields[COUNTS_AT..]),
-            },
-        }
+        Slot::of_numbers(fields, read_counts(&fields[COUNTS_AT..]))
     }
 }

@@ -1,5 +1,5 @@
 //! What a mark stores, and the order of marks.
-ghost use Rattle.std.specs.Prelude.{◌≡◌, true};
+ghost use Rattle.std.specs.Prelude.{◌≡◌, ◌<◌, true};
 ghost use Rattle.pdc_mark.specs.Counts.{are_below, IsRaise};
 
 use crate::layout::COUNTS;
@@ -16,7 +16,7 @@ pub struct Stored {
 }
 
 impl Stored {
-    ghost use Rattle.pdc_mark.specs.Stored.{first_stored, is_below};
+    ghost use Rattle.pdc_mark.specs.Stored.{first_stored, is_below, with_counts, with_floor, with_next_start};
 
     /// What a mark stores before the first life: nothing but zeros.
     pub(crate) fn first() -> Stored
@@ -27,6 +27,37 @@ impl Stored {
             floor: 0,
             counts: [0; COUNTS],
         }
+    }
+
+    /// Of the next life.
+    pub(crate) fn with_next_start(self) -> Stored
+        requires { self.start < u32.MAX }
+        ensures value { result ≡ with_next_start self }
+        ensures above { is_below self result ≡ true }
+    {
+        Stored {
+            start: self.start + 1,
+            ..self
+        }
+    }
+
+    /// With a greater floor.
+    pub(crate) fn with_floor(self, floor: u64) -> Stored
+        requires { self.floor < floor }
+        ensures value { result ≡ with_floor self floor }
+        ensures above { is_below self result ≡ true }
+    {
+        Stored { floor, ..self }
+    }
+
+    /// With counts that were raised.
+    pub(crate) fn with_counts(self, counts: [u16; COUNTS]) -> Stored
+        requires { IsRaise self.counts counts }
+        ensures value { result ≡ with_counts self counts }
+        ensures above { is_below self result ≡ true }
+    {
+        counts_rise(&self.counts, &counts);
+        Stored { counts, ..self }
     }
 
     /// Whether this is lower: by the start, then by the floor, then by the counts, from the first on.
@@ -51,7 +82,7 @@ fn are_counts_below(counts: &[u16; COUNTS], others: &[u16; COUNTS]) -> bool
 }
 
 /// Counts that may be raised to others are below them.
-pub(crate) fn counts_rise(counts: &[u16; COUNTS], others: &[u16; COUNTS])
+fn counts_rise(counts: &[u16; COUNTS], others: &[u16; COUNTS])
     requires { IsRaise counts.now others.now }
     ensures { are_below counts.now others.now ≡ true }
 {}
