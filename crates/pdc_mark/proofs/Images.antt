@@ -1,6 +1,6 @@
 -- What a stop may leave of a disk on which one range was written.
 use Rattle.std.proofs.Common.{◌≡◌, ◌⊎◌, inl, inr, ℕ, zero, suc, ◌+◌, ◌-◌, ◌<◌, ◌≤◌, Bool, List, length, slice_index, slice_range, get_or, [], ◌∷◌, ◌++◌, take, drop, refl, sym, ◌∙◌, arith, rules}
-use Rattle.std.proofs.lemmas.List.{append_assoc, drop_at, ext_get_or, length-take-le, places, take_at, get_or_past, get_or-take, get_or-drop, length-take, length-drop}
+use Rattle.std.proofs.lemmas.List.{append-nil, append_assoc, drop_all, drop_at, ext_get_or, length-take-le, places, take_at, get_or_past, get_or-take, get_or-drop, length-append, length-take, length-drop}
 use Rattle.std.proofs.lemmas.Bool.Decides.{leb_tells}
 use Rattle.pdc_disk.specs.Disk.{written, AllSettled, IsImage, IsTorn, Leaves, StaySettledBut}
 
@@ -48,6 +48,15 @@ slice_range-written old at bytes low =
 
 pub slice_index-written : (old : List ℕ) (at byte : ℕ) → at ≤ length old → slice_index (written old at (byte ∷ [])) at ≡ byte
 slice_index-written old at byte low = search (rules, places)
+
+-- two parts, one behind the other, over all that there was
+pub written_twice : (old first second : List ℕ) (at : ℕ) → length first ≡ at → length old ≤ at + length second → written (written old 0 first) at second ≡ first ++ second
+written_twice old first second at size fits =
+    let front : take at (first ++ drop (length first) old) ≡ first = take_at first (drop (length first) old) at size in
+    let none : drop (at + length second) (first ++ drop (length first) old) ≡ [] =
+    drop_all (at + length second) (first ++ drop (length first) old) (simp (length-append, length-drop) (omega (arith, size, fits))) in
+    let zero_and : 0 + length first ≡ length first = omega arith in
+    rw (zero_and, front, none, append-nil (first ++ second))
 
 -- where all is settled, a stop leaves what is seen
 pub settled_image : (seen image : List ℕ) (is_settled : ℕ → Bool) → AllSettled is_settled → IsImage seen is_settled image → image ≡ seen

@@ -1,4 +1,6 @@
+mod Counts
 mod Fields
+mod Fresh
 mod Images
 mod Marks
 mod Runs

@@ -1,18 +1,21 @@
 -- What a mark on a disk shows of itself.
-use Rattle.std.specs.Prelude.{ℕ, ◌+◌, Bool, List, ◌++◌, Result}
+use Rattle.std.specs.Prelude.{ℕ, Bool, List, ◌++◌, Result}
 use Rattle.pdc_disk.specs.Disk.{Leaves}
 use Rattle.pdc_disk.specs.declared.disk.Disk.{Ghosts}
 use Rattle.pdc_mark.specs.declared.slot.Slot.{Slot}
 use Rattle.pdc_mark.specs.declared.disk_mark.DiskMark.{DiskMark}
-use Rattle.pdc_mark.specs.declared.mark.MarkFault.{MarkFault}
+use Rattle.pdc_mark.specs.declared.fault.MarkFault.{MarkFault}
+use Rattle.pdc_mark.specs.declared.layout.TheConstants.{OPEN, CLOSED}
+use Rattle.pdc_mark.specs.declared.stored.Stored.{Stored}
 use Rattle.pdc_mark.specs.Faults.{HasDeviceCause}
 use Rattle.pdc_mark.specs.Slots.{slot_bytes}
+use Rattle.pdc_mark.specs.Stored.{first_stored}
 
 -- the disk that the mark stands on
 abbrev pub disk_of : {D : Type 0} {disks : Ghosts D} → DiskMark D disks → D
 disk_of mark = mark.disk
 
--- id, rate, start and floor, as the last store that was done left them
+-- whose mark it is and what it stores, as the last store that was done left them
 abbrev pub mark_on : {D : Type 0} {disks : Ghosts D} → DiskMark D disks → Slot
 mark_on mark = mark.slot
 
@@ -20,24 +23,21 @@ mark_on mark = mark.slot
 abbrev pub is_broken_of : {D : Type 0} {disks : Ghosts D} → DiskMark D disks → Bool
 is_broken_of mark = mark.is_broken
 
-abbrev pub stored_of : {D : Type 0} {disks : Ghosts D} → DiskMark D disks → ℕ × ℕ
-stored_of mark = (mark.slot.start, mark.slot.floor)
+-- what the mark stores
+abbrev pub stored_of : {D : Type 0} {disks : Ghosts D} → DiskMark D disks → Stored
+stored_of mark = mark.slot.stored
 
--- the mark of the next life
-abbrev pub with_next_start : Slot → Slot
-with_next_start slot = record slot { start = slot.start + 1 }
-
--- the mark after a reservation
-abbrev pub with_floor : Slot → ℕ → Slot
-with_floor slot floor = record slot { floor = floor }
+-- a mark of the same owner that stores this
+abbrev pub with_stored : Slot → Stored → Slot
+with_stored slot stored = record slot { stored = stored }
 
 -- the mark of an owner that never began a life
 abbrev pub first_mark : ℕ → ℕ → Slot
-first_mark id rate = record { id = id; rate = rate; start = 0; floor = 0 }
+first_mark id rate = record { id = id; rate = rate; stored = first_stored }
 
 -- the whole file of such a mark: in the first slot, and the second is closed
 abbrev pub first_file : ℕ → ℕ → List ℕ
-first_file id rate = slot_bytes 90 (first_mark id rate) ++ slot_bytes 0 (first_mark id rate)
+first_file id rate = slot_bytes OPEN (first_mark id rate) ++ slot_bytes CLOSED (first_mark id rate)
 
 -- a device fault has its cause on the disk
 abbrev pub HasCauseOnDisk : {D T : Type 0} {disks : Ghosts D} → DiskMark D disks → DiskMark D disks → Result T MarkFault → Type 0

@@ -1,7 +1,7 @@
 -- What a mark in memory shows of itself.
-use Rattle.std.specs.Prelude.{ℕ}
 use Rattle.pdc_mark.specs.declared.model_mark.ModelMark.{ModelMark}
+use Rattle.pdc_mark.specs.declared.stored.Stored.{Stored}
 
--- the start number and the floor
-abbrev pub stored_in : ModelMark → ℕ × ℕ
-stored_in mark = (mark.start, mark.floor)
+-- what it stores
+abbrev pub stored_in : ModelMark → Stored
+stored_in mark = mark.stored

@@ -1,19 +1,24 @@
-// A mark on a disk, in two slots.
+//! A mark on a disk, in two slots.
 ghost use Rattle.std.specs.Prelude.{◌≡◌, ◌⊎◌, ◌+◌, ◌<◌, ◌≤◌, ◌↔◌, true, false, length, IsErr, IfErr, IfOk, OnOk, OnErr, IsErrOf};
 ghost use Rattle.pdc_disk.specs.Disk.{AllSettled, HasFailed, StaySettled};
-ghost use Rattle.pdc_mark.specs.declared.slot.TheConstants.{MARK_LEN};
+ghost use Rattle.pdc_mark.specs.declared.layout.TheConstants.{MARK_LEN};
 ghost use Rattle.pdc_mark.specs.Faults.{IsRefusal};
 ghost use Rattle.pdc_mark.specs.Found.{IsFound};
-ghost use Rattle.pdc_mark.specs.Slots.{is_below, slot_in, HasEither, HasJust, IsHeld};
+ghost use Rattle.pdc_mark.specs.Slots.{slot_in, HasEither, HasJust, IsHeld};
+ghost use Rattle.pdc_mark.specs.Counts.{IsRaise};
+ghost use Rattle.pdc_mark.specs.Stored.{is_below, with_counts, with_floor, with_next_start};
 
+use crate::fault::MarkFault;
 use crate::find::Found;
-use crate::mark::{Mark, MarkFault};
+use crate::layout::{CLOSED, COUNTS, OPEN};
+use crate::mark::Mark;
 use crate::mark_file::{read_file, write_file};
 use crate::slot::{Place, Slot};
 use crate::store::store;
+use crate::stored::Stored;
 use pdc_disk::Disk;
 
-/// The mark on a disk of 128 bytes.
+/// The mark on a disk of 256 bytes.
 ///
 /// A stop at any moment leaves the mark that was stored last, or the one that was being stored.
 #[derive(Drop)]
@@ -38,9 +43,11 @@ pub struct Refused<D> {
 impl<D: Disk> DiskMark<D> {
     ghost use Rattle.pdc_mark.specs.DiskMark.{disk_of, first_file, first_mark, is_broken_of, mark_on, StopLeaves};
 
-    /// Makes the mark file of this id and rate, with start 0 and floor 0, over whatever the disk holds.
+    /// Makes the mark file of this id and rate, with start 0, floor 0 and counts 0, over whatever the disk holds.
     ///
-    /// A refusal is `Device`.
+    /// # Errors
+    ///
+    /// `Device`, with the disk.
     pub fn init(mut disk: D, id: u16, rate: u16) -> Result<DiskMark<D>, Refused<D>>
         requires { length (D.seen disk) ≤ MARK_LEN }
         ensures file { IfOk result (λ mark. D.seen (disk_of mark) ≡ first_file id rate) }
@@ -55,10 +62,9 @@ impl<D: Disk> DiskMark<D> {
         let slot = Slot {
             id,
             rate,
-            start: 0,
-            floor: 0,
+            stored: Stored::first(),
         };
-        match write_file(&mut disk, slot) {
+        match write_file(&mut disk, &slot.bytes(OPEN), &slot.bytes(CLOSED)) {
             Ok(()) => Ok(DiskMark {
                 disk,
                 slot,
@@ -75,8 +81,12 @@ impl<D: Disk> DiskMark<D> {
 
     /// Opens the mark of this id and rate.
     ///
-    /// A sync comes first, so that a stop leaves what was read. Refusals, the first whose cause holds:
-    /// `Device`, `NoMark` where the disk hasn't 128 bytes, `Damaged` where no slot is open, `OtherOwner`.
+    /// A sync comes first, so that a stop leaves what was read.
+    ///
+    /// # Errors
+    ///
+    /// With the disk, the first whose cause holds: `Device`, `OldMark` where the disk has 128 bytes, `NoMark` where it
+    /// hasn't 256, `Damaged` where no slot is open, `OtherOwner`.
     pub fn open(mut disk: D, id: u16, rate: u16) -> Result<DiskMark<D>, Refused<D>>
         ensures mark { IfOk result (λ mark. HasJust (mark_on mark) (D.seen disk)) }
         ensures owner { IfOk result (λ mark. ((mark_on mark).id ≡ id) × ((mark_on mark).rate ≡ rate)) }
@@ -105,8 +115,16 @@ impl<D: Disk> DiskMark<D> {
 
     /// Opens the mark again: after a fault the old mark or the one that was being stored, and else the one
     /// that the last store left.
+    ///
+    /// # Errors
+    ///
+    /// As `open`; where no fault stands, `Device` alone.
     pub fn reopen(self) -> Result<DiskMark<D>, Refused<D>>
         ensures mark { IfOk result (λ mark. HasJust (mark_on mark) (D.seen (disk_of self))) }
+        ensures owner { IfOk result (λ mark. ((mark_on mark).id ≡ (mark_on self).id)
+            × ((mark_on mark).rate ≡ (mark_on self).rate)) }
+        ensures seen { IfOk result (λ mark. D.seen (disk_of mark) ≡ D.seen (disk_of self)) }
+        ensures failures { IfOk result (λ mark. D.failures (disk_of mark) ≡ D.failures (disk_of self)) }
         ensures same { is_broken_of self ≡ false → IfOk result (λ mark. mark_on mark ≡ mark_on self) }
         ensures only_device { is_broken_of self ≡ false
             → IfErr result (λ refused. refused.fault ≡ MarkFault.Device) }
@@ -116,6 +134,9 @@ impl<D: Disk> DiskMark<D> {
             (D.seen (disk_of self)) (mark_on self).id (mark_on self).rate
             (D.failures (disk_of self)) (D.failures refused.disk) refused.fault) }
         ensures refused { IfErr result (λ refused. D.seen refused.disk ≡ D.seen (disk_of self)) }
+        ensures settled { IfErr result (λ refused. StaySettled
+            (D.is_settled (disk_of self)) (D.is_settled refused.disk)) }
+        ensures safe { MARK_LEN ≤ D.safe → IfErr result (λ refused. refused.fault ≡ MarkFault.Device → ⊥) }
     {
         DiskMark::open(self.disk, self.slot.id, self.slot.rate)
     }
@@ -130,29 +151,33 @@ impl<D: Disk> DiskMark<D> {
 }
 
 impl<D: Disk> DiskMark<D> {
-    ghost use Rattle.pdc_mark.specs.DiskMark.{disk_of, is_broken_of, mark_on, HasCauseOnDisk, StopLeaves};
+    ghost use Rattle.pdc_mark.specs.DiskMark.{disk_of, is_broken_of, mark_on, stored_of, with_stored, HasCauseOnDisk, StopLeaves};
 
-    // Stores a greater mark of the same owner. After a fault the mark is broken.
-    fn put(&mut self, next: Slot) -> Result<(), MarkFault>
-        requires { is_below (mark_on self.old) next ≡ true }
-        ensures ok { OnOk result (mark_on self.new ≡ next) }
+    /// Stores a greater mark of the same owner. After a fault the mark is broken.
+    fn put(&mut self, next: Stored) -> Result<(), MarkFault>
+        requires { is_below (stored_of self.old) next ≡ true }
+        ensures ok { OnOk result (mark_on self.new ≡ with_stored (mark_on self.old) next) }
         ensures err { OnErr result (mark_on self.new ≡ mark_on self.old) }
         ensures faults { OnErr result (IsErrOf result MarkFault.Device) }
         ensures cause { HasCauseOnDisk self.old self.new result }
         ensures safe { MARK_LEN ≤ D.safe → IsErrOf result MarkFault.Device → ⊥ }
         ensures standing { is_broken_of self.old ≡ true → disk_of self.new ≡ disk_of self.old }
-        ensures images { is_broken_of self.old ≡ false
-            → StopLeaves self.new (HasEither (mark_on self.old) next) }
+        ensures images { is_broken_of self.old ≡ false → StopLeaves self.new
+            (HasEither (mark_on self.old) (with_stored (mark_on self.old) next)) }
         ensures after { OnOk result (StopLeaves self.new (HasJust (mark_on self.new))) }
     {
         if self.is_broken {
             return Err(MarkFault::Device);
         }
-        let Ok(()) = store(&mut self.disk, self.held, self.is_other_closed, next) else {
+        let slot = Slot {
+            stored: next,
+            ..self.slot
+        };
+        let Ok(()) = store(&mut self.disk, self.held, self.is_other_closed, slot) else {
             self.is_broken = true;
             return Err(MarkFault::Device);
         };
-        self.slot = next;
+        self.slot = slot;
         self.held = self.held.other();
         self.is_other_closed = false;
         Ok(())
@@ -160,7 +185,7 @@ impl<D: Disk> DiskMark<D> {
 }
 
 impl<D: Disk> Mark for DiskMark<D> {
-    ghost use Rattle.pdc_mark.specs.DiskMark.{disk_of, is_broken_of, mark_on, stored_of, with_floor, with_next_start, HasCauseOnDisk, StopLeaves};
+    ghost use Rattle.pdc_mark.specs.DiskMark.{disk_of, is_broken_of, mark_on, stored_of, with_stored, HasCauseOnDisk, StopLeaves};
 
     ghost stored = { stored_of };
 
@@ -172,31 +197,35 @@ impl<D: Disk> Mark for DiskMark<D> {
 
     /// The start number and the floor. Where no fault stands, whatever a stop leaves has them.
     fn stored(&self) -> (u32, u64)
-        ensures stored { result ≡ stored_of self.now }
+        ensures stored { result ≡ ((stored_of self.now).start, (stored_of self.now).floor) }
         ensures kept { is_broken_of self.now ≡ false
             → StopLeaves self.now (HasJust (mark_on self.now)) }
     {
-        (self.slot.start, self.slot.floor)
+        (self.slot.stored.start, self.slot.stored.floor)
+    }
+
+    fn counts(&self) -> [u16; COUNTS] {
+        self.slot.stored.counts
     }
 
     fn begin(&mut self) -> Result<u32, MarkFault>
-        ensures ok { IfOk result (λ start. (start ≡ (stored_of self.old).0 + 1)
-            × (stored_of self.new ≡ (start, (stored_of self.old).1))) }
+        ensures ok { IfOk result (λ start. (start ≡ (stored_of self.old).start + 1)
+            × (stored_of self.new ≡ with_next_start (stored_of self.old))) }
         ensures err { OnErr result (stored_of self.new ≡ stored_of self.old) }
         ensures used_up { IsErrOf result MarkFault.StartsUsedUp
-            ↔ ((is_broken_of self.old ≡ false) × ((stored_of self.old).0 ≡ u32.MAX)) }
+            ↔ ((is_broken_of self.old ≡ false) × ((stored_of self.old).start ≡ u32.MAX)) }
         ensures faults { OnErr result
             (IsErrOf result MarkFault.Device ⊎ IsErrOf result MarkFault.StartsUsedUp) }
         ensures cause { HasCauseOnDisk self.old self.new result }
         ensures safe { MARK_LEN ≤ D.safe → IsErrOf result MarkFault.Device → ⊥ }
 
         // The mark has the same owner.
-        ensures mark { OnOk result (mark_on self.new ≡ with_next_start (mark_on self.old)) }
+        ensures mark { OnOk result (mark_on self.new ≡ with_stored (mark_on self.old) (with_next_start (stored_of self.old))) }
         ensures mark_err { OnErr result (mark_on self.new ≡ mark_on self.old) }
 
         // What a stop leaves has the old mark or the new one, and after `Ok` the new one.
         ensures images { is_broken_of self.old ≡ false → StopLeaves self.new
-            (HasEither (mark_on self.old) (with_next_start (mark_on self.old))) }
+            (HasEither (mark_on self.old) (with_stored (mark_on self.old) (with_next_start (stored_of self.old)))) }
         ensures after { OnOk result (StopLeaves self.new (HasJust (mark_on self.new))) }
 
         // A call that finds a fault standing, or no start number left, makes no device call.
@@ -207,35 +236,57 @@ impl<D: Disk> Mark for DiskMark<D> {
         if self.is_broken {
             return Err(MarkFault::Device);
         }
-        if self.slot.start == u32::MAX {
+        if self.slot.stored.start == u32::MAX {
             return Err(MarkFault::StartsUsedUp);
         }
-        let start = self.slot.start + 1;
-        self.put(Slot { start, ..self.slot })?;
-        Ok(start)
+        self.put(self.slot.stored.with_next_start())?;
+        Ok(self.slot.stored.start)
     }
 
     fn reserve(&mut self, floor: u64) -> Result<(), MarkFault>
-        requires { (stored_of self.old).1 < floor }
-        ensures ok { OnOk result (stored_of self.new ≡ ((stored_of self.old).0, floor)) }
+        requires { (stored_of self.old).floor < floor }
+        ensures ok { OnOk result (stored_of self.new ≡ with_floor (stored_of self.old) floor) }
         ensures err { OnErr result (stored_of self.new ≡ stored_of self.old) }
         ensures faults { OnErr result (IsErrOf result MarkFault.Device) }
         ensures cause { HasCauseOnDisk self.old self.new result }
         ensures safe { MARK_LEN ≤ D.safe → IsErrOf result MarkFault.Device → ⊥ }
 
         // The mark has the same owner.
-        ensures mark { OnOk result (mark_on self.new ≡ with_floor (mark_on self.old) floor) }
+        ensures mark { OnOk result (mark_on self.new ≡ with_stored (mark_on self.old) (with_floor (stored_of self.old) floor)) }
         ensures mark_err { OnErr result (mark_on self.new ≡ mark_on self.old) }
 
         // What a stop leaves has the old mark or the new one, and after `Ok` the new one.
         ensures images { is_broken_of self.old ≡ false → StopLeaves self.new
-            (HasEither (mark_on self.old) (with_floor (mark_on self.old) floor)) }
+            (HasEither (mark_on self.old) (with_stored (mark_on self.old) (with_floor (stored_of self.old) floor))) }
         ensures after { OnOk result (StopLeaves self.new (HasJust (mark_on self.new))) }
 
         // A call that finds a fault standing makes no device call.
         ensures standing { is_broken_of self.old ≡ true → disk_of self.new ≡ disk_of self.old }
     {
-        self.put(Slot { floor, ..self.slot })
+        self.put(self.slot.stored.with_floor(floor))
+    }
+
+    fn raise(&mut self, counts: &[u16; COUNTS]) -> Result<(), MarkFault>
+        requires { IsRaise (stored_of self.old).counts counts.now }
+        ensures ok { OnOk result (stored_of self.new ≡ with_counts (stored_of self.old) counts.now) }
+        ensures err { OnErr result (stored_of self.new ≡ stored_of self.old) }
+        ensures faults { OnErr result (IsErrOf result MarkFault.Device) }
+        ensures cause { HasCauseOnDisk self.old self.new result }
+        ensures safe { MARK_LEN ≤ D.safe → IsErrOf result MarkFault.Device → ⊥ }
+
+        // The mark has the same owner.
+        ensures mark { OnOk result (mark_on self.new ≡ with_stored (mark_on self.old) (with_counts (stored_of self.old) counts.now)) }
+        ensures mark_err { OnErr result (mark_on self.new ≡ mark_on self.old) }
+
+        // What a stop leaves has the old mark or the new one, and after `Ok` the new one.
+        ensures images { is_broken_of self.old ≡ false → StopLeaves self.new
+            (HasEither (mark_on self.old) (with_stored (mark_on self.old) (with_counts (stored_of self.old) counts.now))) }
+        ensures after { OnOk result (StopLeaves self.new (HasJust (mark_on self.new))) }
+
+        // A call that finds a fault standing makes no device call.
+        ensures standing { is_broken_of self.old ≡ true → disk_of self.new ≡ disk_of self.old }
+    {
+        self.put(self.slot.stored.with_counts(*counts))
     }
 
     fn failures(&self) -> u64 {
@@ -243,11 +294,11 @@ impl<D: Disk> Mark for DiskMark<D> {
     }
 }
 
-// The mark of this id and rate, and where it stands.
+/// The mark of this id and rate, and where it stands.
 fn find_owned<D: Disk>(disk: &mut D, id: u16, rate: u16) -> Result<Found, MarkFault>
     ensures found { IfOk result (IsFound (D.seen disk.old)) }
     ensures owner { IfOk result (λ found. (found.slot.id ≡ id) × (found.slot.rate ≡ rate)) }
-    ensures size { OnOk result (length (D.seen disk.old) ≡ 128) }
+    ensures size { OnOk result (length (D.seen disk.old) ≡ MARK_LEN) }
     ensures durable { OnOk result (AllSettled (D.is_settled disk.new)) }
     ensures failures { OnOk result (D.failures disk.new ≡ D.failures disk.old) }
     ensures refusal { IfErr result

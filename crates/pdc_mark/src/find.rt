@@ -1,8 +1,10 @@
-// Which mark a mark file has.
+//! Which mark a mark file has.
 ghost use Rattle.std.specs.Prelude.{◌≡◌, length, IfNone, IfSome};
+ghost use Rattle.pdc_mark.specs.declared.layout.TheConstants.{MARK_LEN};
 ghost use Rattle.pdc_mark.specs.Slots.{offset_of, open_slot};
 
-use crate::slot::{OPEN, Place, Slot};
+use crate::layout::OPEN;
+use crate::slot::{Place, Slot};
 
 /// The mark, where it stands, and whether the gate of the other slot is closed.
 #[derive(Clone, Copy)]
@@ -18,7 +20,7 @@ impl Found {
 
     /// The greatest open slot, and the first of equal ones.
     pub fn find(bytes: &[u8]) -> Option<Found>
-        requires { length bytes.now ≡ 128 }
+        requires { length bytes.now ≡ MARK_LEN }
         ensures none { IfNone result (mark_of bytes.now ≡ None) }
         ensures some { IfSome result (IsFound bytes.now) }
     {
@@ -34,7 +36,7 @@ impl Found {
             (None, None) => None,
             (Some(first), None) => found(first, Place::First, true),
             (None, Some(second)) => found(second, Place::Second, true),
-            (Some(first), Some(second)) if first.is_below(second) => found(
+            (Some(first), Some(second)) if first.stored.is_below(&second.stored) => found(
                 second,
                 Place::Second,
                 false,
@@ -44,9 +46,9 @@ impl Found {
     }
 }
 
-// Behind the gate of this slot, where it is open.
+/// Behind the gate of this slot, where it is open.
 fn open_slot(bytes: &[u8], place: Place) -> Option<Slot>
-    requires { length bytes.now ≡ 128 }
+    requires { length bytes.now ≡ MARK_LEN }
     ensures { result ≡ open_slot bytes.now (offset_of place) }
 {
     let at = place.offset();

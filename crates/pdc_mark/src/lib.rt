@@ -13,18 +13,23 @@
 //! [`ModelMark`] is the same mark in memory, and [`Mark`] is what both are.
 #![tactic(auto)]
 
+mod convert;
 mod disk_mark;
+mod fault;
 mod find;
+mod layout;
 mod mark;
 mod mark_file;
 mod model_mark;
 mod slot;
 mod store;
+mod stored;
+mod version_1;
 
 pub use disk_mark::{DiskMark, Refused};
-pub use mark::{Mark, MarkFault};
+pub use fault::MarkFault;
+pub use layout::{COUNTS, MARK_LEN};
+pub use mark::Mark;
 pub use model_mark::ModelMark;
-pub use slot::MARK_LEN;
-
-#[cfg(test)]
-mod tests;
+pub use stored::Stored;
+pub use version_1::{OLD_LEN, OldMark};

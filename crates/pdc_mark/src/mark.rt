@@ -1,62 +1,21 @@
-// What a stored mark is to whoever opens a life with it.
-ghost use Rattle.std.specs.Prelude.{◌≡◌, ◌⊎◌, ◌+◌, ◌<◌, ◌↔◌, ℕ, Bool, false, IfOk, OnOk, OnErr, IsErrOf};
-ghost use Rattle.pdc_mark.specs.Faults.{code_of, HasDeviceCause};
+//! What a stored mark is to whoever opens a life with it.
+ghost use Rattle.std.specs.Prelude.{◌≡◌, ◌⊎◌, ◌+◌, ◌<◌, ◌↔◌, ℕ, Bool, false, length, IfOk, OnOk, OnErr, IsErrOf, if◌then◌else◌};
+ghost use Rattle.pdc_mark.specs.declared.layout.TheConstants.{COUNTS};
+ghost use Rattle.pdc_mark.specs.declared.stored.Stored.{Stored};
+ghost use Rattle.pdc_mark.specs.Counts.{IsRaise};
+ghost use Rattle.pdc_mark.specs.Faults.{HasDeviceCause};
+ghost use Rattle.pdc_mark.specs.Stored.{with_counts, with_floor, with_next_start};
 
-use pdc_disk::DiskFault;
-use thiserror::Error;
+use crate::fault::MarkFault;
+use crate::layout::COUNTS;
 
-/// Why a mark is refused.
-#[derive(Clone, Copy, Debug, PartialEq, Eq, Error)]
-pub enum MarkFault {
-    /// The disk is not as long as a mark file.
-    #[error("NoMark")]
-    NoMark,
-    /// No slot is open.
-    #[error("Damaged")]
-    Damaged,
-    /// The mark is of another id or rate.
-    #[error("OtherOwner")]
-    OtherOwner,
-    /// The disk failed.
-    #[error("Device")]
-    Device,
-    /// No greater start number is left.
-    #[error("StartsUsedUp")]
-    StartsUsedUp,
-}
-
-impl MarkFault {
-    /// The code that is printed before the name: `M1` to `M5`.
-    pub fn code(self) -> &'static str
-        ensures { result.now ≡ code_of self }
-    {
-        match self {
-            MarkFault::NoMark => "M1",
-            MarkFault::Damaged => "M2",
-            MarkFault::OtherOwner => "M3",
-            MarkFault::Device => "M4",
-            MarkFault::StartsUsedUp => "M5",
-        }
-    }
-}
-
-impl From<DiskFault> for MarkFault {
-    ghost use Rattle.pdc_mark.specs.declared.mark.MarkFault.TheVariants.{Device};
-
-    ghost from_gives = { λ _ fault. fault ≡ Device };
-
-    fn from(_: DiskFault) -> Self {
-        MarkFault::Device
-    }
-}
-
-/// A stored start number and floor. The start number counts the lives of one concentrator, and everything
-/// that it published lies at or below the floor.
+/// A stored start number, floor and counts. The start number counts the lives of one concentrator, everything that it
+/// published lies at or below the floor, and no count above those stored was adopted of a PMU.
 ///
 /// After `Device` each store answers `Device`, until the mark is opened again.
 pub trait Mark {
-    /// The start number and the floor.
-    ghost stored: { Self → ℕ × ℕ };
+    /// What is stored.
+    ghost stored: { Self → Stored };
 
     /// A device fault stands.
     ghost is_broken: { Self → Bool };
@@ -69,27 +28,52 @@ pub trait Mark {
 
     /// The start number and the floor.
     fn stored(&self) -> (u32, u64)
-        ensures { result ≡ stored self.now };
+        ensures { result ≡ ((stored self.now).start, (stored self.now).floor) };
 
-    /// Stores the next start number, and the same floor.
+    /// The counts, one for each PMU in the order of the settings.
+    fn counts(&self) -> [u16; COUNTS]
+        ensures value { result ≡ (stored self.now).counts }
+        ensures len { length result ≡ COUNTS };
+
+    /// Stores the next start number, and the same floor and counts.
     ///
-    /// `StartsUsedUp` at 4294967295, where nothing changes.
+    /// # Errors
+    ///
+    /// `Device`, and `StartsUsedUp` at 4294967295, where nothing changes.
     fn begin(&mut self) -> Result<u32, MarkFault>
-        ensures ok { IfOk result (λ start. (start ≡ (stored self.old).0 + 1)
-            × (stored self.new ≡ (start, (stored self.old).1))) }
+        ensures ok { IfOk result (λ start. (start ≡ (stored self.old).start + 1)
+            × (stored self.new ≡ with_next_start (stored self.old))) }
         ensures err { OnErr result (stored self.new ≡ stored self.old) }
         ensures used_up { IsErrOf result MarkFault.StartsUsedUp
-            ↔ ((is_broken self.old ≡ false) × ((stored self.old).0 ≡ u32.MAX)) }
+            ↔ ((is_broken self.old ≡ false) × ((stored self.old).start ≡ u32.MAX)) }
         ensures faults { OnErr result
             (IsErrOf result MarkFault.Device ⊎ IsErrOf result MarkFault.StartsUsedUp) }
         ensures cause { HasDeviceCause (is_broken self.old) (is_broken self.new)
             (failures self.old) (failures self.new) result }
         ensures safe { is_safe → IsErrOf result MarkFault.Device → ⊥ };
 
-    /// Stores a greater floor, and the same start number.
+    /// Stores a greater floor, and the same start number and counts.
+    ///
+    /// # Errors
+    ///
+    /// `Device`.
     fn reserve(&mut self, floor: u64) -> Result<(), MarkFault>
-        requires { (stored self.old).1 < floor }
-        ensures ok { OnOk result (stored self.new ≡ ((stored self.old).0, floor)) }
+        requires { (stored self.old).floor < floor }
+        ensures ok { OnOk result (stored self.new ≡ with_floor (stored self.old) floor) }
+        ensures err { OnErr result (stored self.new ≡ stored self.old) }
+        ensures faults { OnErr result (IsErrOf result MarkFault.Device) }
+        ensures cause { HasDeviceCause (is_broken self.old) (is_broken self.new)
+            (failures self.old) (failures self.new) result }
+        ensures safe { is_safe → IsErrOf result MarkFault.Device → ⊥ };
+
+    /// Stores counts of which none is lower and one is greater, and the same start number and floor.
+    ///
+    /// # Errors
+    ///
+    /// `Device`.
+    fn raise(&mut self, counts: &[u16; COUNTS]) -> Result<(), MarkFault>
+        requires { IsRaise (stored self.old).counts counts.now }
+        ensures ok { OnOk result (stored self.new ≡ with_counts (stored self.old) counts.now) }
         ensures err { OnErr result (stored self.new ≡ stored self.old) }
         ensures faults { OnErr result (IsErrOf result MarkFault.Device) }
         ensures cause { HasDeviceCause (is_broken self.old) (is_broken self.new)

@@ -1,17 +1,18 @@
-// The mark file as a whole: read as it is opened, and written as it is made.
+//! The mark file as a whole: read as it is opened, and written as it is made.
 ghost use Rattle.std.specs.Prelude.{◌≡◌, ◌≤◌, ◌++◌, ℕ, length, IfErr, IfOk, IsErrOf, IsOk, OnOk};
 ghost use Rattle.pdc_disk.specs.Disk.{AllSettled, HasCause, StaySettled};
+ghost use Rattle.pdc_mark.specs.declared.layout.TheConstants.{MARK_LEN, SLOT_LEN};
 ghost use Rattle.pdc_mark.specs.Faults.{IsRefusal};
-ghost use Rattle.pdc_mark.specs.Slots.{slot_bytes};
 
-use crate::mark::MarkFault;
-use crate::slot::{CLOSED, MARK_LEN, OPEN, SLOT_LEN, Slot};
+use crate::fault::MarkFault;
+use crate::layout::{MARK_LEN, SLOT_LEN};
+use crate::version_1::OLD_LEN;
 use pdc_disk::{Disk, DiskFault};
 
 /// The bytes of a mark file. A sync comes first, so that a stop leaves what was read.
 pub(crate) fn read_file<D: Disk>(disk: &mut D) -> Result<[u8; MARK_LEN], MarkFault>
     ensures bytes { IfOk result (λ bytes. bytes ≡ D.seen disk.old) }
-    ensures size { OnOk result (length (D.seen disk.old) ≡ 128) }
+    ensures size { OnOk result (length (D.seen disk.old) ≡ MARK_LEN) }
     ensures durable { OnOk result (AllSettled (D.is_settled disk.new)) }
     ensures failures { OnOk result (D.failures disk.new ≡ D.failures disk.old) }
     ensures refusal { IfErr result (λ fault. (id rate : ℕ)
@@ -21,7 +22,11 @@ pub(crate) fn read_file<D: Disk>(disk: &mut D) -> Result<[u8; MARK_LEN], MarkFau
     ensures safe { MARK_LEN ≤ D.safe → IsErrOf result MarkFault.Device → ⊥ }
 {
     disk.sync()?;
-    if disk.len()? != MARK_LEN as u64 {
+    let len = disk.len()?;
+    if len == OLD_LEN as u64 {
+        return Err(MarkFault::OldMark);
+    }
+    if len != MARK_LEN as u64 {
         return Err(MarkFault::NoMark);
     }
     let mut bytes = [0; MARK_LEN];
@@ -29,15 +34,19 @@ pub(crate) fn read_file<D: Disk>(disk: &mut D) -> Result<[u8; MARK_LEN], MarkFau
     Ok(bytes)
 }
 
-/// Writes a whole file whose first slot is open and whose second is closed.
-pub(crate) fn write_file<D: Disk>(disk: &mut D, slot: Slot) -> Result<(), DiskFault>
+/// Writes a whole file of these two slots.
+pub(crate) fn write_file<D: Disk>(
+    disk: &mut D,
+    first: &[u8; SLOT_LEN],
+    second: &[u8; SLOT_LEN],
+) -> Result<(), DiskFault>
     requires { length (D.seen disk.old) ≤ MARK_LEN }
-    ensures bytes { OnOk result (D.seen disk.new ≡ slot_bytes 90 slot ++ slot_bytes 0 slot) }
+    ensures bytes { OnOk result (D.seen disk.new ≡ first.now ++ second.now) }
     ensures durable { OnOk result (AllSettled (D.is_settled disk.new)) }
     ensures cause { HasCause (D.failures disk.old) (D.failures disk.new) result }
     ensures safe { MARK_LEN ≤ D.safe → IsOk result }
 {
-    disk.write_at(0, &slot.bytes(OPEN))?;
-    disk.write_at(SLOT_LEN as u64, &slot.bytes(CLOSED))?;
+    disk.write_at(0, first)?;
+    disk.write_at(SLOT_LEN as u64, second)?;
     disk.sync()
 }

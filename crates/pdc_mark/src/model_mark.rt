@@ -1,23 +1,32 @@
-// A mark that nothing can take: the words of `Mark` in their plainest form, for lives without a disk.
+//! A mark that nothing can take: the words of `Mark` in their plainest form, for lives without a disk.
 ghost use Rattle.std.specs.Prelude.{◌≡◌, false, ⊤};
 
-use crate::mark::{Mark, MarkFault};
+use crate::fault::MarkFault;
+use crate::layout::COUNTS;
+use crate::mark::Mark;
+use crate::stored::Stored;
 
 /// A mark in memory. It never fails.
 #[derive(Clone, Copy, Debug, PartialEq, Eq)]
 pub struct ModelMark {
-    start: u32,
-    floor: u64,
+    stored: Stored,
 }
 
 impl ModelMark {
     ghost use Rattle.pdc_mark.specs.ModelMark.{stored_in};
+    ghost use Rattle.pdc_mark.specs.Stored.{first_stored, with_floor, with_start};
 
-    /// A mark that stores this start number and floor.
+    /// A mark that stores this start number and floor, and counts 0.
     pub fn new(start: u32, floor: u64) -> Self
-        ensures { stored_in result ≡ (start, floor) }
+        ensures { stored_in result ≡ with_floor (with_start first_stored start) floor }
     {
-        ModelMark { start, floor }
+        ModelMark {
+            stored: Stored {
+                start,
+                floor,
+                ..Stored::first()
+            },
+        }
     }
 }
 
@@ -33,19 +42,28 @@ impl Mark for ModelMark {
     ghost is_safe = { ⊤ };
 
     fn stored(&self) -> (u32, u64) {
-        (self.start, self.floor)
+        (self.stored.start, self.stored.floor)
+    }
+
+    fn counts(&self) -> [u16; COUNTS] {
+        self.stored.counts
     }
 
     fn begin(&mut self) -> Result<u32, MarkFault> {
-        if self.start == u32::MAX {
+        if self.stored.start == u32::MAX {
             return Err(MarkFault::StartsUsedUp);
         }
-        self.start += 1;
-        Ok(self.start)
+        self.stored.start += 1;
+        Ok(self.stored.start)
     }
 
     fn reserve(&mut self, floor: u64) -> Result<(), MarkFault> {
-        self.floor = floor;
+        self.stored.floor = floor;
+        Ok(())
+    }
+
+    fn raise(&mut self, counts: &[u16; COUNTS]) -> Result<(), MarkFault> {
+        self.stored.counts = *counts;
         Ok(())
     }
 

@@ -1,32 +1,18 @@
-// The mark file, version 1: two slots of 64 bytes, each a gate (5A is open), 7 zero bytes, 16 bytes of
-// fields and 40 zero bytes. Numbers stand most significant byte first.
-ghost use Rattle.std.specs.Prelude.{◌≡◌, ◌+◌, ◌≤◌, length};
+//! The slots of a mark file.
+ghost use Rattle.std.specs.Prelude.{◌≡◌, ℕ, ◌+◌, ◌^◌, ◌<◌, ◌≤◌, length, slice_index};
+ghost use Rattle.pdc_mark.specs.Counts.{count_bytes, counts_of};
+ghost use Rattle.pdc_mark.specs.declared.layout.TheConstants.{COUNTS, COUNTS_AT, COUNTS_LEN, FIELDS_LEN, SLOT_LEN};
 
+use crate::layout::{COUNTS, COUNTS_AT, COUNTS_LEN, FIELDS_AT, FIELDS_END, FIELDS_LEN, SLOT_LEN};
+use crate::stored::Stored;
 use byteorder::{BigEndian, ByteOrder};
 
-/// The length of a mark file, in bytes.
-pub const MARK_LEN: usize = 128;
-
-pub(crate) const SLOT_LEN: usize = 64;
-
-pub(crate) const FIELDS_LEN: usize = 16;
-
-/// Where the fields begin in their slot.
-pub(crate) const FIELDS_AT: usize = 8;
-
-/// The gate of a slot that counts.
-pub(crate) const OPEN: u8 = 0x5A;
-
-/// The gate that is written where a slot isn't to count. Any byte but `OPEN` reads so.
-pub(crate) const CLOSED: u8 = 0;
-
-/// The fields of a slot.
+/// The fields of a slot: whose mark it is, and what the mark stores.
 #[derive(Clone, Copy, Debug, PartialEq, Eq)]
 pub(crate) struct Slot {
     pub id: u16,
     pub rate: u16,
-    pub start: u32,
-    pub floor: u64,
+    pub stored: Stored,
 }
 
 /// Which of the two slots.
@@ -58,55 +44,99 @@ impl Place {
     }
 }
 
-impl Slot {
-    ghost use Rattle.pdc_mark.specs.Slots.{fields_of, is_below, slot_at, slot_bytes, FitsWidths};
+/// The counts that these bytes say.
+fn read_counts(bytes: &[u8]) -> [u16; COUNTS]
+    requires { length bytes.now ≡ COUNTS_LEN }
+    ensures { result ≡ counts_of bytes.now }
+{
+    let mut counts = [0; COUNTS];
+    BigEndian::read_u16_into(bytes, &mut counts);
+    counts
+}
 
-    /// The 16 bytes of the fields.
+/// The bytes of these counts.
+fn count_bytes(counts: &[u16; COUNTS]) -> [u8; COUNTS_LEN]
+    ensures value { result ≡ count_bytes counts.now }
+    ensures len { length result ≡ COUNTS_LEN }
+    ensures size { length counts.now ≡ COUNTS }
+    ensures fits { (i : ℕ) → slice_index counts.now i < 2 ^ 16 }
+{
+    let mut bytes = [0; COUNTS_LEN];
+    BigEndian::write_u16_into(counts, &mut bytes);
+    bytes
+}
+
+impl Slot {
+    ghost use Rattle.pdc_mark.specs.Slots.{fields_of, numbers_of, slot_at, slot_bytes, slot_with, FitsWidths};
+
+    /// The bytes of the fields before the counts.
+    fn numbers(self) -> [u8; COUNTS_AT]
+        ensures value { result ≡ numbers_of self }
+        ensures len { length result ≡ COUNTS_AT }
+    {
+        let mut numbers = [0; COUNTS_AT];
+        BigEndian::write_u16(&mut numbers, self.id);
+        BigEndian::write_u16(&mut numbers[2..], self.rate);
+        BigEndian::write_u32(&mut numbers[4..], self.stored.start);
+        BigEndian::write_u64(&mut numbers[8..], self.stored.floor);
+        numbers
+    }
+
+    /// The bytes of the fields.
     pub fn fields(self) -> [u8; FIELDS_LEN]
         ensures value { result ≡ fields_of self }
         ensures fits { FitsWidths self }
-        ensures len { length result ≡ 16 }
+        ensures len { length result ≡ FIELDS_LEN }
     {
         let mut fields = [0; FIELDS_LEN];
-        BigEndian::write_u16(&mut fields, self.id);
-        BigEndian::write_u16(&mut fields[2..], self.rate);
-        BigEndian::write_u32(&mut fields[4..], self.start);
-        BigEndian::write_u64(&mut fields[8..], self.floor);
+        fields[..COUNTS_AT].copy_from_slice(&self.numbers());
+        fields[COUNTS_AT..].copy_from_slice(&count_bytes(&self.stored.counts));
         fields
     }
 
     /// A whole slot behind this gate.
     pub fn bytes(self, gate: u8) -> [u8; SLOT_LEN]
         ensures value { result ≡ slot_bytes gate self }
-        ensures len { length result ≡ 64 }
+        ensures fits { FitsWidths self }
+        ensures len { length result ≡ SLOT_LEN }
     {
         let mut bytes = [0; SLOT_LEN];
         bytes[0] = gate;
-        bytes[FIELDS_AT..FIELDS_AT + FIELDS_LEN].copy_from_slice(&self.fields());
+        bytes[FIELDS_AT..FIELDS_END].copy_from_slice(&self.fields());
         bytes
+    }
+
+    /// What the numbers of a slot say, beside these counts.
+    pub fn of_numbers(numbers: &[u8], counts: [u16; COUNTS]) -> Slot
+        requires { COUNTS_AT ≤ length numbers.now }
+        ensures { result ≡ slot_with counts numbers.now }
+    {
+        Slot {
+            id: u16::from_be_bytes([numbers[0], numbers[1]]),
+            rate: u16::from_be_bytes([numbers[2], numbers[3]]),
+            stored: Stored {
+                start: u32::from_be_bytes([numbers[4], numbers[5], numbers[6], numbers[7]]),
+                floor: u64::from_be_bytes([
+                    numbers[8],
+                    numbers[9],
+                    numbers[10],
+                    numbers[11],
+                    numbers[12],
+                    numbers[13],
+                    numbers[14],
+                    numbers[15],
+                ]),
+                counts,
+            },
+        }
     }
 
     /// What the fields of a slot say, whatever its gate.
     pub fn read(bytes: &[u8], at: usize) -> Slot
-        requires { at + 64 ≤ length bytes.now }
+        requires { at + SLOT_LEN ≤ length bytes.now }
         ensures { result ≡ slot_at bytes.now at }
     {
-        let fields = &bytes[at + FIELDS_AT..at + FIELDS_AT + FIELDS_LEN];
-        Slot {
-            id: u16::from_be_bytes([fields[0], fields[1]]),
-            rate: u16::from_be_bytes([fields[2], fields[3]]),
-            start: u32::from_be_bytes([fields[4], fields[5], fields[6], fields[7]]),
-            floor: u64::from_be_bytes([
-                fields[8], fields[9], fields[10], fields[11], fields[12], fields[13], fields[14],
-                fields[15],
-            ]),
-        }
-    }
-
-    /// Whether this slot has the lower start, or the same start and the lower floor.
-    pub fn is_below(self, other: Slot) -> bool
-        ensures { result ≡ is_below self other }
-    {
-        self.start < other.start || (self.start == other.start && self.floor < other.floor)
+        let fields = &bytes[at + FIELDS_AT..at + FIELDS_END];
+        Slot::of_numbers(fields, read_counts(&fields[COUNTS_AT..]))
     }
 }

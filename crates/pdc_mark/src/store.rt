@@ -1,10 +1,13 @@
-// The three steps of a store, of two device calls each: close the gate of the slot that doesn't hold the
-// mark, write the fields behind it, and open it. Each is on the device before the next begins.
+//! The three steps of a store, of two device calls each: close the gate of the slot that doesn't hold the
+//! mark, write the fields behind it, and open it. Each is on the device before the next begins.
 ghost use Rattle.std.specs.Prelude.{◌≡◌, ◌≤◌, true, false, IsOk, OnOk};
 ghost use Rattle.pdc_disk.specs.Disk.{HasCause, Leaves};
-ghost use Rattle.pdc_mark.specs.Slots.{is_below, other_of, slot_in, HasEither, HasJust, IsHeld};
+ghost use Rattle.pdc_mark.specs.declared.layout.TheConstants.{MARK_LEN};
+ghost use Rattle.pdc_mark.specs.Slots.{other_of, slot_in, HasEither, HasJust, IsHeld};
+ghost use Rattle.pdc_mark.specs.Stored.{is_below};
 
-use crate::slot::{CLOSED, FIELDS_AT, OPEN, Place, Slot};
+use crate::layout::{CLOSED, FIELDS_AT, OPEN};
+use crate::slot::{Place, Slot};
 use pdc_disk::{Disk, DiskFault};
 
 /// Closes the gate of the other slot. The mark stands at `held`.
@@ -15,7 +18,7 @@ fn close_gate<D: Disk>(disk: &mut D, held: Place) -> Result<(), DiskFault>
     ensures images { Leaves (D.seen disk.new) (D.is_settled disk.new)
         (HasJust (slot_in (D.seen disk.old) held)) }
     ensures cause { HasCause (D.failures disk.old) (D.failures disk.new) result }
-    ensures safe { 128 ≤ D.safe → IsOk result }
+    ensures safe { MARK_LEN ≤ D.safe → IsOk result }
 {
     let at = held.other().offset() as u64;
     disk.write_at(at, &[CLOSED])?;
@@ -31,7 +34,7 @@ fn write_fields<D: Disk>(disk: &mut D, held: Place, next: Slot) -> Result<(), Di
     ensures images { Leaves (D.seen disk.new) (D.is_settled disk.new)
         (HasJust (slot_in (D.seen disk.old) held)) }
     ensures cause { HasCause (D.failures disk.old) (D.failures disk.new) result }
-    ensures safe { 128 ≤ D.safe → IsOk result }
+    ensures safe { MARK_LEN ≤ D.safe → IsOk result }
 {
     let at = (held.other().offset() + FIELDS_AT) as u64;
     disk.write_at(at, &next.fields())?;
@@ -41,15 +44,15 @@ fn write_fields<D: Disk>(disk: &mut D, held: Place, next: Slot) -> Result<(), Di
 /// Opens the gate of the other slot, whose fields are above the mark. They are the mark from then on.
 fn open_gate<D: Disk>(disk: &mut D, held: Place) -> Result<(), DiskFault>
     requires held { IsHeld (D.seen disk.old) (D.is_settled disk.old) held true }
-    requires below { is_below (slot_in (D.seen disk.old) held)
-        (slot_in (D.seen disk.old) (other_of held)) ≡ true }
+    requires below { is_below (slot_in (D.seen disk.old) held).stored
+        (slot_in (D.seen disk.old) (other_of held)).stored ≡ true }
     ensures ok { OnOk result (IsHeld (D.seen disk.new) (D.is_settled disk.new) (other_of held) false) }
     ensures next { OnOk result
         (slot_in (D.seen disk.new) (other_of held) ≡ slot_in (D.seen disk.old) (other_of held)) }
     ensures images { Leaves (D.seen disk.new) (D.is_settled disk.new)
         (HasEither (slot_in (D.seen disk.old) held) (slot_in (D.seen disk.old) (other_of held))) }
     ensures cause { HasCause (D.failures disk.old) (D.failures disk.new) result }
-    ensures safe { 128 ≤ D.safe → IsOk result }
+    ensures safe { MARK_LEN ≤ D.safe → IsOk result }
 {
     let at = held.other().offset() as u64;
     disk.write_at(at, &[OPEN])?;
@@ -66,13 +69,13 @@ pub(crate) fn store<D: Disk>(
     next: Slot,
 ) -> Result<(), DiskFault>
     requires held { IsHeld (D.seen disk.old) (D.is_settled disk.old) held is_closed }
-    requires below { is_below (slot_in (D.seen disk.old) held) next ≡ true }
+    requires below { is_below (slot_in (D.seen disk.old) held).stored next.stored ≡ true }
     ensures ok { OnOk result (IsHeld (D.seen disk.new) (D.is_settled disk.new) (other_of held) false) }
     ensures next { OnOk result (slot_in (D.seen disk.new) (other_of held) ≡ next) }
     ensures images { Leaves (D.seen disk.new) (D.is_settled disk.new)
         (HasEither (slot_in (D.seen disk.old) held) next) }
     ensures cause { HasCause (D.failures disk.old) (D.failures disk.new) result }
-    ensures safe { 128 ≤ D.safe → IsOk result }
+    ensures safe { MARK_LEN ≤ D.safe → IsOk result }
 {
     if !is_closed {
         close_gate(disk, held)?;

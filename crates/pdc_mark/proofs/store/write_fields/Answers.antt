@@ -1,5 +1,6 @@
 use Rattle.std.proofs.Common.{◌≡◌, ◌+◌, ◌<◌, ◌∙◌, length, ap, arith}
 use Rattle.std.proofs.lemmas.Result.{on_ok_weaker}
+use Rattle.pdc_mark.specs.declared.layout.TheConstants.{FIELDS_AT, FIELDS_LEN}
 use Rattle.pdc_mark.specs.Slots.{offset_of, other_of, slot_of}
 use Rattle.pdc_mark.proofs.Fields.{slot_of-fields_of}
 use Rattle.pdc_mark.proofs.Marks.{inside}
@@ -11,36 +12,36 @@ pub returns-in_err-write_at-clause-images : goal.returns-in_err-write_at-clause-
 returns-in_err-write_at-clause-images g c image left =
     let old = g.D.Disk.seen c.args.disk.now in
     let was = g.D.Disk.is_settled c.args.disk.now in
-    let is : c.offset.result + 8 ≡ offset_of (other_of c.args.held) + 8 = ap (λ n. n + 8) (c.offset.ensures ∙ ap offset_of c.other.ensures) in
-    let fits : offset_of (other_of c.args.held) + 8 + 16 < length old = omega (arith, c.requires.size, inside (other_of c.args.held)) in
+    let is : c.offset.result + FIELDS_AT ≡ offset_of (other_of c.args.held) + FIELDS_AT = ap (λ n. n + FIELDS_AT) (c.offset.ensures ∙ ap offset_of c.other.ensures) in
+    let fits : offset_of (other_of c.args.held) + FIELDS_AT + FIELDS_LEN < length old = omega (arith, c.requires.size, inside (other_of c.args.held)) in
     fields_torn old was c.args.held c.requires image
-    (leaves_torn old _ was _ (c.offset.result + 8) (offset_of (other_of c.args.held) + 8) 16 is fits c.requires.settled (rw c.fields.ensures.len at c.write_at.ensures.torn) (rw c.fields.ensures.len at c.write_at.ensures.settled) image left)
+    (leaves_torn old _ was _ (c.offset.result + FIELDS_AT) (offset_of (other_of c.args.held) + FIELDS_AT) FIELDS_LEN is fits c.requires.settled (rw c.fields.ensures.len at c.write_at.ensures.torn) (rw c.fields.ensures.len at c.write_at.ensures.settled) image left)
 
 pub returns-clause-images : goal.returns-clause-images
 returns-clause-images g c image left =
     let old = g.D.Disk.seen c.args.disk.now in
     let was = g.D.Disk.is_settled c.args.disk.now in
-    let is : c.offset.result + 8 ≡ offset_of (other_of c.args.held) + 8 = ap (λ n. n + 8) (c.offset.ensures ∙ ap offset_of c.other.ensures) in
-    let fits : offset_of (other_of c.args.held) + 8 + 16 < length old = omega (arith, c.requires.size, inside (other_of c.args.held)) in
+    let is : c.offset.result + FIELDS_AT ≡ offset_of (other_of c.args.held) + FIELDS_AT = ap (λ n. n + FIELDS_AT) (c.offset.ensures ∙ ap offset_of c.other.ensures) in
+    let fits : offset_of (other_of c.args.held) + FIELDS_AT + FIELDS_LEN < length old = omega (arith, c.requires.size, inside (other_of c.args.held)) in
     fields_torn old was c.args.held c.requires image
-    (leaves_synced old _ was _ (c.offset.result + 8) (offset_of (other_of c.args.held) + 8) 16 is fits c.requires.settled (rw c.fields.ensures.len at c.write_at.ensures.torn) (rw c.fields.ensures.len at c.write_at.ensures.settled) _ _ c.sync.ensures.seen c.sync.ensures.settled image left)
+    (leaves_synced old _ was _ (c.offset.result + FIELDS_AT) (offset_of (other_of c.args.held) + FIELDS_AT) FIELDS_LEN is fits c.requires.settled (rw c.fields.ensures.len at c.write_at.ensures.torn) (rw c.fields.ensures.len at c.write_at.ensures.settled) _ _ c.sync.ensures.seen c.sync.ensures.settled image left)
 
 pub returns-clause-same : goal.returns-clause-same
 returns-clause-same g c =
     let old = g.D.Disk.seen c.args.disk.now in
     let was = g.D.Disk.is_settled c.args.disk.now in
-    let is : c.offset.result + 8 ≡ offset_of (other_of c.args.held) + 8 = ap (λ n. n + 8) (c.offset.ensures ∙ ap offset_of c.other.ensures) in
-    let fits : offset_of (other_of c.args.held) + 8 + 16 < length old = omega (arith, c.requires.size, inside (other_of c.args.held)) in
-    let torn = torn_synced old _ was _ (c.offset.result + 8) (offset_of (other_of c.args.held) + 8) 16 is fits c.requires.settled (rw c.fields.ensures.len at c.write_at.ensures.torn) (rw c.fields.ensures.len at c.write_at.ensures.settled) _ c.sync.ensures.seen in
+    let is : c.offset.result + FIELDS_AT ≡ offset_of (other_of c.args.held) + FIELDS_AT = ap (λ n. n + FIELDS_AT) (c.offset.ensures ∙ ap offset_of c.other.ensures) in
+    let fits : offset_of (other_of c.args.held) + FIELDS_AT + FIELDS_LEN < length old = omega (arith, c.requires.size, inside (other_of c.args.held)) in
+    let torn = torn_synced old _ was _ (c.offset.result + FIELDS_AT) (offset_of (other_of c.args.held) + FIELDS_AT) FIELDS_LEN is fits c.requires.settled (rw c.fields.ensures.len at c.write_at.ensures.torn) (rw c.fields.ensures.len at c.write_at.ensures.settled) _ c.sync.ensures.seen in
     on_ok_weaker c.sync.result (λ all. fields_here old was c.args.held c.requires (g.D.Disk.seen c.sync.new.self) torn) c.sync.ensures.durable
 
 pub returns-clause-next : goal.returns-clause-next
 returns-clause-next g c =
     let old = g.D.Disk.seen c.args.disk.now in
     let was = g.D.Disk.is_settled c.args.disk.now in
-    let is : c.offset.result + 8 ≡ offset_of (other_of c.args.held) + 8 = ap (λ n. n + 8) (c.offset.ensures ∙ ap offset_of c.other.ensures) in
-    let fits : offset_of (other_of c.args.held) + 8 + 16 < length old = omega (arith, c.requires.size, inside (other_of c.args.held)) in
-    let made = made_synced old _ was _ (c.offset.result + 8) (offset_of (other_of c.args.held) + 8) 16 is fits c.requires.settled (rw c.fields.ensures.len at c.write_at.ensures.torn) (rw c.fields.ensures.len at c.write_at.ensures.settled) _ _ c.sync.ensures.seen c.in_ok-write_at.ensures.written in
+    let is : c.offset.result + FIELDS_AT ≡ offset_of (other_of c.args.held) + FIELDS_AT = ap (λ n. n + FIELDS_AT) (c.offset.ensures ∙ ap offset_of c.other.ensures) in
+    let fits : offset_of (other_of c.args.held) + FIELDS_AT + FIELDS_LEN < length old = omega (arith, c.requires.size, inside (other_of c.args.held)) in
+    let made = made_synced old _ was _ (c.offset.result + FIELDS_AT) (offset_of (other_of c.args.held) + FIELDS_AT) FIELDS_LEN is fits c.requires.settled (rw c.fields.ensures.len at c.write_at.ensures.torn) (rw c.fields.ensures.len at c.write_at.ensures.settled) _ _ c.sync.ensures.seen c.in_ok-write_at.ensures.written in
     let says : slot_of c.fields.result ≡ c.args.next = ap slot_of c.fields.ensures.value ∙ slot_of-fields_of c.args.next c.fields.ensures.fits in
     on_ok_weaker c.sync.result (λ all. fields_there old was c.args.held c.requires (g.D.Disk.seen c.sync.new.self) c.fields.result c.args.next c.fields.ensures.len says made) c.sync.ensures.durable
 
@@ -48,7 +49,7 @@ pub returns-clause-ok : goal.returns-clause-ok
 returns-clause-ok g c =
     let old = g.D.Disk.seen c.args.disk.now in
     let was = g.D.Disk.is_settled c.args.disk.now in
-    let is : c.offset.result + 8 ≡ offset_of (other_of c.args.held) + 8 = ap (λ n. n + 8) (c.offset.ensures ∙ ap offset_of c.other.ensures) in
-    let fits : offset_of (other_of c.args.held) + 8 + 16 < length old = omega (arith, c.requires.size, inside (other_of c.args.held)) in
-    let torn = torn_synced old _ was _ (c.offset.result + 8) (offset_of (other_of c.args.held) + 8) 16 is fits c.requires.settled (rw c.fields.ensures.len at c.write_at.ensures.torn) (rw c.fields.ensures.len at c.write_at.ensures.settled) _ c.sync.ensures.seen in
+    let is : c.offset.result + FIELDS_AT ≡ offset_of (other_of c.args.held) + FIELDS_AT = ap (λ n. n + FIELDS_AT) (c.offset.ensures ∙ ap offset_of c.other.ensures) in
+    let fits : offset_of (other_of c.args.held) + FIELDS_AT + FIELDS_LEN < length old = omega (arith, c.requires.size, inside (other_of c.args.held)) in
+    let torn = torn_synced old _ was _ (c.offset.result + FIELDS_AT) (offset_of (other_of c.args.held) + FIELDS_AT) FIELDS_LEN is fits c.requires.settled (rw c.fields.ensures.len at c.write_at.ensures.torn) (rw c.fields.ensures.len at c.write_at.ensures.settled) _ c.sync.ensures.seen in
     on_ok_weaker c.sync.result (λ all. fields_done old was c.args.held c.requires (g.D.Disk.seen c.sync.new.self) _ torn all) c.sync.ensures.durable
