@@ -4,6 +4,9 @@ pub mod WordSteps
 pub mod Cells
 pub mod Places
 pub mod Spellings
+pub mod Wholes
 pub mod Streams
+pub mod Written
+pub mod Splitting
 pub mod Readings
 pub mod Framed

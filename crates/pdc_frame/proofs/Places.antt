@@ -1,11 +1,12 @@
 -- A frame by the places of its fields: what stands there is the spelling, and a spelling has the fields there.
-use Rattle.std.proofs.Common.{◌≡◌, ◌⊎◌, ℕ, suc, ◌+◌, ◌-◌, ◌*◌, ◌/◌, ◌%◌, ◌^◌, ◌<◌, ◌≤◌, List, [], ◌∷◌, ◌++◌, length, take, drop, get_or, sym, ap, subst, ◌∙◌, arith, length-append, length-drop}
+use Rattle.std.proofs.Common.{◌≡◌, ◌⊎◌, ℕ, suc, ◌+◌, ◌-◌, ◌*◌, ◌/◌, ◌%◌, ◌^◌, ◌<◌, ◌≤◌, List, [], ◌∷◌, ◌++◌, length, take, drop, get_or, refl, sym, ap, subst, ◌∙◌, arith, length-append, length-drop}
 use Rattle.std.proofs.Math.Seq.{take-append_seam, take-append-add, get_or-append_seam}
 use Rattle.std.proofs.lemmas.List.{take-append-drop, drop_all, length-take, get_or-append-add}
 use Rattle.std.specs.Int.{w16, w32, to_be_bytes}
+use Rattle.pdc_frame.specs.declared.frame.Kind.{Kind}
 use Rattle.pdc_frame.specs.Bytes.{AreBytes, word_at, long_at}
 use Rattle.pdc_frame.specs.CheckWord.{check_word_of}
-use Rattle.pdc_frame.specs.Frame.{Fields, number_of, before_check, spelling_of, IsFrame, check_in}
+use Rattle.pdc_frame.specs.Frame.{Fields, fields_in, number_of, before_check, spelling_of, IsFrame, IsChecked, check_in}
 use Rattle.pdc_frame.proofs.Polynomials.{IsCheckWord-check_word_of}
 use Rattle.pdc_frame.proofs.Cells.{cells_from, drop-cells_from, word_cells, long_cells, AreBytes-take, AreBytes-drop}
 
@@ -90,3 +91,19 @@ IsFrame-places bytes f fits h version low high frac =
       };
       spelled = spelled-places bytes f fits h;
     }
+
+-- what stands in the places of bytes that pass every test is the frame's
+pub IsFrame-checked : (bytes : List ℕ) (kind : Kind) (version : ℕ) → AreBytes bytes → IsChecked bytes → get_or bytes 1 0 ≡ 16 * number_of kind + version → (version ≡ 1) ⊎ (version ≡ 2)
+    → 0 < word_at bytes 4 → word_at bytes 4 < 65535 → IsFrame bytes (fields_in kind version bytes)
+IsFrame-checked bytes kind version fits h second known low high =
+    IsFrame-places bytes (fields_in kind version bytes) fits (record {
+      long = h.0.0.0;
+      first = h.0.0.1.first_byte;
+      second = second;
+      size = h.0.1;
+      id = refl;
+      soc = refl;
+      fracsec = omega arith;
+      payload = refl;
+      check = h.1;
+    }) known low high (omega arith)

@@ -4,7 +4,8 @@ use Rattle.pdc_frame.specs.declared.fault.FrameFault.{FrameFault}
 use Rattle.pdc_frame.specs.declared.fault.FrameFault.TheVariants.{Short, BadSync, SizeMismatch, BadCheck, BadId}
 use Rattle.pdc_frame.specs.Frame.{Fields, IsFrame, IsFirstFault}
 use Rattle.pdc_frame.proofs.Spellings.{found}
-use Rattle.pdc_frame.proofs.Streams.{whole-sized, whole-no_cause}
+use Rattle.pdc_frame.proofs.Wholes.{whole-sized}
+use Rattle.pdc_frame.proofs.Streams.{whole-no_cause}
 
 pub same_frame : (bytes : List ℕ) (f g : Fields) → IsFrame bytes f → IsFrame bytes g → f ≡ g
 same_frame bytes f g h k = (found f g [] [] h.fits k.fits (ap (λ (xs : List ℕ). xs ++ []) (sym h.spelled ∙ k.spelled))).0

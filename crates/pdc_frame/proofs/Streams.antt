@@ -1,5 +1,5 @@
 -- A stream is cut into frames in one way.
-use Rattle.std.proofs.Common.{◌≡◌, ◌≢◌, ◌⊎◌, inl, inr, ℕ, zero, suc, ◌+◌, ◌-◌, ◌*◌, ◌<◌, ◌≤◌, List, [], ◌∷◌, ◌++◌, length, take, drop, Option, Some, None, refl, sym, ap, subst, ◌∙◌, arith, append_assoc, length-append, length-drop}
+use Rattle.std.proofs.Common.{◌≡◌, ◌≢◌, ◌⊎◌, inl, inr, ℕ, zero, suc, ◌+◌, ◌-◌, ◌<◌, ◌≤◌, List, [], ◌∷◌, ◌++◌, length, take, drop, Option, Some, None, refl, sym, ap, subst, ◌∙◌, arith, append_assoc, length-append, length-drop}
 use Rattle.std.specs.Prelude.{flat_map, slice_index}
 use Rattle.std.specs.List.{All}
 use Rattle.std.proofs.Math.Seq.{take-append_seam, take-append-add}
@@ -7,68 +7,15 @@ use Rattle.std.proofs.lemmas.List.{append_cancel_left, append-nil, take-append-d
 use Rattle.std.proofs.lemmas.List.Elements.{All-append}
 use Rattle.std.proofs.lemmas.Grind.{flat_map-append}
 use Rattle.std.proofs.lemmas.Bool.{cases_lt}
-use Rattle.std.specs.Int.{w16, to_be_bytes}
-use Rattle.pdc_frame.specs.declared.frame.Kind.{Kind}
-use Rattle.pdc_frame.specs.declared.frame.Kind.TheVariants.{DataFrame, HeaderFrame, Cfg1, Cfg2, CommandFrame, Cfg3}
 use Rattle.pdc_frame.specs.declared.fault.FrameFault.{FrameFault}
 use Rattle.pdc_frame.specs.declared.fault.FrameFault.TheVariants.{Short, BadSync, SizeMismatch, BadCheck, BadId}
 use Rattle.pdc_frame.specs.declared.step.Step.{Step}
 use Rattle.pdc_frame.specs.declared.step.Step.TheVariants.{More, Whole, Bad}
-use Rattle.pdc_frame.specs.Bytes.{AreBytes, word_at}
-use Rattle.pdc_frame.specs.CheckWord.{check_word_of}
-use Rattle.pdc_frame.specs.Frame.{Fields, Fits, number_of, before_check, spelling_of, IsFrame, IsSync, IsSized}
+use Rattle.pdc_frame.specs.Bytes.{word_at}
+use Rattle.pdc_frame.specs.Frame.{Fields, IsFrame, IsSync, IsSized}
 use Rattle.pdc_frame.specs.Stream.{IsGoing, IsWhole, IsCause, IsAt, IsBad, Held, HasTaken, GoesOn, IsRest, Splits, pending_of, fault_of, given_at}
-use Rattle.pdc_frame.proofs.Cells.{AreBytes-cons, AreBytes-append, word_at-append, two_takes}
-use Rattle.pdc_frame.proofs.Places.{check-spelled}
-
--- ---- a frame by its first places
-
-number_of-below : (k : Kind) → number_of k < 6
-number_of-below DataFrame = omega arith
-number_of-below HeaderFrame = omega arith
-number_of-below Cfg1 = omega arith
-number_of-below Cfg2 = omega arith
-number_of-below CommandFrame = omega arith
-number_of-below Cfg3 = omega arith
-
-sync-spelled : (k : Kind) (v : ℕ) → (v ≡ 1) ⊎ (v ≡ 2) → IsSync 170 (16 * number_of k + v)
-sync-spelled k v (inl e) = record { first_byte = refl; kind = omega (arith, number_of-below k); version = inl (omega arith) }
-sync-spelled k v (inr e) = record { first_byte = refl; kind = omega (arith, number_of-below k); version = inr (omega arith) }
-
-length-spelling : (f : Fields) → length (spelling_of f) ≡ length f.payload + 16
-length-spelling f = omega (arith, length-append f.payload (to_be_bytes w16 (check_word_of (before_check f))))
-
-pub whole-sized : (bytes : List ℕ) (f : Fields) → IsFrame bytes f → IsSized bytes
-whole-sized bytes f h =
-    let len : length bytes ≡ length f.payload + 16 = ap length h.spelled ∙ length-spelling f in
-    let size : word_at (spelling_of f) 2 ≡ length f.payload + 16 = omega (arith, h.fits.size) in (
-      (omega arith, subst (λ (xs : List ℕ). IsSync (slice_index xs 0) (slice_index xs 1)) (sym h.spelled) (sync-spelled f.kind f.version h.fits.version)),
-      ap (λ (xs : List ℕ). word_at xs 2) h.spelled ∙ size ∙ sym len,
-    )
-
-id-spelled : (bytes : List ℕ) (f : Fields) → IsFrame bytes f → word_at bytes 4 ≡ f.id
-id-spelled bytes f h =
-    let id : word_at (spelling_of f) 4 ≡ f.id = omega (arith, h.fits.id_high) in
-    ap (λ (xs : List ℕ). word_at xs 4) h.spelled ∙ id
-
-record Bytes (xs : List ℕ) : Type 0 where
-  all : AreBytes xs
-
-Bytes-cons : {x : ℕ} {xs : List ℕ} → x < 256 → Bytes xs → Bytes (x ∷ xs)
-Bytes-cons {x = x} {xs = xs} lt h = record { all = AreBytes-cons x xs lt h.all }
-
-Bytes-nil : Bytes []
-Bytes-nil = record { all = λ i. omega arith }
-
-AreBytes-spelling : (f : Fields) → Fits f → AreBytes (spelling_of f)
-AreBytes-spelling f h =
-    let second : 16 * number_of f.kind + f.version < 256 = elim h.version [ inl e ↦ omega (arith, number_of-below f.kind) | inr e ↦ omega (arith, number_of-below f.kind) ] in
-    let cks : Bytes (to_be_bytes w16 (check_word_of (before_check f))) = Bytes-cons (omega arith) (Bytes-cons (omega arith) Bytes-nil) in
-    let whole : Bytes (spelling_of f) = Bytes-cons (omega arith) (Bytes-cons second (Bytes-cons (omega arith) (Bytes-cons (omega arith) (Bytes-cons (omega arith) (Bytes-cons (omega arith) (
-    Bytes-cons (omega arith) (Bytes-cons (omega arith) (Bytes-cons (omega arith) (Bytes-cons (omega arith) (Bytes-cons (omega arith) (Bytes-cons (omega arith) (
-    Bytes-cons (omega arith) (Bytes-cons (omega arith) (
-    record { all = AreBytes-append f.payload (to_be_bytes w16 (check_word_of (before_check f))) h.bytes cks.all })))))))))))))) in
-    whole.all
+use Rattle.pdc_frame.proofs.Cells.{word_at-append, two_takes}
+use Rattle.pdc_frame.proofs.Wholes.{whole-sized, whole-checked, id-spelled}
 
 -- ---- a front of a frame, of bytes that go on, of bytes that show a fault
 
@@ -125,7 +72,7 @@ whole-no_cause bytes f Short h cause = absurd (omega (arith, cause.0, (whole-siz
 whole-no_cause bytes f BadSync h (inl cause) = absurd (omega (arith, cause.0, (whole-sized bytes f h).0.0))
 whole-no_cause bytes f BadSync h (inr cause) = absurd (omega (arith, cause.0, (whole-sized bytes f h).0.0))
 whole-no_cause bytes f SizeMismatch h cause = cause
-whole-no_cause bytes f BadCheck h cause = cause.1 (check-spelled bytes f (subst AreBytes (sym h.spelled) (AreBytes-spelling f h.fits)) h.spelled)
+whole-no_cause bytes f BadCheck h cause = cause.1 (whole-checked bytes f h).1
 whole-no_cause bytes f BadId h cause = elim cause.1 [ inl e ↦ absurd (omega (arith, h.fits.id_low, id-spelled bytes f h)) | inr e ↦ absurd (omega (arith, h.fits.id_high, id-spelled bytes f h)) ]
 
 one_cause : (bytes : List ℕ) (a b : FrameFault) → IsCause bytes a → IsCause bytes b → a ≡ b
@@ -197,10 +144,10 @@ no_end rest a x s ends h ha e = ends (one_step a s More ha (going-front a x (sub
 abbrev concat : List (List ℕ) → List ℕ
 concat frames = flat_map (λ frame. frame) frames
 
-whole-ends : Whole ≢ More
+pub whole-ends : Whole ≢ More
 whole-ends e = cc
 
-bad-ends : (fault : FrameFault) → Bad fault ≢ More
+pub bad-ends : (fault : FrameFault) → Bad fault ≢ More
 bad-ends fault e = cc
 
 one_rest : (rest other : List ℕ) (fault late : Option FrameFault) → IsRest rest fault → IsRest other late → rest ≡ other → fault ≡ late
@@ -236,42 +183,42 @@ one_split stream frames others rest other fault late h k = one_cut frames others
 
 -- ---- what a framer took
 
-joined : (stream piece bytes held : List ℕ) (frames : List (List ℕ)) → stream ≡ concat frames ++ held → bytes ≡ held ++ piece → stream ++ piece ≡ concat frames ++ bytes
+pub joined : (stream piece bytes held : List ℕ) (frames : List (List ℕ)) → stream ≡ concat frames ++ held → bytes ≡ held ++ piece → stream ++ piece ≡ concat frames ++ bytes
 joined stream piece bytes held frames whole e = ap (λ (xs : List ℕ). xs ++ piece) whole ∙ append_assoc (concat frames) held piece ∙ ap (λ (xs : List ℕ). concat frames ++ xs) (sym e)
 
 one_more : (stream bytes : List ℕ) (frames : List (List ℕ)) → stream ≡ concat frames ++ bytes → stream ≡ concat (frames ++ bytes ∷ []) ++ []
 one_more stream bytes frames e =
     e ∙ ap (λ (xs : List ℕ). concat frames ++ xs) (sym (append-nil bytes)) ∙ sym (flat_map-append (λ (frame : List ℕ). frame) frames (bytes ∷ [])) ∙ sym (append-nil (concat (frames ++ bytes ∷ [])))
 
-All-one : (bytes : List ℕ) → IsWhole bytes → All IsWhole (bytes ∷ [])
+pub All-one : (bytes : List ℕ) → IsWhole bytes → All IsWhole (bytes ∷ [])
 All-one bytes h zero d lt = h
 All-one bytes h (suc k) d lt = absurd (omega arith)
 
 -- a framer goes on
-going_on : (stream piece bytes held : List ℕ) (frames : List (List ℕ)) (step : Step) → stream ≡ concat frames ++ held → All IsWhole frames → bytes ≡ held ++ piece → IsAt bytes step
-    → HasTaken (stream ++ piece) (frames ++ given_at step bytes) (record { bytes = bytes; step = step })
-going_on stream piece bytes held frames More whole each e at =
+going_on : (stream piece bytes held : List ℕ) (frames : List (List ℕ)) (step : Step) (room : ℕ) → stream ≡ concat frames ++ held → All IsWhole frames → bytes ≡ held ++ piece → IsAt bytes step
+    → HasTaken (stream ++ piece) (frames ++ given_at step bytes) (record { bytes = bytes; step = step; room = room })
+going_on stream piece bytes held frames More room whole each e at =
     let same : frames ≡ frames ++ [] = sym (append-nil frames) in
     record { whole = joined stream piece bytes held frames whole e ∙ ap (λ (fs : List (List ℕ)). concat fs ++ bytes) same; each = subst (All IsWhole) same each; at = at }
-going_on stream piece bytes held frames Whole whole each e at =
+going_on stream piece bytes held frames Whole room whole each e at =
     record {
       whole = one_more (stream ++ piece) bytes frames (joined stream piece bytes held frames whole e);
       each = All-append IsWhole frames (bytes ∷ []) each (All-one bytes at);
       at = at;
     }
-going_on stream piece bytes held frames (Bad fault) whole each e at =
+going_on stream piece bytes held frames (Bad fault) room whole each e at =
     let same : frames ≡ frames ++ [] = sym (append-nil frames) in
     record { whole = joined stream piece bytes held frames whole e ∙ ap (λ (fs : List (List ℕ)). concat fs ++ bytes) same; each = subst (All IsWhole) same each; at = at }
 
 pub taken_more : (stream piece : List ℕ) (frames : List (List ℕ)) (old new : Held) → HasTaken stream frames old → new.bytes ≡ pending_of old.step old.bytes ++ piece → IsAt new.bytes new.step
     → HasTaken (stream ++ piece) (frames ++ given_at new.step new.bytes) new
-taken_more stream piece frames old new h e at = going_on stream piece new.bytes (pending_of old.step old.bytes) frames new.step h.whole h.each e at
+taken_more stream piece frames old new h e at = going_on stream piece new.bytes (pending_of old.step old.bytes) frames new.step new.room h.whole h.each e at
 
-going-nil : IsGoing []
+pub going-nil : IsGoing []
 going-nil = record { first = λ le. absurd (omega arith); sync = λ le. absurd (omega arith); size = λ le. absurd (omega arith); more = λ le. absurd (omega arith) }
 
-pub taken_none : HasTaken [] [] (record { bytes = []; step = More })
-taken_none = record { whole = refl; each = λ k d lt. absurd (omega arith); at = going-nil }
+pub taken_none : (room : ℕ) → HasTaken [] [] (record { bytes = []; step = More; room = room })
+taken_none room = record { whole = refl; each = λ k d lt. absurd (omega arith); at = going-nil }
 
 -- the frames that a framer gave are those of the stream, once no byte is left that it would take
 split_by : (stream unread bytes : List ℕ) (frames : List (List ℕ)) (step : Step) → stream ≡ concat frames ++ pending_of step bytes → All IsWhole frames → IsAt bytes step → (fault_of step ≡ None → unread ≡ [])

@@ -1,13 +1,13 @@
 -- The spelling of a frame (IEEE C37.118.2-2011, 6.2 and table 2): SYNC, FRAMESIZE, IDCODE, SOC, FRACSEC, the payload
 -- and CHK. FRAMESIZE counts the whole frame. Versions 1 and 2 are read alike (this profile).
-use Rattle.std.specs.Prelude.{◌≡◌, ◌≢◌, ◌⊎◌, ℕ, ◌+◌, ◌-◌, ◌*◌, ◌/◌, ◌%◌, ◌^◌, ◌<◌, ◌≤◌, List, ◌∷◌, ◌++◌, length, take, slice_index}
+use Rattle.std.specs.Prelude.{◌≡◌, ◌≢◌, ◌⊎◌, ℕ, ◌+◌, ◌-◌, ◌*◌, ◌/◌, ◌%◌, ◌^◌, ◌<◌, ◌≤◌, List, ◌∷◌, ◌++◌, length, take, drop, slice_index}
 use Rattle.std.specs.Int.{w16, w32, to_be_bytes}
 use Rattle.pdc_frame.specs.declared.frame.Kind.{Kind}
 use Rattle.pdc_frame.specs.declared.frame.Kind.TheVariants.{DataFrame, HeaderFrame, Cfg1, Cfg2, CommandFrame, Cfg3}
 use Rattle.pdc_frame.specs.declared.frame.Frame.{Frame}
 use Rattle.pdc_frame.specs.declared.fault.FrameFault.{FrameFault}
 use Rattle.pdc_frame.specs.declared.fault.FrameFault.TheVariants.{Short, BadSync, SizeMismatch, BadCheck, BadId}
-use Rattle.pdc_frame.specs.Bytes.{AreBytes, word_at}
+use Rattle.pdc_frame.specs.Bytes.{AreBytes, word_at, long_at}
 use Rattle.pdc_frame.specs.CheckWord.{check_word_of}
 
 -- bits 6 to 4 of the second byte of SYNC
@@ -38,6 +38,18 @@ fields_of f = record {
   quality = f.quality;
   frac = f.frac;
   payload = f.payload.now;
+}
+
+-- what stands in the places of the fields, in a frame of this kind and version
+abbrev pub fields_in : Kind → ℕ → List ℕ → Fields
+fields_in kind version bytes = record {
+  kind = kind;
+  version = version;
+  id = word_at bytes 4;
+  soc = long_at bytes 6;
+  quality = long_at bytes 10 / 2 ^ 24;
+  frac = long_at bytes 10 % 2 ^ 24;
+  payload = take (length bytes - 16) (drop 14 bytes);
 }
 
 -- fields that have a spelling

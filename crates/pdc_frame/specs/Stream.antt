@@ -42,10 +42,12 @@ IsAt bytes More = IsGoing bytes
 IsAt bytes Whole = IsWhole bytes
 IsAt bytes (Bad fault) = Shows bytes fault
 
--- what a framer holds: the bytes since the end of the last frame, and what it said of them
+-- what a framer holds: the bytes since the end of the last frame, what it said of them, and how many bytes it can hold
+-- without taking memory
 pub record Held : Type 0 where
   pub bytes : List ℕ
   pub step : Step
+  pub room : ℕ
 
 -- the bytes to which the next ones are joined: a whole frame is done with
 abbrev pub pending_of : Step → List ℕ → List ℕ

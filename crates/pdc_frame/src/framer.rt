@@ -1,11 +1,20 @@
 //! The frames of a stream that comes in pieces.
+//!
+//! ```text
+//! stream   AA 02 00 1A .. 26 23 AA 02 00 1A .. 26 23 AA 02 00
+//! pieces   |---------|------------------------|-------------|
+//! steps    More      Whole    More            Whole    More
+//! held     4         26       11              26       3 bytes
+//! ```
 ghost use Rattle.std.specs.Prelude.{◌≡◌, ◌+◌, ◌-◌, ◌<◌, ◌≤◌, ◌++◌, ◌⊎◌, ℕ, List, [], length, take, vec_capacity, IfOk, MatchOption};
+ghost use Rattle.pdc_frame.specs.Frame.{Fields, Fits, IsFrame, fields_of, spelling_of};
 ghost use Rattle.pdc_frame.specs.Stream.{IsGoing, Shows, IsAt, IsBad, HasTaken, pending_of, given_at};
 
 use crate::buffer::Buffer;
 use crate::fault::FrameFault;
+use crate::frame::Frame;
 use crate::limits::{MAX_SIZE, OVERHEAD};
-use crate::reading::{SYNC_BYTE, is_sync, read_frame};
+use crate::reading::{SYNC_BYTE, fields_of_whole, is_sync, read_frame};
 use crate::step::Step;
 use crate::words::read_word;
 use std::alloc::{AllocError, Global};
@@ -23,19 +32,20 @@ pub struct Framer {
 
 impl Model for Framer {
     ghost use Rattle.std.specs.Prelude.{◌≤◌, vec_capacity};
+    ghost use Rattle.pdc_frame.specs.declared.limits.TheConstants.{MAX_SIZE};
     ghost use Rattle.pdc_frame.specs.Stream.{Held, IsAt};
 
     ghost Value = { Held };
 
-    ghost view = { λ f. record { bytes = f.held.items; step = f.step } };
+    ghost view = { λ f. record { bytes = f.held.items; step = f.step; room = vec_capacity f.held } };
 
-    ghost invariant = { λ f. record { room : 65535 ≤ vec_capacity f.held; at : IsAt f.held.items f.step } };
+    ghost invariant = { λ f. record { room : MAX_SIZE ≤ vec_capacity f.held; at : IsAt f.held.items f.step } };
 }
 
 /// What SYNC and FRAMESIZE say so far.
 fn header_fault(held: &[u8]) -> Option<FrameFault>
     requires some { 0 < length held.now }
-    requires few { length held.now ≤ 4 }
+    requires few { length held.now ≤ SIZE_END }
     requires before { IsGoing (take (length held.now - 1) held.now) }
     ensures { MatchOption result (IsGoing held.now) (λ fault. Shows held.now fault) }
 {
@@ -49,13 +59,13 @@ fn header_fault(held: &[u8]) -> Option<FrameFault>
 
 /// Takes bytes up to the end of FRAMESIZE.
 fn take_header(held: &mut Vec<u8>, piece: &[u8]) -> (usize, Step)
-    requires room { 65535 ≤ vec_capacity held.old }
+    requires room { MAX_SIZE ≤ vec_capacity held.old }
     requires going { IsGoing held.old.items }
-    ensures room { 65535 ≤ vec_capacity held.new }
+    ensures room { vec_capacity held.new ≡ vec_capacity held.old }
     ensures taken { result.0 ≤ length piece.now }
     ensures bytes { held.new.items ≡ held.old.items ++ take result.0 piece.now }
     ensures at { IsAt held.new.items result.1 }
-    ensures more { result.1 ≡ Step.More → (result.0 ≡ length piece.now) ⊎ (4 ≤ length held.new.items) }
+    ensures more { result.1 ≡ Step.More → (result.0 ≡ length piece.now) ⊎ (SIZE_END ≤ length held.new.items) }
     ensures not_whole { result.1 ≡ Step.Whole → ⊥ }
 {
     let mut taken = 0;
@@ -71,10 +81,10 @@ fn take_header(held: &mut Vec<u8>, piece: &[u8]) -> (usize, Step)
 
 /// Takes bytes up to the end of the frame.
 fn take_rest(held: &mut Vec<u8>, piece: &[u8]) -> (usize, Step)
-    requires room { 65535 ≤ vec_capacity held.old }
+    requires room { MAX_SIZE ≤ vec_capacity held.old }
     requires going { IsGoing held.old.items }
-    requires header { 4 ≤ length held.old.items }
-    ensures room { 65535 ≤ vec_capacity held.new }
+    requires header { SIZE_END ≤ length held.old.items }
+    ensures room { vec_capacity held.new ≡ vec_capacity held.old }
     ensures taken { result.0 ≤ length piece.now }
     ensures bytes { held.new.items ≡ held.old.items ++ take result.0 piece.now }
     ensures at { IsAt held.new.items result.1 }
@@ -94,9 +104,9 @@ fn take_rest(held: &mut Vec<u8>, piece: &[u8]) -> (usize, Step)
 
 /// Takes bytes up to the end of a frame, of the piece, or the byte that shows a fault.
 fn take_frame(held: &mut Vec<u8>, piece: &[u8]) -> (usize, Step)
-    requires room { 65535 ≤ vec_capacity held.old }
+    requires room { MAX_SIZE ≤ vec_capacity held.old }
     requires going { IsGoing held.old.items }
-    ensures room { 65535 ≤ vec_capacity held.new }
+    ensures room { vec_capacity held.new ≡ vec_capacity held.old }
     ensures taken { result.0 ≤ length piece.now }
     ensures bytes { held.new.items ≡ held.old.items ++ take result.0 piece.now }
     ensures at { IsAt held.new.items result.1 }
@@ -112,9 +122,9 @@ fn take_frame(held: &mut Vec<u8>, piece: &[u8]) -> (usize, Step)
 
 /// The same behind an answer: after a whole frame the next one begins, and a fault stands.
 fn take_next(held: &mut Vec<u8>, last: Step, piece: &[u8]) -> (usize, Step)
-    requires room { 65535 ≤ vec_capacity held.old }
+    requires room { MAX_SIZE ≤ vec_capacity held.old }
     requires at { IsAt held.old.items last }
-    ensures room { 65535 ≤ vec_capacity held.new }
+    ensures room { vec_capacity held.new ≡ vec_capacity held.old }
     ensures taken { result.0 ≤ length piece.now }
     ensures bytes { held.new.items ≡ pending_of last held.old.items ++ take result.0 piece.now }
     ensures at { IsAt held.new.items result.1 }
@@ -139,6 +149,7 @@ impl Framer {
     pub fn new(alloc: Global) -> Result<Framer, AllocError>
         ensures bytes { IfOk result (λ framer. framer.bytes ≡ []) }
         ensures step { IfOk result (λ framer. framer.step ≡ Step.More) }
+        ensures room { IfOk result (λ framer. framer.room ≡ MAX_SIZE) }
         ensures stream { IfOk result (λ framer. HasTaken [] [] framer) }
     {
         Ok(Framer {
@@ -154,6 +165,7 @@ impl Framer {
         ensures taken { result.0 ≤ length piece.now }
         ensures bytes { self.new.bytes ≡ pending_of self.old.step self.old.bytes ++ take result.0 piece.now }
         ensures step { self.new.step ≡ result.1 }
+        ensures room { self.new.room ≡ self.old.room }
         ensures at { IsAt self.new.bytes result.1 }
         // It stops for a frame, a fault or the end of the piece alone,
         ensures more { result.1 ≡ Step.More → result.0 ≡ length piece.now }
@@ -163,10 +175,21 @@ impl Framer {
         ensures bad { IsBad self.old.step → (result.0 ≡ 0) × (result.1 ≡ self.old.step) }
         ensures stream { (stream : List ℕ) (frames : List (List ℕ)) → HasTaken stream frames self.old
             → HasTaken (stream ++ take result.0 piece.now) (frames ++ given_at result.1 self.new.bytes) self.new }
+        // With nothing pending, a frame that was written is given at its last byte, whatever comes behind it.
+        ensures written { (f : Fields) (rest : List ℕ) → pending_of self.old.step self.old.bytes ≡ [] → Fits f → piece.now ≡ spelling_of f ++ rest
+            → (result.0 ≡ length (spelling_of f)) × (result.1 ≡ Step.Whole) × (self.new.bytes ≡ spelling_of f) }
     {
         let (taken, step) = take_next(&mut self.held, self.step, piece);
         self.step = step;
         (taken, step)
+    }
+
+    /// The fields of the frame, after [`Step::Whole`] and until the next feed. Its check word is not computed again.
+    pub fn fields(&self) -> Frame<'_>
+        requires { self.now.step ≡ Step.Whole }
+        ensures { IsFrame self.now.bytes (fields_of result) }
+    {
+        fields_of_whole(&self.held)
     }
 
     /// The bytes since the end of the last frame; after [`Step::Whole`] and until the next feed, the frame.

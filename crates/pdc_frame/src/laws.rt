@@ -50,9 +50,11 @@ pub fn frames_are_read_in_one_way()
     ensures apart { (bytes : List ℕ) (f : Fields) (fault : FrameFault) → IsFrame bytes f → IsFirstFault bytes fault → ⊥ }
 {}
 
-/// A stream is cut into frames in one way, and a framer that has no byte left to take gave those frames, in whatever
-/// pieces the stream came.
+/// A stream of bytes is cut into frames in one way, and a framer that has no byte left to take gave those frames, in
+/// whatever pieces the stream came.
 pub fn streams_split_in_one_way()
+    ensures some { (stream : List ℕ) → AreBytes stream
+        → (frames : List (List ℕ)) × (rest : List ℕ) × (fault : Option FrameFault) × Splits stream frames rest fault }
     ensures only { (stream : List ℕ) (frames others : List (List ℕ)) (rest other : List ℕ) (fault late : Option FrameFault)
         → Splits stream frames rest fault → Splits stream others other late → (frames ≡ others) × (rest ≡ other) × (fault ≡ late) }
     ensures framer { (stream unread : List ℕ) (frames : List (List ℕ)) (held : Held) → HasTaken stream frames held

@@ -36,6 +36,3 @@ pub use step::Step;
 pub use stream::frames_of;
 pub use words::{read_long, read_word};
 pub use writing::{begin_frame, end_frame, write_frame};
-
-#[cfg(test)]
-mod tests;

@@ -1,11 +1,13 @@
 //! The fields of a frame, read from its bytes.
-ghost use Rattle.std.specs.Prelude.{◌≡◌, ◌+◌, ◌*◌, ◌⊎◌, IfOk, IfErr, IsOkAnd, MatchOption, IsTrue, ◌↔◌};
-ghost use Rattle.pdc_frame.specs.Frame.{Fields, fields_of, number_of, IsFrame, IsSync, IsFirstFault};
+ghost use Rattle.std.specs.Prelude.{◌≡◌, ◌+◌, ◌*◌, ◌<◌, ◌≤◌, ◌⊎◌, length, IfOk, IfErr, IsOkAnd, MatchOption, IsTrue, ◌↔◌};
+ghost use Rattle.pdc_frame.specs.Bytes.{word_at};
+ghost use Rattle.pdc_frame.specs.Frame.{Fields, fields_of, fields_in, number_of, IsFrame, IsSync, IsFirstFault};
+ghost use Rattle.pdc_frame.specs.Stream.{IsWhole};
 
 use crate::crc::check_word;
 use crate::fault::FrameFault;
 use crate::frame::{Frame, Kind};
-use crate::limits::{CHECK_LEN, HEADER_LEN, MAX_FRAC, MAX_VERSION, OVERHEAD};
+use crate::limits::{CHECK_LEN, HEADER_LEN, MAX_FRAC, MAX_ID, MAX_SIZE, MAX_VERSION, OVERHEAD};
 use crate::words::{read_long, read_word};
 
 /// The first byte of SYNC.
@@ -39,6 +41,39 @@ pub(crate) fn is_sync(first: u8, second: u8) -> bool
     read_sync(first, second).is_some()
 }
 
+/// What stands in the places of the fields.
+#[inline]
+fn fields_in_places(bytes: &[u8], kind: Kind, version: u8) -> Frame<'_>
+    requires long { OVERHEAD ≤ length bytes.now }
+    requires most { length bytes.now ≤ MAX_SIZE }
+    requires version { (version ≡ 1) ⊎ (version ≡ 2) }
+    requires id_low { 0 < word_at bytes.now 4 }
+    requires id_high { word_at bytes.now 4 ≤ MAX_ID }
+    ensures { fields_of result ≡ fields_in kind version bytes.now }
+{
+    let fracsec = read_long(bytes, 10);
+    Frame {
+        kind,
+        version,
+        id: read_word(bytes, 4),
+        soc: read_long(bytes, 6),
+        quality: (fracsec >> 24) as u8,
+        frac: fracsec & MAX_FRAC,
+        payload: &bytes[HEADER_LEN..bytes.len() - CHECK_LEN],
+    }
+}
+
+/// The fields of bytes that are a frame: their check word is not computed again.
+pub(crate) fn fields_of_whole(bytes: &[u8]) -> Frame<'_>
+    requires { IsWhole bytes.now }
+    ensures { IsFrame bytes.now (fields_of result) }
+{
+    let Some((kind, version)) = read_sync(bytes[0], bytes[1]) else {
+        unreachable!();
+    };
+    fields_in_places(bytes, kind, version)
+}
+
 /// The frame that the bytes are, all of them. It takes no memory: the payload is lent from `bytes`.
 ///
 /// # Errors
@@ -69,14 +104,5 @@ pub fn read_frame(bytes: &[u8]) -> Result<Frame<'_>, FrameFault>
     if id == 0 || id == u16::MAX {
         return Err(FrameFault::BadId);
     }
-    let fracsec = read_long(bytes, 10);
-    Ok(Frame {
-        kind,
-        version,
-        id,
-        soc: read_long(bytes, 6),
-        quality: (fracsec >> 24) as u8,
-        frac: fracsec & MAX_FRAC,
-        payload: &bytes[HEADER_LEN..check_place],
-    })
+    Ok(fields_in_places(bytes, kind, version))
 }

@@ -4,7 +4,7 @@ use Rattle.pdc_frame.proofs.framer.take_header.Given as goal
 
 abbrev pub invariant-loop-held : goal.invariant-loop-held
 invariant-loop-held l = record {
-  room : 65535 ≤ vec_capacity l.held;
+  room : vec_capacity l.held ≡ vec_capacity l.initial.held;
   taken : l.taken ≤ length l.piece;
   bytes : l.held.items ≡ l.initial.held.items ++ take l.taken l.piece;
   going : IsGoing l.held.items;

@@ -1,0 +1,206 @@
+use arrayvec::ArrayVec;
+use pdc_frame::*;
+use std::alloc::{AllocError, Global};
+use std::fmt::Debug;
+use std::process::Abort;
+use std::test::*;
+
+/// CFG-2 of PMU 11.
+const CONFIG_11: [u8; 74] = [
+    0xAA, 0x32, 0x00, 0x4A, 0x00, 0x0B, 0x44, 0x85, 0x27, 0xF0, 0x00, 0x00, 0x00, 0x00, 0x00, 0x0F,
+    0x42, 0x40, 0x00, 0x01, 0x50, 0x4D, 0x55, 0x20, 0x31, 0x31, 0x20, 0x20, 0x20, 0x20, 0x20, 0x20,
+    0x20, 0x20, 0x20, 0x20, 0x00, 0x0B, 0x00, 0x00, 0x00, 0x01, 0x00, 0x00, 0x00, 0x00, 0x56, 0x41,
+    0x20, 0x20, 0x20, 0x20, 0x20, 0x20, 0x20, 0x20, 0x20, 0x20, 0x20, 0x20, 0x20, 0x20, 0x00, 0x0D,
+    0xF8, 0x47, 0x00, 0x01, 0x00, 0x01, 0x00, 0x32, 0xC2, 0xCE,
+];
+
+/// A data frame of PMU 11.
+const DATA_11: [u8; 26] = [
+    0xAA, 0x02, 0x00, 0x1A, 0x00, 0x0B, 0x44, 0x85, 0x27, 0xF0, 0x00, 0x00, 0x4E, 0x20, 0x00, 0x00,
+    0x39, 0x2B, 0x00, 0x00, 0x09, 0xC4, 0x00, 0x00, 0x26, 0x23,
+];
+
+/// A command frame of version 1.
+const DATA_ON: [u8; 18] = [
+    0xAA, 0x41, 0x00, 0x12, 0x1E, 0x36, 0x44, 0x85, 0x60, 0x30, 0x0F, 0x0B, 0xBF, 0xD0, 0x00, 0x02,
+    0xCE, 0x00,
+];
+
+/// A frame of id 0.
+const RESERVED_ID: [u8; 16] = [
+    0xAA, 0x02, 0x00, 0x10, 0x00, 0x00, 0x44, 0x85, 0x27, 0xF0, 0x00, 0x00, 0x00, 0x00, 0x48, 0x75,
+];
+
+/// The two values are the same. One assertion for all tests: each costs more to prove than its line.
+fn same<T: PartialEq + Debug>(rt: &impl Abort, a: &T, b: &T, text: &str) {
+    assert_eq!(rt; a, b, "{text}");
+}
+
+macro_rules! is {
+    ($rt:expr; $a:expr, $b:expr) => {
+        same($rt, &$a, &$b, stringify!($a is $b))
+    };
+}
+
+/// The bytes of the first frame and then of the second.
+fn joined(alloc: Global, first: &[u8], second: &[u8]) -> Result<Vec<u8>, AllocError> {
+    let mut stream = Vec::from_slice(alloc, first)?;
+    stream.extend_from_slice(second)?;
+    Ok(stream)
+}
+
+#[test]
+fn check_words(rt: HostRuntime) {
+    is!(&rt; check_word(b""), 0xFFFF);
+    is!(&rt; check_word(b"A"), 0xB915);
+    is!(&rt; check_word(b"123456789"), 0x29B1);
+}
+
+#[test]
+fn frame_faults(rt: HostRuntime) {
+    let mut off = DATA_11;
+    off[23] = 1;
+    let mut other = [0; 16];
+    other[0] = 0xAB;
+    is!(&rt; read_frame(&[]).err(), Some(FrameFault::Short));
+    is!(&rt; read_frame(&other).err(), Some(FrameFault::BadSync));
+    is!(&rt; read_frame(&DATA_11[..25]).err(), Some(FrameFault::SizeMismatch));
+    is!(&rt; read_frame(&off).err(), Some(FrameFault::BadCheck));
+    is!(&rt; read_frame(&RESERVED_ID).err(), Some(FrameFault::BadId));
+}
+
+#[test]
+fn fault_texts(rt: HostRuntime) -> Result<(), Fail> {
+    for (fault, text) in [
+        (FrameFault::Short, "F1 Short"),
+        (FrameFault::BadSync, "F2 BadSync"),
+        (FrameFault::SizeMismatch, "F3 SizeMismatch"),
+        (FrameFault::BadCheck, "F4 BadCheck"),
+        (FrameFault::BadId, "F5 BadId"),
+    ] {
+        is!(&rt; fault.to_string(rt.alloc())?.as_str(), text);
+    }
+    Ok(())
+}
+
+#[test]
+fn fields_of_a_command(rt: HostRuntime) -> Result<(), Fail> {
+    let frame = read_frame(&DATA_ON).ok().ok_or("it is a frame")?;
+    is!(&rt; frame.kind, Kind::CommandFrame);
+    is!(&rt; frame.version, 1);
+    is!(&rt; frame.id, 7734);
+    is!(&rt; frame.soc, 0x4485_6030);
+    is!(&rt; frame.quality, 0x0F);
+    is!(&rt; frame.frac, 770_000);
+    is!(&rt; frame.payload, [0, 2].as_slice());
+    Ok(())
+}
+
+#[test]
+fn written_again(rt: HostRuntime) -> Result<(), Fail> {
+    let mut out = Vec::new(rt.alloc());
+    for bytes in [CONFIG_11.as_slice(), DATA_11.as_slice(), DATA_ON.as_slice()] {
+        let frame = read_frame(bytes).ok().ok_or("it is a frame")?;
+        out.clear();
+        write_frame(&frame, &mut out)?;
+        is!(&rt; out.as_slice(), bytes);
+    }
+    Ok(())
+}
+
+#[test]
+fn written_where_the_room_is_fixed(rt: HostRuntime) -> Result<(), Fail> {
+    let frame = read_frame(&DATA_11).ok().ok_or("it is a frame")?;
+    let mut out = ArrayVec::<u8, 51>::new();
+    write_frame(&frame, &mut out)?;
+    is!(&rt; out.as_slice(), DATA_11.as_slice());
+    is!(&rt; write_frame(&frame, &mut out), Err(AllocError));
+    is!(&rt; out.as_slice(), DATA_11.as_slice());
+    Ok(())
+}
+
+#[test]
+fn joined_frames_in_pieces(rt: HostRuntime) -> Result<(), Fail> {
+    let stream = joined(rt.alloc(), &CONFIG_11, &DATA_11)?;
+    for len in [1, 7, 100] {
+        let mut pieces = Vec::new(rt.alloc());
+        for piece in stream.chunks(len) {
+            pieces.push(Vec::from_slice(rt.alloc(), piece)?)?;
+        }
+        let (frames, fault) = frames_of(rt.alloc(), &pieces)?;
+        is!(&rt; fault, None);
+        is!(&rt; frames.len(), 2);
+        for (frame, bytes) in frames
+            .iter()
+            .zip([CONFIG_11.as_slice(), DATA_11.as_slice()])
+        {
+            is!(&rt; frame.as_slice(), bytes);
+        }
+    }
+    Ok(())
+}
+
+#[test]
+fn fields_of_a_stream(rt: HostRuntime) -> Result<(), Fail> {
+    let stream = joined(rt.alloc(), &DATA_11, &DATA_ON)?;
+    let mut framer = Framer::new(rt.alloc())?;
+    let (taken, step) = framer.feed(&stream);
+    is!(&rt; (taken, step), (26, Step::Whole));
+    if step == Step::Whole {
+        is!(&rt; framer.fields().kind, Kind::DataFrame);
+        is!(&rt; framer.fields().payload, &DATA_11[14..24]);
+    }
+    Ok(())
+}
+
+/// The place of a byte in a frame, what stands there instead, how many of its bytes show the fault, and which it is.
+const FAULTS: [(usize, u8, usize, FrameFault); 10] = [
+    (0, 0xAB, 1, FrameFault::BadSync),
+    (1, 0x82, 2, FrameFault::BadSync),
+    (1, 0x62, 2, FrameFault::BadSync),
+    (1, 0x00, 2, FrameFault::BadSync),
+    (1, 0x03, 2, FrameFault::BadSync),
+    (3, 0x0F, 4, FrameFault::Short),
+    (3, 0x00, 4, FrameFault::Short),
+    (9, 0xF1, 26, FrameFault::BadCheck),
+    (23, 0x01, 26, FrameFault::BadCheck),
+    (25, 0x22, 26, FrameFault::BadCheck),
+];
+
+#[test]
+fn faults_in_a_stream(rt: HostRuntime) -> Result<(), Fail> {
+    for (place, byte, shown, fault) in FAULTS {
+        let mut framer = Framer::new(rt.alloc())?;
+        is!(&rt; framer.feed(&CONFIG_11), (74, Step::Whole));
+        is!(&rt; framer.frame(), CONFIG_11.as_slice());
+        let mut off = DATA_11;
+        if let Some(changed) = off.get_mut(place) {
+            *changed = byte;
+        }
+        is!(&rt; framer.feed(&off), (shown, Step::Bad(fault)));
+        is!(&rt; framer.feed(&DATA_11), (0, Step::Bad(fault)));
+        is!(&rt; framer.feed(&[]), (0, Step::Bad(fault)));
+    }
+    Ok(())
+}
+
+#[test]
+fn reserved_id_in_a_stream(rt: HostRuntime) -> Result<(), Fail> {
+    let mut framer = Framer::new(rt.alloc())?;
+    is!(&rt; framer.feed(&RESERVED_ID[..15]), (15, Step::More));
+    is!(&rt; framer.feed(&[]), (0, Step::More));
+    is!(&rt; framer.feed(&RESERVED_ID[15..]), (1, Step::Bad(FrameFault::BadId)));
+    Ok(())
+}
+
+#[test]
+fn a_fault_ends_the_frames(rt: HostRuntime) -> Result<(), Fail> {
+    let mut pieces = Vec::new(rt.alloc());
+    pieces.push(joined(rt.alloc(), &DATA_11, &[0xAA, 0x02, 0x00])?)?;
+    pieces.push(joined(rt.alloc(), &[0x0F, 0x00], &DATA_11)?)?;
+    let (frames, fault) = frames_of(rt.alloc(), &pieces)?;
+    is!(&rt; fault, Some(FrameFault::Short));
+    is!(&rt; frames.len(), 1);
+    is!(&rt; frames.first().map(|frame| frame.as_slice()), Some(DATA_11.as_slice()));
+    Ok(())
+}
