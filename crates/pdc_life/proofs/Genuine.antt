@@ -7,8 +7,8 @@ use Rattle.std.proofs.lemmas.Option.{none-some, same_Some}
 use Rattle.pdc_frame.specs.Bytes.{AreBytes}
 use Rattle.pdc_cfg.specs.Section.{SectionFields}
 use Rattle.pdc_cfg.specs.Shape.{word_count_of}
-use Rattle.pdc_block.specs.Block.{words_in}
-use Rattle.pdc_block.proofs.Bodies.{body_of_bytes}
+use Rattle.pdc_block.specs.Block.{IsBody, words_in}
+use Rattle.pdc_cfg.specs.declared.shape.Shape.{Shape}
 use Rattle.pdc_row.specs.CellView.{BlockView, CellView, is_present}
 use Rattle.pdc_row.specs.Chosen.{block_or_absent, present_of}
 use Rattle.pdc_life.specs.declared.given.Given.{Given}
@@ -108,122 +108,127 @@ taken_is Candidate h = absurd (false≢true h)
 taken_is Known h = absurd (false≢true h)
 taken_is (Refused r) h = absurd (false≢true h)
 
--- data that is taken now
-now_gives : (g : Given) (E : List Entry) (q p i quality : ℕ) (bytes payload : List ℕ) (answer : Outcome) (s : SectionFields) →
-    HasArrived g E q bytes (Data i quality payload) answer → answer ≡ Taken → q ≡ p → section_in_force E p ≡ Some s →
-    Gives g (Arrive q bytes (Data i quality payload) answer ∷ E) p i s (cells_of (section_in_force E q) q quality payload)
-now_gives g E q p i quality bytes payload answer s came h same k =
-    let t : IsInTime g E q i payload = in_time g E q i payload (sym came.answers ∙ h) in
-    let section : t.section ≡ s = same_Some t.section s (sym t.in_force ∙ ap (section_in_force E) same ∙ k) in
-    let size : length payload ≡ 2 * word_count_of s.shape = t.size ∙ ap (λ (u : SectionFields). 2 * word_count_of u.shape) section in
-    record {
-      cell = record { block = record { shape = s.shape; words = words_in payload }; quality = quality };
-      one = ap (λ (r : ℕ). cells_of (section_in_force E r) r quality payload) same ∙ ap (λ (o : Option SectionFields). cells_of o p quality payload) k;
-      brought = record {
-        later = [];
-        earlier = E;
-        bytes = bytes;
-        quality = quality;
-        payload = payload;
-        stands = ap₂ (λ (r : ℕ) (a : Outcome). Arrive r bytes (Data i quality payload) a ∷ E) same h;
-        pmu = came.pmu;
-        listed = ap (slice_get g.settings.pmus.items) (sym same) ∙ came.listed;
-        reads = came.reads;
-        in_force = k;
-        shape = refl;
-        body = body_of_bytes s.shape payload (subst AreBytes came.reads.same_payload came.reads.of_stream.frame.fits.bytes) size;
-      };
-    }
+-- what `bodies_are_their_words` says of bytes
+abbrev pub BytesAreBodies : Type 0
+BytesAreBodies = (shape : Shape) (bytes : List ℕ) → AreBytes bytes → length bytes ≡ 2 * word_count_of shape → IsBody shape bytes (words_in bytes)
 
-with_take : (b : Bool) (P : Take → Type 0) (t : Take) (older : List Take) → (b ≡ true → P t) → AllByRecursion P older → AllByRecursion P (cond b (t ∷ []) [] ++ older)
-with_take true P t older h a = (h refl, a)
-with_take false P t older h a = a
+module _ (bodies : BytesAreBodies) where
+  -- data that is taken now
+  now_gives : (g : Given) (E : List Entry) (q p i quality : ℕ) (bytes payload : List ℕ) (answer : Outcome) (s : SectionFields) →
+      HasArrived g E q bytes (Data i quality payload) answer → answer ≡ Taken → q ≡ p → section_in_force E p ≡ Some s →
+      Gives g (Arrive q bytes (Data i quality payload) answer ∷ E) p i s (cells_of (section_in_force E q) q quality payload)
+  now_gives g E q p i quality bytes payload answer s came h same k =
+      let t : IsInTime g E q i payload = in_time g E q i payload (sym came.answers ∙ h) in
+      let section : t.section ≡ s = same_Some t.section s (sym t.in_force ∙ ap (section_in_force E) same ∙ k) in
+      let size : length payload ≡ 2 * word_count_of s.shape = t.size ∙ ap (λ (u : SectionFields). 2 * word_count_of u.shape) section in
+      record {
+        cell = record { block = record { shape = s.shape; words = words_in payload }; quality = quality };
+        one = ap (λ (r : ℕ). cells_of (section_in_force E r) r quality payload) same ∙ ap (λ (o : Option SectionFields). cells_of o p quality payload) k;
+        brought = record {
+          later = [];
+          earlier = E;
+          bytes = bytes;
+          quality = quality;
+          payload = payload;
+          stands = ap₂ (λ (r : ℕ) (a : Outcome). Arrive r bytes (Data i quality payload) a ∷ E) same h;
+          pmu = came.pmu;
+          listed = ap (slice_get g.settings.pmus.items) (sym same) ∙ came.listed;
+          reads = came.reads;
+          in_force = k;
+          shape = refl;
+          body = bodies s.shape payload (subst AreBytes came.reads.same_payload came.reads.of_stream.frame.fits.bytes) size;
+        };
+      }
 
--- what was taken since the count in force changed stays so at a tick, though another section were adopted
-at_tick : (g : Given) (E : List Entry) (p : ℕ) (adopted newer : Bool) (held o : Option SectionFields) (ts : List Take) → (newer ≡ false → o ≡ held) →
-    AllByRecursion (IsOf g E p o) ts → AllByRecursion (IsOf g E p (cond adopted held o)) (cond (adopted && newer) [] ts)
-at_tick g E p false newer held o ts h a = a
-at_tick g E p true true held o ts h a = tt
-at_tick g E p true false held o ts h a = subst (λ (u : Option SectionFields). AllByRecursion (IsOf g E p u) ts) (h refl) a
+  with_take : (b : Bool) (P : Take → Type 0) (t : Take) (older : List Take) → (b ≡ true → P t) → AllByRecursion P older → AllByRecursion P (cond b (t ∷ []) [] ++ older)
+  with_take true P t older h a = (h refl, a)
+  with_take false P t older h a = a
 
-since_adopted : (g : Given) (E : List Entry) (p : ℕ) → IsLife g E → AllByRecursion (IsOf g E p (section_in_force E p)) (takes_since_adopted E p)
-since_adopted g [] p life = tt
-since_adopted g (Arrive q bytes (Data i quality payload) answer ∷ E) p life =
-    with_take (is_taken answer) (IsOf g (Arrive q bytes (Data i quality payload) answer ∷ E) p (section_in_force E p)) _ (takes_since_adopted E p)
-    (λ taken same s k. now_gives g E q p i quality bytes payload answer s life.0 (taken_is answer taken) same k)
-    (of_before g E (Arrive q bytes (Data i quality payload) answer) p (section_in_force E p) (takes_since_adopted E p) (since_adopted g E p life.1))
-since_adopted g (Arrive q bytes (Unread refusal) answer ∷ E) p life =
-    of_before g E (Arrive q bytes (Unread refusal) answer) p (section_in_force E p) (takes_since_adopted E p) (since_adopted g E p life.1)
-since_adopted g (Arrive q bytes (Configuration s) answer ∷ E) p life =
-    of_before g E (Arrive q bytes (Configuration s) answer) p (section_in_force E p) (takes_since_adopted E p) (since_adopted g E p life.1)
-since_adopted g (Tick now rows adopted used_up ∷ E) p life =
-    at_tick g (Tick now rows adopted used_up ∷ E) p adopted (is_newer (held_section E p) (section_in_force E p)) (held_section E p) (section_in_force E p) (takes_since_adopted E p)
-    (not_newer (held_section E p) (section_in_force E p) (follows E p))
-    (of_before g E (Tick now rows adopted used_up) p (section_in_force E p) (takes_since_adopted E p) (since_adopted g E p life.1))
-since_adopted g (Pop row ∷ E) p life =
-    of_before g E (Pop row) p (section_in_force E p) (takes_since_adopted E p) (since_adopted g E p life.1)
+  -- what was taken since the count in force changed stays so at a tick, though another section were adopted
+  at_tick : (g : Given) (E : List Entry) (p : ℕ) (adopted newer : Bool) (held o : Option SectionFields) (ts : List Take) → (newer ≡ false → o ≡ held) →
+      AllByRecursion (IsOf g E p o) ts → AllByRecursion (IsOf g E p (cond adopted held o)) (cond (adopted && newer) [] ts)
+  at_tick g E p false newer held o ts h a = a
+  at_tick g E p true true held o ts h a = tt
+  at_tick g E p true false held o ts h a = subst (λ (u : Option SectionFields). AllByRecursion (IsOf g E p u) ts) (h refl) a
 
--- what is found passes, and what holds of all holds of it
-found_here : (b : Bool) (f : Take → Bool) (P : Take → Type 0) (u t : Take) (other : Option Take) → f u ≡ b → P u → (other ≡ Some t → (f t ≡ true) × P t) → cond b (Some u) other ≡ Some t → (f t ≡ true) × P t
-found_here true f P u t other e a rest h = let same : u ≡ t = same_Some u t h in (subst (λ (v : Take). f v ≡ true) same e, subst P same a)
-found_here false f P u t other e a rest h = rest h
+  since_adopted : (g : Given) (E : List Entry) (p : ℕ) → IsLife g E → AllByRecursion (IsOf g E p (section_in_force E p)) (takes_since_adopted E p)
+  since_adopted g [] p life = tt
+  since_adopted g (Arrive q bytes (Data i quality payload) answer ∷ E) p life =
+      with_take (is_taken answer) (IsOf g (Arrive q bytes (Data i quality payload) answer ∷ E) p (section_in_force E p)) _ (takes_since_adopted E p)
+      (λ taken same s k. now_gives g E q p i quality bytes payload answer s life.0 (taken_is answer taken) same k)
+      (of_before g E (Arrive q bytes (Data i quality payload) answer) p (section_in_force E p) (takes_since_adopted E p) (since_adopted g E p life.1))
+  since_adopted g (Arrive q bytes (Unread refusal) answer ∷ E) p life =
+      of_before g E (Arrive q bytes (Unread refusal) answer) p (section_in_force E p) (takes_since_adopted E p) (since_adopted g E p life.1)
+  since_adopted g (Arrive q bytes (Configuration s) answer ∷ E) p life =
+      of_before g E (Arrive q bytes (Configuration s) answer) p (section_in_force E p) (takes_since_adopted E p) (since_adopted g E p life.1)
+  since_adopted g (Tick now rows adopted used_up ∷ E) p life =
+      at_tick g (Tick now rows adopted used_up ∷ E) p adopted (is_newer (held_section E p) (section_in_force E p)) (held_section E p) (section_in_force E p) (takes_since_adopted E p)
+      (not_newer (held_section E p) (section_in_force E p) (follows E p))
+      (of_before g E (Tick now rows adopted used_up) p (section_in_force E p) (takes_since_adopted E p) (since_adopted g E p life.1))
+  since_adopted g (Pop row ∷ E) p life =
+      of_before g E (Pop row) p (section_in_force E p) (takes_since_adopted E p) (since_adopted g E p life.1)
 
-found : (f : Take → Bool) (P : Take → Type 0) (ts : List Take) (t : Take) → AllByRecursion P ts → find f ts ≡ Some t → (f t ≡ true) × P t
-found f P [] t a h = absurd (none-some t h)
-found f P (u ∷ ts) t a h = found_here (f u) f P u t (find f ts) refl a.0 (found f P ts t a.1) h
+  -- what is found passes, and what holds of all holds of it
+  found_here : (b : Bool) (f : Take → Bool) (P : Take → Type 0) (u t : Take) (other : Option Take) → f u ≡ b → P u → (other ≡ Some t → (f t ≡ true) × P t) → cond b (Some u) other ≡ Some t → (f t ≡ true) × P t
+  found_here true f P u t other e a rest h = let same : u ≡ t = same_Some u t h in (subst (λ (v : Take). f v ≡ true) same e, subst P same a)
+  found_here false f P u t other e a rest h = rest h
 
-both : (a b : Bool) → (a && b) ≡ true → (a ≡ true) × (b ≡ true)
-both true b h = (refl, h)
-both false b h = absurd (false≢true h)
+  found : (f : Take → Bool) (P : Take → Type 0) (ts : List Take) (t : Take) → AllByRecursion P ts → find f ts ≡ Some t → (f t ≡ true) × P t
+  found f P [] t a h = absurd (none-some t h)
+  found f P (u ∷ ts) t a h = found_here (f u) f P u t (find f ts) refl a.0 (found f P ts t a.1) h
 
-itself : (n : ℕ) → eqb n n ≡ true
-itself n = search rules
+  both : (a b : Bool) → (a && b) ≡ true → (a ≡ true) × (b ≡ true)
+  both true b h = (refl, h)
+  both false b h = absurd (false≢true h)
 
--- the cell of its own column
-own_cell : (p : ℕ) (cell other : CellView) (cells : List (ℕ × CellView)) → cells ≡ (p, other) ∷ [] → option_map (λ (c : ℕ × CellView). c.1) (find (is_cell_of p) cells) ≡ Some cell → other ≡ cell
-own_cell p cell other cells one h =
-    let here : option_map (λ (c : ℕ × CellView). c.1) (find (is_cell_of p) ((p, other) ∷ [])) ≡ Some cell =
-    subst (λ (cs : List (ℕ × CellView)). option_map (λ (c : ℕ × CellView). c.1) (find (is_cell_of p) cs) ≡ Some cell) one h in
-    same_Some other cell (subst (λ (b : Bool). option_map (λ (c : ℕ × CellView). c.1) (cond b (Some (p, other)) None) ≡ Some cell) (itself p) here)
+  itself : (n : ℕ) → eqb n n ≡ true
+  itself n = search rules
 
-cell_brought : (g : Given) (E : List Entry) (p i : ℕ) (s : SectionFields) (cell : CellView) (o : Option Take) → IsLife g E → section_in_force E p ≡ Some s →
-    take_of E p i ≡ o → cell_in p o ≡ Some cell → HasBrought g E p i s cell.block
-cell_brought g E p i s cell None life k e h = absurd (none-some cell h)
-cell_brought g E p i s cell (Some t) life k e h =
-    let f : (is_take_of p i t ≡ true) × IsOf g E p (section_in_force E p) t =
-    found (is_take_of p i) (IsOf g E p (section_in_force E p)) (takes_since_adopted E p) t (since_adopted g E p life) e in
-    let same : (eqb t.stream p ≡ true) × (eqb t.instant i ≡ true) = both (eqb t.stream p) (eqb t.instant i) f.0 in
-    let gives : Gives g E p t.instant s t.cells = f.1 (eqb-true t.stream p same.0) s k in
-    subst (λ (c : CellView). HasBrought g E p i s c.block) (own_cell p cell gives.cell t.cells gives.one h)
-    (subst (λ (n : ℕ). HasBrought g E p n s gives.cell.block) (eqb-true t.instant i same.1) gives.brought)
+  -- the cell of its own column
+  own_cell : (p : ℕ) (cell other : CellView) (cells : List (ℕ × CellView)) → cells ≡ (p, other) ∷ [] → option_map (λ (c : ℕ × CellView). c.1) (find (is_cell_of p) cells) ≡ Some cell → other ≡ cell
+  own_cell p cell other cells one h =
+      let here : option_map (λ (c : ℕ × CellView). c.1) (find (is_cell_of p) ((p, other) ∷ [])) ≡ Some cell =
+      subst (λ (cs : List (ℕ × CellView)). option_map (λ (c : ℕ × CellView). c.1) (find (is_cell_of p) cs) ≡ Some cell) one h in
+      same_Some other cell (subst (λ (b : Bool). option_map (λ (c : ℕ × CellView). c.1) (cond b (Some (p, other)) None) ≡ Some cell) (itself p) here)
 
-if_present : (b : Bool) (g : Given) (E : List Entry) (p i : ℕ) (s : SectionFields) (cell : CellView) → HasBrought g E p i s cell.block →
-    IsGenuine g E p i s (block_or_absent s.shape (cond b (Some cell) None))
-if_present true g E p i s cell h = inr h
-if_present false g E p i s cell h = inl refl
+  cell_brought : (g : Given) (E : List Entry) (p i : ℕ) (s : SectionFields) (cell : CellView) (o : Option Take) → IsLife g E → section_in_force E p ≡ Some s →
+      take_of E p i ≡ o → cell_in p o ≡ Some cell → HasBrought g E p i s cell.block
+  cell_brought g E p i s cell None life k e h = absurd (none-some cell h)
+  cell_brought g E p i s cell (Some t) life k e h =
+      let f : (is_take_of p i t ≡ true) × IsOf g E p (section_in_force E p) t =
+      found (is_take_of p i) (IsOf g E p (section_in_force E p)) (takes_since_adopted E p) t (since_adopted g E p life) e in
+      let same : (eqb t.stream p ≡ true) × (eqb t.instant i ≡ true) = both (eqb t.stream p) (eqb t.instant i) f.0 in
+      let gives : Gives g E p t.instant s t.cells = f.1 (eqb-true t.stream p same.0) s k in
+      subst (λ (c : CellView). HasBrought g E p i s c.block) (own_cell p cell gives.cell t.cells gives.one h)
+      (subst (λ (n : ℕ). HasBrought g E p n s gives.cell.block) (eqb-true t.instant i same.1) gives.brought)
 
-chosen_genuine : (g : Given) (E : List Entry) (p i : ℕ) (s : SectionFields) (o : Option CellView) → IsLife g E → section_in_force E p ≡ Some s →
-    cell_of E p i ≡ o → IsGenuine g E p i s (block_or_absent s.shape (present_of o))
-chosen_genuine g E p i s None life k e = inl refl
-chosen_genuine g E p i s (Some cell) life k e =
-    if_present (is_present cell.block) g E p i s cell (cell_brought g E p i s cell (take_of E p i) life k refl e)
+  if_present : (b : Bool) (g : Given) (E : List Entry) (p i : ℕ) (s : SectionFields) (cell : CellView) → HasBrought g E p i s cell.block →
+      IsGenuine g E p i s (block_or_absent s.shape (cond b (Some cell) None))
+  if_present true g E p i s cell h = inr h
+  if_present false g E p i s cell h = inl refl
 
-pub block_genuine : (g : Given) (E : List Entry) (p i : ℕ) (s : SectionFields) (b : BlockView) → IsLife g E → section_in_force E p ≡ Some s →
-    block_in (section_in_force E p) (cell_of E p i) ≡ Some b → IsGenuine g E p i s b
-block_genuine g E p i s b life k h =
-    let is : block_or_absent s.shape (present_of (cell_of E p i)) ≡ b =
-    same_Some (block_or_absent s.shape (present_of (cell_of E p i))) b (sym (ap (λ (o : Option SectionFields). block_in o (cell_of E p i)) k) ∙ h) in
-    subst (IsGenuine g E p i s) is (chosen_genuine g E p i s (cell_of E p i) life k refl)
+  chosen_genuine : (g : Given) (E : List Entry) (p i : ℕ) (s : SectionFields) (o : Option CellView) → IsLife g E → section_in_force E p ≡ Some s →
+      cell_of E p i ≡ o → IsGenuine g E p i s (block_or_absent s.shape (present_of o))
+  chosen_genuine g E p i s None life k e = inl refl
+  chosen_genuine g E p i s (Some cell) life k e =
+      if_present (is_present cell.block) g E p i s cell (cell_brought g E p i s cell (take_of E p i) life k refl e)
 
--- one PMU more
-with_pmu : (g : Given) (E : List Entry) (p i : ℕ) (o : Option SectionFields) (sections : List (ℕ × SectionFields)) (blocks : List BlockView) → IsLife g E →
-    section_in_force E p ≡ o → AreGenuine g E i sections blocks →
-    AreGenuine g E i (cons_option (option_map (λ (s : SectionFields). (p, s)) o) sections) (cons_option (block_in o (cell_of E p i)) blocks)
-with_pmu g E p i None sections blocks life k rest = rest
-with_pmu g E p i (Some s) sections blocks life k rest = (chosen_genuine g E p i s (cell_of E p i) life k refl, rest)
+  pub block_genuine : (g : Given) (E : List Entry) (p i : ℕ) (s : SectionFields) (b : BlockView) → IsLife g E → section_in_force E p ≡ Some s →
+      block_in (section_in_force E p) (cell_of E p i) ≡ Some b → IsGenuine g E p i s b
+  block_genuine g E p i s b life k h =
+      let is : block_or_absent s.shape (present_of (cell_of E p i)) ≡ b =
+      same_Some (block_or_absent s.shape (present_of (cell_of E p i))) b (sym (ap (λ (o : Option SectionFields). block_in o (cell_of E p i)) k) ∙ h) in
+      subst (IsGenuine g E p i s) is (chosen_genuine g E p i s (cell_of E p i) life k refl)
 
-pub blocks_genuine : (g : Given) (E : List Entry) (i : ℕ) (ps : List ℕ) → IsLife g E →
-    AreGenuine g E i (filter_map (with_section E) ps) (filter_map (λ p. block_in (section_in_force E p) (cell_of E p i)) ps)
-blocks_genuine g E i [] life = tt
-blocks_genuine g E i (p ∷ ps) life =
-    with_pmu g E p i (section_in_force E p) (filter_map (with_section E) ps) (filter_map (λ q. block_in (section_in_force E q) (cell_of E q i)) ps) life refl (blocks_genuine g E i ps life)
+  -- one PMU more
+  with_pmu : (g : Given) (E : List Entry) (p i : ℕ) (o : Option SectionFields) (sections : List (ℕ × SectionFields)) (blocks : List BlockView) → IsLife g E →
+      section_in_force E p ≡ o → AreGenuine g E i sections blocks →
+      AreGenuine g E i (cons_option (option_map (λ (s : SectionFields). (p, s)) o) sections) (cons_option (block_in o (cell_of E p i)) blocks)
+  with_pmu g E p i None sections blocks life k rest = rest
+  with_pmu g E p i (Some s) sections blocks life k rest = (chosen_genuine g E p i s (cell_of E p i) life k refl, rest)
+
+  pub blocks_genuine : (g : Given) (E : List Entry) (i : ℕ) (ps : List ℕ) → IsLife g E →
+      AreGenuine g E i (filter_map (with_section E) ps) (filter_map (λ p. block_in (section_in_force E p) (cell_of E p i)) ps)
+  blocks_genuine g E i [] life = tt
+  blocks_genuine g E i (p ∷ ps) life =
+      with_pmu g E p i (section_in_force E p) (filter_map (with_section E) ps) (filter_map (λ q. block_in (section_in_force E q) (cell_of E q i)) ps) life refl (blocks_genuine g E i ps life)

@@ -1,16 +1,13 @@
 -- The payload of a row's frame.
-use Rattle.std.proofs.Common.{◌≡◌, inr, ℕ, ◌^◌, ◌<◌, ◌≤◌, List, [], ◌∷◌, length, map, refl, sym, subst, ◌∙◌, arith, length-append}
-use Rattle.std.specs.Prelude.{sum_by}
+use Rattle.std.proofs.Common.{◌≡◌, inr, ℕ, ◌^◌, ◌<◌, ◌≤◌, List, length, map, refl, sym, subst, ◌∙◌, arith}
 use Rattle.std.specs.Int.{w16, to_be_bytes}
 use Rattle.std.specs.List.{flat_map}
 use Rattle.std.proofs.lemmas.List.Folds.{flat_map-map}
-use Rattle.std.proofs.lemmas.List.Sums.{sum_by-cons}
 use Rattle.pdc_frame.specs.Frame.{Fields, Fits, IsFrame}
 use Rattle.pdc_frame.specs.declared.frame.Kind.TheVariants.{DataFrame}
 use Rattle.pdc_tag.specs.Tag.{tag_of}
 use Rattle.pdc_block.specs.declared.block.Block.{Block}
-use Rattle.pdc_block.specs.Block.{bytes_of_words, bytes_of_blocks, body_len_of, words_of, shape_of}
-use Rattle.pdc_block.proofs.Words.{length-bytes_of_words}
+use Rattle.pdc_block.specs.Block.{bytes_of_words, bytes_of_blocks, words_of}
 use Rattle.pdc_row.specs.CellView.{BlockView, block_view}
 use Rattle.pdc_row.specs.RowView.{RowView}
 use Rattle.pdc_life.specs.declared.given.Settings.{Settings}
@@ -20,13 +17,6 @@ use Rattle.pdc_life.proofs.Bytes.{Bytes, Bytes-append, Bytes-flat_map, Bytes-wor
 -- the bytes of blocks, by their words
 pub same_blocks : (blocks : List Block) → bytes_of_blocks (map words_of blocks) ≡ flat_map (λ (b : BlockView). bytes_of_words b.words) (map block_view blocks)
 same_blocks blocks = flat_map-map bytes_of_words words_of blocks ∙ sym (flat_map-map (λ (b : BlockView). bytes_of_words b.words) block_view blocks)
-
--- what they take
-pub length-blocks : (blocks : List Block) → length (flat_map (λ (b : BlockView). bytes_of_words b.words) (map block_view blocks)) ≡ sum_by (λ block. body_len_of (shape_of block)) blocks
-length-blocks [] = refl
-length-blocks (b ∷ blocks) =
-    let rest : List ℕ = flat_map (λ (x : BlockView). bytes_of_words x.words) (map block_view blocks) in
-    omega (arith, length-append (bytes_of_words (words_of b)) rest, length-bytes_of_words (words_of b), b.counted, length-blocks blocks, sum_by-cons (λ block. body_len_of (shape_of block)) b blocks)
 
 Bytes-words : (words : List ℕ) → Bytes (bytes_of_words words)
 Bytes-words words = Bytes-flat_map (to_be_bytes w16) Bytes-word words

@@ -2,9 +2,13 @@
 ghost use Rattle.std.specs.Prelude.{◌^◌, ◌<◌, ◌≤◌, IsTrue, length, nat_le};
 ghost use Rattle.std.specs.List.{list_all};
 ghost use Rattle.pdc_life.specs.declared.pmu.Pmu.{Pmu as PmuData};
+ghost use Rattle.pdc_life.specs.declared.given.TheConstants.{MAX_PMUS};
 
 use crate::pmu::Pmu;
 use arrayvec::ArrayVec;
+
+/// The most PMUs of a node.
+pub const MAX_PMUS: usize = 16;
 
 /// The nominal frequency of the grid.
 #[derive(Clone, Copy, Debug, PartialEq, Eq)]
@@ -33,7 +37,7 @@ pub struct Settings {
     /// How far above the last tick's now an instant may lie, 0 to 1000 instants.
     pub ahead: u64,
     /// The PMUs, 1 to 16, in the order of the columns. Each one's TIME_BASE is at least the rate.
-    pub pmus: ArrayVec<Pmu, 16>,
+    pub pmus: ArrayVec<Pmu, MAX_PMUS>,
     pub ghost id_low: { 0 < id },
     pub ghost id_high: { id < 65535 },
     pub ghost rate_low: { 1 ≤ rate },
@@ -46,7 +50,7 @@ pub struct Settings {
     pub ghost window_high: { window ≤ 256 },
     pub ghost ahead_high: { ahead ≤ 1000 },
     pub ghost some: { 0 < length pmus.items },
-    pub ghost few: { length pmus.items ≤ 16 },
+    pub ghost few: { length pmus.items ≤ MAX_PMUS },
     pub ghost bases: { IsTrue (list_all (λ (pmu : PmuData). nat_le rate pmu.time_base) pmus.items) },
 }
 

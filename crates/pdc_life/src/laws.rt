@@ -1,9 +1,15 @@
-//! Laws of every life, by the definitions.
+//! Laws of every life, by the definitions: each is the contract of a function that does nothing but call the laws that it
+//! stands on.
 ghost use Rattle.pdc_life.specs.Genuine.{BlocksAreGenuine, RowsAreGenuine};
 ghost use Rattle.pdc_life.specs.Tagged.{RowsHaveTags};
 ghost use Rattle.pdc_life.specs.Valid.{HeldIsSection, InForceIsSection};
 ghost use Rattle.pdc_life.specs.Laws.{ClosedStayClosed, CountsStay, HeldIsGreatest, NoneOvertakes, RowsRise, TakenIsInTime};
 ghost use Rattle.pdc_life.specs.OneLife.{AnswersAreOne, BytesAreReadOnce, StepsHaveOneLife};
+
+use pdc_block::bodies_are_their_words;
+use pdc_cfg::configurations_are_read_in_one_way;
+use pdc_frame::frames_are_read_in_one_way;
+use pdc_tag::instant_is_nearest;
 
 /// In every life the instants of the rows rise strictly, and lie above the floor.
 pub fn rows_rise()
@@ -18,17 +24,25 @@ pub fn counts_stay()
 /// Bytes that arrive for a PMU say one thing at most.
 pub fn bytes_are_read_in_one_way()
     ensures { BytesAreReadOnce }
-{}
+{
+    frames_are_read_in_one_way();
+    configurations_are_read_in_one_way();
+    instant_is_nearest();
+}
 
 /// Two answers to the same bytes cannot both hold, nor can the bytes say two things.
 pub fn answers_are_one()
     ensures { AnswersAreOne }
-{}
+{
+    bytes_are_read_in_one_way();
+}
 
 /// Steps have one life at most.
 pub fn steps_have_one_life()
     ensures { StepsHaveOneLife }
-{}
+{
+    bytes_are_read_in_one_way();
+}
 
 /// What is taken came in time, and what comes in time is taken.
 pub fn taken_is_in_time()
@@ -65,10 +79,14 @@ pub fn sections_are_valid()
 /// taken in this life when the section in force was so already.
 pub fn blocks_are_genuine()
     ensures { BlocksAreGenuine }
-{}
+{
+    bodies_are_their_words();
+}
 
 /// The blocks of a row are such ones: one for each PMU that had a section in force when the row closed, in the order of the
 /// settings.
 pub fn rows_are_genuine()
     ensures { RowsAreGenuine }
-{}
+{
+    bodies_are_their_words();
+}

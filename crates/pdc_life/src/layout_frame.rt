@@ -1,17 +1,16 @@
 //! The configuration frame of a node's layout (this profile; C37.118.2-2011, 6.4).
-ghost use Rattle.std.specs.Prelude.{◌≡◌, ◌+◌, ◌≤◌, ◌++◌, ◌∷◌, map, length, vec_len, vec_capacity, IsOk, OnOk, OnErr};
+ghost use Rattle.std.specs.Prelude.{◌≡◌, ◌+◌, ◌≤◌, ◌++◌, ◌∷◌, map, length, IsOk, OnOk, OnErr};
 ghost use Rattle.std.specs.Int.{w16, cast_unsigned};
-ghost use Rattle.std.specs.List.{AllByRecursion};
 ghost use Rattle.pdc_frame.specs.Frame.{IsFrame};
-ghost use Rattle.pdc_cfg.specs.Section.{IsSection, fields_of_view, fields_of_section};
+ghost use Rattle.pdc_cfg.specs.Section.{fields_of_view, fields_of_section};
 ghost use Rattle.pdc_life.specs.Layout.{IsLayout, layout_fields_of, layout_payload_of, layout_wire_of};
 
-use crate::given::Settings;
+use crate::given::{MAX_PMUS, Settings};
 use crate::section::own_section;
 use arrayvec::ArrayVec;
 use pdc_cfg::{ConfigView, Section, SectionView, write_config};
-use pdc_frame::Kind;
-use std::alloc::{AllocError, Allocator};
+use pdc_frame::{Buffer, Kind};
+use std::alloc::AllocError;
 
 /// The same section, lent for as long as the view of it is.
 fn lent<'a>(section: &'a SectionView) -> SectionView<'a>
@@ -32,7 +31,7 @@ fn config_of<'a>(
     own: &'a Section,
     sections: &'a [SectionView],
 ) -> ConfigView<'a>
-    requires { length sections.now ≤ 16 }
+    requires { length sections.now ≤ MAX_PMUS }
     ensures flags { result.flags ≡ 0 }
     ensures time_base { result.time_base ≡ settings.now.time_base }
     ensures sections { map fields_of_view result.sections.items ≡ fields_of_section own.now ∷ map fields_of_view sections.now }
@@ -57,26 +56,28 @@ fn config_of<'a>(
 /// # Errors
 ///
 /// [`AllocError`] where `out` has no room and gets none.
-pub fn append_layout<A: Allocator>(
+pub fn append_layout<B: Buffer>(
     settings: &Settings,
     start: u32,
     change: u32,
     sections: &[SectionView],
     soc: u32,
-    out: &mut Vec<u8, A>,
+    out: &mut B,
 ) -> Result<(), AllocError>
-    requires few { length sections.now ≤ 16 }
-    requires sections { AllByRecursion IsSection (map fields_of_view sections.now) }
+    requires { length sections.now ≤ MAX_PMUS }
     // What is appended is the frame,
-    ensures ok { OnOk result (out.new.items ≡ out.old.items ++ layout_wire_of settings.now start change (map fields_of_view sections.now) soc) }
+    ensures ok { OnOk result (B.content out.new ≡ B.content out.old ++ layout_wire_of settings.now start change (map fields_of_view sections.now) soc) }
     // which is read back with these fields.
     ensures frame { IsFrame (layout_wire_of settings.now start change (map fields_of_view sections.now) soc) (layout_fields_of settings.now start change (map fields_of_view sections.now) soc) }
     // Its payload is a configuration: the own section, and then these.
     ensures config { OnOk result (IsLayout settings.now start change (map fields_of_view sections.now) (layout_payload_of settings.now start change (map fields_of_view sections.now))) }
     // It fails only where there was no room, and then nothing is appended.
-    ensures err { OnErr result (out.new.items ≡ out.old.items) }
-    ensures room { vec_len out.old + length (layout_wire_of settings.now start change (map fields_of_view sections.now) soc) ≤ vec_capacity out.old → IsOk result }
-    ensures capacity { vec_capacity out.old ≤ vec_capacity out.new }
+    ensures err { OnErr result ((B.content out.new ≡ B.content out.old) × (B.capacity out.new ≡ B.capacity out.old)) }
+    ensures room { length (B.content out.old) + length (layout_wire_of settings.now start change (map fields_of_view sections.now) soc) ≤ B.capacity out.old → IsOk result }
+    // Where there was room, it takes no memory.
+    ensures in_place { length (B.content out.old) + length (layout_wire_of settings.now start change (map fields_of_view sections.now) soc) ≤ B.capacity out.old
+        → B.capacity out.new ≡ B.capacity out.old }
+    ensures capacity { B.capacity out.old ≤ B.capacity out.new }
 {
     let own = own_section(settings, start, change);
     let config = config_of(settings, &own, sections);

@@ -21,7 +21,7 @@ mod row_frame;
 mod section;
 mod stamp;
 
-pub use given::{Given, Nominal, Settings};
+pub use given::{Given, MAX_PMUS, Nominal, Settings};
 pub use laws::{
     answers_are_one, blocks_are_genuine, bytes_are_read_in_one_way, closed_stay_closed,
     counts_stay, held_is_greatest, none_overtakes, rows_are_genuine, rows_have_tags, rows_rise,

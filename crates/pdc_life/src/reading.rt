@@ -1,5 +1,5 @@
 //! What bytes say that arrived for a PMU.
-ghost use Rattle.std.specs.Prelude.{◌≡◌, ◌^◌, ◌<◌, ℕ, List};
+ghost use Rattle.std.specs.Prelude.{◌≡◌, ℕ, List};
 ghost use Rattle.pdc_frame.specs.Frame.{fields_of};
 ghost use Rattle.pdc_frame.specs.declared.frame.Kind.TheVariants.{DataFrame, Cfg2};
 ghost use Rattle.pdc_cfg.specs.Config.{config_fields_of};
@@ -51,7 +51,6 @@ pub fn read_arrival<'a>(settings: &Settings, pmu: &Pmu, bytes: &'a [u8]) -> Read
 
 /// What a data frame of the PMU's stream says.
 fn read_data<'a>(settings: &Settings, pmu: &Pmu, frame: &Frame<'a>) -> Reading<'a>
-    requires { frame.now.frac < 2 ^ 24 }
     ensures { (bytes : List ℕ) → IsOfStream pmu.now bytes (fields_of frame.now) → frame.now.kind ≡ DataFrame
         → Reads settings.now pmu.now bytes (arrival_view result) }
 {

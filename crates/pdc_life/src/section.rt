@@ -9,7 +9,7 @@ ghost use Rattle.pdc_life.specs.Layout.{digit, own_name, nominal_word, masks_of,
 use crate::given::{Nominal, Settings};
 use crate::stamp::{low_word, stamp_words};
 use arrayvec::ArrayVec;
-use pdc_cfg::{Section, Shape};
+use pdc_cfg::{MAX_SECTION_LEN, Section, Shape};
 
 /// The stamp has four words, and each goes out as a digital word.
 const DIGITALS: u8 = 4;
@@ -21,8 +21,8 @@ const NAMES_LEN: usize = 1024;
 const ALL_VALID: u16 = 0xFFFF;
 
 /// Appends the bytes, for which there is room.
-fn append(more: &[u8], bytes: &mut ArrayVec<u8, 3390>)
-    requires { array_vec_len bytes.old + length more.now ≤ 3390 }
+fn append(more: &[u8], bytes: &mut ArrayVec<u8, MAX_SECTION_LEN>)
+    requires { array_vec_len bytes.old + length more.now ≤ MAX_SECTION_LEN }
     ensures items { bytes.new.items ≡ bytes.old.items ++ more.now }
     ensures len { array_vec_len bytes.new ≡ array_vec_len bytes.old + length more.now }
 {
@@ -30,8 +30,8 @@ fn append(more: &[u8], bytes: &mut ArrayVec<u8, 3390>)
 }
 
 /// Appends the word with its high byte first.
-fn append_word(word: u16, bytes: &mut ArrayVec<u8, 3390>)
-    requires { array_vec_len bytes.old + 2 ≤ 3390 }
+fn append_word(word: u16, bytes: &mut ArrayVec<u8, MAX_SECTION_LEN>)
+    requires { array_vec_len bytes.old + 2 ≤ MAX_SECTION_LEN }
     ensures items { bytes.new.items ≡ bytes.old.items ++ to_be_bytes w16 word }
     ensures len { array_vec_len bytes.new ≡ array_vec_len bytes.old + 2 }
 {
@@ -46,8 +46,8 @@ fn digit(number: u16) -> u8
 }
 
 /// Appends STN: "PDC ", the id with five digits, and spaces.
-fn append_name(id: u16, bytes: &mut ArrayVec<u8, 3390>)
-    requires { array_vec_len bytes.old + 16 ≤ 3390 }
+fn append_name(id: u16, bytes: &mut ArrayVec<u8, MAX_SECTION_LEN>)
+    requires { array_vec_len bytes.old + 16 ≤ MAX_SECTION_LEN }
     ensures items { bytes.new.items ≡ bytes.old.items ++ own_name id }
     ensures len { array_vec_len bytes.new ≡ array_vec_len bytes.old + 16 }
 {
@@ -64,8 +64,8 @@ fn append_name(id: u16, bytes: &mut ArrayVec<u8, 3390>)
 }
 
 /// Appends IDCODE, FORMAT, PHNMR, ANNMR and DGNMR: 16-bit integers, and no values but the digital words.
-fn append_numbers(id: u16, bytes: &mut ArrayVec<u8, 3390>)
-    requires { array_vec_len bytes.old + 10 ≤ 3390 }
+fn append_numbers(id: u16, bytes: &mut ArrayVec<u8, MAX_SECTION_LEN>)
+    requires { array_vec_len bytes.old + 10 ≤ MAX_SECTION_LEN }
     ensures items { bytes.new.items ≡ bytes.old.items ++ to_be_bytes w16 id ++ to_be_bytes w16 0 ++ to_be_bytes w16 0
         ++ to_be_bytes w16 0 ++ to_be_bytes w16 4 }
     ensures len { array_vec_len bytes.new ≡ array_vec_len bytes.old + 10 }
@@ -78,17 +78,17 @@ fn append_numbers(id: u16, bytes: &mut ArrayVec<u8, 3390>)
 }
 
 /// Appends the names of the bits, which are spaces.
-fn append_bit_names(bytes: &mut ArrayVec<u8, 3390>)
-    requires { array_vec_len bytes.old + 1024 ≤ 3390 }
+fn append_bit_names(bytes: &mut ArrayVec<u8, MAX_SECTION_LEN>)
+    requires { array_vec_len bytes.old + NAMES_LEN ≤ MAX_SECTION_LEN }
     ensures items { bytes.new.items ≡ bytes.old.items ++ replicate (64 * 16) 32 }
-    ensures len { array_vec_len bytes.new ≡ array_vec_len bytes.old + 1024 }
+    ensures len { array_vec_len bytes.new ≡ array_vec_len bytes.old + NAMES_LEN }
 {
     append(&[b' '; NAMES_LEN], bytes);
 }
 
 /// Appends the masks of digital words: the normal status of each is the word itself.
-fn append_masks(words: &[u16], bytes: &mut ArrayVec<u8, 3390>)
-    requires { array_vec_len bytes.old + 4 * length words.now ≤ 3390 }
+fn append_masks(words: &[u16], bytes: &mut ArrayVec<u8, MAX_SECTION_LEN>)
+    requires { array_vec_len bytes.old + 4 * length words.now ≤ MAX_SECTION_LEN }
     ensures items { bytes.new.items ≡ bytes.old.items ++ flat_map masks_of words.now }
     ensures len { array_vec_len bytes.new ≡ array_vec_len bytes.old + 4 * length words.now }
 {
@@ -109,7 +109,7 @@ fn nominal_word(nominal: Nominal) -> u16
 }
 
 /// The bytes of the section, from STN to CFGCNT.
-fn section_bytes(settings: &Settings, start: u32, change: u32) -> ArrayVec<u8, 3390>
+fn section_bytes(settings: &Settings, start: u32, change: u32) -> ArrayVec<u8, MAX_SECTION_LEN>
     ensures { result.items ≡ own_bytes settings.now start change }
 {
     let mut bytes = ArrayVec::new();

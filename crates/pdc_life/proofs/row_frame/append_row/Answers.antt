@@ -1,6 +1,6 @@
+use Rattle.std.proofs.lemmas.Bool.{false≢true}
 use Rattle.std.proofs.Common.{ℕ, ◌+◌, List, ◌++◌, length, ap, ◌∙◌, arith}
 use Rattle.pdc_frame.specs.Frame.{Fields, header_of}
-use Rattle.pdc_frame.proofs.Writing.{framed}
 use Rattle.pdc_row.specs.RowView.{RowView, row_view}
 use Rattle.pdc_tag.specs.Tag.{tag_of}
 use Rattle.pdc_life.specs.Layout.{row_fields}
@@ -26,8 +26,17 @@ returns-clause-ok g c =
     let s = c.args.settings.now in
     let row : RowView = row_view c.args.row.now in
     let f : Fields = row_fields s row in
-    let header : List ℕ = header_of f (length f.payload + 16) in
     let tag = c.tag_of-soc.ensures.value ∙ ap (λ (r : ℕ). tag_of row.instant s.time_base r) c.from.ensures in
-    let begun = c.in_ok-begin_frame.ensures.ok ∙ ap (λ (t : ℕ × ℕ). c.args.out.now.items ++ header_of (head_of s row t) (c.payload_len.result + 16)) tag ∙ ap (λ (n : ℕ). c.args.out.now.items ++ header_of f (n + 16)) c.payload_len.ensures.value in
-    framed c.args.out.now.items header f.payload c.append_payload.new.out.items c.end_frame.new.out.items c.len-start.result (c.len-start.ensures ∙ c.args.out.now.ok.0)
-    (c.append_payload.ensures.items ∙ ap (λ (xs : List ℕ). xs ++ f.payload) begun) c.end_frame.ensures.items
+    let old : List ℕ = g.B.Buffer.content c.args.out.now in
+    let begun = c.in_ok-begin_frame.ensures.ok ∙ ap (λ (t : ℕ × ℕ). old ++ header_of (head_of s row t) (c.payload_len.result + 16)) tag ∙ ap (λ (n : ℕ). old ++ header_of f (n + 16)) c.payload_len.ensures.value in
+    c.frames_are_written_in_parts.ensures.spelled f old _ _ _ _ (ap length c.content-start.ensures) begun c.append_payload.ensures.content c.end_frame.ensures.items
+
+pub returns-in_err-begin_frame-clause-room : goal.returns-in_err-begin_frame-clause-room
+returns-in_err-begin_frame-clause-room g c =
+    let f : Fields = row_fields c.args.settings.now (row_view c.args.row.now) in
+    λ room. absurd (false≢true (c.in_err-begin_frame.ensures.room (omega (arith, room, c.payload_len.ensures.value, c.frames_are_written_in_parts.ensures.len f))))
+
+pub returns-clause-in_place : goal.returns-clause-in_place
+returns-clause-in_place g c =
+    let f : Fields = row_fields c.args.settings.now (row_view c.args.row.now) in
+    λ room. c.end_frame.ensures.in_place ∙ c.append_payload.ensures.in_place ∙ c.in_ok-begin_frame.ensures.in_place (omega (arith, room, c.payload_len.ensures.value, c.frames_are_written_in_parts.ensures.len f))
