@@ -1,14 +1,20 @@
 -- The counts of a mark: how they may be raised, in which order they stand, and their bytes.
-use Rattle.std.specs.Prelude.{◌≡◌, ℕ, ◌+◌, ◌*◌, ◌<◌, ◌≤◌, Bool, List, [], ◌∷◌, length, slice_index}
+use Rattle.std.specs.Prelude.{◌≡◌, ℕ, ◌+◌, ◌*◌, ◌<◌, ◌≤◌, max, Bool, List, [], ◌∷◌, length, slice_index}
 use Rattle.std.specs.Ordering.{is_lt, nat_cmp}
 use Rattle.std.specs.Cmp.Lexicographic.{slice_cmp}
 use Rattle.std.specs.Int.{w16, to_be_bytes}
 use Rattle.std.specs.List.{flat_map}
+use Rattle.pdc_mark.specs.declared.layout.TheConstants.{COUNTS}
 
 -- counts may be raised to these: none of them is lower, and one is greater
 pub record IsRaise (old new : List ℕ) : Type 0 where
   pub none_lower : (i : ℕ) → slice_index old i ≤ slice_index new i
   pub one_greater : (i : ℕ) × (slice_index old i < slice_index new i)
+
+-- each is the greater of two
+pub record IsGreater (counts others greater : List ℕ) : Type 0 where
+  pub size : length greater ≡ COUNTS
+  pub each : (i : ℕ) → slice_index greater i ≡ max (slice_index counts i) (slice_index others i)
 
 -- these are lower: of the first that differ, the one here is
 unfoldable pub are_below : List ℕ → List ℕ → Bool

@@ -8,6 +8,8 @@ ghost use Rattle.pdc_mark.specs.Slots.{slot_in, HasEither, HasJust, IsHeld};
 ghost use Rattle.pdc_mark.specs.Counts.{IsRaise};
 ghost use Rattle.pdc_mark.specs.Stored.{is_below, with_counts, with_floor, with_next_start};
 
+mod stopped;
+
 use crate::fault::MarkFault;
 use crate::find::Found;
 use crate::layout::{CLOSED, COUNTS, OPEN};

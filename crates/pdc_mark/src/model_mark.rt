@@ -1,9 +1,10 @@
 //! A mark that nothing can take: the words of `Mark` in their plainest form, for lives without a disk.
-ghost use Rattle.std.specs.Prelude.{◌≡◌, false, ⊤};
+ghost use Rattle.std.specs.Prelude.{◌≡◌, false, refl, ⊤};
 
 use crate::fault::MarkFault;
 use crate::layout::COUNTS;
 use crate::mark::Mark;
+use crate::stops::Store;
 use crate::stored::Stored;
 
 /// A mark in memory. It never fails.
@@ -69,5 +70,31 @@ impl Mark for ModelMark {
 
     fn failures(&self) -> u64 {
         0
+    }
+}
+
+impl Store for ModelMark {
+    ghost never_fails = { tt };
+
+    ghost never_broken = { λ _. refl };
+
+    fn stopped(&mut self) {}
+
+    fn begin_stopped(&mut self, landed: bool) {
+        if landed {
+            self.stored = self.stored.with_next_start();
+        }
+    }
+
+    fn reserve_stopped(&mut self, floor: u64, landed: bool) {
+        if landed {
+            self.stored = self.stored.with_floor(floor);
+        }
+    }
+
+    fn raise_stopped(&mut self, counts: &[u16; COUNTS], landed: bool) {
+        if landed {
+            self.stored = self.stored.with_counts(*counts);
+        }
     }
 }

@@ -25,6 +25,24 @@ fn close_gate<D: Disk>(disk: &mut D, held: Place) -> Result<(), DiskFault>
     disk.sync()
 }
 
+/// Closes the gate of the other slot where it is open.
+///
+/// A closed gate isn't closed again: its fields may be torn, and a write to the gate could leave it open.
+fn make_ready<D: Disk>(disk: &mut D, held: Place, is_closed: bool) -> Result<(), DiskFault>
+    requires { IsHeld (D.seen disk.old) (D.is_settled disk.old) held is_closed }
+    ensures ok { OnOk result (IsHeld (D.seen disk.new) (D.is_settled disk.new) held true) }
+    ensures same { OnOk result (slot_in (D.seen disk.new) held ≡ slot_in (D.seen disk.old) held) }
+    ensures images { Leaves (D.seen disk.new) (D.is_settled disk.new)
+        (HasJust (slot_in (D.seen disk.old) held)) }
+    ensures cause { HasCause (D.failures disk.old) (D.failures disk.new) result }
+    ensures safe { MARK_LEN ≤ D.safe → IsOk result }
+{
+    if !is_closed {
+        return close_gate(disk, held);
+    }
+    Ok(())
+}
+
 /// Writes the fields behind the closed gate of the other slot.
 fn write_fields<D: Disk>(disk: &mut D, held: Place, next: Slot) -> Result<(), DiskFault>
     requires { IsHeld (D.seen disk.old) (D.is_settled disk.old) held true }
@@ -60,8 +78,6 @@ fn open_gate<D: Disk>(disk: &mut D, held: Place) -> Result<(), DiskFault>
 }
 
 /// Stores a mark above the one at `held` in the other slot, whose gate is closed on the device or is open.
-///
-/// A closed gate isn't closed again: its fields may be torn, and a write to the gate could leave it open.
 pub(crate) fn store<D: Disk>(
     disk: &mut D,
     held: Place,
@@ -77,9 +93,23 @@ pub(crate) fn store<D: Disk>(
     ensures cause { HasCause (D.failures disk.old) (D.failures disk.new) result }
     ensures safe { MARK_LEN ≤ D.safe → IsOk result }
 {
-    if !is_closed {
-        close_gate(disk, held)?;
-    }
+    make_ready(disk, held, is_closed)?;
     write_fields(disk, held, next)?;
     open_gate(disk, held)
+}
+
+/// A store up to the write of the fields, which no sync follows.
+pub(crate) fn store_in_part<D: Disk>(
+    disk: &mut D,
+    held: Place,
+    is_closed: bool,
+    next: Slot,
+) -> Result<(), DiskFault>
+    requires { IsHeld (D.seen disk.old) (D.is_settled disk.old) held is_closed }
+    ensures images { Leaves (D.seen disk.new) (D.is_settled disk.new)
+        (HasJust (slot_in (D.seen disk.old) held)) }
+    ensures safe { MARK_LEN ≤ D.safe → IsOk result }
+{
+    make_ready(disk, held, is_closed)?;
+    disk.write_at((held.other().offset() + FIELDS_AT) as u64, &next.fields())
 }

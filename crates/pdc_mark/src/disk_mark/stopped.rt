@@ -1,0 +1,87 @@
+//! A mark on a disk in memory, into whose stores a stop may fall.
+ghost use Rattle.std.specs.Prelude.{◌≡◌, ◌<◌, ◌≤◌, true, false, if◌then◌else◌};
+ghost use Rattle.std.proofs.Common.{rules};
+ghost use Rattle.pdc_disk.specs.MemoryDisk.{seen_of};
+ghost use Rattle.pdc_mark.specs.Counts.{IsRaise};
+ghost use Rattle.pdc_mark.specs.Slots.{HasJust};
+ghost use Rattle.pdc_mark.specs.Stored.{is_below, with_counts, with_floor, with_next_start};
+
+use super::DiskMark;
+use crate::layout::COUNTS;
+use crate::mark::Mark;
+use crate::slot::Slot;
+use crate::stops::Store;
+use crate::store::store_in_part;
+use crate::stored::Stored;
+use pdc_disk::{Landing, MemoryDisk};
+
+/// What a stop leaves of fields that no sync followed.
+const TORN: u8 = 0xA5;
+
+impl DiskMark<MemoryDisk> {
+    ghost use Rattle.pdc_mark.specs.DiskMark.{mark_on, stored_of, with_stored};
+
+    /// The mark as it is opened on this disk, which has it.
+    fn opened(disk: MemoryDisk, slot: Slot) -> Self
+        requires { HasJust slot (seen_of disk) }
+        ensures { mark_on result ≡ slot }
+    {
+        match DiskMark::open(disk, slot.id, slot.rate) {
+            Ok(mark) => mark,
+            Err(_) => unreachable!(),
+        }
+    }
+
+    /// A store that a stop falls into: behind its last device call where it landed, and else behind the write of the
+    /// fields.
+    fn put_stopped(&mut self, next: Stored, landed: bool)
+        requires { is_below (stored_of self.old) next ≡ true }
+        ensures { mark_on self.new
+            ≡ (if landed then with_stored (mark_on self.old) next else mark_on self.old) }
+    {
+        if landed {
+            self.put(next).unwrap();
+            self.stopped();
+            return;
+        }
+        let old = self.slot;
+        let slot = Slot {
+            stored: next,
+            ..old
+        };
+        store_in_part(&mut self.disk, self.held, self.is_other_closed, slot).unwrap();
+        let opened = DiskMark::opened(self.disk.stopped(Landing::Fill(TORN)), old);
+        self.disk = opened.disk;
+        self.slot = opened.slot;
+        self.held = opened.held;
+        self.is_other_closed = opened.is_other_closed;
+    }
+}
+
+impl Store for DiskMark<MemoryDisk> {
+    ghost use Rattle.pdc_mark.specs.DiskMark.{mark_on, stored_of, with_stored};
+
+    ghost never_fails = { Prim.search rules };
+
+    ghost never_broken = { λ mark. mark.whole (Prim.search rules) };
+
+    fn stopped(&mut self)
+        ensures stored { stored_of self.new ≡ stored_of self.old }
+        ensures mark { mark_on self.new ≡ mark_on self.old }
+    {
+        let slot = self.slot;
+        *self = DiskMark::opened(self.disk.stopped(Landing::Before), slot);
+    }
+
+    fn begin_stopped(&mut self, landed: bool) {
+        self.put_stopped(self.slot.stored.with_next_start(), landed);
+    }
+
+    fn reserve_stopped(&mut self, floor: u64, landed: bool) {
+        self.put_stopped(self.slot.stored.with_floor(floor), landed);
+    }
+
+    fn raise_stopped(&mut self, counts: &[u16; COUNTS], landed: bool) {
+        self.put_stopped(self.slot.stored.with_counts(*counts), landed);
+    }
+}
