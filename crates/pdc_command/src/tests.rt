@@ -1,9 +1,22 @@
-ghost use Rattle.std.specs.Prelude.{◌<◌};
+ghost use Rattle.std.specs.Prelude.{◌<◌, ◌≤◌, length};
 
 use super::*;
-use pdc_frame::{Frame, Kind, read_frame};
+use pdc_frame::{Frame, Kind, MAX_ID, read_frame};
 use std::alloc::{AllocError, Global};
+use std::fmt::Debug;
+use std::process::Abort;
 use std::test::*;
+
+/// Asserts that the two are the same, and says which ones where they are not.
+fn same<T: PartialEq + Debug>(rt: &impl Abort, found: &T, wanted: &T, text: &str) {
+    assert_eq!(rt; found, wanted, "{text}");
+}
+
+macro_rules! is {
+    ($rt:expr; $found:expr, $wanted:expr) => {
+        same($rt, &$found, &$wanted, stringify!($found is $wanted))
+    };
+}
 
 /// Tells stream 201 to send its CFG-2.
 const SEND_CFG2: [u8; 18] = [
@@ -19,12 +32,10 @@ const DATA_ON: [u8; 18] = [
 
 #[test]
 fn command_read(rt: HostRuntime) -> Result<(), Fail> {
-    let frame = read_frame(&DATA_ON).ok().ok_or("it is a frame")?;
-    assert_eq!(rt; frame.version, 1);
-    assert_eq!(rt; frame.id, 7734);
-    assert_eq!(rt; frame.quality, 0x0F);
-    assert_eq!(rt; frame.frac, 770_000);
-    assert_eq!(rt; read_command(&frame), Ok(Command::DataOn));
+    let frame = read_frame(&DATA_ON)?;
+    is!(&rt; (frame.version, frame.id), (1, 7734));
+    is!(&rt; (frame.quality, frame.frac), (0x0F, 770_000));
+    is!(&rt; read_command(&frame), Ok(Command::DataOn));
     Ok(())
 }
 
@@ -32,74 +43,73 @@ fn command_read(rt: HostRuntime) -> Result<(), Fail> {
 fn command_written(rt: HostRuntime) -> Result<(), Fail> {
     let mut out = Vec::new(rt.alloc());
     write_command(201, 1_149_577_200, Command::SendCfg2, &mut out)?;
-    assert_eq!(rt; out.as_slice(), SEND_CFG2.as_slice());
+    is!(&rt; out.as_slice(), SEND_CFG2.as_slice());
     Ok(())
 }
 
-#[test]
-fn numbers_of_the_commands(rt: HostRuntime) {
-    let mut frame = Frame {
-        kind: Kind::CommandFrame,
+/// What a command frame with this payload carries.
+fn carried(payload: &[u8; 2]) -> Result<Command, CommandFault> {
+    read_command(&frame_of(Kind::CommandFrame, payload))
+}
+
+/// A frame of stream 201 of at most three bytes.
+fn frame_of(kind: Kind, payload: &[u8]) -> Frame<'_>
+    requires { length payload.now ≤ 3 }
+{
+    Frame {
+        kind,
         version: 2,
         id: 201,
         soc: 0,
         quality: 0,
         frac: 0,
-        payload: &[],
-    };
-    for (payload, wanted) in [
-        ([0, 1], Ok(Command::DataOff)),
-        ([0, 2], Ok(Command::DataOn)),
-        ([0, 3], Ok(Command::SendHeader)),
-        ([0, 4], Ok(Command::SendCfg1)),
-        ([0, 5], Ok(Command::SendCfg2)),
-        ([0, 6], Ok(Command::SendCfg3)),
-        ([0, 0], Err(CommandFault::UnknownCommand)),
-        ([0, 7], Err(CommandFault::UnknownCommand)),
-        ([1, 1], Err(CommandFault::UnknownCommand)),
-    ] {
-        assert_eq!(rt;
-            read_command(&Frame {
-                payload: &payload,
-                ..frame
-            }),
-            wanted
-        );
+        payload,
     }
-    assert_eq!(rt; read_command(&frame), Err(CommandFault::Cut));
-    frame.payload = &[0, 2, 0];
-    assert_eq!(rt; read_command(&frame), Err(CommandFault::Cut));
-    frame.kind = Kind::HeaderFrame;
-    assert_eq!(rt; read_command(&frame), Err(CommandFault::WrongKind));
+}
+
+#[test]
+fn numbers_of_the_commands(rt: HostRuntime) {
+    is!(&rt; carried(&[0, 1]), Ok(Command::DataOff));
+    is!(&rt; carried(&[0, 2]), Ok(Command::DataOn));
+    is!(&rt; carried(&[0, 3]), Ok(Command::SendHeader));
+    is!(&rt; carried(&[0, 4]), Ok(Command::SendCfg1));
+    is!(&rt; carried(&[0, 5]), Ok(Command::SendCfg2));
+    is!(&rt; carried(&[0, 6]), Ok(Command::SendCfg3));
+    is!(&rt; carried(&[0, 0]), Err(CommandFault::UnknownCommand));
+    is!(&rt; carried(&[0, 7]), Err(CommandFault::UnknownCommand));
+    is!(&rt; carried(&[1, 1]), Err(CommandFault::UnknownCommand));
+}
+
+#[test]
+fn faults_in_order(rt: HostRuntime) {
+    let none = frame_of(Kind::CommandFrame, &[]);
+    let three = frame_of(Kind::CommandFrame, &[0, 2, 0]);
+    let header = frame_of(Kind::HeaderFrame, &[0, 2, 0]);
+    is!(&rt; read_command(&none), Err(CommandFault::Cut));
+    is!(&rt; read_command(&three), Err(CommandFault::Cut));
+    is!(&rt; read_command(&header), Err(CommandFault::WrongKind));
 }
 
 #[test]
 fn header_written_and_read(rt: HostRuntime) -> Result<(), Fail> {
     let mut out = Vec::new(rt.alloc());
     write_header(201, 0, b"PDC 00201", &mut out)?;
-    assert_eq!(rt; out.len(), 25);
-    let frame = read_frame(&out).ok().ok_or("it is a frame")?;
-    assert_eq!(rt; frame.kind, Kind::HeaderFrame);
-    assert_eq!(rt; frame.id, 201);
-    assert_eq!(rt;
-        read_header(&frame).ok().ok_or("it is a header")?,
-        b"PDC 00201".as_slice()
-    );
-    assert_eq!(rt; read_command(&frame), Err(CommandFault::WrongKind));
-    let command = read_frame(&DATA_ON).ok().ok_or("it is a frame")?;
-    assert_eq!(rt; read_header(&command).err(), Some(CommandFault::WrongKind));
+    is!(&rt; out.len(), 25);
+    let frame = read_frame(&out)?;
+    is!(&rt; (frame.kind, frame.id), (Kind::HeaderFrame, 201));
+    is!(&rt; read_header(&frame), Ok(b"PDC 00201".as_slice()));
+    is!(&rt; read_command(&frame), Err(CommandFault::WrongKind));
+    let command = read_frame(&DATA_ON)?;
+    is!(&rt; read_header(&command), Err(CommandFault::WrongKind));
     Ok(())
 }
 
 #[test]
 fn fault_texts(rt: HostRuntime) -> Result<(), Fail> {
-    for (fault, text) in [
-        (CommandFault::WrongKind, "N1 WrongKind"),
-        (CommandFault::Cut, "N2 Cut"),
-        (CommandFault::UnknownCommand, "N3 UnknownCommand"),
-    ] {
-        assert_eq!(rt; fault.to_string(rt.alloc())?.as_str(), text);
-    }
+    let alloc = rt.alloc();
+    is!(&rt; CommandFault::WrongKind.to_string(alloc)?.as_str(), "N1 WrongKind");
+    is!(&rt; CommandFault::Cut.to_string(alloc)?.as_str(), "N2 Cut");
+    is!(&rt; CommandFault::UnknownCommand.to_string(alloc)?.as_str(), "N3 UnknownCommand");
     Ok(())
 }
 
@@ -107,7 +117,7 @@ fn fault_texts(rt: HostRuntime) -> Result<(), Fail> {
 /// the contracts alone.
 fn read_back(alloc: Global, id: u16, soc: u32, command: Command) -> Result<(), AllocError>
     requires id_low { 0 < id }
-    requires id_high { id < 65535 }
+    requires id_high { id ≤ MAX_ID }
 {
     let mut out = Vec::new(alloc);
     write_command(id, soc, command, &mut out)?;
@@ -126,7 +136,7 @@ fn read_back(alloc: Global, id: u16, soc: u32, command: Command) -> Result<(), A
 fn commands_are_read_back(rt: HostRuntime) -> Result<(), Fail> {
     for command in [Command::DataOff, Command::DataOn, Command::SendHeader] {
         read_back(rt.alloc(), 1, 0, command)?;
-        read_back(rt.alloc(), 65534, u32::MAX, command)?;
+        read_back(rt.alloc(), MAX_ID, u32::MAX, command)?;
     }
     Ok(())
 }

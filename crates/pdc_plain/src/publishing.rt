@@ -11,7 +11,7 @@ ghost use Rattle.pdc_plain.specs.Views.{life_view};
 use crate::instants::append;
 use crate::past::{changes, sections_in_force};
 use crate::steps::Answered;
-use pdc_life::{Given, Settings, append_layout, append_row, rows_have_tags, sections_are_valid};
+use pdc_life::{Given, Settings, append_layout, append_row, rows_have_tags};
 use pdc_row::DueRow;
 use std::alloc::{AllocError, Global};
 
@@ -84,7 +84,6 @@ pub fn append_layout_of(
     ensures ok { OnOk result (out.new.items ≡ out.old.items ++ layout_wire given.now (life_view life.now) soc) }
     ensures err { OnErr result (out.new.items ≡ out.old.items) }
 {
-    sections_are_valid();
     let sections = sections_in_force(given, life);
     let change = changes(given, life);
     append_layout(
