@@ -1,6 +1,6 @@
 -- Lists of flags and bytes, place by place.
-use Rattle.std.proofs.Common.{◌≡◌, ℕ, zero, suc, ◌+◌, ◌≤◌, ◌<◌, ◌++◌, [], ◌∷◌, max, true, List, length, take, get_or, replicate, refl, rules, arith}
-use Rattle.std.proofs.lemmas.List.{append-nil, append_assoc, drop-append-le, take-append-le, length-append, length-take, length-drop, places, same_lists}
+use Rattle.std.proofs.Common.{◌≡◌, ℕ, zero, suc, ◌+◌, ◌≤◌, ◌<◌, ◌++◌, [], ◌∷◌, max, true, List, length, take, get_or, replicate, refl, sym, ap, subst, ◌∙◌, rules, arith}
+use Rattle.std.proofs.lemmas.List.{append-nil, append_assoc, drop-append-le, take-append-le, length-append, length-take, length-drop, length-replicate, places, same_lists}
 use Rattle.pdc_disk.specs.Disk.{written, IsTorn}
 
 -- a list of flags that are all set
@@ -35,3 +35,14 @@ written-append front at new (byte ∷ rest) low room =
 pub low_where_told : (told untold at : ℕ) → (0 < untold → told ≡ 256) → at ≤ told + untold → at ≤ 256 → at ≤ told
 low_where_told told zero at full low fits = omega arith
 low_where_told told (suc untold) at full low fits = let all : told ≡ 256 = full (omega arith) in omega arith
+
+-- a write over bytes that are told, before those that aren't
+pub torn_known : (known : List ℕ) (untold at : ℕ) (bytes new : List ℕ) → at + length bytes ≤ 256 → (0 < untold → length known ≡ 256) → at ≤ length (known ++ replicate untold 0)
+    → new ≡ written known at bytes → IsTorn (known ++ replicate untold 0) at (length bytes) (new ++ replicate untold 0)
+torn_known known untold at bytes new told full low made =
+    let rest : List ℕ = replicate untold 0 in
+    let size : length (known ++ rest) ≡ length known + untold = length-append known rest ∙ ap (λ n. length known + n) (length-replicate untold 0) in
+    let within : at ≤ length known = low_where_told (length known) untold at full (subst (λ n. at ≤ n) size low) (omega (arith, told)) in
+    let room : 0 < length rest → at + length bytes ≤ length known = λ some. let all : length known ≡ 256 = full (subst (λ n. 0 < n) (length-replicate untold 0) some) in omega (arith, all, told) in
+    let seen = ap (λ (front : List ℕ). front ++ rest) made ∙ written-append known at bytes rest within room in
+    subst (λ (whole : List ℕ). IsTorn (known ++ rest) at (length bytes) whole) (sym seen) (IsTorn-written (known ++ rest) at bytes low)

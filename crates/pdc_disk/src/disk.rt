@@ -1,4 +1,4 @@
-// What a disk is to whoever stores on it: the bytes that reads give, and which of them a stop leaves.
+//! What a disk is to whoever stores on it: the bytes that reads give, and which of them a stop leaves.
 ghost use Rattle.std.specs.Prelude.{◌≡◌, ◌+◌, ◌<◌, ◌≤◌, ℕ, Bool, List, length, IsOk, IfOk, OnOk, slice_range};
 ghost use Rattle.pdc_disk.specs.Disk.{written, AllSettled, HasCause, IsTorn, StaySettled, StaySettledBut};
 
@@ -28,6 +28,10 @@ pub trait Disk {
     ghost safe: { ℕ };
 
     /// The number of bytes.
+    ///
+    /// # Errors
+    ///
+    /// The disk failed, as for each of the four.
     fn len(&mut self) -> Result<u64, DiskFault>
         ensures len { IfOk result (λ len. len ≡ length (seen self.old)) }
         ensures seen { seen self.new ≡ seen self.old }

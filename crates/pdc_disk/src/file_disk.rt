@@ -1,16 +1,20 @@
-// A real file as a disk. What it is known to hold stands beside it, since no contract can see a file.
-ghost use Rattle.std.specs.Prelude.{◌≡◌, ◌+◌, ◌<◌, ◌≤◌, ◌^◌, ◌↔◌, false, true, [], length, slice_range, IfOk, IsTrue, OnOk};
+//! A real file as a disk. What it is known to hold stands beside it, since no contract can see a file.
+ghost use Rattle.std.specs.Prelude.{◌≡◌, ◌⊎◌, ◌+◌, ◌<◌, ◌≤◌, ◌^◌, ◌↔◌, false, true, [], length, slice_range, IfOk, IsTrue, OnOk};
+ghost use Rattle.pdc_disk.specs.declared.memory_disk.TheConstants.{MEMORY_LEN};
 ghost use Rattle.pdc_disk.specs.Disk.{written, AllSettled, HasCause, HasFailed, IsTorn, StaySettled, StaySettledBut};
 ghost use Rattle.pdc_disk.specs.MemoryDisk as memory;
 
 use crate::disk::{Disk, DiskFault};
 use crate::memory_disk::{MEMORY_LEN, MemoryDisk};
 use std::fs::{File, OpenOptions};
-use std::io;
 use std::os::fd::AsRawFd;
 use std::os::unix::fs::FileExt;
 use std::path::{AsPath, Path};
 use std::rt::Files;
+use std::{fs, io};
+
+#[cfg(test)]
+mod tests;
 
 /// A real file, of which the first 256 bytes can be read and written.
 ///
@@ -25,13 +29,17 @@ pub struct FileDisk {
     is_lost: bool,
     failures: u64,
     ghost countable: { length (memory.seen_of known) + untold < 2 ^ 64 },
-    ghost full: { 0 < untold → length (memory.seen_of known) ≡ 256 },
+    ghost full: { 0 < untold → length (memory.seen_of known) ≡ MEMORY_LEN },
 }
 
 impl FileDisk {
     ghost use Rattle.pdc_disk.specs.FileDisk.{failures_of, is_lost_of, is_settled_at, seen_of};
 
     /// Opens a file that exists for reading and writing. What it then reads is what the device holds.
+    ///
+    /// # Errors
+    ///
+    /// The system can't open, sync or read it.
     pub fn open<R: Files<File = File>, P: AsPath>(files: &R, path: P) -> io::Result<FileDisk>
         ensures settled { IfOk result (λ disk. AllSettled (is_settled_at disk)) }
         ensures whole { IfOk result (λ disk. is_lost_of disk ≡ false) }
@@ -52,7 +60,12 @@ impl FileDisk {
         })
     }
 
-    /// Makes an empty file, whose name outlasts a stop too. Where there is a file it is `AlreadyExists`.
+    /// Makes an empty file, whose name outlasts a stop too.
+    ///
+    /// # Errors
+    ///
+    /// `AlreadyExists` where there is a file, which is left as it is; else the system can't make it or bring it to the
+    /// device, and takes it away again if it can.
     pub fn create<R: Files<File = File>, P: AsPath>(files: &R, path: P) -> io::Result<FileDisk>
         ensures empty { IfOk result (λ disk. seen_of disk ≡ []) }
         ensures settled { IfOk result (λ disk. AllSettled (is_settled_at disk)) }
@@ -60,8 +73,10 @@ impl FileDisk {
         ensures failures { IfOk result (λ disk. failures_of disk ≡ 0) }
     {
         let file = File::create_new(files, path.path_text())?;
-        file.sync_all()?;
-        File::open(files, folder_of(path.path_text()))?.sync_all()?;
+        if let Err(error) = settle_new(files, &file, path.path_text()) {
+            let _ = fs::remove_file(files, path.path_text());
+            return Err(error);
+        }
         Ok(FileDisk {
             file,
             known: MemoryDisk::new(&[]),
@@ -72,8 +87,8 @@ impl FileDisk {
     }
 }
 
-// Brings the file to the device, and drops the system's copies of it: a sync that failed in an earlier
-// process may have left others than the device holds.
+/// Brings the file to the device, and drops the system's copies of it: a sync that failed in an earlier
+//// process may have left others than the device holds.
 fn settle(file: &File) -> io::Result<()> {
     file.sync_all()?;
     match libc::posix_fadvise(file.as_raw_fd(), 0, 0, libc::POSIX_FADV_DONTNEED) {
@@ -82,7 +97,13 @@ fn settle(file: &File) -> io::Result<()> {
     }
 }
 
-// The folder in which a file's name stands.
+/// Brings a new file to the device, and its name.
+fn settle_new<R: Files<File = File>>(files: &R, file: &File, path: &str) -> io::Result<()> {
+    file.sync_all()?;
+    File::open(files, folder_of(path))?.sync_all()
+}
+
+/// The folder in which a file's name stands.
 fn folder_of(path: &str) -> Path<'_> {
     match Path::new(path).parent() {
         Some(folder) if folder != Path::new("") => folder,
@@ -90,14 +111,14 @@ fn folder_of(path: &str) -> Path<'_> {
     }
 }
 
-// Whether the bytes that can be read and written have these places.
+/// Whether the bytes that can be read and written have these places.
 fn ends_within(at: u64, n: usize) -> bool
-    ensures { IsTrue result ↔ (at + n ≤ 256) }
+    ensures { IsTrue result ↔ (at + n ≤ MEMORY_LEN) }
 {
     at <= MEMORY_LEN as u64 && n <= MEMORY_LEN - at as usize
 }
 
-// From here on it isn't known what the file holds.
+/// From here on it isn't known what the file holds.
 fn lose(is_lost: &mut bool, failures: &mut u64) -> DiskFault
     ensures lost { is_lost.new ≡ true }
     ensures failed { HasFailed failures.old failures.new }
@@ -109,7 +130,7 @@ fn lose(is_lost: &mut bool, failures: &mut u64) -> DiskFault
 }
 
 impl Disk for FileDisk {
-    ghost use Rattle.pdc_disk.specs.FileDisk.{failures_of, is_lost_of, is_settled_at, seen_of, LosesTrack};
+    ghost use Rattle.pdc_disk.specs.FileDisk.{failures_of, is_lost_of, is_settled_at, seen_of, IsTried, IsUntouched, LosesTrack};
 
     ghost seen = { seen_of };
 
@@ -159,12 +180,19 @@ impl Disk for FileDisk {
         ensures settled { StaySettledBut at (length bytes.now)
             (is_settled_at self.old) (is_settled_at self.new) }
         ensures cause { HasCause (failures_of self.old) (failures_of self.new) result }
+        ensures tried { is_lost_of self.old ≡ false → at + length bytes.now ≤ MEMORY_LEN
+            → IsTried at (length bytes.now) self.new }
+        ensures untouched { (is_lost_of self.old ≡ true) ⊎ (MEMORY_LEN < at + length bytes.now)
+            → IsUntouched self.old self.new }
     {
-        let is_told = ends_within(at, bytes.len());
-        if self.is_lost || !is_told || self.file.write_all_at(bytes, at).is_err() {
+        if self.is_lost || !ends_within(at, bytes.len()) {
             return Err(lose(&mut self.is_lost, &mut self.failures));
         }
+        // Whatever becomes of the write, the range isn't settled from here on.
         self.known.write_at(at, bytes).unwrap();
+        if self.file.write_all_at(bytes, at).is_err() {
+            return Err(lose(&mut self.is_lost, &mut self.failures));
+        }
         Ok(())
     }
 
@@ -186,7 +214,7 @@ impl Disk for FileDisk {
     }
 }
 
-// Fills `out` from the file, and says whether it reads as expected.
+/// Fills `out` from the file, and says whether it reads as expected.
 fn reads(file: &File, at: u64, out: &mut [u8], expected: &[u8]) -> bool
     ensures { IsTrue result → out.new ≡ expected.now }
 {

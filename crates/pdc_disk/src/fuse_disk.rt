@@ -1,4 +1,4 @@
-// A disk that fails from a chosen call on, for tests of every place at which a device may fail.
+//! A disk that fails from a chosen call on, for tests of every place at which a device may fail.
 ghost use Rattle.std.specs.Prelude.{◌≡◌, ◌+◌, ◌-◌, ◌<◌, ◌≤◌, ◌↔◌, length, slice_range, IfOk, IsErr, OnOk};
 ghost use Rattle.pdc_disk.specs.Disk.{written, AllSettled, HasCause, IsTorn, StaySettled, StaySettledBut};
 
@@ -44,7 +44,7 @@ impl<D> FuseDisk<D> {
     }
 }
 
-// Uses a call up, or fails where none is left.
+/// Uses a call up, or fails where none is left.
 fn burn(calls_left: &mut u64, failures: &mut u64) -> Result<(), DiskFault>
     ensures blown { IsErr result ↔ (calls_left.old ≡ 0) }
     ensures left { calls_left.new ≡ calls_left.old - 1 }
@@ -58,7 +58,7 @@ fn burn(calls_left: &mut u64, failures: &mut u64) -> Result<(), DiskFault>
     Ok(())
 }
 
-// Counts a fault of the disk behind.
+/// Counts a fault of the disk behind.
 fn counted<T>(failures: &mut u64, answer: Result<T, DiskFault>) -> Result<T, DiskFault>
     ensures same { result ≡ answer }
     ensures cause { HasCause failures.old failures.new result }

@@ -23,6 +23,3 @@ pub use disk::{Disk, DiskFault};
 pub use file_disk::FileDisk;
 pub use fuse_disk::FuseDisk;
 pub use memory_disk::{Landing, MEMORY_LEN, MemoryDisk};
-
-#[cfg(test)]
-mod tests;

@@ -1,5 +1,6 @@
-// A small disk in memory, which also shows what a stop would leave of it.
+//! A small disk in memory, which also shows what a stop would leave of it.
 ghost use Rattle.std.specs.Prelude.{◌≡◌, ◌⊎◌, ◌+◌, ◌<◌, ◌≤◌, ℕ, false, true, IsTrue, length, slice_index, slice_index_or, IsErr, IsOk, IsOkAnd, OnOk, OnErr, slice_range, ◌↔◌, if◌then◌else◌};
+ghost use Rattle.pdc_disk.specs.declared.memory_disk.TheConstants.{MEMORY_LEN};
 ghost use Rattle.pdc_disk.specs.Disk.{written, AllSettled, HasCause, IsImage, IsTorn, StaySettled, StaySettledBut};
 
 use crate::disk::{Disk, DiskFault};
@@ -28,7 +29,7 @@ pub struct MemoryDisk {
     synced_len: usize,
     settled: [bool; MEMORY_LEN],
     failures: u64,
-    ghost fits: { len ≤ 256 },
+    ghost fits: { len ≤ MEMORY_LEN },
     ghost grown: { synced_len ≤ len },
     ghost kept_len: { (i : ℕ) → i < len → IsTrue (slice_index_or settled i true) → i < synced_len },
     ghost kept: { (i : ℕ) → i < synced_len → IsTrue (slice_index_or settled i true)
@@ -86,7 +87,7 @@ impl MemoryDisk {
     }
 }
 
-// Puts this byte wherever the flag is not set.
+/// Puts this byte wherever the flag is not set.
 fn fill_unsettled(bytes: &mut [u8], settled: &[bool], byte: u8)
     requires { length bytes.old ≤ length settled.now }
     ensures len { length bytes.new ≡ length bytes.old }
@@ -100,7 +101,7 @@ fn fill_unsettled(bytes: &mut [u8], settled: &[bool], byte: u8)
     }
 }
 
-// Puts these bytes over those from this place on.
+/// Puts these bytes over those from this place on.
 fn overwrite(held: &mut [u8], at: usize, bytes: &[u8])
     requires { at + length bytes.now ≤ length held.old }
     ensures { held.new ≡ written held.old at bytes.now }
@@ -108,7 +109,7 @@ fn overwrite(held: &mut [u8], at: usize, bytes: &[u8])
     held[at..at + bytes.len()].copy_from_slice(bytes);
 }
 
-// Takes the flag away from n places from this one on.
+/// Takes the flag away from n places from this one on.
 fn unsettle(settled: &mut [bool], at: usize, n: usize)
     requires { at + n ≤ length settled.old }
     ensures range { (i : ℕ) → at ≤ i → i < at + n → slice_index_or settled.new i true ≡ false }
@@ -120,7 +121,7 @@ fn unsettle(settled: &mut [bool], at: usize, n: usize)
     }
 }
 
-// Sets each flag.
+/// Sets each flag.
 fn settle(settled: &mut [bool])
     ensures { (i : ℕ) → slice_index_or settled.new i true ≡ true }
 {
@@ -136,7 +137,7 @@ impl Disk for MemoryDisk {
 
     ghost failures = { failures_of };
 
-    ghost safe = { 256 };
+    ghost safe = { MEMORY_LEN };
 
     fn len(&mut self) -> Result<u64, DiskFault>
         ensures len { IsOkAnd result (λ len. len ≡ length (seen_of self.old)) }
@@ -167,14 +168,14 @@ impl Disk for MemoryDisk {
         requires { at ≤ length (seen_of self.old) }
         ensures ok { OnOk result (IsWritten at bytes.now self.old self.new) }
         ensures err { OnErr result (IsUntouched self.old self.new) }
-        ensures past { IsErr result ↔ (256 < at + length bytes.now) }
+        ensures past { IsErr result ↔ (MEMORY_LEN < at + length bytes.now) }
 
         ensures written { OnOk result (seen_of self.new ≡ written (seen_of self.old) at bytes.now) }
         ensures torn { IsTorn (seen_of self.old) at (length bytes.now) (seen_of self.new) }
         ensures settled { StaySettledBut at (length bytes.now)
             (is_settled_at self.old) (is_settled_at self.new) }
         ensures cause { HasCause (failures_of self.old) (failures_of self.new) result }
-        ensures safe { at + length bytes.now ≤ 256 → IsOk result }
+        ensures safe { at + length bytes.now ≤ MEMORY_LEN → IsOk result }
     {
         let start = at as usize;
         if MEMORY_LEN - start < bytes.len() {
