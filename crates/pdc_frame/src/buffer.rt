@@ -17,8 +17,7 @@ pub trait Buffer {
     fn content(&self) -> &[u8]
         ensures { result.now ≡ content self.now };
 
-    /// Makes room for so many bytes more. The content stays, and so does the capacity where there was room, or gets
-    /// none.
+    /// Makes room for so many bytes more. The content stays. Where there was room, no memory is taken.
     ///
     /// # Errors
     ///

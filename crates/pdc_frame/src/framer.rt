@@ -13,8 +13,8 @@ ghost use Rattle.pdc_frame.specs.Stream.{IsGoing, Shows, IsAt, IsBad, HasTaken, 
 use crate::buffer::Buffer;
 use crate::fault::FrameFault;
 use crate::frame::Frame;
-use crate::limits::{MAX_SIZE, OVERHEAD};
-use crate::reading::{SYNC_BYTE, fields_of_whole, is_sync, read_frame};
+use crate::limits::{MAX_SIZE, OVERHEAD, SIZE_PLACE, SYNC_BYTE};
+use crate::reading::{fields_of_whole, is_sync, read_frame};
 use crate::step::Step;
 use crate::words::read_word;
 use std::alloc::{AllocError, Global};
@@ -52,7 +52,7 @@ fn header_fault(held: &[u8]) -> Option<FrameFault>
     match held.len() {
         1 if held[0] != SYNC_BYTE => Some(FrameFault::BadSync),
         2 if !is_sync(held[0], held[1]) => Some(FrameFault::BadSync),
-        SIZE_END if usize::from(read_word(held, 2)) < OVERHEAD => Some(FrameFault::Short),
+        SIZE_END if usize::from(read_word(held, SIZE_PLACE)) < OVERHEAD => Some(FrameFault::Short),
         _ => None,
     }
 }
@@ -90,7 +90,7 @@ fn take_rest(held: &mut Vec<u8>, piece: &[u8]) -> (usize, Step)
     ensures at { IsAt held.new.items result.1 }
     ensures more { result.1 ≡ Step.More → result.0 ≡ length piece.now }
 {
-    let wanted = usize::from(read_word(held, 2)) - held.len();
+    let wanted = usize::from(read_word(held, SIZE_PLACE)) - held.len();
     if piece.len() < wanted {
         held.append_bytes(piece);
         return (piece.len(), Step::More);

@@ -1,5 +1,17 @@
 //! The sizes and bounds of a frame (C37.118.2-2011, 6.2 and table 2).
 
+/// The places of FRAMESIZE, IDCODE, SOC and FRACSEC. SYNC has the two bytes before them.
+pub(crate) const SIZE_PLACE: usize = 2;
+
+pub(crate) const ID_PLACE: usize = 4;
+
+pub(crate) const SOC_PLACE: usize = 6;
+
+pub(crate) const FRACSEC_PLACE: usize = 10;
+
+/// The first byte of SYNC.
+pub(crate) const SYNC_BYTE: u8 = 0xAA;
+
 /// The number of bytes before the payload: SYNC, FRAMESIZE, IDCODE, SOC and FRACSEC.
 pub const HEADER_LEN: usize = 14;
 

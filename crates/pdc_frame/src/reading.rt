@@ -7,11 +7,11 @@ ghost use Rattle.pdc_frame.specs.Stream.{IsWhole};
 use crate::crc::check_word;
 use crate::fault::FrameFault;
 use crate::frame::{Frame, Kind};
-use crate::limits::{CHECK_LEN, HEADER_LEN, MAX_FRAC, MAX_ID, MAX_SIZE, MAX_VERSION, OVERHEAD};
+use crate::limits::{
+    CHECK_LEN, FRACSEC_PLACE, HEADER_LEN, ID_PLACE, MAX_FRAC, MAX_ID, MAX_SIZE, MAX_VERSION,
+    OVERHEAD, SIZE_PLACE, SOC_PLACE, SYNC_BYTE,
+};
 use crate::words::{read_long, read_word};
-
-/// The first byte of SYNC.
-pub(crate) const SYNC_BYTE: u8 = 0xAA;
 
 /// What the two bytes of SYNC say.
 fn read_sync(first: u8, second: u8) -> Option<(Kind, u8)>
@@ -47,16 +47,16 @@ fn fields_in_places(bytes: &[u8], kind: Kind, version: u8) -> Frame<'_>
     requires long { OVERHEAD ≤ length bytes.now }
     requires most { length bytes.now ≤ MAX_SIZE }
     requires version { (version ≡ 1) ⊎ (version ≡ 2) }
-    requires id_low { 0 < word_at bytes.now 4 }
-    requires id_high { word_at bytes.now 4 ≤ MAX_ID }
+    requires id_low { 0 < word_at bytes.now ID_PLACE }
+    requires id_high { word_at bytes.now ID_PLACE ≤ MAX_ID }
     ensures { fields_of result ≡ fields_in kind version bytes.now }
 {
-    let fracsec = read_long(bytes, 10);
+    let fracsec = read_long(bytes, FRACSEC_PLACE);
     Frame {
         kind,
         version,
-        id: read_word(bytes, 4),
-        soc: read_long(bytes, 6),
+        id: read_word(bytes, ID_PLACE),
+        soc: read_long(bytes, SOC_PLACE),
         quality: (fracsec >> 24) as u8,
         frac: fracsec & MAX_FRAC,
         payload: &bytes[HEADER_LEN..bytes.len() - CHECK_LEN],
@@ -93,15 +93,15 @@ pub fn read_frame(bytes: &[u8]) -> Result<Frame<'_>, FrameFault>
     let Some((kind, version)) = read_sync(bytes[0], bytes[1]) else {
         return Err(FrameFault::BadSync);
     };
-    if usize::from(read_word(bytes, 2)) != bytes.len() {
+    if usize::from(read_word(bytes, SIZE_PLACE)) != bytes.len() {
         return Err(FrameFault::SizeMismatch);
     }
     let check_place = bytes.len() - CHECK_LEN;
     if read_word(bytes, check_place) != check_word(&bytes[..check_place]) {
         return Err(FrameFault::BadCheck);
     }
-    let id = read_word(bytes, 4);
-    if id == 0 || id == u16::MAX {
+    let id = read_word(bytes, ID_PLACE);
+    if id == 0 || id > MAX_ID {
         return Err(FrameFault::BadId);
     }
     Ok(fields_in_places(bytes, kind, version))

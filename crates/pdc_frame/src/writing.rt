@@ -8,8 +8,10 @@ ghost use Rattle.pdc_frame.specs.Frame.{Fits, fields_of, number_of, header_of, s
 use crate::buffer::Buffer;
 use crate::crc::check_word;
 use crate::frame::{Frame, Kind};
-use crate::limits::{CHECK_LEN, HEADER_LEN, MAX_PAYLOAD, OVERHEAD};
-use crate::reading::SYNC_BYTE;
+use crate::limits::{
+    CHECK_LEN, FRACSEC_PLACE, HEADER_LEN, ID_PLACE, MAX_PAYLOAD, OVERHEAD, SIZE_PLACE, SOC_PLACE,
+    SYNC_BYTE,
+};
 use byteorder::{BigEndian, ByteOrder};
 use std::alloc::AllocError;
 
@@ -37,11 +39,11 @@ fn header_bytes(head: &Frame, size: u16) -> [u8; HEADER_LEN]
     let mut header = [0; HEADER_LEN];
     header[0] = SYNC_BYTE;
     header[1] = 16 * kind_number(head.kind) + head.version;
-    BigEndian::write_u16(&mut header[2..], size);
-    BigEndian::write_u16(&mut header[4..], head.id);
-    BigEndian::write_u32(&mut header[6..], head.soc);
+    BigEndian::write_u16(&mut header[SIZE_PLACE..], size);
+    BigEndian::write_u16(&mut header[ID_PLACE..], head.id);
+    BigEndian::write_u32(&mut header[SOC_PLACE..], head.soc);
     BigEndian::write_u32(
-        &mut header[10..],
+        &mut header[FRACSEC_PLACE..],
         (u32::from(head.quality) << 24) + head.frac,
     );
     header
