@@ -3,13 +3,46 @@ use pdc_block::{join, read_body};
 use pdc_cfg::{Shape, read_config, write_config};
 use pdc_command::{Command, write_command, write_header};
 use pdc_frame::{Frame, Kind, read_frame, write_frame};
+use std::fmt::Debug;
+use std::process::Abort;
 use std::test::*;
+
+/// Asserts that the two are the same, and says of which heap where they are not.
+fn same<T: PartialEq + Debug>(rt: &impl Abort, found: &T, wanted: &T, size: usize) {
+    assert_eq!(rt; found, wanted, "on a heap of {size} bytes");
+}
 
 /// What stands before the frame.
 const BEFORE: [u8; 3] = [1, 2, 3];
 
 /// The sizes of the heaps: from too small for any frame of the tests to ample.
 const SIZES: [usize; 6] = [32, 64, 128, 512, 2048, 8192];
+
+/// What was seen on the heaps.
+#[derive(Default, PartialEq, Debug, Drop)]
+struct Seen {
+    refused: bool,
+    written: bool,
+}
+
+impl Seen {
+    /// After a call on a heap of this size: where it was refused, nothing stands behind what stood before, else so many
+    /// bytes.
+    fn see(&mut self, rt: &impl Abort, size: usize, refused: bool, out: &[u8], len: usize) {
+        if refused {
+            self.refused = true;
+            same(rt, &out, &BEFORE.as_slice(), size);
+        } else {
+            self.written = true;
+            same(rt, &out.len(), &len, size);
+        }
+    }
+
+    /// The heaps were too small at first, and ample at last.
+    fn saw_both(&self, rt: &impl Abort) {
+        same(rt, &(self.refused, self.written), &(true, true), 0);
+    }
+}
 
 #[test]
 fn write_frame_refused(rt: HostRuntime) -> Result<(), Fail> {
@@ -23,59 +56,41 @@ fn write_frame_refused(rt: HostRuntime) -> Result<(), Fail> {
         frac: 0,
         payload: &payload,
     };
-    let mut refused = false;
-    let mut written = false;
+    let mut seen = Seen::default();
     for size in SIZES {
         let heap = LocalHeap::new(rt.alloc(), size)?;
         let mut out = Vec::from_slice(&heap, &BEFORE)?;
-        if write_frame(&frame, &mut out).is_err() {
-            refused = true;
-            assert_eq!(rt; out.as_slice(), BEFORE.as_slice(), "of {size} bytes");
-        } else {
-            written = true;
-            assert_eq!(rt; out.len(), 3 + 616, "of {size} bytes");
-        }
+        let refused = write_frame(&frame, &mut out).is_err();
+        seen.see(&rt, size, refused, &out, 3 + 616);
     }
-    assert!(rt; refused && written);
+    seen.saw_both(&rt);
     Ok(())
 }
 
 #[test]
 fn write_header_refused(rt: HostRuntime) -> Result<(), Fail> {
     let text = [0x2E; 600];
-    let mut refused = false;
-    let mut written = false;
+    let mut seen = Seen::default();
     for size in SIZES {
         let heap = LocalHeap::new(rt.alloc(), size)?;
         let mut out = Vec::from_slice(&heap, &BEFORE)?;
-        if write_header(201, 0, &text, &mut out).is_err() {
-            refused = true;
-            assert_eq!(rt; out.as_slice(), BEFORE.as_slice(), "of {size} bytes");
-        } else {
-            written = true;
-            assert_eq!(rt; out.len(), 3 + 616, "of {size} bytes");
-        }
+        let refused = write_header(201, 0, &text, &mut out).is_err();
+        seen.see(&rt, size, refused, &out, 3 + 616);
     }
-    assert!(rt; refused && written);
+    seen.saw_both(&rt);
     Ok(())
 }
 
 #[test]
 fn write_command_refused(rt: HostRuntime) -> Result<(), Fail> {
-    let mut refused = false;
-    let mut written = false;
+    let mut seen = Seen::default();
     for size in SIZES {
         let heap = LocalHeap::new(rt.alloc(), size)?;
         let mut out = Vec::from_slice(&heap, &BEFORE)?;
-        if write_command(201, 0, Command::SendCfg2, &mut out).is_err() {
-            refused = true;
-            assert_eq!(rt; out.as_slice(), BEFORE.as_slice(), "of {size} bytes");
-        } else {
-            written = true;
-            assert_eq!(rt; out.len(), 3 + 18, "of {size} bytes");
-        }
+        let refused = write_command(201, 0, Command::SendCfg2, &mut out).is_err();
+        seen.see(&rt, size, refused, &out, 3 + 18);
     }
-    assert!(rt; refused && written);
+    seen.saw_both(&rt);
     Ok(())
 }
 
@@ -92,21 +107,15 @@ const CONFIG_11: [u8; 74] = [
 fn write_config_refused(rt: HostRuntime) -> Result<(), Fail> {
     let frame = read_frame(&CONFIG_11)?;
     let config = read_config(&frame)?;
-    let mut refused = false;
-    let mut written = false;
+    let mut seen = Seen::default();
     for size in SIZES {
         let heap = LocalHeap::new(rt.alloc(), size)?;
         let mut out = Vec::from_slice(&heap, &BEFORE)?;
-        if write_config(&config, Kind::Cfg2, frame.id, frame.soc, &mut out).is_err() {
-            refused = true;
-            assert_eq!(rt; out.as_slice(), BEFORE.as_slice(), "of {size} bytes");
-        } else {
-            written = true;
-            assert_eq!(rt; out.len(), 77, "of {size} bytes");
-            assert_eq!(rt; &out[3..], CONFIG_11.as_slice(), "of {size} bytes");
-        }
+        let refused = write_config(&config, Kind::Cfg2, frame.id, frame.soc, &mut out).is_err();
+        seen.see(&rt, size, refused, &out, 3 + 74);
+        same(&rt, &out.ends_with(&CONFIG_11), &!refused, size);
     }
-    assert!(rt; refused && written);
+    seen.saw_both(&rt);
     Ok(())
 }
 
@@ -119,20 +128,14 @@ fn join_refused(rt: HostRuntime) -> Result<(), Fail> {
     };
     let body = [0x80; 214];
     let blocks = [read_body(shape, &body)?];
-    let mut refused = false;
-    let mut written = false;
+    let mut seen = Seen::default();
     for size in SIZES {
         let heap = LocalHeap::new(rt.alloc(), size)?;
         let mut out = Vec::from_slice(&heap, &BEFORE)?;
-        if join(&blocks, &mut out).is_err() {
-            refused = true;
-            assert_eq!(rt; out.as_slice(), BEFORE.as_slice(), "of {size} bytes");
-        } else {
-            written = true;
-            assert_eq!(rt; out.len(), 217, "of {size} bytes");
-            assert_eq!(rt; &out[3..], body.as_slice(), "of {size} bytes");
-        }
+        let refused = join(&blocks, &mut out).is_err();
+        seen.see(&rt, size, refused, &out, 3 + 214);
+        same(&rt, &out.ends_with(&body), &!refused, size);
     }
-    assert!(rt; refused && written);
+    seen.saw_both(&rt);
     Ok(())
 }
