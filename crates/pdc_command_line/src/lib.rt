@@ -5,12 +5,13 @@
 #![tactic(auto)]
 
 mod command;
+mod mark_convert;
 mod mark_init;
 mod number;
 mod request;
 
 pub use command::parse;
-pub use request::{MarkInit, Request};
+pub use request::{MAX_ID, MAX_RATE, MarkConvert, MarkInit, Request};
 
 #[cfg(test)]
 mod tests;
