@@ -1,1 +1,2 @@
+pub mod MarkInit
 pub mod Number

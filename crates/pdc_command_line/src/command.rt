@@ -1,5 +1,6 @@
 //! The commands of `pdc`, and their help.
 
+use crate::mark_convert::{mark_convert, mark_convert_request};
 use crate::mark_init::{mark_init, mark_init_request};
 use crate::request::Request;
 use crate::show::show;
@@ -14,6 +15,7 @@ const VERSION: &str = "0.1.0";
 const EXAMPLES: &str = "Examples:
   pdc show < captured.hex     print what captured frames say
   pdc mark-init a.mark 201 50 make the mark file of node 201 at 50 frames a second
+  pdc mark-convert old new    make a mark file of version 2 out of one of version 1
   pdc help show               tell more of a command
 
 Exit status: 0 done, 1 refused input, 2 wrong arguments, 3 a device failed or memory ran out";
@@ -28,7 +30,8 @@ fn pdc<'a>(alloc: Global) -> Result<Command<'a>, AllocError> {
         .subcommand_required(true)
         .arg_required_else_help(true)
         .subcommand(show(alloc))?
-        .subcommand(mark_init(alloc)?)
+        .subcommand(mark_init(alloc)?)?
+        .subcommand(mark_convert(alloc)?)
 }
 
 /// The request that the words after the program's name make; `None` where no command is named, which the parser
@@ -42,6 +45,9 @@ pub fn parse<'a>(alloc: Global, words: &'a [String]) -> Result<Option<Request<'a
     match matches.subcommand() {
         Some(("show", _)) => Ok(Some(Request::Show)),
         Some(("mark-init", inner)) => Ok(mark_init_request(alloc, inner)?.map(Request::MarkInit)),
+        Some(("mark-convert", inner)) => {
+            Ok(mark_convert_request(inner).map(Request::MarkConvert))
+        }
         _ => Ok(None),
     }
 }

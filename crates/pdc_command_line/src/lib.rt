@@ -5,13 +5,14 @@
 #![tactic(auto)]
 
 mod command;
+mod mark_convert;
 mod mark_init;
 mod number;
 mod request;
 mod show;
 
 pub use command::parse;
-pub use request::{MarkInit, Request};
+pub use request::{MAX_ID, MAX_RATE, MarkConvert, MarkInit, Request};
 
 #[cfg(test)]
 mod tests;

@@ -1,7 +1,10 @@
 //! The command `mark-init`.
+ghost use Rattle.std.specs.Prelude.{IfErr, IfNone, IfOk, IfSome};
+ghost use Rattle.clap.specs.Matches.{found_of};
+ghost use Rattle.pdc_command_line.specs.MarkInit.{AsksFor, HasWrongNumber, LacksWord};
 
 use crate::number::number;
-use crate::request::MarkInit;
+use crate::request::{MAX_ID, MAX_RATE, MarkInit};
 use clap::error::ErrorKind;
 use clap::{Arg, ArgAction, ArgMatches, Command, Error};
 use std::alloc::{AllocError, Global};
@@ -46,10 +49,18 @@ fn out_of_range(alloc: Global, name: &str, text: &str, most: u16) -> Result<Erro
 }
 
 /// What is asked by these words; `None` where one is missing, which the parser refuses before.
+///
+/// # Errors
+///
+/// A number is none, or out of its range.
 pub fn mark_init_request<'a>(
     alloc: Global,
     matches: &ArgMatches<'a>,
-) -> Result<Option<MarkInit<'a>>, Error> {
+) -> Result<Option<MarkInit<'a>>, Error>
+    ensures asked { IfOk result (λ asked. IfSome asked (AsksFor (found_of matches.now))) }
+    ensures missing { IfOk result (λ asked. IfNone asked (LacksWord (found_of matches.now))) }
+    ensures wrong { IfErr result (λ _. HasWrongNumber (found_of matches.now)) }
+{
     let (Some(file), Some(id_text), Some(rate_text)) = (
         matches.get_str("FILE"),
         matches.get_str("ID"),
@@ -57,11 +68,11 @@ pub fn mark_init_request<'a>(
     ) else {
         return Ok(None);
     };
-    let Some(id) = number(id_text, 1, 65534) else {
-        return Err(out_of_range(alloc, "ID", id_text, 65534)?);
+    let Some(id) = number(id_text, 1, MAX_ID) else {
+        return Err(out_of_range(alloc, "ID", id_text, MAX_ID)?);
     };
-    let Some(rate) = number(rate_text, 1, 240) else {
-        return Err(out_of_range(alloc, "RATE", rate_text, 240)?);
+    let Some(rate) = number(rate_text, 1, MAX_RATE) else {
+        return Err(out_of_range(alloc, "RATE", rate_text, MAX_RATE)?);
     };
     Ok(Some(MarkInit { file, id, rate }))
 }

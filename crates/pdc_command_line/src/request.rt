@@ -1,5 +1,12 @@
 //! What is asked of the program.
 ghost use Rattle.std.specs.Prelude.{◌<◌, ◌≤◌};
+ghost use Rattle.pdc_command_line.specs.declared.request.TheConstants.{MAX_ID, MAX_RATE};
+
+/// The greatest id of a stream.
+pub const MAX_ID: u16 = 65534;
+
+/// The greatest data rate, in frames a second.
+pub const MAX_RATE: u16 = 240;
 
 /// What is asked of the program.
 #[derive(Clone, Copy, Debug)]
@@ -8,6 +15,8 @@ pub enum Request<'a> {
     Show,
     /// Make a mark file.
     MarkInit(MarkInit<'a>),
+    /// Make a mark file of version 2 out of one of version 1.
+    MarkConvert(MarkConvert<'a>),
 }
 
 /// The mark file that is to be made.
@@ -20,7 +29,16 @@ pub struct MarkInit<'a> {
     /// The frames in a second, 1 to 240.
     pub rate: u16,
     pub ghost some_id: { 0 < id },
-    pub ghost id_fits: { id < 65535 },
+    pub ghost id_fits: { id ≤ MAX_ID },
     pub ghost some_rate: { 0 < rate },
-    pub ghost rate_fits: { rate ≤ 240 },
+    pub ghost rate_fits: { rate ≤ MAX_RATE },
+}
+
+/// The mark file that is to be converted, and the one that is to be made.
+#[derive(Clone, Copy, Debug)]
+pub struct MarkConvert<'a> {
+    /// The name of the file of version 1.
+    pub old: &'a str,
+    /// The name of the new file.
+    pub new: &'a str,
 }

@@ -4,6 +4,10 @@
 //! the nanoseconds that the stores took.
 #![tactic(auto)]
 
+ghost use Rattle.std.specs.Prelude.{◌≡◌, OnErr, OnOk, IsErrOf};
+ghost use Rattle.pdc_mark.specs.DiskMark.{stored_of};
+ghost use Rattle.pdc_mark.specs.Stored.{with_floor};
+
 use pdc_disk::FileDisk;
 use pdc_mark::{DiskMark, Mark, MarkFault};
 use std::fs::File;
@@ -12,12 +16,14 @@ use std::rt::{Clock, Files};
 use std::time::Instant;
 use std::{fs, io};
 
-/// Raises the floor to 1, 2, .. up to `count`.
-fn raise(mark: &mut DiskMark<FileDisk>, count: u32) -> Result<(), MarkFault> {
-    for floor in 1..=u64::from(count) {
-        if mark.stored().1 < floor {
-            mark.reserve(floor)?;
-        }
+/// Raises the floor of a mark that stores 0 to 1, 2, .. up to `count`.
+fn raise(mark: &mut DiskMark<FileDisk>, count: u32) -> Result<(), MarkFault>
+    requires { (stored_of mark.old).floor ≡ 0 }
+    ensures done { OnOk result (stored_of mark.new ≡ with_floor (stored_of mark.old) count) }
+    ensures fault { OnErr result (IsErrOf result MarkFault.Device) }
+{
+    for floor in 0..u64::from(count) {
+        mark.reserve(floor + 1)?;
     }
     Ok(())
 }

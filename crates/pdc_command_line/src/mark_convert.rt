@@ -1,0 +1,50 @@
+//! The command `mark-convert`.
+
+use crate::request::MarkConvert;
+use clap::{Arg, ArgAction, ArgMatches, Command};
+use std::alloc::{AllocError, Global};
+
+const ABOUT: &str = "Make a mark file of version 2 out of one of version 1";
+
+const LONG: &str =
+    "Reads a mark file of version 1, which has 128 bytes, and makes a new one of version 2
+of it. The new one has the same id, data rate, starts and instant; its counts are 0.
+The old file stays as it is.
+
+Prints the number of starts and the instant up to which all is published:
+  start=1 floor=57478860001
+
+Refusals, with status 1; then no file is made:
+  mark exists       there is a file NEW, which is left as it is
+  M1 NoMark         OLD has not 128 bytes
+  M2 Damaged        OLD has no open slot
+A file that cannot be read or made gives `device fault`, and a device that fails then
+gives `M4 Device`, both with status 3.
+
+Example:
+  pdc mark-convert a.mark a2.mark";
+
+fn word<'a>(alloc: Global, name: &'a str, help: &'a str) -> Arg<'a> {
+    Arg::new(alloc, name)
+        .required(true)
+        .action(ArgAction::Set)
+        .help(help)
+}
+
+/// The command and its help.
+pub fn mark_convert<'a>(alloc: Global) -> Result<Command<'a>, AllocError> {
+    Command::new(alloc, "mark-convert")
+        .bin_name("pdc mark-convert")?
+        .about(ABOUT)
+        .long_about(LONG)
+        .arg(word(alloc, "OLD", "The file of version 1"))?
+        .arg(word(alloc, "NEW", "The file to make"))
+}
+
+/// What is asked by these words; `None` where one is missing, which the parser refuses before.
+pub fn mark_convert_request<'a>(matches: &ArgMatches<'a>) -> Option<MarkConvert<'a>> {
+    let (Some(old), Some(new)) = (matches.get_str("OLD"), matches.get_str("NEW")) else {
+        return None;
+    };
+    Some(MarkConvert { old, new })
+}
