@@ -9,14 +9,16 @@ ghost use Rattle.pdc_frame.specs.CheckWord.{IsCheckWord, IsCongruent, IsRemainde
 /// The highest exponent of the generator, x^16 + x^12 + x^5 + 1.
 const DEGREE: u32 = 16;
 
-/// The exponents of its middle terms.
+/// The next exponent.
 const UPPER: u32 = 12;
 
+/// The exponent after that.
 const LOWER: u32 = 5;
 
-/// How far these stand below the highest.
+/// How far x^12 stands below x^16. In the fourth power it is four times as far, and so for each gap and each power.
 const UPPER_GAP: u32 = DEGREE - UPPER;
 
+/// How far x^5 stands below x^16.
 const LOWER_GAP: u32 = DEGREE - LOWER;
 
 /// The state before the first byte: its product with x^16 has the remainder FFFF.
@@ -34,7 +36,8 @@ const STATE_BITS: usize = 8 * STEP;
 /// The number of bits of a wide state.
 const WIDE_BITS: usize = 8 * WIDE_STEP;
 
-/// The quotient of state * x^64 by the generator's fourth power, x^64 + x^48 + x^20 + 1.
+/// The quotient of state * x^64 by the generator's fourth power, x^64 + x^48 + x^20 + 1: the largest shifts come first,
+/// and those that leave nothing of a state are left out.
 #[inline]
 fn quotient(state: u64) -> u64
     ensures { high_of_product (4 * UPPER_GAP) (4 * LOWER_GAP) (4 * DEGREE) result ≡ state }
