@@ -9,14 +9,16 @@ ghost use Rattle.pdc_frame.specs.CheckWord.{IsCheckWord, IsCongruent, IsRemainde
 /// The highest exponent of the generator, x^16 + x^12 + x^5 + 1.
 const DEGREE: u32 = 16;
 
-/// The exponents of its middle terms.
+/// The next exponent.
 const UPPER: u32 = 12;
 
+/// The exponent after that.
 const LOWER: u32 = 5;
 
-/// How far these stand below the highest.
+/// How far x^12 stands below x^16. In the fourth power it is four times as far, and so for each gap and each power.
 const UPPER_GAP: u32 = DEGREE - UPPER;
 
+/// How far x^5 stands below x^16.
 const LOWER_GAP: u32 = DEGREE - LOWER;
 
 /// The state before the first byte: its product with x^16 has the remainder FFFF.
@@ -28,13 +30,17 @@ const WIDE_STEP: usize = 16;
 /// The number of bytes of a step.
 const STEP: usize = 8;
 
-/// The number of bits of a state of one step.
+/// The number of bits of a state.
 const STATE_BITS: usize = 8 * STEP;
 
-/// The quotient of state * x^64 by the generator's fourth power, x^64 + x^48 + x^20 + 1.
+/// The number of bits of a wide state.
+const WIDE_BITS: usize = 8 * WIDE_STEP;
+
+/// The quotient of state * x^64 by the generator's fourth power, x^64 + x^48 + x^20 + 1: the largest shifts come first,
+/// and those that leave nothing of a state are left out.
 #[inline]
 fn quotient(state: u64) -> u64
-    ensures { high_of_product 16 44 64 result ≡ state }
+    ensures { high_of_product (4 * UPPER_GAP) (4 * LOWER_GAP) (4 * DEGREE) result ≡ state }
 {
     let half = state ^ (state >> (8 * UPPER_GAP));
     (half ^ (half >> (4 * UPPER_GAP))) ^ (half >> (4 * LOWER_GAP))
@@ -43,7 +49,7 @@ fn quotient(state: u64) -> u64
 /// The quotient of state * x^128 by the generator's eighth power, x^128 + x^96 + x^40 + 1.
 #[inline]
 fn wide_quotient(state: u128) -> u128
-    ensures { high_of_product 32 88 128 result ≡ state }
+    ensures { high_of_product (8 * UPPER_GAP) (8 * LOWER_GAP) (8 * DEGREE) result ≡ state }
 {
     let half = state ^ (state >> (16 * UPPER_GAP));
     (half ^ (half >> (8 * UPPER_GAP))) ^ (half >> (8 * LOWER_GAP))
@@ -52,7 +58,7 @@ fn wide_quotient(state: u128) -> u128
 /// A state that stands for state * x^64: what is left of it behind the fourth power.
 #[inline]
 fn moved_up(state: u64) -> u64
-    ensures { IsCongruent (state * 2 ^ 64) result }
+    ensures { IsCongruent (state * 2 ^ STATE_BITS) result }
 {
     let quotient = quotient(state);
     (quotient << (4 * UPPER)) ^ ((quotient << (4 * LOWER)) ^ quotient)
@@ -61,7 +67,7 @@ fn moved_up(state: u64) -> u64
 /// A state that stands for state * x^128: what is left of it behind the eighth power.
 #[inline]
 fn wide_moved_up(state: u128) -> u128
-    ensures { IsCongruent (state * 2 ^ 128) result }
+    ensures { IsCongruent (state * 2 ^ WIDE_BITS) result }
 {
     let quotient = wide_quotient(state);
     (quotient << (8 * UPPER)) ^ ((quotient << (8 * LOWER)) ^ quotient)
@@ -77,7 +83,7 @@ fn narrowed(state: u128) -> u64
 
 /// The check word that a state stands for.
 fn check_of_state(state: u64) -> u16
-    ensures { IsRemainder (state * 2 ^ 16) result }
+    ensures { IsRemainder (state * 2 ^ DEGREE) result }
 {
     let half = quotient(state);
     let quarter = (half ^ (half >> (2 * UPPER_GAP)))
@@ -131,7 +137,7 @@ fn read_last(bytes: &[u8]) -> u64
 #[inline]
 fn after_last(state: u64, last: &[u8]) -> u64
     requires { length last.now < STEP }
-    ensures step { (check : ℕ) → IsRemainder (state * 2 ^ 16) check → IsRemainder (result * 2 ^ 16) (fold check_after check last.now) }
+    ensures step { (check : ℕ) → IsRemainder (state * 2 ^ DEGREE) check → IsRemainder (result * 2 ^ DEGREE) (fold check_after check last.now) }
 {
     if last.is_empty() {
         return state;
@@ -144,7 +150,7 @@ fn after_last(state: u64, last: &[u8]) -> u64
 #[inline]
 fn after_rest(state: u64, rest: &[u8]) -> u64
     requires { length rest.now < WIDE_STEP }
-    ensures step { (check : ℕ) → IsRemainder (state * 2 ^ 16) check → IsRemainder (result * 2 ^ 16) (fold check_after check rest.now) }
+    ensures step { (check : ℕ) → IsRemainder (state * 2 ^ DEGREE) check → IsRemainder (result * 2 ^ DEGREE) (fold check_after check rest.now) }
 {
     if rest.len() < STEP {
         return after_last(state, rest);

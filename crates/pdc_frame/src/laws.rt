@@ -1,12 +1,13 @@
 //! Laws of the definitions: each is the contract of a function that does nothing.
-ghost use Rattle.std.specs.Prelude.{◌≡◌, ◌+◌, ◌++◌, ℕ, List, [], Option, None, length, drop};
+ghost use Rattle.std.specs.Prelude.{◌≡◌, ◌+◌, ◌++◌, ℕ, List, [], Option, None, length, drop, map, flat_map};
+ghost use Rattle.std.specs.List.{All};
 ghost use Rattle.std.specs.Int.{w16, to_be_bytes};
 ghost use Rattle.pdc_frame.specs.Bytes.{AreBytes};
 ghost use Rattle.pdc_frame.specs.CheckWord.{IsCheckWord, check_word_of};
 ghost use Rattle.pdc_frame.specs.Frame.{Fields, Fits, header_of, spelling_of, IsFrame, IsFirstFault};
 ghost use Rattle.pdc_frame.specs.Parts.{WordsAreTheirBytes, PartsKeepTheirWords};
 ghost use Rattle.pdc_frame.specs.declared.fault.FrameFault.{FrameFault};
-ghost use Rattle.pdc_frame.specs.Stream.{Held, HasTaken, Splits, pending_of, fault_of};
+ghost use Rattle.pdc_frame.specs.Stream.{Held, HasTaken, IsRest, Splits, pending_of, fault_of};
 
 use crate::limits::OVERHEAD;
 
@@ -57,6 +58,9 @@ pub fn streams_split_in_one_way()
         → (frames : List (List ℕ)) × (rest : List ℕ) × (fault : Option FrameFault) × Splits stream frames rest fault }
     ensures only { (stream : List ℕ) (frames others : List (List ℕ)) (rest other : List ℕ) (fault late : Option FrameFault)
         → Splits stream frames rest fault → Splits stream others other late → (frames ≡ others) × (rest ≡ other) × (fault ≡ late) }
+    // Frames that were written one behind another, and then a rest that is none, are cut into these frames.
+    ensures written { (fs : List Fields) (rest : List ℕ) (fault : Option FrameFault) → All Fits fs → IsRest rest fault
+        → Splits (flat_map spelling_of fs ++ rest) (map spelling_of fs) rest fault }
     ensures framer { (stream unread : List ℕ) (frames : List (List ℕ)) (held : Held) → HasTaken stream frames held
         → (fault_of held.step ≡ None → unread ≡ []) → Splits (stream ++ unread) frames (pending_of held.step held.bytes ++ unread) (fault_of held.step) }
 {}

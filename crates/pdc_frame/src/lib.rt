@@ -4,6 +4,9 @@
 //! To the layers above this crate promises that the bytes of a frame and its fields say the same: what is read is
 //! spelled so, what is spelled so is read with exactly those fields, and what is written is that spelling. A stream is
 //! cut into its frames in one way, in whatever pieces it comes.
+//!
+//! Begin with [`Frame`], whose type keeps the ranges of its fields. A [`Framer`] finds the frames of a stream, and a
+//! [`Buffer`] is what frames are appended to.
 #![tactic(auto)]
 
 mod buffer;

@@ -1,12 +1,15 @@
 //! The sizes and bounds of a frame (C37.118.2-2011, 6.2 and table 2).
 
-/// The places of FRAMESIZE, IDCODE, SOC and FRACSEC. SYNC has the two bytes before them.
+/// The place of FRAMESIZE.
 pub(crate) const SIZE_PLACE: usize = 2;
 
+/// The place of IDCODE.
 pub(crate) const ID_PLACE: usize = 4;
 
+/// The place of SOC.
 pub(crate) const SOC_PLACE: usize = 6;
 
+/// The place of FRACSEC.
 pub(crate) const FRACSEC_PLACE: usize = 10;
 
 /// The first byte of SYNC.

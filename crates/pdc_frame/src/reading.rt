@@ -13,20 +13,27 @@ use crate::limits::{
 };
 use crate::words::{read_long, read_word};
 
+/// The kind with this number.
+fn kind_of(number: u8) -> Option<Kind>
+    ensures { MatchOption result (6 ≤ number) (λ kind. number_of kind ≡ number) }
+{
+    match number {
+        0 => Some(Kind::DataFrame),
+        1 => Some(Kind::HeaderFrame),
+        2 => Some(Kind::Cfg1),
+        3 => Some(Kind::Cfg2),
+        4 => Some(Kind::CommandFrame),
+        5 => Some(Kind::Cfg3),
+        _ => None,
+    }
+}
+
 /// What the two bytes of SYNC say.
 fn read_sync(first: u8, second: u8) -> Option<(Kind, u8)>
     ensures { MatchOption result (IsSync first second → ⊥)
         (λ x. (second ≡ 16 * number_of x.0 + x.1) × (first ≡ 170) × ((x.1 ≡ 1) ⊎ (x.1 ≡ 2))) }
 {
-    let kind = match second >> 4 {
-        0 => Kind::DataFrame,
-        1 => Kind::HeaderFrame,
-        2 => Kind::Cfg1,
-        3 => Kind::Cfg2,
-        4 => Kind::CommandFrame,
-        5 => Kind::Cfg3,
-        _ => return None,
-    };
+    let kind = kind_of(second >> 4)?;
     let version = second & 0x0F;
     if first != SYNC_BYTE || version == 0 || version > MAX_VERSION {
         return None;

@@ -1,5 +1,6 @@
 use Rattle.pdc_frame.proofs.Streams.{one_split, taken_split}
 use Rattle.pdc_frame.proofs.Splitting.{every_split}
+use Rattle.pdc_frame.proofs.Written.{written_split}
 use Rattle.pdc_frame.proofs.laws.streams_split_in_one_way.Goals as goal
 
 pub returns-clause-some : goal.returns-clause-some
@@ -10,3 +11,6 @@ returns-clause-only c = one_split
 
 pub returns-clause-framer : goal.returns-clause-framer
 returns-clause-framer c = taken_split
+
+pub returns-clause-written : goal.returns-clause-written
+returns-clause-written c = written_split
