@@ -1,12 +1,14 @@
 //! The program `pdc`.
 #![tactic(auto)]
 
+mod mark_convert;
 mod mark_init;
 #[cfg(test)]
 mod tests;
 
-use mark_init::{MarkInitFault, make_mark};
-use pdc_command_line::{MarkInit, Request, parse};
+use mark_convert::convert_mark;
+use mark_init::make_mark;
+use pdc_command_line::{MarkConvert, MarkInit, Request, parse};
 use pdc_show::{ShowFault, Shown, run_show};
 use std::alloc::Global;
 use std::io;
@@ -42,15 +44,22 @@ fn run_show_command(rt: &HostRuntime) -> io::Result<u8> {
 fn run_mark_init_command(rt: &HostRuntime, request: &MarkInit) -> io::Result<u8> {
     match make_mark(rt, request) {
         Ok(()) => Ok(DONE),
-        Err(MarkInitFault::Exists) => {
-            eprintln!(rt; "{}", MarkInitFault::Exists)?;
-            Ok(REFUSED)
+        Err(fault) => {
+            fault.report(rt, request)?;
+            Ok(fault.status())
+        }
+    }
+}
+
+fn run_mark_convert_command(rt: &HostRuntime, request: &MarkConvert) -> io::Result<u8> {
+    match convert_mark(rt, request) {
+        Ok((start, floor)) => {
+            println!(rt; "start={start} floor={floor}")?;
+            Ok(DONE)
         }
         Err(fault) => {
-            let file = request.file;
-            eprintln!(rt; "device fault")?;
-            eprintln!(rt; "pdc mark-init: {file}: {fault}")?;
-            Ok(FAILED)
+            fault.report(rt, request)?;
+            Ok(fault.status())
         }
     }
 }
@@ -62,6 +71,7 @@ fn main(rt: HostRuntime) -> io::Result<ExitCode> {
     let status = match parse(alloc, arguments) {
         Ok(Some(Request::Show)) => run_show_command(&rt)?,
         Ok(Some(Request::MarkInit(request))) => run_mark_init_command(&rt, &request)?,
+        Ok(Some(Request::MarkConvert(request))) => run_mark_convert_command(&rt, &request)?,
         Ok(None) => WRONG_ARGUMENTS,
         Err(error) => {
             error.print(&rt)?;

@@ -1,5 +1,6 @@
 //! `pdc mark-init`: makes a mark file.
 
+use crate::{FAILED, REFUSED};
 use pdc_command_line::MarkInit;
 use pdc_disk::FileDisk;
 use pdc_mark::DiskMark;
@@ -16,11 +17,34 @@ pub enum MarkInitFault {
     #[error("mark exists")]
     Exists,
     /// No file of this name can be made.
-    #[error("the file cannot be made: {0}")]
+    #[error("device fault")]
     NotMade(io::Error),
     /// The device failed while the mark was written. The file is taken away again, if the device still can.
-    #[error("the mark cannot be written")]
+    #[error("device fault")]
     NotWritten,
+}
+
+impl MarkInitFault {
+    /// The exit status that it gives.
+    pub fn status(&self) -> u8 {
+        match self {
+            MarkInitFault::Exists => REFUSED,
+            MarkInitFault::NotMade(_) | MarkInitFault::NotWritten => FAILED,
+        }
+    }
+
+    /// Prints the fault to standard error, and on a second line the file and the reason.
+    pub fn report(&self, rt: &impl Eprint, request: &MarkInit) -> io::Result<()> {
+        let file = request.file;
+        eprintln!(rt; "{self}")?;
+        match self {
+            MarkInitFault::Exists => eprintln!(rt; "pdc mark-init: {file}: it is left as it is"),
+            MarkInitFault::NotMade(error) => eprintln!(rt; "pdc mark-init: {file}: {error}"),
+            MarkInitFault::NotWritten => {
+                eprintln!(rt; "pdc mark-init: {file}: the mark cannot be written")
+            }
+        }
+    }
 }
 
 /// Makes a mark file of this id and rate, for a concentrator that has never started.

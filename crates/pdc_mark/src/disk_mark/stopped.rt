@@ -19,12 +19,13 @@ use pdc_disk::{Landing, MemoryDisk};
 const TORN: u8 = 0xA5;
 
 impl DiskMark<MemoryDisk> {
-    ghost use Rattle.pdc_mark.specs.DiskMark.{mark_on, stored_of, with_stored};
+    ghost use Rattle.pdc_mark.specs.DiskMark.{disk_of, mark_on, stored_of, with_stored};
 
     /// The mark as it is opened on this disk, which has it.
     fn opened(disk: MemoryDisk, slot: Slot) -> Self
         requires { HasJust slot (seen_of disk) }
-        ensures { mark_on result ≡ slot }
+        ensures mark { mark_on result ≡ slot }
+        ensures file { seen_of (disk_of result) ≡ seen_of disk }
     {
         match DiskMark::open(disk, slot.id, slot.rate) {
             Ok(mark) => mark,
@@ -59,7 +60,7 @@ impl DiskMark<MemoryDisk> {
 }
 
 impl Store for DiskMark<MemoryDisk> {
-    ghost use Rattle.pdc_mark.specs.DiskMark.{mark_on, stored_of, with_stored};
+    ghost use Rattle.pdc_mark.specs.DiskMark.{disk_of, mark_on, stored_of, with_stored};
 
     ghost never_fails = { Prim.search rules };
 
@@ -68,20 +69,36 @@ impl Store for DiskMark<MemoryDisk> {
     fn stopped(&mut self)
         ensures stored { stored_of self.new ≡ stored_of self.old }
         ensures mark { mark_on self.new ≡ mark_on self.old }
+        ensures file { seen_of (disk_of self.new) ≡ seen_of (disk_of self.old) }
     {
         let slot = self.slot;
         *self = DiskMark::opened(self.disk.stopped(Landing::Before), slot);
     }
 
-    fn begin_stopped(&mut self, landed: bool) {
+    fn begin_stopped(&mut self, landed: bool)
+        requires { (stored_of self.old).start < u32.MAX }
+        ensures stored { stored_of self.new ≡ (if landed then with_next_start (stored_of self.old) else stored_of self.old) }
+        ensures mark { mark_on self.new
+            ≡ (if landed then with_stored (mark_on self.old) (with_next_start (stored_of self.old)) else mark_on self.old) }
+    {
         self.put_stopped(self.slot.stored.with_next_start(), landed);
     }
 
-    fn reserve_stopped(&mut self, floor: u64, landed: bool) {
+    fn reserve_stopped(&mut self, floor: u64, landed: bool)
+        requires { (stored_of self.old).floor < floor }
+        ensures stored { stored_of self.new ≡ (if landed then with_floor (stored_of self.old) floor else stored_of self.old) }
+        ensures mark { mark_on self.new
+            ≡ (if landed then with_stored (mark_on self.old) (with_floor (stored_of self.old) floor) else mark_on self.old) }
+    {
         self.put_stopped(self.slot.stored.with_floor(floor), landed);
     }
 
-    fn raise_stopped(&mut self, counts: &[u16; COUNTS], landed: bool) {
+    fn raise_stopped(&mut self, counts: &[u16; COUNTS], landed: bool)
+        requires { IsRaise (stored_of self.old).counts counts.now }
+        ensures stored { stored_of self.new ≡ (if landed then with_counts (stored_of self.old) counts.now else stored_of self.old) }
+        ensures mark { mark_on self.new
+            ≡ (if landed then with_stored (mark_on self.old) (with_counts (stored_of self.old) counts.now) else mark_on self.old) }
+    {
         self.put_stopped(self.slot.stored.with_counts(*counts), landed);
     }
 }

@@ -1,0 +1,203 @@
+//! Disks and marks in real files.
+
+use super::fixtures::{
+    FLOOR, ID, RATE, counts, folder, mark_file, old_file, opened, raise, raised_file, refusal,
+    reserve,
+};
+use super::same;
+use pdc_disk::{Disk, DiskFault, FileDisk};
+use pdc_mark::{DiskMark, Mark, MarkFault};
+use std::fs::{self, File, OpenOptions};
+use std::io::ErrorKind;
+use std::os::unix::fs::MetadataExt;
+use std::process::Abort;
+use std::rt::Files;
+use std::test::Fail;
+
+const HELD: [u8; 4] = [1, 2, 3, 4];
+
+/// The file of this name as a disk.
+fn disk(rt: &(impl Abort + Alloc + Files<File = File>), name: &str) -> FileDisk {
+    FileDisk::open(rt, name).expect(rt, "a disk")
+}
+
+/// The file of this name holds these bytes.
+fn holds(rt: &(impl Abort + Alloc + Files<File = File>), name: &str, bytes: &[u8]) {
+    let found = fs::read(rt, name).expect(rt, "a file");
+    is!(rt; found.as_slice(), bytes);
+}
+
+/// The file of this name with these bytes, as a disk.
+fn file_of(rt: &(impl Abort + Alloc + Files<File = File>), name: &str, bytes: &[u8]) -> FileDisk {
+    fs::write(rt, name, bytes).expect(rt, "a file");
+    disk(rt, name)
+}
+
+/// What a read of n bytes gives, up to four.
+fn read(disk: &mut FileDisk, at: u64, n: usize) -> Result<[u8; 4], DiskFault> {
+    let mut bytes = [0; 4];
+    let len = disk.len()?;
+    let part = &mut bytes[..n.min(4)];
+    if len < part.len() as u64 || len - (part.len() as u64) < at {
+        return Err(DiskFault);
+    }
+    disk.read_at(at, part)?;
+    Ok(bytes)
+}
+
+/// A write, and the sync behind it.
+fn write(disk: &mut FileDisk, at: u64, bytes: &[u8]) -> Result<(), DiskFault> {
+    if disk.len()? < at {
+        return Err(DiskFault);
+    }
+    disk.write_at(at, bytes)?;
+    disk.sync()
+}
+
+/// Why no file is made.
+fn not_made(rt: &(impl Abort + Alloc + Files<File = File>), name: &str) -> Option<ErrorKind> {
+    FileDisk::create(rt, name).err().map(|error| error.kind())
+}
+
+/// Why no file is opened.
+fn not_opened(rt: &(impl Abort + Alloc + Files<File = File>), name: &str) -> Option<ErrorKind> {
+    FileDisk::open(rt, name).err().map(|error| error.kind())
+}
+
+fn written_again(rt: &(impl Abort + Alloc + Files<File = File>), name: &str) {
+    let mut made = FileDisk::create(rt, name).expect(rt, "a new file");
+    is!(rt; write(&mut made, 0, &HELD), Ok(()));
+    is!(rt; write(&mut made, 3, &[5, 6]), Ok(()));
+    is!(rt; not_made(rt, name), Some(ErrorKind::AlreadyExists));
+    is!(rt; read(&mut disk(rt, name), 1, 4), Ok([2, 3, 5, 6]));
+}
+
+#[test]
+fn a_file_is_written_and_opened_again(rt: HostRuntime) -> Result<(), Fail> {
+    let folder = folder(&rt, "again")?;
+    let path = folder.join(rt.alloc(), "disk")?;
+    written_again(&rt, path.as_str());
+    fs::remove_dir_all(&rt, &folder)?;
+    Ok(())
+}
+
+/// Whoever else writes to the file is found out at the next call that can tell, and each call fails from then on.
+fn cut_short(rt: &(impl Abort + Alloc + Files<File = File>), name: &str) {
+    let mut disk = file_of(rt, name, &HELD);
+    let cut = OpenOptions::new().write(true).open(rt, name);
+    cut.expect(rt, "a file").set_len(3).expect(rt, "a cut");
+    is!(rt; disk.len(), Err(DiskFault));
+    is!(rt; disk.sync(), Err(DiskFault));
+    is!(rt; disk.failures(), 2);
+}
+
+fn changed(rt: &(impl Abort + Alloc + Files<File = File>), name: &str) {
+    let mut disk = file_of(rt, name, &HELD);
+    fs::write(rt, name, [1, 2, 3, 5].as_slice()).expect(rt, "a change");
+    is!(rt; read(&mut disk, 1, 2), Ok([2, 3, 0, 0]));
+    is!(rt; read(&mut disk, 2, 2), Err(DiskFault));
+    is!(rt; write(&mut disk, 0, &[9]), Err(DiskFault));
+    holds(rt, name, &[1, 2, 3, 5]);
+}
+
+#[test]
+fn a_file_that_others_change_is_lost(rt: HostRuntime) -> Result<(), Fail> {
+    let folder = folder(&rt, "lost")?;
+    let path = folder.join(rt.alloc(), "disk")?;
+    cut_short(&rt, path.as_str());
+    changed(&rt, path.as_str());
+    fs::remove_dir_all(&rt, &folder)?;
+    Ok(())
+}
+
+fn longer(rt: &(impl Abort + Alloc + Files<File = File>), name: &str) {
+    let mut disk = file_of(rt, name, &[6; 300]);
+    is!(rt; disk.len(), Ok(300));
+    is!(rt; read(&mut disk, 255, 1), Ok([6, 0, 0, 0]));
+    is!(rt; read(&mut disk, 256, 1), Err(DiskFault));
+}
+
+#[test]
+fn a_longer_file_tells_its_length(rt: HostRuntime) -> Result<(), Fail> {
+    let folder = folder(&rt, "longer")?;
+    let path = folder.join(rt.alloc(), "disk")?;
+    longer(&rt, path.as_str());
+    fs::remove_dir_all(&rt, &folder)?;
+    Ok(())
+}
+
+/// A device that can't be synced isn't opened: `open` calls the system's sync.
+#[test]
+fn files_that_cannot_be_opened(rt: HostRuntime) {
+    is!(&rt; not_opened(&rt, "/no/such/disk"), Some(ErrorKind::NotFound));
+    is!(&rt; not_made(&rt, "/no/such/disk"), Some(ErrorKind::NotFound));
+    is!(&rt; not_made(&rt, "/proc/pdc_disk_test").is_some(), true);
+    is!(&rt; not_opened(&rt, "/tmp").is_some(), true);
+    is!(&rt; not_opened(&rt, "/dev/null").is_some(), true);
+}
+
+/// A read-only folder binds everyone but root.
+#[test]
+fn a_folder_that_takes_no_file(rt: HostRuntime) -> Result<(), Fail> {
+    let folder = folder(&rt, "read_only")?;
+    let path = folder.join(rt.alloc(), "disk")?;
+    let mut permissions = fs::metadata(&rt, &folder)?.permissions();
+    permissions.set_readonly(true);
+    fs::set_permissions(&rt, &folder, permissions)?;
+    if fs::metadata(&rt, &folder)?.uid() != 0 {
+        is!(&rt; not_made(&rt, path.as_str()), Some(ErrorKind::PermissionDenied));
+    }
+    fs::remove_dir_all(&rt, &folder)?;
+    Ok(())
+}
+
+fn life_in_a_file(rt: &(impl Abort + Alloc + Files<File = File>), name: &str) {
+    let disk_made = FileDisk::create(rt, name).expect(rt, "a new file");
+    is!(rt; DiskMark::init(disk_made, ID, RATE).is_ok(), true);
+    is!(rt; opened(rt, disk(rt, name)).begin(), Ok(1));
+    is!(rt; reserve(&mut opened(rt, disk(rt, name)), FLOOR), Ok(()));
+    holds(rt, name, &mark_file());
+    is!(rt; refusal(disk(rt, name), 202, RATE), Some(MarkFault::OtherOwner));
+}
+
+fn refused_length(
+    rt: &(impl Abort + Alloc + Files<File = File>),
+    name: &str,
+    len: u64,
+    fault: MarkFault,
+) {
+    let cut = OpenOptions::new().write(true).open(rt, name);
+    cut.expect(rt, "a file").set_len(len).expect(rt, "a length");
+    is!(rt; (len, refusal(disk(rt, name), ID, RATE)), (len, Some(fault)));
+}
+
+#[test]
+fn a_mark_in_a_real_file(rt: HostRuntime) -> Result<(), Fail> {
+    let folder = folder(&rt, "mark")?;
+    let path = folder.join(rt.alloc(), "mark")?;
+    life_in_a_file(&rt, path.as_str());
+    refused_length(&rt, path.as_str(), 257, MarkFault::NoMark);
+    refused_length(&rt, path.as_str(), 255, MarkFault::NoMark);
+    refused_length(&rt, path.as_str(), 129, MarkFault::NoMark);
+    refused_length(&rt, path.as_str(), 128, MarkFault::OldMark);
+    fs::remove_dir_all(&rt, &folder)?;
+    Ok(())
+}
+
+fn converted(rt: &(impl Abort + Alloc + Files<File = File>), old: &str, new: &str) {
+    let mut made = FileDisk::create(rt, new).expect(rt, "a new file");
+    let answer = DiskMark::convert(&mut file_of(rt, old, &old_file()), &mut made);
+    is!(rt; answer, Ok((1, FLOOR)));
+    is!(rt; raise(&mut opened(rt, disk(rt, new)), counts(1, 1)), Ok(()));
+    holds(rt, new, &raised_file());
+}
+
+#[test]
+fn a_real_file_is_converted(rt: HostRuntime) -> Result<(), Fail> {
+    let folder = folder(&rt, "convert")?;
+    let old = folder.join(rt.alloc(), "old")?;
+    let new = folder.join(rt.alloc(), "new")?;
+    converted(&rt, old.as_str(), new.as_str());
+    fs::remove_dir_all(&rt, &folder)?;
+    Ok(())
+}
