@@ -3,7 +3,7 @@
 use crate::reading::shape_of;
 use pdc_block::{cut, join};
 use pdc_cfg::{read_config, write_config};
-use pdc_frame::{Frame, Kind, read_frame, write_frame};
+use pdc_frame::{Frame, Kind, MAX_PAYLOAD, read_frame, write_frame};
 use std::alloc::Global;
 
 /// Reads a configuration frame once and writes it `rounds` times, each with another SOC, into one buffer; mixes the
@@ -56,13 +56,17 @@ pub extern "C" fn dagluwis_write_data(
     for soc in 0..rounds {
         payload.clear();
         out.clear();
-        if join(blocks.as_slice(), &mut payload).is_err() || payload.len() > 65519 {
+        if join(blocks.as_slice(), &mut payload).is_err() || payload.len() > MAX_PAYLOAD {
             return 0;
         }
         let again = Frame {
+            kind: frame.kind,
+            version: frame.version,
+            id: frame.id,
             soc,
+            quality: frame.quality,
+            frac: frame.frac,
             payload: payload.as_slice(),
-            ..frame
         };
         if write_frame(&again, &mut out).is_err() {
             return 0;

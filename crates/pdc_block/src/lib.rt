@@ -1,7 +1,9 @@
 //! Data blocks of IEEE C37.118.2-2011 (6.3), in 16-bit formats.
 //!
 //! To the layers above this crate promises that the bytes of a block are its words, and that a data payload is the
-//! blocks of its sections, one after the other.
+//! blocks of its sections, one after the other. [`Block`] is the type to look at first.
+//!
+//! A call of a law, as of `words_are_their_bytes`, does nothing: the proof of the function around it cites the law.
 #![tactic(auto)]
 
 mod block;

@@ -1,7 +1,9 @@
 //! Configurations of IEEE C37.118.2-2011: frames CFG-1 and CFG-2 (6.4), in 16-bit formats.
 //!
 //! To the layers above this crate promises that a configuration is its sections: each is kept byte for byte, and what
-//! is read of it stands at its place in these bytes.
+//! is read of it stands at its place in these bytes. [`ConfigView`] and [`SectionView`] are the types to look at first.
+//!
+//! A call of a law, as of `words_are_their_bytes`, does nothing: the proof of the function around it cites the law.
 #![tactic(auto)]
 
 mod config;

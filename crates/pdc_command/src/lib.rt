@@ -2,7 +2,10 @@
 //! tells people.
 //!
 //! To the layers above this crate promises that a frame and what it carries say the same, in both directions: what is
-//! written is read back, and what is read was spelled so.
+//! written is read back, what is read was spelled so, and a frame carries one command or text, or has one fault.
+//! [`Command`] is the type to look at first.
+//!
+//! A call of a law, as of `frames_are_written_in_parts`, does nothing: the proof of the function around it cites the law.
 #![tactic(auto)]
 
 mod command;

@@ -79,10 +79,9 @@ fn rows_on_the_wire(rt: HostRuntime) -> Result<(), Fail> {
     let settings = node_201();
     let mut out = vec![in alloc; 7u8]?;
     append_row(&settings, &row(WORDS_11, WORDS_12), &mut out)?;
-    is!(&rt; out.len(), 51);
-    is!(&rt; &out[1..], BOTH.as_slice());
+    is!(&rt; out.split_first(), Some((&7, BOTH.as_slice())));
 
-    let mut out = Vec::new(alloc);
+    let mut out = ArrayVec::<u8, 50>::new();
     append_row(&settings, &row(WORDS_11, ABSENT), &mut out)?;
     is!(&rt; out.as_slice(), ONE_ABSENT.as_slice());
     Ok(())
@@ -92,15 +91,11 @@ fn rows_on_the_wire(rt: HostRuntime) -> Result<(), Fail> {
 fn own_section_of_node_201(rt: HostRuntime) -> Result<(), Fail> {
     let section = own_section(&node_201(), 1, 65538);
     let bytes = section.bytes.as_slice();
-    is!(&rt; bytes.len(), 1070);
+    assert_eq!(rt; bytes.len(), 1070);
     is!(&rt; &bytes[..26], OWN_HEAD.as_slice());
-    for byte in &bytes[26..1050] {
-        is!(&rt; *byte, b' ');
-    }
+    is!(&rt; bytes[26..1050].iter().all(|byte| *byte == b' '), true);
     is!(&rt; &bytes[1050..], OWN_END.as_slice());
-    is!(&rt; (section.source, section.count, section.polar),
-        (201, 2, false)
-    );
+    is!(&rt; (section.source, section.count, section.polar), (201, 2, false));
     is!(&rt; section.shape.section_len(), 1070);
     Ok(())
 }
@@ -111,14 +106,12 @@ fn layout_of_no_pmu(rt: HostRuntime) -> Result<(), Fail> {
     append_layout(&node_201(), 1, 65538, &[], 1_149_577_200, &mut out)?;
     is!(&rt; out.len(), 1094);
     let frame = read_frame(&out)?;
-    is!(&rt; frame.kind, Kind::Cfg2);
-    is!(&rt; (frame.version, frame.id, frame.soc),
-        (2, 201, 1_149_577_200)
-    );
-    is!(&rt; (frame.quality, frame.frac), (0, 0));
+    is!(&rt; (frame.kind, frame.version, frame.id), (Kind::Cfg2, 2, 201));
+    is!(&rt; (frame.soc, frame.quality, frame.frac), (1_149_577_200, 0, 0));
     let config = read_config(&frame)?;
     is!(&rt; config.sections.len(), 1);
-    is!(&rt; config.sections.as_slice()[0].count, 2);
+    let own = config.sections.as_slice()[0];
+    is!(&rt; own.count, 2);
     Ok(())
 }
 
@@ -134,19 +127,18 @@ fn layout_of_two_pmus(rt: HostRuntime) -> Result<(), Fail> {
         payload: &SECTIONS,
     };
     let sent = read_config(&frame)?;
-    is!(&rt; sent.sections.len(), 2);
+    assert_eq!(rt; sent.sections.len(), 2);
     let mut out = Vec::new(rt.alloc());
     append_layout(&node_201(), 1, 1, sent.sections.as_slice(), 0, &mut out)?;
     is!(&rt; out.len(), 1194);
     let frame = read_frame(&out)?;
     let config = read_config(&frame)?;
-    is!(&rt; (config.flags, config.time_base, config.rate),
-        (0, 1_000_000, 50)
-    );
+    is!(&rt; (config.flags, config.time_base, config.rate), (0, 1_000_000, 50));
     let sections = config.sections.as_slice();
-    is!(&rt; sections.len(), 3);
-    is!(&rt; (sections[0].source, sections[0].count), (201, 1));
-    is!(&rt; sections[1].bytes, &SECTIONS[6..56]);
-    is!(&rt; sections[2].bytes, &SECTIONS[56..106]);
+    assert_eq!(rt; sections.len(), 3);
+    let (own, one, two) = (sections[0], sections[1], sections[2]);
+    is!(&rt; (own.source, own.count), (201, 1));
+    is!(&rt; one.bytes, &SECTIONS[6..56]);
+    is!(&rt; two.bytes, &SECTIONS[56..106]);
     Ok(())
 }
