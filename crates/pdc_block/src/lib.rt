@@ -10,8 +10,6 @@ mod block;
 mod fault;
 mod laws;
 mod reading;
-#[cfg(test)]
-mod tests;
 mod writing;
 
 pub use block::Block;

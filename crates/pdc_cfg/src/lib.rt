@@ -13,8 +13,6 @@ mod reading;
 mod section;
 mod section_reading;
 mod shape;
-#[cfg(test)]
-mod tests;
 mod writing;
 
 pub use config::{ConfigView, MAX_SECTIONS, MAX_TIME_BASE};

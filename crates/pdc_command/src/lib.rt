@@ -17,6 +17,3 @@ pub use command::{COMMAND_SIZE, Command, read_command, write_command};
 pub use fault::CommandFault;
 pub use header::{MAX_TEXT, read_header, write_header};
 pub use laws::{commands_are_read_in_one_way, headers_are_read_in_one_way};
-
-#[cfg(test)]
-mod tests;

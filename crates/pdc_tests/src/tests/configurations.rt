@@ -1,22 +1,10 @@
 //! The largest configuration, and those a step beyond it.
 
-use crate::{CfgFault, read_config};
+use super::same::is;
+use pdc_cfg::{CfgFault, read_config};
 use pdc_frame::{Frame, Kind, MAX_PAYLOAD, read_frame};
 use std::alloc::{AllocError, Global};
-use std::fmt::Debug;
-use std::process::Abort;
 use std::test::Fail;
-
-/// Asserts that the two are the same, and says which ones where they are not.
-fn same<T: PartialEq + Debug>(rt: &impl Abort, found: &T, wanted: &T, text: &str) {
-    assert_eq!(rt; found, wanted, "{text}");
-}
-
-macro_rules! is {
-    ($rt:expr; $found:expr, $wanted:expr) => {
-        same($rt, &$found, &$wanted, stringify!($found is $wanted))
-    };
-}
 
 /// A configuration of one PMU, 11, whose names and factors are zeros: TIME_BASE 1000000, 50 frames a second, count 1.
 fn payload(alloc: Global, format: u8, phasors: u8, rest: usize) -> Result<Vec<u8>, AllocError> {

@@ -1,33 +1,17 @@
+//! Commands and headers.
 ghost use Rattle.std.specs.Prelude.{◌<◌, ◌≤◌, length};
 
-use super::*;
+use super::same::is;
+use super::vectors::DATA_ON;
+use pdc_command::*;
 use pdc_frame::{Frame, Kind, MAX_ID, read_frame};
 use std::alloc::{AllocError, Global};
-use std::fmt::Debug;
-use std::process::Abort;
 use std::test::*;
-
-/// Asserts that the two are the same, and says which ones where they are not.
-fn same<T: PartialEq + Debug>(rt: &impl Abort, found: &T, wanted: &T, text: &str) {
-    assert_eq!(rt; found, wanted, "{text}");
-}
-
-macro_rules! is {
-    ($rt:expr; $found:expr, $wanted:expr) => {
-        same($rt, &$found, &$wanted, stringify!($found is $wanted))
-    };
-}
 
 /// Tells stream 201 to send its CFG-2.
 const SEND_CFG2: [u8; 18] = [
     0xAA, 0x42, 0x00, 0x12, 0x00, 0xC9, 0x44, 0x85, 0x27, 0xF0, 0x00, 0x00, 0x00, 0x00, 0x00, 0x05,
     0xED, 0x85,
-];
-
-/// Tells stream 7734 to send data, in version 1.
-const DATA_ON: [u8; 18] = [
-    0xAA, 0x41, 0x00, 0x12, 0x1E, 0x36, 0x44, 0x85, 0x60, 0x30, 0x0F, 0x0B, 0xBF, 0xD0, 0x00, 0x02,
-    0xCE, 0x00,
 ];
 
 #[test]
