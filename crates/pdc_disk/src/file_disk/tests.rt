@@ -30,8 +30,8 @@ fn a_sync_is_asked_of_the_system(rt: HostRuntime) -> Result<(), Fail> {
 #[test]
 fn a_write_that_fails_unsettles_its_range(rt: HostRuntime) -> Result<(), Fail> {
     let mut disk = device(&rt, "/dev/full")?;
-    assert_eq!(&rt; disk.write_at(1, &[9, 9]), Err(DiskFault));
+    assert_eq!(&rt; disk.write_at(0, &[9, 9]), Err(DiskFault));
     let left = disk.known.stopped(Landing::Fill(7));
-    assert_eq!(&rt; left.bytes(), [1, 7, 7, 4].as_slice());
+    assert_eq!(&rt; left.bytes(), [7, 7, 3, 4].as_slice());
     Ok(())
 }
