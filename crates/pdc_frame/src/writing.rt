@@ -86,6 +86,7 @@ pub fn end_frame<B: Buffer>(start: usize, out: &mut B)
     requires start { start ≤ length (B.content out.old) }
     requires room { length (B.content out.old) + CHECK_LEN ≤ B.capacity out.old }
     ensures items { B.content out.new ≡ B.content out.old ++ to_be_bytes w16 (check_word_of (drop start (B.content out.old))) }
+    ensures len { length (B.content out.new) ≡ length (B.content out.old) + CHECK_LEN }
     ensures in_place { B.capacity out.new ≡ B.capacity out.old }
 {
     let check = check_word(&out.content()[start..]);
