@@ -1,11 +1,10 @@
 -- What is written into a slot's fields is read out of them.
-use Rattle.std.proofs.Common.{◌≡◌, ℕ, ◌+◌, ◌*◌, ◌++◌, List, length, slice_range, take, refl, ap, sym, ◌∙◌, arith}
+use Rattle.std.proofs.Common.{◌≡◌, ℕ, List, length, slice_range, take, ap, ◌∙◌, arith}
 use Rattle.std.proofs.lemmas.List.{length-append, take_all}
 use Rattle.std.proofs.lemmas.Nat.{from_be_bytes-to_be_bytes_2, from_be_bytes-to_be_bytes_4, from_be_bytes-to_be_bytes_8}
 use Rattle.std.specs.Int.{w16, w32, w64, from_be_bytes}
 use Rattle.pdc_mark.specs.declared.layout.TheConstants.{COUNTS, COUNTS_AT, FIELDS_LEN}
 use Rattle.pdc_mark.specs.declared.slot.Slot.{Slot}
-use Rattle.pdc_mark.specs.declared.stored.Stored.{Stored}
 use Rattle.pdc_mark.specs.Counts.{count_bytes, counts_of}
 use Rattle.pdc_mark.specs.Slots.{fields_of, numbers_of, slot_of, FitsWidths}
 use Rattle.pdc_mark.proofs.Counts.{counts_of-count_bytes, length-count_bytes}

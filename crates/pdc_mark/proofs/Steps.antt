@@ -3,7 +3,6 @@ use Rattle.std.proofs.Common.{◌≡◌, ◌⊎◌, inl, inr, ℕ, ◌+◌, ◌<
 use Rattle.pdc_disk.specs.Disk.{written, AllSettled, IsTorn}
 use Rattle.pdc_mark.specs.declared.layout.TheConstants.{CLOSED, FIELDS_AT, FIELDS_END, FIELDS_LEN, MARK_LEN, OPEN}
 use Rattle.pdc_mark.specs.declared.slot.Slot.{Slot}
-use Rattle.pdc_mark.specs.declared.stored.Stored.{Stored}
 use Rattle.pdc_mark.specs.declared.slot.Place.{Place}
 use Rattle.pdc_mark.specs.Slots.{offset_of, other_of, slot_of, slot_at, is_open, mark_of, HasMark, HasEither, IsHeld}
 use Rattle.pdc_mark.specs.Stored.{is_below}

@@ -6,7 +6,6 @@ use Rattle.pdc_mark.specs.declared.layout.TheConstants.{MARK_LEN, COUNTS, SLOT_L
 use Rattle.pdc_mark.specs.declared.slot.Slot.{Slot}
 use Rattle.pdc_mark.specs.declared.slot.Place.{Place}
 use Rattle.pdc_mark.specs.declared.slot.Place.TheVariants.{First, Second}
-use Rattle.pdc_mark.specs.declared.stored.Stored.{Stored}
 use Rattle.pdc_mark.specs.Counts.{count_bytes, counts_of}
 use Rattle.pdc_mark.specs.Stored.{is_below}
 

@@ -1,5 +1,5 @@
 -- What a mark stores, how each store changes it, and the order of marks.
-use Rattle.std.specs.Prelude.{◌≡◌, ℕ, ◌+◌, ◌==◌, ◌||◌, ◌&&◌, nat_lt, Bool, List, replicate}
+use Rattle.std.specs.Prelude.{ℕ, ◌+◌, ◌==◌, ◌||◌, ◌&&◌, nat_lt, Bool, List, replicate}
 use Rattle.pdc_mark.specs.declared.layout.TheConstants.{COUNTS}
 use Rattle.pdc_mark.specs.declared.stored.Stored.{Stored}
 use Rattle.pdc_mark.specs.Counts.{are_below}

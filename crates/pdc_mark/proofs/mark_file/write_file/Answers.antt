@@ -1,4 +1,4 @@
-use Rattle.std.proofs.Common.{◌≡◌, ◌≤◌, ◌+◌, ◌++◌, ◌∙◌, length, List, ℕ, ap, arith}
+use Rattle.std.proofs.Common.{◌≤◌, ◌+◌, ◌∙◌, length, List, ℕ, ap, arith}
 use Rattle.std.proofs.lemmas.Result.{on_ok_weaker}
 use Rattle.pdc_disk.specs.Disk.{written}
 use Rattle.pdc_mark.specs.declared.layout.TheConstants.{SLOT_LEN}

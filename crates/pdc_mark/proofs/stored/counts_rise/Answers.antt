@@ -1,4 +1,4 @@
-use Rattle.std.proofs.Common.{◌≡◌, length, sym, ◌∙◌}
+use Rattle.std.proofs.Common.{sym, ◌∙◌}
 use Rattle.pdc_mark.proofs.Counts.{are_below-raise}
 use Rattle.pdc_mark.proofs.stored.counts_rise.Goals as goal
 
