@@ -1,92 +1,41 @@
 //! Laws of every life, by the definitions: each is the contract of a function that does nothing but call the laws that it
-//! stands on.
-ghost use Rattle.pdc_life.specs.Genuine.{BlocksAreGenuine, RowsAreGenuine};
-ghost use Rattle.pdc_life.specs.Tagged.{RowsHaveTags};
-ghost use Rattle.pdc_life.specs.Valid.{HeldIsSection, InForceIsSection};
-ghost use Rattle.pdc_life.specs.Laws.{ClosedStayClosed, CountsStay, HeldIsGreatest, NoneOvertakes, RowsRise, TakenIsInTime};
-ghost use Rattle.pdc_life.specs.OneLife.{AnswersAreOne, BytesAreReadOnce, StepsHaveOneLife};
+//! stands on. Node and merger are one kind of thing, and what is said of ticked lives and of runs is said of both.
+ghost use Rattle.pdc_life.specs.Cells.{CellsAreOfSections};
+ghost use Rattle.pdc_life.specs.Laws.{ChangesNeverFall, ChangesRiseByOne, InForceIsCleared, MergerLivesAreTicked, NodeLivesAreRuns, RowsComeOutOnce, RowsRise, SameChangeSameSections};
+ghost use Rattle.pdc_life.specs.OneLife.{OneStepMore, StepsMakeMergerLives, StepsMakeNodeLives};
 
-use pdc_block::bodies_are_their_words;
-use pdc_cfg::configurations_are_read_in_one_way;
-use pdc_frame::frames_are_read_in_one_way;
-use pdc_tag::instant_is_nearest;
+/// A node's lives are runs, and the merger's are ticked: what holds of all runs, or of all ticked lives, holds of them.
+pub fn lives_are_runs()
+    ensures of_node { NodeLivesAreRuns }
+    ensures of_merger { MergerLivesAreTicked }
+{}
 
-/// In every life the instants of the rows rise strictly, and lie above the floor.
+/// In every life the instants of the rows rise strictly, and lie above the floor; each row comes out once.
 pub fn rows_rise()
-    ensures { RowsRise }
+    ensures rise { RowsRise }
+    ensures out { RowsComeOutOnce }
 {}
 
-/// A PMU that has a count never loses it.
-pub fn counts_stay()
-    ensures { CountsStay }
+/// Change numbers rise by one, and only where a tick adopts; while one stands, nothing in force changes.
+pub fn changes_rise()
+    ensures by_one { ChangesRiseByOne }
+    ensures never_fall { ChangesNeverFall }
+    ensures same { SameChangeSameSections }
 {}
 
-/// Bytes that arrive for a PMU say one thing at most.
-pub fn bytes_are_read_in_one_way()
-    ensures { BytesAreReadOnce }
-{
-    frames_are_read_in_one_way();
-    configurations_are_read_in_one_way();
-    instant_is_nearest();
-}
-
-/// Two answers to the same bytes cannot both hold, nor can the bytes say two things.
-pub fn answers_are_one()
-    ensures { AnswersAreOne }
-{
-    bytes_are_read_in_one_way();
-}
-
-/// Steps have one life at most.
-pub fn steps_have_one_life()
-    ensures { StepsHaveOneLife }
-{
-    bytes_are_read_in_one_way();
-}
-
-/// What is taken came in time, and what comes in time is taken.
-pub fn taken_is_in_time()
-    ensures { TakenIsInTime }
+/// What is in force is cleared, and not below the opening count.
+pub fn in_force_is_cleared()
+    ensures { InForceIsCleared }
 {}
 
-/// Data is taken only for an instant above the floor and above each one that closed.
-pub fn closed_stay_closed()
-    ensures { ClosedStayClosed }
+/// A cell has the shape of the section in force.
+pub fn cells_are_of_sections()
+    ensures { CellsAreOfSections }
 {}
 
-/// No instant closes while an open one below it is not due.
-pub fn none_overtakes()
-    ensures { NoneOvertakes }
+/// Steps that are read and answered one after the other make a life.
+pub fn steps_make_lives()
+    ensures of_node { StepsMakeNodeLives }
+    ensures of_merger { StepsMakeMergerLives }
+    ensures one_more { OneStepMore }
 {}
-
-/// Held is the greatest count that came, with the first section of it.
-pub fn held_is_greatest()
-    ensures { HeldIsGreatest }
-{}
-
-/// Each row's instant is below 2^32 seconds, at the rate: SOC can name its second.
-pub fn rows_have_tags()
-    ensures { RowsHaveTags }
-{}
-
-/// What is held of a PMU, and what is in force, is a section as a configuration spells it.
-pub fn sections_are_valid()
-    ensures held { HeldIsSection }
-    ensures in_force { InForceIsSection }
-{}
-
-/// The block that a PMU has for an instant is the absent one, or the body of a data frame of that PMU for that instant that was
-/// taken in this life when the section in force was so already.
-pub fn blocks_are_genuine()
-    ensures { BlocksAreGenuine }
-{
-    bodies_are_their_words();
-}
-
-/// The blocks of a row are such ones: one for each PMU that had a section in force when the row closed, in the order of the
-/// settings.
-pub fn rows_are_genuine()
-    ensures { RowsAreGenuine }
-{
-    bodies_are_their_words();
-}

@@ -1,0 +1,4 @@
+pub mod Bytes
+pub mod Layouts
+pub mod OwnSections
+pub mod RowFrames
