@@ -77,7 +77,7 @@ unless_adopted : (c : ℕ) (b : Bool) (h f : Option SectionFields) (ts : List Ta
 unless_adopted c true h f ts a = tt
 unless_adopted c false h f ts a = a
 
-run_before : (g : Given) (e : Entry) (E : List Entry) → AreSound g (e ∷ E) → AreSound g E
+pub run_before : (g : Given) (e : Entry) (E : List Entry) → AreSound g (e ∷ E) → AreSound g E
 run_before g (Arrive s bytes arrival answer) E run = run.1
 run_before g (Tick now counts answer) E run = run
 run_before g (Pop row) E run = run
@@ -133,7 +133,7 @@ first_not_below low (s ∷ ss) = kept_not_below low s (filter (λ (t : SectionFi
 held_not_below : (g : Given) (E : List Entry) (c : ℕ) → NotBelow (count_for c g.counts) (held_section g E c)
 held_not_below g E c = first_not_below (count_for c g.counts) (flat_map (sections_at c) E)
 
-both_true : (a b : Bool) → (a && b) ≡ true → b ≡ true
+pub both_true : (a b : Bool) → (a && b) ≡ true → b ≡ true
 both_true true b h = h
 both_true false b h = absurd (false≢true h)
 
@@ -164,7 +164,7 @@ wider low high more (Some s) h b = (b.0, omega (arith, b.1, h))
 max_is_more : (m n : ℕ) → m ≤ max m n
 max_is_more m n = omega arith
 
-if_change : (f : ℕ → Bool) (c : ℕ) (b : Bool) (ds : List ℕ) → list_any (λ x. x == c) (cond b (filter f ds) []) ≡ true → f c ≡ true
+pub if_change : (f : ℕ → Bool) (c : ℕ) (b : Bool) (ds : List ℕ) → list_any (λ x. x == c) (cond b (filter f ds) []) ≡ true → f c ≡ true
 if_change f c true ds h = listed_passes f c ds h
 if_change f c false ds h = absurd (false≢true h)
 

@@ -1,6 +1,13 @@
+pub mod Closing
+pub mod Come
+pub mod Held
 pub mod InForce
+pub mod InTime
 pub mod LifeLaws
 pub mod NodeRuns
+pub mod OneLife
+pub mod OneReading
+pub mod Tagged
 pub mod Vectors
 pub mod Worked
 pub mod WorkedMerger

@@ -55,7 +55,7 @@ instants_rows : (g : Given) (E : List Entry) (is : List ℕ) → row_instants (m
 instants_rows g E [] = refl
 instants_rows g E (i ∷ is) = ap (λ ns. i ∷ ns) (instants_rows g E is)
 
-last_is : (g : Given) (E : List Entry) → last_of g E ≡ greatest g.floor (row_instants (closed E))
+pub last_is : (g : Given) (E : List Entry) → last_of g E ≡ greatest g.floor (row_instants (closed E))
 last_is g [] = refl
 last_is g (Tick now counts answer ∷ E) =
     ap (λ n. greatest n (row_instants answer.rows)) (last_is g E)

@@ -4,6 +4,7 @@ pub mod Cells
 pub mod Counts
 pub mod Distinct
 pub mod Given
+pub mod InTime
 pub mod Laws
 pub mod Life
 pub mod Merger
@@ -15,4 +16,6 @@ pub mod Published
 pub mod Reading
 pub mod Row
 pub mod Run
+pub mod Sections
+pub mod Tagged
 pub mod Views

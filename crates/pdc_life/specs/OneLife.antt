@@ -3,12 +3,15 @@ use Rattle.std.specs.Prelude.{◌≡◌, ℕ, List, ◌∷◌, ◌++◌, []}
 use Rattle.std.specs.List.{AllByRecursion}
 use Rattle.pdc_life.specs.declared.given.Settings.{Settings}
 use Rattle.pdc_life.specs.declared.merging.MergerSettings.{MergerSettings}
-use Rattle.pdc_life.specs.Answer.{IsReadStep, ReadStep, Rules, answered, life_from}
+use Rattle.pdc_life.specs.declared.pmu.Pmu.{Pmu}
+use Rattle.pdc_life.specs.Arrival.{Arrival}
+use Rattle.pdc_life.specs.Answer.{IsLifeOf, IsReadStep, ReadStep, Rules, Step, answered, life_from}
 use Rattle.pdc_life.specs.Given.{Given}
-use Rattle.pdc_life.specs.Life.{Entry}
+use Rattle.pdc_life.specs.Life.{Answer, Arrive, Entry}
 use Rattle.pdc_life.specs.Merger.{merged_answer}
 use Rattle.pdc_life.specs.MergerReading.{IsMergerLife, ReadsForMerger}
 use Rattle.pdc_life.specs.Node.{IsNodeLife, ReadsFor, node_answer}
+use Rattle.pdc_life.specs.NodeReading.{Reads}
 
 -- Steps that are read and answered one after the other make a life: of a node, and of the merger.
 abbrev pub StepsMakeNodeLives : Type 0
@@ -26,3 +29,22 @@ abbrev pub OneStepMore : Type 0
 OneStepMore =
     (rules : Rules) (g : Given) (E : List Entry) (steps : List ReadStep) (step : ReadStep) →
     life_from rules g E (steps ++ step ∷ []) ≡ answered rules g (life_from rules g E steps) step ∷ life_from rules g E steps
+
+-- What bytes say that arrived for a PMU is one thing: no two causes hold of them, none holds of what is taken, and they are
+-- data or a configuration in one way.
+abbrev pub NodeReadsOnce : Type 0
+NodeReadsOnce =
+    (settings : Settings) (p : ℕ) (pmu : Pmu) (bytes : List ℕ) (a b : Arrival) → Reads settings p pmu bytes a → Reads settings p pmu bytes b → a ≡ b
+
+-- Two answers to the same bytes cannot both hold, nor can the bytes say two things: after one life, for one PMU.
+abbrev pub NodeAnswersAreOne : Type 0
+NodeAnswersAreOne =
+    (settings : Settings) (g : Given) (E : List Entry) (p : ℕ) (bytes : List ℕ) (r s : Arrival) (a b : Answer) →
+    IsNodeLife settings g (Arrive p bytes r a ∷ E) → IsNodeLife settings g (Arrive p bytes s b ∷ E) → (r ≡ s) × (a ≡ b)
+
+-- Steps have one life at most: what each is answered, which rows close and what is popped follows from them and from what
+-- is given.
+abbrev pub NodeStepsHaveOneLife : Type 0
+NodeStepsHaveOneLife =
+    (settings : Settings) (g : Given) (steps : List Step) (E F : List Entry) →
+    IsLifeOf node_answer (ReadsFor settings) g steps E → IsLifeOf node_answer (ReadsFor settings) g steps F → E ≡ F

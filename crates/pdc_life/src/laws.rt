@@ -1,8 +1,15 @@
 //! Laws of every life, by the definitions: each is the contract of a function that does nothing but call the laws that it
 //! stands on. Node and merger are one kind of thing, and what is said of ticked lives and of runs is said of both.
 ghost use Rattle.pdc_life.specs.Cells.{CellsAreOfSections};
-ghost use Rattle.pdc_life.specs.Laws.{ChangesNeverFall, ChangesRiseByOne, InForceIsCleared, MergerLivesAreTicked, NodeLivesAreRuns, RowsComeOutOnce, RowsRise, SameChangeSameSections};
-ghost use Rattle.pdc_life.specs.OneLife.{OneStepMore, StepsMakeMergerLives, StepsMakeNodeLives};
+ghost use Rattle.pdc_life.specs.InTime.{ClosedStayClosed, MergerTakesInTime, NodeTakesInTime, TakenIsInTime};
+ghost use Rattle.pdc_life.specs.Laws.{ChangesNeverFall, ChangesRiseByOne, InForceIsCleared, MergerLivesAreTicked, NodeLivesAreRuns, NoneOvertakes, RowsAreOfTheirTicks, RowsComeOutOnce, RowsRise, SameChangeSameSections};
+ghost use Rattle.pdc_life.specs.OneLife.{NodeAnswersAreOne, NodeReadsOnce, NodeStepsHaveOneLife, OneStepMore, StepsMakeMergerLives, StepsMakeNodeLives};
+ghost use Rattle.pdc_life.specs.Sections.{CountsNeverFall, HeldHasCome, HeldIsGreatest, HeldIsSection, InForceHasCome, InForceIsSection, NodeHoldsGreatest};
+ghost use Rattle.pdc_life.specs.Tagged.{RowsHaveTags};
+
+use pdc_cfg::configurations_are_read_in_one_way;
+use pdc_frame::frames_are_read_in_one_way;
+use pdc_tag::instant_is_nearest;
 
 /// A node's lives are runs, and the merger's are ticked: what holds of all runs, or of all ticked lives, holds of them.
 pub fn lives_are_runs()
@@ -39,3 +46,76 @@ pub fn steps_make_lives()
     ensures of_merger { StepsMakeMergerLives }
     ensures one_more { OneStepMore }
 {}
+
+/// Each row that closed is the row of its instant in the life before the tick that closed it.
+pub fn rows_are_of_their_ticks()
+    ensures { RowsAreOfTheirTicks }
+{}
+
+/// No instant closes while an open one below it is not due.
+pub fn none_overtakes()
+    ensures { NoneOvertakes }
+{}
+
+/// What is taken came in time, and what comes in time is taken.
+pub fn taken_is_in_time()
+    ensures common { TakenIsInTime }
+    ensures of_node { NodeTakesInTime }
+    ensures of_merger { MergerTakesInTime }
+{}
+
+/// Data is taken only for an instant above the floor and above each one that closed.
+pub fn closed_stay_closed()
+    ensures { ClosedStayClosed }
+{}
+
+/// Held is the greatest count that came, with the first section of it.
+pub fn held_is_greatest()
+    ensures accepted { HeldIsGreatest }
+    ensures of_node { NodeHoldsGreatest }
+{}
+
+/// What is held of a column, and what is in force, is a section as a configuration spells it.
+pub fn sections_are_valid()
+    ensures held { HeldIsSection }
+    ensures in_force { InForceIsSection }
+{}
+
+/// What is held of a column, and what is in force, came in a layout of this life.
+pub fn sections_have_come()
+    ensures held { HeldHasCome }
+    ensures in_force { InForceHasCome }
+{}
+
+/// A column that has a section in force keeps one, and its count never falls.
+pub fn counts_never_fall()
+    ensures { CountsNeverFall }
+{}
+
+/// Each row's instant is below 2^32 seconds, at the rate: SOC can name its second.
+pub fn rows_have_tags()
+    ensures { RowsHaveTags }
+{}
+
+/// Bytes that arrive for a PMU say one thing at most.
+pub fn bytes_are_read_in_one_way()
+    ensures { NodeReadsOnce }
+{
+    frames_are_read_in_one_way();
+    configurations_are_read_in_one_way();
+    instant_is_nearest();
+}
+
+/// Two answers to the same bytes cannot both hold, nor can the bytes say two things.
+pub fn answers_are_one()
+    ensures { NodeAnswersAreOne }
+{
+    bytes_are_read_in_one_way();
+}
+
+/// Steps have one life at most.
+pub fn steps_have_one_life()
+    ensures { NodeStepsHaveOneLife }
+{
+    bytes_are_read_in_one_way();
+}

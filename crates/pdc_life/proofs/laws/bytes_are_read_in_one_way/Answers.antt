@@ -1,0 +1,15 @@
+use Rattle.pdc_life.proofs.OneReading.{ReadOnce, one_reading}
+use Rattle.pdc_life.proofs.laws.bytes_are_read_in_one_way.Goals as goal
+
+pub returns : goal.returns
+returns c settings p pmu bytes a b h k =
+    let laws : ReadOnce = record {
+      same_frame = c.frames_are_read_in_one_way.ensures.same;
+      one_fault = c.frames_are_read_in_one_way.ensures.fault;
+      no_frame_fault = c.frames_are_read_in_one_way.ensures.apart;
+      same_config = c.configurations_are_read_in_one_way.ensures.same;
+      one_payload_fault = c.configurations_are_read_in_one_way.ensures.fault;
+      no_payload_fault = c.configurations_are_read_in_one_way.ensures.apart;
+      instants = c.instant_is_nearest.ensures.computed;
+    } in
+    one_reading laws p settings pmu bytes a b h k
