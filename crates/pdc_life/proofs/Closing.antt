@@ -58,18 +58,29 @@ row_before g E e (r ∷ rows) a = (
     counts = a.0.counts;
     answer = a.0.answer;
     stands = ap (λ (es : List Entry). e ∷ es) a.0.stands;
+    among = a.0.among;
     closes = a.0.closes;
     same = a.0.same;
   },
   row_before g E e rows a.1,
 )
 
-at_tick : (g : Given) (E : List Entry) (now : ℕ) (counts : List ℕ) (answer : TickAnswer) (is : List ℕ) → ((i : ℕ) → Contains is i → Contains (closing g E now) i)
-    → AllByRecursion (IsRowOfTick g (Tick now counts answer ∷ E)) (map (row_of g E) is)
-at_tick g E now counts answer [] among = tt
-at_tick g E now counts answer (i ∷ is) among = (
-  record { later = []; before = E; now = now; counts = counts; answer = answer; stands = refl; closes = among i (0, omega arith, refl); same = refl },
-  at_tick g E now counts answer is (λ j c. among j (suc c.0, omega (arith, c.1), c.2)),
+at_tick : (g : Given) (E : List Entry) (now : ℕ) (counts : List ℕ) (answer : TickAnswer) (is : List ℕ) → ((r : RowView) → Contains (map (row_of g E) is) r → Contains answer.rows r)
+    → ((i : ℕ) → Contains is i → Contains (closing g E now) i) → AllByRecursion (IsRowOfTick g (Tick now counts answer ∷ E)) (map (row_of g E) is)
+at_tick g E now counts answer [] rows among = tt
+at_tick g E now counts answer (i ∷ is) rows among = (
+  record {
+    later = [];
+    before = E;
+    now = now;
+    counts = counts;
+    answer = answer;
+    stands = refl;
+    among = rows (row_of g E i) (0, omega arith, refl);
+    closes = among i (0, omega arith, refl);
+    same = refl;
+  },
+  at_tick g E now counts answer is (λ r c. rows r (suc c.0, omega (arith, c.1), c.2)) (λ j c. among j (suc c.0, omega (arith, c.1), c.2)),
 )
 
 pub rows_are_of_their_ticks : RowsAreOfTheirTicks
@@ -77,7 +88,8 @@ rows_are_of_their_ticks g [] run = tt
 rows_are_of_their_ticks g (Tick now counts answer ∷ E) run =
     appended (IsRowOfTick g (Tick now counts answer ∷ E)) (closed E) answer.rows
     (row_before g E (Tick now counts answer) (closed E) (rows_are_of_their_ticks g E run.1))
-    (subst (λ (rows : List RowView). AllByRecursion (IsRowOfTick g (Tick now counts answer ∷ E)) rows) (sym (ap (λ (a : TickAnswer). a.rows) run.0))
-    (at_tick g E now counts answer (closing g E now) (λ i c. c)))
+    (let e : answer.rows ≡ map (row_of g E) (closing g E now) = ap (λ (a : TickAnswer). a.rows) run.0 in
+    subst (λ (rows : List RowView). AllByRecursion (IsRowOfTick g (Tick now counts answer ∷ E)) rows) (sym e)
+    (at_tick g E now counts answer (closing g E now) (λ r c. subst (λ (rows : List RowView). Contains rows r) (sym e) c) (λ i c. c)))
 rows_are_of_their_ticks g (Arrive s bytes arrival answer ∷ E) run = row_before g E (Arrive s bytes arrival answer) (closed E) (rows_are_of_their_ticks g E run)
 rows_are_of_their_ticks g (Pop row ∷ E) run = row_before g E (Pop row) (closed E) (rows_are_of_their_ticks g E run.1)

@@ -1,9 +1,11 @@
 pub mod Closing
 pub mod Come
+pub mod Genuine
 pub mod Held
 pub mod InForce
 pub mod InTime
 pub mod LifeLaws
+pub mod NodeData
 pub mod NodeRuns
 pub mod OneLife
 pub mod OneReading

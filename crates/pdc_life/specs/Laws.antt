@@ -38,6 +38,7 @@ pub record IsRowOfTick (g : Given) (E : List Entry) (row : RowView) : Type 0 whe
   pub counts : List ℕ
   pub answer : TickAnswer
   pub stands : E ≡ later ++ Tick now counts answer ∷ before
+  pub among : Contains answer.rows row
   pub closes : Contains (closing g before now) row.instant
   pub same : row ≡ row_of g before row.instant
 

@@ -1,12 +1,14 @@
 //! Laws of every life, by the definitions: each is the contract of a function that does nothing but call the laws that it
 //! stands on. Node and merger are one kind of thing, and what is said of ticked lives and of runs is said of both.
 ghost use Rattle.pdc_life.specs.Cells.{CellsAreOfSections};
+ghost use Rattle.pdc_life.specs.Genuine.{BlocksAreGenuine, CellsWereGiven, ChosenIsShown, NodeCellsAreData, NodeTakenIsShown, RowsAreGenuine};
 ghost use Rattle.pdc_life.specs.InTime.{ClosedStayClosed, MergerTakesInTime, NodeTakesInTime, TakenIsInTime};
 ghost use Rattle.pdc_life.specs.Laws.{ChangesNeverFall, ChangesRiseByOne, InForceIsCleared, MergerLivesAreTicked, NodeLivesAreRuns, NoneOvertakes, RowsAreOfTheirTicks, RowsComeOutOnce, RowsRise, SameChangeSameSections};
 ghost use Rattle.pdc_life.specs.OneLife.{NodeAnswersAreOne, NodeReadsOnce, NodeStepsHaveOneLife, OneStepMore, StepsMakeMergerLives, StepsMakeNodeLives};
 ghost use Rattle.pdc_life.specs.Sections.{CountsNeverFall, HeldHasCome, HeldIsGreatest, HeldIsSection, InForceHasCome, InForceIsSection, NodeHoldsGreatest};
 ghost use Rattle.pdc_life.specs.Tagged.{RowsHaveTags};
 
+use pdc_block::bodies_are_their_words;
 use pdc_cfg::configurations_are_read_in_one_way;
 use pdc_frame::frames_are_read_in_one_way;
 use pdc_tag::instant_is_nearest;
@@ -119,3 +121,24 @@ pub fn steps_have_one_life()
 {
     bytes_are_read_in_one_way();
 }
+
+/// The block that a column has for an instant is the absent one, or that of a cell that data of this life gave when the section in
+/// force was so already; at a node the data is a frame of the column's own PMU for that instant.
+pub fn blocks_are_genuine()
+    ensures genuine { BlocksAreGenuine }
+    ensures given { CellsWereGiven }
+    ensures of_node { NodeCellsAreData }
+{
+    bodies_are_their_words();
+}
+
+/// The blocks of a row are such ones: one for each column that had a section in force when the row closed, in their order.
+pub fn rows_are_genuine()
+    ensures { RowsAreGenuine }
+{}
+
+/// What was taken since its column was adopted, and is present, is shown in the row.
+pub fn taken_is_shown()
+    ensures chosen { ChosenIsShown }
+    ensures of_node { NodeTakenIsShown }
+{}
