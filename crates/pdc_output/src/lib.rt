@@ -8,12 +8,14 @@
 //! To the layers above this crate promises that what it appends is a frame, which reads back as the row or the layout.
 #![tactic(auto)]
 
+mod laws;
 mod layout_frame;
 mod output;
 mod row_frame;
 mod section;
 mod stamp;
 
+pub use laws::{own_sections_tell_stamps, rows_are_frames};
 pub use layout_frame::{MAX_SECTIONS, append_layout};
 pub use output::{Nominal, Output};
 pub use row_frame::append_row;
