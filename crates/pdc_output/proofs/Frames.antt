@@ -1,6 +1,7 @@
 -- The wire of a row is a frame that is cut; the wire of a layout is a frame whose payload is the layout.
-use Rattle.std.proofs.Common.{◌≡◌, ◌↔◌, inr, inl, ℕ, ◌+◌, ◌*◌, ◌/◌, ◌%◌, ◌^◌, ◌<◌, ◌≤◌, false, List, [], ◌∷◌, ◌++◌, length, map, refl, sym, ap, subst, ◌∙◌, arith, suc, zero, length-append}
-use Rattle.std.specs.Int.{w16, w32, to_be_bytes, cast_unsigned}
+use Rattle.std.proofs.Common.{rules, ◌≡◌, ◌↔◌, inr, inl, ℕ, ◌+◌, ◌*◌, ◌/◌, ◌%◌, ◌^◌, ◌<◌, ◌≤◌, false, List, [], ◌∷◌, ◌++◌, length, map, refl, sym, ap, subst, ◌∙◌, arith, suc, zero, length-append}
+use Rattle.std.specs.Int.{w16, w32, to_be_bytes, cast_signed, cast_unsigned}
+use Rattle.std.proofs.lemmas.Int.{of_z-to_z}
 use Rattle.std.specs.List.{AllByRecursion, flat_map}
 use Rattle.std.proofs.Math.Nat.{mul-le-mul_right}
 use Rattle.std.proofs.lemmas.Bool.{cases_lt}
@@ -18,7 +19,7 @@ use Rattle.pdc_row.specs.RowView.{RowView}
 use Rattle.pdc_output.specs.declared.output.Output.{Output}
 use Rattle.pdc_output.specs.Layout.{IsLayout, layout_fields_of, layout_payload_of, layout_wire_of, own_block, own_bytes, row_fields, row_payload, stamp_words, wire_of}
 use Rattle.pdc_output.specs.Laws.{LayoutsAreFrames, RowsAreCut, RowsAreFrames, words_of_row}
-use Rattle.pdc_output.proofs.Bytes.{Bytes, Bytes-append, Bytes-flat_map, Bytes-long, Bytes-word}
+use Rattle.pdc_output.proofs.Bytes.{Bytes, Bytes-append, Bytes-nil, Bytes-flat_map, Bytes-long, Bytes-word}
 use Rattle.pdc_output.proofs.Layouts.{same_payload}
 use Rattle.pdc_output.proofs.OwnSections.{Bytes-own, length-own, own_is_section}
 use Rattle.pdc_output.proofs.RowFrames.{row_is_frame}
@@ -77,3 +78,99 @@ module _ (tags : Tags) where
       let same : tag_of row.instant output.time_base output.rate ≡ (tag.0, tag.1) = (tags.computed row.instant output.time_base output.rate tag.0 tag.1 output.rate_low).1 tag.2 in
       row_is_frame output row (tag.0, tag.1) (sym same) (second_below tag.0 tag.2.slot output.rate row.instant tag.2.is_instant instant)
       (tags.count row.instant output.time_base output.rate tag.0 tag.1 output.time_base_low tag.2) quality (short_payload row shapes few blocks)
+
+-- ---- layouts
+
+abbrev own_shape : Shape
+own_shape = record { phasors = 0; analogs = 0; digitals = 4; phasors_fit = omega arith; analogs_fit = omega arith; digitals_fit = omega arith }
+
+-- what the own section says
+abbrev own_fields : Output → (start change : ℕ) → SectionFields
+own_fields output start change = record {
+  bytes = own_bytes output.id output.nominal start change;
+  shape = own_shape;
+  source = output.id;
+  count = change % 2 ^ 16;
+  polar = false;
+}
+
+abbrev config_of : Output → (start change : ℕ) → List SectionFields → ConfigFields
+config_of output start change sections = record {
+  flags = 0;
+  time_base = output.time_base;
+  sections = own_fields output start change ∷ sections;
+  rate = cast_signed w16 output.rate;
+}
+
+whole_own : (output : Output) (start change : ℕ) → IsSection (own_fields output start change)
+whole_own output start change = own_is_section output start change (own_fields output start change) refl refl refl refl refl refl refl
+
+Bytes-sections : (sections : List SectionFields) → AllByRecursion IsSection sections → Bytes (bytes_of_sections sections)
+Bytes-sections [] a = Bytes-nil
+Bytes-sections (s ∷ sections) a = Bytes-append (record { all = a.0.fits }) (Bytes-sections sections a.1)
+
+-- each section takes 3390 bytes at most
+short_sections : (sections : List SectionFields) → AllByRecursion IsSection sections → length (bytes_of_sections sections) ≤ 3390 * length sections
+short_sections [] a = omega arith
+short_sections (s ∷ sections) a =
+    let rest = short_sections sections a.1 in
+    omega (arith, rest, a.0.size, length-append s.bytes (bytes_of_sections sections), s.shape.phasors_fit, s.shape.analogs_fit, s.shape.digitals_fit)
+
+abbrev front_part : Output → (start change : ℕ) → List SectionFields → List ℕ
+front_part output start change sections =
+    to_be_bytes w32 output.time_base ++ to_be_bytes w16 (1 + length sections) ++ own_bytes output.id output.nominal start change
+
+Bytes-layout : (output : Output) (start change : ℕ) (sections : List SectionFields) → AllByRecursion IsSection sections → Bytes (layout_payload_of output start change sections)
+Bytes-layout output start change sections a =
+    Bytes-append (Bytes-append (Bytes-append (Bytes-append (Bytes-long output.time_base) (Bytes-word (1 + length sections))) (Bytes-own output start change)) (Bytes-sections sections a)) (Bytes-word output.rate)
+
+length-front : (output : Output) (start change : ℕ) (sections : List SectionFields) → length (front_part output start change sections) ≡ 1076
+length-front output start change sections = refl
+
+short_layout : (output : Output) (start change : ℕ) (sections : List SectionFields) → length sections ≤ 16 → AllByRecursion IsSection sections → length (layout_payload_of output start change sections) + 16 < 2 ^ 16
+short_layout output start change sections few a =
+    omega (
+      arith,
+      few,
+      short_sections sections a,
+      length-front output start change sections,
+      length-append (front_part output start change sections) (bytes_of_sections sections),
+      length-append (front_part output start change sections ++ bytes_of_sections sections) (to_be_bytes w16 output.rate),
+    )
+
+rate_back : (output : Output) → cast_unsigned w16 (cast_signed w16 output.rate) ≡ output.rate
+rate_back output = of_z-to_z w16 output.rate (omega (arith, output.rate_high))
+
+pub layouts_are_frames : LayoutsAreFrames
+layouts_are_frames output start change soc sections few a soc_fits = (
+  record {
+    fits = record {
+      version = inr refl;
+      id_low = output.id_low;
+      id_high = output.id_high;
+      soc = soc_fits;
+      quality = omega arith;
+      frac = omega arith;
+      size = short_layout output start change sections few a;
+      bytes = (Bytes-layout output start change sections a).all;
+    };
+    spelled = refl;
+  },
+  record {
+    config = config_of output start change sections;
+    own = own_fields output start change;
+    spelled = record {
+      flags = omega arith;
+      time_base = output.time_base_high;
+      some = omega arith;
+      few = omega (arith, few);
+      sections = (whole_own output start change, a);
+      rate = search rules;
+      spelled = sym (same_payload output start change (own_fields output start change) sections (config_of output start change sections) refl refl refl refl (rate_back output));
+    };
+    itself = refl;
+    sections = refl;
+    time_base = refl;
+    rate = rate_back output;
+  },
+)

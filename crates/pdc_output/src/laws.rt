@@ -1,5 +1,5 @@
 //! Laws of the frames that go out: each is the contract of a function that does nothing but call the laws that it stands on.
-ghost use Rattle.pdc_output.specs.Laws.{OwnSectionsTellStamps, RowsAreCut, RowsAreFrames};
+ghost use Rattle.pdc_output.specs.Laws.{LayoutsAreFrames, OwnSectionsTellStamps, RowsAreCut, RowsAreFrames};
 
 use pdc_tag::tag_is_nearest;
 
@@ -10,6 +10,11 @@ pub fn rows_are_frames()
 {
     tag_is_nearest();
 }
+
+/// The wire of a layout is a frame, and its payload is the layout.
+pub fn layouts_are_frames()
+    ensures { LayoutsAreFrames }
+{}
 
 /// Own sections tell their stamps.
 pub fn own_sections_tell_stamps()

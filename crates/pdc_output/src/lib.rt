@@ -15,7 +15,7 @@ mod row_frame;
 mod section;
 mod stamp;
 
-pub use laws::{own_sections_tell_stamps, rows_are_frames};
+pub use laws::{layouts_are_frames, own_sections_tell_stamps, rows_are_frames};
 pub use layout_frame::{MAX_SECTIONS, append_layout};
 pub use output::{Nominal, Output};
 pub use row_frame::append_row;
