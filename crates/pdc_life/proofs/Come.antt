@@ -16,7 +16,7 @@ use Rattle.pdc_life.specs.Sections.{CountsNeverFall, HasCome, HeldHasCome, HeldI
 use Rattle.pdc_life.proofs.InForce.{if_change, run_before}
 
 -- what holds of a section, where there is one
-abbrev May : (SectionFields → Type 0) → Option SectionFields → Type 0
+abbrev pub May : (SectionFields → Type 0) → Option SectionFields → Type 0
 May P None = Unit {0}
 May P (Some s) = P s
 
@@ -207,7 +207,7 @@ held_whole g E c run =
     of_first IsSection (filter (λ (s : SectionFields). leb (count_for c g.counts) s.count) (flat_map (sections_at c) E))
     (filtered (λ (s : SectionFields). leb (count_for c g.counts) s.count) IsSection IsSection (flat_map (sections_at c) E) (λ s low h. h) (all_whole g E c run))
 
-in_force_whole : (g : Given) (E : List Entry) (c : ℕ) → AreSound g E → May IsSection (section_in_force g E c)
+pub in_force_whole : (g : Given) (E : List Entry) (c : ℕ) → AreSound g E → May IsSection (section_in_force g E c)
 in_force_whole g [] c run = tt
 in_force_whole g (e ∷ E) c run =
     either (is_adoption_of c e) IsSection (held_section g E c) (section_in_force g E c)

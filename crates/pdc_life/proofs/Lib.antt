@@ -1,5 +1,6 @@
 pub mod Closing
 pub mod Come
+pub mod Frames
 pub mod Genuine
 pub mod Held
 pub mod InForce

@@ -3,6 +3,7 @@ pub mod Arrival
 pub mod Cells
 pub mod Counts
 pub mod Distinct
+pub mod Frames
 pub mod Genuine
 pub mod Given
 pub mod InTime

@@ -1,6 +1,7 @@
 //! Laws of every life, by the definitions: each is the contract of a function that does nothing but call the laws that it
 //! stands on. Node and merger are one kind of thing, and what is said of ticked lives and of runs is said of both.
 ghost use Rattle.pdc_life.specs.Cells.{CellsAreOfSections};
+ghost use Rattle.pdc_life.specs.Frames.{ChangesFit, ClosedRowsAreFrames, LayoutsOfLivesAreFrames, LayoutsTellStamps};
 ghost use Rattle.pdc_life.specs.Genuine.{BlocksAreGenuine, CellsWereGiven, ChosenIsShown, NodeCellsAreData, NodeTakenIsShown, RowsAreGenuine};
 ghost use Rattle.pdc_life.specs.InTime.{ClosedStayClosed, MergerTakesInTime, NodeTakesInTime, TakenIsInTime};
 ghost use Rattle.pdc_life.specs.Laws.{ChangesNeverFall, ChangesRiseByOne, InForceIsCleared, MergerLivesAreTicked, NodeLivesAreRuns, NoneOvertakes, RowsAreOfTheirTicks, RowsComeOutOnce, RowsRise, SameChangeSameSections};
@@ -11,6 +12,7 @@ ghost use Rattle.pdc_life.specs.Tagged.{RowsHaveTags};
 use pdc_block::bodies_are_their_words;
 use pdc_cfg::configurations_are_read_in_one_way;
 use pdc_frame::frames_are_read_in_one_way;
+use pdc_output::{layouts_are_frames, own_sections_tell_stamps, rows_are_frames};
 use pdc_tag::instant_is_nearest;
 
 /// A node's lives are runs, and the merger's are ticked: what holds of all runs, or of all ticked lives, holds of them.
@@ -142,3 +144,22 @@ pub fn taken_is_shown()
     ensures chosen { ChosenIsShown }
     ensures of_node { NodeTakenIsShown }
 {}
+
+/// The wire of each row that closed is a frame, whose payload is cut into the own words and the row's; its change number has 32 bits.
+pub fn closed_rows_are_frames()
+    ensures changes { ChangesFit }
+    ensures rows { ClosedRowsAreFrames }
+{
+    rows_are_frames();
+}
+
+/// The wire of the layout of every life is a frame, whose payload is the layout, and tells its stamp.
+pub fn layouts_of_lives_are_frames()
+    ensures frames { LayoutsOfLivesAreFrames }
+    ensures tell { LayoutsTellStamps }
+{
+    layouts_are_frames();
+    own_sections_tell_stamps();
+    frames_are_read_in_one_way();
+    configurations_are_read_in_one_way();
+}
