@@ -1,22 +1,30 @@
 -- What is taken came in time.
-use Rattle.std.proofs.Common.{◌≡◌, ℕ, ◌+◌, ◌*◌, ◌<◌, ◌≤◌, Bool, true, false, List, length, cond, ltb, eqb, not, refl, sym, ap, ◌∙◌, rules, Option, Some, None, nat_lt}
-use Rattle.std.specs.Prelude.{nat_le, nat_eq}
-use Rattle.std.specs.List.{list_all}
-use Rattle.std.specs.Cmp.Lexicographic.{pointwise}
+use Rattle.std.proofs.Common.{◌≡◌, ℕ, ◌+◌, ◌*◌, ◌<◌, ◌≤◌, Bool, true, false, List, [], ◌∷◌, length, cond, ltb, leb, eqb, not, refl, sym, ap, ◌∙◌, arith, rules, Option, Some, None, nat_lt, inl, inr}
+use Rattle.std.specs.Prelude.{nat_le, nat_eq, drop}
+use Rattle.std.specs.List.{list_all, list_any}
+use Rattle.std.specs.Cmp.Lexicographic.{other_text, pointwise, same_text}
 use Rattle.std.proofs.lemmas.Bool.{false≢true}
+use Rattle.pdc_block.specs.Block.{words_in}
 use Rattle.pdc_cfg.specs.Shape.{word_count_of}
 use Rattle.pdc_cfg.specs.Section.{SectionFields}
+use Rattle.pdc_output.specs.Layout.{stamp_words}
 use Rattle.pdc_row.specs.CellView.{CellView}
-use Rattle.pdc_life.specs.declared.given.Given.{Given}
+use Rattle.pdc_row.specs.Quality.{greatest}
+use Rattle.pdc_row.specs.Rising.{AreBelow, is_near}
+use Rattle.pdc_row.specs.RowView.{row_instants}
+use Rattle.pdc_row.proofs.Rising.{below_greatest, below_higher, greatest-ge}
 use Rattle.pdc_life.specs.declared.outcome.Outcome.{Outcome}
 use Rattle.pdc_life.specs.declared.outcome.Outcome.TheVariants.{Taken, Refused}
 use Rattle.pdc_life.specs.declared.outcome.Refusal.{Refusal}
-use Rattle.pdc_life.specs.declared.outcome.Refusal.TheVariants.{WrongLength, Late, Ahead, OutOfWindow, Duplicate, Conflict}
-use Rattle.pdc_life.specs.Life.{Entry, Take, cell_in, section_in_force, held_instants, is_taken, last_of, now_of, take_of}
-use Rattle.pdc_block.specs.Block.{words_in}
-use Rattle.pdc_row.specs.Rising.{is_near}
-use Rattle.pdc_life.specs.Answer.{answer_again, data_answer, first_cause, take_answer}
-use Rattle.pdc_life.specs.Laws.{IsInTime}
+use Rattle.pdc_life.specs.declared.outcome.Refusal.TheVariants.{WrongLength, OtherStamp, Late, Ahead, OutOfWindow, Duplicate, Conflict}
+use Rattle.pdc_life.specs.Answer.{again_answer, answer_in_time, bare, first_cause, is_other, outcome_in_time}
+use Rattle.pdc_life.specs.Arrival.{Data}
+use Rattle.pdc_life.specs.Given.{Given}
+use Rattle.pdc_life.specs.InTime.{ClosedStayClosed, ComesInTime, MergerTakes, MergerTakesInTime, NodeTakes, NodeTakesInTime, TakenIsInTime}
+use Rattle.pdc_life.specs.Life.{Answer, Entry, Take, cell_of, closed, held_instants, is_taken, last_of, now_of, section_in_force, take_of}
+use Rattle.pdc_life.specs.Merger.{HeldLayout, held_layout, merged_answer, merged_cells, merged_data_answer, own_words, payload_len}
+use Rattle.pdc_life.specs.Node.{cell_under, data_answer, node_answer}
+use Rattle.pdc_life.proofs.LifeLaws.{last_is}
 
 peel : (b : Bool) (r : Refusal) (rest : Outcome) → cond b (Refused r) rest ≡ Taken → (b ≡ false) × (rest ≡ Taken)
 peel true r rest h = absurd (false≢true (ap is_taken h))
@@ -26,31 +34,22 @@ two_refusals : (b : Bool) (r s : Refusal) → is_taken (cond b (Refused r) (Refu
 two_refusals true r s = refl
 two_refusals false r s = refl
 
-again_not : (cell : Option CellView) (payload : List ℕ) → is_taken (answer_again cell payload) ≡ false
-again_not None payload = refl
-again_not (Some cell) payload = two_refusals (pointwise nat_eq cell.block.words (words_in payload)) Duplicate Conflict
+none_taken : (t : Option Take) (conflicts : Bool) → again_answer t conflicts ≡ Taken → t ≡ None
+none_taken None conflicts h = refl
+none_taken (Some t) conflicts h = absurd (false≢true (sym (two_refusals conflicts Conflict Duplicate) ∙ ap is_taken h))
 
-none_taken : (p : ℕ) (t : Option Take) (payload : List ℕ) → take_answer p t payload ≡ Taken → t ≡ None
-none_taken p None payload h = refl
-none_taken p (Some t) payload h = absurd (false≢true (sym (again_not (cell_in p (Some t)) payload) ∙ ap is_taken h))
-
-record Facts (c : Option SectionFields) (payload : List ℕ) (late ahead far : Bool) (other : Outcome) : Type 0 where
-  section : SectionFields
-  is : c ≡ Some section
-  size : not (eqb (length payload) (2 * word_count_of section.shape)) ≡ false
+record Facts (late ahead far : Bool) (other : Outcome) : Type 0 where
   not_late : late ≡ false
   not_ahead : ahead ≡ false
   not_far : far ≡ false
   taken : other ≡ Taken
 
-facts : (c : Option SectionFields) (payload : List ℕ) (late ahead far : Bool) (other : Outcome) → first_cause c payload late ahead far other ≡ Taken → Facts c payload late ahead far other
-facts None payload late ahead far other h = absurd (false≢true (ap is_taken h))
-facts (Some s) payload late ahead far other h =
-    let a = peel (not (eqb (length payload) (2 * word_count_of s.shape))) WrongLength (cond late (Refused Late) (cond ahead (Refused Ahead) (cond far (Refused OutOfWindow) other))) h in
-    let b = peel late Late (cond ahead (Refused Ahead) (cond far (Refused OutOfWindow) other)) a.1 in
+facts : (late ahead far : Bool) (other : Outcome) → first_cause late ahead far other ≡ Taken → Facts late ahead far other
+facts late ahead far other h =
+    let b = peel late Late (cond ahead (Refused Ahead) (cond far (Refused OutOfWindow) other)) h in
     let c = peel ahead Ahead (cond far (Refused OutOfWindow) other) b.1 in
     let d = peel far OutOfWindow other c.1 in
-    record { section = s; is = refl; size = a.0; not_late = b.0; not_ahead = c.0; not_far = d.0; taken = d.1 }
+    record { not_late = b.0; not_ahead = c.0; not_far = d.0; taken = d.1 }
 
 not_false : (b : Bool) → not b ≡ false → b ≡ true
 not_false true h = refl
@@ -65,22 +64,16 @@ is_later i last h = search rules
 is_not_ahead : (top i : ℕ) → ltb top i ≡ false → i ≤ top
 is_not_ahead top i h = search rules
 
-pub in_time : (g : Given) (E : List Entry) (p i : ℕ) (payload : List ℕ) → data_answer g E p i payload ≡ Taken → IsInTime g E p i payload
-in_time g E p i payload h =
-    let f : Facts (section_in_force E p) payload (nat_le i (last_of g E)) (nat_lt (now_of g E + g.settings.ahead) i) (not (list_all (is_near g.settings.window i) (held_instants g E))) (take_answer p (take_of E p i) payload)
-    = facts (section_in_force E p) payload (nat_le i (last_of g E)) (nat_lt (now_of g E + g.settings.ahead) i) (not (list_all (is_near g.settings.window i) (held_instants g E))) (take_answer p (take_of E p i) payload) h in
+in_time : (g : Given) (E : List Entry) (s i : ℕ) (cells : List (ℕ × CellView)) → outcome_in_time g E s i cells ≡ Taken → ComesInTime g E s i
+in_time g E s i cells h =
+    let f = facts (nat_le i (last_of g E)) (nat_lt (now_of g E + g.ahead) i) (not (list_all (is_near g.window i) (held_instants g E)))
+    (again_answer (take_of g E s i) (list_any (λ (part : ℕ × CellView). is_other (cell_of E s part.0 i) part.1) cells)) h in
     record {
-      section = f.section;
-      in_force = f.is;
-      size = same_size (length payload) (2 * word_count_of f.section.shape) (not_false (eqb (length payload) (2 * word_count_of f.section.shape)) f.size);
       later = is_later i (last_of g E) f.not_late;
-      not_ahead = is_not_ahead (now_of g E + g.settings.ahead) i f.not_ahead;
-      near = not_false (list_all (is_near g.settings.window i) (held_instants g E)) f.not_far;
-      first = none_taken p (take_of E p i) payload f.taken;
+      not_ahead = is_not_ahead (now_of g E + g.ahead) i f.not_ahead;
+      near = not_false (list_all (is_near g.window i) (held_instants g E)) f.not_far;
+      first = none_taken (take_of g E s i) _ f.taken;
     }
-
-size_same : (m n : ℕ) → m ≡ n → eqb m n ≡ true
-size_same m n h = search rules
 
 later_is : (i last : ℕ) → last < i → nat_le i last ≡ false
 later_is i last h = search rules
@@ -88,13 +81,114 @@ later_is i last h = search rules
 not_ahead_is : (top i : ℕ) → i ≤ top → ltb top i ≡ false
 not_ahead_is top i h = search rules
 
-pub is_taken_in_time : (g : Given) (E : List Entry) (p i : ℕ) (payload : List ℕ) → IsInTime g E p i payload → data_answer g E p i payload ≡ Taken
-is_taken_in_time g E p i payload t =
-    rw (
-      t.in_force,
-      size_same (length payload) (2 * word_count_of t.section.shape) t.size,
-      later_is i (last_of g E) t.later,
-      not_ahead_is (now_of g E + g.settings.ahead) i t.not_ahead,
-      t.near,
-      t.first,
-    ) refl
+is_first : (late ahead far : Bool) (t : Option Take) (conflicts : Bool) → late ≡ false → ahead ≡ false → far ≡ true → t ≡ None → first_cause late ahead (not far) (again_answer t conflicts) ≡ Taken
+is_first late ahead far t conflicts a b c d = rw (a, b, c, d) refl
+
+taken_in_time : (g : Given) (E : List Entry) (s i : ℕ) (cells : List (ℕ × CellView)) → ComesInTime g E s i → outcome_in_time g E s i cells ≡ Taken
+taken_in_time g E s i cells t =
+    is_first (nat_le i (last_of g E)) (nat_lt (now_of g E + g.ahead) i) (list_all (is_near g.window i) (held_instants g E)) (take_of g E s i)
+    (list_any (λ (part : ℕ × CellView). is_other (cell_of E s part.0 i) part.1) cells)
+    (later_is i (last_of g E) t.later) (not_ahead_is (now_of g E + g.ahead) i t.not_ahead) t.near t.first
+
+pub taken_is_in_time : TakenIsInTime
+taken_is_in_time g E s i cells = (in_time g E s i cells, taken_in_time g E s i cells)
+
+-- ---- a node
+
+peel_answer : (b : Bool) (r : Refusal) (rest : Answer) → (cond b (bare (Refused r)) rest).outcome ≡ Taken → (b ≡ false) × (rest.outcome ≡ Taken)
+peel_answer true r rest h = absurd (false≢true (ap is_taken h))
+peel_answer false r rest h = (refl, h)
+
+put_on : (b : Bool) (r : Refusal) (rest : Answer) → b ≡ false → rest.outcome ≡ Taken → (cond b (bare (Refused r)) rest).outcome ≡ Taken
+put_on true r rest e h = absurd (false≢true (sym e))
+put_on false r rest e h = h
+
+node_takes : (g : Given) (E : List Entry) (p i quality : ℕ) (payload : List ℕ) (f : Option SectionFields) → section_in_force g E p ≡ f → (data_answer g E p i quality payload f).outcome ≡ Taken → NodeTakes g E p i payload
+node_takes g E p i quality payload None k h = absurd (false≢true (ap is_taken h))
+node_takes g E p i quality payload (Some s) k h =
+    let cells : List (ℕ × CellView) = (p, cell_under s quality (words_in payload)) ∷ [] in
+    let a = peel_answer (not (eqb (length payload) (2 * word_count_of s.shape))) WrongLength (answer_in_time g E p i cells) h in
+    record {
+      section = s;
+      in_force = k;
+      size = same_size (length payload) (2 * word_count_of s.shape) (not_false (eqb (length payload) (2 * word_count_of s.shape)) a.0);
+      in_time = in_time g E p i cells a.1;
+    }
+
+size_same : (m n : ℕ) → m ≡ n → not (eqb m n) ≡ false
+size_same m n h = search rules
+
+taken_by_node : (g : Given) (E : List Entry) (p i quality : ℕ) (payload : List ℕ) → NodeTakes g E p i payload → (node_answer g E p (Data i quality payload)).outcome ≡ Taken
+taken_by_node g E p i quality payload t =
+    let cells : List (ℕ × CellView) = (p, cell_under t.section quality (words_in payload)) ∷ [] in
+    ap (λ (f : Option SectionFields). (data_answer g E p i quality payload f).outcome) t.in_force
+    ∙ put_on (not (eqb (length payload) (2 * word_count_of t.section.shape))) WrongLength (answer_in_time g E p i cells)
+    (size_same (length payload) (2 * word_count_of t.section.shape) t.size) (taken_in_time g E p i cells t.in_time)
+
+pub node_takes_in_time : NodeTakesInTime
+node_takes_in_time g E p i quality payload =
+    (λ h. node_takes g E p i quality payload (section_in_force g E p) refl h, taken_by_node g E p i quality payload)
+
+-- ---- the merger
+
+is_same_text : (xs ys : List ℕ) (b : Bool) → b ≡ pointwise nat_eq xs ys → not b ≡ false → xs ≡ ys
+is_same_text xs ys true e h = same_text xs ys e
+is_same_text xs ys false e h = absurd (false≢true (sym h))
+
+text_is_same : (xs ys : List ℕ) (b : Bool) → b ≡ pointwise nat_eq xs ys → xs ≡ ys → not b ≡ false
+text_is_same xs ys true e h = refl
+text_is_same xs ys false e h = absurd (other_text xs ys e h)
+
+long_enough : (n more : ℕ) → n ≡ 14 + more → ltb n 14 ≡ false
+long_enough n more h = search rules
+
+merger_takes : (g : Given) (E : List Entry) (s i quality : ℕ) (payload : List ℕ) (held : Option HeldLayout) → held_layout E s ≡ held → (merged_data_answer g E s i quality payload held).outcome ≡ Taken → MergerTakes g E s i payload
+merger_takes g E s i quality payload None k h = absurd (false≢true (ap is_taken h))
+merger_takes g E s i quality payload (Some layout) k h =
+    let cells : List (ℕ × CellView) = merged_cells g E quality layout.sections (drop 7 (words_in payload)) in
+    let stamp : List ℕ = stamp_words layout.stamp.start layout.stamp.change in
+    let last : Answer = answer_in_time g E s i cells in
+    let sized : Answer = cond (not (eqb (length payload) (payload_len layout.sections))) (bare (Refused WrongLength)) last in
+    let stamped : Answer = cond (not (pointwise nat_eq (own_words payload) stamp)) (bare (Refused OtherStamp)) sized in
+    let a = peel_answer (ltb (length payload) 14) WrongLength stamped h in
+    let b = peel_answer (not (pointwise nat_eq (own_words payload) stamp)) OtherStamp sized a.1 in
+    let c = peel_answer (not (eqb (length payload) (payload_len layout.sections))) WrongLength last b.1 in
+    record {
+      layout = layout;
+      held = k;
+      stamp = is_same_text (own_words payload) stamp (pointwise nat_eq (own_words payload) stamp) refl b.0;
+      size = same_size (length payload) (payload_len layout.sections) (not_false (eqb (length payload) (payload_len layout.sections)) c.0);
+      in_time = in_time g E s i cells c.1;
+    }
+
+taken_by_merger : (g : Given) (E : List Entry) (s i quality : ℕ) (payload : List ℕ) → MergerTakes g E s i payload → (merged_answer g E s (Data i quality payload)).outcome ≡ Taken
+taken_by_merger g E s i quality payload t =
+    let cells : List (ℕ × CellView) = merged_cells g E quality t.layout.sections (drop 7 (words_in payload)) in
+    let stamp : List ℕ = stamp_words t.layout.stamp.start t.layout.stamp.change in
+    let last : Answer = answer_in_time g E s i cells in
+    let sized : Answer = cond (not (eqb (length payload) (payload_len t.layout.sections))) (bare (Refused WrongLength)) last in
+    let stamped : Answer = cond (not (pointwise nat_eq (own_words payload) stamp)) (bare (Refused OtherStamp)) sized in
+    ap (λ (held : Option HeldLayout). (merged_data_answer g E s i quality payload held).outcome) t.held
+    ∙ put_on (ltb (length payload) 14) WrongLength stamped (long_enough (length payload) _ t.size)
+    (put_on (not (pointwise nat_eq (own_words payload) stamp)) OtherStamp sized (text_is_same (own_words payload) stamp (pointwise nat_eq (own_words payload) stamp) refl t.stamp)
+    (put_on (not (eqb (length payload) (payload_len t.layout.sections))) WrongLength last (size_same (length payload) (payload_len t.layout.sections) t.size)
+    (taken_in_time g E s i cells t.in_time)))
+
+pub merger_takes_in_time : MergerTakesInTime
+merger_takes_in_time g E s i quality payload =
+    (λ h. merger_takes g E s i quality payload (held_layout E s) refl h, taken_by_merger g E s i quality payload)
+
+-- ---- what closed stays closed
+
+above_all : (g : Given) (E : List Entry) (s i : ℕ) → ComesInTime g E s i → (g.floor < i) × AreBelow i (row_instants (closed E))
+above_all g E s i t =
+    let e : last_of g E ≡ greatest g.floor (row_instants (closed E)) = last_is g E in
+    let k : g.floor ≤ greatest g.floor (row_instants (closed E)) = greatest-ge g.floor (row_instants (closed E)) in
+    let l : greatest g.floor (row_instants (closed E)) < i = omega (arith, t.later, e) in
+    (omega (arith, k, l), below_higher (greatest g.floor (row_instants (closed E)) + 1) i (row_instants (closed E)) (omega (arith, l)) (below_greatest g.floor (row_instants (closed E))))
+
+pub closed_stay_closed : ClosedStayClosed
+closed_stay_closed g E s i quality payload (inl h) =
+    above_all g E s i (node_takes g E s i quality payload (section_in_force g E s) refl h).in_time
+closed_stay_closed g E s i quality payload (inr h) =
+    above_all g E s i (merger_takes g E s i quality payload (held_layout E s) refl h).in_time

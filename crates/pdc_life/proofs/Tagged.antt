@@ -1,37 +1,19 @@
 -- The instants of a life's rows can be tagged.
-use Rattle.std.proofs.Common.{◌≡◌, ℕ, ◌+◌, ◌*◌, ◌<◌, ◌≤◌, Bool, true, false, List, [], ◌∷◌, ◌++◌, map, filter, cond, ltb, eqb, sym, subst, arith, Some, None, inl, inr}
+use Rattle.std.proofs.Common.{◌≡◌, ℕ, ◌+◌, ◌*◌, ◌<◌, ◌≤◌, Bool, true, false, List, [], ◌∷◌, ◌++◌, map, filter, cond, ltb, eqb, refl, sym, ap, subst, Some, None}
 use Rattle.std.specs.Prelude.{drop}
 use Rattle.std.specs.List.{AllByRecursion, slice_get}
-use Rattle.std.proofs.Math.Nat.{mul-le-mul_right}
-use Rattle.std.proofs.lemmas.Bool.{cases_lt}
+use Rattle.std.proofs.lemmas.Bool.{false≢true}
 use Rattle.std.proofs.lemmas.Option.{none-some, same_Some}
-use Rattle.pdc_tag.specs.Slot.{IsSlot}
-use Rattle.pdc_tag.specs.Instant.{IsInstant}
 use Rattle.pdc_row.specs.RowView.{RowView, row_instants}
 use Rattle.pdc_row.specs.Rising.{place, rising}
-use Rattle.pdc_life.specs.declared.given.Given.{Given}
-use Rattle.pdc_life.specs.Arrival.{Unread, Data, Configuration}
-use Rattle.pdc_life.specs.Life.{Entry, Arrive, Tick, Pop, Take, is_taken, open_instants, popped, taken_instants, waiting}
+use Rattle.pdc_life.specs.declared.outcome.Outcome.{Outcome}
+use Rattle.pdc_life.specs.declared.outcome.Outcome.TheVariants.{Taken, Candidate, Known, Refused}
+use Rattle.pdc_life.specs.Given.{Given}
+use Rattle.pdc_life.specs.Arrival.{BytesRefused, Data, Layout}
+use Rattle.pdc_life.specs.Life.{Answer, Entry, Arrive, Tick, Pop, TickAnswer, Take, closed, is_taken, open_instants, popped, takes, waiting}
 use Rattle.pdc_life.specs.Row.{closing, row_of}
-use Rattle.pdc_life.specs.Answer.{IsLife}
-use Rattle.pdc_life.specs.Laws.{closed}
-
--- a slot lies in its second
-slot_below : (frac time_base rate k : ℕ) → IsSlot frac time_base rate k → k < rate
-slot_below frac time_base rate k h = elim (cases_lt k rate) [
-  | inl below ↦ below
-  | inr past ↦
-      let far : rate * time_base ≤ k * time_base = mul-le-mul_right {m = rate} {n = k} time_base past in
-      let room : (frac + 1) * rate ≤ time_base * rate = mul-le-mul_right {m = frac + 1} {n = time_base} rate (omega (arith, h.in_second)) in
-      absurd (omega (arith, h.within_count, far, room))
-]
-
--- the instant of a tag lies in a second that SOC can name
-instant_below : (soc frac time_base rate i : ℕ) → soc < 4294967296 → IsInstant soc frac time_base rate i → i < 4294967296 * rate
-instant_below soc frac time_base rate i h t =
-    let slot : t.slot < rate = slot_below frac time_base rate t.slot t.is_slot in
-    let seconds : (soc + 1) * rate ≤ 4294967296 * rate = mul-le-mul_right {m = soc + 1} {n = 4294967296} rate (omega (arith, h)) in
-    omega (arith, t.is_instant, slot, seconds)
+use Rattle.pdc_life.specs.Run.{AreSound, IsInTime, IsRun, IsTicked}
+use Rattle.pdc_life.specs.Tagged.{RowsHaveTags}
 
 -- What holds of numbers, of a part of them or of them in another order.
 either : (b : Bool) (P : ℕ → Type 0) (xs ys : List ℕ) → AllByRecursion P xs → AllByRecursion P ys → AllByRecursion P (cond b xs ys)
@@ -71,47 +53,65 @@ of_first P (r ∷ rows) row h a = subst (λ (s : RowView). P s.instant) (same_So
 
 -- the bound of a life's instants
 abbrev IsLow : Given → ℕ → Type 0
-IsLow g i = i < 4294967296 * g.settings.rate
+IsLow g i = i < 4294967296 * g.output.rate
 
-with_take : (b : Bool) (P : ℕ → Type 0) (t : Take) (older : List Take) → P t.instant → AllByRecursion P (map (λ (u : Take). u.instant) older) → AllByRecursion P (map (λ (u : Take). u.instant) (cond b (t ∷ []) [] ++ older))
-with_take true P t older h a = (h, a)
+with_take : (b : Bool) (P : ℕ → Type 0) (t : Take) (older : List Take) → (b ≡ true → P t.instant) → AllByRecursion P (map (λ (u : Take). u.instant) older) → AllByRecursion P (map (λ (u : Take). u.instant) (cond b (t ∷ []) [] ++ older))
+with_take true P t older h a = (h refl, a)
 with_take false P t older h a = a
 
-taken_low : (g : Given) (E : List Entry) → IsLife g E → AllByRecursion (IsLow g) (taken_instants E)
-taken_low g [] life = tt
-taken_low g (Arrive p bytes (Data i quality payload) answer ∷ E) life =
-    with_take (is_taken answer) (IsLow g) _ _
-    (instant_below life.0.reads.fields.soc life.0.reads.fields.frac life.0.pmu.time_base g.settings.rate i life.0.reads.of_stream.frame.fits.soc life.0.reads.tag)
-    (taken_low g E life.1)
-taken_low g (Arrive p bytes (Unread refusal) answer ∷ E) life = taken_low g E life.1
-taken_low g (Arrive p bytes (Configuration s) answer ∷ E) life = taken_low g E life.1
-taken_low g (Tick now rows adopted used_up ∷ E) life = taken_low g E life.1
-taken_low g (Pop row ∷ E) life = taken_low g E life.1
+taken_is : (o : Outcome) → is_taken o ≡ true → o ≡ Taken
+taken_is Taken h = refl
+taken_is Candidate h = absurd (false≢true h)
+taken_is Known h = absurd (false≢true h)
+taken_is (Refused r) h = absurd (false≢true h)
+
+same_instant : (i q j r : ℕ) (payload other : List ℕ) → Data i q payload ≡ Data j r other → i ≡ j
+same_instant i q j r payload other h = cc
+
+of_data : (g : Given) (E : List Entry) (s i quality : ℕ) (payload : List ℕ) (answer : Answer) → IsInTime g E s (Data i quality payload) answer → IsLow g i
+of_data g E s i quality payload answer t =
+    subst (IsLow g) (sym (same_instant i quality t.instant t.quality payload t.payload t.said)) t.tag
+
+taken_low : (g : Given) (E : List Entry) → AreSound g E → AllByRecursion (IsLow g) (map (λ (u : Take). u.instant) (takes E))
+taken_low g [] run = tt
+taken_low g (Arrive s bytes (Data i quality payload) answer ∷ E) run =
+    with_take (is_taken answer.outcome) (IsLow g) (record { stream = s; instant = i; cells = answer.cells }) (takes E)
+    (λ taken. of_data g E s i quality payload answer (run.0.taken (taken_is answer.outcome taken))) (taken_low g E run.1)
+taken_low g (Arrive s bytes (BytesRefused refusal) answer ∷ E) run = taken_low g E run.1
+taken_low g (Arrive s bytes (Layout stamp sections) answer ∷ E) run = taken_low g E run.1
+taken_low g (Tick now counts answer ∷ E) run = taken_low g E run
+taken_low g (Pop row ∷ E) run = taken_low g E run
 
 -- what the tick after E closes
-closing_low : (g : Given) (E : List Entry) → IsLife g E → AllByRecursion (IsLow g) (row_instants (map (row_of g E) (closing g E)))
-closing_low g E life =
-    of_rows (IsLow g) g E (closing g E)
-    (filtered _ (IsLow g) (open_instants g E) (in_order (IsLow g) _ (filtered _ (IsLow g) (taken_instants E) (taken_low g E life))))
+closing_low : (g : Given) (E : List Entry) (now : ℕ) → AreSound g E → AllByRecursion (IsLow g) (row_instants (map (row_of g E) (closing g E now)))
+closing_low g E now run =
+    of_rows (IsLow g) g E (closing g E now)
+    (filtered _ (IsLow g) (open_instants g E) (in_order (IsLow g) _ (filtered _ (IsLow g) (map (λ (u : Take). u.instant) (takes E)) (taken_low g E run))))
 
-rows_low : (g : Given) (E : List Entry) (rows : List RowView) → IsLife g E → rows ≡ map (row_of g E) (closing g E) → AllByRecursion (IsLow g) (row_instants rows)
-rows_low g E rows life h = subst (λ (rs : List RowView). AllByRecursion (IsLow g) (row_instants rs)) (sym h) (closing_low g E life)
+rows_low : (g : Given) (E : List Entry) (now : ℕ) (rows : List RowView) → AreSound g E → rows ≡ map (row_of g E) (closing g E now) → AllByRecursion (IsLow g) (row_instants rows)
+rows_low g E now rows run h = subst (λ (rs : List RowView). AllByRecursion (IsLow g) (row_instants rs)) (sym h) (closing_low g E now run)
 
-pub closed_low : (g : Given) (E : List Entry) → IsLife g E → AllByRecursion (IsLow g) (row_instants (closed E))
-closed_low g [] life = tt
-closed_low g (Tick now rows adopted used_up ∷ E) life = appended (IsLow g) (closed E) rows (closed_low g E life.1) (rows_low g E rows life.1 life.0.closes)
-closed_low g (Arrive p bytes arrival answer ∷ E) life = closed_low g E life.1
-closed_low g (Pop row ∷ E) life = closed_low g E life.1
+pub closed_low : (g : Given) (E : List Entry) → IsTicked g E → AreSound g E → AllByRecursion (IsLow g) (row_instants (closed E))
+closed_low g [] ticked run = tt
+closed_low g (Tick now counts answer ∷ E) ticked run =
+    appended (IsLow g) (closed E) answer.rows (closed_low g E ticked.1 run) (rows_low g E now answer.rows run (ap (λ (a : TickAnswer). a.rows) ticked.0))
+closed_low g (Arrive s bytes arrival answer ∷ E) ticked run = closed_low g E ticked run.1
+closed_low g (Pop row ∷ E) ticked run = closed_low g E ticked.1 run
 
-pub waiting_low : (g : Given) (E : List Entry) → IsLife g E → AllByRecursion (IsLow g) (row_instants (waiting E))
-waiting_low g [] life = tt
-waiting_low g (Tick now rows adopted used_up ∷ E) life = appended (IsLow g) (waiting E) rows (waiting_low g E life.1) (rows_low g E rows life.1 life.0.closes)
-waiting_low g (Arrive p bytes arrival answer ∷ E) life = waiting_low g E life.1
-waiting_low g (Pop row ∷ E) life = dropped (IsLow g) (waiting E) (waiting_low g E life.1)
+waiting_low : (g : Given) (E : List Entry) → IsTicked g E → AreSound g E → AllByRecursion (IsLow g) (row_instants (waiting E))
+waiting_low g [] ticked run = tt
+waiting_low g (Tick now counts answer ∷ E) ticked run =
+    appended (IsLow g) (waiting E) answer.rows (waiting_low g E ticked.1 run) (rows_low g E now answer.rows run (ap (λ (a : TickAnswer). a.rows) ticked.0))
+waiting_low g (Arrive s bytes arrival answer ∷ E) ticked run = waiting_low g E ticked run.1
+waiting_low g (Pop row ∷ E) ticked run = dropped (IsLow g) (waiting E) (waiting_low g E ticked.1 run)
 
-pub popped_low : (g : Given) (E : List Entry) → IsLife g E → AllByRecursion (IsLow g) (row_instants (popped E))
-popped_low g [] life = tt
-popped_low g (Tick now rows adopted used_up ∷ E) life = popped_low g E life.1
-popped_low g (Arrive p bytes arrival answer ∷ E) life = popped_low g E life.1
-popped_low g (Pop None ∷ E) life = popped_low g E life.1
-popped_low g (Pop (Some row) ∷ E) life = appended (IsLow g) (popped E) (row ∷ []) (popped_low g E life.1) (of_first (IsLow g) (waiting E) row life.0 (waiting_low g E life.1), tt)
+popped_low : (g : Given) (E : List Entry) → IsTicked g E → AreSound g E → AllByRecursion (IsLow g) (row_instants (popped E))
+popped_low g [] ticked run = tt
+popped_low g (Tick now counts answer ∷ E) ticked run = popped_low g E ticked.1 run
+popped_low g (Arrive s bytes arrival answer ∷ E) ticked run = popped_low g E ticked run.1
+popped_low g (Pop None ∷ E) ticked run = appended (IsLow g) (popped E) [] (popped_low g E ticked.1 run) tt
+popped_low g (Pop (Some row) ∷ E) ticked run =
+    appended (IsLow g) (popped E) (row ∷ []) (popped_low g E ticked.1 run) (of_first (IsLow g) (waiting E) row ticked.0 (waiting_low g E ticked.1 run), tt)
+
+pub rows_have_tags : RowsHaveTags
+rows_have_tags g E run = (closed_low g E run.ticked run.sound, waiting_low g E run.ticked run.sound, popped_low g E run.ticked run.sound)

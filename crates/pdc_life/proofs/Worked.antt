@@ -1,333 +1,194 @@
--- Lives worked out by computing the definitions: the frames are those of the PMUs 11, 12 and 13, with one phasor each, at 50
--- frames a second from SOC 1149577200 on, whose first instant is 57478860000. What arrives is given as read; where only the
--- answer matters, the bytes beside it stand for any that say so.
-use Rattle.std.specs.Prelude.{◌≡◌, ℕ, ◌+◌, ◌<◌, ◌≤◌, List, [], ◌∷◌, length, map, false, refl}
-use Rattle.std.proofs.Common.{arith, IsTrue, nat_le}
-use Rattle.pdc_cfg.specs.declared.shape.Shape.{Shape}
-use Rattle.pdc_cfg.specs.Section.{SectionFields}
-use Rattle.pdc_row.specs.CellView.{BlockView}
+-- Lives of a node worked out by computing the definitions. What arrives is given as read; where only the answer matters, the
+-- bytes beside it stand for any that say so.
+use Rattle.std.specs.Prelude.{◌≡◌, ℕ, ◌+◌, List, [], ◌∷◌, length, map, replicate, None, refl}
+use Rattle.std.proofs.Common.{arith}
 use Rattle.pdc_frame.specs.CheckWord.{check_word_of}
 use Rattle.pdc_tag.specs.Nearest.{nearest_of}
 use Rattle.pdc_tag.specs.Tag.{tag_of}
-use Rattle.pdc_life.specs.declared.given.Given.{Given}
-use Rattle.pdc_life.specs.declared.pmu.Pmu.{Pmu}
-use Rattle.pdc_life.specs.declared.given.Settings.{Settings}
-use Rattle.std.specs.List.{list_all}
-use Rattle.pdc_life.specs.declared.given.Nominal.TheVariants.{Hz50}
+use Rattle.pdc_row.specs.RowView.{RowView}
+use Rattle.pdc_life.specs.declared.given.WaitKind.{WaitKind}
+use Rattle.pdc_life.specs.declared.given.WaitKind.TheVariants.{Relative, Absolute}
 use Rattle.pdc_life.specs.declared.outcome.Outcome.{Outcome}
 use Rattle.pdc_life.specs.declared.outcome.Outcome.TheVariants.{Taken, Candidate, Known, Refused}
-use Rattle.pdc_life.specs.declared.outcome.Refusal.TheVariants.{StaleCount, CountConflict, NoConfig, Late, Ahead, OutOfWindow, Duplicate, Conflict}
-use Rattle.pdc_life.specs.Arrival.{Data, Configuration}
-use Rattle.pdc_row.specs.RowView.{RowView}
-use Rattle.pdc_life.specs.Life.{Entry, Arrive, changes, open_instants, popped}
-use Rattle.pdc_block.specs.Block.{words_in}
-use Rattle.pdc_life.specs.Answer.{ReadStep, Heard, Ticked, Popped, life_from}
-use Rattle.pdc_life.specs.Layout.{layout_wire, published}
+use Rattle.pdc_life.specs.declared.outcome.Refusal.TheVariants.{StaleCount, CountConflict, Ahead, OutOfWindow, Duplicate, Conflict}
+use Rattle.pdc_life.specs.Given.{Given}
+use Rattle.pdc_life.specs.Arrival.{Data, Layout}
+use Rattle.pdc_life.specs.Life.{Entry, Arrive, Tick, changes, open_instants, popped}
+use Rattle.pdc_life.specs.Answer.{ReadStep, ToArrive, ToTick, ToPop, life_from, waiting_counts}
+use Rattle.pdc_life.specs.Published.{layout_wire, published}
+use Rattle.pdc_life.specs.Node.{node_answer}
+use Rattle.pdc_life.proofs.Vectors.{body_3, body_4, body_absent, body_other, e1, e2, e3, e4, fields_11, fields_12, o1, o2, output, section_11, section_11_other, section_11_two}
 
--- the CFG-2 frame of PMU 11, count 1
-abbrev pub e1 : List ℕ
-e1 =
-    0xAA ∷ 0x32 ∷ 0x00 ∷ 0x4A ∷ 0x00 ∷ 0x0B ∷ 0x44 ∷ 0x85 ∷ 0x27 ∷ 0xF0 ∷ 0x00 ∷ 0x00 ∷ 0x00 ∷ 0x00 ∷ 0x00 ∷ 0x0F ∷
-    0x42 ∷ 0x40 ∷ 0x00 ∷ 0x01 ∷ 0x50 ∷ 0x4D ∷ 0x55 ∷ 0x20 ∷ 0x31 ∷ 0x31 ∷ 0x20 ∷ 0x20 ∷ 0x20 ∷ 0x20 ∷ 0x20 ∷ 0x20 ∷
-    0x20 ∷ 0x20 ∷ 0x20 ∷ 0x20 ∷ 0x00 ∷ 0x0B ∷ 0x00 ∷ 0x00 ∷ 0x00 ∷ 0x01 ∷ 0x00 ∷ 0x00 ∷ 0x00 ∷ 0x00 ∷ 0x56 ∷ 0x41 ∷
-    0x20 ∷ 0x20 ∷ 0x20 ∷ 0x20 ∷ 0x20 ∷ 0x20 ∷ 0x20 ∷ 0x20 ∷ 0x20 ∷ 0x20 ∷ 0x20 ∷ 0x20 ∷ 0x20 ∷ 0x20 ∷ 0x00 ∷ 0x0D ∷
-    0xF8 ∷ 0x47 ∷ 0x00 ∷ 0x01 ∷ 0x00 ∷ 0x01 ∷ 0x00 ∷ 0x32 ∷ 0xC2 ∷ 0xCE ∷ []
-
--- the CFG-2 frame of PMU 12, count 1
-abbrev pub e2 : List ℕ
-e2 =
-    0xAA ∷ 0x32 ∷ 0x00 ∷ 0x4A ∷ 0x00 ∷ 0x0C ∷ 0x44 ∷ 0x85 ∷ 0x27 ∷ 0xF0 ∷ 0x00 ∷ 0x00 ∷ 0x00 ∷ 0x00 ∷ 0x00 ∷ 0x0F ∷
-    0x42 ∷ 0x40 ∷ 0x00 ∷ 0x01 ∷ 0x50 ∷ 0x4D ∷ 0x55 ∷ 0x20 ∷ 0x31 ∷ 0x32 ∷ 0x20 ∷ 0x20 ∷ 0x20 ∷ 0x20 ∷ 0x20 ∷ 0x20 ∷
-    0x20 ∷ 0x20 ∷ 0x20 ∷ 0x20 ∷ 0x00 ∷ 0x0C ∷ 0x00 ∷ 0x00 ∷ 0x00 ∷ 0x01 ∷ 0x00 ∷ 0x00 ∷ 0x00 ∷ 0x00 ∷ 0x56 ∷ 0x41 ∷
-    0x20 ∷ 0x20 ∷ 0x20 ∷ 0x20 ∷ 0x20 ∷ 0x20 ∷ 0x20 ∷ 0x20 ∷ 0x20 ∷ 0x20 ∷ 0x20 ∷ 0x20 ∷ 0x20 ∷ 0x20 ∷ 0x00 ∷ 0x0D ∷
-    0xF8 ∷ 0x47 ∷ 0x00 ∷ 0x01 ∷ 0x00 ∷ 0x01 ∷ 0x00 ∷ 0x32 ∷ 0xC2 ∷ 0x9B ∷ []
-
--- the CFG-2 frame of PMU 13, count 1
-abbrev pub e13 : List ℕ
-e13 =
-    0xAA ∷ 0x32 ∷ 0x00 ∷ 0x4A ∷ 0x00 ∷ 0x0D ∷ 0x44 ∷ 0x85 ∷ 0x27 ∷ 0xF0 ∷ 0x00 ∷ 0x00 ∷ 0x00 ∷ 0x00 ∷ 0x00 ∷ 0x0F ∷
-    0x42 ∷ 0x40 ∷ 0x00 ∷ 0x01 ∷ 0x50 ∷ 0x4D ∷ 0x55 ∷ 0x20 ∷ 0x31 ∷ 0x33 ∷ 0x20 ∷ 0x20 ∷ 0x20 ∷ 0x20 ∷ 0x20 ∷ 0x20 ∷
-    0x20 ∷ 0x20 ∷ 0x20 ∷ 0x20 ∷ 0x00 ∷ 0x0D ∷ 0x00 ∷ 0x00 ∷ 0x00 ∷ 0x01 ∷ 0x00 ∷ 0x00 ∷ 0x00 ∷ 0x00 ∷ 0x56 ∷ 0x41 ∷
-    0x20 ∷ 0x20 ∷ 0x20 ∷ 0x20 ∷ 0x20 ∷ 0x20 ∷ 0x20 ∷ 0x20 ∷ 0x20 ∷ 0x20 ∷ 0x20 ∷ 0x20 ∷ 0x20 ∷ 0x20 ∷ 0x00 ∷ 0x0D ∷
-    0xF8 ∷ 0x47 ∷ 0x00 ∷ 0x01 ∷ 0x00 ∷ 0x01 ∷ 0x00 ∷ 0x32 ∷ 0x7E ∷ 0x04 ∷ []
-
--- data of 11 for the instant 57478860001
-abbrev pub e3 : List ℕ
-e3 =
-    0xAA ∷ 0x02 ∷ 0x00 ∷ 0x1A ∷ 0x00 ∷ 0x0B ∷ 0x44 ∷ 0x85 ∷ 0x27 ∷ 0xF0 ∷ 0x00 ∷ 0x00 ∷ 0x4E ∷ 0x20 ∷ 0x00 ∷ 0x00 ∷
-    0x39 ∷ 0x2B ∷ 0x00 ∷ 0x00 ∷ 0x09 ∷ 0xC4 ∷ 0x00 ∷ 0x00 ∷ 0x26 ∷ 0x23 ∷ []
-
--- data of 12 for that instant
-abbrev pub e4 : List ℕ
-e4 =
-    0xAA ∷ 0x02 ∷ 0x00 ∷ 0x1A ∷ 0x00 ∷ 0x0C ∷ 0x44 ∷ 0x85 ∷ 0x27 ∷ 0xF0 ∷ 0x00 ∷ 0x00 ∷ 0x4E ∷ 0x20 ∷ 0x00 ∷ 0x00 ∷
-    0x13 ∷ 0x88 ∷ 0xEC ∷ 0x78 ∷ 0xFF ∷ 0xFE ∷ 0x00 ∷ 0x00 ∷ 0xCE ∷ 0x65 ∷ []
-
--- the section of 11
-abbrev pub section_11 : List ℕ
-section_11 =
-    0x50 ∷ 0x4D ∷ 0x55 ∷ 0x20 ∷ 0x31 ∷ 0x31 ∷ 0x20 ∷ 0x20 ∷ 0x20 ∷ 0x20 ∷ 0x20 ∷ 0x20 ∷ 0x20 ∷ 0x20 ∷ 0x20 ∷ 0x20 ∷
-    0x00 ∷ 0x0B ∷ 0x00 ∷ 0x00 ∷ 0x00 ∷ 0x01 ∷ 0x00 ∷ 0x00 ∷ 0x00 ∷ 0x00 ∷ 0x56 ∷ 0x41 ∷ 0x20 ∷ 0x20 ∷ 0x20 ∷ 0x20 ∷
-    0x20 ∷ 0x20 ∷ 0x20 ∷ 0x20 ∷ 0x20 ∷ 0x20 ∷ 0x20 ∷ 0x20 ∷ 0x20 ∷ 0x20 ∷ 0x00 ∷ 0x0D ∷ 0xF8 ∷ 0x47 ∷ 0x00 ∷ 0x01 ∷
-    0x00 ∷ 0x01 ∷ []
-
--- the section of 12
-abbrev pub section_12 : List ℕ
-section_12 =
-    0x50 ∷ 0x4D ∷ 0x55 ∷ 0x20 ∷ 0x31 ∷ 0x32 ∷ 0x20 ∷ 0x20 ∷ 0x20 ∷ 0x20 ∷ 0x20 ∷ 0x20 ∷ 0x20 ∷ 0x20 ∷ 0x20 ∷ 0x20 ∷
-    0x00 ∷ 0x0C ∷ 0x00 ∷ 0x00 ∷ 0x00 ∷ 0x01 ∷ 0x00 ∷ 0x00 ∷ 0x00 ∷ 0x00 ∷ 0x56 ∷ 0x41 ∷ 0x20 ∷ 0x20 ∷ 0x20 ∷ 0x20 ∷
-    0x20 ∷ 0x20 ∷ 0x20 ∷ 0x20 ∷ 0x20 ∷ 0x20 ∷ 0x20 ∷ 0x20 ∷ 0x20 ∷ 0x20 ∷ 0x00 ∷ 0x0D ∷ 0xF8 ∷ 0x47 ∷ 0x00 ∷ 0x01 ∷
-    0x00 ∷ 0x01 ∷ []
-
--- the section of 13
-abbrev pub section_13 : List ℕ
-section_13 =
-    0x50 ∷ 0x4D ∷ 0x55 ∷ 0x20 ∷ 0x31 ∷ 0x33 ∷ 0x20 ∷ 0x20 ∷ 0x20 ∷ 0x20 ∷ 0x20 ∷ 0x20 ∷ 0x20 ∷ 0x20 ∷ 0x20 ∷ 0x20 ∷
-    0x00 ∷ 0x0D ∷ 0x00 ∷ 0x00 ∷ 0x00 ∷ 0x01 ∷ 0x00 ∷ 0x00 ∷ 0x00 ∷ 0x00 ∷ 0x56 ∷ 0x41 ∷ 0x20 ∷ 0x20 ∷ 0x20 ∷ 0x20 ∷
-    0x20 ∷ 0x20 ∷ 0x20 ∷ 0x20 ∷ 0x20 ∷ 0x20 ∷ 0x20 ∷ 0x20 ∷ 0x20 ∷ 0x20 ∷ 0x00 ∷ 0x0D ∷ 0xF8 ∷ 0x47 ∷ 0x00 ∷ 0x01 ∷
-    0x00 ∷ 0x01 ∷ []
-
--- the payload of the data of 11
-abbrev pub body_3 : List ℕ
-body_3 =
-    0x00 ∷ 0x00 ∷ 0x39 ∷ 0x2B ∷ 0x00 ∷ 0x00 ∷ 0x09 ∷ 0xC4 ∷ 0x00 ∷ 0x00 ∷ []
-
--- the payload of the data of 12
-abbrev pub body_4 : List ℕ
-body_4 =
-    0x00 ∷ 0x00 ∷ 0x13 ∷ 0x88 ∷ 0xEC ∷ 0x78 ∷ 0xFF ∷ 0xFE ∷ 0x00 ∷ 0x00 ∷ []
-
--- what node 201 publishes of both
-abbrev pub o1 : List ℕ
-o1 =
-    0xAA ∷ 0x02 ∷ 0x00 ∷ 0x32 ∷ 0x00 ∷ 0xC9 ∷ 0x44 ∷ 0x85 ∷ 0x27 ∷ 0xF0 ∷ 0x00 ∷ 0x00 ∷ 0x4E ∷ 0x20 ∷ 0x00 ∷ 0x00 ∷
-    0x00 ∷ 0x00 ∷ 0x00 ∷ 0x00 ∷ 0x00 ∷ 0x00 ∷ 0x00 ∷ 0x01 ∷ 0x00 ∷ 0x00 ∷ 0x00 ∷ 0x01 ∷ 0x00 ∷ 0x00 ∷ 0x39 ∷ 0x2B ∷
-    0x00 ∷ 0x00 ∷ 0x09 ∷ 0xC4 ∷ 0x00 ∷ 0x00 ∷ 0x00 ∷ 0x00 ∷ 0x13 ∷ 0x88 ∷ 0xEC ∷ 0x78 ∷ 0xFF ∷ 0xFE ∷ 0x00 ∷ 0x00 ∷
-    0xAF ∷ 0x55 ∷ []
-
--- and without the data of 12
-abbrev pub o2 : List ℕ
-o2 =
-    0xAA ∷ 0x02 ∷ 0x00 ∷ 0x32 ∷ 0x00 ∷ 0xC9 ∷ 0x44 ∷ 0x85 ∷ 0x27 ∷ 0xF0 ∷ 0x00 ∷ 0x00 ∷ 0x4E ∷ 0x20 ∷ 0x00 ∷ 0x00 ∷
-    0x00 ∷ 0x00 ∷ 0x00 ∷ 0x00 ∷ 0x00 ∷ 0x00 ∷ 0x00 ∷ 0x01 ∷ 0x00 ∷ 0x00 ∷ 0x00 ∷ 0x01 ∷ 0x00 ∷ 0x00 ∷ 0x39 ∷ 0x2B ∷
-    0x00 ∷ 0x00 ∷ 0x09 ∷ 0xC4 ∷ 0x00 ∷ 0x00 ∷ 0xA1 ∷ 0xF0 ∷ 0x80 ∷ 0x00 ∷ 0x80 ∷ 0x00 ∷ 0x80 ∷ 0x00 ∷ 0x80 ∷ 0x00 ∷
-    0x07 ∷ 0x54 ∷ []
-
--- the section of 11 under count 2
-abbrev pub section_11_two : List ℕ
-section_11_two =
-    0x50 ∷ 0x4D ∷ 0x55 ∷ 0x20 ∷ 0x31 ∷ 0x31 ∷ 0x20 ∷ 0x20 ∷ 0x20 ∷ 0x20 ∷ 0x20 ∷ 0x20 ∷ 0x20 ∷ 0x20 ∷ 0x20 ∷ 0x20 ∷
-    0x00 ∷ 0x0B ∷ 0x00 ∷ 0x00 ∷ 0x00 ∷ 0x01 ∷ 0x00 ∷ 0x00 ∷ 0x00 ∷ 0x00 ∷ 0x56 ∷ 0x41 ∷ 0x20 ∷ 0x20 ∷ 0x20 ∷ 0x20 ∷
-    0x20 ∷ 0x20 ∷ 0x20 ∷ 0x20 ∷ 0x20 ∷ 0x20 ∷ 0x20 ∷ 0x20 ∷ 0x20 ∷ 0x20 ∷ 0x00 ∷ 0x0D ∷ 0xF8 ∷ 0x47 ∷ 0x00 ∷ 0x01 ∷
-    0x00 ∷ 0x02 ∷ []
-
--- another one under count 2, of the name PMU 1X
-abbrev pub section_11_other : List ℕ
-section_11_other =
-    0x50 ∷ 0x4D ∷ 0x55 ∷ 0x20 ∷ 0x31 ∷ 0x58 ∷ 0x20 ∷ 0x20 ∷ 0x20 ∷ 0x20 ∷ 0x20 ∷ 0x20 ∷ 0x20 ∷ 0x20 ∷ 0x20 ∷ 0x20 ∷
-    0x00 ∷ 0x0B ∷ 0x00 ∷ 0x00 ∷ 0x00 ∷ 0x01 ∷ 0x00 ∷ 0x00 ∷ 0x00 ∷ 0x00 ∷ 0x56 ∷ 0x41 ∷ 0x20 ∷ 0x20 ∷ 0x20 ∷ 0x20 ∷
-    0x20 ∷ 0x20 ∷ 0x20 ∷ 0x20 ∷ 0x20 ∷ 0x20 ∷ 0x20 ∷ 0x20 ∷ 0x20 ∷ 0x20 ∷ 0x00 ∷ 0x0D ∷ 0xF8 ∷ 0x47 ∷ 0x00 ∷ 0x01 ∷
-    0x00 ∷ 0x02 ∷ []
-
--- data of 11 with another phasor
-abbrev pub body_other : List ℕ
-body_other =
-    0x00 ∷ 0x00 ∷ 0x39 ∷ 0x2C ∷ 0x00 ∷ 0x00 ∷ 0x09 ∷ 0xC4 ∷ 0x00 ∷ 0x00 ∷ []
-
--- the absent words
-abbrev pub body_absent : List ℕ
-body_absent =
-    0xA1 ∷ 0xF0 ∷ 0x80 ∷ 0x00 ∷ 0x80 ∷ 0x00 ∷ 0x80 ∷ 0x00 ∷ 0x80 ∷ 0x00 ∷ []
-
-abbrev pub one_phasor : Shape
-one_phasor = record { phasors = 1; analogs = 0; digitals = 0; phasors_fit = omega arith; analogs_fit = omega arith; digitals_fit = omega arith }
-
-abbrev pub fields_11 : ℕ → List ℕ → SectionFields
-fields_11 count bytes = record { bytes = bytes; shape = one_phasor; source = 11; count = count; polar = false }
-
-abbrev pub fields_12 : SectionFields
-fields_12 = record { bytes = section_12; shape = one_phasor; source = 12; count = 1; polar = false }
-
-abbrev pub pmu_11 : Pmu
-pmu_11 = record { stream = 11; source = 11; time_base = 1000000; stream_low = omega arith; stream_high = omega arith; source_low = omega arith; source_high = omega arith; time_base_high = omega arith }
-
-abbrev pub pmu_12 : Pmu
-pmu_12 = record { stream = 12; source = 12; time_base = 1000000; stream_low = omega arith; stream_high = omega arith; source_low = omega arith; source_high = omega arith; time_base_high = omega arith }
-
-abbrev pub pmu_13 : Pmu
-pmu_13 = record { stream = 13; source = 13; time_base = 1000000; stream_low = omega arith; stream_high = omega arith; source_low = omega arith; source_high = omega arith; time_base_high = omega arith }
-
-abbrev pub fields_13 : SectionFields
-fields_13 = record { bytes = section_13; shape = one_phasor; source = 13; count = 1; polar = false }
-
--- Node 201: ahead 32, and this wait, window and list of PMUs.
-abbrev pub settings : (wait window : ℕ) → (1 ≤ wait) × (wait ≤ 1000) → (8 ≤ window) × (window ≤ 256) → (pmus : List Pmu) → (0 < length pmus) × (length pmus ≤ 16) → IsTrue (list_all (λ (p : Pmu). nat_le 50 p.time_base) pmus) → Settings
-settings wait window in_wait in_window pmus in_number in_bases = record {
-  id = 201;
-  rate = 50;
-  nominal = Hz50;
-  time_base = 1000000;
-  wait = wait;
+-- node 201 with the PMUs 11 and 12: wait 2, ahead 32
+abbrev pub given : (kind : WaitKind) → (window : ℕ) → (counts : List ℕ) → Given
+given kind window counts = record {
+  output = output 201 (omega arith, omega arith);
+  wait = 2;
+  wait_kind = kind;
   window = window;
   ahead = 32;
-  pmus = record { items = pmus };
-  id_low = omega arith;
-  id_high = omega arith;
-  rate_low = omega arith;
-  rate_high = omega arith;
-  time_base_low = omega arith;
-  time_base_high = omega arith;
-  wait_low = in_wait.0;
-  wait_high = in_wait.1;
-  window_low = in_window.0;
-  window_high = in_window.1;
-  ahead_high = omega arith;
-  some = in_number.0;
-  few = in_number.1;
-  bases = in_bases;
+  columns = 2;
+  lanes = 1;
+  start = 1;
+  floor = 0;
+  counts = counts;
+  opening = 0;
 }
 
-abbrev pub given : Settings → Given
-given s = record { settings = s; start = 1; floor = 0; opening = 0 }
+abbrev pub zeros : List ℕ
+zeros = replicate 16 0
 
--- wait 2, and a window of 64
+-- everything is cleared
+abbrev pub all : List ℕ
+all = replicate 16 65535
+
 abbrev pub wide : Given
-wide = given (settings 2 64 (omega arith, omega arith) (omega arith, omega arith) (pmu_11 ∷ pmu_12 ∷ []) (omega arith, omega arith) refl)
+wide = given Relative 64 zeros
 
--- wait 2, and a window of 8
-abbrev pub narrow : Given
-narrow = given (settings 2 8 (omega arith, omega arith) (omega arith, omega arith) (pmu_11 ∷ pmu_12 ∷ []) (omega arith, omega arith) refl)
+abbrev pub after : Given → List Entry → List ReadStep → List Entry
+after = life_from node_answer
+
+-- a section of 11 under this count arrives, or that of 12
+abbrev pub layout_11 : ℕ → List ℕ → ReadStep
+layout_11 count section = ToArrive 0 e1 (Layout None ((0, fields_11 count section) ∷ []))
+
+abbrev pub layout_12 : ReadStep
+layout_12 = ToArrive 1 e2 (Layout None ((1, fields_12) ∷ []))
+
+-- data of a PMU for the instant that is so many after 57478860000
+abbrev pub data_of : ℕ → ℕ → List ℕ → ReadStep
+data_of p later body = ToArrive p e3 (Data (57478860000 + later) 0 body)
+
+-- a tick at the instant that is so many after it, with all counts cleared
+abbrev pub tick_at : ℕ → ReadStep
+tick_at later = ToTick (57478860000 + later) all
 
 -- both configurations come, and a tick adopts them
 abbrev pub begun : Given → List Entry
-begun g =
-    life_from g []
-    (Heard 0 e1 (Configuration (fields_11 1 section_11)) ∷ Heard 1 e2 (Configuration fields_12) ∷ Ticked 57478860000 ∷ [])
+begun g = after g [] (layout_11 1 section_11 ∷ layout_12 ∷ tick_at 0 ∷ [])
 
 -- the answers to arrivals, the newest first
 abbrev pub answers : List Entry → List Outcome
 answers [] = []
-answers (Arrive p bytes arrival answer ∷ E) = answer ∷ answers E
+answers (Arrive p bytes arrival answer ∷ E) = answer.outcome ∷ answers E
 answers (e ∷ E) = answers E
 
--- data of a PMU for the instant that is so many after 57478860000
-abbrev pub data_of : ℕ → ℕ → List ℕ → ReadStep
-data_of p after body = Heard p e3 (Data (57478860000 + after) 0 body)
+-- for each tick the columns that it adopted, the newest first
+abbrev pub adoptions : List Entry → List (List ℕ)
+adoptions [] = []
+adoptions (Tick now counts answer ∷ E) = answer.adopted ∷ adoptions E
+adoptions (e ∷ E) = adoptions E
 
-abbrev pub after : Given → List ReadStep → List Entry
-after g steps = life_from g (begun g) steps
+-- the instants that were popped, so many after 57478860000 each
+abbrev pub instants : List Entry → List ℕ
+instants E = map (λ (r : RowView). r.instant) (popped E)
 
-both_are_candidates : answers (begun wide) ≡ Candidate ∷ Candidate ∷ []
-both_are_candidates = refl
-
-the_tick_adopts : changes (begun wide) ≡ 1
-the_tick_adopts = refl
-
--- The layout's frame has 1194 bytes: 24, the own section of 1070, and two of 50.
-the_layout_has_1194_bytes : length (layout_wire wide (begun wide) 0) ≡ 1194
-the_layout_has_1194_bytes = refl
+begins : (answers (begun wide) ≡ Candidate ∷ Candidate ∷ []) × (changes (begun wide) ≡ 1) × (length (layout_wire wide (begun wide) 0) ≡ 1194)
+begins = (refl, refl, refl)
 
 -- Both are there: the tick closes the instant, and the pop gives it.
-both_present : published wide (after wide (Heard 0 e3 (Data 57478860001 0 body_3) ∷ Heard 1 e4 (Data 57478860001 0 body_4) ∷ Ticked 57478860001 ∷ Popped ∷ [])) ≡ o1 ∷ []
+both_present : published wide (after wide (begun wide) (ToArrive 0 e3 (Data 57478860001 0 body_3) ∷ ToArrive 1 e4 (Data 57478860001 0 body_4) ∷ tick_at 1 ∷ ToPop ∷ [])) ≡ o1 ∷ []
 unfolding tag_of nearest_of check_word_of
 both_present = refl
 
 -- The data of 12 is lost: the first tick closes nothing, the second closes the instant with the absent block.
-one_absent_waits : popped (after wide (Heard 0 e3 (Data 57478860001 0 body_3) ∷ Ticked 57478860001 ∷ Popped ∷ [])) ≡ []
+one_absent_waits : popped (after wide (begun wide) (data_of 0 1 body_3 ∷ tick_at 1 ∷ ToPop ∷ [])) ≡ []
 one_absent_waits = refl
 
-one_absent : published wide (after wide (Heard 0 e3 (Data 57478860001 0 body_3) ∷ Ticked 57478860001 ∷ Ticked 57478860002 ∷ Popped ∷ [])) ≡ o2 ∷ []
+one_absent : published wide (after wide (begun wide) (data_of 0 1 body_3 ∷ tick_at 1 ∷ tick_at 2 ∷ ToPop ∷ [])) ≡ o2 ∷ []
 unfolding tag_of nearest_of check_word_of
 one_absent = refl
 
--- Data of both for 57478860002 and then for 57478860001: one tick closes both, and the lower comes out first. What comes
--- for it afterwards is late.
-out_of_order : List ReadStep
-out_of_order =
-    data_of 0 2 body_3 ∷ data_of 1 2 body_4 ∷ data_of 0 1 body_3 ∷ data_of 1 1 body_4 ∷ Ticked 57478860002 ∷ Popped ∷ Popped ∷ data_of 0 1 body_3 ∷ []
-
-closed_in_order : map (λ (r : RowView). r.instant) (popped (after wide out_of_order)) ≡ 57478860001 ∷ 57478860002 ∷ []
-unfolding out_of_order
-closed_in_order = refl
-
-late : answers (after wide out_of_order) ≡ Refused Late ∷ Taken ∷ Taken ∷ Taken ∷ Taken ∷ Candidate ∷ Candidate ∷ []
-unfolding out_of_order
-late = refl
-
 -- The same data twice, and other data for the same instant: the first stays.
-duplicate_and_conflict : answers (after wide (data_of 0 1 body_3 ∷ data_of 0 1 body_3 ∷ data_of 0 1 body_other ∷ [])) ≡ Refused Conflict ∷ Refused Duplicate ∷ Taken ∷ Candidate ∷ Candidate ∷ []
+duplicate_and_conflict : answers (after wide (begun wide) (data_of 0 1 body_3 ∷ data_of 0 1 body_3 ∷ data_of 0 1 body_other ∷ [])) ≡ Refused Conflict ∷ Refused Duplicate ∷ Taken ∷ Candidate ∷ Candidate ∷ []
 duplicate_and_conflict = refl
 
 -- A count that is raised while data waits: the next tick closes nothing, adopts, and drops the data of 11. The instant stays
--- open, and closes by age with no block present and quality 15.
-raised : List ReadStep
+-- open, and closes by age with no block present, quality 15 and the stamp of its closing.
+abbrev pub raised : List Entry
 raised =
-    data_of 0 1 body_3 ∷ Heard 0 e1 (Configuration (fields_11 2 section_11_two)) ∷ Ticked 57478860001
-    ∷ Heard 0 e1 (Configuration (fields_11 1 section_11)) ∷ Heard 0 e1 (Configuration (fields_11 2 section_11_other))
-    ∷ Heard 0 e1 (Configuration (fields_11 2 section_11_two)) ∷ []
+    after wide (begun wide)
+    (data_of 0 1 body_3 ∷ layout_11 2 section_11_two ∷ tick_at 1
+    ∷ layout_11 1 section_11 ∷ layout_11 2 section_11_other ∷ layout_11 2 section_11_two ∷ [])
 
-a_raised_count : answers (after wide raised) ≡ Known ∷ Refused CountConflict ∷ Refused StaleCount ∷ Candidate ∷ Taken ∷ Candidate ∷ Candidate ∷ []
-unfolding raised
+a_raised_count : answers raised ≡ Known ∷ Refused CountConflict ∷ Refused StaleCount ∷ Candidate ∷ Taken ∷ Candidate ∷ Candidate ∷ []
 a_raised_count = refl
 
-adopted_as_the_second_change : changes (after wide raised) ≡ 2
-unfolding raised
-adopted_as_the_second_change = refl
+only_11_is_adopted : adoptions raised ≡ (0 ∷ []) ∷ (0 ∷ 1 ∷ []) ∷ []
+only_11_is_adopted = refl
 
-the_instant_stays_open : open_instants wide (after wide raised) ≡ 57478860001 ∷ []
-unfolding raised
+the_instant_stays_open : open_instants wide raised ≡ 57478860001 ∷ []
 the_instant_stays_open = refl
 
-closed_without_a_block : map (λ (r : RowView). r.quality) (popped (life_from wide (after wide raised) (Ticked 57478860002 ∷ Popped ∷ []))) ≡ 15 ∷ []
-unfolding raised
+abbrev pub quality_and_change : RowView → ℕ × ℕ
+quality_and_change r = (r.quality, r.change)
+
+closed_without_a_block : map quality_and_change (popped (after wide raised (tick_at 2 ∷ ToPop ∷ []))) ≡ (15, 2) ∷ []
 closed_without_a_block = refl
 
--- The stamp of the row is that of its closing: change 2.
-the_stamp_of_its_closing : map (λ (r : RowView). r.change) (popped (life_from wide (after wide raised) (Ticked 57478860002 ∷ Popped ∷ []))) ≡ 2 ∷ []
-unfolding raised
-the_stamp_of_its_closing = refl
-
 -- PMU 11 itself sends the absent words, with quality 5: the frame is taken, and the row has quality 15.
-absent_words : List ReadStep
-absent_words = Heard 0 e3 (Data 57478860001 5 body_absent) ∷ Ticked 57478860001 ∷ Ticked 57478860002 ∷ Popped ∷ []
-
-absent_words_are_taken : answers (after wide absent_words) ≡ Taken ∷ Candidate ∷ Candidate ∷ []
-unfolding absent_words
-absent_words_are_taken = refl
-
-absent_words_count_as_absent : map (λ (r : RowView). r.quality) (popped (after wide absent_words)) ≡ 15 ∷ []
-unfolding absent_words
+absent_words_count_as_absent : map (λ (r : RowView). r.quality) (popped (after wide (begun wide) (ToArrive 0 e3 (Data 57478860001 5 body_absent) ∷ tick_at 1 ∷ tick_at 2 ∷ ToPop ∷ []))) ≡ 15 ∷ []
 absent_words_count_as_absent = refl
 
--- Window 8: 57478860001 is held, 8 after it is out of the window, 7 after it is in it.
-the_window : answers (after narrow (data_of 0 1 body_3 ∷ data_of 0 9 body_3 ∷ data_of 0 8 body_3 ∷ [])) ≡ Taken ∷ Refused OutOfWindow ∷ Taken ∷ Candidate ∷ Candidate ∷ []
-the_window = refl
+-- Window 8: 57478860001 is held, 8 after it is out of the window, 7 after it is in it. Ahead 32: 33 is too far above now.
+abbrev pub narrow : Given
+narrow = given Relative 8 zeros
 
--- Ahead 32, and the last tick's now is 57478860000: 32 after it is taken, 33 is not.
-ahead : answers (after wide (data_of 0 33 body_3 ∷ data_of 0 32 body_3 ∷ [])) ≡ Taken ∷ Refused Ahead ∷ Candidate ∷ Candidate ∷ []
-ahead = refl
+window_and_ahead : answers (after narrow (begun narrow) (data_of 0 1 body_3 ∷ data_of 0 9 body_3 ∷ data_of 0 8 body_3 ∷ data_of 0 33 body_3 ∷ [])) ≡ Refused Ahead ∷ Taken ∷ Refused OutOfWindow ∷ Taken ∷ Candidate ∷ Candidate ∷ []
+window_and_ahead = refl
 
--- PMU 12 has no count yet: its data is refused, and an instant closes without it.
-data_before_a_configuration : answers (life_from wide [] (Heard 0 e1 (Configuration (fields_11 1 section_11)) ∷ Ticked 57478860000 ∷ data_of 1 1 body_4 ∷ [])) ≡ Refused NoConfig ∷ Candidate ∷ []
-data_before_a_configuration = refl
+-- Opening counts. The opening count of 11 is 2: count 1 is stale, also where nothing is held.
+abbrev pub restarted : Given
+restarted = given Relative 64 (2 ∷ 1 ∷ replicate 14 0)
 
--- Three PMUs and a wait of 10. The third is adopted when an instant is open already: the instant waits for it too.
-abbrev pub three : Given
-three = given (settings 10 64 (omega arith, omega arith) (omega arith, omega arith) (pmu_11 ∷ pmu_12 ∷ pmu_13 ∷ []) (omega arith, omega arith) refl)
+stale_below_opening : answers (after restarted [] (layout_11 1 section_11 ∷ layout_11 2 section_11_two ∷ layout_12 ∷ [])) ≡ Candidate ∷ Candidate ∷ Refused StaleCount ∷ []
+stale_below_opening = refl
 
-third_comes_later : List Entry
-third_comes_later =
-    life_from three []
-    (Heard 0 e1 (Configuration (fields_11 1 section_11)) ∷ Heard 1 e2 (Configuration fields_12) ∷ Ticked 57478860000
-    ∷ data_of 0 1 body_3 ∷ Heard 2 e13 (Configuration fields_13) ∷ Ticked 57478860001 ∷ data_of 1 1 body_4 ∷ Ticked 57478860002 ∷ Popped ∷ [])
+-- What the opening counts clear is adopted at once, whatever the tick hands in.
+opening_counts_are_cleared : adoptions (after restarted [] (layout_11 2 section_11_two ∷ layout_12 ∷ ToTick 57478860000 zeros ∷ [])) ≡ (0 ∷ 1 ∷ []) ∷ []
+opening_counts_are_cleared = refl
 
-waits_for_the_third : popped third_comes_later ≡ []
-unfolding third_comes_later
-waits_for_the_third = refl
+-- Counts of 0: both are candidates, and wait while no tick clears them. The next tick clears 12 alone, the last one both; what
+-- was cleared stays so.
+abbrev pub one_by_one : List Entry
+one_by_one =
+    after wide []
+    (layout_11 1 section_11 ∷ layout_12 ∷ ToTick 57478860000 zeros ∷ ToTick 57478860000 (0 ∷ 1 ∷ replicate 14 0)
+    ∷ ToTick 57478860000 (1 ∷ replicate 15 0) ∷ ToTick 57478860000 zeros ∷ [])
 
-blocks_of : List RowView → List (List (List ℕ))
-blocks_of rows = map (λ (r : RowView). map (λ (b : BlockView). b.words) r.blocks) rows
+a_candidate_above_cleared_waits : adoptions one_by_one ≡ [] ∷ (0 ∷ []) ∷ (1 ∷ []) ∷ [] ∷ []
+a_candidate_above_cleared_waits = refl
 
-closes_with_the_third : blocks_of (popped (life_from three third_comes_later (data_of 2 1 body_absent ∷ Ticked 57478860002 ∷ Popped ∷ []))) ≡ (words_in body_3 ∷ words_in body_4 ∷ words_in body_absent ∷ []) ∷ []
-unfolding third_comes_later blocks_of
-closes_with_the_third = refl
+two_ticks_adopted : changes one_by_one ≡ 2
+two_ticks_adopted = refl
+
+-- Count 1 of 11 was cleared, and before the tick count 2 came: nothing of 11 is adopted, not even count 1.
+a_greater_one_holds_back : adoptions (after wide [] (layout_11 1 section_11 ∷ layout_11 2 section_11_two ∷ ToTick 57478860000 (1 ∷ replicate 15 0) ∷ [])) ≡ [] ∷ []
+a_greater_one_holds_back = refl
+
+-- What waits to be stored: the greater of cleared and held.
+counts_that_wait : waiting_counts restarted (after restarted [] (layout_11 2 section_11_two ∷ ToTick 57478860000 (0 ∷ 5 ∷ replicate 14 0) ∷ [])) ≡ 2 ∷ 5 ∷ replicate 14 0
+counts_that_wait = refl
+
+-- An absolute wait of 2: 57478860001 without the data of 12 closes at the first tick whose now is 57478860003 or later, however
+-- often the table ticked.
+abbrev pub absolute : Given
+absolute = given Absolute 64 zeros
+
+early_ticks_close_nothing : instants (after absolute (begun absolute) (data_of 0 1 body_3 ∷ tick_at 1 ∷ tick_at 2 ∷ tick_at 2 ∷ ToPop ∷ [])) ≡ []
+early_ticks_close_nothing = refl
+
+closes_by_now : published absolute (after absolute (begun absolute) (data_of 0 1 body_3 ∷ tick_at 1 ∷ tick_at 2 ∷ tick_at 2 ∷ tick_at 3 ∷ ToPop ∷ [])) ≡ o2 ∷ []
+unfolding tag_of nearest_of check_word_of
+closes_by_now = refl
+
+-- Data for an instant whose wait is over already is taken, and the next tick closes it.
+late_ones_are_taken : instants (after absolute (begun absolute) (tick_at 3 ∷ data_of 0 1 body_3 ∷ tick_at 3 ∷ ToPop ∷ [])) ≡ 57478860001 ∷ []
+late_ones_are_taken = refl
+
+-- A tick with now 1 closes no row that is not complete; one that is complete closes at any now.
+now_1 : instants (after absolute (begun absolute) (data_of 0 1 body_3 ∷ ToTick 1 all ∷ ToTick 1 all ∷ ToPop ∷ [])) ≡ []
+now_1 = refl
+
+complete_at_any_now : instants (after absolute (begun absolute) (data_of 0 1 body_3 ∷ data_of 1 1 body_4 ∷ ToTick 1 all ∷ ToPop ∷ [])) ≡ 57478860001 ∷ []
+complete_at_any_now = refl

@@ -1,136 +1,144 @@
 -- What a step is answered after a life, and which lives there are (this profile).
-use Rattle.std.specs.Prelude.{◌≡◌, ℕ, ◌+◌, ◌-◌, ◌*◌, ◌^◌, ◌<◌, ◌==◌, Bool, ◌&&◌, not, List, [], ◌∷◌, ◌++◌, length, nat_eq, nat_lt, nat_le, if◌then◌else◌, Option, None, Some}
+use Rattle.std.specs.Prelude.{◌≡◌, ℕ, ◌+◌, ◌-◌, ◌^◌, Bool, ◌&&◌, true, false, not, List, [], ◌∷◌, ◌++◌, map, max, filter, length, replicate, nat_lt, nat_le, if◌then◌else◌, Option, None, Some}
 use Rattle.std.specs.List.{list_all, list_any, slice_get}
-use Rattle.std.specs.Cmp.Lexicographic.{pointwise}
-use Rattle.pdc_cfg.specs.Shape.{word_count_of}
 use Rattle.pdc_cfg.specs.Section.{SectionFields}
-use Rattle.pdc_row.specs.CellView.{CellView}
-use Rattle.pdc_life.specs.declared.given.Given.{Given}
-use Rattle.pdc_life.specs.declared.pmu.Pmu.{Pmu}
-use Rattle.pdc_life.specs.declared.outcome.Outcome.{Outcome}
-use Rattle.pdc_life.specs.declared.outcome.Outcome.TheVariants.{Taken, Candidate, Known, Refused}
-use Rattle.pdc_life.specs.declared.outcome.Refusal.TheVariants.{StaleCount, CountConflict, NoConfig, WrongLength, Late, Ahead, OutOfWindow, Duplicate, Conflict}
-use Rattle.pdc_life.specs.Arrival.{Arrival, Unread, Data, Configuration, Reads}
-use Rattle.pdc_row.specs.RowView.{RowView}
-use Rattle.pdc_life.specs.Life.{Entry, Arrive, Tick, Pop, Take, cell_in, changes, section_in_force, held_instants, held_section, is_newer, last_of, now_of, pmus_of, take_of, waiting}
-use Rattle.pdc_block.specs.Block.{words_in}
+use Rattle.pdc_row.specs.CellView.{CellView, same_block}
 use Rattle.pdc_row.specs.Rising.{is_near}
+use Rattle.pdc_row.specs.RowView.{RowView}
+use Rattle.pdc_life.specs.declared.outcome.Outcome.{Outcome}
+use Rattle.pdc_life.specs.declared.outcome.Outcome.TheVariants.{Taken, Refused}
+use Rattle.pdc_life.specs.declared.outcome.Refusal.TheVariants.{Late, Ahead, OutOfWindow, Duplicate, Conflict}
+use Rattle.pdc_life.specs.Given.{Given, columns_of, count_for}
+use Rattle.pdc_life.specs.Arrival.{Arrival}
+use Rattle.pdc_life.specs.Life.{Answer, TickAnswer, Entry, Arrive, Tick, Pop, Take, changes, cell_of, cleared_count, held_instants, held_section, is_taken, last_of, now_of, section_in_force, take_of, waiting}
 use Rattle.pdc_life.specs.Row.{rows_of}
 
--- data of which the same was taken already is a duplicate; other data conflicts
-abbrev pub answer_again : Option CellView → List ℕ → Outcome
-answer_again None payload = Refused Duplicate
-answer_again (Some cell) payload = if pointwise nat_eq cell.block.words (words_in payload) then Refused Duplicate else Refused Conflict
+-- The common end of every data answer, of a stream and for an instant, with the cells that the data would give.
 
-abbrev pub take_answer : ℕ → Option Take → List ℕ → Outcome
-take_answer p None payload = Taken
-take_answer p (Some t) payload = answer_again (cell_in p (Some t)) payload
+-- the cell is there and has another block than the one that is given
+abbrev pub is_other : Option CellView → CellView → Bool
+is_other None cell = false
+is_other (Some held) cell = not (same_block held.block cell.block)
 
--- The first cause that holds: of the section in force, and whether the instant is late, ahead, or far from a held one.
-abbrev pub first_cause : Option SectionFields → List ℕ → (late ahead far : Bool) → Outcome → Outcome
-first_cause None payload late ahead far other = Refused NoConfig
-first_cause (Some s) payload late ahead far other =
-    if not (length payload == 2 * word_count_of s.shape) then Refused WrongLength
-    else (if late then Refused Late else (if ahead then Refused Ahead else (if far then Refused OutOfWindow else other)))
+-- the first to be taken stays: other blocks conflict with it, where they are there still, and the rest is a duplicate
+abbrev pub again_answer : Option Take → (conflicts : Bool) → Outcome
+again_answer None conflicts = Taken
+again_answer (Some t) conflicts = if conflicts then Refused Conflict else Refused Duplicate
 
-abbrev pub data_answer : Given → List Entry → ℕ → ℕ → List ℕ → Outcome
-data_answer g E p i payload =
-    first_cause (section_in_force E p) payload (nat_le i (last_of g E)) (nat_lt (now_of g E + g.settings.ahead) i)
-    (not (list_all (is_near g.settings.window i) (held_instants g E))) (take_answer p (take_of E p i) payload)
+-- the first cause that holds
+abbrev pub first_cause : (late ahead far : Bool) → Outcome → Outcome
+first_cause late ahead far other =
+    if late then Refused Late else (if ahead then Refused Ahead else (if far then Refused OutOfWindow else other))
 
--- A section is stale below the held count, new above it, and at the same count known where it has the same bytes.
-abbrev pub configuration_answer : Option SectionFields → SectionFields → Outcome
-configuration_answer None s = Candidate
-configuration_answer (Some held) s =
-    if nat_lt s.count held.count then Refused StaleCount
-    else (if nat_lt held.count s.count then Candidate
-    else (if pointwise nat_eq held.bytes s.bytes then Known else Refused CountConflict))
+abbrev pub outcome_in_time : Given → List Entry → (s i : ℕ) → List (ℕ × CellView) → Outcome
+outcome_in_time g E s i cells =
+    first_cause (nat_le i (last_of g E)) (nat_lt (now_of g E + g.ahead) i)
+    (not (list_all (is_near g.window i) (held_instants g E)))
+    (again_answer (take_of g E s i) (list_any (λ (part : ℕ × CellView). is_other (cell_of E s part.0 i) part.1) cells))
 
--- The answer to an arrival for a PMU after E.
-abbrev pub arrival_answer : Given → List Entry → ℕ → Arrival → Outcome
-arrival_answer g E p (Unread refusal) = Refused refusal
-arrival_answer g E p (Data i quality payload) = data_answer g E p i payload
-arrival_answer g E p (Configuration s) = configuration_answer (held_section E p) s
+-- an outcome with no cells
+abbrev pub bare : Outcome → Answer
+bare outcome = record { outcome = outcome; cells = [] }
 
--- some PMU holds a count that is newer than the one in force
-abbrev pub has_candidate : Given → List Entry → Bool
-has_candidate g E = list_any (λ p. is_newer (held_section E p) (section_in_force E p)) (pmus_of g)
+abbrev pub with_cells : Outcome → List (ℕ × CellView) → Answer
+with_cells outcome cells = record { outcome = outcome; cells = if is_taken outcome then cells else [] }
+
+abbrev pub answer_in_time : Given → List Entry → (s i : ℕ) → List (ℕ × CellView) → Answer
+answer_in_time g E s i cells = with_cells (outcome_in_time g E s i cells) cells
+
+-- Ticks and pops.
+
+-- the count is greater than the one in force, or the first
+abbrev pub is_newer : SectionFields → Option SectionFields → Bool
+is_newer held None = true
+is_newer held (Some in_force) = nat_lt in_force.count held.count
+
+-- what is held is newer than what is in force, and cleared
+abbrev pub is_ready : (held in_force : Option SectionFields) → (cleared : ℕ) → Bool
+is_ready None in_force cleared = false
+is_ready (Some held) in_force cleared = is_newer held in_force && nat_le held.count cleared
+
+-- The columns that a tick after E with these counts adopts, where a change number is left: its counts clear first. A held count
+-- above the cleared one waits.
+abbrev pub ready_columns : Given → List Entry → (counts : List ℕ) → List ℕ
+ready_columns g E counts =
+    filter (λ c. is_ready (held_section g E c) (section_in_force g E c) (max (cleared_count g E c) (count_for c counts))) (columns_of g)
 
 -- a change number is left
 abbrev pub has_change : List Entry → Bool
 has_change E = nat_lt (changes E) (2 ^ 32 - 1)
 
--- The tick after E adopts where some count is newer and a change number is left; where none is left they are used up.
-abbrev pub adopts : Given → List Entry → Bool
-adopts g E = has_change E && has_candidate g E
-
-abbrev pub is_used_up : Given → List Entry → Bool
-is_used_up g E = not (has_change E) && has_candidate g E
+abbrev pub tick_answer : Given → List Entry → (now : ℕ) → (counts : List ℕ) → TickAnswer
+tick_answer g E now counts = record {
+  rows = rows_of g E now;
+  adopted = if has_change E then ready_columns g E counts else [];
+  used_up = not (has_change E) && nat_lt 0 (length (ready_columns g E counts));
+}
 
 -- the row that the pop after E gives: the first that waits
 abbrev pub pop_answer : List Entry → Option RowView
 pop_answer E = slice_get (waiting E) 0
 
--- Bytes arrived for a PMU of the settings, they say this, and it was answered as what came before says.
-pub record HasArrived (g : Given) (E : List Entry) (p : ℕ) (bytes : List ℕ) (arrival : Arrival) (answer : Outcome) : Type 0 where
-  pub pmu : Pmu
-  pub listed : slice_get g.settings.pmus.items p ≡ Some pmu
-  pub reads : Reads g.settings pmu bytes arrival
-  pub answers : answer ≡ arrival_answer g E p arrival
+-- Waiting counts: for each column the greater of the cleared and the held one, and 0 past the last of 16.
+abbrev pub greatest_count : ℕ → Option SectionFields → ℕ
+greatest_count cleared None = cleared
+greatest_count cleared (Some held) = max cleared held.count
 
--- A tick closed the rows that close then, adopted where a count was newer, and told whether the change numbers were used up.
-pub record HasTicked (g : Given) (E : List Entry) (rows : List RowView) (adopted used_up : Bool) : Type 0 where
-  pub closes : rows ≡ rows_of g E
-  pub adoption : adopted ≡ adopts g E
-  pub change_left : used_up ≡ is_used_up g E
+abbrev pub waiting_counts : Given → List Entry → List ℕ
+waiting_counts g E = map (λ c. greatest_count (cleared_count g E c) (held_section g E c)) (columns_of g) ++ replicate (16 - g.columns) 0
 
--- Each step was answered as the steps before it say.
-abbrev pub IsLife : Given → List Entry → Type 0
-IsLife g [] = Unit {0}
-IsLife g (Arrive p bytes arrival answer ∷ E) = HasArrived g E p bytes arrival answer × IsLife g E
-IsLife g (Tick now rows adopted used_up ∷ E) = HasTicked g E rows adopted used_up × IsLife g E
-IsLife g (Pop row ∷ E) = (row ≡ pop_answer E) × IsLife g E
+-- What arrives after E is answered by the rules of a kind of core: those of a node, or those of the merger.
+abbrev pub Rules : Type 0
+Rules = Given → List Entry → (stream : ℕ) → Arrival → Answer
 
--- A step as it happens: bytes arrive for a PMU, its number from 0; a tick, with the instant that is now; a pop.
-pub data StepView : Type 0 where
-  Arrives : (p : ℕ) (bytes : List ℕ) → StepView
-  Ticks : (now : ℕ) → StepView
-  Pops : StepView
+-- Each step was answered as the steps before it say. What bytes may say is a matter of reading, which each kind of core has
+-- of its own.
+abbrev pub IsLife : Rules → (Says : ℕ → List ℕ → Arrival → Type 0) → Given → List Entry → Type 0
+IsLife rules Says g [] = Unit {0}
+IsLife rules Says g (Arrive s bytes arrival answer ∷ E) = Says s bytes arrival × (answer ≡ rules g E s arrival) × IsLife rules Says g E
+IsLife rules Says g (Tick now counts answer ∷ E) = (answer ≡ tick_answer g E now counts) × IsLife rules Says g E
+IsLife rules Says g (Pop row ∷ E) = (row ≡ pop_answer E) × IsLife rules Says g E
 
-abbrev pub step_of : Entry → StepView
-step_of (Arrive p bytes arrival answer) = Arrives p bytes
-step_of (Tick now rows adopted used_up) = Ticks now
+-- a step that is to be answered, with its bytes read
+pub data ReadStep : Type 0 where
+  ToArrive : (stream : ℕ) (bytes : List ℕ) (arrival : Arrival) → ReadStep
+  ToTick : (now : ℕ) (counts : List ℕ) → ReadStep
+  ToPop : ReadStep
+
+-- the step with the answer that it gets after E
+abbrev pub answered : Rules → Given → List Entry → ReadStep → Entry
+answered rules g E (ToArrive s bytes arrival) = Arrive s bytes arrival (rules g E s arrival)
+answered rules g E (ToTick now counts) = Tick now counts (tick_answer g E now counts)
+answered rules g E ToPop = Pop (pop_answer E)
+
+-- the life after these steps, the first of them first
+abbrev pub life_from : Rules → Given → List Entry → List ReadStep → List Entry
+life_from rules g E [] = E
+life_from rules g E (step ∷ steps) = life_from rules g (answered rules g E step ∷ E) steps
+
+-- what the bytes of a step may say
+abbrev pub IsReadStep : (Says : ℕ → List ℕ → Arrival → Type 0) → ReadStep → Type 0
+IsReadStep Says (ToArrive s bytes arrival) = Says s bytes arrival
+IsReadStep Says step = Unit {0}
+
+-- A step as it happens: bytes arrive for a stream, its number from 0; a tick, with the instant that is now and the counts that are
+-- cleared; a pop.
+pub data Step : Type 0 where
+  Arrives : (stream : ℕ) (bytes : List ℕ) → Step
+  Ticks : (now : ℕ) (counts : List ℕ) → Step
+  Pops : Step
+
+abbrev pub step_of : Entry → Step
+step_of (Arrive s bytes arrival answer) = Arrives s bytes
+step_of (Tick now counts answer) = Ticks now counts
 step_of (Pop row) = Pops
 
 -- the steps of a life, the first of them first
-abbrev pub steps_of : List Entry → List StepView
+abbrev pub steps_of : List Entry → List Step
 steps_of [] = []
 steps_of (e ∷ E) = steps_of E ++ step_of e ∷ []
 
 -- The entries are the life of these steps.
-pub record IsLifeOf (g : Given) (steps : List StepView) (E : List Entry) : Type 0 where
-  pub life : IsLife g E
+pub record IsLifeOf (rules : Rules) (Says : ℕ → List ℕ → Arrival → Type 0) (g : Given) (steps : List Step) (E : List Entry) : Type 0 where
+  pub life : IsLife rules Says g E
   pub same_steps : steps_of E ≡ steps
-
--- The step is of a PMU that the settings list.
-abbrev pub IsOfSettings : Given → StepView → Type 0
-IsOfSettings g (Arrives p bytes) = p < length g.settings.pmus.items
-IsOfSettings g (Ticks now) = Unit {0}
-IsOfSettings g Pops = Unit {0}
-
--- a step whose bytes are read
-pub data ReadStep : Type 0 where
-  Heard : (p : ℕ) (bytes : List ℕ) (arrival : Arrival) → ReadStep
-  Ticked : (now : ℕ) → ReadStep
-  Popped : ReadStep
-
--- the step with the answer that it gets after E
-abbrev pub answered : Given → List Entry → ReadStep → Entry
-answered g E (Heard p bytes arrival) = Arrive p bytes arrival (arrival_answer g E p arrival)
-answered g E (Ticked now) = Tick now (rows_of g E) (adopts g E) (is_used_up g E)
-answered g E Popped = Pop (pop_answer E)
-
--- the life after these steps, the first of them first
-abbrev pub life_from : Given → List Entry → List ReadStep → List Entry
-life_from g E [] = E
-life_from g E (s ∷ ss) = life_from g (answered g E s ∷ E) ss

@@ -1,78 +1,111 @@
--- Where the blocks of a row come from (this profile).
-use Rattle.std.specs.Prelude.{◌≡◌, ◌⊎◌, ℕ, Bool, List, [], ◌∷◌, ◌++◌, Option, Some, option_map}
-use Rattle.std.specs.List.{AllByRecursion, Contains, filter_map, slice_get}
+-- Where the blocks of a row come from, and that what was taken is shown (this profile).
+use Rattle.std.specs.Prelude.{◌≡◌, ◌⊎◌, ℕ, ◌<◌, List, [], ◌∷◌, ◌++◌, Option, Some, true, option_map}
+use Rattle.std.specs.List.{AllByRecursion, Contains, filter_map}
 use Rattle.pdc_cfg.specs.Section.{SectionFields}
 use Rattle.pdc_block.specs.Block.{IsBody}
-use Rattle.pdc_row.specs.CellView.{BlockView, absent_view}
+use Rattle.pdc_row.specs.CellView.{BlockView, CellView, absent_view, is_present}
 use Rattle.pdc_row.specs.RowView.{RowView}
-use Rattle.pdc_life.specs.declared.given.Given.{Given}
-use Rattle.pdc_life.specs.declared.pmu.Pmu.{Pmu}
 use Rattle.pdc_life.specs.declared.outcome.Outcome.TheVariants.{Taken}
-use Rattle.pdc_life.specs.Arrival.{Data, IsData}
-use Rattle.pdc_life.specs.Life.{Entry, Arrive, Tick, cell_of, pmus_of, popped, section_in_force, waiting}
-use Rattle.pdc_life.specs.Row.{block_in}
-use Rattle.pdc_life.specs.Answer.{IsLife}
-use Rattle.pdc_life.specs.Laws.{closed}
+use Rattle.pdc_life.specs.declared.given.Settings.{Settings}
+use Rattle.pdc_life.specs.Arrival.{Data}
+use Rattle.pdc_life.specs.Given.{Given, columns_of}
+use Rattle.pdc_life.specs.Laws.{IsRowOfTick}
+use Rattle.pdc_life.specs.Life.{Answer, Entry, Arrive, cell_of, closed, popped, section_in_force, waiting}
+use Rattle.pdc_life.specs.Node.{IsNodeLife, ReadsFor}
+use Rattle.pdc_life.specs.Row.{block_in, chosen_of, row_of}
+use Rattle.pdc_life.specs.Run.{IsRun, IsTicked}
 
--- A data frame of the PMU for the instant was taken in the life when the section was in force already, and its payload is the
--- body with the words of the block.
-pub record HasBrought (g : Given) (E : List Entry) (p i : ℕ) (s : SectionFields) (b : BlockView) : Type 0 where
-  -- the frame stands in the life
+-- Data of the stream for the instant was taken in the life, and gave the cell for the column. What was in force of the column then
+-- is in force still.
+pub record HasGiven (g : Given) (E : List Entry) (s c i : ℕ) (cell : CellView) : Type 0 where
   pub later : List Entry
   pub earlier : List Entry
   pub bytes : List ℕ
   pub quality : ℕ
   pub payload : List ℕ
-  pub stands : E ≡ later ++ Arrive p bytes (Data i quality payload) Taken ∷ earlier
-  -- its bytes are a data frame of the PMU's stream for the instant
-  pub pmu : Pmu
-  pub listed : slice_get g.settings.pmus.items p ≡ Some pmu
-  pub reads : IsData g.settings pmu bytes i quality payload
-  -- the section was in force when it came
-  pub in_force : section_in_force earlier p ≡ Some s
-  -- the block is what its payload says under the section
-  pub shape : b.shape ≡ s.shape
-  pub body : IsBody s.shape payload b.words
+  pub answer : Answer
+  pub stands : E ≡ later ++ Arrive s bytes (Data i quality payload) answer ∷ earlier
+  pub taken : answer.outcome ≡ Taken
+  pub among : Contains answer.cells (c, cell)
+  pub in_force : section_in_force g earlier c ≡ section_in_force g E c
+
+-- A cell was given by data that was taken since its column was adopted.
+abbrev pub CellsWereGiven : Type 0
+CellsWereGiven = (g : Given) (E : List Entry) (s c i : ℕ) (cell : CellView) → cell_of E s c i ≡ Some cell → HasGiven g E s c i cell
+
+-- The block is that of a cell that was given for the column.
+pub record HasBrought (g : Given) (E : List Entry) (c i : ℕ) (s : SectionFields) (b : BlockView) : Type 0 where
+  pub stream : ℕ
+  pub cell : CellView
+  pub given : HasGiven g E stream c i cell
+  pub in_force : section_in_force g E c ≡ Some s
+  pub block : cell.block ≡ b
 
 -- The block is the absent one of the section's shape, or was brought.
-abbrev pub IsGenuine : Given → List Entry → ℕ → ℕ → SectionFields → BlockView → Type 0
-IsGenuine g E p i s b = (b ≡ absent_view s.shape) ⊎ HasBrought g E p i s b
+abbrev pub IsGenuine : Given → List Entry → (c i : ℕ) → SectionFields → BlockView → Type 0
+IsGenuine g E c i s b = (b ≡ absent_view s.shape) ⊎ HasBrought g E c i s b
 
--- a PMU with its section in force, if it has one
-abbrev pub with_section : List Entry → ℕ → Option (ℕ × SectionFields)
-with_section E p = option_map (λ (s : SectionFields). (p, s)) (section_in_force E p)
-
--- the PMUs that have a section in force, each with it, in the order of the settings
-abbrev pub pmus_in_force : Given → List Entry → List (ℕ × SectionFields)
-pmus_in_force g E = filter_map (with_section E) (pmus_of g)
-
--- The blocks are genuine ones of these PMUs: one for each, in their order.
-abbrev pub AreGenuine : Given → List Entry → ℕ → List (ℕ × SectionFields) → List BlockView → Type 0
-AreGenuine g E i [] [] = Unit {0}
-AreGenuine g E i (ps ∷ sections) (b ∷ blocks) = IsGenuine g E ps.0 i ps.1 b × AreGenuine g E i sections blocks
-AreGenuine g E i _ _ = ⊥
-
--- The row closed at a tick of the life, and its blocks are genuine in the life before that tick, one for each PMU that had a
--- section in force then.
-pub record IsGenuineRow (g : Given) (E : List Entry) (r : RowView) : Type 0 where
-  pub later : List Entry
-  pub before : List Entry
-  pub now : ℕ
-  pub rows : List RowView
-  pub adopted : Bool
-  pub used_up : Bool
-  pub stands : E ≡ later ++ Tick now rows adopted used_up ∷ before
-  pub among : Contains rows r
-  pub blocks : AreGenuine g before r.instant (pmus_in_force g before) r.blocks
-
--- In every life the block that a PMU has for an instant is genuine.
+-- In every life the block that a column has for an instant is genuine.
 abbrev pub BlocksAreGenuine : Type 0
 BlocksAreGenuine =
-    (g : Given) (E : List Entry) (p i : ℕ) (s : SectionFields) (b : BlockView) →
-    IsLife g E → section_in_force E p ≡ Some s → block_in (section_in_force E p) (cell_of E p i) ≡ Some b → IsGenuine g E p i s b
+    (g : Given) (E : List Entry) (c i : ℕ) (s : SectionFields) (b : BlockView) → section_in_force g E c ≡ Some s →
+    block_in (section_in_force g E c) (chosen_of g E c i) ≡ Some b → IsGenuine g E c i s b
+
+-- the columns that have a section in force, each with it, in their order
+abbrev pub with_section : Given → List Entry → ℕ → Option (ℕ × SectionFields)
+with_section g E c = option_map (λ (s : SectionFields). (c, s)) (section_in_force g E c)
+
+abbrev pub columns_in_force : Given → List Entry → List (ℕ × SectionFields)
+columns_in_force g E = filter_map (with_section g E) (columns_of g)
+
+-- The blocks are genuine ones of these columns: one for each, in their order.
+abbrev pub AreGenuine : Given → List Entry → (i : ℕ) → List (ℕ × SectionFields) → List BlockView → Type 0
+AreGenuine g E i [] [] = Unit {0}
+AreGenuine g E i (part ∷ parts) (b ∷ blocks) = IsGenuine g E part.0 i part.1 b × AreGenuine g E i parts blocks
+AreGenuine g E i _ _ = ⊥
+
+-- The row closed at a tick of the life, and its blocks are genuine in the life before that tick, one for each column that had a
+-- section in force then.
+pub record IsGenuineRow (g : Given) (E : List Entry) (r : RowView) : Type 0 where
+  pub of_tick : IsRowOfTick g E r
+  pub blocks : AreGenuine g of_tick.before r.instant (columns_in_force g of_tick.before) r.blocks
 
 -- In every life the blocks of each row are genuine: of those that closed, that wait and that were popped.
 abbrev pub RowsAreGenuine : Type 0
 RowsAreGenuine =
-    (g : Given) (E : List Entry) → IsLife g E →
+    (g : Given) (E : List Entry) → IsTicked g E →
     AllByRecursion (IsGenuineRow g E) (closed E) × AllByRecursion (IsGenuineRow g E) (waiting E) × AllByRecursion (IsGenuineRow g E) (popped E)
+
+-- At a node the data is a frame of the PMU for the instant, and its payload is the body with the words of the block, under the
+-- section in force.
+pub record IsNodeData (settings : Settings) (E : List Entry) (p i : ℕ) (s : SectionFields) (cell : CellView) : Type 0 where
+  pub later : List Entry
+  pub earlier : List Entry
+  pub bytes : List ℕ
+  pub quality : ℕ
+  pub payload : List ℕ
+  pub answer : Answer
+  pub stands : E ≡ later ++ Arrive p bytes (Data i quality payload) answer ∷ earlier
+  pub taken : answer.outcome ≡ Taken
+  pub reads : ReadsFor settings p bytes (Data i quality payload)
+  pub same_quality : cell.quality ≡ quality
+  pub shape : cell.block.shape ≡ s.shape
+  pub body : IsBody s.shape payload cell.block.words
+
+-- What a cell of a node was given by: the data of its own PMU.
+abbrev pub NodeCellsAreData : Type 0
+NodeCellsAreData =
+    (settings : Settings) (g : Given) (E : List Entry) (s c i : ℕ) (f : SectionFields) (cell : CellView) → IsNodeLife settings g E →
+    section_in_force g E c ≡ Some f → HasGiven g E s c i cell → (s ≡ c) × IsNodeData settings E c i f cell
+
+-- What was taken since its column was adopted, and is present, is shown in the row: the chosen cell is, and one is chosen where a
+-- cell is present, that of the lowest lane.
+abbrev pub ChosenIsShown : Type 0
+ChosenIsShown =
+    (g : Given) (E : List Entry) (c i : ℕ) (cell : CellView) → IsRun g E → c < g.columns → chosen_of g E c i ≡ Some cell →
+    Contains (row_of g E i).blocks cell.block
+
+abbrev pub NodeTakenIsShown : Type 0
+NodeTakenIsShown =
+    (settings : Settings) (g : Given) (E : List Entry) (p i : ℕ) (cell : CellView) → IsNodeLife settings g E → p < g.columns →
+    cell_of E p p i ≡ Some cell → is_present cell.block ≡ true → Contains (row_of g E i).blocks cell.block

@@ -1,78 +1,71 @@
--- What holds of every life (this profile).
-use Rattle.std.specs.Prelude.{◌≡◌, ◌↔◌, ℕ, ◌+◌, ◌*◌, ◌<◌, ◌≤◌, List, [], ◌∷◌, ◌++◌, length, true, IsTrue, is_some, Option, Some, None, ◌==◌, if◌then◌else◌}
-use Rattle.std.specs.List.{AllByRecursion, list_all}
-use Rattle.pdc_cfg.specs.Shape.{word_count_of}
+-- What holds of every life: rows, change numbers and counts (this profile).
+use Rattle.std.specs.Prelude.{◌≡◌, ℕ, ◌*◌, ◌<◌, ◌≤◌, List, ◌∷◌, ◌++◌, Some, [], if◌then◌else◌, ◌+◌, true}
+use Rattle.std.specs.List.{AllByRecursion, Contains}
 use Rattle.pdc_cfg.specs.Section.{SectionFields}
-use Rattle.pdc_life.specs.declared.given.Given.{Given}
-use Rattle.pdc_life.specs.Arrival.{Configuration}
+use Rattle.pdc_row.specs.Rising.{AreBelow, Rises}
 use Rattle.pdc_row.specs.RowView.{RowView, row_instants}
-use Rattle.pdc_life.specs.Life.{Entry, Arrive, Tick, section_in_force, held_instants, held_section, last_of, now_of, open_instants, take_of}
-use Rattle.pdc_row.specs.Rising.{AreBelow, Rises, is_near}
-use Rattle.pdc_life.specs.Row.{closing, is_due}
-use Rattle.pdc_life.specs.Answer.{IsLife, data_answer}
-use Rattle.pdc_life.specs.declared.outcome.Outcome.TheVariants.{Taken}
+use Rattle.pdc_life.specs.declared.given.Settings.{Settings}
+use Rattle.pdc_life.specs.declared.merging.MergerSettings.{MergerSettings}
+use Rattle.pdc_life.specs.Given.{Given, count_for}
+use Rattle.pdc_life.specs.Life.{Entry, Tick, TickAnswer, changes, cleared_count, closed, is_adoption, popped, section_in_force, waiting}
+use Rattle.pdc_life.specs.MergerReading.{IsMergerLife}
+use Rattle.pdc_life.specs.Node.{IsNodeLife}
+use Rattle.pdc_life.specs.Row.{closing, is_due, row_of}
+use Rattle.pdc_life.specs.Life.{open_instants}
+use Rattle.pdc_life.specs.Run.{IsRun, IsTicked}
 
--- the rows that closed, the first to close first
-abbrev pub closed : List Entry → List RowView
-closed [] = []
-closed (Tick now rows adopted used_up ∷ E) = closed E ++ rows
-closed (e ∷ E) = closed E
+-- The premises of what node and merger have in common: ticks and pops are answered as in every life; and what was taken is sound.
+abbrev pub NodeLivesAreRuns : Type 0
+NodeLivesAreRuns = (settings : Settings) (g : Given) (E : List Entry) → IsNodeLife settings g E → IsRun g E
 
--- In every life the instants of the rows rise strictly, and lie above the floor.
+abbrev pub MergerLivesAreTicked : Type 0
+MergerLivesAreTicked = (settings : MergerSettings) (g : Given) (E : List Entry) → IsMergerLife settings g E → IsTicked g E
+
+-- In every life the instants of the rows that closed rise strictly, and lie above the floor.
 abbrev pub RowsRise : Type 0
-RowsRise = (g : Given) (E : List Entry) → IsLife g E → Rises g.floor (row_instants (closed E))
+RowsRise = (g : Given) (E : List Entry) → IsTicked g E → Rises g.floor (row_instants (closed E))
 
--- A PMU that has a count never loses it.
-abbrev pub CountsStay : Type 0
-CountsStay = (E : List Entry) (e : Entry) (p : ℕ) → IsTrue (is_some (section_in_force E p)) → IsTrue (is_some (section_in_force (e ∷ E) p))
+-- Each row that closed was popped or waits, in the order of closing.
+abbrev pub RowsComeOutOnce : Type 0
+RowsComeOutOnce = (g : Given) (E : List Entry) → IsTicked g E → closed E ≡ popped E ++ waiting E
 
--- Data of a PMU for an instant that comes in time: a section is in force, the data has its length, the instant is above the
--- last one closed, at most ahead above now, and near every instant held, and nothing was taken of the PMU for it.
-pub record IsInTime (g : Given) (E : List Entry) (p i : ℕ) (payload : List ℕ) : Type 0 where
-  pub section : SectionFields
-  pub in_force : section_in_force E p ≡ Some section
-  pub size : length payload ≡ 2 * word_count_of section.shape
-  pub later : last_of g E < i
-  pub not_ahead : i ≤ now_of g E + g.settings.ahead
-  pub near : list_all (is_near g.settings.window i) (held_instants g E) ≡ true
-  pub first : take_of E p i ≡ None
+-- The row closed at a tick of the life, and is the row of its instant in the life before that tick: start, change, quality and
+-- every block.
+pub record IsRowOfTick (g : Given) (E : List Entry) (row : RowView) : Type 0 where
+  pub later : List Entry
+  pub before : List Entry
+  pub now : ℕ
+  pub counts : List ℕ
+  pub answer : TickAnswer
+  pub stands : E ≡ later ++ Tick now counts answer ∷ before
+  pub among : Contains answer.rows row
+  pub closes : Contains (closing g before now) row.instant
+  pub same : row ≡ row_of g before row.instant
 
--- What is taken came in time, and what comes in time is taken.
-abbrev pub TakenIsInTime : Type 0
-TakenIsInTime =
-    (g : Given) (E : List Entry) (p i : ℕ) (payload : List ℕ) →
-    (data_answer g E p i payload ≡ Taken) ↔ IsInTime g E p i payload
+abbrev pub RowsAreOfTheirTicks : Type 0
+RowsAreOfTheirTicks = (g : Given) (E : List Entry) → IsTicked g E → AllByRecursion (IsRowOfTick g E) (closed E)
 
--- An instant that closed never opens again: data is taken only for an instant above the floor and each one that closed.
-abbrev pub ClosedStayClosed : Type 0
-ClosedStayClosed =
-    (g : Given) (E : List Entry) (p i : ℕ) (payload : List ℕ) →
-    data_answer g E p i payload ≡ Taken → (g.floor < i) × AreBelow i (row_instants (closed E))
+-- A step changes the change number only where it is a tick that adopts, and then by one.
+abbrev pub ChangesRiseByOne : Type 0
+ChangesRiseByOne = (E : List Entry) (e : Entry) → changes (e ∷ E) ≡ (if is_adoption e then changes E + 1 else changes E)
+
+abbrev pub ChangesNeverFall : Type 0
+ChangesNeverFall = (E F : List Entry) → changes E ≤ changes (F ++ E)
+
+-- While one change number stands, nothing in force changes.
+abbrev pub SameChangeSameSections : Type 0
+SameChangeSameSections =
+    (g : Given) (E F : List Entry) → changes (F ++ E) ≡ changes E → (c : ℕ) → section_in_force g (F ++ E) c ≡ section_in_force g E c
+
+-- What is in force is cleared, and not below the opening count. So over marks that keep the cleared counts no life adopts a count
+-- below one that an earlier life adopted.
+abbrev pub InForceIsCleared : Type 0
+InForceIsCleared =
+    (g : Given) (E : List Entry) (c : ℕ) (s : SectionFields) → IsTicked g E → section_in_force g E c ≡ Some s →
+    (count_for c g.counts ≤ s.count) × (s.count ≤ cleared_count g E c)
 
 -- No instant closes while an open one below it is not due.
 abbrev pub NoneOvertakes : Type 0
 NoneOvertakes =
-    (g : Given) (E : List Entry) →
-    AllByRecursion (λ i. AllByRecursion (λ j. j ≤ i → is_due g E j ≡ true) (open_instants g E)) (closing g E)
-
--- the valid configurations of a PMU that arrived, the newest first
-abbrev pub arrived : List Entry → ℕ → List SectionFields
-arrived [] p = []
-arrived (Arrive q bytes (Configuration s) answer ∷ E) p = if q == p then s ∷ arrived E p else arrived E p
-arrived (e ∷ E) p = arrived E p
-
--- the section is of the greatest count of these, which came the newest first, and the first of that count to come
-pub record IsFirstGreatest (sections : List SectionFields) (s : SectionFields) : Type 0 where
-  pub newer : List SectionFields
-  pub older : List SectionFields
-  pub stands : sections ≡ newer ++ s ∷ older
-  pub not_greater : AllByRecursion (λ (t : SectionFields). t.count ≤ s.count) newer
-  pub lower : AllByRecursion (λ (t : SectionFields). t.count < s.count) older
-
--- Held is the greatest count that came, with the first section of it; none where none came.
-abbrev pub IsHeld : List SectionFields → Option SectionFields → Type 0
-IsHeld sections None = sections ≡ []
-IsHeld sections (Some s) = IsFirstGreatest sections s
-
-abbrev pub HeldIsGreatest : Type 0
-HeldIsGreatest = (E : List Entry) (p : ℕ) → IsHeld (arrived E p) (held_section E p)
+    (g : Given) (E : List Entry) (now : ℕ) →
+    AllByRecursion (λ i. AllByRecursion (λ j. j ≤ i → is_due g E now j ≡ true) (open_instants g E)) (closing g E now)

@@ -1,47 +1,68 @@
 -- When an open instant closes, and the row that it closes to (this profile).
-use Rattle.std.specs.Prelude.{ℕ, ◌+◌, Bool, ◌||◌, not, List, map, filter, nat_le, Option, None, Some, is_none, is_some, option_map}
+use Rattle.std.specs.Prelude.{ℕ, ◌+◌, ◌==◌, Bool, true, ◌||◌, not, List, map, filter, nat_le, if◌then◌else◌, Option, None, Some, is_some, option_map}
 use Rattle.std.specs.List.{list_all, filter_map}
 use Rattle.pdc_cfg.specs.Section.{SectionFields}
 use Rattle.pdc_row.specs.CellView.{BlockView, CellView}
-use Rattle.pdc_row.specs.Chosen.{block_or_absent, present_of}
+use Rattle.pdc_row.specs.Chosen.{block_or_absent, first_of, present_of}
 use Rattle.pdc_row.specs.Quality.{quality_of, time_quality_of}
-use Rattle.pdc_life.specs.declared.given.Given.{Given}
 use Rattle.pdc_row.specs.RowView.{RowView}
-use Rattle.pdc_life.specs.Life.{Entry, age_of, cell_of, changes, section_in_force, open_instants, pmus_of, take_of}
+use Rattle.pdc_life.specs.declared.given.WaitKind.{WaitKind}
+use Rattle.pdc_life.specs.declared.given.WaitKind.TheVariants.{Relative, Absolute}
+use Rattle.pdc_life.specs.Given.{Given, columns_of, streams_of}
+use Rattle.pdc_life.specs.Life.{Entry, age_of, cell_of, changes, open_instants, section_in_force, take_of}
 
--- the PMU has no count in force, or its data for the instant was taken since it has
-abbrev pub has_come : List Entry → ℕ → ℕ → Bool
-has_come E i p = is_none (section_in_force E p) || is_some (take_of E p i)
+-- An instant waits for a stream: with one lane where its column has a section in force, with two always.
+abbrev pub is_required : Given → List Entry → ℕ → Bool
+is_required g E s = if g.lanes == 1 then is_some (section_in_force g E s) else true
 
--- At the tick after E an instant is due where the data of every PMU with a count has come, or its age has reached the wait,
--- this tick counted.
-abbrev pub is_due : Given → List Entry → ℕ → Bool
-is_due g E i = list_all (has_come E i) (pmus_of g) || nat_le g.settings.wait (age_of E i + 1)
+abbrev pub is_not_awaited : Given → List Entry → ℕ → ℕ → Bool
+is_not_awaited g E i s = not (is_required g E s) || is_some (take_of g E s i)
 
--- The instants that close at the tick after E: the open ones for which every open one up to them is due.
-abbrev pub closing : Given → List Entry → List ℕ
-closing g E = filter (λ i. list_all (λ j. not (nat_le j i) || is_due g E j) (open_instants g E)) (open_instants g E)
+-- The wait of an instant is over, at this age or at this now. A relative wait counts ticks, an absolute one instants.
+abbrev pub is_over : WaitKind → (wait age now i : ℕ) → Bool
+is_over Relative wait age now i = nat_le wait age
+is_over Absolute wait age now i = nat_le (i + wait) now
 
--- the block of a PMU under the section in force: what was taken, else the absent block; none without a section
+-- At a tick after E an instant is due where each stream that it waits for has come, or its wait is over, this tick counted.
+abbrev pub is_due : Given → List Entry → (now i : ℕ) → Bool
+is_due g E now i = list_all (is_not_awaited g E i) (streams_of g) || is_over g.wait_kind g.wait (age_of E i + 1) now i
+
+-- The instants that close at the tick: the open ones for which every open one up to them is due.
+abbrev pub closing : Given → List Entry → (now : ℕ) → List ℕ
+closing g E now =
+    filter (λ i. list_all (λ j. not (nat_le j i) || is_due g E now j) (open_instants g E)) (open_instants g E)
+
+-- what the lanes of a column hold; with one lane each column has its own stream
+abbrev pub first_cell : Given → List Entry → (c i : ℕ) → Option CellView
+first_cell g E c i = cell_of E (if g.lanes == 1 then c else 0) c i
+
+abbrev pub second_cell : Given → List Entry → (c i : ℕ) → Option CellView
+second_cell g E c i = if g.lanes == 1 then None else cell_of E 1 c i
+
+-- The cell of the lowest lane whose block is present.
+abbrev pub chosen_of : Given → List Entry → (c i : ℕ) → Option CellView
+chosen_of g E c i = first_of (present_of (first_cell g E c i)) (present_of (second_cell g E c i))
+
+-- the block of a column under the section in force: the chosen one, else the absent one; none without a section
 abbrev pub block_in : Option SectionFields → Option CellView → Option BlockView
-block_in None cell = None
-block_in (Some s) cell = Some (block_or_absent s.shape (present_of cell))
+block_in None chosen = None
+block_in (Some s) chosen = Some (block_or_absent s.shape chosen)
 
--- the time quality that it gives: that of a block that is present
+-- the time quality that it gives
 abbrev pub quality_in : Option SectionFields → Option CellView → Option ℕ
-quality_in None cell = None
-quality_in (Some s) cell = option_map time_quality_of (present_of cell)
+quality_in None chosen = None
+quality_in (Some s) chosen = option_map time_quality_of chosen
 
--- The row of an instant, under the counts and the stamp before the tick.
+-- The row of an instant, under the sections in force and the stamp before the tick.
 abbrev pub row_of : Given → List Entry → ℕ → RowView
 row_of g E i = record {
   start = g.start;
   change = changes E;
   instant = i;
-  quality = quality_of (filter_map (λ p. quality_in (section_in_force E p) (cell_of E p i)) (pmus_of g));
-  blocks = filter_map (λ p. block_in (section_in_force E p) (cell_of E p i)) (pmus_of g);
+  quality = quality_of (filter_map (λ c. quality_in (section_in_force g E c) (chosen_of g E c i)) (columns_of g));
+  blocks = filter_map (λ c. block_in (section_in_force g E c) (chosen_of g E c i)) (columns_of g);
 }
 
--- The rows that close at the tick after E, in rising order.
-abbrev pub rows_of : Given → List Entry → List RowView
-rows_of g E = map (row_of g E) (closing g E)
+-- The rows that close at the tick, in rising order.
+abbrev pub rows_of : Given → List Entry → (now : ℕ) → List RowView
+rows_of g E now = map (row_of g E) (closing g E now)

@@ -2,16 +2,15 @@
 use Rattle.std.specs.Prelude.{◌*◌, ◌<◌, List}
 use Rattle.std.specs.List.{AllByRecursion}
 use Rattle.pdc_row.specs.RowView.{RowView, row_instants}
-use Rattle.pdc_life.specs.declared.given.Given.{Given}
-use Rattle.pdc_life.specs.Laws.{closed}
-use Rattle.pdc_life.specs.Life.{Entry, popped, waiting}
-use Rattle.pdc_life.specs.Answer.{IsLife}
+use Rattle.pdc_life.specs.Given.{Given}
+use Rattle.pdc_life.specs.Life.{Entry, closed, popped, waiting}
+use Rattle.pdc_life.specs.Run.{IsRun}
 
 -- Each row's instant lies in a second that SOC can name, which has 32 bits (C37.118.2-2011, 6.2, table 2): there are
 -- 4294967296 seconds, of as many instants each as the rate.
 abbrev pub HaveTags : Given → List RowView → Type 0
-HaveTags g rows = AllByRecursion (λ n. n < 4294967296 * g.settings.rate) (row_instants rows)
+HaveTags g rows = AllByRecursion (λ n. n < 4294967296 * g.output.rate) (row_instants rows)
 
 -- In every life it is so of the rows that closed, of those that wait and of those that were popped.
 abbrev pub RowsHaveTags : Type 0
-RowsHaveTags = (g : Given) (E : List Entry) → IsLife g E → HaveTags g (closed E) × HaveTags g (waiting E) × HaveTags g (popped E)
+RowsHaveTags = (g : Given) (E : List Entry) → IsRun g E → HaveTags g (closed E) × HaveTags g (waiting E) × HaveTags g (popped E)

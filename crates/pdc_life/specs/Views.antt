@@ -1,10 +1,12 @@
 -- What contracts see of what bytes say, wherever they lie in memory.
+use Rattle.std.specs.Prelude.{ℕ, [], ◌∷◌, None}
 use Rattle.pdc_cfg.specs.Section.{fields_of_view}
 use Rattle.pdc_life.specs.declared.reading.Reading.{Reading}
 use Rattle.pdc_life.specs.declared.reading.Reading.TheVariants as reading
-use Rattle.pdc_life.specs.Arrival.{Arrival, Unread, Data, Configuration}
+use Rattle.pdc_life.specs.Arrival.{Arrival, BytesRefused, Data, Layout}
 
-abbrev pub arrival_view : Reading → Arrival
-arrival_view (reading.Unread refusal) = Unread refusal
-arrival_view (reading.Data instant quality payload) = Data instant quality payload.now
-arrival_view (reading.Configuration section) = Configuration (fields_of_view section)
+-- for the stream with this number, whose column it is too
+abbrev pub arrival_view : (p : ℕ) → Reading → Arrival
+arrival_view p (reading.BytesRefused refusal) = BytesRefused refusal
+arrival_view p (reading.Data instant quality payload) = Data instant quality payload.now
+arrival_view p (reading.Configuration section) = Layout None ((p, fields_of_view section) ∷ [])

@@ -3,7 +3,8 @@ ghost use Rattle.std.specs.Prelude.{◌≡◌, ℕ, List};
 ghost use Rattle.pdc_frame.specs.Frame.{fields_of};
 ghost use Rattle.pdc_frame.specs.declared.frame.Kind.TheVariants.{DataFrame, Cfg2};
 ghost use Rattle.pdc_cfg.specs.Config.{config_fields_of};
-ghost use Rattle.pdc_life.specs.Arrival.{HasConfig, IsOfStream, Reads};
+ghost use Rattle.pdc_life.specs.NodeReading.{Reads, stream_of};
+ghost use Rattle.pdc_life.specs.Reading.{HasConfig, IsOfStream};
 ghost use Rattle.pdc_life.specs.Views.{arrival_view};
 
 use crate::given::Settings;
@@ -17,7 +18,7 @@ use pdc_tag::instant;
 #[derive(Clone, Copy, Debug)]
 pub enum Reading<'a> {
     /// They are refused.
-    Unread(Refusal),
+    BytesRefused(Refusal),
     /// A data frame of the PMU's stream.
     Data {
         /// The instant of its tag.
@@ -33,65 +34,67 @@ pub enum Reading<'a> {
 
 /// What bytes say that arrived for a PMU. It takes no memory: the payload and the section are lent from the bytes.
 pub fn read_arrival<'a>(settings: &Settings, pmu: &Pmu, bytes: &'a [u8]) -> Reading<'a>
-    ensures { Reads settings.now pmu.now bytes.now (arrival_view result) }
+    // It is so for the PMU of any number: a configuration is of its column.
+    ensures { (p : ℕ) → Reads settings.now p pmu.now bytes.now (arrival_view p result) }
 {
     let frame = match read_frame(bytes) {
         Ok(frame) => frame,
-        Err(fault) => return Reading::Unread(Refusal::NoFrame(fault)),
+        Err(fault) => return Reading::BytesRefused(Refusal::NoFrame(fault)),
     };
     if frame.id != pmu.stream {
-        return Reading::Unread(Refusal::WrongId);
+        return Reading::BytesRefused(Refusal::WrongId);
     }
     match frame.kind {
         Kind::DataFrame => read_data(settings, pmu, &frame),
         Kind::Cfg2 => read_configuration(settings, pmu, &frame),
-        _ => Reading::Unread(Refusal::NoLayout(CfgFault::WrongKind)),
+        _ => Reading::BytesRefused(Refusal::NoConfiguration(CfgFault::WrongKind)),
     }
 }
 
 /// What a data frame of the PMU's stream says.
 fn read_data<'a>(settings: &Settings, pmu: &Pmu, frame: &Frame<'a>) -> Reading<'a>
-    ensures { (bytes : List ℕ) → IsOfStream pmu.now bytes (fields_of frame.now) → frame.now.kind ≡ DataFrame
-        → Reads settings.now pmu.now bytes (arrival_view result) }
+    ensures { (p : ℕ) (bytes : List ℕ) → IsOfStream (stream_of settings.now pmu.now) bytes (fields_of frame.now) → frame.now.kind ≡ DataFrame
+        → Reads settings.now p pmu.now bytes (arrival_view p result) }
 {
-    let rate = u32::from(settings.rate);
+    let rate = u32::from(settings.output.rate);
     match instant(frame.soc, frame.frac, pmu.time_base, rate) {
         Some(instant) => Reading::Data {
             instant,
             quality: frame.quality,
             payload: frame.payload,
         },
-        None => Reading::Unread(Refusal::BadTag),
+        None => Reading::BytesRefused(Refusal::BadTag),
     }
 }
 
 /// What a CFG-2 frame of the PMU's stream says.
 fn read_configuration<'a>(settings: &Settings, pmu: &Pmu, frame: &Frame<'a>) -> Reading<'a>
-    ensures { (bytes : List ℕ) → IsOfStream pmu.now bytes (fields_of frame.now) → frame.now.kind ≡ Cfg2
-        → Reads settings.now pmu.now bytes (arrival_view result) }
+    ensures { (p : ℕ) (bytes : List ℕ) → IsOfStream (stream_of settings.now pmu.now) bytes (fields_of frame.now) → frame.now.kind ≡ Cfg2
+        → Reads settings.now p pmu.now bytes (arrival_view p result) }
 {
     match read_config(frame) {
         Ok(config) => read_section(settings, pmu, &config),
-        Err(fault) => Reading::Unread(Refusal::NoLayout(fault)),
+        Err(fault) => Reading::BytesRefused(Refusal::NoConfiguration(fault)),
     }
 }
 
 /// What a configuration of the PMU's stream says.
 fn read_section<'a>(settings: &Settings, pmu: &Pmu, config: &ConfigView<'a>) -> Reading<'a>
-    ensures { (bytes : List ℕ) → HasConfig pmu.now bytes (config_fields_of config.now) → Reads settings.now pmu.now bytes (arrival_view result) }
+    ensures { (p : ℕ) (bytes : List ℕ) → HasConfig (stream_of settings.now pmu.now) bytes (config_fields_of config.now)
+        → Reads settings.now p pmu.now bytes (arrival_view p result) }
 {
     if config.sections.len() != 1 {
-        return Reading::Unread(Refusal::NoLayout(CfgFault::TooMany));
+        return Reading::BytesRefused(Refusal::NoConfiguration(CfgFault::TooMany));
     }
     if config.time_base != pmu.time_base {
-        return Reading::Unread(Refusal::WrongTimeBase);
+        return Reading::BytesRefused(Refusal::WrongTimeBase);
     }
-    if config.rate.cast_unsigned() != settings.rate {
-        return Reading::Unread(Refusal::WrongRate);
+    if config.rate.cast_unsigned() != settings.output.rate {
+        return Reading::BytesRefused(Refusal::WrongRate);
     }
     let section = config.sections[0];
     if section.source != pmu.source {
-        return Reading::Unread(Refusal::WrongSource);
+        return Reading::BytesRefused(Refusal::WrongSource);
     }
     Reading::Configuration(section)
 }

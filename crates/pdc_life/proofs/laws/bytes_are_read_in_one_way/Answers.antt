@@ -2,7 +2,7 @@ use Rattle.pdc_life.proofs.OneReading.{ReadOnce, one_reading}
 use Rattle.pdc_life.proofs.laws.bytes_are_read_in_one_way.Goals as goal
 
 pub returns : goal.returns
-returns c settings pmu bytes a b h k =
+returns c settings p pmu bytes a b h k =
     let laws : ReadOnce = record {
       same_frame = c.frames_are_read_in_one_way.ensures.same;
       one_fault = c.frames_are_read_in_one_way.ensures.fault;
@@ -12,4 +12,4 @@ returns c settings pmu bytes a b h k =
       no_payload_fault = c.configurations_are_read_in_one_way.ensures.apart;
       instants = c.instant_is_nearest.ensures.computed;
     } in
-    one_reading laws settings pmu bytes a b h k
+    one_reading laws p settings pmu bytes a b h k

@@ -1,5 +1,5 @@
-use Rattle.pdc_life.proofs.StayClosed.{closed_stay_closed}
+use Rattle.pdc_life.proofs.InTime.{closed_stay_closed}
 use Rattle.pdc_life.proofs.laws.closed_stay_closed.Goals as goal
 
 pub returns : goal.returns
-returns c g E p i payload h = closed_stay_closed g E p i payload h
+returns c g E s i quality payload h = closed_stay_closed g E s i quality payload h

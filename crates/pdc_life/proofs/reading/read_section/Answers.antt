@@ -11,12 +11,10 @@ only_one (x ∷ []) s len e = ap (λ (t : SectionView). fields_of_view t ∷ [])
 only_one (x ∷ y ∷ sections) s len e = absurd (omega (arith, len))
 
 pub returns-then-section-pmu : goal.returns-then-section-pmu
-returns-then-section-pmu c bytes has = record {
+returns-then-section-pmu c p bytes has = record {
   config = config_fields_of c.args.config.now;
-  has = has;
+  base = record { has = has; time_base = c.if-config-pmu.false; rate = search rules };
   section = fields_of_view c.index-deref-0.result;
   one = only_one c.args.config.now.sections.items c.index-deref-0.result (search rules) (search rules);
-  time_base = c.if-config-pmu.false;
-  rate = search rules;
   differs = c.if-section-pmu.true;
 }

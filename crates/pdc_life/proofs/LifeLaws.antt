@@ -1,0 +1,138 @@
+-- Laws of all lives: steps make lives, rows come out once and rise, change numbers never fall; and wait rules agree.
+use Rattle.std.proofs.Common.{◌≡◌, ℕ, ◌+◌, ◌-◌, ◌<◌, ◌≤◌, ◌==◌, Bool, true, false, List, [], ◌∷◌, ◌++◌, map, length, filter, cond, drop, ltb, leb, refl, sym, ap, ◌∙◌, subst, arith, rules, Option, inl, inr}
+use Rattle.std.proofs.lemmas.Bool.{cases_lt}
+use Rattle.std.proofs.lemmas.List.{append_assoc}
+use Rattle.std.specs.List.{AllByRecursion, list_any, slice_get}
+use Rattle.std.specs.Option.{option_to_list}
+use Rattle.pdc_row.proofs.Rising.{above_filter, below_greatest, greatest_append, greatest-ge, rises_append, rises_filter, rises_rising}
+use Rattle.pdc_row.specs.Quality.{greatest}
+use Rattle.pdc_row.specs.Rising.{Rises}
+use Rattle.pdc_row.specs.RowView.{RowView, row_instants}
+use Rattle.pdc_life.specs.Given.{Given}
+use Rattle.pdc_life.specs.Life.{Entry, Arrive, Tick, TickAnswer, Pop, Take, changes, closed, is_adoption, is_adoption_of, last_of, open_instants, popped, takes, waiting}
+use Rattle.pdc_life.specs.Merger.{merged_answer}
+use Rattle.pdc_life.specs.MergerReading.{ReadsForMerger}
+use Rattle.pdc_life.specs.Node.{ReadsFor, node_answer}
+use Rattle.pdc_life.specs.Run.{IsTicked}
+use Rattle.pdc_life.specs.Arrival.{Arrival}
+use Rattle.pdc_life.specs.Answer.{IsLife, IsReadStep, ReadStep, ToArrive, ToTick, ToPop, Rules, answered, life_from}
+use Rattle.pdc_life.specs.Row.{closing, row_of}
+use Rattle.pdc_life.specs.Laws.{ChangesNeverFall, ChangesRiseByOne, MergerLivesAreTicked, RowsComeOutOnce, RowsRise, SameChangeSameSections}
+use Rattle.pdc_life.specs.OneLife.{OneStepMore, StepsMakeMergerLives, StepsMakeNodeLives}
+
+-- the premise of all laws of rows and counts, for every kind of core
+pub lives_are_ticked : (rules : Rules) (Says : ℕ → List ℕ → Arrival → Type 0) (g : Given) (E : List Entry) → IsLife rules Says g E → IsTicked g E
+lives_are_ticked rules Says g [] life = tt
+lives_are_ticked rules Says g (Arrive s bytes arrival answer ∷ E) life = lives_are_ticked rules Says g E life.2
+lives_are_ticked rules Says g (Tick now counts answer ∷ E) life = (life.0, lives_are_ticked rules Says g E life.1)
+lives_are_ticked rules Says g (Pop row ∷ E) life = (life.0, lives_are_ticked rules Says g E life.1)
+
+pub one_step_more : OneStepMore
+one_step_more rules g E [] step = refl
+one_step_more rules g E (s ∷ ss) step = one_step_more rules g (answered rules g E s ∷ E) ss step
+
+-- a pop takes the first of what waits
+first_rest : (rows : List RowView) → option_to_list (slice_get rows 0) ++ drop 1 rows ≡ rows
+first_rest [] = refl
+first_rest (r ∷ rows) = refl
+
+pub rows_come_out_once : RowsComeOutOnce
+rows_come_out_once g [] run = refl
+rows_come_out_once g (Arrive s bytes arrival answer ∷ E) run = rows_come_out_once g E run
+rows_come_out_once g (Tick now counts answer ∷ E) run =
+    ap (λ rows. rows ++ answer.rows) (rows_come_out_once g E run.1) ∙ append_assoc (popped E) (waiting E) answer.rows
+rows_come_out_once g (Pop row ∷ E) run =
+    rows_come_out_once g E run.1
+    ∙ ap (λ rows. popped E ++ rows) (sym (ap (λ (r : Option RowView). option_to_list r ++ drop 1 (waiting E)) run.0 ∙ first_rest (waiting E)))
+    ∙ sym (append_assoc (popped E) (option_to_list row) (drop 1 (waiting E)))
+
+-- rows rise
+instants_append : (rows more : List RowView) → row_instants (rows ++ more) ≡ row_instants rows ++ row_instants more
+instants_append [] more = refl
+instants_append (r ∷ rows) more = ap (λ ns. r.instant ∷ ns) (instants_append rows more)
+
+instants_rows : (g : Given) (E : List Entry) (is : List ℕ) → row_instants (map (row_of g E) is) ≡ is
+instants_rows g E [] = refl
+instants_rows g E (i ∷ is) = ap (λ ns. i ∷ ns) (instants_rows g E is)
+
+pub last_is : (g : Given) (E : List Entry) → last_of g E ≡ greatest g.floor (row_instants (closed E))
+last_is g [] = refl
+last_is g (Tick now counts answer ∷ E) =
+    ap (λ n. greatest n (row_instants answer.rows)) (last_is g E)
+    ∙ sym (ap (λ ns. greatest g.floor ns) (instants_append (closed E) answer.rows) ∙ greatest_append g.floor (row_instants (closed E)) (row_instants answer.rows))
+last_is g (Arrive s bytes arrival answer ∷ E) = last_is g E
+last_is g (Pop row ∷ E) = last_is g E
+
+closing_rises : (g : Given) (E : List Entry) (now : ℕ) → Rises (last_of g E) (closing g E now)
+closing_rises g E now =
+    rises_filter _ (last_of g E) (open_instants g E)
+    (rises_rising (last_of g E) _ (above_filter (last_of g E) (map (λ (t : Take). t.instant) (takes E))))
+
+pub rows_rise : RowsRise
+rows_rise g [] run = tt
+rows_rise g (Tick now counts answer ∷ E) run =
+    let before : Rises g.floor (row_instants (closed E)) = rows_rise g E run.1 in
+    let e : row_instants answer.rows ≡ closing g E now = ap (λ (a : TickAnswer). row_instants a.rows) run.0 ∙ instants_rows g E (closing g E now) in
+    let now_closed : Rises (greatest g.floor (row_instants (closed E))) (row_instants answer.rows) =
+    subst (λ n. Rises n (row_instants answer.rows)) (last_is g E) (subst (λ ns. Rises (last_of g E) ns) (sym e) (closing_rises g E now)) in
+    subst (λ ns. Rises g.floor ns) (sym (instants_append (closed E) answer.rows)) (rises_append g.floor (greatest g.floor (row_instants (closed E))) (row_instants (closed E)) (row_instants answer.rows) (greatest-ge g.floor (row_instants (closed E))) before (below_greatest g.floor (row_instants (closed E))) now_closed)
+rows_rise g (Arrive s bytes arrival answer ∷ E) run = rows_rise g E run
+rows_rise g (Pop row ∷ E) run = rows_rise g E run.1
+
+-- changes
+no_fewer : (b : Bool) (e : Entry) (es : List Entry) → length es ≤ length (cond b (e ∷ es) es)
+no_fewer true e es = omega arith
+no_fewer false e es = omega arith
+
+one_more : (b : Bool) (e : Entry) (es : List Entry) → length (cond b (e ∷ es) es) ≤ length es → b ≡ false
+one_more true e es h = absurd (omega (arith, h))
+one_more false e es h = refl
+
+pub changes_never_fall : ChangesNeverFall
+changes_never_fall E [] = omega arith
+changes_never_fall E (e ∷ F) = omega (arith, changes_never_fall E F, no_fewer (is_adoption e) e (filter is_adoption (F ++ E)))
+
+none_adopted : (c : ℕ) (ds : List ℕ) → ltb 0 (length ds) ≡ false → list_any (λ d. d == c) ds ≡ false
+none_adopted c [] h = refl
+none_adopted c (d ∷ ds) h = search rules
+
+none_of : (c : ℕ) (e : Entry) → is_adoption e ≡ false → is_adoption_of c e ≡ false
+none_of c (Tick now counts answer) h = none_adopted c answer.adopted h
+none_of c (Arrive s bytes arrival answer) h = refl
+none_of c (Pop row) h = refl
+
+pub same_change_same_sections : SameChangeSameSections
+same_change_same_sections g E [] h c = refl
+same_change_same_sections g E (e ∷ F) h c =
+    let up : changes E ≤ changes (F ++ E) = changes_never_fall E F in
+    let quiet : is_adoption e ≡ false = one_more (is_adoption e) e (filter is_adoption (F ++ E)) (omega (arith, h, up)) in
+    let same : changes (F ++ E) ≡ changes E = omega (arith, h, up, no_fewer (is_adoption e) e (filter is_adoption (F ++ E))) in
+    rw (none_of c e quiet) (same_change_same_sections g E F same c)
+
+one_by_one : (b : Bool) (e : Entry) (es : List Entry) → length (cond b (e ∷ es) es) ≡ cond b (length es + 1) (length es)
+one_by_one true e es = omega arith
+one_by_one false e es = refl
+
+pub changes_rise_by_one : ChangesRiseByOne
+changes_rise_by_one E e = one_by_one (is_adoption e) e (filter is_adoption E)
+
+pub merger_lives_are_ticked : MergerLivesAreTicked
+merger_lives_are_ticked settings g E life = lives_are_ticked merged_answer (ReadsForMerger settings) g E life.life
+
+read_step_life : (rules : Rules) (Says : ℕ → List ℕ → Arrival → Type 0) (g : Given) (E : List Entry) (step : ReadStep) → IsLife rules Says g E → IsReadStep Says step → IsLife rules Says g (answered rules g E step ∷ E)
+read_step_life rules Says g E (ToArrive s bytes arrival) life says = (says, refl, life)
+read_step_life rules Says g E (ToTick now counts) life says = (refl, life)
+read_step_life rules Says g E ToPop life says = (refl, life)
+
+steps_make_lives : (rules : Rules) (Says : ℕ → List ℕ → Arrival → Type 0) (g : Given) (E : List Entry) (steps : List ReadStep) → IsLife rules Says g E → AllByRecursion (IsReadStep Says) steps → IsLife rules Says g (life_from rules g E steps)
+steps_make_lives rules Says g E [] life says = life
+steps_make_lives rules Says g E (step ∷ steps) life says =
+    steps_make_lives rules Says g (answered rules g E step ∷ E) steps (read_step_life rules Says g E step life says.0) says.1
+
+pub steps_make_node_lives : StepsMakeNodeLives
+steps_make_node_lives settings g E steps life says =
+    record { given = life.given; life = steps_make_lives node_answer (ReadsFor settings) g E steps life.life says }
+
+pub steps_make_merger_lives : StepsMakeMergerLives
+steps_make_merger_lives settings g E steps life says =
+    record { given = life.given; life = steps_make_lives merged_answer (ReadsForMerger settings) g E steps life.life says }

@@ -1,0 +1,11 @@
+-- What holds of the cells that are taken (this profile).
+use Rattle.std.specs.Prelude.{◌≡◌, ℕ, List, Some}
+use Rattle.pdc_row.specs.CellView.{CellView}
+use Rattle.pdc_life.specs.Given.{Given}
+use Rattle.pdc_life.specs.Life.{Entry, cell_of}
+use Rattle.pdc_life.specs.Run.{IsOfSectionInForce, IsRun}
+
+-- A cell since the adoption of its column is of the section in force: it has its shape, and as many words.
+abbrev pub CellsAreOfSections : Type 0
+CellsAreOfSections =
+    (g : Given) (E : List Entry) (s c i : ℕ) (cell : CellView) → IsRun g E → cell_of E s c i ≡ Some cell → IsOfSectionInForce g E (c, cell)

@@ -1,0 +1,49 @@
+-- The frames of a life (this profile).
+use Rattle.std.specs.Prelude.{◌≡◌, ℕ, ◌^◌, ◌<◌, ◌≤◌, List, ◌∷◌, map}
+use Rattle.std.specs.List.{AllByRecursion}
+use Rattle.pdc_frame.specs.Frame.{IsFrame}
+use Rattle.pdc_cfg.specs.Section.{SectionFields}
+use Rattle.pdc_cfg.specs.declared.shape.Shape.{Shape}
+use Rattle.pdc_block.specs.Block.{IsCut}
+use Rattle.pdc_row.specs.RowView.{RowView}
+use Rattle.pdc_output.specs.Layout.{IsLayout, layout_fields_of, layout_payload_of, own_block, row_fields, row_payload, wire_of}
+use Rattle.pdc_output.specs.Laws.{words_of_row}
+use Rattle.pdc_life.specs.Given.{Given}
+use Rattle.pdc_life.specs.Laws.{IsRowOfTick}
+use Rattle.pdc_life.specs.Life.{Entry, changes, closed}
+use Rattle.pdc_life.specs.Published.{layout_wire, sections_in_force}
+use Rattle.pdc_life.specs.Run.{IsRun, IsTicked}
+
+-- At most 4294967295 ticks of a life adopt.
+abbrev pub ChangesFit : Type 0
+ChangesFit = (g : Given) (E : List Entry) → IsTicked g E → changes E < 2 ^ 32
+
+-- the shapes of the sections in force, in the order of the columns
+abbrev pub shapes_in_force : Given → List Entry → List Shape
+shapes_in_force g E = map (λ (s : SectionFields). s.shape) (sections_in_force g E)
+
+-- The row closed at a tick of the life; its wire is a frame, whose payload is cut, under the own shape and the shapes in force
+-- before that tick, into the own words and the row's.
+pub record IsFramedRow (g : Given) (E : List Entry) (row : RowView) : Type 0 where
+  pub of_tick : IsRowOfTick g E row
+  pub frame : IsFrame (wire_of g.output row) (row_fields g.output row)
+  pub cut : (own : Shape) → own.phasors ≡ 0 → own.analogs ≡ 0 → own.digitals ≡ 4 →
+      IsCut (own ∷ shapes_in_force g of_tick.before) (row_payload row) (own_block g.start (changes of_tick.before) ∷ words_of_row row)
+
+abbrev pub ClosedRowsAreFrames : Type 0
+ClosedRowsAreFrames =
+    (g : Given) (E : List Entry) → IsRun g E → g.columns ≤ 16 → g.start < 2 ^ 32 → AllByRecursion (IsFramedRow g E) (closed E)
+
+-- The layout of every life, of any second, is a frame, whose payload is a configuration with the own section first.
+abbrev pub LayoutsOfLivesAreFrames : Type 0
+LayoutsOfLivesAreFrames =
+    (g : Given) (E : List Entry) (soc : ℕ) → IsRun g E → g.columns ≤ 16 → soc < 2 ^ 32 →
+    IsFrame (layout_wire g E soc) (layout_fields_of g.output g.start (changes E) (sections_in_force g E) soc)
+    × IsLayout g.output g.start (changes E) (sections_in_force g E) (layout_payload_of g.output g.start (changes E) (sections_in_force g E))
+
+-- The layouts of two lives that have the same wire have one stamp, and the same sections: the wire tells them.
+abbrev pub LayoutsTellStamps : Type 0
+LayoutsTellStamps =
+    (g h : Given) (E F : List Entry) (soc other : ℕ) → IsRun g E → IsRun h F → g.columns ≤ 16 → h.columns ≤ 16 →
+    soc < 2 ^ 32 → other < 2 ^ 32 → g.start < 2 ^ 32 → h.start < 2 ^ 32 → layout_wire g E soc ≡ layout_wire h F other →
+    (g.start ≡ h.start) × (changes E ≡ changes F) × (sections_in_force g E ≡ sections_in_force h F)

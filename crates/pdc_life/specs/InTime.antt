@@ -1,0 +1,61 @@
+-- Data in time (this profile).
+use Rattle.std.specs.Prelude.{◌≡◌, ◌↔◌, ◌⊎◌, ℕ, ◌+◌, ◌*◌, ◌<◌, ◌≤◌, List, length, true, None, Some}
+use Rattle.std.specs.List.{list_all}
+use Rattle.pdc_cfg.specs.Shape.{word_count_of}
+use Rattle.pdc_cfg.specs.Section.{SectionFields}
+use Rattle.pdc_row.specs.CellView.{CellView}
+use Rattle.pdc_row.specs.Rising.{AreBelow, is_near}
+use Rattle.pdc_row.specs.RowView.{row_instants}
+use Rattle.pdc_output.specs.Layout.{stamp_words}
+use Rattle.pdc_life.specs.declared.outcome.Outcome.TheVariants.{Taken}
+use Rattle.pdc_life.specs.Answer.{outcome_in_time}
+use Rattle.pdc_life.specs.Arrival.{Data}
+use Rattle.pdc_life.specs.Given.{Given}
+use Rattle.pdc_life.specs.Life.{Entry, closed, held_instants, last_of, now_of, section_in_force, take_of}
+use Rattle.pdc_life.specs.Merger.{HeldLayout, held_layout, merged_answer, own_words, payload_len}
+use Rattle.pdc_life.specs.Node.{node_answer}
+
+-- The instant is in time for the stream: above the last one closed, at most ahead above now, and near every instant held, and
+-- nothing was taken of the stream for it.
+pub record ComesInTime (g : Given) (E : List Entry) (s i : ℕ) : Type 0 where
+  pub later : last_of g E < i
+  pub not_ahead : i ≤ now_of g E + g.ahead
+  pub near : list_all (is_near g.window i) (held_instants g E) ≡ true
+  pub first : take_of g E s i ≡ None
+
+-- What is taken came in time, and what comes in time is taken: the common end of all data answers.
+abbrev pub TakenIsInTime : Type 0
+TakenIsInTime = (g : Given) (E : List Entry) (s i : ℕ) (cells : List (ℕ × CellView)) → (outcome_in_time g E s i cells ≡ Taken) ↔ ComesInTime g E s i
+
+-- At a node a section is in force, the data has its length, and the instant is in time.
+pub record NodeTakes (g : Given) (E : List Entry) (p i : ℕ) (payload : List ℕ) : Type 0 where
+  pub section : SectionFields
+  pub in_force : section_in_force g E p ≡ Some section
+  pub size : length payload ≡ 2 * word_count_of section.shape
+  pub in_time : ComesInTime g E p i
+
+abbrev pub NodeTakesInTime : Type 0
+NodeTakesInTime =
+    (g : Given) (E : List Entry) (p i quality : ℕ) (payload : List ℕ) →
+    ((node_answer g E p (Data i quality payload)).outcome ≡ Taken) ↔ NodeTakes g E p i payload
+
+-- At the merger a layout of the node is held, the data bears its stamp and has the length of its sections, and the instant is in
+-- time.
+pub record MergerTakes (g : Given) (E : List Entry) (s i : ℕ) (payload : List ℕ) : Type 0 where
+  pub layout : HeldLayout
+  pub held : held_layout E s ≡ Some layout
+  pub stamp : own_words payload ≡ stamp_words layout.stamp.start layout.stamp.change
+  pub size : length payload ≡ payload_len layout.sections
+  pub in_time : ComesInTime g E s i
+
+abbrev pub MergerTakesInTime : Type 0
+MergerTakesInTime =
+    (g : Given) (E : List Entry) (s i quality : ℕ) (payload : List ℕ) →
+    ((merged_answer g E s (Data i quality payload)).outcome ≡ Taken) ↔ MergerTakes g E s i payload
+
+-- An instant that closed never opens again: data is taken only for an instant above the floor and each one that closed.
+abbrev pub ClosedStayClosed : Type 0
+ClosedStayClosed =
+    (g : Given) (E : List Entry) (s i quality : ℕ) (payload : List ℕ) →
+    ((node_answer g E s (Data i quality payload)).outcome ≡ Taken) ⊎ ((merged_answer g E s (Data i quality payload)).outcome ≡ Taken) →
+    (g.floor < i) × AreBelow i (row_instants (closed E))

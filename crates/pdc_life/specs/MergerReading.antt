@@ -1,0 +1,117 @@
+-- What the bytes say that arrive from a node at the merger: all that needs no memory of what came before (this profile).
+use Rattle.std.specs.Prelude.{◌≡◌, ◌⊎◌, ℕ, ◌+◌, ◌^◌, ◌<◌, List, [], ◌∷◌, length, map, None, Some}
+use Rattle.std.specs.List.{AllByRecursion, slice_get}
+use Rattle.pdc_frame.specs.Frame as frame
+use Rattle.pdc_cfg.specs.Section.{SectionFields}
+use Rattle.pdc_cfg.specs.Config.{ConfigFields}
+use Rattle.pdc_cfg.specs.declared.fault.CfgFault.TheVariants.{WrongKind}
+use Rattle.pdc_row.specs.Rising.{Rises}
+use Rattle.pdc_output.specs.declared.output.Nominal.TheVariants.{Hz50, Hz60}
+use Rattle.pdc_life.specs.declared.merging.MergedNode.{MergedNode}
+use Rattle.pdc_life.specs.declared.merging.MergerSettings.{MergerSettings}
+use Rattle.pdc_life.specs.declared.outcome.Refusal.{Refusal}
+use Rattle.pdc_life.specs.declared.outcome.Refusal.TheVariants.{NoFrame, WrongId, NoConfiguration, WrongTimeBase, WrongRate, BadOwnBlock, UnknownSource, BadTag}
+use Rattle.pdc_life.specs.Answer.{IsLife}
+use Rattle.pdc_life.specs.Arrival.{Arrival, Stamp, BytesRefused, Data, Layout}
+use Rattle.pdc_life.specs.Given.{Given}
+use Rattle.pdc_output.specs.Layout.{own_bytes}
+use Rattle.pdc_life.specs.Life.{Entry}
+use Rattle.pdc_life.specs.Merger.{merged_answer}
+use Rattle.pdc_life.specs.Reading.{Stream, HasBase, HasNoInstant, HasOtherRate, HasOtherTimeBase, IsBroken, IsData, IsForeign, IsOtherKind}
+
+-- the node of a stream: 0 is A, 1 is B
+abbrev pub nodes_of : MergerSettings → List MergedNode
+nodes_of settings = settings.first ∷ settings.second ∷ []
+
+-- What is given to a life of the merger.
+abbrev pub given_of_merger : MergerSettings → (start floor : ℕ) → (counts : List ℕ) → (opening : ℕ) → Given
+given_of_merger settings start floor counts opening = record {
+  output = settings.output;
+  wait = settings.wait;
+  wait_kind = settings.wait_kind;
+  window = settings.window;
+  ahead = settings.ahead;
+  columns = length settings.sources.items;
+  lanes = 2;
+  start = start;
+  floor = floor;
+  counts = counts;
+  opening = opening;
+}
+
+-- the stream of a node
+abbrev pub stream_from : MergerSettings → MergedNode → Stream
+stream_from settings node = record { id = node.id; time_base = node.time_base; rate = settings.output.rate }
+
+-- The bytes are the own section of a node, with this stamp, for either nominal frequency.
+pub record IsOwn (id : ℕ) (bytes : List ℕ) (stamp : Stamp) : Type 0 where
+  pub start_fits : stamp.start < 2 ^ 32
+  pub change_fits : stamp.change < 2 ^ 32
+  pub spelled : (bytes ≡ own_bytes id Hz50 stamp.start stamp.change) ⊎ (bytes ≡ own_bytes id Hz60 stamp.start stamp.change)
+
+-- Each section stands beside the column of its source, and the columns rise.
+pub record AreOfTable (sources : List ℕ) (sections : List SectionFields) (parts : List (ℕ × SectionFields)) : Type 0 where
+  pub same : map (λ (part : ℕ × SectionFields). part.1) parts ≡ sections
+  pub listed : AllByRecursion (λ (part : ℕ × SectionFields). slice_get sources part.0 ≡ Some part.1.source) parts
+  pub rise : Rises 0 (map (λ (part : ℕ × SectionFields). part.0 + 1) parts)
+
+-- The bytes are a configuration of the node with the right numbers: this first section, and these others.
+pub record HasSections (settings : MergerSettings) (node : MergedNode) (bytes : List ℕ) (own : SectionFields) (others : List SectionFields) : Type 0 where
+  pub config : ConfigFields
+  pub base : HasBase (stream_from settings node) bytes config
+  pub sections : config.sections ≡ own ∷ others
+
+-- They are a layout of the node: its own section with this stamp, then sections of the table, each with its column.
+pub record IsLayoutOf (settings : MergerSettings) (node : MergedNode) (bytes : List ℕ) (stamp : Stamp) (parts : List (ℕ × SectionFields)) : Type 0 where
+  pub own : SectionFields
+  pub others : List SectionFields
+  pub has : HasSections settings node bytes own others
+  pub itself : IsOwn node.id own.bytes stamp
+  pub of_table : AreOfTable settings.sources.items others parts
+
+-- Its first section is not the own one, with any stamp.
+pub record HasNoOwn (settings : MergerSettings) (node : MergedNode) (bytes : List ℕ) : Type 0 where
+  pub own : SectionFields
+  pub others : List SectionFields
+  pub has : HasSections settings node bytes own others
+  pub none : (stamp : Stamp) → IsOwn node.id own.bytes stamp → ⊥
+
+-- It is, and the others are not of the table, or not in its order.
+pub record HasUnknownSource (settings : MergerSettings) (node : MergedNode) (bytes : List ℕ) : Type 0 where
+  pub own : SectionFields
+  pub others : List SectionFields
+  pub has : HasSections settings node bytes own others
+  pub stamp : Stamp
+  pub itself : IsOwn node.id own.bytes stamp
+  pub none : (parts : List (ℕ × SectionFields)) → AreOfTable settings.sources.items others parts → ⊥
+
+-- Why bytes are refused, whatever came before: the first cause that holds.
+abbrev pub IsRefusedFrom : MergerSettings → MergedNode → List ℕ → Refusal → Type 0
+IsRefusedFrom settings node bytes (NoFrame fault) = frame.IsFirstFault bytes fault
+IsRefusedFrom settings node bytes WrongId = IsForeign (stream_from settings node) bytes
+IsRefusedFrom settings node bytes (NoConfiguration WrongKind) = IsOtherKind (stream_from settings node) bytes
+IsRefusedFrom settings node bytes (NoConfiguration fault) = IsBroken (stream_from settings node) bytes fault
+IsRefusedFrom settings node bytes WrongTimeBase = (c : ConfigFields) × HasOtherTimeBase (stream_from settings node) bytes c
+IsRefusedFrom settings node bytes WrongRate = (c : ConfigFields) × HasOtherRate (stream_from settings node) bytes c
+IsRefusedFrom settings node bytes BadOwnBlock = HasNoOwn settings node bytes
+IsRefusedFrom settings node bytes UnknownSource = HasUnknownSource settings node bytes
+IsRefusedFrom settings node bytes BadTag = HasNoInstant (stream_from settings node) bytes
+IsRefusedFrom settings node bytes _ = ⊥
+
+-- What the bytes say that came from a node. A layout has a stamp.
+abbrev pub ReadsFrom : MergerSettings → MergedNode → List ℕ → Arrival → Type 0
+ReadsFrom settings node bytes (BytesRefused refusal) = IsRefusedFrom settings node bytes refusal
+ReadsFrom settings node bytes (Data instant quality payload) = IsData (stream_from settings node) bytes instant quality payload
+ReadsFrom settings node bytes (Layout (Some stamp) parts) = IsLayoutOf settings node bytes stamp parts
+ReadsFrom settings node bytes (Layout None parts) = ⊥
+
+-- The bytes say this of the stream with this number: 0 is A, 1 is B.
+pub record ReadsForMerger (settings : MergerSettings) (s : ℕ) (bytes : List ℕ) (arrival : Arrival) : Type 0 where
+  pub node : MergedNode
+  pub listed : slice_get (nodes_of settings) s ≡ Some node
+  pub reads : ReadsFrom settings node bytes arrival
+
+-- A life of the merger.
+pub record IsMergerLife (settings : MergerSettings) (g : Given) (E : List Entry) : Type 0 where
+  pub given : g ≡ given_of_merger settings g.start g.floor g.counts g.opening
+  pub life : IsLife merged_answer (ReadsForMerger settings) g E

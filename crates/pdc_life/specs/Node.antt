@@ -1,0 +1,60 @@
+-- The rules of a node: one lane, and a stream for each PMU (this profile).
+use Rattle.std.specs.Prelude.{◌≡◌, ℕ, ◌*◌, ◌==◌, not, List, [], ◌∷◌, length, nat_eq, nat_lt, if◌then◌else◌, Option, None, Some}
+use Rattle.std.specs.List.{slice_get}
+use Rattle.std.specs.Cmp.Lexicographic.{pointwise}
+use Rattle.pdc_block.specs.Block.{words_in}
+use Rattle.pdc_cfg.specs.Shape.{word_count_of}
+use Rattle.pdc_cfg.specs.Section.{SectionFields}
+use Rattle.pdc_row.specs.CellView.{CellView}
+use Rattle.pdc_life.specs.declared.given.Settings.{Settings}
+use Rattle.pdc_life.specs.declared.pmu.Pmu.{Pmu}
+use Rattle.pdc_life.specs.declared.outcome.Outcome.{Outcome}
+use Rattle.pdc_life.specs.declared.outcome.Outcome.TheVariants.{Candidate, Known, Refused}
+use Rattle.pdc_life.specs.declared.outcome.Refusal.TheVariants.{CountConflict, NoConfig, NoConfiguration, StaleCount, WrongLength}
+use Rattle.pdc_cfg.specs.declared.fault.CfgFault.TheVariants.{TooMany}
+use Rattle.pdc_life.specs.Given.{Given, IsGivenBy, count_for}
+use Rattle.pdc_life.specs.Arrival.{Arrival, BytesRefused, Data, Layout}
+use Rattle.pdc_life.specs.Life.{Answer, Entry, held_section, section_in_force}
+use Rattle.pdc_life.specs.Answer.{answer_in_time, bare, IsLife}
+use Rattle.pdc_life.specs.NodeReading.{Reads}
+
+-- the cell that words give under a section
+abbrev pub cell_under : SectionFields → (quality : ℕ) → (words : List ℕ) → CellView
+cell_under s quality words = record { block = record { shape = s.shape; words = words }; quality = quality }
+
+-- Data of a PMU gives the cell of its column, under the section in force.
+abbrev pub data_answer : Given → List Entry → (p i quality : ℕ) → (payload : List ℕ) → Option SectionFields → Answer
+data_answer g E p i quality payload None = bare (Refused NoConfig)
+data_answer g E p i quality payload (Some s) =
+    if not (length payload == 2 * word_count_of s.shape) then bare (Refused WrongLength)
+    else answer_in_time g E p i ((p, cell_under s quality (words_in payload)) ∷ [])
+
+-- a section after the one that is held: stale below its count, new above it, and at the same count known where it has the same bytes
+abbrev pub section_after : Option SectionFields → SectionFields → Outcome
+section_after None s = Candidate
+section_after (Some held) s =
+    if nat_lt s.count held.count then Refused StaleCount
+    else (if nat_lt held.count s.count then Candidate
+    else (if pointwise nat_eq held.bytes s.bytes then Known else Refused CountConflict))
+
+-- A section below the opening count is stale, also where nothing is held.
+abbrev pub section_answer : (opening : ℕ) → Option SectionFields → SectionFields → Outcome
+section_answer opening held s = if nat_lt s.count opening then Refused StaleCount else section_after held s
+
+-- The answer to what arrives for a PMU after E.
+abbrev pub node_answer : Given → List Entry → ℕ → Arrival → Answer
+node_answer g E p (BytesRefused refusal) = bare (Refused refusal)
+node_answer g E p (Data i quality payload) = data_answer g E p i quality payload (section_in_force g E p)
+node_answer g E p (Layout stamp ((c, s) ∷ [])) = bare (section_answer (count_for p g.counts) (held_section g E p) s)
+node_answer g E p (Layout stamp sections) = bare (Refused (NoConfiguration TooMany))
+
+-- The bytes say this of the stream with this number.
+pub record ReadsFor (settings : Settings) (p : ℕ) (bytes : List ℕ) (arrival : Arrival) : Type 0 where
+  pub pmu : Pmu
+  pub listed : slice_get settings.pmus.items p ≡ Some pmu
+  pub reads : Reads settings p pmu bytes arrival
+
+-- A life of a node.
+pub record IsNodeLife (settings : Settings) (g : Given) (E : List Entry) : Type 0 where
+  pub given : IsGivenBy settings g
+  pub life : IsLife node_answer (ReadsFor settings) g E

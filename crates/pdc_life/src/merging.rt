@@ -1,0 +1,55 @@
+//! What is fixed in a life of the merger.
+ghost use Rattle.std.specs.Prelude.{◌^◌, ◌<◌, ◌≤◌, ◌&&◌, ◌∷◌, IsTrue, length, nat_le, nat_lt};
+ghost use Rattle.std.specs.List.{list_all};
+ghost use Rattle.pdc_life.specs.Distinct.{are_distinct};
+ghost use Rattle.pdc_life.specs.declared.given.TheConstants.{MAX_PMUS};
+
+use crate::given::{MAX_PMUS, WaitKind};
+use arrayvec::ArrayVec;
+use pdc_output::Output;
+
+/// A node whose stream the merger takes.
+#[derive(Clone, Copy, Debug)]
+pub struct MergedNode {
+    /// The id of the stream that it publishes, 1 to 65534.
+    pub id: u16,
+    /// The counts of FRACSEC in a second of that stream, from the rate to 16777215.
+    pub time_base: u32,
+    pub ghost id_low: { 0 < id },
+    pub ghost id_high: { id < 65535 },
+    pub ghost time_base_high: { time_base < 2 ^ 24 },
+}
+
+/// The settings of the merger, as far as its answers depend on them (this profile).
+#[derive(Debug, Drop)]
+pub struct MergerSettings {
+    /// What the frames say that it publishes.
+    pub output: Output,
+    /// How long an open instant waits, 1 to 1000 ticks or instants.
+    pub wait: u64,
+    /// What the wait is counted in.
+    pub wait_kind: WaitKind,
+    /// How far apart held instants may lie: less than this, 8 to 256 instants.
+    pub window: u64,
+    /// How far above the last tick's now an instant may lie, 0 to 1000 instants.
+    pub ahead: u64,
+    /// Node A, whose stream is 0.
+    pub first: MergedNode,
+    /// Node B, whose stream is 1.
+    pub second: MergedNode,
+    /// The ids of the PMUs' sources, 1 to 65534 each, in the order of the columns: 1 to 16. No two are the same, nor are the
+    /// nodes' ids, and none is a node's or the merger's own.
+    pub sources: ArrayVec<u16, MAX_PMUS>,
+    pub ghost wait_low: { 1 ≤ wait },
+    pub ghost wait_high: { wait ≤ 1000 },
+    pub ghost window_low: { 8 ≤ window },
+    pub ghost window_high: { window ≤ 256 },
+    pub ghost ahead_high: { ahead ≤ 1000 },
+    pub ghost first_base: { output.rate ≤ first.time_base },
+    pub ghost second_base: { output.rate ≤ second.time_base },
+    pub ghost some: { 0 < length sources.items },
+    pub ghost few: { length sources.items ≤ MAX_PMUS },
+    pub ghost in_range: { IsTrue (list_all (λ source. nat_lt 0 source && nat_lt source 65535) sources.items) },
+    pub ghost own: { IsTrue (are_distinct (output.id ∷ sources.items)) },
+    pub ghost distinct: { IsTrue (are_distinct (first.id ∷ second.id ∷ sources.items)) },
+}

@@ -1,0 +1,88 @@
+//! The data frame of a closed row (this profile; C37.118.2-2011, 6.3).
+ghost use Rattle.std.specs.Prelude.{◌≡◌, ◌+◌, ◌*◌, ◌<◌, ◌≤◌, ◌++◌, length, sum_by, IsOk, OnOk, OnErr};
+ghost use Rattle.pdc_frame.specs.Frame.{IsFrame};
+ghost use Rattle.pdc_block.specs.Block.{bytes_of_words, body_len_of, shape_of};
+ghost use Rattle.pdc_row.specs.RowView.{row_view};
+ghost use Rattle.pdc_output.specs.Layout.{own_block, row_payload, row_fields, wire_of};
+
+use crate::output::Output;
+use crate::stamp::stamp_words;
+use pdc_block::{append_words, join, joined_len};
+use pdc_frame::{Buffer, Frame, Kind, begin_frame, end_frame, frames_are_written_in_parts};
+use pdc_row::DueRow;
+use pdc_tag::tag_of;
+use std::alloc::AllocError;
+
+/// The bytes of the own block: STAT, FREQ, DFREQ and four digital words.
+const OWN_BLOCK_LEN: usize = 14;
+
+/// The most bytes of the payload: the own block, and 16 blocks of the most channels.
+const LONGEST_PAYLOAD: usize = 3438;
+
+/// The bytes of the frame's payload.
+fn payload_len(row: &DueRow) -> usize
+    ensures value { result ≡ length (row_payload (row_view row.now)) }
+    ensures blocks { result ≡ OWN_BLOCK_LEN + sum_by (λ block. body_len_of (shape_of block)) row.now.blocks.items }
+    ensures most { result ≤ LONGEST_PAYLOAD }
+{
+    OWN_BLOCK_LEN + joined_len(row.blocks.as_slice())
+}
+
+/// Appends the own block. It takes no memory.
+fn append_own_block<B: Buffer>(start: u32, change: u32, out: &mut B)
+    requires { length (B.content out.old) + OWN_BLOCK_LEN ≤ B.capacity out.old }
+    ensures content { B.content out.new ≡ B.content out.old ++ bytes_of_words (own_block start change) }
+    ensures len { length (B.content out.new) ≡ length (B.content out.old) + OWN_BLOCK_LEN }
+    ensures in_place { B.capacity out.new ≡ B.capacity out.old }
+{
+    append_words(&[0; 3], out);
+    append_words(&stamp_words(start, change), out);
+}
+
+/// Appends the payload: the own block and the blocks of the row. It takes no memory.
+fn append_payload<B: Buffer>(row: &DueRow, out: &mut B)
+    requires { length (B.content out.old) + OWN_BLOCK_LEN + sum_by (λ block. body_len_of (shape_of block)) row.now.blocks.items ≤ B.capacity out.old }
+    ensures content { B.content out.new ≡ B.content out.old ++ row_payload (row_view row.now) }
+    ensures in_place { B.capacity out.new ≡ B.capacity out.old }
+{
+    append_own_block(row.start, row.change, out);
+    join(row.blocks.as_slice(), out).unwrap();
+}
+
+/// Appends the data frame of the row: its instant as a time tag, its time quality, the own block with the stamp that the row
+/// closed under, and its blocks. SOC has 32 bits, so the instant is below 2^32 times the rate.
+///
+/// # Errors
+///
+/// [`AllocError`] where `out` has no room and gets none.
+pub fn append_row<B: Buffer>(output: &Output, row: &DueRow, out: &mut B) -> Result<(), AllocError>
+    requires instant { row.now.instant < 4294967296 * output.now.rate }
+    // What is appended is the frame,
+    ensures ok { OnOk result (B.content out.new ≡ B.content out.old ++ wire_of output.now (row_view row.now)) }
+    // which is read back with these fields.
+    ensures frame { IsFrame (wire_of output.now (row_view row.now)) (row_fields output.now (row_view row.now)) }
+    // It fails only where there was no room, and then nothing is appended.
+    ensures err { OnErr result ((B.content out.new ≡ B.content out.old) × (B.capacity out.new ≡ B.capacity out.old)) }
+    ensures room { length (B.content out.old) + length (wire_of output.now (row_view row.now)) ≤ B.capacity out.old → IsOk result }
+    // Where there was room, it takes no memory.
+    ensures in_place { length (B.content out.old) + length (wire_of output.now (row_view row.now)) ≤ B.capacity out.old
+        → B.capacity out.new ≡ B.capacity out.old }
+    ensures capacity { B.capacity out.old ≤ B.capacity out.new }
+{
+    frames_are_written_in_parts();
+    let (soc, frac) = tag_of(row.instant, output.time_base, u32::from(output.rate));
+    let head = Frame {
+        kind: Kind::DataFrame,
+        version: 2,
+        id: output.id,
+        soc,
+        quality: row.quality,
+        frac,
+        payload: &[],
+    };
+    let start = out.content().len();
+    begin_frame(&head, payload_len(row), out)?;
+    append_payload(row, out);
+    end_frame(start, out);
+    Ok(())
+}
