@@ -1,4 +1,6 @@
 //! `pdc mark-convert`: makes a mark file of version 2 out of one of version 1.
+ghost use Rattle.std.specs.Prelude.{◌≡◌, [], IfOk};
+ghost use Rattle.pdc_disk.specs.FileDisk.{seen_of};
 
 use crate::{FAILED, REFUSED};
 use pdc_command_line::MarkConvert;
@@ -56,15 +58,15 @@ impl MarkConvertFault {
     }
 }
 
-/// A file of the new name, made to be filled.
-fn new_file<R: Files<File = File>>(files: &R, name: &str) -> Result<FileDisk, MarkConvertFault> {
-    FileDisk::create(files, name).map_err(|error| {
-        if error.kind() == ErrorKind::AlreadyExists {
-            MarkConvertFault::Exists
-        } else {
-            MarkConvertFault::NotMade(error)
-        }
-    })
+/// A new file of this name, which is empty.
+fn new_file<R: Files<File = File>>(files: &R, name: &str) -> Result<FileDisk, MarkConvertFault>
+    ensures { IfOk result (λ disk. seen_of disk ≡ []) }
+{
+    match FileDisk::create(files, name) {
+        Ok(disk) => Ok(disk),
+        Err(error) if error.kind() == ErrorKind::AlreadyExists => Err(MarkConvertFault::Exists),
+        Err(error) => Err(MarkConvertFault::NotMade(error)),
+    }
 }
 
 /// Converts a mark file, and returns its start number and floor. The new file is looked at first, and the old one is
