@@ -10,6 +10,7 @@ pub mod NodeData
 pub mod NodeRuns
 pub mod OneLife
 pub mod OneReading
+pub mod SameCount
 pub mod Tagged
 pub mod Vectors
 pub mod Worked
