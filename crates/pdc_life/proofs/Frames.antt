@@ -59,7 +59,7 @@ changes_fit g (Pop row ∷ E) run = changes_fit g E run.1
 
 -- ---- words of blocks
 
-words_cons : (w : ℕ) (ws : List ℕ) → w < 2 ^ 16 → AreWords ws → AreWords (w ∷ ws)
+pub words_cons : (w : ℕ) (ws : List ℕ) → w < 2 ^ 16 → AreWords ws → AreWords (w ∷ ws)
 words_cons w ws h k zero = h
 words_cons w ws h k (suc i) = k i
 
@@ -67,7 +67,7 @@ words_append : (ws more : List ℕ) → AreWords ws → AreWords more → AreWor
 words_append [] more h k = k
 words_append (w ∷ ws) more h k = words_cons w (ws ++ more) (h 0) (words_append ws more (λ i. h (suc i)) k)
 
-words_none : AreWords []
+pub words_none : AreWords []
 words_none i = omega arith
 
 words_replicate : (n w : ℕ) → w < 2 ^ 16 → AreWords (replicate n w)

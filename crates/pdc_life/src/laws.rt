@@ -5,7 +5,7 @@ ghost use Rattle.pdc_life.specs.Frames.{ChangesFit, ClosedRowsAreFrames, Layouts
 ghost use Rattle.pdc_life.specs.Genuine.{BlocksAreGenuine, CellsWereGiven, ChosenIsShown, NodeCellsAreData, NodeTakenIsShown, RowsAreGenuine};
 ghost use Rattle.pdc_life.specs.InTime.{ClosedStayClosed, MergerTakesInTime, NodeTakesInTime, TakenIsInTime};
 ghost use Rattle.pdc_life.specs.Laws.{ChangesNeverFall, ChangesRiseByOne, InForceIsCleared, MergerLivesAreTicked, NodeLivesAreRuns, NoneOvertakes, RowsAreOfTheirTicks, RowsComeOutOnce, RowsRise, SameChangeSameSections};
-ghost use Rattle.pdc_life.specs.MergerLaws.{SameCountSameSection};
+ghost use Rattle.pdc_life.specs.MergerLaws.{MergerLivesAreRuns, SameCountSameSection};
 ghost use Rattle.pdc_life.specs.OneLife.{NodeAnswersAreOne, NodeReadsOnce, NodeStepsHaveOneLife, OneStepMore, StepsMakeMergerLives, StepsMakeNodeLives};
 ghost use Rattle.pdc_life.specs.Sections.{CountsNeverFall, HeldHasCome, HeldIsGreatest, HeldIsSection, InForceHasCome, InForceIsSection, NodeHoldsGreatest};
 ghost use Rattle.pdc_life.specs.Tagged.{RowsHaveTags};
@@ -169,3 +169,10 @@ pub fn layouts_of_lives_are_frames()
 pub fn same_count_is_same_section()
     ensures { SameCountSameSection }
 {}
+
+/// The merger's lives are runs: what holds of all runs holds of them.
+pub fn merger_lives_are_runs()
+    ensures { MergerLivesAreRuns }
+{
+    configurations_are_read_in_one_way();
+}
