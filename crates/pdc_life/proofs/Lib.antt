@@ -7,6 +7,7 @@ pub mod InForce
 pub mod InTime
 pub mod LifeLaws
 pub mod MergerRuns
+pub mod NextRow
 pub mod NodeData
 pub mod NodeRuns
 pub mod OneLife
@@ -16,3 +17,4 @@ pub mod Tagged
 pub mod Vectors
 pub mod Worked
 pub mod WorkedMerger
+pub mod WorkedOrder

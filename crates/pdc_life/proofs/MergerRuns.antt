@@ -1,6 +1,6 @@
 -- Lives of the merger are runs.
 use Rattle.std.proofs.Common.{◌≡◌, ℕ, zero, suc, ◌+◌, ◌*◌, ◌<◌, ◌≤◌, Bool, true, false, ◌&&◌, List, [], ◌∷◌, ◌++◌, cond, ltb, eqb, not, drop, take, length, map, refl, sym, ap, ◌∙◌, subst, arith, rules, Option, Some, None}
-use Rattle.std.specs.Prelude.{nat_eq, slice_index, sum, if◌then◌else◌, ◌==◌}
+use Rattle.std.specs.Prelude.{nat_eq, sum, if◌then◌else◌, ◌==◌}
 use Rattle.std.specs.Cmp.Lexicographic.{pointwise}
 use Rattle.std.specs.Int.{w16, w32, to_be_bytes, cast_signed, cast_unsigned}
 use Rattle.std.specs.List.{AllByRecursion, Contains, range_with_len, slice_get}
@@ -18,9 +18,7 @@ use Rattle.pdc_row.specs.Rising.{Rises}
 use Rattle.pdc_output.specs.Layout.{stamp_words}
 use Rattle.pdc_life.specs.declared.merging.MergedNode.{MergedNode}
 use Rattle.pdc_life.specs.declared.merging.MergerSettings.{MergerSettings}
-use Rattle.pdc_life.specs.declared.outcome.Outcome.{Outcome}
 use Rattle.pdc_life.specs.declared.outcome.Outcome.TheVariants.{Taken, Candidate, Known, Refused}
-use Rattle.pdc_life.specs.declared.outcome.Refusal.{Refusal}
 use Rattle.pdc_life.specs.declared.outcome.Refusal.TheVariants.{CountConflict, OldStamp, OtherStamp, WrongLength}
 use Rattle.pdc_life.specs.Answer.{IsLife, answer_in_time, bare, outcome_in_time}
 use Rattle.pdc_life.specs.Arrival.{Arrival, BytesRefused, Data, Layout, Stamp}

@@ -2,12 +2,11 @@
 use Rattle.std.proofs.Common.{◌≡◌, ℕ, zero, suc, ◌+◌, ◌<◌, ◌≤◌, Bool, true, false, ◌&&◌, ◌||◌, List, [], ◌∷◌, ◌++◌, cond, ltb, leb, eqb, not, filter, length, map, refl, sym, ap, ◌∙◌, subst, arith, rules, Option, Some, None, inl, inr}
 use Rattle.std.specs.Prelude.{nat_eq, slice_index_or}
 use Rattle.std.specs.Cmp.Lexicographic.{pointwise, same_text}
-use Rattle.std.specs.List.{AllByRecursion, Contains, flat_map, list_any}
+use Rattle.std.specs.List.{AllByRecursion, Contains, flat_map}
 use Rattle.std.proofs.lemmas.Bool.{cases_lt, false≢true}
 use Rattle.pdc_cfg.specs.Section.{SectionFields}
 use Rattle.pdc_row.specs.Rising.{Rises}
 use Rattle.pdc_life.specs.declared.merging.MergerSettings.{MergerSettings}
-use Rattle.pdc_life.specs.declared.outcome.Outcome.{Outcome}
 use Rattle.pdc_life.specs.declared.outcome.Outcome.TheVariants.{Candidate, Known, Refused}
 use Rattle.pdc_life.specs.declared.outcome.Refusal.TheVariants.{CountConflict, OldStamp}
 use Rattle.pdc_life.specs.Answer.{IsLife}
@@ -15,7 +14,7 @@ use Rattle.pdc_life.specs.Arrival.{BytesRefused, Data, Layout, Stamp}
 use Rattle.pdc_life.specs.Given.{Given, count_for}
 use Rattle.pdc_life.specs.Life.{Answer, Entry, Arrive, Tick, Pop, first_greatest, greater, held_section, is_adoption_of, is_candidate, is_of_column, section_in_force, sections_at}
 use Rattle.pdc_life.specs.Merger.{HeldLayout, differs_from, has_count_conflict, held_layout, is_older, layout_answer, merged_answer}
-use Rattle.pdc_life.specs.MergerReading.{IsMergerLife, ReadsForMerger}
+use Rattle.pdc_life.specs.MergerReading.{ReadsForMerger}
 use Rattle.pdc_life.specs.MergerLaws.{SameCountSameSection}
 use Rattle.pdc_life.proofs.InForce.{in_force_is_cleared}
 use Rattle.pdc_life.proofs.LifeLaws.{lives_are_ticked}

@@ -8,7 +8,7 @@ ghost use Rattle.pdc_life.specs.Laws.{ChangesNeverFall, ChangesRiseByOne, InForc
 ghost use Rattle.pdc_life.specs.MergerLaws.{MergerLivesAreRuns, SameCountSameSection};
 ghost use Rattle.pdc_life.specs.OneLife.{NodeAnswersAreOne, NodeReadsOnce, NodeStepsHaveOneLife, OneStepMore, StepsMakeMergerLives, StepsMakeNodeLives};
 ghost use Rattle.pdc_life.specs.Sections.{CountsNeverFall, HeldHasCome, HeldIsGreatest, HeldIsSection, InForceHasCome, InForceIsSection, NodeHoldsGreatest};
-ghost use Rattle.pdc_life.specs.Tagged.{RowsHaveTags};
+ghost use Rattle.pdc_life.specs.Tagged.{NextIsAbove, RowsHaveTags};
 
 use pdc_block::bodies_are_their_words;
 use pdc_cfg::configurations_are_read_in_one_way;
@@ -99,7 +99,9 @@ pub fn counts_never_fall()
 
 /// Each row's instant is below 2^32 seconds, at the rate: SOC can name its second.
 pub fn rows_have_tags()
-    ensures { RowsHaveTags }
+    ensures tags { RowsHaveTags }
+    // The next row to be popped is above all before it.
+    ensures next { NextIsAbove }
 {}
 
 /// Bytes that arrive for a PMU say one thing at most.
