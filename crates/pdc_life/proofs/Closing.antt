@@ -7,7 +7,6 @@ use Rattle.pdc_row.specs.RowView.{RowView}
 use Rattle.pdc_life.specs.Given.{Given}
 use Rattle.pdc_life.specs.Life.{Entry, Arrive, Tick, TickAnswer, Pop, closed, open_instants}
 use Rattle.pdc_life.specs.Row.{closing, is_due, row_of}
-use Rattle.pdc_life.specs.Run.{IsTicked}
 use Rattle.pdc_life.specs.Laws.{IsRowOfTick, NoneOvertakes, RowsAreOfTheirTicks}
 
 both : (a b : Bool) → (a && b) ≡ true → (a ≡ true) × (b ≡ true)

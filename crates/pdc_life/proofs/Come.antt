@@ -1,13 +1,12 @@
 -- Sections that are held or in force came, and are whole sections; counts in force never fall.
-use Rattle.std.proofs.Common.{◌≡◌, ℕ, suc, ◌<◌, ◌≤◌, Bool, true, false, ◌&&◌, List, [], ◌∷◌, ◌++◌, cond, ltb, leb, eqb, max, filter, map, length, refl, sym, ap, subst, ◌∙◌, arith, rules, Option, Some, None}
+use Rattle.std.proofs.Common.{◌≡◌, ℕ, suc, ◌≤◌, Bool, true, false, ◌&&◌, List, [], ◌∷◌, ◌++◌, cond, ltb, leb, eqb, max, filter, map, refl, sym, ap, subst, ◌∙◌, arith, rules, Option, Some, None}
 use Rattle.std.specs.Prelude.{◌==◌}
 use Rattle.std.specs.List.{AllByRecursion, Contains, flat_map, list_any}
 use Rattle.std.proofs.lemmas.Bool.{false≢true}
-use Rattle.std.proofs.lemmas.Option.{same_Some}
 use Rattle.pdc_cfg.specs.Section.{SectionFields, IsSection}
 use Rattle.pdc_life.specs.declared.outcome.Outcome.{Outcome}
 use Rattle.pdc_life.specs.declared.outcome.Outcome.TheVariants.{Taken, Candidate, Known, Refused}
-use Rattle.pdc_life.specs.Answer.{has_change, is_newer, is_ready, tick_answer}
+use Rattle.pdc_life.specs.Answer.{has_change, is_ready, tick_answer}
 use Rattle.pdc_life.specs.Arrival.{BytesRefused, Data, Layout, Stamp}
 use Rattle.pdc_life.specs.Given.{Given, columns_of, count_for}
 use Rattle.pdc_life.specs.Life.{Answer, Entry, Arrive, Tick, TickAnswer, Pop, cleared_count, first_greatest, greater, held_section, is_adoption_of, is_candidate, is_of_column, section_in_force, sections_at}

@@ -1,8 +1,6 @@
 -- The frames of a life.
-use Rattle.std.proofs.Common.{◌≡◌, ℕ, suc, zero, ◌+◌, ◌-◌, ◌*◌, ◌^◌, ◌%◌, ◌<◌, ◌≤◌, Bool, true, false, List, [], ◌∷◌, ◌++◌, length, map, cond, ltb, max, replicate, refl, sym, ap, ◌∙◌, subst, arith, rules, Option, Some, None, length-append}
-use Rattle.std.specs.Prelude.{slice_index}
-use Rattle.std.specs.List.{AllByRecursion, cons_option, filter_map, range_with_len}
-use Rattle.std.proofs.lemmas.Bool.{false≢true}
+use Rattle.std.proofs.Common.{◌≡◌, ℕ, suc, zero, ◌+◌, ◌-◌, ◌*◌, ◌^◌, ◌<◌, ◌≤◌, Bool, true, false, List, [], ◌∷◌, ◌++◌, length, map, cond, ltb, max, replicate, refl, sym, ap, ◌∙◌, subst, arith, rules, Option, Some, None, length-append}
+use Rattle.std.specs.List.{AllByRecursion, cons_option, filter_map}
 use Rattle.std.proofs.lemmas.List.{length-replicate}
 use Rattle.std.proofs.lemmas.List.FromFn.{length-range_with_len}
 use Rattle.std.proofs.lemmas.Option.{same_Some}
@@ -19,7 +17,7 @@ use Rattle.pdc_row.specs.Quality.{greatest, quality_of}
 use Rattle.pdc_row.specs.RowView.{RowView, row_instants}
 use Rattle.pdc_output.specs.Layout.{layout_fields_of, layout_payload_of, own_block, own_bytes, row_payload}
 use Rattle.pdc_output.specs.Laws.{LayoutsAreFrames, OwnSectionsTellStamps, RowsAreCut, RowsAreFrames, words_of_row}
-use Rattle.pdc_life.specs.Answer.{has_change, ready_columns, tick_answer}
+use Rattle.pdc_life.specs.Answer.{has_change, ready_columns}
 use Rattle.pdc_life.specs.Frames.{ChangesFit, ClosedRowsAreFrames, IsFramedRow, LayoutsOfLivesAreFrames, LayoutsTellStamps, shapes_in_force}
 use Rattle.pdc_life.specs.Given.{Given, columns_of}
 use Rattle.pdc_life.specs.Laws.{IsRowOfTick}
@@ -59,7 +57,7 @@ changes_fit g (Pop row ∷ E) run = changes_fit g E run.1
 
 -- ---- words of blocks
 
-words_cons : (w : ℕ) (ws : List ℕ) → w < 2 ^ 16 → AreWords ws → AreWords (w ∷ ws)
+pub words_cons : (w : ℕ) (ws : List ℕ) → w < 2 ^ 16 → AreWords ws → AreWords (w ∷ ws)
 words_cons w ws h k zero = h
 words_cons w ws h k (suc i) = k i
 
@@ -67,7 +65,7 @@ words_append : (ws more : List ℕ) → AreWords ws → AreWords more → AreWor
 words_append [] more h k = k
 words_append (w ∷ ws) more h k = words_cons w (ws ++ more) (h 0) (words_append ws more (λ i. h (suc i)) k)
 
-words_none : AreWords []
+pub words_none : AreWords []
 words_none i = omega arith
 
 words_replicate : (n w : ℕ) → w < 2 ^ 16 → AreWords (replicate n w)

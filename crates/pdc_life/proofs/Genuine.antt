@@ -1,6 +1,6 @@
 -- Each block of a row is absent, or was brought; what was taken and is present is shown.
-use Rattle.std.proofs.Common.{◌≡◌, ℕ, suc, zero, ◌+◌, ◌*◌, ◌<◌, ◌≤◌, Bool, true, false, ◌&&◌, List, [], ◌∷◌, ◌++◌, length, map, cond, eqb, refl, sym, ap, ◌∙◌, subst, arith, rules, Option, Some, None, option_map, inl, inr}
-use Rattle.std.specs.Prelude.{◌⊎◌, ◌==◌, if◌then◌else◌}
+use Rattle.std.proofs.Common.{◌≡◌, ℕ, suc, zero, ◌+◌, ◌<◌, ◌≤◌, Bool, true, false, ◌&&◌, List, [], ◌∷◌, ◌++◌, cond, eqb, refl, sym, ap, ◌∙◌, subst, arith, rules, Option, Some, None, option_map, inl, inr}
+use Rattle.std.specs.Prelude.{◌==◌, if◌then◌else◌}
 use Rattle.std.specs.List.{AllByRecursion, Contains, cons_option, filter_map, find, range_with_len}
 use Rattle.std.proofs.lemmas.Bool.{cases_lt, false≢true}
 use Rattle.std.proofs.lemmas.Option.{none-some, same_Some}
@@ -12,11 +12,11 @@ use Rattle.pdc_life.specs.declared.outcome.Outcome.{Outcome}
 use Rattle.pdc_life.specs.declared.outcome.Outcome.TheVariants.{Taken, Candidate, Known, Refused}
 use Rattle.pdc_life.specs.Arrival.{BytesRefused, Data, Layout}
 use Rattle.pdc_life.specs.Given.{Given, columns_of}
-use Rattle.pdc_life.specs.Genuine.{AreGenuine, BlocksAreGenuine, CellsWereGiven, ChosenIsShown, HasBrought, HasGiven, IsGenuine, IsGenuineRow, NodeTakenIsShown, RowsAreGenuine, with_section}
+use Rattle.pdc_life.specs.Genuine.{AreGenuine, BlocksAreGenuine, CellsWereGiven, ChosenIsShown, HasGiven, IsGenuine, IsGenuineRow, NodeTakenIsShown, RowsAreGenuine, with_section}
 use Rattle.pdc_life.specs.Laws.{IsRowOfTick}
 use Rattle.pdc_life.specs.Life.{Answer, Entry, Arrive, Tick, Pop, Take, cell_in, cell_of, closed, held_section, is_adoption_of, is_of_column, is_take_of, is_taken, popped, section_in_force, take_at, takes_since_adopted, waiting}
-use Rattle.pdc_life.specs.Row.{block_in, chosen_of, first_cell, row_of, second_cell}
-use Rattle.pdc_life.specs.Run.{IsOfSectionInForce, IsTicked}
+use Rattle.pdc_life.specs.Row.{block_in, chosen_of, first_cell, second_cell}
+use Rattle.pdc_life.specs.Run.{IsOfSectionInForce}
 use Rattle.pdc_life.proofs.Closing.{rows_are_of_their_ticks}
 use Rattle.pdc_life.proofs.InForce.{cells_are_of_sections}
 use Rattle.pdc_life.proofs.LifeLaws.{rows_come_out_once}

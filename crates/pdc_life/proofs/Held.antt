@@ -1,14 +1,11 @@
 -- Held is the greatest count that came, with the first section of it.
 use Rattle.std.proofs.Common.{◌≡◌, ℕ, ◌<◌, ◌≤◌, Bool, true, false, List, [], ◌∷◌, ◌++◌, cond, ltb, leb, eqb, filter, map, refl, sym, ap, subst, ◌∙◌, arith, rules, Option, Some, None, inl, inr}
-use Rattle.std.specs.Prelude.{nat_eq}
-use Rattle.std.specs.Cmp.Lexicographic.{pointwise}
 use Rattle.std.specs.List.{AllByRecursion, flat_map}
 use Rattle.std.proofs.lemmas.Bool.{cases_lt, false≢true}
 use Rattle.pdc_cfg.specs.Section.{SectionFields}
 use Rattle.pdc_life.specs.declared.given.Settings.{Settings}
-use Rattle.pdc_life.specs.declared.outcome.Outcome.{Outcome}
-use Rattle.pdc_life.specs.declared.outcome.Outcome.TheVariants.{Known, Refused}
-use Rattle.pdc_life.specs.declared.outcome.Refusal.TheVariants.{CountConflict, StaleCount}
+use Rattle.pdc_life.specs.declared.outcome.Outcome.TheVariants.{Refused}
+use Rattle.pdc_life.specs.declared.outcome.Refusal.TheVariants.{StaleCount}
 use Rattle.pdc_life.specs.Answer.{IsLife}
 use Rattle.pdc_life.specs.Arrival.{BytesRefused, Data, Layout}
 use Rattle.pdc_life.specs.Given.{Given, count_for}

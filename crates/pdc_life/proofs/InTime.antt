@@ -1,5 +1,5 @@
 -- What is taken came in time.
-use Rattle.std.proofs.Common.{◌≡◌, ℕ, ◌+◌, ◌*◌, ◌<◌, ◌≤◌, Bool, true, false, List, [], ◌∷◌, length, cond, ltb, leb, eqb, not, refl, sym, ap, ◌∙◌, arith, rules, Option, Some, None, nat_lt, inl, inr}
+use Rattle.std.proofs.Common.{◌≡◌, ℕ, ◌+◌, ◌*◌, ◌<◌, ◌≤◌, Bool, true, false, List, [], ◌∷◌, length, cond, ltb, eqb, not, refl, sym, ap, ◌∙◌, arith, rules, Option, Some, None, nat_lt, inl, inr}
 use Rattle.std.specs.Prelude.{nat_le, nat_eq, drop}
 use Rattle.std.specs.List.{list_all, list_any}
 use Rattle.std.specs.Cmp.Lexicographic.{other_text, pointwise, same_text}

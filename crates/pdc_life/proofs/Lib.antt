@@ -6,11 +6,15 @@ pub mod Held
 pub mod InForce
 pub mod InTime
 pub mod LifeLaws
+pub mod MergerRuns
+pub mod NextRow
 pub mod NodeData
 pub mod NodeRuns
 pub mod OneLife
 pub mod OneReading
+pub mod SameCount
 pub mod Tagged
 pub mod Vectors
 pub mod Worked
 pub mod WorkedMerger
+pub mod WorkedOrder

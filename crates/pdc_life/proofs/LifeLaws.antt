@@ -1,6 +1,5 @@
 -- Laws of all lives: steps make lives, rows come out once and rise, change numbers never fall; and wait rules agree.
-use Rattle.std.proofs.Common.{◌≡◌, ℕ, ◌+◌, ◌-◌, ◌<◌, ◌≤◌, ◌==◌, Bool, true, false, List, [], ◌∷◌, ◌++◌, map, length, filter, cond, drop, ltb, leb, refl, sym, ap, ◌∙◌, subst, arith, rules, Option, inl, inr}
-use Rattle.std.proofs.lemmas.Bool.{cases_lt}
+use Rattle.std.proofs.Common.{◌≡◌, ℕ, ◌+◌, ◌≤◌, ◌==◌, Bool, true, false, List, [], ◌∷◌, ◌++◌, map, length, filter, cond, drop, ltb, refl, sym, ap, ◌∙◌, subst, arith, rules, Option}
 use Rattle.std.proofs.lemmas.List.{append_assoc}
 use Rattle.std.specs.List.{AllByRecursion, list_any, slice_get}
 use Rattle.std.specs.Option.{option_to_list}
@@ -47,7 +46,7 @@ rows_come_out_once g (Pop row ∷ E) run =
     ∙ sym (append_assoc (popped E) (option_to_list row) (drop 1 (waiting E)))
 
 -- rows rise
-instants_append : (rows more : List RowView) → row_instants (rows ++ more) ≡ row_instants rows ++ row_instants more
+pub instants_append : (rows more : List RowView) → row_instants (rows ++ more) ≡ row_instants rows ++ row_instants more
 instants_append [] more = refl
 instants_append (r ∷ rows) more = ap (λ ns. r.instant ∷ ns) (instants_append rows more)
 

@@ -17,9 +17,9 @@ use Rattle.pdc_life.specs.declared.outcome.Refusal.TheVariants.{WrongLength}
 use Rattle.pdc_life.specs.Answer.{IsLife, answer_in_time, bare, outcome_in_time}
 use Rattle.pdc_life.specs.Arrival.{Data}
 use Rattle.pdc_life.specs.Given.{Given}
-use Rattle.pdc_life.specs.Genuine.{HasGiven, IsNodeData, NodeCellsAreData}
+use Rattle.pdc_life.specs.Genuine.{IsNodeData, NodeCellsAreData}
 use Rattle.pdc_life.specs.Life.{Answer, Entry, Arrive, Tick, Pop, is_taken, section_in_force}
-use Rattle.pdc_life.specs.Node.{IsNodeLife, ReadsFor, cell_under, data_answer, node_answer}
+use Rattle.pdc_life.specs.Node.{ReadsFor, cell_under, data_answer, node_answer}
 
 -- what `bodies_are_their_words` says of bytes
 abbrev pub BytesAreBodies : Type 0

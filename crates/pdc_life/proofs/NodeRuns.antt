@@ -50,7 +50,7 @@ section_not : (opening : ℕ) (held : Option SectionFields) (s : SectionFields) 
 section_not opening held s = not_taken (ltb s.count opening) StaleCount (section_after held s) (after_not held s)
 
 -- the cells of what was taken are those that were given
-taken_cells : (o : Outcome) (cells : List (ℕ × CellView)) → o ≡ Taken → cond (is_taken o) cells [] ≡ cells
+pub taken_cells : (o : Outcome) (cells : List (ℕ × CellView)) → o ≡ Taken → cond (is_taken o) cells [] ≡ cells
 taken_cells o cells h = ap (λ (q : Outcome). cond (is_taken q) cells []) h
 
 -- a slot lies in its second, and the instant of a tag in a second that SOC can name
@@ -63,7 +63,7 @@ slot_below frac time_base rate k h = elim (cases_lt k rate) [
       absurd (omega (arith, h.within_count, far, room))
 ]
 
-instant_below : (soc frac time_base rate i : ℕ) → soc < 4294967296 → IsInstant soc frac time_base rate i → i < 4294967296 * rate
+pub instant_below : (soc frac time_base rate i : ℕ) → soc < 4294967296 → IsInstant soc frac time_base rate i → i < 4294967296 * rate
 instant_below soc frac time_base rate i h t =
     let slot : t.slot < rate = slot_below frac time_base rate t.slot t.is_slot in
     let seconds : (soc + 1) * rate ≤ 4294967296 * rate = mul-le-mul_right {m = soc + 1} {n = 4294967296} rate (omega (arith, h)) in

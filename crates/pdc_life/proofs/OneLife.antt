@@ -3,7 +3,7 @@ use Rattle.std.proofs.Common.{◌≡◌, ℕ, List, [], ◌∷◌, ◌++◌, len
 use Rattle.std.proofs.lemmas.Option.{same_Some}
 use Rattle.pdc_life.specs.declared.given.Settings.{Settings}
 use Rattle.pdc_life.specs.declared.pmu.Pmu.{Pmu}
-use Rattle.pdc_life.specs.Answer.{IsLife, Rules, Step, pop_answer, step_of, steps_of, tick_answer}
+use Rattle.pdc_life.specs.Answer.{IsLife, Rules, Step, step_of, steps_of, tick_answer}
 use Rattle.pdc_life.specs.Arrival.{Arrival}
 use Rattle.pdc_life.specs.Given.{Given}
 use Rattle.pdc_life.specs.Life.{Answer, Entry, Arrive, Tick, Pop}

@@ -1,5 +1,5 @@
 -- The instants of a life's rows can be tagged.
-use Rattle.std.proofs.Common.{◌≡◌, ℕ, ◌+◌, ◌*◌, ◌<◌, ◌≤◌, Bool, true, false, List, [], ◌∷◌, ◌++◌, map, filter, cond, ltb, eqb, refl, sym, ap, subst, Some, None}
+use Rattle.std.proofs.Common.{◌≡◌, ℕ, ◌*◌, ◌<◌, Bool, true, false, List, [], ◌∷◌, ◌++◌, map, filter, cond, ltb, eqb, refl, sym, ap, subst, Some, None}
 use Rattle.std.specs.Prelude.{drop}
 use Rattle.std.specs.List.{AllByRecursion, slice_get}
 use Rattle.std.proofs.lemmas.Bool.{false≢true}
@@ -12,7 +12,7 @@ use Rattle.pdc_life.specs.Given.{Given}
 use Rattle.pdc_life.specs.Arrival.{BytesRefused, Data, Layout}
 use Rattle.pdc_life.specs.Life.{Answer, Entry, Arrive, Tick, Pop, TickAnswer, Take, closed, is_taken, open_instants, popped, takes, waiting}
 use Rattle.pdc_life.specs.Row.{closing, row_of}
-use Rattle.pdc_life.specs.Run.{AreSound, IsInTime, IsRun, IsTicked}
+use Rattle.pdc_life.specs.Run.{AreSound, IsInTime, IsTicked}
 use Rattle.pdc_life.specs.Tagged.{RowsHaveTags}
 
 -- What holds of numbers, of a part of them or of them in another order.
@@ -105,7 +105,7 @@ waiting_low g (Tick now counts answer ∷ E) ticked run =
 waiting_low g (Arrive s bytes arrival answer ∷ E) ticked run = waiting_low g E ticked run.1
 waiting_low g (Pop row ∷ E) ticked run = dropped (IsLow g) (waiting E) (waiting_low g E ticked.1 run)
 
-popped_low : (g : Given) (E : List Entry) → IsTicked g E → AreSound g E → AllByRecursion (IsLow g) (row_instants (popped E))
+pub popped_low : (g : Given) (E : List Entry) → IsTicked g E → AreSound g E → AllByRecursion (IsLow g) (row_instants (popped E))
 popped_low g [] ticked run = tt
 popped_low g (Tick now counts answer ∷ E) ticked run = popped_low g E ticked.1 run
 popped_low g (Arrive s bytes arrival answer ∷ E) ticked run = popped_low g E ticked run.1

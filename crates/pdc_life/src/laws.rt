@@ -5,9 +5,10 @@ ghost use Rattle.pdc_life.specs.Frames.{ChangesFit, ClosedRowsAreFrames, Layouts
 ghost use Rattle.pdc_life.specs.Genuine.{BlocksAreGenuine, CellsWereGiven, ChosenIsShown, NodeCellsAreData, NodeTakenIsShown, RowsAreGenuine};
 ghost use Rattle.pdc_life.specs.InTime.{ClosedStayClosed, MergerTakesInTime, NodeTakesInTime, TakenIsInTime};
 ghost use Rattle.pdc_life.specs.Laws.{ChangesNeverFall, ChangesRiseByOne, InForceIsCleared, MergerLivesAreTicked, NodeLivesAreRuns, NoneOvertakes, RowsAreOfTheirTicks, RowsComeOutOnce, RowsRise, SameChangeSameSections};
+ghost use Rattle.pdc_life.specs.MergerLaws.{MergerLivesAreRuns, SameCountSameSection};
 ghost use Rattle.pdc_life.specs.OneLife.{NodeAnswersAreOne, NodeReadsOnce, NodeStepsHaveOneLife, OneStepMore, StepsMakeMergerLives, StepsMakeNodeLives};
 ghost use Rattle.pdc_life.specs.Sections.{CountsNeverFall, HeldHasCome, HeldIsGreatest, HeldIsSection, InForceHasCome, InForceIsSection, NodeHoldsGreatest};
-ghost use Rattle.pdc_life.specs.Tagged.{RowsHaveTags};
+ghost use Rattle.pdc_life.specs.Tagged.{NextIsAbove, RowsHaveTags};
 
 use pdc_block::bodies_are_their_words;
 use pdc_cfg::configurations_are_read_in_one_way;
@@ -98,7 +99,9 @@ pub fn counts_never_fall()
 
 /// Each row's instant is below 2^32 seconds, at the rate: SOC can name its second.
 pub fn rows_have_tags()
-    ensures { RowsHaveTags }
+    ensures tags { RowsHaveTags }
+    // The next row to be popped is above all before it.
+    ensures next { NextIsAbove }
 {}
 
 /// Bytes that arrive for a PMU say one thing at most.
@@ -161,5 +164,17 @@ pub fn layouts_of_lives_are_frames()
     layouts_are_frames();
     own_sections_tell_stamps();
     frames_are_read_in_one_way();
+    configurations_are_read_in_one_way();
+}
+
+/// At the merger a section of a held layout with the count in force is the one in force.
+pub fn same_count_is_same_section()
+    ensures { SameCountSameSection }
+{}
+
+/// The merger's lives are runs: what holds of all runs holds of them.
+pub fn merger_lives_are_runs()
+    ensures { MergerLivesAreRuns }
+{
     configurations_are_read_in_one_way();
 }

@@ -1,0 +1,226 @@
+-- At the merger a section of a held layout with the count in force is the one in force.
+use Rattle.std.proofs.Common.{◌≡◌, ℕ, zero, suc, ◌+◌, ◌<◌, ◌≤◌, Bool, true, false, ◌&&◌, ◌||◌, List, [], ◌∷◌, ◌++◌, cond, ltb, leb, eqb, not, filter, length, map, refl, sym, ap, ◌∙◌, subst, arith, rules, Option, Some, None, inl, inr}
+use Rattle.std.specs.Prelude.{nat_eq, slice_index_or}
+use Rattle.std.specs.Cmp.Lexicographic.{pointwise, same_text}
+use Rattle.std.specs.List.{AllByRecursion, Contains, flat_map}
+use Rattle.std.proofs.lemmas.Bool.{cases_lt, false≢true}
+use Rattle.pdc_cfg.specs.Section.{SectionFields}
+use Rattle.pdc_row.specs.Rising.{Rises}
+use Rattle.pdc_life.specs.declared.merging.MergerSettings.{MergerSettings}
+use Rattle.pdc_life.specs.declared.outcome.Outcome.TheVariants.{Candidate, Known, Refused}
+use Rattle.pdc_life.specs.declared.outcome.Refusal.TheVariants.{CountConflict, OldStamp}
+use Rattle.pdc_life.specs.Answer.{IsLife}
+use Rattle.pdc_life.specs.Arrival.{BytesRefused, Data, Layout, Stamp}
+use Rattle.pdc_life.specs.Given.{Given, count_for}
+use Rattle.pdc_life.specs.Life.{Answer, Entry, Arrive, Tick, Pop, first_greatest, greater, held_section, is_adoption_of, is_candidate, is_of_column, section_in_force, sections_at}
+use Rattle.pdc_life.specs.Merger.{HeldLayout, differs_from, has_count_conflict, held_layout, is_older, layout_answer, merged_answer}
+use Rattle.pdc_life.specs.MergerReading.{ReadsForMerger}
+use Rattle.pdc_life.specs.MergerLaws.{SameCountSameSection}
+use Rattle.pdc_life.proofs.InForce.{in_force_is_cleared}
+use Rattle.pdc_life.proofs.LifeLaws.{lives_are_ticked}
+
+-- a section is not above what is held, and one of the same count has the same bytes
+abbrev Below : Option SectionFields → SectionFields → Type 0
+Below None t = ⊥
+Below (Some h) t = t.count ≤ h.count
+
+abbrev pub SameAs : Option SectionFields → SectionFields → Type 0
+SameAs None t = Unit {0}
+SameAs (Some h) t = t.count ≡ h.count → t.bytes ≡ h.bytes
+
+abbrev Keeps : Option SectionFields → SectionFields → Type 0
+Keeps held t = Below held t × SameAs held t
+
+abbrev passes : ℕ → SectionFields → Bool
+passes low s = leb low s.count
+
+keeps_greater : (held : Option SectionFields) (s t : SectionFields) → Keeps held t → Keeps (greater held s) t
+keeps_greater None s t k = absurd k.0
+keeps_greater (Some h) s t k = elim (cases_lt h.count s.count) [
+  | inl l ↦ (let e : ltb h.count s.count ≡ true = search rules in rw e (omega (arith, l, k.0), λ same. absurd (omega (arith, l, k.0, same))))
+  | inr m ↦ (let e : ltb h.count s.count ≡ false = search rules in rw e k)
+]
+
+keeps_if : (b : Bool) (s t : SectionFields) (ss : List SectionFields) → Keeps (first_greatest ss) t → Keeps (first_greatest (cond b (s ∷ ss) ss)) t
+keeps_if true s t ss k = keeps_greater (first_greatest ss) s t k
+keeps_if false s t ss k = k
+
+keeps_more : (low : ℕ) (ss old : List SectionFields) (t : SectionFields) → Keeps (first_greatest (filter (passes low) old)) t → Keeps (first_greatest (filter (passes low) (ss ++ old))) t
+keeps_more low [] old t k = k
+keeps_more low (s ∷ ss) old t k = keeps_if (leb low s.count) s t (filter (passes low) (ss ++ old)) (keeps_more low ss old t k)
+
+-- a section of a layout, that is not below the opening count, follows what is held and what is in force
+abbrev pub Good : Given → List Entry → ℕ × SectionFields → Type 0
+Good g E part = count_for part.0 g.counts ≤ part.1.count → Keeps (held_section g E part.0) part.1 × SameAs (section_in_force g E part.0) part.1
+
+abbrev pub AreGood : Given → List Entry → List (ℕ × SectionFields) → Type 0
+AreGood g E parts = AllByRecursion (Good g E) parts
+
+abbrev MayGood : Given → List Entry → Option HeldLayout → Type 0
+MayGood g E None = Unit {0}
+MayGood g E (Some layout) = AreGood g E layout.sections
+
+either_same : (b : Bool) (held f : Option SectionFields) (t : SectionFields) → SameAs held t → SameAs f t → SameAs (cond b held f) t
+either_same true held f t h k = h
+either_same false held f t h k = k
+
+-- one step more
+good_after : (g : Given) (E : List Entry) (e : Entry) (part : ℕ × SectionFields) → Good g E part → Good g (e ∷ E) part
+good_after g E e part h low =
+    let k = h low in (
+      keeps_more (count_for part.0 g.counts) (sections_at part.0 e) (flat_map (sections_at part.0) E) part.1 k.0,
+      either_same (is_adoption_of part.0 e) (held_section g E part.0) (section_in_force g E part.0) part.1 k.0.1 k.1,
+    )
+
+all_after : (g : Given) (E : List Entry) (e : Entry) (parts : List (ℕ × SectionFields)) → AreGood g E parts → AreGood g (e ∷ E) parts
+all_after g E e [] a = tt
+all_after g E e (part ∷ parts) a = (good_after g E e part a.0, all_after g E e parts a.1)
+
+may_after : (g : Given) (E : List Entry) (e : Entry) (o : Option HeldLayout) → MayGood g E o → MayGood g (e ∷ E) o
+may_after g E e None h = tt
+may_after g E e (Some layout) h = all_after g E e layout.sections h
+
+-- ---- a new layout
+
+abbrev of_column : ℕ → List (ℕ × SectionFields) → List SectionFields
+of_column c parts = map (λ (part : ℕ × SectionFields). part.1) (filter (is_of_column c) parts)
+
+not_same : (m n : ℕ) → n < m → eqb m n ≡ false
+not_same m n h = search rules
+
+same_self : (n : ℕ) → eqb n n ≡ true
+same_self n = search rules
+
+abbrev columns_above : List (ℕ × SectionFields) → List ℕ
+columns_above parts = map (λ (part : ℕ × SectionFields). part.0 + 1) parts
+
+-- the columns rise, so a column above which they stand has none
+none_of : (c n : ℕ) (parts : List (ℕ × SectionFields)) → c + 1 ≤ n → Rises n (columns_above parts) → filter (is_of_column c) parts ≡ []
+none_of c n [] h r = refl
+none_of c n (part ∷ parts) h r =
+    let e : eqb part.0 c ≡ false = not_same part.0 c (omega (arith, h, r.0)) in
+    rw e (none_of c (part.0 + 1) parts (omega (arith, h, r.0)) r.1)
+
+-- each stands alone in its column
+abbrev Alone : List (ℕ × SectionFields) → ℕ × SectionFields → Type 0
+Alone parts part = of_column part.0 parts ≡ part.1 ∷ []
+
+abbrev higher : ℕ → List (ℕ × SectionFields) → Type 0
+higher n parts = AllByRecursion (λ (part : ℕ × SectionFields). n < part.0 + 1) parts
+
+are_higher : (low n : ℕ) (parts : List (ℕ × SectionFields)) → low ≤ n → Rises n (columns_above parts) → higher low parts
+are_higher low n [] h r = tt
+are_higher low n (part ∷ parts) h r = (omega (arith, h, r.0), are_higher low (part.0 + 1) parts (omega (arith, h, r.0)) r.1)
+
+not_at : (m n : ℕ) → m < n → eqb m n ≡ false
+not_at m n h = search rules
+
+alone_behind : (first : ℕ × SectionFields) (all parts : List (ℕ × SectionFields)) → higher (first.0 + 1) parts → AllByRecursion (Alone all) parts → AllByRecursion (Alone (first ∷ all)) parts
+alone_behind first all [] h a = tt
+alone_behind first all (part ∷ parts) h a = (
+  (let e : eqb first.0 part.0 ≡ false = not_at first.0 part.0 (omega (arith, h.0)) in rw e a.0),
+  alone_behind first all parts h.1 a.1,
+)
+
+each_alone : (n : ℕ) (parts : List (ℕ × SectionFields)) → Rises n (columns_above parts) → AllByRecursion (Alone parts) parts
+each_alone n [] r = tt
+each_alone n (part ∷ parts) r =
+    let none : filter (is_of_column part.0) parts ≡ [] = none_of part.0 (part.0 + 1) parts (omega arith) r.1 in
+    let here : eqb part.0 part.0 ≡ true = same_self part.0 in (
+      (rw (here, none) refl),
+      alone_behind part parts parts (are_higher (part.0 + 1) (part.0 + 1) parts (omega arith) r.1) (each_alone (part.0 + 1) parts r.1),
+    )
+
+equal_text : (xs ys : List ℕ) (b : Bool) → b ≡ pointwise nat_eq xs ys → not b ≡ false → xs ≡ ys
+equal_text xs ys true e h = same_text xs ys e
+equal_text xs ys false e h = absurd (false≢true (sym h))
+
+-- no conflict: at the same count the bytes are the same
+no_conflict_with : (o : Option SectionFields) (t : SectionFields) → differs_from o t ≡ false → SameAs o t
+no_conflict_with None t h = tt
+no_conflict_with (Some s) t h = λ same.
+    let e : eqb s.count t.count ≡ true = search rules in
+    let k : not (pointwise nat_eq s.bytes t.bytes) ≡ false = sym (ap (λ (b : Bool). b && not (pointwise nat_eq s.bytes t.bytes)) e) ∙ h in
+    sym (equal_text s.bytes t.bytes (pointwise nat_eq s.bytes t.bytes) refl k)
+
+neither : (a b : Bool) → (a || b) ≡ false → (a ≡ false) × (b ≡ false)
+neither true b h = absurd (false≢true (sym h))
+neither false b h = (refl, h)
+
+in_order : (old same conflicts : Bool) → is_candidate (cond old (Refused OldStamp) (cond same Known (cond conflicts (Refused CountConflict) Candidate))) ≡ true → conflicts ≡ false
+in_order true same conflicts h = absurd (false≢true h)
+in_order false true conflicts h = absurd (false≢true h)
+in_order false false true h = absurd (false≢true h)
+in_order false false false h = refl
+
+-- what the answer says of a layout that is accepted
+accepted_has_none : (held : Option HeldLayout) (stamp : Stamp) (conflicts : Bool) → is_candidate (layout_answer held stamp conflicts) ≡ true → conflicts ≡ false
+accepted_has_none None stamp true h = absurd (false≢true h)
+accepted_has_none None stamp false h = refl
+accepted_has_none (Some held) stamp conflicts h = in_order (is_older stamp held.stamp) (not (is_older held.stamp stamp)) conflicts h
+
+new_greater : (held : Option SectionFields) (t : SectionFields) → SameAs held t → Keeps (greater held t) t
+new_greater None t same = (omega arith, λ e. refl)
+new_greater (Some h) t same = elim (cases_lt h.count t.count) [
+  | inl l ↦ (let e : ltb h.count t.count ≡ true = search rules in rw e (omega arith, λ k. refl))
+  | inr m ↦ (let e : ltb h.count t.count ≡ false = search rules in rw e (m, same))
+]
+
+new_one : (low : ℕ) (old : List SectionFields) (t : SectionFields) (b : Bool) → leb low t.count ≡ b → low ≤ t.count → SameAs (first_greatest old) t → Keeps (first_greatest (cond b (t ∷ old) old)) t
+new_one low old t true e h same = new_greater (first_greatest old) t same
+new_one low old t false e h same = let up : leb low t.count ≡ true = search rules in absurd (false≢true (sym e ∙ up))
+
+new_good : (g : Given) (E : List Entry) (r : ℕ) (bytes : List ℕ) (stamp : Stamp) (all parts : List (ℕ × SectionFields)) (answer : Answer) → is_candidate answer.outcome ≡ true
+    → AllByRecursion (Alone all) parts → has_count_conflict g E parts ≡ false → AreGood g (Arrive r bytes (Layout (Some stamp) all) answer ∷ E) parts
+new_good g E r bytes stamp all [] answer accepted alone none = tt
+new_good g E r bytes stamp all (part ∷ parts) answer accepted alone none =
+    let apart = neither (differs_from (held_section g E part.0) part.1 || differs_from (section_in_force g E part.0) part.1) (has_count_conflict g E parts) none in
+    let both = neither (differs_from (held_section g E part.0) part.1) (differs_from (section_in_force g E part.0) part.1) apart.0 in (
+      (λ low. (
+        rw (accepted, alone.0) (new_one (count_for part.0 g.counts) (filter (passes (count_for part.0 g.counts)) (flat_map (sections_at part.0) E)) part.1 (leb (count_for part.0 g.counts) part.1.count) refl low
+            (no_conflict_with (held_section g E part.0) part.1 both.0)),
+        no_conflict_with (section_in_force g E part.0) part.1 both.1,
+      )),
+      new_good g E r bytes stamp all parts answer accepted alone.1 apart.1,
+    )
+
+-- ---- every life
+
+after_layout : (g : Given) (E : List Entry) (e : Entry) (mine accepted : Bool) (new : HeldLayout) (o : Option HeldLayout) → (accepted ≡ true → AreGood g (e ∷ E) new.sections) → MayGood g (e ∷ E) o
+    → MayGood g (e ∷ E) (cond (mine && accepted) (Some new) o)
+after_layout g E e true true new o h k = h refl
+after_layout g E e true false new o h k = k
+after_layout g E e false accepted new o h k = k
+
+pub held_are_good : (settings : MergerSettings) (g : Given) (E : List Entry) (s : ℕ) → IsLife merged_answer (ReadsForMerger settings) g E → MayGood g E (held_layout E s)
+held_are_good settings g [] s life = tt
+held_are_good settings g (Arrive r bytes (Layout (Some stamp) sections) answer ∷ E) s life =
+    after_layout g E (Arrive r bytes (Layout (Some stamp) sections) answer) (eqb r s) (is_candidate answer.outcome) (record { stamp = stamp; sections = sections }) (held_layout E s)
+    (λ accepted. new_good g E r bytes stamp sections sections answer accepted (each_alone 0 sections life.0.reads.of_table.rise)
+    (accepted_has_none (held_layout E r) stamp (has_count_conflict g E sections) (sym (ap (λ (a : Answer). is_candidate a.outcome) life.1) ∙ accepted)))
+    (may_after g E (Arrive r bytes (Layout (Some stamp) sections) answer) (held_layout E s) (held_are_good settings g E s life.2))
+held_are_good settings g (Arrive r bytes (Layout None sections) answer ∷ E) s life = absurd life.0.reads
+held_are_good settings g (Arrive r bytes (BytesRefused refusal) answer ∷ E) s life =
+    may_after g E (Arrive r bytes (BytesRefused refusal) answer) (held_layout E s) (held_are_good settings g E s life.2)
+held_are_good settings g (Arrive r bytes (Data i quality payload) answer ∷ E) s life =
+    may_after g E (Arrive r bytes (Data i quality payload) answer) (held_layout E s) (held_are_good settings g E s life.2)
+held_are_good settings g (Tick now counts answer ∷ E) s life =
+    may_after g E (Tick now counts answer) (held_layout E s) (held_are_good settings g E s life.1)
+held_are_good settings g (Pop row ∷ E) s life = may_after g E (Pop row) (held_layout E s) (held_are_good settings g E s life.1)
+
+-- what holds of all holds of each
+at_place : {A : Type 0} (P : A → Type 0) (xs : List A) (x : A) (k : ℕ) → k < length xs → slice_index_or xs k x ≡ x → AllByRecursion P xs → P x
+at_place P [] x k l e a = absurd (omega (arith, l))
+at_place P (y ∷ xs) x zero l e a = subst P e a.0
+at_place P (y ∷ xs) x (suc k) l e a = at_place P xs x k (omega (arith, l)) e a.1
+
+pub of_each : {A : Type 0} (P : A → Type 0) (xs : List A) (x : A) → AllByRecursion P xs → Contains xs x → P x
+of_each P xs x a k = at_place P xs x k.0 k.1 k.2 a
+
+pub same_count_same_section : SameCountSameSection
+same_count_same_section settings g E s c layout t u life held among in_force same =
+    let good : AreGood g E layout.sections = subst (MayGood g E) held (held_are_good settings g E s life.life) in
+    let one : Good g E (c, t) = of_each (Good g E) layout.sections (c, t) good among in
+    let cleared = in_force_is_cleared g E c u (lives_are_ticked merged_answer (ReadsForMerger settings) g E life.life) in_force in
+    let k = one (omega (arith, cleared.0, same)) in
+    subst (λ (o : Option SectionFields). SameAs o t) in_force k.1 same
