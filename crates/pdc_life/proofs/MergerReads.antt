@@ -1,5 +1,5 @@
 -- Bytes that arrive from a node say one thing at the merger.
-use Rattle.std.proofs.Common.{◌≡◌, ◌↔◌, ◌≢◌, ◌⊎◌, inl, inr, ℕ, zero, suc, Bool, true, false, ◌&&◌, not, List, [], ◌∷◌, eqb, map, refl, sym, ap, subst, ◌∙◌, rules, Option, Some, None}
+use Rattle.std.proofs.Common.{◌≡◌, ◌≢◌, ◌⊎◌, inl, inr, ℕ, zero, suc, Bool, true, false, ◌&&◌, not, List, [], ◌∷◌, eqb, map, refl, sym, ap, subst, ◌∙◌, rules, Option, Some, None}
 use Rattle.std.specs.Prelude.{◌==◌, ◌||◌}
 use Rattle.std.specs.Int.{w16, cast_unsigned}
 use Rattle.std.specs.List.{AllByRecursion, list_any, slice_get}
