@@ -1,12 +1,15 @@
 -- What holds of every life of the merger (this profile).
-use Rattle.std.specs.Prelude.{◌≡◌, ℕ, List, Some}
+use Rattle.std.specs.Prelude.{◌≡◌, ℕ, List, ◌∷◌, Some}
 use Rattle.std.specs.List.{Contains}
 use Rattle.pdc_cfg.specs.Section.{SectionFields}
+use Rattle.pdc_life.specs.declared.merging.MergedNode.{MergedNode}
 use Rattle.pdc_life.specs.declared.merging.MergerSettings.{MergerSettings}
+use Rattle.pdc_life.specs.Answer.{IsLifeOf, Step}
+use Rattle.pdc_life.specs.Arrival.{Arrival}
 use Rattle.pdc_life.specs.Given.{Given}
-use Rattle.pdc_life.specs.Life.{Entry, section_in_force}
-use Rattle.pdc_life.specs.Merger.{HeldLayout, held_layout}
-use Rattle.pdc_life.specs.MergerReading.{IsMergerLife}
+use Rattle.pdc_life.specs.Life.{Answer, Arrive, Entry, section_in_force}
+use Rattle.pdc_life.specs.Merger.{HeldLayout, held_layout, merged_answer}
+use Rattle.pdc_life.specs.MergerReading.{IsMergerLife, ReadsForMerger, ReadsFrom}
 use Rattle.pdc_life.specs.Run.{IsRun}
 
 -- A section of a held layout with the count in force of its column is the one in force.
@@ -19,3 +22,21 @@ SameCountSameSection =
 -- The merger's lives are runs: what holds of all runs holds of them.
 abbrev pub MergerLivesAreRuns : Type 0
 MergerLivesAreRuns = (settings : MergerSettings) (g : Given) (E : List Entry) → IsMergerLife settings g E → IsRun g E
+
+-- What bytes say that arrived from a node is one thing: no two causes hold of them, none holds of what is taken, and they are data
+-- or a layout in one way.
+abbrev pub MergerReadsOnce : Type 0
+MergerReadsOnce =
+    (settings : MergerSettings) (node : MergedNode) (bytes : List ℕ) (a b : Arrival) → ReadsFrom settings node bytes a → ReadsFrom settings node bytes b → a ≡ b
+
+-- Two answers to the same bytes cannot both hold, nor can the bytes say two things: after one life, for one stream.
+abbrev pub MergerAnswersAreOne : Type 0
+MergerAnswersAreOne =
+    (settings : MergerSettings) (g : Given) (E : List Entry) (s : ℕ) (bytes : List ℕ) (r t : Arrival) (a b : Answer) →
+    IsMergerLife settings g (Arrive s bytes r a ∷ E) → IsMergerLife settings g (Arrive s bytes t b ∷ E) → (r ≡ t) × (a ≡ b)
+
+-- Steps have one life at most.
+abbrev pub MergerStepsHaveOneLife : Type 0
+MergerStepsHaveOneLife =
+    (settings : MergerSettings) (g : Given) (steps : List Step) (E F : List Entry) →
+    IsLifeOf merged_answer (ReadsForMerger settings) g steps E → IsLifeOf merged_answer (ReadsForMerger settings) g steps F → E ≡ F

@@ -5,7 +5,7 @@ ghost use Rattle.pdc_life.specs.Frames.{ChangesFit, ClosedRowsAreFrames, Layouts
 ghost use Rattle.pdc_life.specs.Genuine.{BlocksAreGenuine, CellsWereGiven, ChosenIsShown, NodeCellsAreData, NodeTakenIsShown, RowsAreGenuine};
 ghost use Rattle.pdc_life.specs.InTime.{ClosedStayClosed, MergerTakesInTime, NodeTakesInTime, TakenIsInTime};
 ghost use Rattle.pdc_life.specs.Laws.{ChangesNeverFall, ChangesRiseByOne, InForceIsCleared, MergerLivesAreTicked, NodeLivesAreRuns, NoneOvertakes, RowsAreOfTheirTicks, RowsComeOutOnce, RowsRise, SameChangeSameSections};
-ghost use Rattle.pdc_life.specs.MergerLaws.{MergerLivesAreRuns, SameCountSameSection};
+ghost use Rattle.pdc_life.specs.MergerLaws.{MergerAnswersAreOne, MergerLivesAreRuns, MergerReadsOnce, MergerStepsHaveOneLife, SameCountSameSection};
 ghost use Rattle.pdc_life.specs.OneLife.{NodeAnswersAreOne, NodeReadsOnce, NodeStepsHaveOneLife, OneStepMore, StepsMakeMergerLives, StepsMakeNodeLives};
 ghost use Rattle.pdc_life.specs.Sections.{CountsNeverFall, HeldHasCome, HeldIsGreatest, HeldIsSection, InForceHasCome, InForceIsSection, NodeHoldsGreatest};
 ghost use Rattle.pdc_life.specs.Tagged.{NextIsAbove, RowsHaveTags};
@@ -177,4 +177,16 @@ pub fn merger_lives_are_runs()
     ensures { MergerLivesAreRuns }
 {
     configurations_are_read_in_one_way();
+}
+
+/// At the merger too, bytes say one thing at most, answers are one, and steps have one life at most.
+pub fn merger_steps_have_one_life()
+    ensures bytes { MergerReadsOnce }
+    ensures answers { MergerAnswersAreOne }
+    ensures lives { MergerStepsHaveOneLife }
+{
+    frames_are_read_in_one_way();
+    configurations_are_read_in_one_way();
+    instant_is_nearest();
+    own_sections_tell_stamps();
 }

@@ -1,27 +1,24 @@
 -- The wire of a row is a frame that is cut; the wire of a layout is a frame whose payload is the layout.
-use Rattle.std.proofs.Common.{rules, ◌≡◌, ◌↔◌, inr, inl, ℕ, ◌+◌, ◌*◌, ◌/◌, ◌%◌, ◌^◌, ◌<◌, ◌≤◌, false, List, [], ◌∷◌, ◌++◌, length, map, refl, sym, ap, subst, ◌∙◌, arith, suc, zero, length-append}
+use Rattle.std.proofs.Common.{rules, ◌≡◌, ◌↔◌, inr, inl, ℕ, ◌+◌, ◌*◌, ◌%◌, ◌^◌, ◌<◌, ◌≤◌, false, List, [], ◌∷◌, ◌++◌, length, map, refl, sym, ap, arith, suc, zero, length-append}
 use Rattle.std.specs.Int.{w16, w32, to_be_bytes, cast_signed, cast_unsigned}
 use Rattle.std.proofs.lemmas.Int.{of_z-to_z}
 use Rattle.std.specs.List.{AllByRecursion, flat_map}
 use Rattle.std.proofs.Math.Nat.{mul-le-mul_right}
 use Rattle.std.proofs.lemmas.Bool.{cases_lt}
 use Rattle.std.proofs.lemmas.List.Folds.{flat_map-map}
-use Rattle.pdc_frame.specs.Frame.{Fits, IsFrame}
-use Rattle.pdc_frame.specs.declared.frame.Kind.TheVariants.{Cfg2}
 use Rattle.pdc_cfg.specs.Section.{SectionFields, IsSection}
-use Rattle.pdc_cfg.specs.Shape.{word_count_of}
-use Rattle.pdc_cfg.specs.Config.{ConfigFields, IsConfig, bytes_of_sections}
+use Rattle.pdc_cfg.specs.Config.{ConfigFields, bytes_of_sections}
 use Rattle.pdc_cfg.specs.declared.shape.Shape.{Shape}
 use Rattle.pdc_tag.specs.Tag.{IsTag, tag_of}
-use Rattle.pdc_block.specs.Block.{AreOfShapes, AreWords, IsCut, bytes_of_blocks, bytes_of_words}
+use Rattle.pdc_block.specs.Block.{AreOfShapes, AreWords, bytes_of_words}
 use Rattle.pdc_row.specs.CellView.{BlockView}
 use Rattle.pdc_row.specs.RowView.{RowView}
 use Rattle.pdc_output.specs.declared.output.Output.{Output}
-use Rattle.pdc_output.specs.Layout.{IsLayout, layout_fields_of, layout_payload_of, layout_wire_of, own_block, own_bytes, row_fields, row_payload, stamp_words, wire_of}
+use Rattle.pdc_output.specs.Layout.{layout_payload_of, own_block, own_bytes, row_payload}
 use Rattle.pdc_output.specs.Laws.{LayoutsAreFrames, RowsAreCut, RowsAreFrames, words_of_row}
-use Rattle.pdc_output.proofs.Bytes.{Bytes, Bytes-append, Bytes-nil, Bytes-flat_map, Bytes-long, Bytes-word}
+use Rattle.pdc_output.proofs.Bytes.{Bytes, Bytes-append, Bytes-nil, Bytes-long, Bytes-word}
 use Rattle.pdc_output.proofs.Layouts.{same_payload}
-use Rattle.pdc_output.proofs.OwnSections.{Bytes-own, length-own, own_is_section}
+use Rattle.pdc_output.proofs.OwnSections.{Bytes-own, own_is_section}
 use Rattle.pdc_output.proofs.RowFrames.{row_is_frame}
 
 -- the own words

@@ -1,6 +1,6 @@
 -- What a concentrator says of itself, and the frames that it publishes (the own section and the own block: this profile; the
 -- frames: IEEE C37.118.2-2011, 6.3 and 6.4).
-use Rattle.std.specs.Prelude.{◌≡◌, ℕ, ◌*◌, ◌/◌, ◌%◌, ◌^◌, ◌+◌, List, [], ◌∷◌, ◌++◌, length, map, replicate}
+use Rattle.std.specs.Prelude.{◌≡◌, ℕ, ◌*◌, ◌/◌, ◌%◌, ◌^◌, ◌+◌, List, [], ◌∷◌, ◌++◌, length, replicate}
 use Rattle.std.specs.Int.{w16, w32, to_be_bytes, cast_unsigned}
 use Rattle.std.specs.List.{flat_map}
 use Rattle.pdc_frame.specs.Frame.{Fields, spelling_of}
