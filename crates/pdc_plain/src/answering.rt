@@ -1,21 +1,18 @@
-//! What a step is answered, asked of the whole list. A life is kept newest first.
-ghost use Rattle.std.specs.Prelude.{◌≡◌, ◌+◌, ℕ, List, IfOk, IfSome, nat_lt, option_map};
+//! What a node answers to an arrival, asked of the whole list. A life is kept newest first.
+ghost use Rattle.std.specs.Prelude.{◌≡◌, ◌∷◌, [], IfOk, map, option_map};
 ghost use Rattle.pdc_cfg.specs.Section.{fields_of_view};
-ghost use Rattle.pdc_block.specs.Block.{words_in, words_of};
-ghost use Rattle.pdc_row.specs.RowView.{row_view};
-ghost use Rattle.pdc_life.specs.Answer.{IsLife, adopts, arrival_answer, configuration_answer, data_answer, has_candidate, is_used_up, pop_answer, take_answer};
+ghost use Rattle.pdc_life.specs.Life.{section_in_force};
+ghost use Rattle.pdc_life.specs.Node.{data_answer, node_answer, section_after, section_answer};
 ghost use Rattle.pdc_life.specs.Views.{arrival_view};
-ghost use Rattle.pdc_plain.specs.Views.{life_view, take_view};
+ghost use Rattle.pdc_plain.specs.Views.{answer_view, given_view, life_view, part_view};
 
-use crate::instants::{is_near_held, waiting};
-use crate::past::{changes, held_section, is_newer, last_of, now_of, section_in_force};
-use crate::steps::Answered;
-use crate::take::{Take, body};
-use crate::taking::take_of;
-use pdc_block::Block;
+use crate::blocks::body;
+use crate::given::Given;
+use crate::in_time::{answer_in_time, bare};
+use crate::past::{count_for, held_section, section_in_force};
+use crate::steps::{Answer, Answered, ColumnCell};
 use pdc_cfg::SectionView;
-use pdc_life::{Given, Outcome, Reading, Refusal};
-use pdc_row::DueRow;
+use pdc_life::{Outcome, Reading, Refusal};
 use std::alloc::{AllocError, Global};
 
 /// The answer to an arrival for a PMU.
@@ -23,87 +20,81 @@ use std::alloc::{AllocError, Global};
 /// # Errors
 ///
 /// [`AllocError`] where there is no room and none is got.
-pub fn arrival_answer(
+pub fn node_answer(
     alloc: Global,
     given: &Given,
     life: &[Answered],
-    pmu: usize,
+    stream: usize,
     reading: &Reading,
-) -> Result<Outcome, AllocError>
-    requires { IsLife given.now (life_view life.now) }
-    ensures { IfOk result (λ answer. answer ≡ arrival_answer given.now (life_view life.now) pmu (arrival_view reading.now)) }
+) -> Result<Answer, AllocError>
+    ensures { IfOk result (λ answer. answer_view answer ≡ node_answer (given_view given.now) (life_view life.now) stream (arrival_view stream reading.now)) }
 {
     match reading {
-        Reading::Unread(refusal) => Ok(Outcome::Refused(*refusal)),
+        Reading::BytesRefused(refusal) => Ok(bare(alloc, Outcome::Refused(*refusal))),
         Reading::Data {
             instant,
+            quality,
             payload,
-            ..
-        } => data_answer(alloc, given, life, pmu, *instant, payload),
+        } => data_answer(alloc, given, life, stream, *instant, *quality, payload),
         Reading::Configuration(section) => {
-            Ok(configuration_answer(held_section(life, pmu), section))
+            let opening = count_for(stream, &given.counts);
+            let held = held_section(given, life, stream);
+            Ok(bare(alloc, section_answer(opening, held, section)))
         }
     }
 }
 
-/// The answer to data of a PMU: the first cause that holds.
+/// The answer to data of a PMU: it gives the cell of its column, under the section in force.
 fn data_answer(
     alloc: Global,
     given: &Given,
     life: &[Answered],
-    pmu: usize,
+    stream: usize,
     instant: u64,
+    quality: u8,
     payload: &[u8],
-) -> Result<Outcome, AllocError>
-    requires { IsLife given.now (life_view life.now) }
-    ensures { IfOk result (λ answer. answer ≡ data_answer given.now (life_view life.now) pmu instant payload.now) }
+) -> Result<Answer, AllocError>
+    ensures { IfOk result (λ answer. answer_view answer
+        ≡ data_answer (given_view given.now) (life_view life.now) stream instant quality payload.now (section_in_force (given_view given.now) (life_view life.now) stream)) }
 {
-    let Some(section) = section_in_force(life, pmu) else {
-        return Ok(Outcome::Refused(Refusal::NoConfig));
+    let Some(section) = section_in_force(given, life, stream) else {
+        return Ok(bare(alloc, Outcome::Refused(Refusal::NoConfig)));
     };
     if payload.len() != 2 * section.shape.word_count() {
-        return Ok(Outcome::Refused(Refusal::WrongLength));
+        return Ok(bare(alloc, Outcome::Refused(Refusal::WrongLength)));
     }
-    if instant <= last_of(given, life) {
-        return Ok(Outcome::Refused(Refusal::Late));
-    }
-    if is_ahead(now_of(given, life), given.settings.ahead, instant) {
-        return Ok(Outcome::Refused(Refusal::Ahead));
-    }
-    if !is_near_held(alloc, given, life, instant)? {
-        return Ok(Outcome::Refused(Refusal::OutOfWindow));
-    }
-    let taken = take_of(given, life, pmu, instant);
-    Ok(take_answer(taken, &body(section.shape, payload)))
+    let cell = ColumnCell {
+        column: stream,
+        block: body(section.shape, payload),
+        quality,
+    };
+    let cells = one_cell(alloc, cell)?;
+    answer_in_time(alloc, given, life, stream, instant, cells)
 }
 
-/// Whether the instant is more than `ahead` above now. It does not wrap.
-fn is_ahead(now: u64, ahead: u64, instant: u64) -> bool
-    ensures { result ≡ nat_lt (now + ahead) instant }
+/// This cell alone.
+fn one_cell(alloc: Global, cell: ColumnCell) -> Result<Vec<ColumnCell>, AllocError>
+    ensures { IfOk result (λ cells. map part_view cells.items ≡ part_view cell ∷ []) }
 {
-    now < instant && ahead < instant - now
+    let mut cells = Vec::new(alloc);
+    cells.push(cell)?;
+    Ok(cells)
 }
 
-/// Data is taken where nothing was; the same data is a duplicate, and other data conflicts.
-fn take_answer(taken: Option<Take>, block: &Block) -> Outcome
-    ensures { (pmu : ℕ) (payload : List ℕ) → IfSome taken.entry (λ take. take.pmu ≡ pmu) → words_of block.now ≡ words_in payload
-        → result ≡ take_answer pmu (option_map take_view taken.entry) payload }
+/// A section below the opening count is stale, also where nothing is held.
+fn section_answer(opening: u16, held: Option<SectionView>, section: &SectionView) -> Outcome
+    ensures { result ≡ section_answer opening (option_map fields_of_view held.entry) (fields_of_view section.now) }
 {
-    match taken {
-        Some(take) => {
-            if take.block().words() == block.words() {
-                Outcome::Refused(Refusal::Duplicate)
-            } else {
-                Outcome::Refused(Refusal::Conflict)
-            }
-        }
-        None => Outcome::Taken,
+    if section.count < opening {
+        Outcome::Refused(Refusal::StaleCount)
+    } else {
+        section_after(held, section)
     }
 }
 
 /// A section is stale below the held count, new above it, and at the same count known where it has the same bytes.
-fn configuration_answer(held: Option<SectionView>, section: &SectionView) -> Outcome
-    ensures { result ≡ configuration_answer (option_map fields_of_view held.entry) (fields_of_view section.now) }
+fn section_after(held: Option<SectionView>, section: &SectionView) -> Outcome
+    ensures { result ≡ section_after (option_map fields_of_view held.entry) (fields_of_view section.now) }
 {
     let Some(held) = held else {
         return Outcome::Candidate;
@@ -116,50 +107,5 @@ fn configuration_answer(held: Option<SectionView>, section: &SectionView) -> Out
         Outcome::Known
     } else {
         Outcome::Refused(Refusal::CountConflict)
-    }
-}
-
-/// Whether some PMU holds a count that is newer than the one in force.
-#[tactic(auto, using(crate::proofs::Ranges::any_step))]
-fn has_candidate(given: &Given, life: &[Answered]) -> bool
-    ensures { result ≡ has_candidate given.now (life_view life.now) }
-{
-    for pmu in 0..given.settings.pmus.len() {
-        if is_newer(held_section(life, pmu), section_in_force(life, pmu)) {
-            return true;
-        }
-    }
-    false
-}
-
-/// Whether the next tick adopts: some count is newer, and a change number is left.
-pub fn adopts(given: &Given, life: &[Answered]) -> bool
-    requires { IsLife given.now (life_view life.now) }
-    ensures { result ≡ adopts given.now (life_view life.now) }
-{
-    changes(given, life) < u32::MAX && has_candidate(given, life)
-}
-
-/// Whether some count is newer at the next tick, and no change number is left.
-pub fn is_used_up(given: &Given, life: &[Answered]) -> bool
-    requires { IsLife given.now (life_view life.now) }
-    ensures { result ≡ is_used_up given.now (life_view life.now) }
-{
-    changes(given, life) == u32::MAX && has_candidate(given, life)
-}
-
-/// The row that the next pop gives: the first that waits.
-///
-/// # Errors
-///
-/// [`AllocError`] where there is no room and none is got.
-pub fn pop_answer(alloc: Global, life: &[Answered]) -> Result<Option<DueRow>, AllocError>
-    ensures { IfOk result (λ row. option_map row_view row ≡ pop_answer (life_view life.now)) }
-{
-    let mut rows = waiting(alloc, life)?;
-    if rows.is_empty() {
-        Ok(None)
-    } else {
-        Ok(Some(rows.remove(0)))
     }
 }

@@ -1,79 +1,105 @@
 //! What a tick closes, asked of the whole list. A life is kept newest first.
-ghost use Rattle.std.specs.Prelude.{◌≡◌, ◌≤◌, ◌++◌, ◌||◌, IfOk, filter, map, not, nat_le, option_map, length};
-ghost use Rattle.std.specs.List.{filter_map, list_all, range_with_len};
-ghost use Rattle.pdc_row.specs.CellView.{block_view};
-ghost use Rattle.pdc_row.specs.Quality.{quality_of};
-ghost use Rattle.pdc_row.specs.RowView.{row_view};
-ghost use Rattle.pdc_life.specs.Answer.{IsLife};
-ghost use Rattle.pdc_life.specs.Life.{cell_of, changes, open_instants, pmus_of, section_in_force};
-ghost use Rattle.pdc_life.specs.Row.{block_in, closing, has_come, is_due, quality_in, row_of, rows_of};
-ghost use Rattle.pdc_plain.specs.Views.{life_view};
+ghost use Rattle.std.specs.Prelude.{◌≡◌, ◌≤◌, ◌||◌, IfOk, filter, length, not, nat_le};
+ghost use Rattle.std.specs.List.{list_all, range_with_len};
+ghost use Rattle.pdc_life.specs.Given.{streams_of};
+ghost use Rattle.pdc_life.specs.Life.{open_instants};
+ghost use Rattle.pdc_life.specs.Row.{closing, is_due, is_not_awaited, is_over, is_required};
+ghost use Rattle.pdc_plain.specs.Views.{given_view, life_view};
 
+use crate::given::Given;
 use crate::instants::open_instants;
-use crate::past::{changes, section_in_force};
+use crate::past::section_in_force;
 use crate::steps::Answered;
-use crate::taking::{age_of, present_take, take_of};
-use arrayvec::ArrayVec;
-use pdc_block::Block;
-use pdc_life::Given;
-use pdc_row::DueRow;
-use pdc_stat::absent;
+use crate::taking::{age_of, take_of};
+use pdc_life::WaitKind;
 use std::alloc::{AllocError, Global};
 
-/// Whether the PMU has no count in force, or its data for the instant was taken since it has.
-fn has_come(given: &Given, life: &[Answered], instant: u64, pmu: usize) -> bool
-    requires { IsLife given.now (life_view life.now) }
-    ensures { result ≡ has_come (life_view life.now) instant pmu }
+/// Whether an instant waits for the stream: with one lane where its column has a section in force, with two always.
+fn is_required(given: &Given, life: &[Answered], stream: usize) -> bool
+    ensures { result ≡ is_required (given_view given.now) (life_view life.now) stream }
 {
-    section_in_force(life, pmu).is_none() || take_of(given, life, pmu, instant).is_some()
+    given.lanes != 1 || section_in_force(given, life, stream).is_some()
 }
 
-/// Whether the data of every PMU with a count has come.
+/// Whether the instant does not wait for the stream, or its data for the instant has come.
+fn is_not_awaited(given: &Given, life: &[Answered], instant: u64, stream: usize) -> bool
+    ensures { result ≡ is_not_awaited (given_view given.now) (life_view life.now) instant stream }
+{
+    !is_required(given, life, stream) || take_of(given, life, stream, instant).is_some()
+}
+
+/// The number of streams: with one lane there is one for each column, with two there are two.
+fn stream_count(given: &Given) -> usize
+    ensures { streams_of (given_view given.now) ≡ range_with_len 0 result }
+{
+    if given.lanes == 1 { given.columns } else { 2 }
+}
+
+/// Whether the instant waits for no stream any more.
 #[tactic(auto, using(crate::proofs::Ranges::all_step))]
 fn have_all_come(given: &Given, life: &[Answered], instant: u64) -> bool
-    requires { IsLife given.now (life_view life.now) }
-    ensures { result ≡ list_all (has_come (life_view life.now) instant) (pmus_of given.now) }
+    ensures { result ≡ list_all (is_not_awaited (given_view given.now) (life_view life.now) instant) (streams_of (given_view given.now)) }
 {
-    for pmu in 0..given.settings.pmus.len() {
-        if !has_come(given, life, instant, pmu) {
+    let streams = stream_count(given);
+    for stream in 0..streams {
+        if !is_not_awaited(given, life, instant, stream) {
             return false;
         }
     }
     true
 }
 
-/// Whether the instant is due at the next tick: the data of every PMU with a count has come, or the wait is over.
-pub fn is_due(given: &Given, life: &[Answered], instant: u64) -> bool
-    requires { IsLife given.now (life_view life.now) }
-    ensures { result ≡ is_due given.now (life_view life.now) instant }
+/// Whether the wait of an instant is over, at this age or at this now. It does not wrap.
+fn is_over(kind: WaitKind, wait: u64, age: u64, now: u64, instant: u64) -> bool
+    ensures { result ≡ is_over kind wait age now instant }
 {
-    have_all_come(given, life, instant) || given.settings.wait <= age_of(given, life, instant) + 1
+    match kind {
+        WaitKind::Relative => wait <= age,
+        WaitKind::Absolute => wait <= now && instant <= now - wait,
+    }
+}
+
+/// Whether the instant is due at a tick with this now: each stream that it waits for has come, or its wait is over.
+pub fn is_due(given: &Given, life: &[Answered], now: u64, instant: u64) -> bool
+    ensures { result ≡ is_due (given_view given.now) (life_view life.now) now instant }
+{
+    let age = age_of(life, instant) + 1;
+    have_all_come(given, life, instant) || is_over(given.wait_kind, given.wait, age, now, instant)
 }
 
 /// Whether each of these open instants up to this one is due.
-fn are_due_up_to(given: &Given, life: &[Answered], open_instants: &[u64], instant: u64) -> bool
-    requires { IsLife given.now (life_view life.now) }
-    ensures { result ≡ list_all (λ j. not (nat_le j instant) || is_due given.now (life_view life.now) j) open_instants.now }
+fn are_due_up_to(
+    given: &Given,
+    life: &[Answered],
+    now: u64,
+    open_instants: &[u64],
+    instant: u64,
+) -> bool
+    ensures { result ≡ list_all (λ j. not (nat_le j instant) || is_due (given_view given.now) (life_view life.now) now j) open_instants.now }
 {
     for lower in open_instants {
-        if *lower <= instant && !is_due(given, life, *lower) {
+        if *lower <= instant && !is_due(given, life, now, *lower) {
             return false;
         }
     }
     true
 }
 
-/// The instants that close at the next tick, in rising order: the open ones for which every open one up to them is due.
+/// The instants that close at a tick with this now, in rising order: the open ones for which every open one up to them is due.
 ///
 /// # Errors
 ///
 /// [`AllocError`] where there is no room and none is got.
-pub fn closing(alloc: Global, given: &Given, life: &[Answered]) -> Result<Vec<u64>, AllocError>
-    requires { IsLife given.now (life_view life.now) }
-    ensures { IfOk result (λ instants. instants.items ≡ closing given.now (life_view life.now)) }
+pub fn closing(
+    alloc: Global,
+    given: &Given,
+    life: &[Answered],
+    now: u64,
+) -> Result<Vec<u64>, AllocError>
+    ensures { IfOk result (λ instants. instants.items ≡ closing (given_view given.now) (life_view life.now) now) }
 {
     let open_instants = open_instants(alloc, given, life)?;
-    closing_among(alloc, given, life, &open_instants)
+    closing_among(alloc, given, life, now, &open_instants)
 }
 
 /// Those of the open instants that close.
@@ -81,15 +107,15 @@ fn closing_among(
     alloc: Global,
     given: &Given,
     life: &[Answered],
+    now: u64,
     open_instants: &[u64],
 ) -> Result<Vec<u64>, AllocError>
-    requires { IsLife given.now (life_view life.now) }
     ensures { IfOk result (λ instants. instants.items
-        ≡ filter (λ i. list_all (λ j. not (nat_le j i) || is_due given.now (life_view life.now) j) open_instants.now) open_instants.now) }
+        ≡ filter (λ i. list_all (λ j. not (nat_le j i) || is_due (given_view given.now) (life_view life.now) now j) open_instants.now) open_instants.now) }
 {
     let mut closing = Vec::new(alloc);
     for instant in open_instants {
-        if are_due_up_to(given, life, open_instants, *instant) {
+        if are_due_up_to(given, life, now, open_instants, *instant) {
             closing.push(*instant)?;
         }
     }

@@ -3,14 +3,13 @@ ghost use Rattle.std.specs.Prelude.{◌≡◌, ◌++◌, ◌∷◌, OnOk, IfOk, 
 ghost use Rattle.std.specs.List.{list_all};
 ghost use Rattle.pdc_row.specs.Rising.{is_near, place, rising};
 ghost use Rattle.pdc_row.specs.RowView.{row_instants, row_view};
-ghost use Rattle.pdc_life.specs.Answer.{IsLife};
-ghost use Rattle.pdc_life.specs.Life.{held_instants, open_instants, taken_instants, waiting};
-ghost use Rattle.pdc_plain.specs.Views.{life_view};
+ghost use Rattle.pdc_life.specs.Life.{Take, held_instants, open_instants, takes, waiting};
+ghost use Rattle.pdc_plain.specs.Views.{given_view, life_view};
 
+use crate::given::Given;
 use crate::past::last_of;
 use crate::steps::Answered;
 use crate::taking::taken_at;
-use pdc_life::Given;
 use pdc_row::DueRow;
 use std::alloc::{AllocError, Global};
 
@@ -24,27 +23,20 @@ pub fn open_instants(
     given: &Given,
     life: &[Answered],
 ) -> Result<Vec<u64>, AllocError>
-    requires { IsLife given.now (life_view life.now) }
-    ensures { IfOk result (λ instants. instants.items ≡ open_instants given.now (life_view life.now)) }
+    ensures { IfOk result (λ instants. instants.items ≡ open_instants (given_view given.now) (life_view life.now)) }
 {
-    taken_above(alloc, given, life, last_of(given, life))
+    taken_above(alloc, life, last_of(given, life))
 }
 
 /// The instants above this one for which something was taken, in rising order.
-fn taken_above(
-    alloc: Global,
-    given: &Given,
-    life: &[Answered],
-    low: u64,
-) -> Result<Vec<u64>, AllocError>
-    requires { IsLife given.now (life_view life.now) }
-    ensures { IfOk result (λ instants. instants.items ≡ rising (filter (λ i. nat_lt low i) (taken_instants (life_view life.now)))) }
+fn taken_above(alloc: Global, life: &[Answered], low: u64) -> Result<Vec<u64>, AllocError>
+    ensures { IfOk result (λ instants. instants.items ≡ rising (filter (λ i. nat_lt low i) (map (λ (take : Take). take.instant) (takes (life_view life.now))))) }
 {
     let Some((newest, earlier)) = life.split_first() else {
         return Ok(Vec::new(alloc));
     };
-    let mut instants = taken_above(alloc, given, earlier, low)?;
-    if let Some(take) = taken_at(given, newest, earlier) {
+    let mut instants = taken_above(alloc, earlier, low)?;
+    if let Some(take) = taken_at(newest) {
         if low < take.instant {
             place(&mut instants, take.instant)?;
         }
@@ -82,7 +74,7 @@ pub fn waiting(alloc: Global, life: &[Answered]) -> Result<Vec<DueRow>, AllocErr
     };
     let mut rows = waiting(alloc, earlier)?;
     match newest {
-        Answered::Tick { rows: closed, .. } => append(closed, &mut rows)?,
+        Answered::Tick { answer, .. } => append(&answer.rows, &mut rows)?,
         Answered::Pop { .. } => {
             if !rows.is_empty() {
                 rows.remove(0);
@@ -118,10 +110,9 @@ pub fn is_near_held(
     life: &[Answered],
     instant: u64,
 ) -> Result<bool, AllocError>
-    requires { IsLife given.now (life_view life.now) }
-    ensures { IfOk result (λ near. near ≡ list_all (is_near given.now.settings.window instant) (held_instants given.now (life_view life.now))) }
+    ensures { IfOk result (λ near. near ≡ list_all (is_near given.now.window instant) (held_instants (given_view given.now) (life_view life.now))) }
 {
-    let window = given.settings.window;
+    let window = given.window;
     let open = open_instants(alloc, given, life)?;
     let rows = waiting(alloc, life)?;
     Ok(are_near(&open, window, instant) && rows_are_near(&rows, window, instant))

@@ -5,21 +5,28 @@
 //! by recursion, time and again, so it is for lists of some hundred steps and not for a running node. The worked examples run
 //! through it with real frames.
 //!
+//! The first type to look at is [`LifeStep`], and the first function [`answers`].
+//!
 //! The promise to the layers above: what these steps are answered, close, publish and lay out is what the one life of these
 //! steps has.
 #![tactic(auto)]
 
 mod answering;
+mod blocks;
 mod closing;
+mod given;
+mod in_time;
 mod instants;
 mod living;
+mod opening;
 mod past;
 mod plain;
 mod publishing;
 mod row_of;
 mod steps;
-mod take;
 mod taking;
+mod ticking;
 
-pub use plain::{answers, are_of_settings, layout, published, rows};
-pub use steps::{Answered, LifeStep};
+pub use opening::Opening;
+pub use plain::{answers, are_of_settings, layout, published, rows, waiting};
+pub use steps::{Answer, Answered, ColumnCell, LifeStep, TickAnswer};

@@ -1,23 +1,23 @@
 //! What the steps so far say, each question asked of the whole list. A life is kept newest first.
-ghost use Rattle.std.specs.Prelude.{◌≡◌, ◌≤◌, ◌<◌, ◌+◌, ◌++◌, length, map, option_map};
-ghost use Rattle.std.specs.Option.{option_to_list};
-ghost use Rattle.pdc_life.specs.Layout.{sections_in_force};
+ghost use Rattle.std.specs.Prelude.{◌≡◌, ◌≤◌, ◌<◌, ◌+◌, ◌==◌, length, map, option_map};
+ghost use Rattle.std.specs.List.{list_any};
 ghost use Rattle.pdc_cfg.specs.Section.{fields_of_view};
 ghost use Rattle.pdc_row.specs.Quality.{greatest};
 ghost use Rattle.pdc_row.specs.RowView.{row_instants, row_view};
-ghost use Rattle.pdc_life.specs.Answer.{IsLife};
-ghost use Rattle.pdc_life.specs.Life.{changes, greater, held_section, is_newer, last_of, now_of, section_in_force};
-ghost use Rattle.pdc_plain.specs.Views.{life_view};
+ghost use Rattle.pdc_life.specs.Given.{count_for};
+ghost use Rattle.pdc_life.specs.Life.{changes, cleared_count, greater, held_section, is_adoption, is_adoption_of, last_of, now_of, section_in_force};
+ghost use Rattle.pdc_life.specs.Run.{IsTicked};
+ghost use Rattle.pdc_plain.specs.Views.{entry_view, given_view, life_view};
 
-use crate::steps::Answered;
-use arrayvec::ArrayVec;
+use crate::given::Given;
+use crate::steps::{Answer, Answered};
 use pdc_cfg::SectionView;
-use pdc_life::{Given, Reading};
+use pdc_life::{MAX_PMUS, Outcome, Reading};
 use pdc_row::DueRow;
 
 /// The now of the last tick, else the opening one.
 pub fn now_of(given: &Given, life: &[Answered]) -> u64
-    ensures { result ≡ now_of given.now (life_view life.now) }
+    ensures { result ≡ now_of (given_view given.now) (life_view life.now) }
 {
     match life.split_first() {
         Some((Answered::Tick { now, .. }, _)) => *now,
@@ -28,10 +28,12 @@ pub fn now_of(given: &Given, life: &[Answered]) -> u64
 
 /// The greatest instant closed, else the floor.
 pub fn last_of(given: &Given, life: &[Answered]) -> u64
-    ensures { result ≡ last_of given.now (life_view life.now) }
+    ensures { result ≡ last_of (given_view given.now) (life_view life.now) }
 {
     match life.split_first() {
-        Some((Answered::Tick { rows, .. }, earlier)) => { greatest(rows, last_of(given, earlier)) }
+        Some((Answered::Tick { answer, .. }, earlier)) => {
+            greatest(&answer.rows, last_of(given, earlier))
+        }
         Some((_, earlier)) => last_of(given, earlier),
         None => given.floor,
     }
@@ -48,19 +50,47 @@ fn greatest(rows: &[DueRow], last: u64) -> u64
     greatest
 }
 
-/// The section held of a PMU: of the greatest count that arrived, the first of that count.
-pub fn held_section<'a>(life: &[Answered<'a>], pmu: usize) -> Option<SectionView<'a>>
-    ensures { option_map fields_of_view result ≡ held_section (life_view life.now) pmu }
+/// The count of a column; past the last one it is 0.
+pub fn count_for(column: usize, counts: &[u16; MAX_PMUS]) -> u16
+    ensures { result ≡ count_for column counts.now }
+{
+    if column < MAX_PMUS { counts[column] } else { 0 }
+}
+
+/// Cleared of a column: the greatest of its opening count and those that the ticks handed in.
+pub fn cleared_count(given: &Given, life: &[Answered], column: usize) -> u16
+    ensures { result ≡ cleared_count (given_view given.now) (life_view life.now) column }
+{
+    match life.split_first() {
+        Some((Answered::Tick { counts, .. }, earlier)) => {
+            cleared_count(given, earlier, column).max(count_for(column, counts))
+        }
+        Some((_, earlier)) => cleared_count(given, earlier, column),
+        None => count_for(column, &given.counts),
+    }
+}
+
+/// The section held of a column: of the greatest count that came and is not below the opening one, the first of that count.
+pub fn held_section<'a>(
+    given: &Given,
+    life: &[Answered<'a>],
+    column: usize,
+) -> Option<SectionView<'a>>
+    ensures { option_map fields_of_view result ≡ held_section (given_view given.now) (life_view life.now) column }
 {
     let (newest, earlier) = life.split_first()?;
-    let held = held_section(earlier, pmu);
+    let held = held_section(given, earlier, column);
     match newest {
         Answered::Arrival {
-            pmu: of,
+            stream,
             reading: Reading::Configuration(section),
+            answer: Answer {
+                outcome: Outcome::Candidate,
+                ..
+            },
             ..
         } => {
-            if *of == pmu {
+            if *stream == column && count_for(column, &given.counts) <= section.count {
                 Some(greater(held, *section))
             } else {
                 held
@@ -86,61 +116,75 @@ fn greater<'a>(held: Option<SectionView<'a>>, section: SectionView<'a>) -> Secti
     }
 }
 
-/// The section of a PMU that is in force: what was held before the last tick that adopted.
-pub fn section_in_force<'a>(life: &[Answered<'a>], pmu: usize) -> Option<SectionView<'a>>
-    ensures { option_map fields_of_view result ≡ section_in_force (life_view life.now) pmu }
+/// Whether the column is one of these.
+fn has_column(columns: &[usize], column: usize) -> bool
+    ensures { result ≡ list_any (λ d. d == column) columns.now }
+{
+    for other in columns {
+        if *other == column {
+            return true;
+        }
+    }
+    false
+}
+
+/// Whether the step is a tick that adopted the column.
+pub fn is_adoption_of(step: &Answered, column: usize) -> bool
+    ensures { result ≡ is_adoption_of column (entry_view step.now) }
+{
+    match step {
+        Answered::Tick { answer, .. } => has_column(&answer.adopted, column),
+        _ => false,
+    }
+}
+
+/// The section of a column that is in force: what was held before the last tick that adopted the column.
+pub fn section_in_force<'a>(
+    given: &Given,
+    life: &[Answered<'a>],
+    column: usize,
+) -> Option<SectionView<'a>>
+    ensures { option_map fields_of_view result ≡ section_in_force (given_view given.now) (life_view life.now) column }
 {
     let (newest, earlier) = life.split_first()?;
-    match newest {
-        Answered::Tick { adopted: true, .. } => held_section(earlier, pmu),
-        _ => section_in_force(earlier, pmu),
+    if is_adoption_of(newest, column) {
+        held_section(given, earlier, column)
+    } else {
+        section_in_force(given, earlier, column)
     }
 }
 
-/// Whether the held count is greater than the one in force, or the first.
-pub fn is_newer(held: Option<SectionView>, in_force: Option<SectionView>) -> bool
-    ensures { result ≡ is_newer (option_map fields_of_view held.entry) (option_map fields_of_view in_force.entry) }
+/// Whether the step is a tick that adopted some column.
+fn is_adoption(step: &Answered) -> bool
+    ensures { result ≡ is_adoption (entry_view step.now) }
 {
-    match (held, in_force) {
-        (Some(held), Some(in_force)) => in_force.count < held.count,
-        (held, None) => held.is_some(),
-        (None, Some(_)) => false,
+    match step {
+        Answered::Tick { answer, .. } => !answer.adopted.is_empty(),
+        _ => false,
     }
 }
 
-/// The change number: how many ticks adopted.
-pub fn changes(given: &Given, life: &[Answered]) -> u32
-    requires { IsLife given.now (life_view life.now) }
-    ensures { result ≡ changes (life_view life.now) }
+/// How many ticks adopted.
+pub fn changes(life: &[Answered]) -> u64
+    ensures count { result ≡ changes (life_view life.now) }
+    ensures most { result ≤ length life.now }
 {
     match life.split_first() {
-        Some((Answered::Tick { adopted: true, .. }, earlier)) => changes(given, earlier) + 1,
-        Some((_, earlier)) => changes(given, earlier),
+        Some((newest, earlier)) => {
+            if is_adoption(newest) {
+                changes(earlier) + 1
+            } else {
+                changes(earlier)
+            }
+        }
         None => 0,
     }
 }
 
-/// The sections in force, in the order of the settings.
-#[tactic(auto, using(crate::proofs::Ranges::filter_map_step))]
-pub fn sections_in_force<'a>(given: &Given, life: &[Answered<'a>]) -> ArrayVec<SectionView<'a>, 16>
-    ensures sections { map fields_of_view result.items ≡ sections_in_force given.now (life_view life.now) }
-    ensures few { length result.items ≤ 16 }
+/// The change number: how many ticks adopted. A life has no more of them than there are numbers.
+pub fn change_number(given: &Given, life: &[Answered]) -> u32
+    requires { IsTicked (given_view given.now) (life_view life.now) }
+    ensures { result ≡ changes (life_view life.now) }
 {
-    let mut sections = ArrayVec::new();
-    for pmu in 0..given.settings.pmus.len() {
-        push_some(section_in_force(life, pmu), &mut sections);
-    }
-    sections
-}
-
-/// Appends the section, if there is one.
-fn push_some<'a>(section: Option<SectionView<'a>>, sections: &mut ArrayVec<SectionView<'a>, 16>)
-    requires { length sections.old.items < 16 }
-    ensures sections { map fields_of_view sections.new.items
-        ≡ map fields_of_view sections.old.items ++ option_to_list (option_map fields_of_view section.entry) }
-    ensures grown { length sections.new.items ≤ length sections.old.items + 1 }
-{
-    if let Some(section) = section {
-        sections.push(section);
-    }
+    changes(life) as u32
 }

@@ -1,17 +1,23 @@
 //! What a life closed and published, asked of the whole list. A life is kept newest first.
-ghost use Rattle.std.specs.Prelude.{◌≡◌, ◌*◌, ◌<◌, ◌++◌, IfOk, OnErr, OnOk, map};
+ghost use Rattle.std.specs.Prelude.{◌≡◌, ◌≤◌, ◌<◌, ◌*◌, ◌+◌, ◌++◌, IfOk, OnErr, OnOk, length, map, option_map};
 ghost use Rattle.std.specs.List.{All};
+ghost use Rattle.std.specs.Option.{option_to_list};
+ghost use Rattle.pdc_cfg.specs.Section.{fields_of_view};
 ghost use Rattle.pdc_row.specs.RowView.{row_view};
-ghost use Rattle.pdc_life.specs.Laws.{closed};
-ghost use Rattle.pdc_life.specs.Answer.{IsLife};
-ghost use Rattle.pdc_life.specs.Layout.{layout_wire, published, wire_of};
-ghost use Rattle.pdc_life.specs.Life.{popped};
-ghost use Rattle.pdc_plain.specs.Views.{life_view};
+ghost use Rattle.pdc_output.specs.Layout.{wire_of};
+ghost use Rattle.pdc_life.specs.Life.{closed, popped};
+ghost use Rattle.pdc_life.specs.Published.{layout_wire, published, sections_in_force};
+ghost use Rattle.pdc_life.specs.Run.{IsRun, IsTicked};
+ghost use Rattle.pdc_plain.specs.Views.{given_view, life_view};
 
+use crate::given::Given;
 use crate::instants::append;
-use crate::past::{changes, sections_in_force};
+use crate::past::{change_number, section_in_force};
 use crate::steps::Answered;
-use pdc_life::{Given, Settings, append_layout, append_row, rows_have_tags};
+use arrayvec::ArrayVec;
+use pdc_cfg::SectionView;
+use pdc_life::rows_have_tags;
+use pdc_output::{Output, append_layout, append_row};
 use pdc_row::DueRow;
 use std::alloc::{AllocError, Global};
 
@@ -27,8 +33,8 @@ pub fn closed(alloc: Global, life: &[Answered]) -> Result<Vec<DueRow>, AllocErro
         return Ok(Vec::new(alloc));
     };
     let mut rows = closed(alloc, earlier)?;
-    if let Answered::Tick { rows: more, .. } = newest {
-        append(more, &mut rows)?;
+    if let Answered::Tick { answer, .. } = newest {
+        append(&answer.rows, &mut rows)?;
     }
     Ok(rows)
 }
@@ -61,12 +67,37 @@ pub fn frames_of(
     given: &Given,
     life: &[Answered],
 ) -> Result<Vec<Vec<u8>>, AllocError>
-    requires { IsLife given.now (life_view life.now) }
-    ensures { IfOk result (λ frames. map (λ frame. frame.items) frames.items ≡ published given.now (life_view life.now)) }
+    requires { IsRun (given_view given.now) (life_view life.now) }
+    ensures { IfOk result (λ frames. map (λ frame. frame.items) frames.items ≡ published (given_view given.now) (life_view life.now)) }
 {
     rows_have_tags();
     let rows = popped(alloc, life)?;
-    frames(alloc, &given.settings, &rows)
+    frames(alloc, &given.output, &rows)
+}
+
+/// The sections in force, in column order.
+#[tactic(auto, using(crate::proofs::Ranges::filter_map_step))]
+fn sections_in_force<'a>(given: &Given, life: &[Answered<'a>]) -> ArrayVec<SectionView<'a>, 16>
+    ensures sections { map fields_of_view result.items ≡ sections_in_force (given_view given.now) (life_view life.now) }
+    ensures few { length result.items ≤ 16 }
+{
+    let mut sections = ArrayVec::new();
+    for column in 0..given.columns {
+        push_some(section_in_force(given, life, column), &mut sections);
+    }
+    sections
+}
+
+/// Appends the section, if there is one.
+fn push_some<'a>(section: Option<SectionView<'a>>, sections: &mut ArrayVec<SectionView<'a>, 16>)
+    requires { length sections.old.items < 16 }
+    ensures sections { map fields_of_view sections.new.items
+        ≡ map fields_of_view sections.old.items ++ option_to_list (option_map fields_of_view section.entry) }
+    ensures grown { length sections.new.items ≤ length sections.old.items + 1 }
+{
+    if let Some(section) = section {
+        sections.push(section);
+    }
 }
 
 /// Appends the frame of the layout.
@@ -80,14 +111,14 @@ pub fn append_layout_of(
     soc: u32,
     out: &mut Vec<u8>,
 ) -> Result<(), AllocError>
-    requires { IsLife given.now (life_view life.now) }
-    ensures ok { OnOk result (out.new.items ≡ out.old.items ++ layout_wire given.now (life_view life.now) soc) }
+    requires { IsTicked (given_view given.now) (life_view life.now) }
+    ensures ok { OnOk result (out.new.items ≡ out.old.items ++ layout_wire (given_view given.now) (life_view life.now) soc) }
     ensures err { OnErr result (out.new.items ≡ out.old.items) }
 {
     let sections = sections_in_force(given, life);
-    let change = changes(given, life);
+    let change = change_number(given, life);
     append_layout(
-        &given.settings,
+        &given.output,
         given.start,
         change,
         sections.as_slice(),
@@ -97,23 +128,23 @@ pub fn append_layout_of(
 }
 
 /// The frames of the rows, in their order.
-fn frames(alloc: Global, settings: &Settings, rows: &[DueRow]) -> Result<Vec<Vec<u8>>, AllocError>
-    requires { All (λ row. row.instant < 4294967296 * settings.now.rate) rows.now }
-    ensures { IfOk result (λ frames. map (λ frame. frame.items) frames.items ≡ map (λ row. wire_of settings.now (row_view row)) rows.now) }
+fn frames(alloc: Global, output: &Output, rows: &[DueRow]) -> Result<Vec<Vec<u8>>, AllocError>
+    requires { All (λ row. row.instant < 4294967296 * output.now.rate) rows.now }
+    ensures { IfOk result (λ frames. map (λ frame. frame.items) frames.items ≡ map (λ row. wire_of output.now (row_view row)) rows.now) }
 {
     let mut frames = Vec::new(alloc);
     for row in rows {
-        frames.push(frame(alloc, settings, row)?)?;
+        frames.push(frame(alloc, output, row)?)?;
     }
     Ok(frames)
 }
 
 /// The frame of the row.
-fn frame(alloc: Global, settings: &Settings, row: &DueRow) -> Result<Vec<u8>, AllocError>
-    requires { row.now.instant < 4294967296 * settings.now.rate }
-    ensures { IfOk result (λ frame. frame.items ≡ wire_of settings.now (row_view row.now)) }
+fn frame(alloc: Global, output: &Output, row: &DueRow) -> Result<Vec<u8>, AllocError>
+    requires { row.now.instant < 4294967296 * output.now.rate }
+    ensures { IfOk result (λ frame. frame.items ≡ wire_of output.now (row_view row.now)) }
 {
     let mut frame = Vec::new(alloc);
-    append_row(settings, row, &mut frame)?;
+    append_row(output, row, &mut frame)?;
     Ok(frame)
 }

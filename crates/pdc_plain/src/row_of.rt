@@ -3,60 +3,119 @@ ghost use Rattle.std.specs.Prelude.{◌≡◌, ◌<◌, ◌≤◌, ◌+◌, ◌+
 ghost use Rattle.std.specs.List.{filter_map};
 ghost use Rattle.std.specs.Option.{option_to_list};
 ghost use Rattle.pdc_row.specs.CellView.{block_view};
+ghost use Rattle.pdc_row.specs.Chosen.{present_of};
 ghost use Rattle.pdc_row.specs.Quality.{quality_of, worst_of};
 ghost use Rattle.pdc_row.specs.RowView.{row_view};
-ghost use Rattle.pdc_life.specs.Answer.{IsLife};
-ghost use Rattle.pdc_life.specs.Life.{cell_of, pmus_of, section_in_force};
-ghost use Rattle.pdc_life.specs.Row.{block_in, quality_in, row_of, rows_of};
-ghost use Rattle.pdc_plain.specs.Views.{life_view};
+ghost use Rattle.pdc_life.specs.Given.{columns_of};
+ghost use Rattle.pdc_life.specs.Life.{section_in_force};
+ghost use Rattle.pdc_life.specs.Row.{block_in, chosen_of, first_cell, quality_in, row_of, rows_of, second_cell};
+ghost use Rattle.pdc_life.specs.Run.{IsTicked};
+ghost use Rattle.pdc_plain.specs.Views.{cell_at, given_view, life_view};
 
+use crate::blocks::copy_of;
 use crate::closing::closing;
-use crate::past::{changes, section_in_force};
-use crate::steps::Answered;
-use crate::taking::present_take;
+use crate::given::Given;
+use crate::past::{change_number, section_in_force};
+use crate::steps::{Answered, ColumnCell};
+use crate::taking::cell_of;
 use arrayvec::ArrayVec;
 use pdc_block::Block;
-use pdc_life::Given;
-use pdc_row::DueRow;
+use pdc_row::{DueRow, is_present};
 use pdc_stat::absent;
 use std::alloc::{AllocError, Global};
 
 /// The quality of a row in which no block is present.
 const WORST_QUALITY: u8 = 15;
 
-/// The block of a PMU under the section in force: what was taken and is present, else the absent block.
-fn block_at(given: &Given, life: &[Answered], instant: u64, pmu: usize) -> Option<Block>
-    requires { IsLife given.now (life_view life.now) }
-    ensures { option_map block_view result ≡ block_in (section_in_force (life_view life.now) pmu) (cell_of (life_view life.now) pmu instant) }
+/// What the first lane of a column holds; with one lane each column has its own stream.
+fn first_cell<'a>(
+    given: &Given,
+    life: &'a [Answered],
+    column: usize,
+    instant: u64,
+) -> Option<&'a ColumnCell>
+    ensures { option_map (λ cell. cell_at cell.now) result ≡ first_cell (given_view given.now) (life_view life.now) column instant }
 {
-    let section = section_in_force(life, pmu)?;
-    match present_take(given, life, pmu, instant) {
-        Some(take) => Some(take.block()),
+    let stream = if given.lanes == 1 { column } else { 0 };
+    cell_of(life, stream, column, instant)
+}
+
+/// What the second lane of a column holds, where there are two.
+fn second_cell<'a>(
+    given: &Given,
+    life: &'a [Answered],
+    column: usize,
+    instant: u64,
+) -> Option<&'a ColumnCell>
+    ensures { option_map (λ cell. cell_at cell.now) result ≡ second_cell (given_view given.now) (life_view life.now) column instant }
+{
+    if given.lanes == 1 {
+        None
+    } else {
+        cell_of(life, 1, column, instant)
+    }
+}
+
+/// The cell, where its block is present.
+fn present_of<'a>(cell: Option<&'a ColumnCell>) -> Option<&'a ColumnCell>
+    ensures { option_map (λ cell. cell_at cell.now) result ≡ present_of (option_map (λ cell. cell_at cell.now) cell.entry) }
+{
+    let cell = cell?;
+    if is_present(&cell.block) {
+        Some(cell)
+    } else {
+        None
+    }
+}
+
+/// The cell of the lowest lane whose block is present.
+fn chosen_of<'a>(
+    given: &Given,
+    life: &'a [Answered],
+    column: usize,
+    instant: u64,
+) -> Option<&'a ColumnCell>
+    ensures { option_map (λ cell. cell_at cell.now) result ≡ chosen_of (given_view given.now) (life_view life.now) column instant }
+{
+    match present_of(first_cell(given, life, column, instant)) {
+        Some(cell) => Some(cell),
+        None => present_of(second_cell(given, life, column, instant)),
+    }
+}
+
+/// The block of a column under the section in force: the chosen one, else the absent one; none without a section.
+fn block_at(given: &Given, life: &[Answered], instant: u64, column: usize) -> Option<Block>
+    ensures { option_map block_view result
+        ≡ block_in (section_in_force (given_view given.now) (life_view life.now) column) (chosen_of (given_view given.now) (life_view life.now) column instant) }
+{
+    let section = section_in_force(given, life, column)?;
+    match chosen_of(given, life, column, instant) {
+        Some(cell) => Some(copy_of(&cell.block)),
         None => Some(absent(section.shape)),
     }
 }
 
-/// The time quality that a PMU's data gives: that of a block that is present.
-fn quality_at(given: &Given, life: &[Answered], instant: u64, pmu: usize) -> Option<u8>
-    requires { IsLife given.now (life_view life.now) }
-    ensures quality { result ≡ quality_in (section_in_force (life_view life.now) pmu) (cell_of (life_view life.now) pmu instant) }
+/// The time quality that a column gives: that of the chosen block.
+fn quality_at(given: &Given, life: &[Answered], instant: u64, column: usize) -> Option<u8>
+    ensures quality { result
+        ≡ quality_in (section_in_force (given_view given.now) (life_view life.now) column) (chosen_of (given_view given.now) (life_view life.now) column instant) }
     ensures most { IfSome result (λ n. n ≤ 15) }
 {
-    section_in_force(life, pmu)?;
-    let take = present_take(given, life, pmu, instant)?;
-    Some(take.quality % 16)
+    section_in_force(given, life, column)?;
+    let cell = chosen_of(given, life, column, instant)?;
+    Some(cell.quality % 16)
 }
 
-/// The blocks of the row of an instant: one for each PMU with a count, in the order of the settings.
+/// The blocks of the row of an instant: one for each column with a section in force, in column order.
 #[tactic(auto, using(crate::proofs::Ranges::filter_map_step))]
 fn blocks_at(given: &Given, life: &[Answered], instant: u64) -> ArrayVec<Block, 16>
-    requires { IsLife given.now (life_view life.now) }
-    ensures { map block_view result.items
-        ≡ filter_map (λ p. block_in (section_in_force (life_view life.now) p) (cell_of (life_view life.now) p instant)) (pmus_of given.now) }
+    ensures blocks { map block_view result.items
+        ≡ filter_map (λ c. block_in (section_in_force (given_view given.now) (life_view life.now) c) (chosen_of (given_view given.now) (life_view life.now) c instant)) (columns_of (given_view given.now)) }
+    ensures few { length result.items ≤ 16 }
 {
     let mut blocks = ArrayVec::new();
-    for pmu in 0..given.settings.pmus.len() {
-        push_some(block_at(given, life, instant, pmu), &mut blocks);
+    for column in 0..given.columns {
+        push_some(block_at(given, life, instant, column), &mut blocks);
     }
     blocks
 }
@@ -72,17 +131,16 @@ fn push_some(block: Option<Block>, blocks: &mut ArrayVec<Block, 16>)
     }
 }
 
-/// The time quality of the row of an instant: the worst that its present blocks give.
+/// The time quality of the row of an instant: the worst that its chosen blocks give.
 #[tactic(auto, using(crate::proofs::Ranges::filter_map_step))]
 fn row_quality(given: &Given, life: &[Answered], instant: u64) -> u8
-    requires { IsLife given.now (life_view life.now) }
     ensures worst { result ≡ quality_of (filter_map
-        (λ p. quality_in (section_in_force (life_view life.now) p) (cell_of (life_view life.now) p instant)) (pmus_of given.now)) }
+        (λ c. quality_in (section_in_force (given_view given.now) (life_view life.now) c) (chosen_of (given_view given.now) (life_view life.now) c instant)) (columns_of (given_view given.now))) }
     ensures most { result ≤ 15 }
 {
     let mut worst = None;
-    for pmu in 0..given.settings.pmus.len() {
-        worst = worse(worst, quality_at(given, life, instant, pmu));
+    for column in 0..given.columns {
+        worst = worse(worst, quality_at(given, life, instant, column));
     }
     worst.unwrap_or(WORST_QUALITY)
 }
@@ -101,30 +159,35 @@ fn worse(worst: Option<u8>, quality: Option<u8>) -> Option<u8>
     }
 }
 
-/// The row that the instant closes to at the next tick, under the counts and the stamp before it.
-pub fn row_of(given: &Given, life: &[Answered], instant: u64) -> DueRow
-    requires { IsLife given.now (life_view life.now) }
-    ensures { row_view result ≡ row_of given.now (life_view life.now) instant }
+/// The row that the instant closes to at the next tick, under the sections in force and the stamp before it.
+fn row_of(given: &Given, life: &[Answered], instant: u64) -> DueRow
+    requires { IsTicked (given_view given.now) (life_view life.now) }
+    ensures { row_view result ≡ row_of (given_view given.now) (life_view life.now) instant }
 {
     DueRow {
         instant,
         start: given.start,
-        change: changes(given, life),
+        change: change_number(given, life),
         quality: row_quality(given, life, instant),
         blocks: blocks_at(given, life, instant),
     }
 }
 
-/// The rows that close at the next tick, in rising order.
+/// The rows that close at a tick with this now, in rising order.
 ///
 /// # Errors
 ///
 /// [`AllocError`] where there is no room and none is got.
-pub fn rows_of(alloc: Global, given: &Given, life: &[Answered]) -> Result<Vec<DueRow>, AllocError>
-    requires { IsLife given.now (life_view life.now) }
-    ensures { IfOk result (λ rows. map row_view rows.items ≡ rows_of given.now (life_view life.now)) }
+pub fn rows_of(
+    alloc: Global,
+    given: &Given,
+    life: &[Answered],
+    now: u64,
+) -> Result<Vec<DueRow>, AllocError>
+    requires { IsTicked (given_view given.now) (life_view life.now) }
+    ensures { IfOk result (λ rows. map row_view rows.items ≡ rows_of (given_view given.now) (life_view life.now) now) }
 {
-    let closing = closing(alloc, given, life)?;
+    let closing = closing(alloc, given, life, now)?;
     rows_at(alloc, given, life, &closing)
 }
 
@@ -135,8 +198,8 @@ fn rows_at(
     life: &[Answered],
     instants: &[u64],
 ) -> Result<Vec<DueRow>, AllocError>
-    requires { IsLife given.now (life_view life.now) }
-    ensures { IfOk result (λ rows. map row_view rows.items ≡ map (row_of given.now (life_view life.now)) instants.now) }
+    requires { IsTicked (given_view given.now) (life_view life.now) }
+    ensures { IfOk result (λ rows. map row_view rows.items ≡ map (row_of (given_view given.now) (life_view life.now)) instants.now) }
 {
     let mut rows = Vec::new(alloc);
     for instant in instants {

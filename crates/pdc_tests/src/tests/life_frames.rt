@@ -8,7 +8,7 @@ use arrayvec::ArrayVec;
 use pdc_block::Block;
 use pdc_cfg::{Shape, read_config};
 use pdc_frame::{Frame, Kind, read_frame};
-use pdc_life::{Nominal, Pmu, Settings, append_layout, append_row, own_section};
+use pdc_output::{Nominal, Output, append_layout, append_row, own_section};
 use pdc_row::DueRow;
 use std::test::Fail;
 
@@ -26,36 +26,13 @@ const WORDS_12: [u16; 5] = [0x0000, 0x1388, 0xEC78, 0xFFFE, 0x0000];
 
 const ABSENT: [u16; 5] = [0xA1F0, 0x8000, 0x8000, 0x8000, 0x8000];
 
-const PMU_11: Pmu = Pmu {
-    stream: 11,
-    source: 11,
+/// Node 201: 50 Hz, 50 frames a second and TIME_BASE 1000000.
+const NODE_201: Output = Output {
+    id: 201,
+    rate: 50,
+    nominal: Nominal::Hz50,
     time_base: 1_000_000,
 };
-
-const PMU_12: Pmu = Pmu {
-    stream: 12,
-    source: 12,
-    time_base: 1_000_000,
-};
-
-/// Node 201: 50 Hz, 50 frames a second, TIME_BASE 1000000, and the PMUs 11 and 12.
-fn node_201() -> Settings
-    ensures { result.rate ≡ 50 }
-{
-    let mut pmus = ArrayVec::new();
-    pmus.push(PMU_11);
-    pmus.push(PMU_12);
-    Settings {
-        id: 201,
-        rate: 50,
-        nominal: Nominal::Hz50,
-        time_base: 1_000_000,
-        wait: 2,
-        window: 64,
-        ahead: 32,
-        pmus,
-    }
-}
 
 /// The row of 57478860001 with the stamp (1, 1), and these words in its blocks.
 fn row(first: [u16; 5], second: [u16; 5]) -> DueRow
@@ -76,20 +53,19 @@ fn row(first: [u16; 5], second: [u16; 5]) -> DueRow
 #[test]
 fn rows_on_the_wire(rt: HostRuntime) -> Result<(), Fail> {
     let alloc = rt.alloc();
-    let settings = node_201();
     let mut out = vec![in alloc; 7u8]?;
-    append_row(&settings, &row(WORDS_11, WORDS_12), &mut out)?;
+    append_row(&NODE_201, &row(WORDS_11, WORDS_12), &mut out)?;
     is!(&rt; out.split_first(), Some((&7, BOTH.as_slice())));
 
     let mut out = ArrayVec::<u8, 50>::new();
-    append_row(&settings, &row(WORDS_11, ABSENT), &mut out)?;
+    append_row(&NODE_201, &row(WORDS_11, ABSENT), &mut out)?;
     is!(&rt; out.as_slice(), ONE_ABSENT.as_slice());
     Ok(())
 }
 
 #[test]
 fn own_section_of_node_201(rt: HostRuntime) -> Result<(), Fail> {
-    let section = own_section(&node_201(), 1, 65538);
+    let section = own_section(&NODE_201, 1, 65538);
     let bytes = section.bytes.as_slice();
     assert_eq!(rt; bytes.len(), 1070);
     is!(&rt; &bytes[..26], OWN_HEAD.as_slice());
@@ -103,7 +79,7 @@ fn own_section_of_node_201(rt: HostRuntime) -> Result<(), Fail> {
 #[test]
 fn layout_of_no_pmu(rt: HostRuntime) -> Result<(), Fail> {
     let mut out = Vec::new(rt.alloc());
-    append_layout(&node_201(), 1, 65538, &[], 1_149_577_200, &mut out)?;
+    append_layout(&NODE_201, 1, 65538, &[], 1_149_577_200, &mut out)?;
     is!(&rt; out.len(), 1094);
     let frame = read_frame(&out)?;
     is!(&rt; (frame.kind, frame.version, frame.id), (Kind::Cfg2, 2, 201));
@@ -129,7 +105,7 @@ fn layout_of_two_pmus(rt: HostRuntime) -> Result<(), Fail> {
     let sent = read_config(&frame)?;
     assert_eq!(rt; sent.sections.len(), 2);
     let mut out = Vec::new(rt.alloc());
-    append_layout(&node_201(), 1, 1, sent.sections.as_slice(), 0, &mut out)?;
+    append_layout(&NODE_201, 1, 1, sent.sections.as_slice(), 0, &mut out)?;
     is!(&rt; out.len(), 1194);
     let frame = read_frame(&out)?;
     let config = read_config(&frame)?;

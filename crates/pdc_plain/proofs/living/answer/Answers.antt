@@ -10,12 +10,15 @@ get_listed (y ∷ pmus) zero x h e = ap Some (sym e)
 get_listed (y ∷ pmus) (suc p) x h e = get_listed pmus p x (omega (arith, h)) e
 
 pub returns-in_ok-answer-in-Arrive-clause-life : goal.returns-in_ok-answer-in-Arrive-clause-life
-returns-in_ok-answer-in-Arrive-clause-life c = (
-  record {
-    pmu = c.index-deref-pmu.result;
-    listed = get_listed c.args.given.now.settings.pmus.items c.in-Arrive.pmu c.index-deref-pmu.result (search rules) (search rules);
-    reads = c.read_arrival-reading.ensures;
-    answers = c.in_ok-answer-in-Arrive.ensures;
-  },
-  c.requires.life,
-)
+returns-in_ok-answer-in-Arrive-clause-life c = record {
+  given = c.requires.life.given;
+  life = (
+    record {
+      pmu = c.index-deref-stream.result;
+      listed = get_listed c.args.settings.now.pmus.items c.in-Arrive.stream c.index-deref-stream.result (search rules) (search rules);
+      reads = c.read_arrival-reading.ensures c.in-Arrive.stream;
+    },
+    c.in_ok-answer-in-Arrive.ensures,
+    c.requires.life.life,
+  );
+}

@@ -2,7 +2,7 @@ use Rattle.std.proofs.Common.{◌≡◌, ◌<◌, ◌+◌, ◌∙◌, ◌++◌, 
 use Rattle.std.proofs.lemmas.List.{map-append, take_more}
 use Rattle.pdc_row.specs.RowView.{row_view}
 use Rattle.pdc_row.specs.declared.due_row.DueRow.{DueRow}
-use Rattle.pdc_life.specs.Layout.{wire_of}
+use Rattle.pdc_output.specs.Layout.{wire_of}
 use Rattle.pdc_plain.proofs.publishing.frames.Goals as goal
 
 -- one more frame is that of one more row
@@ -16,5 +16,5 @@ more f rows i row before after frame h is e a b =
 
 pub loop-row-preserved : goal.loop-row-preserved
 loop-row-preserved c =
-    more (λ (row : DueRow). wire_of c.args.settings.now (row_view row)) c.args.rows.now c.loop-row.row-index c.row-item.result c.loop-row.frames.items c.push.new.self.items c.in_ok-frame.field-0
+    more (λ (row : DueRow). wire_of c.args.output.now (row_view row)) c.args.rows.now c.loop-row.row-index c.row-item.result c.loop-row.frames.items c.push.new.self.items c.in_ok-frame.field-0
     c.loop-row-test.true c.row-item.is c.in_ok-frame.ensures c.in_ok-push.ensures.items c.loop-row.invariant

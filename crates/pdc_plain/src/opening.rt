@@ -1,0 +1,38 @@
+//! What a life begins with, and so what is given to it.
+ghost use Rattle.std.specs.Prelude.{◌≡◌};
+ghost use Rattle.pdc_plain.specs.Views.{given_from, given_view};
+
+use crate::given::Given;
+use pdc_life::{MAX_PMUS, Settings};
+
+/// What a life begins with, beside its settings.
+#[derive(Clone, Copy, Debug)]
+pub struct Opening {
+    /// The number of the start.
+    pub start: u32,
+    /// The instant up to which all is published.
+    pub floor: u64,
+    /// For each column the count below which no section is held; 0 past the last column.
+    pub counts: [u16; MAX_PMUS],
+    /// What counts as now until the first tick.
+    pub first_now: u64,
+}
+
+/// What is given to a life of a node.
+pub fn given_to_node(settings: &Settings, opening: &Opening) -> Given
+    ensures { given_view result ≡ given_from settings.now opening.now }
+{
+    Given {
+        output: settings.output,
+        wait: settings.wait,
+        wait_kind: settings.wait_kind,
+        window: settings.window,
+        ahead: settings.ahead,
+        columns: settings.pmus.len(),
+        lanes: 1,
+        start: opening.start,
+        floor: opening.floor,
+        counts: opening.counts,
+        opening: opening.first_now,
+    }
+}
