@@ -158,6 +158,19 @@ fn after_rest(state: u64, rest: &[u8]) -> u64
     after_last(moved_up(state) ^ read_step(rest, 0), &rest[STEP..])
 }
 
+/// The state after the first bytes, and how many they are: a wide step, where there are as many. What the state before the
+/// first byte is moved up to is a constant that the compiler works out, so a short frame takes a step less.
+#[inline]
+fn first_step(bytes: &[u8]) -> (u128, usize)
+    ensures at { result.1 ≤ length bytes.now }
+    ensures state { IsRemainder (result.0 * 2 ^ DEGREE) (fold check_after 65535 (take result.1 bytes.now)) }
+{
+    if bytes.len() < WIDE_STEP {
+        return (START, 0);
+    }
+    (wide_moved_up(START) ^ read_wide_step(bytes, 0), WIDE_STEP)
+}
+
 /// The check word of the bytes: CRC-CCITT with generator x^16 + x^12 + x^5 + 1, start value FFFF and no final mask
 /// (C37.118.2-2011, annex B).
 pub fn check_word(bytes: &[u8]) -> u16
@@ -166,8 +179,7 @@ pub fn check_word(bytes: &[u8]) -> u16
     // of which there is one.
     ensures value { result ≡ check_word_of bytes.now }
 {
-    let mut state = START;
-    let mut at = 0;
+    let (mut state, mut at) = first_step(bytes);
     while bytes.len() - at >= WIDE_STEP {
         state = wide_moved_up(state) ^ read_wide_step(bytes, at);
         at += WIDE_STEP;
