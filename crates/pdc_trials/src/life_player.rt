@@ -2,23 +2,27 @@
 //!
 //! | Call | Answer |
 //! |---|---|
-//! | `node WINDOW WAIT PMUS` | `ok`; a new life of node 201 with the PMUs 11 and 12, or 11 to 13 |
+//! | `node WINDOW WAIT PMUS [absolute] [counts COUNT ..]` | `ok`; a new life of node 201 with the PMUs 11 and 12, or 11 to 13, and these opening counts |
 //! | `arrive PMU FRAME [LENGTH]` | the outcome; the frame is one of the names, or its first bytes |
-//! | `tick NOW` | how many rows closed, and `adopts` where it adopted |
+//! | `tick NOW [COUNT ..]` | how many rows closed, and `adopts` where it adopted; with no count the counts that wait are handed in |
+//! | `waiting` | the counts that wait, one for each PMU |
 //! | `pop` | the row's instant, quality and stamp, as `5/0 (1, 1)`, or `none` |
 //! | `rows` | the instants and stamps of the rows that closed |
 //! | `published` | the frames that are published, in hexadecimal |
 //! | `layout SOC` | the length of the layout's frame, its first 14 bytes and its last two |
 //!
-//! What is none of these is answered `no such call`.
+//! Counts that are not told are 0. What is none of these is answered `no such call`.
 
 ghost use Rattle.std.specs.Prelude.{◌≤◌};
 
 use crate::frames::Frames;
 use crate::script::Player;
 use arrayvec::ArrayVec;
-use pdc_life::{Given, Nominal, Pmu, Settings};
-use pdc_plain::{Answered, LifeStep, answers, are_of_settings, layout, published, rows};
+use pdc_life::{MAX_PMUS, Pmu, Settings, WaitKind};
+use pdc_output::{Nominal, Output};
+use pdc_plain::{
+    Answered, LifeStep, Opening, answers, are_of_settings, layout, published, rows, waiting,
+};
 use pdc_row::DueRow;
 use std::alloc::{AllocError, Global};
 
@@ -40,8 +44,8 @@ const PMU_13: Pmu = Pmu {
     time_base: 1_000_000,
 };
 
-/// What node 201 of the PMUs 11 and 12, or 11 to 13, is given: 50 frames a second, ahead 32, this window and wait.
-fn node(window: u64, wait: u64, has_third: bool) -> Given
+/// Node 201 of the PMUs 11 and 12, or 11 to 13: 50 frames a second, ahead 32, this window and wait.
+fn node(window: u64, wait: u64, wait_kind: WaitKind, has_third: bool) -> Settings
     requires window_low { 8 ≤ window }
     requires window_high { window ≤ 256 }
     requires wait_low { 1 ≤ wait }
@@ -53,27 +57,45 @@ fn node(window: u64, wait: u64, has_third: bool) -> Given
     if has_third {
         pmus.push(PMU_13);
     }
-    Given {
-        settings: Settings {
+    Settings {
+        output: Output {
             id: 201,
             rate: 50,
             nominal: Nominal::Hz50,
             time_base: 1_000_000,
-            wait,
-            window,
-            ahead: 32,
-            pmus,
         },
+        wait,
+        wait_kind,
+        window,
+        ahead: 32,
+        pmus,
+    }
+}
+
+/// The first life, with these counts.
+fn first_opening(counts: [u16; MAX_PMUS]) -> Opening {
+    Opening {
         start: 1,
         floor: 0,
-        opening: 0,
+        counts,
+        first_now: 0,
     }
+}
+
+/// The counts that the words say, and 0 for the columns that are left.
+fn counts_of(words: &[&str]) -> Option<[u16; MAX_PMUS]> {
+    let mut counts = [0; MAX_PMUS];
+    for (place, word) in words.iter().enumerate() {
+        *counts.get_mut(place)? = word.parse().ok()?;
+    }
+    Some(counts)
 }
 
 /// A life, and the frames that its steps name.
 #[derive(Drop)]
 pub struct LifePlayer<'a> {
-    given: Given,
+    settings: Settings,
+    opening: Opening,
     steps: Vec<LifeStep<'a>>,
     frames: &'a Frames,
 }
@@ -82,19 +104,34 @@ impl<'a> LifePlayer<'a> {
     /// The life of a node of two PMUs, without steps.
     pub fn new(alloc: Global, frames: &'a Frames) -> LifePlayer<'a> {
         LifePlayer {
-            given: node(64, 2, false),
+            settings: node(64, 2, WaitKind::Relative, false),
+            opening: first_opening([0; MAX_PMUS]),
             steps: Vec::new(alloc),
             frames,
         }
     }
 
     /// Begins another life, where the sizes are in range.
-    fn begin(&mut self, alloc: Global, window: &str, wait: &str, pmus: &str) -> Option<bool> {
+    fn begin(
+        &mut self,
+        alloc: Global,
+        window: &str,
+        wait: &str,
+        pmus: &str,
+        more: &[&str],
+    ) -> Option<bool> {
         let (window, wait): (u64, u64) = (window.parse().ok()?, wait.parse().ok()?);
         if window < 8 || window > 256 || wait < 1 || wait > 1000 {
             return None;
         }
-        self.given = node(window, wait, pmus == "3");
+        let (wait_kind, counts) = match more {
+            [] => (WaitKind::Relative, counts_of(&[])?),
+            ["absolute"] => (WaitKind::Absolute, counts_of(&[])?),
+            ["counts", counts @ ..] => (WaitKind::Relative, counts_of(counts)?),
+            _ => return None,
+        };
+        self.settings = node(window, wait, wait_kind, pmus == "3");
+        self.opening = first_opening(counts);
         self.steps = Vec::new(alloc);
         Some(true)
     }
@@ -111,9 +148,46 @@ impl<'a> LifePlayer<'a> {
     /// The arrival of a frame for a PMU.
     fn arrival(&self, pmu: &str, name: &str, len: Option<&str>) -> Option<LifeStep<'a>> {
         Some(LifeStep::Arrive {
-            pmu: pmu.parse().ok()?,
+            stream: pmu.parse().ok()?,
             bytes: self.bytes(name, len)?,
         })
+    }
+
+    /// The counts that wait.
+    fn waiting(&self, alloc: Global) -> Result<[u16; MAX_PMUS], AllocError> {
+        if are_of_settings(&self.settings, &self.steps) {
+            waiting(alloc, &self.settings, &self.opening, &self.steps)
+        } else {
+            Ok([0; MAX_PMUS])
+        }
+    }
+
+    /// A tick that hands in these counts, or those that wait.
+    fn tick(
+        &self,
+        alloc: Global,
+        now: &str,
+        counts: &[&str],
+    ) -> Result<Option<LifeStep<'a>>, AllocError> {
+        let Ok(now) = now.parse() else {
+            return Ok(None);
+        };
+        if counts.is_empty() {
+            let counts = self.waiting(alloc)?;
+            return Ok(Some(LifeStep::Tick { now, counts }));
+        }
+        Ok(counts_of(counts).map(|counts| LifeStep::Tick { now, counts }))
+    }
+
+    /// The counts that wait, one for each PMU.
+    fn waiting_text(&self, alloc: Global) -> Result<String, AllocError> {
+        let counts = self.waiting(alloc)?;
+        let mut text = String::new(alloc);
+        for count in counts.get(..self.settings.pmus.len()).unwrap_or(&[]) {
+            text.push_str(" ")?;
+            text.push_str(&count.to_string(alloc)?)?;
+        }
+        text.trim_start().to_string(alloc)
     }
 
     /// What this step is answered after those before it.
@@ -122,14 +196,58 @@ impl<'a> LifePlayer<'a> {
             return "no such call".to_string(alloc);
         };
         self.steps.push(step)?;
-        if !are_of_settings(&self.given, &self.steps) {
+        if !are_of_settings(&self.settings, &self.steps) {
             self.steps.pop();
             return "no such PMU".to_string(alloc);
         }
-        match answers(alloc, &self.given, &self.steps)?.last() {
+        match answers(alloc, &self.settings, &self.opening, &self.steps)?.last() {
             Some(answered) => answer_text(alloc, answered),
             None => Ok(String::new(alloc)),
         }
+    }
+
+    /// The rows that closed, the first of them first.
+    fn rows_text(&self, alloc: Global) -> Result<String, AllocError> {
+        let mut text = String::new(alloc);
+        if are_of_settings(&self.settings, &self.steps) {
+            for row in &rows(alloc, &self.settings, &self.opening, &self.steps)? {
+                text.push_str(" ")?;
+                text.push_str(&row_text(alloc, row)?)?;
+            }
+        }
+        text.trim_start().to_string(alloc)
+    }
+
+    /// The frames that are published, one after the other.
+    fn published_text(&self, alloc: Global) -> Result<String, AllocError> {
+        let mut bytes = Vec::new(alloc);
+        if are_of_settings(&self.settings, &self.steps) {
+            for frame in &published(alloc, &self.settings, &self.opening, &self.steps)? {
+                bytes.extend_from_slice(frame)?;
+            }
+        }
+        hex::encode_upper(alloc, bytes.as_slice())
+    }
+
+    /// The length of the layout's frame, its fields before the payload and its check word.
+    fn layout_text(&self, alloc: Global, soc: u32) -> Result<String, AllocError> {
+        let mut frame = Vec::new(alloc);
+        if are_of_settings(&self.settings, &self.steps) {
+            layout(
+                alloc,
+                &self.settings,
+                &self.opening,
+                &self.steps,
+                soc,
+                &mut frame,
+            )?;
+        }
+        if frame.len() < 16 {
+            return "no frame".to_string(alloc);
+        }
+        let head = hex::encode_upper(alloc, &frame[..14])?;
+        let check = hex::encode_upper(alloc, &frame[frame.len() - 2..])?;
+        format!(in alloc; "{} {head} {check}", frame.len())
     }
 }
 
@@ -142,68 +260,30 @@ fn row_text(alloc: Global, row: &DueRow) -> Result<String, AllocError> {
 /// What a step was answered.
 fn answer_text(alloc: Global, answered: &Answered) -> Result<String, AllocError> {
     match answered {
-        Answered::Arrival { answer, .. } => format!(in alloc; "{answer:?}"),
-        Answered::Tick {
-            rows,
-            adopted: true,
-            ..
-        } => format!(in alloc; "{} adopts", rows.len()),
-        Answered::Tick { rows, .. } => rows.len().to_string(alloc),
+        Answered::Arrival { answer, .. } => format!(in alloc; "{:?}", answer.outcome),
+        Answered::Tick { answer, .. } => {
+            let adopts = if answer.adopted.is_empty() {
+                ""
+            } else {
+                " adopts"
+            };
+            format!(in alloc; "{}{adopts}", answer.rows.len())
+        }
         Answered::Pop { row: Some(row) } => row_text(alloc, row),
         Answered::Pop { row: None } => "none".to_string(alloc),
     }
-}
-
-/// The rows that closed, the first of them first.
-fn rows_text(alloc: Global, given: &Given, steps: &[LifeStep]) -> Result<String, AllocError> {
-    let mut text = String::new(alloc);
-    if are_of_settings(given, steps) {
-        for row in &rows(alloc, given, steps)? {
-            text.push_str(" ")?;
-            text.push_str(&row_text(alloc, row)?)?;
-        }
-    }
-    text.trim_start().to_string(alloc)
-}
-
-/// The frames that are published, one after the other.
-fn published_text(alloc: Global, given: &Given, steps: &[LifeStep]) -> Result<String, AllocError> {
-    let mut bytes = Vec::new(alloc);
-    if are_of_settings(given, steps) {
-        for frame in &published(alloc, given, steps)? {
-            bytes.extend_from_slice(frame)?;
-        }
-    }
-    hex::encode_upper(alloc, bytes.as_slice())
-}
-
-/// The length of the layout's frame, its fields before the payload and its check word.
-fn layout_text(
-    alloc: Global,
-    given: &Given,
-    steps: &[LifeStep],
-    soc: u32,
-) -> Result<String, AllocError> {
-    let mut frame = Vec::new(alloc);
-    if are_of_settings(given, steps) {
-        layout(alloc, given, steps, soc, &mut frame)?;
-    }
-    if frame.len() < 16 {
-        return "no frame".to_string(alloc);
-    }
-    let head = hex::encode_upper(alloc, &frame[..14])?;
-    let check = hex::encode_upper(alloc, &frame[frame.len() - 2..])?;
-    format!(in alloc; "{} {head} {check}", frame.len())
 }
 
 impl Player for LifePlayer<'_> {
     fn play(&mut self, alloc: Global, call: &str) -> Result<String, AllocError> {
         let words: Vec<&str> = call.split_whitespace().collect(alloc)?;
         match words.as_slice() {
-            ["node", window, wait, pmus] => match self.begin(alloc, window, wait, pmus) {
-                Some(_) => "ok".to_string(alloc),
-                None => "no such node".to_string(alloc),
-            },
+            ["node", window, wait, pmus, more @ ..] => {
+                match self.begin(alloc, window, wait, pmus, more) {
+                    Some(_) => "ok".to_string(alloc),
+                    None => "no such node".to_string(alloc),
+                }
+            }
             ["arrive", pmu, frame] => {
                 let step = self.arrival(pmu, frame, None);
                 self.step(alloc, step)
@@ -212,15 +292,16 @@ impl Player for LifePlayer<'_> {
                 let step = self.arrival(pmu, frame, Some(len));
                 self.step(alloc, step)
             }
-            ["tick", now] => {
-                let step = now.parse().ok().map(|now| LifeStep::Tick { now });
+            ["tick", now, counts @ ..] => {
+                let step = self.tick(alloc, now, counts)?;
                 self.step(alloc, step)
             }
+            ["waiting"] => self.waiting_text(alloc),
             ["pop"] => self.step(alloc, Some(LifeStep::Pop)),
-            ["rows"] => rows_text(alloc, &self.given, &self.steps),
-            ["published"] => published_text(alloc, &self.given, &self.steps),
+            ["rows"] => self.rows_text(alloc),
+            ["published"] => self.published_text(alloc),
             ["layout", soc] => match soc.parse() {
-                Ok(soc) => layout_text(alloc, &self.given, &self.steps, soc),
+                Ok(soc) => self.layout_text(alloc, soc),
                 Err(_) => "no such call".to_string(alloc),
             },
             _ => "no such call".to_string(alloc),
