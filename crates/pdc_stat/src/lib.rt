@@ -9,4 +9,3 @@ mod stat;
 
 pub use absent_block::{ABSENT_STAT, NO_VALUE, absent, is_absent};
 pub use stat::{ErrorClass, Stat};
-
