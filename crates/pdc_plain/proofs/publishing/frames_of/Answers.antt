@@ -24,7 +24,7 @@ frames-requires c k d h =
     let E = life_view c.args.life.now in
     let top : ℕ = 4294967296 * g.output.rate in
     let tags : AllByRecursion (λ n. n < top) (row_instants (map row_view c.deref.result.now)) =
-    subst (λ (rs : List RowView). AllByRecursion (λ n. n < top) (row_instants rs)) (sym (ap (map row_view) c.deref.ensures.value ∙ c.in_ok-rows.ensures)) (c.rows_have_tags.ensures g E c.requires).2 in
+    subst (λ (rs : List RowView). AllByRecursion (λ n. n < top) (row_instants rs)) (sym (ap (map row_view) c.deref.ensures.value ∙ c.in_ok-rows.ensures)) (c.rows_have_tags.ensures.tags g E c.requires).2 in
     low_at top c.deref.result.now k d tags h
 
 pub returns : goal.returns
