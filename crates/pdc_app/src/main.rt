@@ -3,12 +3,11 @@
 
 mod mark_convert;
 mod mark_init;
-#[cfg(test)]
-mod tests;
 
-use mark_convert::convert_mark;
-use mark_init::make_mark;
+use mark_convert::{mark_convert_status, report_mark_convert};
+use mark_init::{mark_init_status, report_mark_init};
 use pdc_command_line::{MarkConvert, MarkInit, Request, parse};
+use pdc_mark_files::{convert_mark, make_mark};
 use pdc_show::{ShowFault, Shown, run_show};
 use std::alloc::Global;
 use std::io;
@@ -42,24 +41,24 @@ fn run_show_command(rt: &HostRuntime) -> io::Result<u8> {
 }
 
 fn run_mark_init_command(rt: &HostRuntime, request: &MarkInit) -> io::Result<u8> {
-    match make_mark(rt, request) {
+    match make_mark(rt, request.file, request.id, request.rate) {
         Ok(()) => Ok(DONE),
         Err(fault) => {
-            fault.report(rt, request)?;
-            Ok(fault.status())
+            report_mark_init(rt, &fault, request)?;
+            Ok(mark_init_status(&fault))
         }
     }
 }
 
 fn run_mark_convert_command(rt: &HostRuntime, request: &MarkConvert) -> io::Result<u8> {
-    match convert_mark(rt, request) {
+    match convert_mark(rt, request.old, request.new) {
         Ok((start, floor)) => {
             println!(rt; "start={start} floor={floor}")?;
             Ok(DONE)
         }
         Err(fault) => {
-            fault.report(rt, request)?;
-            Ok(fault.status())
+            report_mark_convert(rt, &fault, request)?;
+            Ok(mark_convert_status(&fault))
         }
     }
 }

@@ -54,7 +54,7 @@ length-own output start change = refl
 pub own_is_section : (output : Output) (start change : ℕ) (s : SectionFields) → s.bytes ≡ own_bytes output.id output.nominal start change
     → s.shape.phasors ≡ 0 → s.shape.analogs ≡ 0 → s.shape.digitals ≡ 4 → s.source ≡ output.id → s.count ≡ change % 2 ^ 16 → s.polar ≡ false → IsSection s
 own_is_section output start change s bytes phasors analogs digitals source count polar =
-    let low : output.id < 65535 = output.id_high in
+    let low : output.id < 65535 = omega (arith, output.id_high) in
     let place : length s.bytes - 2 ≡ 1068 = omega (arith, ap length bytes, length-own output start change) in
     record {
       fits = subst AreBytes (sym bytes) (Bytes-own output start change).all;

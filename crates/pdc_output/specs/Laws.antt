@@ -7,6 +7,7 @@ use Rattle.pdc_cfg.specs.declared.shape.Shape.{Shape}
 use Rattle.pdc_block.specs.Block.{AreOfShapes, IsCut}
 use Rattle.pdc_row.specs.CellView.{BlockView}
 use Rattle.pdc_row.specs.RowView.{RowView}
+use Rattle.pdc_tag.specs.declared.limits.TheConstants.{SECONDS}
 use Rattle.pdc_output.specs.declared.output.Output.{Output}
 use Rattle.pdc_output.specs.declared.output.Nominal.{Nominal}
 use Rattle.pdc_output.specs.Layout.{IsLayout, layout_fields_of, layout_payload_of, layout_wire_of, own_block, own_bytes, row_fields, row_payload, wire_of}
@@ -26,7 +27,7 @@ RowsAreCut =
 abbrev pub RowsAreFrames : Type 0
 RowsAreFrames =
     (output : Output) (row : RowView) (shapes : List Shape) → length shapes ≤ 16 → AreOfShapes shapes (words_of_row row) →
-    row.instant < 4294967296 * output.rate → row.quality < 2 ^ 8 → IsFrame (wire_of output row) (row_fields output row)
+    row.instant < SECONDS * output.rate → row.quality < 2 ^ 8 → IsFrame (wire_of output row) (row_fields output row)
 
 -- The wire of a layout of at most 16 sections is a frame, whose payload is the layout.
 abbrev pub LayoutsAreFrames : Type 0

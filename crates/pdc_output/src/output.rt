@@ -1,5 +1,7 @@
 //! What a concentrator says of itself, beside the stamp of a layout.
-ghost use Rattle.std.specs.Prelude.{◌^◌, ◌<◌, ◌≤◌};
+ghost use Rattle.std.specs.Prelude.{◌<◌, ◌≤◌};
+ghost use Rattle.pdc_frame.specs.declared.limits.TheConstants.{MAX_ID};
+ghost use Rattle.pdc_tag.specs.declared.limits.TheConstants.{COUNT_LIMIT, MAX_RATE};
 
 /// The nominal frequency of the grid.
 #[derive(Clone, Copy, Debug, PartialEq, Eq)]
@@ -22,9 +24,9 @@ pub struct Output {
     /// The counts of FRACSEC in a second, from the rate to 16777215.
     pub time_base: u32,
     pub ghost id_low: { 0 < id },
-    pub ghost id_high: { id < 65535 },
+    pub ghost id_high: { id ≤ MAX_ID },
     pub ghost rate_low: { 1 ≤ rate },
-    pub ghost rate_high: { rate ≤ 240 },
+    pub ghost rate_high: { rate ≤ MAX_RATE },
     pub ghost time_base_low: { rate ≤ time_base },
-    pub ghost time_base_high: { time_base < 2 ^ 24 },
+    pub ghost time_base_high: { time_base < COUNT_LIMIT },
 }

@@ -2,6 +2,7 @@
 ghost use Rattle.std.specs.Prelude.{◌≡◌, ◌+◌, ◌*◌, ◌<◌, ◌≤◌, ◌++◌, length, sum_by, IsOk, OnOk, OnErr};
 ghost use Rattle.pdc_frame.specs.Frame.{IsFrame};
 ghost use Rattle.pdc_block.specs.Block.{bytes_of_words, body_len_of, shape_of};
+ghost use Rattle.pdc_tag.specs.declared.limits.TheConstants.{SECONDS};
 ghost use Rattle.pdc_row.specs.RowView.{row_view};
 ghost use Rattle.pdc_output.specs.Layout.{own_block, row_payload, row_fields, wire_of};
 
@@ -56,7 +57,7 @@ fn append_payload<B: Buffer>(row: &DueRow, out: &mut B)
 ///
 /// [`AllocError`] where `out` has no room and gets none.
 pub fn append_row<B: Buffer>(output: &Output, row: &DueRow, out: &mut B) -> Result<(), AllocError>
-    requires instant { row.now.instant < 4294967296 * output.now.rate }
+    requires instant { row.now.instant < SECONDS * output.now.rate }
     // What is appended is the frame,
     ensures ok { OnOk result (B.content out.new ≡ B.content out.old ++ wire_of output.now (row_view row.now)) }
     // which is read back with these fields.

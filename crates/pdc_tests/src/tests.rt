@@ -4,6 +4,8 @@ mod commands;
 mod configurations;
 mod frames;
 mod life_frames;
+mod mark_files;
 mod same;
 mod show_failures;
 mod vectors;
+mod written_again;

@@ -1,11 +1,8 @@
 //! Blocks of worked frames.
 
 use super::same::is;
-use super::vectors::{CONFIG_11, DATA_11};
-use arrayvec::ArrayVec;
-use pdc_block::{BodyFault, cut, join, read_body};
-use pdc_cfg::{Shape, read_config, write_config};
-use pdc_frame::{Frame, Kind, MAX_PAYLOAD, read_frame, write_frame};
+use pdc_block::{BodyFault, cut, read_body};
+use pdc_cfg::Shape;
 use std::test::Fail;
 
 const ONE_PHASOR: Shape = Shape {
@@ -51,45 +48,5 @@ fn two_blocks(rt: HostRuntime) -> Result<(), Fail> {
     is!(&rt; cut(&[ONE_PHASOR], &TWO_BLOCKS).err(), Some(BodyFault::WrongLength));
     is!(&rt; cut(&[], &TWO_BLOCKS).err(), Some(BodyFault::WrongLength));
     is!(&rt; cut(&[], &[])?.len(), 0);
-    Ok(())
-}
-
-/// A configuration and a data frame, read and written again byte for byte, behind what stands in `out` already, and into
-/// bytes whose room is fixed.
-#[test]
-fn written_again(rt: HostRuntime) -> Result<(), Fail> {
-    let alloc = rt.alloc();
-    let config_frame = read_frame(&CONFIG_11)?;
-    let config = read_config(&config_frame)?;
-    is!(&rt; config.sections.len(), 1);
-    let (id, soc) = (config_frame.id, config_frame.soc);
-    let mut out = vec![in alloc; 7u8]?;
-    write_config(&config, Kind::Cfg2, id, soc, &mut out)?;
-    let mut fixed = ArrayVec::<u8, 75>::new();
-    fixed.push(7);
-    write_config(&config, Kind::Cfg2, id, soc, &mut fixed)?;
-    is!(&rt; fixed.as_slice(), out.as_slice());
-    is!(&rt; out.split_first(), Some((&7, CONFIG_11.as_slice())));
-
-    let data_frame = read_frame(&DATA_11)?;
-    let blocks = cut(&[config.sections.as_slice()[0].shape], data_frame.payload)?;
-    let mut payload = Vec::new(alloc);
-    join(blocks.as_slice(), &mut payload)?;
-    if payload.len() > MAX_PAYLOAD {
-        return Err(Fail::from("no frame has so long a payload"));
-    }
-    let again = Frame {
-        kind: data_frame.kind,
-        version: data_frame.version,
-        id: data_frame.id,
-        soc: data_frame.soc,
-        quality: data_frame.quality,
-        frac: data_frame.frac,
-        payload: payload.as_slice(),
-    };
-    let mut out = Vec::new(alloc);
-    write_frame(&again, &mut out)?;
-    is!(&rt; out.as_slice(), DATA_11.as_slice());
-    is!(&rt; join(blocks.as_slice(), &mut ArrayVec::<u8, 9>::new()).is_err(), true);
     Ok(())
 }

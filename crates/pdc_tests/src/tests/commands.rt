@@ -17,8 +17,6 @@ const SEND_CFG2: [u8; 18] = [
 #[test]
 fn command_read(rt: HostRuntime) -> Result<(), Fail> {
     let frame = read_frame(&DATA_ON)?;
-    is!(&rt; (frame.version, frame.id), (1, 7734));
-    is!(&rt; (frame.quality, frame.frac), (0x0F, 770_000));
     is!(&rt; read_command(&frame), Ok(Command::DataOn));
     Ok(())
 }
@@ -80,12 +78,18 @@ fn header_written_and_read(rt: HostRuntime) -> Result<(), Fail> {
     write_header(201, 0, b"PDC 00201", &mut out)?;
     is!(&rt; out.len(), 25);
     let frame = read_frame(&out)?;
-    is!(&rt; (frame.kind, frame.id), (Kind::HeaderFrame, 201));
+    is!(&rt; frame.kind, Kind::HeaderFrame);
+    is!(&rt; frame.id, 201);
     is!(&rt; read_header(&frame), Ok(b"PDC 00201".as_slice()));
-    is!(&rt; read_command(&frame), Err(CommandFault::WrongKind));
-    let command = read_frame(&DATA_ON)?;
-    is!(&rt; read_header(&command), Err(CommandFault::WrongKind));
     Ok(())
+}
+
+#[test]
+fn command_and_header_stand_apart(rt: HostRuntime) {
+    let command = frame_of(Kind::CommandFrame, &[0, 2]);
+    let header = frame_of(Kind::HeaderFrame, &[0, 2]);
+    is!(&rt; read_command(&header), Err(CommandFault::WrongKind));
+    is!(&rt; read_header(&command), Err(CommandFault::WrongKind));
 }
 
 #[test]

@@ -8,9 +8,8 @@ use std::test::Fail;
 
 /// A configuration of one PMU, 11, whose names and factors are zeros: TIME_BASE 1000000, 50 frames a second, count 1.
 fn payload(alloc: Global, format: u8, phasors: u8, rest: usize) -> Result<Vec<u8>, AllocError> {
-    let mut bytes = Vec::new(alloc);
-    bytes.extend_from_slice(&[0x00, 0x0F, 0x42, 0x40, 0, 1])?;
-    bytes.extend_from_slice(&[0; 16])?;
+    let mut bytes = Vec::from_slice(alloc, &[0x00, 0x0F, 0x42, 0x40, 0, 1])?;
+    bytes.resize(22, 0)?;
     bytes.extend_from_slice(&[0, 11, 0, format, 0, phasors, 0, 32, 0, 8])?;
     for _ in 0..rest {
         bytes.push(0)?;

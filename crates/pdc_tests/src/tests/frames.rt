@@ -68,18 +68,6 @@ fn fields_of_a_command(rt: HostRuntime) -> Result<(), Fail> {
 }
 
 #[test]
-fn written_again(rt: HostRuntime) -> Result<(), Fail> {
-    let mut out = Vec::new(rt.alloc());
-    for bytes in [CONFIG_11.as_slice(), DATA_11.as_slice(), DATA_ON.as_slice()] {
-        let frame = read_frame(bytes).ok().ok_or("it is a frame")?;
-        out.clear();
-        write_frame(&frame, &mut out)?;
-        is!(&rt; out.as_slice(), bytes);
-    }
-    Ok(())
-}
-
-#[test]
 fn written_where_the_room_is_fixed(rt: HostRuntime) -> Result<(), Fail> {
     let frame = read_frame(&DATA_11).ok().ok_or("it is a frame")?;
     let mut out = ArrayVec::<u8, 51>::new();

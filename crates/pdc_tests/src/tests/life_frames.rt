@@ -82,8 +82,12 @@ fn layout_of_no_pmu(rt: HostRuntime) -> Result<(), Fail> {
     append_layout(&NODE_201, 1, 65538, &[], 1_149_577_200, &mut out)?;
     is!(&rt; out.len(), 1094);
     let frame = read_frame(&out)?;
-    is!(&rt; (frame.kind, frame.version, frame.id), (Kind::Cfg2, 2, 201));
-    is!(&rt; (frame.soc, frame.quality, frame.frac), (1_149_577_200, 0, 0));
+    is!(&rt; frame.kind, Kind::Cfg2);
+    is!(&rt; frame.version, 2);
+    is!(&rt; frame.id, 201);
+    is!(&rt; frame.soc, 1_149_577_200);
+    is!(&rt; frame.quality, 0);
+    is!(&rt; frame.frac, 0);
     let config = read_config(&frame)?;
     is!(&rt; config.sections.len(), 1);
     let own = config.sections.as_slice()[0];
@@ -103,17 +107,20 @@ fn layout_of_two_pmus(rt: HostRuntime) -> Result<(), Fail> {
         payload: &SECTIONS,
     };
     let sent = read_config(&frame)?;
-    assert_eq!(rt; sent.sections.len(), 2);
+    is!(&rt; sent.sections.len(), 2);
     let mut out = Vec::new(rt.alloc());
     append_layout(&NODE_201, 1, 1, sent.sections.as_slice(), 0, &mut out)?;
     is!(&rt; out.len(), 1194);
     let frame = read_frame(&out)?;
     let config = read_config(&frame)?;
-    is!(&rt; (config.flags, config.time_base, config.rate), (0, 1_000_000, 50));
-    let sections = config.sections.as_slice();
-    assert_eq!(rt; sections.len(), 3);
-    let (own, one, two) = (sections[0], sections[1], sections[2]);
-    is!(&rt; (own.source, own.count), (201, 1));
+    is!(&rt; config.flags, 0);
+    is!(&rt; config.time_base, 1_000_000);
+    is!(&rt; config.rate, 50);
+    let [own, one, two] = config.sections.as_slice() else {
+        return Err(Fail::from("there are three sections"));
+    };
+    is!(&rt; own.source, 201);
+    is!(&rt; own.count, 1);
     is!(&rt; one.bytes, &SECTIONS[6..56]);
     is!(&rt; two.bytes, &SECTIONS[56..106]);
     Ok(())

@@ -1,2 +1,0 @@
-//! Mark files on real files.
-mod mark_files;
