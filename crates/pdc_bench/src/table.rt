@@ -4,7 +4,7 @@ ghost use Rattle.std.specs.Prelude.{◌≡◌, ◌<◌, ◌≤◌};
 use arrayvec::ArrayVec;
 use pdc_block::Block;
 use pdc_cfg::Shape;
-use pdc_table::{DueRow, RowLayout, SortedTable, Table};
+use pdc_table::{DueRow, RowLayout, SortedTable, Table, WaitRule};
 use std::alloc::{AllocError, Global};
 
 const STREAMS: usize = 16;
@@ -65,7 +65,7 @@ impl<T: Table> Aligner<T> {
     }
 
     fn tick(&mut self, wait: u64) {
-        let closed = self.table.tick(wait, &self.layout);
+        let closed = self.table.tick(WaitRule::Ticks(wait), &self.layout);
         for _ in 0..closed {
             if let Some(row) = self.table.pop_due() {
                 self.mixed = self.mixed.rotate_left(1) ^ mix(&row);

@@ -5,7 +5,8 @@ use Rattle.std.proofs.lemmas.List.Folds.{length-prefix_len}
 use Rattle.pdc_row.specs.Rising.{Rises}
 use Rattle.pdc_table.specs.OpenInstants.{instants_of}
 use Rattle.pdc_table.specs.Closing.{is_due, closes, closing, staying}
-use Rattle.pdc_table.specs.declared.open_row.OpenRow.{OpenRow}
+use Rattle.pdc_table.specs.Views.{OpenRowView}
+use Rattle.pdc_table.specs.declared.wait_rule.WaitRule.{WaitRule}
 
 and_true : (b : Bool) → (b && true) ≡ b
 and_true true = refl
@@ -18,61 +19,61 @@ leb_no : (m n : ℕ) → n < m → leb m n ≡ false
 leb_no m n h = search rules
 
 -- rows above this one do not hold it back
-held_by_none : (required : List Bool) (wait low : ℕ) (row : OpenRow) (rows : List OpenRow) → row.instant ≤ low → Rises low (instants_of rows) → closes required wait rows row ≡ true
-held_by_none required wait low row [] h r = refl
-held_by_none required wait low row (x ∷ xs) h r =
-    rw (leb_no x.instant row.instant (omega (arith, r.0))) (held_by_none required wait x.instant row xs (omega (arith, r.0)) r.1)
+held_by_none : (required : List Bool) (rule : WaitRule) (low : ℕ) (row : OpenRowView) (rows : List OpenRowView) → row.instant ≤ low → Rises low (instants_of rows) → closes required rule rows row ≡ true
+held_by_none required rule low row [] h r = refl
+held_by_none required rule low row (x ∷ xs) h r =
+    rw (leb_no x.instant row.instant (omega (arith, r.0))) (held_by_none required rule x.instant row xs (omega (arith, r.0)) r.1)
 
 -- the first row closes where it is due
-first_closes : (required : List Bool) (wait : ℕ) (x : OpenRow) (xs : List OpenRow) → Rises x.instant (instants_of xs) → closes required wait (x ∷ xs) x ≡ is_due required wait x
-first_closes required wait x xs r =
-    rw (leb_yes x.instant x.instant (omega arith), held_by_none required wait x.instant x xs (omega arith) r) (and_true (is_due required wait x))
+first_closes : (required : List Bool) (rule : WaitRule) (x : OpenRowView) (xs : List OpenRowView) → Rises x.instant (instants_of xs) → closes required rule (x ∷ xs) x ≡ is_due required rule x
+first_closes required rule x xs r =
+    rw (leb_yes x.instant x.instant (omega arith), held_by_none required rule x.instant x xs (omega arith) r) (and_true (is_due required rule x))
 
 -- a later row closes where the first is due and no other holds it back
-later_closes : (required : List Bool) (wait : ℕ) (x row : OpenRow) (xs : List OpenRow) → x.instant < row.instant → closes required wait (x ∷ xs) row ≡ is_due required wait x && closes required wait xs row
-later_closes required wait x row xs h = rw (leb_yes x.instant row.instant (omega arith)) refl
+later_closes : (required : List Bool) (rule : WaitRule) (x row : OpenRowView) (xs : List OpenRowView) → x.instant < row.instant → closes required rule (x ∷ xs) row ≡ is_due required rule x && closes required rule xs row
+later_closes required rule x row xs h = rw (leb_yes x.instant row.instant (omega arith)) refl
 
-filter_alike : (p q : OpenRow → Bool) (low : ℕ) (rows : List OpenRow) → Rises low (instants_of rows) → ((r : OpenRow) → low < r.instant → p r ≡ q r) → filter p rows ≡ filter q rows
+filter_alike : (p q : OpenRowView → Bool) (low : ℕ) (rows : List OpenRowView) → Rises low (instants_of rows) → ((r : OpenRowView) → low < r.instant → p r ≡ q r) → filter p rows ≡ filter q rows
 filter_alike p q low [] r h = refl
 filter_alike p q low (x ∷ xs) r h =
     rw (h x r.0, filter_alike p q x.instant xs r.1 (λ y l. h y (omega (arith, r.0)))) refl
 
-filter_none : (rows : List OpenRow) → filter (λ (r : OpenRow). false) rows ≡ []
+filter_none : (rows : List OpenRowView) → filter (λ (r : OpenRowView). false) rows ≡ []
 filter_none [] = refl
 filter_none (x ∷ xs) = filter_none xs
 
-filter_all : (rows : List OpenRow) → filter (λ (r : OpenRow). true) rows ≡ rows
+filter_all : (rows : List OpenRowView) → filter (λ (r : OpenRowView). true) rows ≡ rows
 filter_all [] = refl
 filter_all (x ∷ xs) = ap (λ ys. x ∷ ys) (filter_all xs)
 
-front_step : (b : Bool) (x : OpenRow) (f : OpenRow → Bool) (xs : List OpenRow) (n : ℕ) → filter f xs ≡ take n xs → cond b (x ∷ filter (λ r. b && f r) xs) (filter (λ r. b && f r) xs) ≡ take (cond b (1 + n) 0) (x ∷ xs)
+front_step : (b : Bool) (x : OpenRowView) (f : OpenRowView → Bool) (xs : List OpenRowView) (n : ℕ) → filter f xs ≡ take n xs → cond b (x ∷ filter (λ r. b && f r) xs) (filter (λ r. b && f r) xs) ≡ take (cond b (1 + n) 0) (x ∷ xs)
 front_step true x f xs n h = let e : 1 + n ≡ suc n = omega arith in rw e (ap (λ ys. x ∷ ys) h)
 front_step false x f xs n h = filter_none xs
 
-back_step : (b : Bool) (x : OpenRow) (f : OpenRow → Bool) (xs : List OpenRow) (n : ℕ) → filter (λ r. not (f r)) xs ≡ drop n xs → cond (not b) (x ∷ filter (λ r. not (b && f r)) xs) (filter (λ r. not (b && f r)) xs) ≡ drop (cond b (1 + n) 0) (x ∷ xs)
+back_step : (b : Bool) (x : OpenRowView) (f : OpenRowView → Bool) (xs : List OpenRowView) (n : ℕ) → filter (λ r. not (f r)) xs ≡ drop n xs → cond (not b) (x ∷ filter (λ r. not (b && f r)) xs) (filter (λ r. not (b && f r)) xs) ≡ drop (cond b (1 + n) 0) (x ∷ xs)
 back_step true x f xs n h = let e : 1 + n ≡ suc n = omega arith in rw e h
 back_step false x f xs n h = ap (λ ys. x ∷ ys) (filter_all xs)
 
-pub closing-front : (required : List Bool) (wait low : ℕ) (rows : List OpenRow) → Rises low (instants_of rows) → closing required wait rows ≡ take (prefix_len (is_due required wait) rows) rows
-closing-front required wait low [] r = refl
-closing-front required wait low (x ∷ xs) r =
-    ap (λ b. cond b (x ∷ filter (closes required wait (x ∷ xs)) xs) (filter (closes required wait (x ∷ xs)) xs)) (first_closes required wait x xs r.1)
-    ∙ ap (λ ys. cond (is_due required wait x) (x ∷ ys) ys) (filter_alike (closes required wait (x ∷ xs)) (λ row. is_due required wait x && closes required wait xs row) x.instant xs r.1 (λ row h. later_closes required wait x row xs h))
-    ∙ front_step (is_due required wait x) x (closes required wait xs) xs (prefix_len (is_due required wait) xs) (closing-front required wait x.instant xs r.1)
+pub closing-front : (required : List Bool) (rule : WaitRule) (low : ℕ) (rows : List OpenRowView) → Rises low (instants_of rows) → closing required rule rows ≡ take (prefix_len (is_due required rule) rows) rows
+closing-front required rule low [] r = refl
+closing-front required rule low (x ∷ xs) r =
+    ap (λ b. cond b (x ∷ filter (closes required rule (x ∷ xs)) xs) (filter (closes required rule (x ∷ xs)) xs)) (first_closes required rule x xs r.1)
+    ∙ ap (λ ys. cond (is_due required rule x) (x ∷ ys) ys) (filter_alike (closes required rule (x ∷ xs)) (λ row. is_due required rule x && closes required rule xs row) x.instant xs r.1 (λ row h. later_closes required rule x row xs h))
+    ∙ front_step (is_due required rule x) x (closes required rule xs) xs (prefix_len (is_due required rule) xs) (closing-front required rule x.instant xs r.1)
 
-pub staying-back : (required : List Bool) (wait low : ℕ) (rows : List OpenRow) → Rises low (instants_of rows) → staying required wait rows ≡ drop (prefix_len (is_due required wait) rows) rows
-staying-back required wait low [] r = refl
-staying-back required wait low (x ∷ xs) r =
-    ap (λ b. cond (not b) (x ∷ filter (λ row. not (closes required wait (x ∷ xs) row)) xs) (filter (λ row. not (closes required wait (x ∷ xs) row)) xs)) (first_closes required wait x xs r.1)
-    ∙ ap (λ ys. cond (not (is_due required wait x)) (x ∷ ys) ys) (filter_alike (λ row. not (closes required wait (x ∷ xs) row)) (λ row. not (is_due required wait x && closes required wait xs row)) x.instant xs r.1 (λ row h. ap not (later_closes required wait x row xs h)))
-    ∙ back_step (is_due required wait x) x (closes required wait xs) xs (prefix_len (is_due required wait) xs) (staying-back required wait x.instant xs r.1)
+pub staying-back : (required : List Bool) (rule : WaitRule) (low : ℕ) (rows : List OpenRowView) → Rises low (instants_of rows) → staying required rule rows ≡ drop (prefix_len (is_due required rule) rows) rows
+staying-back required rule low [] r = refl
+staying-back required rule low (x ∷ xs) r =
+    ap (λ b. cond (not b) (x ∷ filter (λ row. not (closes required rule (x ∷ xs) row)) xs) (filter (λ row. not (closes required rule (x ∷ xs) row)) xs)) (first_closes required rule x xs r.1)
+    ∙ ap (λ ys. cond (not (is_due required rule x)) (x ∷ ys) ys) (filter_alike (λ row. not (closes required rule (x ∷ xs) row)) (λ row. not (is_due required rule x && closes required rule xs row)) x.instant xs r.1 (λ row h. ap not (later_closes required rule x row xs h)))
+    ∙ back_step (is_due required rule x) x (closes required rule xs) xs (prefix_len (is_due required rule) xs) (staying-back required rule x.instant xs r.1)
 
 -- the front of the rows as the code cuts it
-pub front_is : (required : List Bool) (wait low : ℕ) (rows seen : List OpenRow) (n : ℕ) → seen ≡ rows → n ≡ prefix_len (is_due required wait) seen → Rises low (instants_of rows) → take n seen ≡ closing required wait rows
-front_is required wait low rows seen n e k r = rw (k, e) (sym (closing-front required wait low rows r))
+pub front_is : (required : List Bool) (rule : WaitRule) (low : ℕ) (rows seen : List OpenRowView) (n : ℕ) → seen ≡ rows → n ≡ prefix_len (is_due required rule) seen → Rises low (instants_of rows) → take n seen ≡ closing required rule rows
+front_is required rule low rows seen n e k r = rw (k, e) (sym (closing-front required rule low rows r))
 
-pub back_is : (required : List Bool) (wait low : ℕ) (rows seen : List OpenRow) (n : ℕ) → seen ≡ rows → n ≡ prefix_len (is_due required wait) seen → Rises low (instants_of rows) → drop n rows ≡ staying required wait rows
-back_is required wait low rows seen n e k r = rw (k, e) (sym (staying-back required wait low rows r))
+pub back_is : (required : List Bool) (rule : WaitRule) (low : ℕ) (rows seen : List OpenRowView) (n : ℕ) → seen ≡ rows → n ≡ prefix_len (is_due required rule) seen → Rises low (instants_of rows) → drop n rows ≡ staying required rule rows
+back_is required rule low rows seen n e k r = rw (k, e) (sym (staying-back required rule low rows r))
 
-pub front_length : (required : List Bool) (wait low : ℕ) (rows seen : List OpenRow) (n : ℕ) → seen ≡ rows → n ≡ prefix_len (is_due required wait) seen → Rises low (instants_of rows) → n ≡ length (closing required wait rows)
-front_length required wait low rows seen n e k r = rw (k, e, closing-front required wait low rows r) (sym (length-prefix_len (is_due required wait) rows))
+pub front_length : (required : List Bool) (rule : WaitRule) (low : ℕ) (rows seen : List OpenRowView) (n : ℕ) → seen ≡ rows → n ≡ prefix_len (is_due required rule) seen → Rises low (instants_of rows) → n ≡ length (closing required rule rows)
+front_length required rule low rows seen n e k r = rw (k, e, closing-front required rule low rows r) (sym (length-prefix_len (is_due required rule) rows))

@@ -7,9 +7,9 @@ use Rattle.pdc_row.proofs.Rising.{lower}
 use Rattle.pdc_table.specs.OpenInstants.{instants_of}
 use Rattle.pdc_row.specs.RowView.{row_view, row_instants}
 use Rattle.pdc_row.specs.declared.due_row.DueRow.{DueRow}
-use Rattle.pdc_table.specs.declared.open_row.OpenRow.{OpenRow}
+use Rattle.pdc_table.specs.Views.{OpenRowView}
 
-pub highest_open : (cs : List ℕ) (rows : List OpenRow) (row : OpenRow) → Some row ≡ slice_get rows (length rows - 1) → highest_of (cs ++ instants_of rows) ≡ Some row.instant
+pub highest_open : (cs : List ℕ) (rows : List OpenRowView) (row : OpenRowView) → Some row ≡ slice_get rows (length rows - 1) → highest_of (cs ++ instants_of rows) ≡ Some row.instant
 highest_open cs [] row e = cc
 highest_open [] (x ∷ []) row e = let f : Some row ≡ Some x = e in cc
 highest_open [] (x ∷ y ∷ ys) row e =
@@ -20,7 +20,7 @@ highest_open [] (x ∷ y ∷ ys) row e =
 highest_open (c ∷ []) (x ∷ xs) row e = highest_open [] (x ∷ xs) row e
 highest_open (c ∷ d ∷ cs) (x ∷ xs) row e = highest_open (d ∷ cs) (x ∷ xs) row e
 
-pub no_rows : (rows : List OpenRow) → false ≡ ltb 0 (length rows) → rows ≡ []
+pub no_rows : (rows : List OpenRowView) → false ≡ ltb 0 (length rows) → rows ≡ []
 no_rows [] h = refl
 no_rows (x ∷ xs) h = let k : ltb 0 (suc (length xs)) ≡ true = lower 0 (suc (length xs)) (omega arith) in absurd (false≢true (h ∙ k))
 

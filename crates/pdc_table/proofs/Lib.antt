@@ -1,7 +1,12 @@
+pub mod Blank
 pub mod CallLaws
+pub mod Due
+pub mod Follows
 pub mod Given
 pub mod Closes
 pub mod Keeps
 pub mod Places
 pub mod Highest
+pub mod RowAt
 pub mod RowSteps
+pub mod Told

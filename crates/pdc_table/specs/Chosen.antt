@@ -3,18 +3,14 @@ use Rattle.std.specs.Prelude.{Bool, not, false, Option, Some, None}
 use Rattle.pdc_cfg.specs.declared.shape.Shape.{Shape}
 use Rattle.pdc_row.specs.Chosen.{block_or_absent, first_of, present_of}
 use Rattle.pdc_row.specs.CellView.{BlockView, CellView, same_block}
-use Rattle.pdc_table.specs.declared.column.Column.{Column}
-
--- the column in which nothing was taken
-abbrev pub empty_column : Column
-empty_column = record { first = None; second = None }
+use Rattle.pdc_table.specs.Views.{ColumnView}
 
 -- The cell of the lowest lane whose block is present.
-abbrev pub chosen_of : Column → Option CellView
+abbrev pub chosen_of : ColumnView → Option CellView
 chosen_of column = first_of (present_of column.first) (present_of column.second)
 
 -- The block of a column of this shape: the chosen one, else the absent one.
-abbrev pub block_in : Shape → Column → BlockView
+abbrev pub block_in : Shape → ColumnView → BlockView
 block_in shape column = block_or_absent shape (chosen_of column)
 
 -- both are there, and their blocks differ
@@ -24,5 +20,5 @@ are_different (Some a) None = false
 are_different (Some a) (Some b) = not (same_block a.block b.block)
 
 -- Both lanes hold present blocks, and they differ.
-abbrev pub disagrees : Column → Bool
+abbrev pub disagrees : ColumnView → Bool
 disagrees column = are_different (present_of column.first) (present_of column.second)

@@ -2,9 +2,13 @@ pub mod Calls
 pub mod Chosen
 pub mod Closing
 pub mod Content
-pub mod Placing
+pub mod Histories
+pub mod Layout
 pub mod OpenInstants
+pub mod Placing
 pub mod Row
 pub mod SortedTable
 pub mod Steps
+pub mod TableView
 pub mod Taking
+pub mod Views

@@ -2,26 +2,25 @@
 use Rattle.std.specs.Prelude.{ℕ, ◌+◌, ◌++◌, nat_le, Bool, true, false, not, if◌then◌else◌, List, [], ◌∷◌, length, map, drop, Option, Some, None, slice_set, slice_index_or}
 use Rattle.std.specs.List.{list_all, slice_get}
 use Rattle.pdc_cfg.specs.declared.shape.Shape.{Shape}
-use Rattle.pdc_block.specs.declared.block.Block.{Block}
-use Rattle.pdc_row.specs.CellView.{BlockView}
-use Rattle.pdc_table.specs.Chosen.{disagrees}
-use Rattle.pdc_row.specs.RowView.{RowView}
-use Rattle.pdc_table.specs.Row.{row_of}
+use Rattle.pdc_row.specs.CellView.{BlockView, CellView}
 use Rattle.pdc_row.specs.Quality.{greatest}
 use Rattle.pdc_row.specs.Rising.{is_near}
+use Rattle.pdc_row.specs.RowView.{RowView}
+use Rattle.pdc_table.specs.Chosen.{disagrees}
+use Rattle.pdc_table.specs.Row.{row_of}
 use Rattle.pdc_table.specs.OpenInstants.{instants_of}
 use Rattle.pdc_table.specs.Closing.{aged, closing, staying, counter}
 use Rattle.pdc_table.specs.Placing.{row_at, with_row}
-use Rattle.pdc_table.specs.Taking.{blank_row, conflicts, with_frame, without_stream, without_column}
-use Rattle.pdc_table.specs.Content.{Content, lane_of, held_instants}
-use Rattle.pdc_table.specs.declared.column.Column.{Column}
-use Rattle.pdc_table.specs.declared.open_row.OpenRow.{OpenRow}
-use Rattle.pdc_table.specs.declared.row_layout.RowLayout.{RowLayout}
+use Rattle.pdc_table.specs.Taking.{conflicts, with_frame, without_stream, without_column}
+use Rattle.pdc_table.specs.Content.{Content, lane_of, held_instants, streams_of}
+use Rattle.pdc_table.specs.Layout.{LayoutView}
+use Rattle.pdc_table.specs.Views.{ColumnView, OpenRowView, blank_row}
+use Rattle.pdc_table.specs.declared.wait_rule.WaitRule.{WaitRule}
 use Rattle.pdc_table.specs.declared.outcome.PutOutcome.{PutOutcome}
 use Rattle.pdc_table.specs.declared.outcome.PutOutcome.TheVariants.{Taken, Late, OutOfWindow, Duplicate, Conflict}
 
 -- what a frame is answered at an instant whose row is this: the first to be taken stays
-abbrev pub answer_at : Option OpenRow → ℕ → ℕ → List (ℕ × Block) → PutOutcome
+abbrev pub answer_at : Option OpenRowView → (stream lane : ℕ) → List (ℕ × CellView) → PutOutcome
 answer_at None stream lane cells = Taken
 answer_at (Some row) stream lane cells =
     if slice_index_or row.taken stream false then (if conflicts lane cells row.columns then Conflict else Duplicate) else Taken
@@ -34,7 +33,7 @@ first_cause late far other = if late then Late else (if far then OutOfWindow els
 abbrev pub is_near_all : Content → ℕ → Bool
 is_near_all c instant = list_all (is_near c.window instant) (held_instants c)
 
-abbrev pub put_answer : Content → ℕ → ℕ → List (ℕ × Block) → PutOutcome
+abbrev pub put_answer : Content → (stream instant : ℕ) → List (ℕ × CellView) → PutOutcome
 put_answer c stream instant cells =
     first_cause (nat_le instant c.last) (not (is_near_all c instant))
     (answer_at (row_at instant c.open_rows) stream (lane_of c stream) cells)
@@ -43,50 +42,62 @@ abbrev pub is_taken : PutOutcome → Bool
 is_taken Taken = true
 is_taken _ = false
 
-abbrev pub with_taken : Content → ℕ → ℕ → List (ℕ × Block) → ℕ → Content
-with_taken c stream instant cells quality =
-    record c { open_rows = with_row (with_frame stream (lane_of c stream) cells quality) (blank_row instant) c.open_rows }
+-- a row for this instant in which nothing was taken
+abbrev pub fresh_row : Content → (instant : ℕ) → OpenRowView
+fresh_row c instant = blank_row (streams_of c) c.columns instant
 
-abbrev pub after_put : Content → ℕ → ℕ → List (ℕ × Block) → ℕ → Content
-after_put c stream instant cells quality =
-    if is_taken (put_answer c stream instant cells) then with_taken c stream instant cells quality else c
+-- A take: the cells go into their columns, each into the lane of the stream.
+abbrev pub after_take : Content → (stream instant : ℕ) → List (ℕ × CellView) → Content
+after_take c stream instant cells =
+    record c { open_rows = with_row (with_frame stream (lane_of c stream) cells) (fresh_row c instant) c.open_rows }
+
+abbrev pub after_put : Content → (stream instant : ℕ) → List (ℕ × CellView) → Content
+after_put c stream instant cells =
+    if is_taken (put_answer c stream instant cells) then after_take c stream instant cells else c
 
 abbrev pub after_require : Content → ℕ → Bool → Content
 after_require c stream is_required = record c { required = slice_set c.required stream is_required }
 
 -- the open rows that close at a tick, this tick counted
-abbrev pub closing_of : Content → ℕ → List OpenRow
-closing_of c wait = closing c.required wait (map aged c.open_rows)
+abbrev pub closing_of : Content → WaitRule → List OpenRowView
+closing_of c rule = closing c.required rule (map aged c.open_rows)
+
+-- those that stay open
+abbrev pub staying_of : Content → WaitRule → List OpenRowView
+staying_of c rule = staying c.required rule (map aged c.open_rows)
 
 -- the rows that they close to
-abbrev pub closed_by : Content → ℕ → RowLayout → List RowView
-closed_by c wait layout = map (row_of layout) (closing_of c wait)
+abbrev pub closed_by : Content → WaitRule → LayoutView → List RowView
+closed_by c rule layout = map (row_of layout) (closing_of c rule)
 
 -- one for a column with a shape whose lanes disagree
-abbrev pub disagreement_at : Option Shape → Column → ℕ
+abbrev pub disagreement_at : Option Shape → ColumnView → ℕ
 disagreement_at None column = 0
 disagreement_at (Some shape) column = if disagrees column then 1 else 0
 
 -- how many columns with a shape have lanes that disagree
-abbrev pub disagreements_of : List (Option Shape) → List Column → ℕ
+abbrev pub disagreements_of : List (Option Shape) → List ColumnView → ℕ
 disagreements_of [] columns = 0
 disagreements_of (shape ∷ shapes) [] = 0
 disagreements_of (shape ∷ shapes) (column ∷ columns) = disagreement_at shape column + disagreements_of shapes columns
 
 -- the same, added up over rows
-abbrev pub disagreements_in : RowLayout → List OpenRow → ℕ
+abbrev pub disagreements_in : LayoutView → List OpenRowView → ℕ
 disagreements_in layout [] = 0
-disagreements_in layout (row ∷ rows) = disagreements_of layout.shapes.items row.columns + disagreements_in layout rows
+disagreements_in layout (row ∷ rows) = disagreements_of layout.shapes row.columns + disagreements_in layout rows
 
-abbrev pub tick_answer : Content → ℕ → ℕ
-tick_answer c wait = length (closing_of c wait)
+-- The count of disagreements after a tick: it is a counter.
+abbrev pub disagreements_after : (so_far : ℕ) → Content → WaitRule → LayoutView → ℕ
+disagreements_after so_far c rule layout = counter (so_far + disagreements_in layout (closing_of c rule))
 
-abbrev pub after_tick : Content → ℕ → RowLayout → Content
-after_tick c wait layout = record c {
-  open_rows = staying c.required wait (map aged c.open_rows);
-  closed = c.closed ++ closed_by c wait layout;
-  last = greatest c.last (instants_of (closing_of c wait));
-  disagree = counter (c.disagree + disagreements_in layout (closing_of c wait));
+abbrev pub tick_answer : Content → WaitRule → ℕ
+tick_answer c rule = length (closing_of c rule)
+
+abbrev pub after_tick : Content → WaitRule → LayoutView → Content
+after_tick c rule layout = record c {
+  open_rows = staying_of c rule;
+  closed = c.closed ++ closed_by c rule layout;
+  last = greatest c.last (instants_of (closing_of c rule));
 }
 
 -- the shapes that there are

@@ -3,24 +3,34 @@ ghost use Rattle.std.specs.Prelude.{◌≡◌, ℕ, ◌+◌, ◌<◌, ◌≤◌,
 ghost use Rattle.pdc_row.specs.CellView.{block_view};
 ghost use Rattle.pdc_table.specs.Row.{blocks_at, qualities_at};
 ghost use Rattle.pdc_row.specs.Quality.{worst_of};
-ghost use Rattle.pdc_table.specs.Chosen.{chosen_of, disagrees, empty_column};
+ghost use Rattle.pdc_table.specs.Chosen.{chosen_of, disagrees};
 ghost use Rattle.pdc_row.specs.Chosen.{present_of};
 ghost use Rattle.pdc_table.specs.Steps.{disagreement_at};
 ghost use Rattle.pdc_table.specs.Taking.{cell_in, holds_other, with_cell};
+ghost use Rattle.pdc_table.specs.Views.{empty_column};
 
 use crate::{Cell, MAX_COLUMNS};
 use arrayvec::ArrayVec;
 use pdc_block::Block;
 use pdc_cfg::Shape;
 use pdc_stat::absent;
+use std::marker::Model;
 
 /// What was taken of one column at one instant, lane by lane.
 #[derive(Drop)]
 pub struct Column {
     /// What lane 0 holds.
-    pub first: Option<Cell>,
+    first: Option<Cell>,
     /// What lane 1 holds, in a table of two lanes.
-    pub second: Option<Cell>,
+    second: Option<Cell>,
+}
+
+impl Model for Column {
+    ghost use Rattle.pdc_table.specs.Views.{ColumnView};
+
+    ghost Value = { ColumnView };
+
+    ghost view = { λ column. record { first = column.first; second = column.second } };
 }
 
 /// The column in which nothing was taken.
@@ -56,7 +66,7 @@ impl Column {
 
     /// Whether the lane, 0 or else 1, holds another block than this; a lane that holds nothing does not.
     pub(crate) fn holds_other(&self, lane: usize, block: &Block) -> bool
-        ensures { result ≡ holds_other (cell_in lane self.now) block.now }
+        ensures { result ≡ holds_other (cell_in lane self.now) (block_view block.now) }
     {
         let cell = if lane == 0 { &self.first } else { &self.second };
         match cell {

@@ -18,17 +18,20 @@ mod row_layout;
 mod rows;
 mod sorted_table;
 mod table_trait;
+mod wait_rule;
 
-pub use cell::Cell;
-pub use column::Column;
+use cell::Cell;
+use column::Column;
 pub use laws::{
-    blocks_stand_in_their_columns, instants_close_once, nothing_is_put_below_closed,
+    ages_are_ticks, blocks_stand_in_their_columns, cells_are_first_puts, instants_close_once,
+    instants_open_where_taken, nothing_is_put_below_closed, rows_close_where_due,
     rows_come_out_once, rows_come_out_rising,
 };
 pub use limits::{MAX_COLUMNS, MAX_LANES, MAX_WINDOW, MIN_WINDOW};
-pub use open_row::OpenRow;
+use open_row::OpenRow;
 pub use outcome::PutOutcome;
 pub use pdc_row::DueRow;
 pub use row_layout::RowLayout;
 pub use sorted_table::SortedTable;
 pub use table_trait::Table;
+pub use wait_rule::WaitRule;

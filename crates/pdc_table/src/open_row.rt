@@ -1,57 +1,88 @@
 //! The row of an instant that is open.
-ghost use Rattle.std.specs.Prelude.{◌≡◌, ℕ, ◌<◌, ◌≤◌, map, Some, if◌then◌else◌};
+ghost use Rattle.std.specs.Prelude.{◌≡◌, ℕ, ◌+◌, ◌<◌, ◌≤◌, ◌++◌, List, length, map, slice_index_or, Some, IfSome, if◌then◌else◌};
 ghost use Rattle.std.specs.List.{All};
 ghost use Rattle.pdc_block.specs.declared.block.Block.{Block as BlockData};
+ghost use Rattle.pdc_row.specs.CellView.{block_view};
+ghost use Rattle.pdc_row.specs.Quality.{worst_of};
 ghost use Rattle.pdc_row.specs.RowView.{row_view};
-ghost use Rattle.pdc_table.specs.Row.{row_of};
+ghost use Rattle.pdc_table.specs.Row.{blocks_at, qualities_at, row_of};
 ghost use Rattle.pdc_table.specs.Closing.{aged, all_taken, is_due};
 ghost use Rattle.pdc_table.specs.Steps.{answer_at, disagreements_of, is_taken};
-ghost use Rattle.pdc_table.specs.Taking.{blank_row, conflicts, with_cell, with_frame, without_column, without_stream};
+ghost use Rattle.pdc_table.specs.Layout.{layout_view};
+ghost use Rattle.pdc_table.specs.Taking.{cells_of, conflicts, with_cell, with_cells, with_frame, without_column, without_stream};
+ghost use Rattle.pdc_table.specs.Views.{blank_row, empty_column};
 
-use crate::{Cell, Column, MAX_COLUMNS, PutOutcome, RowLayout};
+use crate::{Cell, Column, MAX_COLUMNS, PutOutcome, RowLayout, WaitRule};
 use arrayvec::ArrayVec;
 use pdc_block::Block;
+use pdc_cfg::Shape;
 use pdc_row::DueRow;
+use std::marker::Model;
 
 /// The quality of a row in which no block is present.
 const WORST_QUALITY: u8 = 15;
 
+/// For how many streams and columns a row has a place.
+#[derive(Clone, Copy)]
+pub struct Places {
+    pub streams: usize,
+    pub columns: usize,
+}
+
 /// The row of an instant that is open.
 #[derive(Drop)]
 pub struct OpenRow {
-    /// The instant.
-    pub instant: u64,
+    instant: u64,
     /// The ticks since its first take.
-    pub age: u64,
+    age: u64,
     /// Which streams were taken.
-    pub taken: [bool; 16],
+    taken: ArrayVec<bool, MAX_COLUMNS>,
     /// What each column holds.
-    pub columns: [Column; 16],
+    columns: ArrayVec<Column, MAX_COLUMNS>,
+}
+
+impl Model for OpenRow {
+    ghost use Rattle.pdc_table.specs.Views.{OpenRowView};
+
+    ghost Value = { OpenRowView };
+
+    ghost view = { λ row. record { instant = row.instant; age = row.age; taken = row.taken.items; columns = row.columns.items } };
 }
 
 impl OpenRow {
     /// The row of an instant in which nothing was taken.
-    pub(crate) fn blank(instant: u64) -> OpenRow
-        ensures { result ≡ blank_row instant }
+    pub(crate) fn blank(instant: u64, places: Places) -> OpenRow
+        requires streams { places.streams ≤ MAX_COLUMNS }
+        requires columns { places.columns ≤ MAX_COLUMNS }
+        ensures { result ≡ blank_row places.streams places.columns instant }
     {
+        let mut taken = ArrayVec::from_array_in((), [false; MAX_COLUMNS]);
+        taken.truncate(places.streams);
+        let mut columns = ArrayVec::from_array_in((), Default::default());
+        columns.truncate(places.columns);
         OpenRow {
             instant,
             age: 0,
-            taken: [false; 16],
-            columns: Default::default(),
+            taken,
+            columns,
         }
+    }
+
+    /// The instant.
+    pub(crate) fn instant(&self) -> u64
+        ensures { result ≡ self.now.instant }
+    {
+        self.instant
     }
 
     /// Takes a frame of the stream: its blocks go into their columns, in this lane.
     pub(crate) fn take(&mut self, stream: usize, lane: usize, cells: &[(usize, Block)], quality: u8)
-        requires stream { stream < MAX_COLUMNS }
-        requires columns { All (λ (cell : ℕ × BlockData). cell.0 < MAX_COLUMNS) cells.now }
-        ensures { self.new ≡ with_frame stream lane cells.now quality self.old }
+        requires stream { stream < length self.old.taken }
+        requires columns { All (λ (cell : ℕ × BlockData). cell.0 < length self.old.columns) cells.now }
+        ensures { self.new ≡ with_frame stream lane (cells_of cells.now quality) self.old }
     {
         self.taken[stream] = true;
-        for (column, block) in cells {
-            self.columns[*column].set(lane, Some(Cell::new(block, quality)));
-        }
+        put_cells(self.columns.as_mut_slice(), lane, cells, quality);
     }
 
     /// Takes the frame, unless the stream was taken already: then the first stays.
@@ -62,11 +93,11 @@ impl OpenRow {
         cells: &[(usize, Block)],
         quality: u8,
     ) -> PutOutcome
-        requires stream { stream < MAX_COLUMNS }
-        requires columns { All (λ (cell : ℕ × BlockData). cell.0 < MAX_COLUMNS) cells.now }
-        ensures answer { result ≡ answer_at (Some self.old) stream lane cells.now }
-        ensures row { self.new ≡ (if is_taken (answer_at (Some self.old) stream lane cells.now)
-            then with_frame stream lane cells.now quality self.old else self.old) }
+        requires stream { stream < length self.old.taken }
+        requires columns { All (λ (cell : ℕ × BlockData). cell.0 < length self.old.columns) cells.now }
+        ensures answer { result ≡ answer_at (Some self.old) stream lane (cells_of cells.now quality) }
+        ensures row { self.new ≡ (if is_taken (answer_at (Some self.old) stream lane (cells_of cells.now quality))
+            then with_frame stream lane (cells_of cells.now quality) self.old else self.old) }
     {
         if self.taken[stream] {
             return if self.conflicts(lane, cells) {
@@ -81,8 +112,8 @@ impl OpenRow {
 
     /// Whether some of these blocks differs from what this lane of its column holds.
     pub(crate) fn conflicts(&self, lane: usize, cells: &[(usize, Block)]) -> bool
-        requires { All (λ (cell : ℕ × BlockData). cell.0 < MAX_COLUMNS) cells.now }
-        ensures { result ≡ conflicts lane cells.now self.now.columns }
+        requires { All (λ (cell : ℕ × BlockData). cell.0 < length self.now.columns) cells.now }
+        ensures { (quality : ℕ) → result ≡ conflicts lane (cells_of cells.now quality) self.now.columns }
     {
         for (column, block) in cells {
             if self.columns[*column].holds_other(lane, block) {
@@ -94,20 +125,21 @@ impl OpenRow {
 
     /// Forgets what was taken of a stream: with one lane its own column, with two its lane of each column.
     pub(crate) fn drop_stream(&mut self, lanes: usize, stream: usize)
-        requires { stream < MAX_COLUMNS }
+        requires taken { stream < length self.old.taken }
+        requires column { lanes ≡ 1 → stream < length self.old.columns }
         ensures { self.new ≡ without_stream lanes stream self.old }
     {
         self.taken[stream] = false;
         if lanes == 1 {
             self.columns[stream] = Column::default();
         } else {
-            clear_lane(&mut self.columns, stream);
+            clear_lane(self.columns.as_mut_slice(), stream);
         }
     }
 
     /// Forgets the cells of a column; the streams stay taken.
     pub(crate) fn drop_column(&mut self, column: usize)
-        requires { column < MAX_COLUMNS }
+        requires { column < length self.old.columns }
         ensures { self.new ≡ without_column column self.old }
     {
         self.columns[column] = Column::default();
@@ -120,33 +152,41 @@ impl OpenRow {
         self.age = self.age.saturating_add(1);
     }
 
-    /// Whether every required stream was taken, or the age has reached the wait.
-    pub(crate) fn is_due(&self, required: &[bool; 16], wait: u64) -> bool
-        ensures { result ≡ is_due required.now wait self.now }
+    /// Whether every required stream was taken, or the wait is over.
+    pub(crate) fn is_due(&self, required: &[bool], rule: WaitRule) -> bool
+        ensures { result ≡ is_due required.now rule self.now }
     {
-        all_taken(required, &self.taken) || wait <= self.age
+        all_taken(required, self.taken.as_slice()) || rule.is_over(self.age, self.instant)
     }
 
     /// How many columns with a shape hold present blocks in both lanes that differ.
     pub(crate) fn disagreements(&self, layout: &RowLayout) -> u64
-        ensures value { result ≡ disagreements_of layout.now.shapes.items self.now.columns }
+        ensures value { result ≡ disagreements_of (layout_view layout.now).shapes self.now.columns }
         ensures most { result ≤ MAX_COLUMNS }
     {
         let mut count = 0;
         for (place, shape) in layout.shapes.as_slice().iter().enumerate() {
-            count += self.columns[place].disagreements(*shape);
+            if let Some(column) = self.columns.as_slice().get(place) {
+                count += column.disagreements(*shape);
+            }
         }
         count
     }
 
     /// The row that it closes to.
     pub(crate) fn close(&self, layout: &RowLayout) -> DueRow
-        ensures { row_view result ≡ row_of layout.now self.now }
+        ensures { row_view result ≡ row_of (layout_view layout.now) self.now }
     {
         let mut blocks = ArrayVec::new();
         let mut quality = None;
         for (place, shape) in layout.shapes.as_slice().iter().enumerate() {
-            self.columns[place].give(*shape, &mut blocks, &mut quality);
+            give(
+                self.columns.as_slice(),
+                place,
+                *shape,
+                &mut blocks,
+                &mut quality,
+            );
         }
         DueRow {
             instant: self.instant,
@@ -159,15 +199,48 @@ impl OpenRow {
 }
 
 /// Whether each required stream was taken.
-fn all_taken(required: &[bool; 16], taken: &[bool; 16]) -> bool
+fn all_taken(required: &[bool], taken: &[bool]) -> bool
     ensures { result ≡ all_taken required.now taken.now }
 {
-    for stream in 0..MAX_COLUMNS {
-        if required[stream] && !taken[stream] {
+    for (stream, is_required) in required.iter().enumerate() {
+        if *is_required && taken.get(stream) == Some(&false) {
             return false;
         }
     }
     true
+}
+
+/// Puts the blocks into their columns, in this lane.
+fn put_cells(columns: &mut [Column], lane: usize, cells: &[(usize, Block)], quality: u8)
+    requires { All (λ (cell : ℕ × BlockData). cell.0 < length columns.old) cells.now }
+    ensures { columns.new ≡ with_cells lane (cells_of cells.now quality) columns.old }
+{
+    for (column, block) in cells {
+        columns[*column].set(lane, Some(Cell::new(block, quality)));
+    }
+}
+
+/// Adds what the column at this place gives to a row; past the last column there is nothing.
+fn give(
+    columns: &[Column],
+    place: usize,
+    shape: Option<Shape>,
+    blocks: &mut ArrayVec<Block, 16>,
+    quality: &mut Option<u8>,
+)
+    requires room { length blocks.old.items < MAX_COLUMNS }
+    requires fits { IfSome quality.old (λ n. n ≤ 15) }
+    ensures blocks { map block_view blocks.new.items
+        ≡ map block_view blocks.old.items ++ blocks_at shape (slice_index_or columns.now place empty_column) }
+    ensures grown { length blocks.new.items ≤ length blocks.old.items + 1 }
+    ensures quality { (ns : List ℕ) → worst_of quality.new ns
+        ≡ worst_of quality.old (qualities_at shape (slice_index_or columns.now place empty_column) ++ ns) }
+    ensures quality_fits { IfSome quality.new (λ n. n ≤ 15) }
+{
+    match columns.get(place) {
+        Some(column) => column.give(shape, blocks, quality),
+        None => Column::default().give(shape, blocks, quality),
+    }
 }
 
 /// Empties the lane of each column.

@@ -1,7 +1,7 @@
 //! Open rows in rising order.
 ghost use Rattle.std.specs.Prelude.{◌≡◌, ℕ, ◌+◌, ◌<◌, ◌≤◌, ◌++◌, length, map, drop, vec_len, None, if◌then◌else◌};
 ghost use Rattle.std.specs.Vec.{vec_capacity};
-ghost use Rattle.std.specs.List.{All, list_all, prefix_len, slice_get};
+ghost use Rattle.std.specs.List.{All, AllByRecursion, list_all, prefix_len, slice_get};
 ghost use Rattle.std.specs.Result.{MatchResult};
 ghost use Rattle.std.specs.VecDeque.{deque_capacity, deque_len};
 ghost use Rattle.pdc_block.specs.declared.block.Block.{Block as BlockData};
@@ -13,9 +13,13 @@ ghost use Rattle.pdc_table.specs.OpenInstants.{instants_of};
 ghost use Rattle.pdc_table.specs.Row.{row_of};
 ghost use Rattle.pdc_row.specs.Quality.{greatest};
 ghost use Rattle.pdc_table.specs.Steps.{answer_at, disagreements_in, is_taken};
-ghost use Rattle.pdc_table.specs.Taking.{blank_row, with_frame, without_column, without_stream};
+ghost use Rattle.pdc_table.specs.Taking.{cells_of, with_frame, without_column, without_stream};
+ghost use Rattle.pdc_table.specs.Content.{HasPlaces};
+ghost use Rattle.pdc_table.specs.Layout.{layout_view};
+ghost use Rattle.pdc_table.specs.Views.{OpenRowView, blank_row};
 
-use crate::{MAX_COLUMNS, OpenRow, PutOutcome, RowLayout};
+use crate::open_row::{OpenRow, Places};
+use crate::{MAX_COLUMNS, PutOutcome, RowLayout, WaitRule};
 use pdc_block::Block;
 use pdc_row::DueRow;
 use std::collections::VecDeque;
@@ -26,19 +30,20 @@ pub fn place(rows: &[OpenRow], instant: u64) -> usize
     ensures place { result ≡ place_of instant rows.now }
     ensures bound { result ≤ length rows.now }
 {
-    rows.partition_point(|row| row.instant < instant)
+    rows.partition_point(|row| row.instant() < instant)
 }
 
 /// Where the row of the instant stands, or where it would stand.
-pub fn find(rows: &[OpenRow], instant: u64) -> Result<usize, usize>
+pub fn find(rows: &[OpenRow], instant: u64, places: Places) -> Result<usize, usize>
     requires { Rises 0 (instants_of rows.now) }
-    ensures { MatchResult result (IsRowPlace instant rows.now) (IsGap instant rows.now) }
+    ensures { MatchResult result (IsRowPlace (blank_row places.streams places.columns instant) rows.now)
+        (IsGap (blank_row places.streams places.columns instant) rows.now) }
 {
     let place = place(rows, instant);
     if place == rows.len() {
         return Err(place);
     }
-    if rows[place].instant == instant {
+    if rows[place].instant() == instant {
         Ok(place)
     } else {
         Err(place)
@@ -56,18 +61,19 @@ pub fn grow_older(rows: &mut Vec<OpenRow>)
 }
 
 /// How many rows from the front on are due.
-pub fn count_due(rows: &[OpenRow], required: &[bool; 16], wait: u64) -> usize
-    ensures count { result ≡ prefix_len (is_due required.now wait) rows.now }
+pub fn count_due(rows: &[OpenRow], required: &[bool], rule: WaitRule) -> usize
+    ensures count { result ≡ prefix_len (is_due required.now rule) rows.now }
     ensures bound { result ≤ length rows.now }
 {
     rows.iter()
-        .take_while(|row| row.is_due(required, wait))
+        .take_while(|row| row.is_due(required, rule))
         .count()
 }
 
 /// Forgets what was taken of a stream, in each row.
 pub fn drop_stream(rows: &mut Vec<OpenRow>, lanes: usize, stream: usize)
-    requires { stream < MAX_COLUMNS }
+    requires taken { AllByRecursion (λ (row : OpenRowView). stream < length row.taken) rows.old.items }
+    requires column { lanes ≡ 1 → AllByRecursion (λ (row : OpenRowView). stream < length row.columns) rows.old.items }
     ensures items { rows.new.items ≡ map (without_stream lanes stream) rows.old.items }
     ensures capacity { vec_capacity rows.new ≡ vec_capacity rows.old }
 {
@@ -78,7 +84,7 @@ pub fn drop_stream(rows: &mut Vec<OpenRow>, lanes: usize, stream: usize)
 
 /// Forgets the cells of a column, in each row.
 pub fn drop_column(rows: &mut Vec<OpenRow>, column: usize)
-    requires { column < MAX_COLUMNS }
+    requires { AllByRecursion (λ (row : OpenRowView). column < length row.columns) rows.old.items }
     ensures items { rows.new.items ≡ map (without_column column) rows.old.items }
     ensures capacity { vec_capacity rows.new ≡ vec_capacity rows.old }
 {
@@ -99,7 +105,7 @@ pub fn remove_front(rows: &mut Vec<OpenRow>, count: usize)
 /// Closes each of these rows under a layout, in order.
 pub fn close(rows: &[OpenRow], layout: &RowLayout, closed: &mut VecDeque<DueRow>)
     requires { deque_len closed.old + length rows.now ≤ deque_capacity closed.old }
-    ensures items { map row_view closed.new.items ≡ map row_view closed.old.items ++ map (row_of layout.now) rows.now }
+    ensures items { map row_view closed.new.items ≡ map row_view closed.old.items ++ map (row_of (layout_view layout.now)) rows.now }
     ensures capacity { deque_capacity closed.new ≡ deque_capacity closed.old }
 {
     for row in rows {
@@ -109,7 +115,7 @@ pub fn close(rows: &[OpenRow], layout: &RowLayout, closed: &mut VecDeque<DueRow>
 
 /// The count of disagreements after these rows closed.
 pub fn count_disagreements(rows: &[OpenRow], layout: &RowLayout, so_far: u64) -> u64
-    ensures { result ≡ counter (so_far + disagreements_in layout.now rows.now) }
+    ensures { result ≡ counter (so_far + disagreements_in (layout_view layout.now) rows.now) }
 {
     let mut count = so_far;
     for row in rows {
@@ -124,7 +130,7 @@ pub fn greatest(rows: &[OpenRow], last: u64) -> u64
 {
     let mut greatest = last;
     for row in rows {
-        greatest = greatest.max(row.instant);
+        greatest = greatest.max(row.instant());
     }
     greatest
 }
@@ -132,6 +138,7 @@ pub fn greatest(rows: &[OpenRow], last: u64) -> u64
 /// Takes a frame of a stream for an instant, unless the stream was taken there.
 pub fn take(
     rows: &mut Vec<OpenRow>,
+    places: Places,
     stream: usize,
     lane: usize,
     instant: u64,
@@ -139,18 +146,22 @@ pub fn take(
     quality: u8,
 ) -> PutOutcome
     requires rising { Rises 0 (instants_of rows.old.items) }
+    requires each { AllByRecursion (HasPlaces places.streams places.columns) rows.old.items }
     requires room { row_at instant rows.old.items ≡ None → vec_len rows.old < vec_capacity rows.old }
-    requires stream { stream < MAX_COLUMNS }
-    requires columns { All (λ (cell : ℕ × BlockData). cell.0 < MAX_COLUMNS) cells.now }
-    ensures answer { result ≡ answer_at (row_at instant rows.old.items) stream lane cells.now }
-    ensures items { rows.new.items ≡ (if is_taken (answer_at (row_at instant rows.old.items) stream lane cells.now)
-        then with_row (with_frame stream lane cells.now quality) (blank_row instant) rows.old.items else rows.old.items) }
-    ensures capacity { vec_capacity rows.old ≤ vec_capacity rows.new }
+    requires streams_fit { places.streams ≤ MAX_COLUMNS }
+    requires columns_fit { places.columns ≤ MAX_COLUMNS }
+    requires stream { stream < places.streams }
+    requires columns { All (λ (cell : ℕ × BlockData). cell.0 < places.columns) cells.now }
+    ensures answer { result ≡ answer_at (row_at instant rows.old.items) stream lane (cells_of cells.now quality) }
+    ensures items { rows.new.items ≡ (if is_taken (answer_at (row_at instant rows.old.items) stream lane (cells_of cells.now quality))
+        then with_row (with_frame stream lane (cells_of cells.now quality)) (blank_row places.streams places.columns instant) rows.old.items
+        else rows.old.items) }
+    ensures capacity { vec_capacity rows.new ≡ vec_capacity rows.old }
 {
-    match find(rows, instant) {
+    match find(rows, instant, places) {
         Ok(place) => rows[place].offer(stream, lane, cells, quality),
         Err(place) => {
-            let mut row = OpenRow::blank(instant);
+            let mut row = OpenRow::blank(instant, places);
             row.take(stream, lane, cells, quality);
             rows.insert(place, row).unwrap();
             PutOutcome::Taken
@@ -184,7 +195,7 @@ fn lowest(rows: &[OpenRow], closed: &VecDeque<DueRow>) -> Option<u64>
 {
     match closed.front() {
         Some(row) => Some(row.instant),
-        None => Some(rows.first()?.instant),
+        None => Some(rows.first()?.instant()),
     }
 }
 
@@ -193,7 +204,7 @@ fn highest(rows: &[OpenRow], closed: &VecDeque<DueRow>) -> Option<u64>
     ensures { result ≡ highest_of (row_instants (map row_view closed.now.items) ++ instants_of rows.now) }
 {
     match (rows.last(), closed.back()) {
-        (Some(row), _) => Some(row.instant),
+        (Some(row), _) => Some(row.instant()),
         (None, Some(row)) => Some(row.instant),
         (None, None) => None,
     }
@@ -202,8 +213,8 @@ fn highest(rows: &[OpenRow], closed: &VecDeque<DueRow>) -> Option<u64>
 /// Closes the rows for which every row up to them is due, and answers how many.
 pub fn close_due(
     rows: &mut Vec<OpenRow>,
-    required: &[bool; 16],
-    wait: u64,
+    required: &[bool],
+    rule: WaitRule,
     layout: &RowLayout,
     closed: &mut VecDeque<DueRow>,
     last: &mut u64,
@@ -211,17 +222,17 @@ pub fn close_due(
 ) -> usize
     requires rising { Rises last.old (instants_of rows.old.items) }
     requires room { deque_len closed.old + vec_len rows.old ≤ deque_capacity closed.old }
-    ensures answer { result ≡ length (closing required.now wait rows.old.items) }
-    ensures rows { rows.new.items ≡ staying required.now wait rows.old.items }
+    ensures answer { result ≡ length (closing required.now rule rows.old.items) }
+    ensures rows { rows.new.items ≡ staying required.now rule rows.old.items }
     ensures closed { map row_view closed.new.items ≡ map row_view closed.old.items
-        ++ map (row_of layout.now) (closing required.now wait rows.old.items) }
-    ensures last { last.new ≡ greatest last.old (instants_of (closing required.now wait rows.old.items)) }
+        ++ map (row_of (layout_view layout.now)) (closing required.now rule rows.old.items) }
+    ensures last { last.new ≡ greatest last.old (instants_of (closing required.now rule rows.old.items)) }
     ensures disagree { disagree.new ≡ counter
-        (disagree.old + disagreements_in layout.now (closing required.now wait rows.old.items)) }
+        (disagree.old + disagreements_in (layout_view layout.now) (closing required.now rule rows.old.items)) }
     ensures capacity { vec_capacity rows.new ≡ vec_capacity rows.old }
     ensures closed_capacity { deque_capacity closed.new ≡ deque_capacity closed.old }
 {
-    let count = count_due(rows, required, wait);
+    let count = count_due(rows, required, rule);
     let due = &rows[..count];
     close(due, layout, closed);
     *last = greatest(due, *last);

@@ -1,7 +1,10 @@
 //! A table kept as sorted rows.
 ghost use Rattle.std.specs.Prelude.{◌≡◌};
+ghost use Rattle.pdc_table.specs.Content.{stream_count};
 
-use crate::{OpenRow, PutOutcome, RowLayout, Table, rows};
+use crate::open_row::{OpenRow, Places};
+use crate::{MAX_COLUMNS, PutOutcome, RowLayout, Table, WaitRule, rows};
+use arrayvec::ArrayVec;
 use pdc_block::Block;
 use pdc_row::DueRow;
 use std::alloc::{AllocError, Global};
@@ -14,7 +17,7 @@ pub struct SortedTable {
     window: u64,
     columns: usize,
     lanes: usize,
-    required: [bool; 16],
+    required: ArrayVec<bool, MAX_COLUMNS>,
     rows: Vec<OpenRow>,
     closed: VecDeque<DueRow>,
     last: u64,
@@ -22,19 +25,30 @@ pub struct SortedTable {
 }
 
 impl Model for SortedTable {
-    ghost use Rattle.pdc_table.specs.Content.{Content};
+    ghost use Rattle.pdc_table.specs.TableView.{TableView};
 
-    ghost Value = { Content };
+    ghost Value = { TableView };
 
-    ghost use Rattle.pdc_table.specs.SortedTable.{IsKept, content_of};
+    ghost use Rattle.pdc_table.specs.SortedTable.{IsKept, view_of};
 
-    ghost view = { content_of };
+    ghost view = { view_of };
 
     ghost invariant = { IsKept };
 }
 
+/// How many streams there are: with one lane one for each column, with two one for each lane.
+fn stream_count(columns: usize, lanes: usize) -> usize
+    ensures { result ≡ stream_count columns lanes }
+{
+    if lanes == 1 { columns } else { 2 }
+}
+
 impl Table for SortedTable {
-    ghost content = { λ table. table };
+    ghost content = { λ table. table.content };
+
+    ghost disagreements = { λ table. table.disagreements };
+
+    ghost memory = { λ table. table.memory };
 
     fn new(
         alloc: Global,
@@ -44,11 +58,13 @@ impl Table for SortedTable {
         floor: u64,
     ) -> Result<SortedTable, AllocError> {
         let room = window as usize;
+        let mut required = ArrayVec::from_array_in((), [false; MAX_COLUMNS]);
+        required.truncate(stream_count(columns, lanes));
         Ok(SortedTable {
             window,
             columns,
             lanes,
-            required: [false; 16],
+            required,
             rows: Vec::with_capacity(alloc, room)?,
             closed: VecDeque::with_capacity(alloc, room)?,
             last: floor,
@@ -70,14 +86,26 @@ impl Table for SortedTable {
             return PutOutcome::OutOfWindow;
         }
         let lane = if self.lanes == 1 { 0 } else { stream };
-        rows::take(&mut self.rows, stream, lane, instant, cells, quality)
+        let places = Places {
+            streams: self.required.len(),
+            columns: self.columns,
+        };
+        rows::take(
+            &mut self.rows,
+            places,
+            stream,
+            lane,
+            instant,
+            cells,
+            quality,
+        )
     }
 
     fn require(&mut self, stream: usize, is_required: bool) {
         self.required[stream] = is_required;
     }
 
-    fn tick(&mut self, wait: u64, layout: &RowLayout) -> u32 {
+    fn tick(&mut self, rule: WaitRule, layout: &RowLayout) -> u32 {
         rows::grow_older(&mut self.rows);
         let SortedTable {
             required,
@@ -87,7 +115,8 @@ impl Table for SortedTable {
             disagree,
             ..
         } = self;
-        rows::close_due(rows, required, wait, layout, closed, last, disagree) as u32
+        let required = required.as_slice();
+        rows::close_due(rows, required, rule, layout, closed, last, disagree) as u32
     }
 
     fn drop_stream(&mut self, stream: usize) {

@@ -1,11 +1,13 @@
 //! What every table promises, however it is kept.
-ghost use Rattle.std.specs.Prelude.{◌≡◌, ℕ, ◌<◌, ◌≤◌, map, IfOk, option_map};
+ghost use Rattle.std.specs.Prelude.{◌≡◌, ℕ, ◌<◌, ◌≤◌, List, map, IfOk, option_map};
 ghost use Rattle.std.specs.List.{AllByRecursion};
-ghost use Rattle.pdc_table.specs.Content.{Content, HasSizesOf, HaveLayoutShapes, IsContent, IsPut, new_content, streams_of};
 ghost use Rattle.pdc_row.specs.RowView.{RowView, row_view};
-ghost use Rattle.pdc_table.specs.Steps.{after_drop_column, after_drop_stream, after_pop, after_put, after_require, after_tick, closed_by, pop_answer, put_answer, shape_of, shapes_given, tick_answer};
+ghost use Rattle.pdc_table.specs.Content.{Content, HasSizesOf, HaveLayoutShapes, IsContent, IsPut, new_content, streams_of};
+ghost use Rattle.pdc_table.specs.Layout.{layout_view};
+ghost use Rattle.pdc_table.specs.Steps.{after_drop_column, after_drop_stream, after_pop, after_put, after_require, after_tick, closed_by, disagreements_after, pop_answer, put_answer, shape_of, shapes_given, tick_answer};
+ghost use Rattle.pdc_table.specs.Taking.{cells_of};
 
-use crate::{MAX_COLUMNS, MAX_LANES, MAX_WINDOW, MIN_WINDOW, PutOutcome, RowLayout};
+use crate::{MAX_COLUMNS, MAX_LANES, MAX_WINDOW, MIN_WINDOW, PutOutcome, RowLayout, WaitRule};
 use pdc_block::Block;
 use pdc_row::DueRow;
 use std::alloc::{AllocError, Global};
@@ -18,6 +20,12 @@ use std::alloc::{AllocError, Global};
 pub trait Table: Drop {
     /// What it contains, however it is kept.
     ghost content: { Self → Content };
+
+    /// How often, at a closing, a column with a shape had present blocks in both lanes that differed, as a counter tells it.
+    ghost disagreements: { Self → ℕ };
+
+    /// The memory that it holds: for each buffer how many places it has. No call but `new` changes it.
+    ghost memory: { Self → List ℕ };
 
     /// An empty table, which takes all the memory that it ever needs. The window is 8 to 256 instants; the floor counts as
     /// the last instant closed.
@@ -37,7 +45,8 @@ pub trait Table: Drop {
         requires lanes_least { 1 ≤ lanes }
         requires lanes_most { lanes ≤ MAX_LANES }
         ensures content { IfOk result (λ table. content table ≡ new_content window columns lanes floor) }
-        ensures well_formed { IfOk result (λ table. IsContent (content table)) };
+        ensures well_formed { IfOk result (λ table. IsContent (content table)) }
+        ensures disagreements { IfOk result (λ table. disagreements table ≡ 0) };
 
     /// Offers a frame of a stream for an instant: its blocks, each with its column, and its time quality byte.
     ///
@@ -49,51 +58,64 @@ pub trait Table: Drop {
         cells: &[(usize, Block)],
         quality: u8,
     ) -> PutOutcome
-        requires { IsPut (content self.old) stream cells.now }
-        ensures answer { result ≡ put_answer (content self.old) stream instant cells.now }
-        ensures content { content self.new ≡ after_put (content self.old) stream instant cells.now quality }
+        requires { IsPut (content self.old) stream (cells_of cells.now quality) }
+        ensures answer { result ≡ put_answer (content self.old) stream instant (cells_of cells.now quality) }
+        ensures content { content self.new ≡ after_put (content self.old) stream instant (cells_of cells.now quality) }
+        ensures disagreements { disagreements self.new ≡ disagreements self.old }
         ensures sizes { HasSizesOf (content self.old) (content self.new) }
+        ensures memory { memory self.new ≡ memory self.old }
         ensures well_formed { IsContent (content self.new) };
 
     /// Sets whether an instant waits for the stream. In a new table none is waited for.
     fn require(&mut self, stream: usize, is_required: bool)
         requires { stream < streams_of (content self.old) }
         ensures content { content self.new ≡ after_require (content self.old) stream is_required }
+        ensures disagreements { disagreements self.new ≡ disagreements self.old }
         ensures sizes { HasSizesOf (content self.old) (content self.new) }
+        ensures memory { memory self.new ≡ memory self.old }
         ensures well_formed { IsContent (content self.new) };
 
     /// Counts one more tick for each open instant, closes those for which every open one up to them is due, and answers
-    /// how many. An instant is due where every required stream was taken, or its age is at least the wait, in ticks.
+    /// how many. An instant is due where every required stream was taken, or where the rule says that its wait is over.
     ///
     /// Where the cells of the open instants have the shapes of the layout, so have the blocks of the rows that close.
-    fn tick(&mut self, wait: u64, layout: &RowLayout) -> u32
-        ensures answer { result ≡ tick_answer (content self.old) wait }
-        ensures content { content self.new ≡ after_tick (content self.old) wait layout.now }
-        ensures shapes { HaveLayoutShapes (content self.old) layout.now →
-            AllByRecursion (λ (row : RowView). map shape_of row.blocks ≡ shapes_given layout.now.shapes.items)
-            (closed_by (content self.old) wait layout.now) }
+    fn tick(&mut self, rule: WaitRule, layout: &RowLayout) -> u32
+        ensures answer { result ≡ tick_answer (content self.old) rule }
+        ensures content { content self.new ≡ after_tick (content self.old) rule (layout_view layout.now) }
+        ensures shapes { HaveLayoutShapes (content self.old) (layout_view layout.now) →
+            AllByRecursion (λ (row : RowView). map shape_of row.blocks ≡ shapes_given (layout_view layout.now).shapes)
+            (closed_by (content self.old) rule (layout_view layout.now)) }
+        ensures disagreements { disagreements self.new
+            ≡ disagreements_after (disagreements self.old) (content self.old) rule (layout_view layout.now) }
         ensures sizes { HasSizesOf (content self.old) (content self.new) }
+        ensures memory { memory self.new ≡ memory self.old }
         ensures well_formed { IsContent (content self.new) };
 
     /// Takes the stream out of every open instant, as if it had not been taken. The instants stay open.
     fn drop_stream(&mut self, stream: usize)
         requires { stream < streams_of (content self.old) }
         ensures content { content self.new ≡ after_drop_stream (content self.old) stream }
+        ensures disagreements { disagreements self.new ≡ disagreements self.old }
         ensures sizes { HasSizesOf (content self.old) (content self.new) }
+        ensures memory { memory self.new ≡ memory self.old }
         ensures well_formed { IsContent (content self.new) };
 
     /// Takes the cells of the column out of every open instant, and leaves the streams taken. The instants stay open.
     fn drop_column(&mut self, column: usize)
         requires { column < (content self.old).columns }
         ensures content { content self.new ≡ after_drop_column (content self.old) column }
+        ensures disagreements { disagreements self.new ≡ disagreements self.old }
         ensures sizes { HasSizesOf (content self.old) (content self.new) }
+        ensures memory { memory self.new ≡ memory self.old }
         ensures well_formed { IsContent (content self.new) };
 
     /// The lowest closed row that was not popped.
     fn pop_due(&mut self) -> Option<DueRow>
         ensures answer { option_map row_view result ≡ pop_answer (content self.old) }
         ensures content { content self.new ≡ after_pop (content self.old) }
+        ensures disagreements { disagreements self.new ≡ disagreements self.old }
         ensures sizes { HasSizesOf (content self.old) (content self.new) }
+        ensures memory { memory self.new ≡ memory self.old }
         ensures well_formed { IsContent (content self.new) };
 
     /// The greatest instant closed, at first the floor.
@@ -103,5 +125,5 @@ pub trait Table: Drop {
     /// How often, at a closing, a column with a shape had present blocks in both lanes that differed. It is a counter: it
     /// stays at its greatest value.
     fn disagree(&self) -> u64
-        ensures { result ≡ (content self.now).disagree };
+        ensures { result ≡ disagreements self.now };
 }

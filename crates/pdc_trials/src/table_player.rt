@@ -5,7 +5,7 @@
 //! | `new WINDOW COLUMNS LANES FLOOR` | `ok`; the calls below go to this table |
 //! | `require STREAM`, `free STREAM` | `ok` |
 //! | `put STREAM INSTANT QUALITY BLOCK..` | the outcome; one lane: at most one block; two: a block for each of two columns, `.` for none |
-//! | `tick WAIT SHAPES` | how many rows closed; `x` is a column with a shape, `.` one without, `0` nothing |
+//! | `tick WAIT SHAPES` | how many rows closed; `WAIT` is a number of ticks, `until=INSTANT`, or `until=none`; `x` is a column with a shape, `.` one without, `0` nothing |
 //! | `ticks TIMES WAIT SHAPES` | how many rows closed in so many ticks |
 //! | `pop` | the row, as `8 1 2 0 sent absent`: its instant, stamp, quality and blocks; or `none` |
 //! | `drop_stream STREAM`, `drop_column COLUMN` | `ok` |
@@ -19,7 +19,7 @@ use crate::blocks::{ONE_PHASOR, name_of, named};
 use crate::script::Player;
 use arrayvec::ArrayVec;
 use pdc_row::DueRow;
-use pdc_table::{PutOutcome, RowLayout, Table};
+use pdc_table::{PutOutcome, RowLayout, Table, WaitRule};
 use std::alloc::{AllocError, Global};
 use std::fmt::Write;
 
@@ -163,13 +163,22 @@ impl<T: Table> TablePlayer<T> {
 
     fn ticks(&mut self, times: &str, wait: &str, shapes: &str) -> Option<u64> {
         let times: u32 = times.parse().ok()?;
-        let wait = wait.parse().ok()?;
+        let rule = wait_rule(wait)?;
         let layout = layout(shapes);
         let mut closed = 0_u64;
         for _ in 0..times {
-            closed = closed.saturating_add(u64::from(self.table.tick(wait, &layout)));
+            closed = closed.saturating_add(u64::from(self.table.tick(rule, &layout)));
         }
         Some(closed)
+    }
+}
+
+/// The rule that the word is.
+fn wait_rule(word: &str) -> Option<WaitRule> {
+    match word.strip_prefix("until=") {
+        Some("none") => Some(WaitRule::Until(None)),
+        Some(limit) => Some(WaitRule::Until(Some(limit.parse().ok()?))),
+        None => Some(WaitRule::Ticks(word.parse().ok()?)),
     }
 }
 

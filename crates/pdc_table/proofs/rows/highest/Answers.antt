@@ -1,4 +1,4 @@
-use Rattle.std.proofs.Common.{rules, ◌≡◌, ◌++◌, ◌∙◌, sym, ap, map, append-nil, length, refl}
+use Rattle.std.proofs.Common.{rules, ◌≡◌, ◌++◌, ◌∙◌, sym, ap, map, append-nil, length, refl, Some}
 use Rattle.std.specs.VecDeque.{deque_len}
 use Rattle.pdc_row.specs.RowView.{row_view, row_instants}
 use Rattle.pdc_row.specs.Rising.{highest_of}
@@ -8,7 +8,7 @@ use Rattle.pdc_table.proofs.rows.highest.Goals as goal
 
 pub returns-in-Some-default : goal.returns-in-Some-default
 returns-in-Some-default c =
-    sym (highest_open (row_instants (map row_view c.args.closed.now.items)) c.args.rows.now c.in-Some-default.row.now c.in-Some-default.ensures.value)
+    ap (λ n. Some n) c.instant.ensures ∙ sym (highest_open (row_instants (map row_view c.args.closed.now.items)) c.args.rows.now c.in-Some-default.row.now c.in-Some-default.ensures.value)
 
 pub returns-in-None-Some : goal.returns-in-None-Some
 returns-in-None-Some c =

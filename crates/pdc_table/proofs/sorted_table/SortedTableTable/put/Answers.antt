@@ -1,10 +1,15 @@
-use Rattle.std.proofs.Common.{arith, ◌≡◌, ◌<◌, sym, true, refl, length}
+use Rattle.std.proofs.Common.{arith, ◌≡◌, ◌<◌, ◌∙◌, ℕ, subst, sym, true, refl, length}
+use Rattle.std.specs.List.{All}
+use Rattle.pdc_block.specs.declared.block.Block.{Block}
+use Rattle.pdc_table.specs.Content.{streams_of}
 use Rattle.pdc_table.specs.SortedTable.{content_of}
 use Rattle.pdc_table.specs.Placing.{row_at}
 use Rattle.pdc_table.specs.OpenInstants.{instants_of}
 use Rattle.pdc_table.specs.Steps.{answer_at, is_near_all, is_taken}
-use Rattle.pdc_table.specs.Taking.{with_frame}
+use Rattle.pdc_table.specs.TableView.{TableView}
+use Rattle.pdc_table.specs.Taking.{cells_of}
 use Rattle.pdc_row.proofs.Rising.{rises_above}
+use Rattle.pdc_table.proofs.Blank.{columns_exist}
 use Rattle.pdc_table.proofs.Keeps.{has_room, keeps-offered}
 use Rattle.pdc_table.proofs.sorted_table.SortedTableTable.put.Goals as goal
 
@@ -17,11 +22,17 @@ take-requires-clause-room c none =
     let room : length c.self.inside.rows.items < c.self.inside.window = has_room (content_of c.self.inside) c.args.instant c.if-instant-self.false near none c.self.invariant.content in
     omega (arith, c.self.invariant.room, room)
 
+pub take-requires-clause-columns : goal.take-requires-clause-columns
+take-requires-clause-columns c =
+    subst (λ (t : TableView). All (λ (cell : ℕ × Block). cell.0 < t.content.columns) c.args.cells.now) (sym c.self.view_is)
+    (columns_exist c.args.self.now.content.columns c.args.quality c.args.cells.now c.requires.columns_exist)
+
 pub invariant_of-self : goal.invariant_of-self
 invariant_of-self c =
     let near : is_near_all (content_of c.self.inside) c.args.instant ≡ true = rw c.deref.ensures.value at (sym c.if-not-are_near.ensures) in
+    let streams : c.len.result ≡ streams_of (content_of c.self.inside) = c.len.ensures.value ∙ c.self.invariant.content.required_each in
     record {
-      content = rw c.take.ensures.items (keeps-offered (content_of c.self.inside) (is_taken (answer_at (row_at c.args.instant c.self.inside.rows.items) c.args.stream c.if-self-eq1.lane c.args.cells.now)) (with_frame c.args.stream c.if-self-eq1.lane c.args.cells.now c.args.quality) c.args.instant (λ r. refl) c.if-instant-self.false near c.self.invariant.content);
+      content = rw (c.take.ensures.items, streams) (keeps-offered (content_of c.self.inside) (is_taken (answer_at (row_at c.args.instant c.self.inside.rows.items) c.args.stream c.if-self-eq1.lane (cells_of c.args.cells.now c.args.quality))) c.args.stream c.if-self-eq1.lane c.args.instant (cells_of c.args.cells.now c.args.quality) c.if-instant-self.false near c.self.invariant.content);
       room = omega (arith, c.self.invariant.room, c.take.ensures.capacity);
       closed_room = c.self.invariant.closed_room;
     }
@@ -29,4 +40,5 @@ invariant_of-self c =
 pub returns-clause-well_formed : goal.returns-clause-well_formed
 returns-clause-well_formed c =
     let near : is_near_all (content_of c.self.inside) c.args.instant ≡ true = rw c.deref.ensures.value at (sym c.if-not-are_near.ensures) in
-    rw c.take.ensures.items (keeps-offered (content_of c.self.inside) (is_taken (answer_at (row_at c.args.instant c.self.inside.rows.items) c.args.stream c.if-self-eq1.lane c.args.cells.now)) (with_frame c.args.stream c.if-self-eq1.lane c.args.cells.now c.args.quality) c.args.instant (λ r. refl) c.if-instant-self.false near c.self.invariant.content)
+    let streams : c.len.result ≡ streams_of (content_of c.self.inside) = c.len.ensures.value ∙ c.self.invariant.content.required_each in
+    rw (c.take.ensures.items, streams) (keeps-offered (content_of c.self.inside) (is_taken (answer_at (row_at c.args.instant c.self.inside.rows.items) c.args.stream c.if-self-eq1.lane (cells_of c.args.cells.now c.args.quality))) c.args.stream c.if-self-eq1.lane c.args.instant (cells_of c.args.cells.now c.args.quality) c.if-instant-self.false near c.self.invariant.content)

@@ -3,6 +3,7 @@ use Rattle.std.proofs.lemmas.List.{length-map}
 use Rattle.std.specs.VecDeque.{deque_len}
 use Rattle.pdc_table.specs.Closing.{aged, closing}
 use Rattle.pdc_row.specs.RowView.{row_view}
+use Rattle.pdc_table.specs.Layout.{layout_view}
 use Rattle.pdc_table.specs.SortedTable.{content_of}
 use Rattle.pdc_table.specs.Steps.{closing_of}
 use Rattle.pdc_table.proofs.Keeps.{aged_rise, closed_shapes, closing_few, held_fit, keeps-tick}
@@ -21,19 +22,21 @@ close_due-requires-clause-room c =
 
 pub overflow_cast-result : goal.overflow_cast-result
 overflow_cast-result c =
-    let few : length (closing_of (content_of c.self.inside) c.args.wait) ≤ c.self.inside.window = closing_few (content_of c.self.inside) c.args.wait c.self.invariant.content in
-    let is : c.close_due.result ≡ length (closing_of (content_of c.self.inside) c.args.wait) = c.close_due.ensures.answer ∙ ap (λ rows. length (closing c.self.inside.required c.args.wait rows)) c.grow_older.ensures.items in
+    let few : length (closing_of (content_of c.self.inside) c.args.rule) ≤ c.self.inside.window = closing_few (content_of c.self.inside) c.args.rule c.self.invariant.content in
+    let is : c.close_due.result ≡ length (closing_of (content_of c.self.inside) c.args.rule) = c.close_due.ensures.answer
+    ∙ ap (λ rs. length (closing rs c.args.rule c.grow_older.new.rows.items)) c.as_slice-required.ensures.value
+    ∙ ap (λ rows. length (closing c.self.inside.required.items c.args.rule rows)) c.grow_older.ensures.items in
     omega (arith, c.self.invariant.content.window_most)
 
 pub invariant_of-self : goal.invariant_of-self
 invariant_of-self c = record {
-  content = rw (c.close_due.ensures.rows, c.close_due.ensures.closed, c.close_due.ensures.last, c.close_due.ensures.disagree, c.grow_older.ensures.items) (keeps-tick (content_of c.self.inside) c.args.wait c.args.layout.now c.self.invariant.content);
+  content = rw (c.close_due.ensures.rows, c.close_due.ensures.closed, c.close_due.ensures.last, c.as_slice-required.ensures.value, c.grow_older.ensures.items) (keeps-tick (content_of c.self.inside) c.args.rule (layout_view c.args.layout.now) c.self.invariant.content);
   room = rw (c.close_due.ensures.capacity, c.grow_older.ensures.capacity) c.self.invariant.room;
   closed_room = rw c.close_due.ensures.closed_capacity c.self.invariant.closed_room;
 }
 
 pub returns-clause-shapes : goal.returns-clause-shapes
-returns-clause-shapes c h = closed_shapes c.args.self.now c.args.wait c.args.layout.now h
+returns-clause-shapes c h = closed_shapes c.args.self.now.content c.args.rule (layout_view c.args.layout.now) h
 
 pub returns-clause-well_formed : goal.returns-clause-well_formed
-returns-clause-well_formed c = rw (c.close_due.ensures.rows, c.close_due.ensures.closed, c.close_due.ensures.last, c.close_due.ensures.disagree, c.grow_older.ensures.items) (keeps-tick (content_of c.self.inside) c.args.wait c.args.layout.now c.self.invariant.content)
+returns-clause-well_formed c = rw (c.close_due.ensures.rows, c.close_due.ensures.closed, c.close_due.ensures.last, c.as_slice-required.ensures.value, c.grow_older.ensures.items) (keeps-tick (content_of c.self.inside) c.args.rule (layout_view c.args.layout.now) c.self.invariant.content)

@@ -1,0 +1,30 @@
+-- A new table, and lists in which all elements are the same.
+use Rattle.std.proofs.Common.{◌≡◌, ℕ, ◌<◌, ◌≤◌, Bool, true, false, cond, eqb, List, [], ◌∷◌, length, get_or, replicate, take, ap, refl, ◌∙◌, arith, zero, suc}
+use Rattle.std.proofs.lemmas.List.{take-replicate}
+use Rattle.std.specs.List.{All}
+use Rattle.pdc_block.specs.declared.block.Block.{Block}
+use Rattle.pdc_row.specs.CellView.{CellView, cell_view}
+use Rattle.pdc_table.specs.Content.{stream_count}
+use Rattle.pdc_table.specs.Taking.{cells_of}
+
+all_same : {A : Type 0} → (xs : List A) (n : ℕ) (a : A) → length xs ≡ n → ((i : ℕ) (d : A) → i < n → get_or xs i d ≡ a) → xs ≡ replicate n a
+all_same [] zero a e h = refl
+all_same [] (suc n) a e h = absurd (omega arith)
+all_same (x ∷ xs) zero a e h = absurd (omega arith)
+all_same (x ∷ xs) (suc n) a e h = rw (h 0 a (omega arith), all_same xs n a (omega arith) (λ i d l. h (suc i) d (omega arith))) refl
+
+few_chosen : (b : Bool) (columns : ℕ) → columns ≤ 16 → cond b columns 2 ≤ 16
+few_chosen true columns h = h
+few_chosen false columns h = omega arith
+
+pub few_streams : (columns lanes : ℕ) → columns ≤ 16 → stream_count columns lanes ≤ 16
+few_streams columns lanes h = few_chosen (eqb lanes 1) columns h
+
+pub front_same : {A : Type 0} → (xs : List A) (k n : ℕ) (a : A) → length xs ≡ n → ((i : ℕ) (d : A) → i < n → get_or xs i d ≡ a) → k ≤ n → take k xs ≡ replicate k a
+front_same xs k n a e h l = ap (take k) (all_same xs n a e h) ∙ take-replicate k n a l
+
+-- the columns of a frame's blocks are those of the cells that they make
+pub columns_exist : (columns quality : ℕ) (blocks : List (ℕ × Block)) → All (λ (cell : ℕ × CellView). cell.0 < columns) (cells_of blocks quality) → All (λ (cell : ℕ × Block). cell.0 < columns) blocks
+columns_exist columns quality [] h k d l = absurd (omega arith)
+columns_exist columns quality (b ∷ bs) h zero d l = h zero (d.0, cell_view d.1 quality) (omega arith)
+columns_exist columns quality (b ∷ bs) h (suc k) d l = columns_exist columns quality bs (λ j e m. h (suc j) e (omega arith)) k d (omega arith)

@@ -1,0 +1,28 @@
+-- What an open instant holds, however a table keeps it (this profile).
+use Rattle.std.specs.Prelude.{ℕ, ◌==◌, Bool, false, if◌then◌else◌, List, replicate, Option, None}
+use Rattle.pdc_row.specs.CellView.{CellView}
+
+-- what the lanes of a column hold at an instant; with one lane the second holds nothing
+pub record ColumnView : Type 0 where
+  pub first : Option CellView
+  pub second : Option CellView
+
+-- an open instant: its age in ticks, for each stream whether it was taken, and what each column holds
+pub record OpenRowView : Type 0 where
+  pub instant : ℕ
+  pub age : ℕ
+  pub taken : List Bool
+  pub columns : List ColumnView
+
+-- the column in which nothing was taken
+abbrev pub empty_column : ColumnView
+empty_column = record { first = None; second = None }
+
+-- the row of an instant in which nothing was taken
+abbrev pub blank_row : (streams columns instant : ℕ) → OpenRowView
+blank_row streams columns instant = record {
+  instant = instant;
+  age = 0;
+  taken = replicate streams false;
+  columns = replicate columns empty_column;
+}
