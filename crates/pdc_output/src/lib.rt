@@ -18,5 +18,5 @@ mod stamp;
 pub use laws::{layouts_are_frames, own_sections_tell_stamps, rows_are_frames};
 pub use layout_frame::{MAX_SECTIONS, append_layout};
 pub use output::{Nominal, Output};
-pub use row_frame::append_row;
+pub use row_frame::{MAX_ROW_LEN, append_row};
 pub use section::own_section;

@@ -9,7 +9,9 @@ ghost use Rattle.pdc_output.specs.Layout.{own_block, row_payload, row_fields, wi
 use crate::output::Output;
 use crate::stamp::stamp_words;
 use pdc_block::{append_words, join, joined_len};
-use pdc_frame::{Buffer, Frame, Kind, begin_frame, end_frame, frames_are_written_in_parts};
+use pdc_frame::{
+    Buffer, Frame, Kind, OVERHEAD, begin_frame, end_frame, frames_are_written_in_parts,
+};
 use pdc_row::DueRow;
 use pdc_tag::tag_of;
 use std::alloc::AllocError;
@@ -19,6 +21,9 @@ const OWN_BLOCK_LEN: usize = 14;
 
 /// The most bytes of the payload: the own block, and 16 blocks of the most channels.
 const LONGEST_PAYLOAD: usize = 3438;
+
+/// The most bytes of the data frame of a row.
+pub const MAX_ROW_LEN: usize = LONGEST_PAYLOAD + OVERHEAD;
 
 /// The bytes of the frame's payload.
 fn payload_len(row: &DueRow) -> usize
@@ -69,6 +74,8 @@ pub fn append_row<B: Buffer>(output: &Output, row: &DueRow, out: &mut B) -> Resu
     ensures in_place { length (B.content out.old) + length (wire_of output.now (row_view row.now)) ≤ B.capacity out.old
         → B.capacity out.new ≡ B.capacity out.old }
     ensures capacity { B.capacity out.old ≤ B.capacity out.new }
+    // The frame has 3454 bytes at most.
+    ensures most { length (wire_of output.now (row_view row.now)) ≤ MAX_ROW_LEN }
 {
     frames_are_written_in_parts();
     let (soc, frac) = tag_of(row.instant, output.time_base, u32::from(output.rate));

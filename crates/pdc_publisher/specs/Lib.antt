@@ -1,0 +1,4 @@
+-- A publisher, the frames that it publishes, and why it publishes none.
+pub mod Faults
+pub mod Published
+pub mod Publisher

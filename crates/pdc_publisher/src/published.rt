@@ -1,0 +1,38 @@
+//! A frame that was published.
+ghost use Rattle.std.specs.Prelude.{◌≡◌, ◌*◌, ◌<◌};
+ghost use Rattle.pdc_tag.specs.declared.limits.TheConstants.{SECONDS};
+ghost use Rattle.pdc_row.specs.RowView.{row_view};
+ghost use Rattle.pdc_publisher.specs.Published.{IsOfSomeRow, IsRowFrame};
+
+use arrayvec::ArrayVec;
+use pdc_output::{MAX_ROW_LEN, Output, append_row};
+use pdc_row::DueRow;
+
+/// The data frame of a row that was published (this profile; C37.118.2-2011, 6.3).
+#[derive(Drop)]
+pub struct Published {
+    /// The instant.
+    pub instant: u64,
+    /// The start number of the layout that the row closed under.
+    pub start: u32,
+    /// The change number of the layout that the row closed under.
+    pub change: u32,
+    /// The frame, at most 3454 bytes.
+    pub bytes: ArrayVec<u8, MAX_ROW_LEN>,
+    pub ghost of_some_row: { IsOfSomeRow instant start change bytes.items },
+}
+
+/// The frame of a row.
+pub fn frame_of(output: &Output, row: &DueRow) -> Published
+    requires { row.now.instant < SECONDS * output.now.rate }
+    ensures { IsRowFrame result.instant result.start result.change result.bytes.items output.now (row_view row.now) }
+{
+    let mut bytes = ArrayVec::new();
+    append_row(output, row, &mut bytes).unwrap();
+    Published {
+        instant: row.instant,
+        start: row.start,
+        change: row.change,
+        bytes,
+    }
+}

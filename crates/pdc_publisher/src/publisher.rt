@@ -1,0 +1,182 @@
+//! The publisher of one concentrator.
+ghost use Rattle.std.specs.Prelude.{◌≡◌, ◌⊎◌, ◌+◌, ◌*◌, ◌<◌, ◌≤◌, ◌++◌, true, false, length, IsTrue, IsErrOf, IfOk, IfErr, OnOk, OnErr};
+ghost use Rattle.pdc_tag.specs.declared.limits.TheConstants.{SECONDS};
+ghost use Rattle.pdc_mark.specs.Counts.{IsRaise};
+ghost use Rattle.pdc_mark.specs.Faults.{HasDeviceCause};
+ghost use Rattle.pdc_mark.specs.Stored.{with_counts};
+ghost use Rattle.pdc_row.specs.RowView.{row_view};
+ghost use Rattle.pdc_output.specs.Layout.{wire_of};
+ghost use Rattle.pdc_publisher.specs.Faults.{HandsBack, IsDevice};
+ghost use Rattle.pdc_publisher.specs.Published.{IsRowFrame};
+ghost use Rattle.pdc_publisher.specs.declared.publisher.TheConstants.{MAX_LEAD};
+
+use crate::fault::PublishFault;
+use crate::published::{Published, frame_of};
+use pdc_frame::Buffer;
+use pdc_mark::{COUNTS, Mark, MarkFault};
+use pdc_output::Output;
+use pdc_row::DueRow;
+
+/// The most instants that are reserved ahead.
+pub const MAX_LEAD: u16 = 1000;
+
+/// Publishes the rows of one life. It alone owns the mark: a row goes out only once the floor is stored at or above its
+/// instant.
+///
+/// After a device fault each call that publishes or raises is refused so.
+#[derive(Drop)]
+pub struct Publisher<M: Mark> {
+    mark: M,
+    output: Output,
+    lead: u16,
+    last: u64,
+    has_failed: bool,
+    pub ghost lead_fits: { lead ≤ MAX_LEAD },
+}
+
+impl<M: Mark> Publisher<M> {
+    ghost use Rattle.pdc_publisher.specs.Publisher.{has_failed_in, last_in, lead_in, mark_in, output_in, reserved};
+
+    /// A publisher over this mark. Where a row's instant is above the stored floor, it reserves so many instants behind it,
+    /// at most 1000.
+    pub fn new(mark: M, output: Output, lead: u16) -> Publisher<M>
+        requires { lead ≤ MAX_LEAD }
+        ensures mark { mark_in result ≡ mark }
+        ensures output { output_in result ≡ output }
+        ensures lead { lead_in result ≡ lead }
+        ensures last { last_in result ≡ (M.stored mark).floor }
+        ensures works { has_failed_in result ≡ false }
+    {
+        let (_, floor) = mark.stored();
+        Publisher {
+            mark,
+            output,
+            lead,
+            last: floor,
+            has_failed: false,
+        }
+    }
+
+    /// The greatest instant published in this life, at first the stored floor.
+    pub fn last(&self) -> u64
+        ensures { result ≡ last_in self.now }
+    {
+        self.last
+    }
+
+    /// The mark.
+    pub fn into_mark(self) -> M
+        ensures { result ≡ mark_in self }
+    {
+        self.mark
+    }
+
+    /// The counts that are stored, one for each PMU in the order of the settings.
+    pub fn counts(&self) -> [u16; COUNTS]
+        ensures value { result ≡ (M.stored (mark_in self.now)).counts }
+        ensures len { length result ≡ COUNTS }
+    {
+        self.mark.counts()
+    }
+
+    /// Stores counts of which none is lower and one is greater.
+    ///
+    /// # Errors
+    ///
+    /// `Device`, from then on by each call that publishes or raises.
+    pub fn raise(&mut self, counts: &[u16; COUNTS]) -> Result<(), MarkFault>
+        requires { IsRaise (M.stored (mark_in self.old)).counts counts.now }
+        ensures ok { OnOk result (M.stored (mark_in self.new) ≡ with_counts (M.stored (mark_in self.old)) counts.now) }
+        ensures err { OnErr result (M.stored (mark_in self.new) ≡ M.stored (mark_in self.old)) }
+        ensures faults { OnErr result (IsErrOf result MarkFault.Device) }
+        ensures device { OnErr result (has_failed_in self.new ≡ true) }
+        ensures works { OnOk result (has_failed_in self.new ≡ has_failed_in self.old) }
+        ensures cause { HasDeviceCause (M.is_broken (mark_in self.old)) (M.is_broken (mark_in self.new))
+            (M.failures (mark_in self.old)) (M.failures (mark_in self.new)) result }
+        ensures safe { M.is_safe → IsErrOf result MarkFault.Device → ⊥ }
+        ensures kept { (output_in self.new ≡ output_in self.old) × (lead_in self.new ≡ lead_in self.old) × (last_in self.new ≡ last_in self.old) }
+    {
+        let raised = self.mark.raise(counts);
+        if raised.is_err() {
+            self.has_failed = true;
+        }
+        raised
+    }
+
+    /// Stores the floor that the instant needs: itself and the instants reserved behind it, where it is above the floor.
+    fn reserve(&mut self, instant: u64) -> Result<(), MarkFault>
+        requires { instant < SECONDS * (output_in self.old).rate }
+        ensures ok { OnOk result (M.stored (mark_in self.new) ≡ reserved (lead_in self.old) (M.stored (mark_in self.old)) instant) }
+        ensures err { OnErr result (M.stored (mark_in self.new) ≡ M.stored (mark_in self.old)) }
+        ensures spared { instant ≤ (M.stored (mark_in self.old)).floor → (mark_in self.new ≡ mark_in self.old) × OnErr result ⊥ }
+        ensures failed { OnErr result (has_failed_in self.new ≡ true) }
+        ensures works { OnOk result (has_failed_in self.new ≡ has_failed_in self.old) }
+        ensures safe { M.is_safe → OnErr result ⊥ }
+        ensures kept { (output_in self.new ≡ output_in self.old) × (lead_in self.new ≡ lead_in self.old) × (last_in self.new ≡ last_in self.old) }
+    {
+        let (_, floor) = self.mark.stored();
+        if instant <= floor {
+            return Ok(());
+        }
+        let stored = self.mark.reserve(instant + u64::from(self.lead));
+        if stored.is_err() {
+            self.has_failed = true;
+        }
+        stored
+    }
+
+    /// Publishes a row: makes room for its data frame, stores the floor where the instant is above it, and appends the
+    /// frame. The instant is above the last one, and below 2^32 times the rate.
+    ///
+    /// # Errors
+    ///
+    /// `Device` after a device fault; `NoMemory` with the row, where `out` has no room and gets none; `Device` where the
+    /// floor is not stored.
+    pub fn publish<B: Buffer>(
+        &mut self,
+        row: DueRow,
+        out: &mut B,
+    ) -> Result<Published, PublishFault>
+        requires above { last_in self.old < row.instant }
+        requires instant { row.instant < SECONDS * (output_in self.old).rate }
+        // The frame of the row is appended,
+        ensures ok { OnOk result (B.content out.new ≡ B.content out.old ++ wire_of (output_in self.old) (row_view row)) }
+        // and handed on.
+        ensures published { IfOk result (λ p. IsRowFrame p.instant p.start p.change p.bytes.items (output_in self.old) (row_view row)) }
+        // Its instant was reserved before.
+        ensures stored { OnOk result (M.stored (mark_in self.new) ≡ reserved (lead_in self.old) (M.stored (mark_in self.old)) row.instant) }
+        ensures covered { OnOk result (row.instant ≤ (M.stored (mark_in self.new)).floor) }
+        ensures last { OnOk result (last_in self.new ≡ row.instant) }
+        // Below the floor, no device call is made.
+        ensures spared { row.instant ≤ (M.stored (mark_in self.old)).floor → mark_in self.new ≡ mark_in self.old }
+        // A row that is not published leaves all as it was,
+        ensures err { OnErr result ((B.content out.new ≡ B.content out.old)
+            × (M.stored (mark_in self.new) ≡ M.stored (mark_in self.old)) × (last_in self.new ≡ last_in self.old)) }
+        // and comes back where memory was wanted.
+        ensures no_memory { IfErr result (HandsBack (row_view row)) }
+        ensures room { length (B.content out.old) + length (wire_of (output_in self.old) (row_view row)) ≤ B.capacity out.old → IfErr result IsDevice }
+        ensures in_place { length (B.content out.old) + length (wire_of (output_in self.old) (row_view row)) ≤ B.capacity out.old
+            → B.capacity out.new ≡ B.capacity out.old }
+        // A device fault stands, and has its cause.
+        ensures device { IfErr result (λ fault. IsDevice fault → has_failed_in self.new ≡ true) }
+        ensures failed { has_failed_in self.old ≡ true → IfErr result IsDevice × OnOk result ⊥ }
+        ensures works { OnOk result (has_failed_in self.new ≡ false) }
+        ensures safe { M.is_safe → has_failed_in self.old ≡ false → IfErr result (λ fault. IsDevice fault → ⊥) }
+        ensures needed { row.instant ≤ (M.stored (mark_in self.old)).floor → has_failed_in self.old ≡ false → IfErr result (λ fault. IsDevice fault → ⊥) }
+        ensures kept { (output_in self.new ≡ output_in self.old) × (lead_in self.new ≡ lead_in self.old) }
+    {
+        if self.has_failed {
+            return Err(PublishFault::Device);
+        }
+        let frame = frame_of(&self.output, &row);
+        if out.make_room(frame.bytes.len()).is_err() {
+            return Err(PublishFault::NoMemory(row));
+        }
+        if self.reserve(row.instant).is_err() {
+            return Err(PublishFault::Device);
+        }
+        out.append_bytes(frame.bytes.as_slice());
+        self.last = row.instant;
+        Ok(frame)
+    }
+}
