@@ -5,6 +5,7 @@ mod configurations;
 mod frames;
 mod life_frames;
 mod mark_files;
+mod publishing;
 mod same;
 mod show_failures;
 mod vectors;

@@ -1,0 +1,78 @@
+//! Rows that node 201 publishes, over a mark in memory.
+ghost use Rattle.std.specs.Prelude.{◌≡◌};
+
+use super::same::is;
+use super::vectors::BOTH;
+use arrayvec::ArrayVec;
+use pdc_block::Block;
+use pdc_cfg::Shape;
+use pdc_mark::{Mark, ModelMark};
+use pdc_output::{Nominal, Output};
+use pdc_publisher::{PublishFault, Publisher};
+use pdc_row::DueRow;
+use std::test::Fail;
+
+/// Node 201: 50 Hz, 50 frames a second and TIME_BASE 1000000.
+const NODE_201: Output = Output {
+    id: 201,
+    rate: 50,
+    nominal: Nominal::Hz50,
+    time_base: 1_000_000,
+};
+
+const ONE_PHASOR: Shape = Shape {
+    phasors: 1,
+    analogs: 0,
+    digitals: 0,
+};
+
+/// The instant of the first row.
+const FIRST: u64 = 57_478_860_001;
+
+/// The row of the instant, with the stamp (1, 1) and the data of PMU 11 and PMU 12.
+fn row(instant: u64) -> DueRow
+    ensures { result.instant ≡ instant }
+{
+    let mut blocks = ArrayVec::new();
+    blocks.push(Block::from_words(ONE_PHASOR, &[0x0000, 0x392B, 0x0000, 0x09C4, 0x0000]));
+    blocks.push(Block::from_words(ONE_PHASOR, &[0x0000, 0x1388, 0xEC78, 0xFFFE, 0x0000]));
+    DueRow {
+        instant,
+        start: 1,
+        change: 1,
+        quality: 0,
+        blocks,
+    }
+}
+
+/// With ten instants reserved ahead, the first row stores and the next does not.
+#[test]
+fn reserved_ahead(rt: HostRuntime) -> Result<(), Fail> {
+    let mut out = Vec::new(rt.alloc());
+    let mut publisher = Publisher::new(ModelMark::new(1, 0), NODE_201, 10);
+    let Ok(first) = publisher.publish(row(FIRST), &mut out) else {
+        return Err(Fail::from("the first row is published"));
+    };
+    let Ok(second) = publisher.publish(row(FIRST + 1), &mut out) else {
+        return Err(Fail::from("the second row is published"));
+    };
+    is!(&rt; first.bytes.as_slice(), BOTH.as_slice());
+    is!(&rt; out.len(), 100);
+    is!(&rt; (second.instant, publisher.last()), (FIRST + 1, FIRST + 1));
+    is!(&rt; publisher.into_mark().stored(), (1, FIRST + 10));
+    Ok(())
+}
+
+/// Where there is no room, the row comes back, and nothing is stored.
+#[test]
+fn no_room(rt: HostRuntime) -> Result<(), Fail> {
+    let mut publisher = Publisher::new(ModelMark::new(1, 0), NODE_201, 0);
+    let refused = publisher.publish(row(FIRST), &mut ArrayVec::<u8, 49>::new());
+    let Err(PublishFault::NoMemory(again)) = refused else {
+        return Err(Fail::from("49 bytes are no room"));
+    };
+    is!(&rt; again.instant, FIRST);
+    is!(&rt; publisher.last(), 0);
+    is!(&rt; publisher.into_mark().stored(), (1, 0));
+    Ok(())
+}
