@@ -1,6 +1,6 @@
 -- The frames of the worked lives: those of the PMUs 11 and 12, with one phasor each, at 50 frames a second from SOC 1149577200
 -- on, whose first instant is 57478860000; and what nodes and merger make of them.
-use Rattle.std.specs.Prelude.{ℕ, ◌<◌, List, [], ◌∷◌, false}
+use Rattle.std.specs.Prelude.{ℕ, ◌<◌, ◌≤◌, List, [], ◌∷◌, false}
 use Rattle.std.proofs.Common.{arith}
 use Rattle.pdc_cfg.specs.declared.shape.Shape.{Shape}
 use Rattle.pdc_cfg.specs.Section.{SectionFields}
@@ -150,7 +150,7 @@ abbrev pub pmu_12 : Pmu
 pmu_12 = record { stream = 12; source = 12; time_base = 1000000; stream_low = omega arith; stream_high = omega arith; source_low = omega arith; source_high = omega arith; time_base_high = omega arith }
 
 -- nodes 201 and 202, and merger 301
-abbrev pub output : (id : ℕ) → (0 < id) × (id < 65535) → Output
+abbrev pub output : (id : ℕ) → (0 < id) × (id ≤ 65534) → Output
 output id in_range = record {
   id = id;
   rate = 50;

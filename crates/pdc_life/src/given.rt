@@ -4,6 +4,7 @@ ghost use Rattle.std.specs.List.{list_all};
 ghost use Rattle.pdc_life.specs.Distinct.{are_distinct};
 ghost use Rattle.pdc_life.specs.declared.pmu.Pmu.{Pmu as PmuData};
 ghost use Rattle.pdc_life.specs.declared.given.TheConstants.{MAX_PMUS};
+ghost use Rattle.pdc_life.specs.declared.limits.TheConstants.{MAX_AHEAD, MAX_WAIT, MAX_WINDOW, MIN_WINDOW};
 
 use crate::pmu::Pmu;
 use arrayvec::ArrayVec;
@@ -38,10 +39,10 @@ pub struct Settings {
     /// id, nor two sources, and none of them has the node's own.
     pub pmus: ArrayVec<Pmu, MAX_PMUS>,
     pub ghost wait_low: { 1 ≤ wait },
-    pub ghost wait_high: { wait ≤ 1000 },
-    pub ghost window_low: { 8 ≤ window },
-    pub ghost window_high: { window ≤ 256 },
-    pub ghost ahead_high: { ahead ≤ 1000 },
+    pub ghost wait_high: { wait ≤ MAX_WAIT },
+    pub ghost window_low: { MIN_WINDOW ≤ window },
+    pub ghost window_high: { window ≤ MAX_WINDOW },
+    pub ghost ahead_high: { ahead ≤ MAX_AHEAD },
     pub ghost some: { 0 < length pmus.items },
     pub ghost few: { length pmus.items ≤ MAX_PMUS },
     pub ghost bases: { IsTrue (list_all (λ (pmu : PmuData). nat_le output.rate pmu.time_base) pmus.items) },

@@ -13,6 +13,7 @@
 
 mod given;
 mod laws;
+mod limits;
 mod merging;
 mod outcome;
 mod pmu;
@@ -27,6 +28,7 @@ pub use laws::{
     rows_have_tags, rows_rise, same_count_is_same_section, sections_are_valid, sections_have_come,
     steps_have_one_life, steps_make_lives, taken_is_in_time, taken_is_shown,
 };
+pub use limits::{MAX_AHEAD, MAX_WAIT, MAX_WINDOW, MIN_WINDOW};
 pub use merging::{MergedNode, MergerSettings};
 pub use outcome::{Outcome, Refusal};
 pub use pmu::Pmu;

@@ -1,8 +1,11 @@
 //! What is fixed in a life of the merger.
-ghost use Rattle.std.specs.Prelude.{◌^◌, ◌<◌, ◌≤◌, ◌&&◌, ◌∷◌, IsTrue, length, nat_le, nat_lt};
+ghost use Rattle.std.specs.Prelude.{◌<◌, ◌≤◌, ◌&&◌, ◌∷◌, IsTrue, length, nat_le, nat_lt};
 ghost use Rattle.std.specs.List.{list_all};
+ghost use Rattle.pdc_frame.specs.declared.limits.TheConstants.{MAX_ID};
+ghost use Rattle.pdc_tag.specs.declared.limits.TheConstants.{COUNT_LIMIT};
 ghost use Rattle.pdc_life.specs.Distinct.{are_distinct};
 ghost use Rattle.pdc_life.specs.declared.given.TheConstants.{MAX_PMUS};
+ghost use Rattle.pdc_life.specs.declared.limits.TheConstants.{MAX_AHEAD, MAX_WAIT, MAX_WINDOW, MIN_WINDOW};
 
 use crate::given::{MAX_PMUS, WaitKind};
 use arrayvec::ArrayVec;
@@ -16,8 +19,8 @@ pub struct MergedNode {
     /// The counts of FRACSEC in a second of that stream, from the rate to 16777215.
     pub time_base: u32,
     pub ghost id_low: { 0 < id },
-    pub ghost id_high: { id < 65535 },
-    pub ghost time_base_high: { time_base < 2 ^ 24 },
+    pub ghost id_high: { id ≤ MAX_ID },
+    pub ghost time_base_high: { time_base < COUNT_LIMIT },
 }
 
 /// The settings of the merger, as far as its answers depend on them (this profile).
@@ -41,15 +44,15 @@ pub struct MergerSettings {
     /// nodes' ids, and none is a node's or the merger's own.
     pub sources: ArrayVec<u16, MAX_PMUS>,
     pub ghost wait_low: { 1 ≤ wait },
-    pub ghost wait_high: { wait ≤ 1000 },
-    pub ghost window_low: { 8 ≤ window },
-    pub ghost window_high: { window ≤ 256 },
-    pub ghost ahead_high: { ahead ≤ 1000 },
+    pub ghost wait_high: { wait ≤ MAX_WAIT },
+    pub ghost window_low: { MIN_WINDOW ≤ window },
+    pub ghost window_high: { window ≤ MAX_WINDOW },
+    pub ghost ahead_high: { ahead ≤ MAX_AHEAD },
     pub ghost first_base: { output.rate ≤ first.time_base },
     pub ghost second_base: { output.rate ≤ second.time_base },
     pub ghost some: { 0 < length sources.items },
     pub ghost few: { length sources.items ≤ MAX_PMUS },
-    pub ghost in_range: { IsTrue (list_all (λ source. nat_lt 0 source && nat_lt source 65535) sources.items) },
+    pub ghost in_range: { IsTrue (list_all (λ source. nat_lt 0 source && nat_le source MAX_ID) sources.items) },
     pub ghost own: { IsTrue (are_distinct (output.id ∷ sources.items)) },
     pub ghost distinct: { IsTrue (are_distinct (first.id ∷ second.id ∷ sources.items)) },
 }

@@ -1,5 +1,7 @@
 //! What a node is told of a PMU.
-ghost use Rattle.std.specs.Prelude.{◌^◌, ◌<◌};
+ghost use Rattle.std.specs.Prelude.{◌<◌, ◌≤◌};
+ghost use Rattle.pdc_frame.specs.declared.limits.TheConstants.{MAX_ID};
+ghost use Rattle.pdc_tag.specs.declared.limits.TheConstants.{COUNT_LIMIT};
 
 /// A PMU whose stream a node takes.
 #[derive(Clone, Copy, Debug)]
@@ -11,10 +13,10 @@ pub struct Pmu {
     /// The counts of FRACSEC in a second, from the rate to 16777215.
     pub time_base: u32,
     pub ghost stream_low: { 0 < stream },
-    pub ghost stream_high: { stream < 65535 },
+    pub ghost stream_high: { stream ≤ MAX_ID },
     pub ghost source_low: { 0 < source },
-    pub ghost source_high: { source < 65535 },
-    pub ghost time_base_high: { time_base < 2 ^ 24 },
+    pub ghost source_high: { source ≤ MAX_ID },
+    pub ghost time_base_high: { time_base < COUNT_LIMIT },
 }
 
 /// A PMU to fill places of a list with: every id is 1, and TIME_BASE is the greatest.
