@@ -12,6 +12,24 @@ pub struct Stamp {
     pub change: u32,
 }
 
+impl Stamp {
+    ghost use Rattle.std.specs.Prelude.{◌≡◌};
+    ghost use Rattle.pdc_output.specs.Layout.{stamp_words};
+
+    /// The start number and the change number, each as two words with the high one first, as own sections and own blocks carry
+    /// them.
+    pub fn words(self) -> [u16; 4]
+        ensures { result ≡ stamp_words self.start self.change }
+    {
+        [
+            (self.start >> 16) as u16,
+            (self.start & 0xFFFF) as u16,
+            (self.change >> 16) as u16,
+            (self.change & 0xFFFF) as u16,
+        ]
+    }
+}
+
 /// A section of a layout, beside its column.
 #[derive(Clone, Copy, Debug, Default)]
 pub struct ColumnSection<'a> {

@@ -1,7 +1,7 @@
 //! The own section of a node, which tells the stamp of its layout.
 ghost use Rattle.std.specs.Prelude.{◌≡◌, ◌+◌, ◌*◌, ◌↔◌, ◌⊎◌, IsTrue, MatchOption, drop, length};
 ghost use Rattle.pdc_frame.specs.Bytes.{word_at};
-ghost use Rattle.pdc_output.specs.Layout.{own_bytes, stamp_words};
+ghost use Rattle.pdc_output.specs.Layout.{own_bytes};
 ghost use Rattle.pdc_life.specs.Arrival.{Stamp as StampFields};
 ghost use Rattle.pdc_life.specs.MergerReading.{IsOwn};
 ghost use Rattle.pdc_reading.specs.Views.{stamp_view};
@@ -16,21 +16,6 @@ const MASKS_PLACE: usize = 1050;
 
 /// The bytes of an own section.
 const OWN_SECTION_LEN: usize = 1070;
-
-impl Stamp {
-    ghost use Rattle.std.specs.Prelude.{[], ◌∷◌};
-
-    /// The stamp that four words say: the start number and the change number, each with its high word first.
-    pub fn from_words(words: [u16; 4]) -> Stamp
-        ensures { stamp_words result.start result.change ≡ words }
-    {
-        let [start_high, start_low, change_high, change_low] = words;
-        Stamp {
-            start: long_of(start_high, start_low),
-            change: long_of(change_high, change_low),
-        }
-    }
-}
 
 /// The number whose high and low half these are.
 fn long_of(high: u16, low: u16) -> u32
