@@ -6,6 +6,7 @@ pub mod Held
 pub mod InForce
 pub mod InTime
 pub mod LifeLaws
+pub mod MergerData
 pub mod MergerReads
 pub mod MergerRuns
 pub mod NextRow

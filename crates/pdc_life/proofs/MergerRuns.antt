@@ -41,39 +41,39 @@ ReadOnce = (payload : List ℕ) (a b : ConfigFields) → IsConfig payload a → 
 
 -- ---- lists of words
 
-take_words : (n : ℕ) (ws : List ℕ) → AreWords ws → AreWords (take n ws)
+pub take_words : (n : ℕ) (ws : List ℕ) → AreWords ws → AreWords (take n ws)
 take_words zero ws h = words_none
 take_words (suc n) [] h = words_none
 take_words (suc n) (w ∷ ws) h = words_cons w (take n ws) (h 0) (take_words n ws (λ i. h (suc i)))
 
-drop_words : (n : ℕ) (ws : List ℕ) → AreWords ws → AreWords (drop n ws)
+pub drop_words : (n : ℕ) (ws : List ℕ) → AreWords ws → AreWords (drop n ws)
 drop_words zero ws h = h
 drop_words (suc n) [] h = words_none
 drop_words (suc n) (w ∷ ws) h = drop_words n ws (λ i. h (suc i))
 
-take_count : (n : ℕ) (ws : List ℕ) → n ≤ length ws → length (take n ws) ≡ n
+pub take_count : (n : ℕ) (ws : List ℕ) → n ≤ length ws → length (take n ws) ≡ n
 take_count zero ws h = refl
 take_count (suc n) [] h = absurd (omega (arith, h))
 take_count (suc n) (w ∷ ws) h = ap suc (take_count n ws (omega (arith, h)))
 
-drop_count : (n more : ℕ) (ws : List ℕ) → length ws ≡ n + more → length (drop n ws) ≡ more
+pub drop_count : (n more : ℕ) (ws : List ℕ) → length ws ≡ n + more → length (drop n ws) ≡ more
 drop_count zero more ws h = omega (arith, h)
 drop_count (suc n) more [] h = absurd (omega (arith, h))
 drop_count (suc n) more (w ∷ ws) h = drop_count n more ws (omega (arith, h))
 
 -- ---- sections of a layout
 
-abbrev Parts : Type 0
+abbrev pub Parts : Type 0
 Parts = List (ℕ × SectionFields)
 
 abbrev columns_above : Parts → List ℕ
 columns_above parts = map (λ (part : ℕ × SectionFields). part.0 + 1) parts
 
-abbrev total : Parts → ℕ
+abbrev pub total : Parts → ℕ
 total [] = 0
 total (part ∷ parts) = word_count_of part.1.shape + total parts
 
-twice_total : (parts : Parts) → sum (map (λ (part : ℕ × SectionFields). 2 * word_count_of part.1.shape) parts) ≡ 2 * total parts
+pub twice_total : (parts : Parts) → sum (map (λ (part : ℕ × SectionFields). 2 * word_count_of part.1.shape) parts) ≡ 2 * total parts
 twice_total [] = refl
 twice_total (part ∷ parts) =
     omega (
@@ -82,9 +82,9 @@ twice_total (part ∷ parts) =
       sum_by-cons (λ (n : ℕ). n) (2 * word_count_of part.1.shape) (map (λ (p : ℕ × SectionFields). 2 * word_count_of p.1.shape) parts),
     )
 
-record Facts (g : Given) (parts : Parts) : Type 0 where
-  columns : HaveColumns g parts
-  whole : AllByRecursion (λ (part : ℕ × SectionFields). IsSection part.1) parts
+pub record Facts (g : Given) (parts : Parts) : Type 0 where
+  pub columns : HaveColumns g parts
+  pub whole : AllByRecursion (λ (part : ℕ × SectionFields). IsSection part.1) parts
 
 abbrev MayFacts : Given → Option HeldLayout → Type 0
 MayFacts g None = Unit {0}
@@ -143,7 +143,7 @@ cells_rise g E quality n (part ∷ parts) words r =
     (merged_cells g E quality parts (drop (word_count_of part.1.shape) words)) r.0
     (cells_rise g E quality (part.0 + 1) parts (drop (word_count_of part.1.shape) words) r.1)
 
-one_or_none : (P : ℕ × CellView → Type 0) (b : Bool) (part : ℕ × CellView) (rest : List (ℕ × CellView)) → (b ≡ true → P part) → AllByRecursion P rest → AllByRecursion P (cond b (part ∷ []) [] ++ rest)
+pub one_or_none : (P : ℕ × CellView → Type 0) (b : Bool) (part : ℕ × CellView) (rest : List (ℕ × CellView)) → (b ≡ true → P part) → AllByRecursion P rest → AllByRecursion P (cond b (part ∷ []) [] ++ rest)
 one_or_none P true part rest h a = (h refl, a)
 one_or_none P false part rest h a = a
 
@@ -156,7 +156,7 @@ cells_exist g E quality (part ∷ parts) words a =
     (cells_exist g E quality parts (drop (word_count_of part.1.shape) words) a.1)
 
 -- a section with the count in force is the one in force
-abbrev IsSame : Given → List Entry → ℕ × SectionFields → Type 0
+abbrev pub IsSame : Given → List Entry → ℕ × SectionFields → Type 0
 IsSame g E part = (u : SectionFields) → section_in_force g E part.0 ≡ Some u → part.1.count ≡ u.count → part.1 ≡ u
 
 same_number : (m n : ℕ) → eqb m n ≡ true → m ≡ n
@@ -248,12 +248,12 @@ in_time_at g E s i quality payload layout facts same lanes tag bytes size h =
     }
 
 -- what is common to all data of a node
-record OfData (g : Given) (E : List Entry) (s i : ℕ) (payload : List ℕ) (layout : HeldLayout) : Type 0 where
-  facts : Facts g layout.sections
-  same : AllByRecursion (IsSame g E) layout.sections
-  lanes : g.lanes ≡ 2
-  tag : i < 4294967296 * g.output.rate
-  bytes : AreBytes payload
+pub record OfData (g : Given) (E : List Entry) (s i : ℕ) (payload : List ℕ) (layout : HeldLayout) : Type 0 where
+  pub facts : Facts g layout.sections
+  pub same : AllByRecursion (IsSame g E) layout.sections
+  pub lanes : g.lanes ≡ 2
+  pub tag : i < 4294967296 * g.output.rate
+  pub bytes : AreBytes payload
 
 through : (g : Given) (E : List Entry) (s i quality : ℕ) (payload : List ℕ) (layout : HeldLayout) (short other long : Bool) → not (eqb (length payload) (payload_len layout.sections)) ≡ long → OfData g E s i payload layout
     → (cond short (bare (Refused WrongLength)) (cond other (bare (Refused OtherStamp)) (cond long (bare (Refused WrongLength)) (answer_in_time g E s i (merged_cells g E quality layout.sections (drop 7 (words_in payload))))))).outcome ≡ Taken
@@ -284,7 +284,7 @@ layout_not None stamp false = refl
 layout_not (Some held) stamp conflicts = none_taken (is_older stamp held.stamp) (not (is_older held.stamp stamp)) conflicts
 
 module _ (once : ReadOnce) where
-  known : (settings : MergerSettings) (g : Given) (E : List Entry) (s i : ℕ) (payload : List ℕ) (layout : HeldLayout) → IsMergerLife settings g E → AreSound g E → held_layout E s ≡ Some layout
+  pub known : (settings : MergerSettings) (g : Given) (E : List Entry) (s i : ℕ) (payload : List ℕ) (layout : HeldLayout) → IsMergerLife settings g E → AreSound g E → held_layout E s ≡ Some layout
       → i < 4294967296 * g.output.rate → AreBytes payload → OfData g E s i payload layout
   known settings g E s i payload layout life sound held tag bytes =
       let number : g.columns ≡ length settings.sources.items = ap (λ (k : Given). k.columns) life.given in

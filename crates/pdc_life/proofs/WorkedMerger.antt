@@ -9,13 +9,14 @@ use Rattle.pdc_tag.specs.Nearest.{nearest_of}
 use Rattle.pdc_tag.specs.Tag.{tag_of}
 use Rattle.pdc_row.specs.CellView.{BlockView}
 use Rattle.pdc_row.specs.RowView.{RowView}
-use Rattle.pdc_life.specs.declared.given.WaitKind.TheVariants.{Relative}
+use Rattle.pdc_life.specs.declared.given.WaitKind.{WaitKind}
+use Rattle.pdc_life.specs.declared.given.WaitKind.TheVariants.{Relative, Absolute}
 use Rattle.pdc_life.specs.declared.outcome.Outcome.TheVariants.{Taken, Candidate, Known, Refused}
 use Rattle.pdc_life.specs.declared.outcome.Refusal.TheVariants.{CountConflict, NoConfig, OldStamp, OtherStamp, WrongLength, Duplicate, Conflict}
 use Rattle.pdc_life.specs.Given.{Given}
 use Rattle.pdc_life.specs.Arrival.{Data, Layout}
 use Rattle.pdc_life.specs.Life.{Entry, popped}
-use Rattle.pdc_life.specs.Answer.{ReadStep, ToArrive, ToPop, life_from}
+use Rattle.pdc_life.specs.Answer.{ReadStep, ToArrive, ToPop, ToTick, life_from, waiting_counts}
 use Rattle.pdc_output.specs.Layout.{own_block}
 use Rattle.pdc_life.specs.Published.{published}
 use Rattle.pdc_life.specs.Merger.{merged_answer}
@@ -23,11 +24,11 @@ use Rattle.pdc_life.proofs.Vectors.{body_3, body_4, body_absent, body_other, e1,
 use Rattle.pdc_life.proofs.Worked.{adoptions, answers, tick_at, zeros}
 
 -- merger 301 with the sources 11 and 12: wait 2, ahead 32, window 64
-abbrev pub given : (counts : List ℕ) → Given
-given counts = record {
+abbrev pub given : (kind : WaitKind) → (counts : List ℕ) → Given
+given kind counts = record {
   output = output 301 (omega arith, omega arith);
   wait = 2;
-  wait_kind = Relative;
+  wait_kind = kind;
   window = 64;
   ahead = 32;
   columns = 2;
@@ -39,7 +40,7 @@ given counts = record {
 }
 
 abbrev pub both : Given
-both = given zeros
+both = given Relative zeros
 
 abbrev pub after : Given → List Entry → List ReadStep → List Entry
 after = life_from merged_answer
@@ -139,7 +140,7 @@ closes_by_age = refl
 
 -- Opening counts: the section of 11 is below its own, and is no candidate; the layout is accepted, and its data taken.
 abbrev pub restarted : Given
-restarted = given (2 ∷ 1 ∷ replicate 14 0)
+restarted = given Relative (2 ∷ 1 ∷ replicate 14 0)
 
 below_opening : answers (after restarted [] (layout_of 0 1 1 ones ∷ tick_at 0 ∷ data_of 0 1 1 1 (body_3 ++ body_4) ∷ [])) ≡ Taken ∷ Candidate ∷ []
 below_opening = refl
@@ -149,3 +150,41 @@ only_12_is_adopted = refl
 
 only_12_has_a_block : blocks_of (popped (after restarted [] (layout_of 0 1 1 ones ∷ tick_at 0 ∷ data_of 0 1 1 1 (body_3 ++ body_4) ∷ tick_at 1 ∷ tick_at 2 ∷ ToPop ∷ []))) ≡ (words_in body_4 ∷ []) ∷ []
 only_12_has_a_block = refl
+
+-- Node B announces count 2 of 11, node A still count 1, which is below the opening one: the data of A is taken without a cell of 11.
+abbrev pub one_still_below : List Entry
+one_still_below =
+    after restarted []
+    (layout_of 0 1 1 ones ∷ layout_of 1 1 2 two_and_one ∷ tick_at 0 ∷ data_of 0 1 1 1 (body_other ++ body_4) ∷ data_of 1 1 1 2 (body_3 ++ body_absent) ∷ tick_at 1 ∷ ToPop ∷ [])
+
+both_are_adopted : adoptions one_still_below ≡ [] ∷ (0 ∷ 1 ∷ []) ∷ []
+both_are_adopted = refl
+
+only_b_gives_11 : blocks_of (popped one_still_below) ≡ (words_in body_3 ∷ words_in body_4 ∷ []) ∷ []
+only_b_gives_11 = refl
+
+-- Count 1 is cleared and in force when B announces count 2 of 11: it waits for the tick that clears it.
+abbrev pub cleared_later : List Entry
+cleared_later =
+    after both []
+    (layout_of 0 1 1 ones ∷ ToTick 57478860000 (1 ∷ 1 ∷ replicate 14 0) ∷ layout_of 1 1 2 two_and_one ∷ ToTick 57478860000 (1 ∷ 1 ∷ replicate 14 0)
+    ∷ ToTick 57478860000 (2 ∷ 1 ∷ replicate 14 0) ∷ [])
+
+waits_to_be_cleared : adoptions cleared_later ≡ (0 ∷ []) ∷ [] ∷ (0 ∷ 1 ∷ []) ∷ []
+waits_to_be_cleared = refl
+
+waits_with_its_count : waiting_counts both (after both begun (layout_of 1 1 2 two_and_one ∷ [])) ≡ 65535 ∷ 65535 ∷ replicate 14 0
+waits_with_its_count = refl
+
+-- An absolute wait of 2: 57478860001 without the data of B closes where now is 57478860003, however often the merger ticked.
+abbrev pub absolute : Given
+absolute = given Absolute zeros
+
+abbrev pub not_yet : List Entry
+not_yet = after absolute (after absolute [] (layout_of 0 1 1 ones ∷ tick_at 0 ∷ [])) (data_of 0 1 1 1 (body_3 ++ body_4) ∷ tick_at 1 ∷ tick_at 2 ∷ tick_at 2 ∷ ToPop ∷ [])
+
+early_ticks_close_nothing : popped not_yet ≡ []
+early_ticks_close_nothing = refl
+
+closes_by_now : blocks_of (popped (after absolute not_yet (tick_at 3 ∷ ToPop ∷ []))) ≡ (words_in body_3 ∷ words_in body_4 ∷ []) ∷ []
+closes_by_now = refl

@@ -10,6 +10,7 @@ pub mod InTime
 pub mod Laws
 pub mod Life
 pub mod Merger
+pub mod MergerData
 pub mod MergerLaws
 pub mod MergerReading
 pub mod Node

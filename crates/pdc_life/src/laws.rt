@@ -5,6 +5,7 @@ ghost use Rattle.pdc_life.specs.Frames.{ChangesFit, ClosedRowsAreFrames, Layouts
 ghost use Rattle.pdc_life.specs.Genuine.{BlocksAreGenuine, CellsWereGiven, ChosenIsShown, NodeCellsAreData, NodeTakenIsShown, RowsAreGenuine};
 ghost use Rattle.pdc_life.specs.InTime.{ClosedStayClosed, MergerTakesInTime, NodeTakesInTime, TakenIsInTime};
 ghost use Rattle.pdc_life.specs.Laws.{ChangesNeverFall, ChangesRiseByOne, InForceIsCleared, MergerLivesAreTicked, NodeLivesAreRuns, NoneOvertakes, RowsAreOfTheirTicks, RowsComeOutOnce, RowsRise, SameChangeSameSections};
+ghost use Rattle.pdc_life.specs.MergerData.{MergerCellsAreData};
 ghost use Rattle.pdc_life.specs.MergerLaws.{MergerAnswersAreOne, MergerLivesAreRuns, MergerReadsOnce, MergerStepsHaveOneLife, SameCountSameSection};
 ghost use Rattle.pdc_life.specs.OneLife.{NodeAnswersAreOne, NodeReadsOnce, NodeStepsHaveOneLife, OneStepMore, StepsMakeMergerLives, StepsMakeNodeLives};
 ghost use Rattle.pdc_life.specs.Sections.{CountsNeverFall, HeldHasCome, HeldIsGreatest, HeldIsSection, InForceHasCome, InForceIsSection, NodeHoldsGreatest};
@@ -12,7 +13,7 @@ ghost use Rattle.pdc_life.specs.Tagged.{NextIsAbove, RowsHaveTags};
 
 use pdc_block::bodies_are_their_words;
 use pdc_cfg::configurations_are_read_in_one_way;
-use pdc_frame::frames_are_read_in_one_way;
+use pdc_frame::{frames_are_read_in_one_way, words_are_their_bytes};
 use pdc_output::{layouts_are_frames, own_sections_tell_stamps, rows_are_frames};
 use pdc_tag::instant_is_nearest;
 
@@ -176,6 +177,15 @@ pub fn same_count_is_same_section()
 pub fn merger_lives_are_runs()
     ensures { MergerLivesAreRuns }
 {
+    configurations_are_read_in_one_way();
+}
+
+/// At the merger, what gave a cell is data of a node, cut under the layout that was held of it when the data came: the cell is the
+/// block at the section of its column, which is the one in force.
+pub fn merged_cells_are_data()
+    ensures { MergerCellsAreData }
+{
+    words_are_their_bytes();
     configurations_are_read_in_one_way();
 }
 

@@ -1,32 +1,25 @@
-//! The plain program of a life: steps in, answers, rows, layout and published frames out (this profile).
+//! The plain program of a life, of a node or of the merger: steps in, answers, rows, layout and published frames out (this
+//! profile).
 //!
-//! Nothing is kept but the list of the steps with their answers, newest first, and each question is asked of the whole
-//! list. It is meant to be read: each function is one definition of pdc_life, and its contract says so. It goes down the list
-//! by recursion, time and again, so it is for lists of some hundred steps and not for a running node. The worked examples run
-//! through it with real frames.
+//! It is slow, and meant to be read: each function is one definition of pdc_life, asked of the whole list of the steps, and its
+//! contract says so. Node and merger differ in what bytes say and in what an arrival is answered; all else is one program. The
+//! worked examples run through it with real frames.
 //!
-//! The first type to look at is [`LifeStep`], and the first function [`answers`].
+//! The first type to look at is [`Life`], and the first functions [`live_node`] and [`live_merger`].
 //!
 //! The promise to the layers above: what these steps are answered, close, publish and lay out is what the one life of these
 //! steps has.
 #![tactic(auto)]
 
-mod answering;
-mod blocks;
-mod closing;
-mod given;
-mod in_time;
-mod instants;
+mod held_layout;
+mod layouts;
+mod life;
 mod living;
+mod merger;
+mod node;
 mod opening;
-mod past;
-mod plain;
 mod publishing;
-mod row_of;
-mod steps;
-mod taking;
-mod ticking;
 
+pub use life::Life;
+pub use living::{live_merger, live_node};
 pub use opening::Opening;
-pub use plain::{answers, are_of_settings, layout, published, rows, waiting};
-pub use steps::{Answer, Answered, ColumnCell, LifeStep, TickAnswer};

@@ -1,9 +1,10 @@
 //! What a life begins with, and so what is given to it.
 ghost use Rattle.std.specs.Prelude.{◌≡◌};
-ghost use Rattle.pdc_plain.specs.Views.{given_from, given_view};
+ghost use Rattle.pdc_past.specs.Views.{given_view};
+ghost use Rattle.pdc_plain.specs.Views.{given_to_merger, given_to_node};
 
-use crate::given::Given;
-use pdc_life::{MAX_PMUS, Settings};
+use pdc_life::{MAX_PMUS, MergerSettings, Settings};
+use pdc_past::Given;
 
 /// What a life begins with, beside its settings.
 #[derive(Clone, Copy, Debug)]
@@ -20,7 +21,7 @@ pub struct Opening {
 
 /// What is given to a life of a node.
 pub fn given_to_node(settings: &Settings, opening: &Opening) -> Given
-    ensures { given_view result ≡ given_from settings.now opening.now }
+    ensures { given_view result ≡ given_to_node settings.now opening.now }
 {
     Given {
         output: settings.output,
@@ -30,6 +31,25 @@ pub fn given_to_node(settings: &Settings, opening: &Opening) -> Given
         ahead: settings.ahead,
         columns: settings.pmus.len(),
         lanes: 1,
+        start: opening.start,
+        floor: opening.floor,
+        counts: opening.counts,
+        opening: opening.first_now,
+    }
+}
+
+/// What is given to a life of the merger.
+pub fn given_to_merger(settings: &MergerSettings, opening: &Opening) -> Given
+    ensures { given_view result ≡ given_to_merger settings.now opening.now }
+{
+    Given {
+        output: settings.output,
+        wait: settings.wait,
+        wait_kind: settings.wait_kind,
+        window: settings.window,
+        ahead: settings.ahead,
+        columns: settings.sources.len(),
+        lanes: 2,
         start: opening.start,
         floor: opening.floor,
         counts: opening.counts,

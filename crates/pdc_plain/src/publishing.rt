@@ -1,23 +1,14 @@
 //! What a life closed and published, asked of the whole list. A life is kept newest first.
-ghost use Rattle.std.specs.Prelude.{◌≡◌, ◌≤◌, ◌<◌, ◌*◌, ◌+◌, ◌++◌, IfOk, OnErr, OnOk, length, map, option_map};
+ghost use Rattle.std.specs.Prelude.{◌≡◌, ◌<◌, ◌*◌, ◌^◌, ◌++◌, IfOk, OnErr, OnOk, map};
 ghost use Rattle.std.specs.List.{All};
-ghost use Rattle.std.specs.Option.{option_to_list};
-ghost use Rattle.pdc_cfg.specs.Section.{fields_of_view};
-ghost use Rattle.pdc_row.specs.RowView.{row_view};
+ghost use Rattle.pdc_row.specs.RowView.{row_instants, row_view};
 ghost use Rattle.pdc_output.specs.Layout.{wire_of};
-ghost use Rattle.pdc_life.specs.Life.{closed, popped};
-ghost use Rattle.pdc_life.specs.Published.{layout_wire, published, sections_in_force};
-ghost use Rattle.pdc_life.specs.Run.{IsRun, IsTicked};
-ghost use Rattle.pdc_plain.specs.Views.{given_view, life_view};
+ghost use Rattle.pdc_life.specs.Life.{changes, closed, popped};
+ghost use Rattle.pdc_life.specs.Published.{layout_wire, published};
+ghost use Rattle.pdc_past.specs.Views.{given_view, life_view};
 
-use crate::given::Given;
-use crate::instants::append;
-use crate::past::{change_number, section_in_force};
-use crate::steps::Answered;
-use arrayvec::ArrayVec;
-use pdc_cfg::SectionView;
-use pdc_life::rows_have_tags;
 use pdc_output::{Output, append_layout, append_row};
+use pdc_past::{Answered, Given, append, changes, sections_in_force};
 use pdc_row::DueRow;
 use std::alloc::{AllocError, Global};
 
@@ -67,37 +58,11 @@ pub fn frames_of(
     given: &Given,
     life: &[Answered],
 ) -> Result<Vec<Vec<u8>>, AllocError>
-    requires { IsRun (given_view given.now) (life_view life.now) }
+    requires { All (λ n. n < 4294967296 * given.now.output.rate) (row_instants (popped (life_view life.now))) }
     ensures { IfOk result (λ frames. map (λ frame. frame.items) frames.items ≡ published (given_view given.now) (life_view life.now)) }
 {
-    rows_have_tags();
     let rows = popped(alloc, life)?;
     frames(alloc, &given.output, &rows)
-}
-
-/// The sections in force, in column order.
-#[tactic(auto, using(crate::proofs::Ranges::filter_map_step))]
-fn sections_in_force<'a>(given: &Given, life: &[Answered<'a>]) -> ArrayVec<SectionView<'a>, 16>
-    ensures sections { map fields_of_view result.items ≡ sections_in_force (given_view given.now) (life_view life.now) }
-    ensures few { length result.items ≤ 16 }
-{
-    let mut sections = ArrayVec::new();
-    for column in 0..given.columns {
-        push_some(section_in_force(given, life, column), &mut sections);
-    }
-    sections
-}
-
-/// Appends the section, if there is one.
-fn push_some<'a>(section: Option<SectionView<'a>>, sections: &mut ArrayVec<SectionView<'a>, 16>)
-    requires { length sections.old.items < 16 }
-    ensures sections { map fields_of_view sections.new.items
-        ≡ map fields_of_view sections.old.items ++ option_to_list (option_map fields_of_view section.entry) }
-    ensures grown { length sections.new.items ≤ length sections.old.items + 1 }
-{
-    if let Some(section) = section {
-        sections.push(section);
-    }
 }
 
 /// Appends the frame of the layout.
@@ -111,12 +76,12 @@ pub fn append_layout_of(
     soc: u32,
     out: &mut Vec<u8>,
 ) -> Result<(), AllocError>
-    requires { IsTicked (given_view given.now) (life_view life.now) }
+    requires { changes (life_view life.now) < 2 ^ 32 }
     ensures ok { OnOk result (out.new.items ≡ out.old.items ++ layout_wire (given_view given.now) (life_view life.now) soc) }
     ensures err { OnErr result (out.new.items ≡ out.old.items) }
 {
     let sections = sections_in_force(given, life);
-    let change = change_number(given, life);
+    let change = changes(life) as u32;
     append_layout(
         &given.output,
         given.start,

@@ -1,30 +1,35 @@
-//! A life of a node that a script tells, lived by the plain program.
+//! A life of a node or of the merger that a script tells, lived by the plain program.
 //!
 //! | Call | Answer |
 //! |---|---|
 //! | `node WINDOW WAIT PMUS [absolute] [counts COUNT ..]` | `ok`; a new life of node 201 with the PMUs 11 and 12, or 11 to 13, and these opening counts |
-//! | `arrive PMU FRAME [LENGTH]` | the outcome; the frame is one of the names, or its first bytes |
-//! | `tick NOW [COUNT ..]` | how many rows closed, and `adopts` where it adopted; with no count the counts that wait are handed in |
-//! | `waiting` | the counts that wait, one for each PMU |
+//! | `merger WINDOW WAIT [absolute] [counts COUNT ..]` | `ok`; a new life of merger 301 with the nodes 201 and 202 and the sources 11 and 12 |
+//! | `arrive STREAM FRAME [LENGTH]` | the outcome; the frame is one of the names, or its first bytes |
+//! | `tick NOW [COUNT ..]` | how many rows closed, and behind `adopts` the columns that it adopted; with no count the counts that wait are handed in |
+//! | `waiting` | the counts that wait, one for each column |
 //! | `pop` | the row's instant, quality and stamp, as `5/0 (1, 1)`, or `none` |
 //! | `rows` | the instants and stamps of the rows that closed |
 //! | `published` | the frames that are published, in hexadecimal |
 //! | `layout SOC` | the length of the layout's frame, its first 14 bytes and its last two |
 //!
-//! Counts that are not told are 0. What is none of these is answered `no such call`.
+//! A stream is a PMU's at a node, and at the merger 0 for node 201 and 1 for node 202. Counts that are not told are 0. What is
+//! none of these is answered `no such call`.
 
 ghost use Rattle.std.specs.Prelude.{◌≤◌};
 
 use crate::frames::Frames;
 use crate::script::Player;
 use arrayvec::ArrayVec;
-use pdc_life::{MAX_PMUS, Pmu, Settings, WaitKind};
+use pdc_life::{MAX_PMUS, MergedNode, MergerSettings, Pmu, Settings, WaitKind};
 use pdc_output::{Nominal, Output};
-use pdc_plain::{
-    Answered, LifeStep, Opening, answers, are_of_settings, layout, published, rows, waiting,
-};
+use pdc_past::{Answered, LifeStep, are_for_streams};
+use pdc_plain::{Life, Opening, live_merger, live_node};
+use pdc_reading::NODES;
 use pdc_row::DueRow;
 use std::alloc::{AllocError, Global};
+
+/// How far above now an instant may lie.
+const AHEAD: u64 = 32;
 
 const PMU_11: Pmu = Pmu {
     stream: 11,
@@ -44,7 +49,17 @@ const PMU_13: Pmu = Pmu {
     time_base: 1_000_000,
 };
 
-/// Node 201 of the PMUs 11 and 12, or 11 to 13: 50 frames a second, ahead 32, this window and wait.
+const NODE_201: MergedNode = MergedNode {
+    id: 201,
+    time_base: 1_000_000,
+};
+
+const NODE_202: MergedNode = MergedNode {
+    id: 202,
+    time_base: 1_000_000,
+};
+
+/// Node 201 of the PMUs 11 and 12, or 11 to 13: 50 frames a second, this window and wait.
 fn node(window: u64, wait: u64, wait_kind: WaitKind, has_third: bool) -> Settings
     requires window_low { 8 ≤ window }
     requires window_high { window ≤ 256 }
@@ -67,8 +82,35 @@ fn node(window: u64, wait: u64, wait_kind: WaitKind, has_third: bool) -> Setting
         wait,
         wait_kind,
         window,
-        ahead: 32,
+        ahead: AHEAD,
         pmus,
+    }
+}
+
+/// Merger 301 of the nodes 201 and 202 and the sources 11 and 12: 50 frames a second, this window and wait.
+fn merger(window: u64, wait: u64, wait_kind: WaitKind) -> MergerSettings
+    requires window_low { 8 ≤ window }
+    requires window_high { window ≤ 256 }
+    requires wait_low { 1 ≤ wait }
+    requires wait_high { wait ≤ 1000 }
+{
+    let mut sources = ArrayVec::new();
+    sources.push(11);
+    sources.push(12);
+    MergerSettings {
+        output: Output {
+            id: 301,
+            rate: 50,
+            nominal: Nominal::Hz50,
+            time_base: 1_000_000,
+        },
+        wait,
+        wait_kind,
+        window,
+        ahead: AHEAD,
+        first: NODE_201,
+        second: NODE_202,
+        sources,
     }
 }
 
@@ -91,10 +133,67 @@ fn counts_of(words: &[&str]) -> Option<[u16; MAX_PMUS]> {
     Some(counts)
 }
 
+/// The kind of wait that the words say, and the words behind it.
+fn wait_kind<'w, 's>(words: &'w [&'s str]) -> (WaitKind, &'w [&'s str]) {
+    match words {
+        ["absolute", more @ ..] => (WaitKind::Absolute, more),
+        _ => (WaitKind::Relative, words),
+    }
+}
+
+/// The opening counts that the words say.
+fn opening_counts(words: &[&str]) -> Option<[u16; MAX_PMUS]> {
+    match words {
+        [] => counts_of(&[]),
+        ["counts", counts @ ..] => counts_of(counts),
+        _ => None,
+    }
+}
+
+/// A concentrator that lives.
+#[derive(Drop)]
+enum Concentrator {
+    Node(Settings),
+    Merger(MergerSettings),
+}
+
+impl Concentrator {
+    /// The number of its columns.
+    fn columns(&self) -> usize {
+        match self {
+            Concentrator::Node(settings) => settings.pmus.len(),
+            Concentrator::Merger(settings) => settings.sources.len(),
+        }
+    }
+
+    /// The life that takes these steps, where each arrival is for one of its streams.
+    fn live<'a>(
+        &self,
+        alloc: Global,
+        opening: &Opening,
+        steps: &[LifeStep<'a>],
+    ) -> Result<Option<Life<'a>>, AllocError> {
+        match self {
+            Concentrator::Node(settings) => {
+                if !are_for_streams(settings.pmus.len(), steps) {
+                    return Ok(None);
+                }
+                Ok(Some(live_node(alloc, settings, opening, steps)?))
+            }
+            Concentrator::Merger(settings) => {
+                if !are_for_streams(NODES, steps) {
+                    return Ok(None);
+                }
+                Ok(Some(live_merger(alloc, settings, opening, steps)?))
+            }
+        }
+    }
+}
+
 /// A life, and the frames that its steps name.
 #[derive(Drop)]
 pub struct LifePlayer<'a> {
-    settings: Settings,
+    concentrator: Concentrator,
     opening: Opening,
     steps: Vec<LifeStep<'a>>,
     frames: &'a Frames,
@@ -104,36 +203,48 @@ impl<'a> LifePlayer<'a> {
     /// The life of a node of two PMUs, without steps.
     pub fn new(alloc: Global, frames: &'a Frames) -> LifePlayer<'a> {
         LifePlayer {
-            settings: node(64, 2, WaitKind::Relative, false),
+            concentrator: Concentrator::Node(node(64, 2, WaitKind::Relative, false)),
             opening: first_opening([0; MAX_PMUS]),
             steps: Vec::new(alloc),
             frames,
         }
     }
 
-    /// Begins another life, where the sizes are in range.
+    /// Begins another life, of a node with so many PMUs or of the merger, where the sizes are in range.
     fn begin(
         &mut self,
         alloc: Global,
-        window: &str,
-        wait: &str,
-        pmus: &str,
+        pmus: Option<&str>,
+        sizes: [&str; 2],
         more: &[&str],
     ) -> Option<bool> {
+        let [window, wait] = sizes;
         let (window, wait): (u64, u64) = (window.parse().ok()?, wait.parse().ok()?);
         if window < 8 || window > 256 || wait < 1 || wait > 1000 {
             return None;
         }
-        let (wait_kind, counts) = match more {
-            [] => (WaitKind::Relative, counts_of(&[])?),
-            ["absolute"] => (WaitKind::Absolute, counts_of(&[])?),
-            ["counts", counts @ ..] => (WaitKind::Relative, counts_of(counts)?),
-            _ => return None,
+        let (wait_kind, more) = wait_kind(more);
+        self.opening = first_opening(opening_counts(more)?);
+        self.concentrator = match pmus {
+            Some(pmus) => Concentrator::Node(node(window, wait, wait_kind, pmus == "3")),
+            None => Concentrator::Merger(merger(window, wait, wait_kind)),
         };
-        self.settings = node(window, wait, wait_kind, pmus == "3");
-        self.opening = first_opening(counts);
         self.steps = Vec::new(alloc);
         Some(true)
+    }
+
+    /// Begins another life, and tells whether it can.
+    fn begin_text(
+        &mut self,
+        alloc: Global,
+        pmus: Option<&str>,
+        sizes: [&str; 2],
+        more: &[&str],
+    ) -> Result<String, AllocError> {
+        match self.begin(alloc, pmus, sizes, more) {
+            Some(_) => "ok".to_string(alloc),
+            None => "no such life".to_string(alloc),
+        }
     }
 
     /// The bytes of the frame of this name, or the first of them.
@@ -145,20 +256,24 @@ impl<'a> LifePlayer<'a> {
         }
     }
 
-    /// The arrival of a frame for a PMU.
-    fn arrival(&self, pmu: &str, name: &str, len: Option<&str>) -> Option<LifeStep<'a>> {
+    /// The arrival of a frame for a stream.
+    fn arrival(&self, stream: &str, name: &str, len: Option<&str>) -> Option<LifeStep<'a>> {
         Some(LifeStep::Arrive {
-            stream: pmu.parse().ok()?,
+            stream: stream.parse().ok()?,
             bytes: self.bytes(name, len)?,
         })
     }
 
+    /// The life of the steps so far.
+    fn live(&self, alloc: Global) -> Result<Option<Life<'a>>, AllocError> {
+        self.concentrator.live(alloc, &self.opening, &self.steps)
+    }
+
     /// The counts that wait.
     fn waiting(&self, alloc: Global) -> Result<[u16; MAX_PMUS], AllocError> {
-        if are_of_settings(&self.settings, &self.steps) {
-            waiting(alloc, &self.settings, &self.opening, &self.steps)
-        } else {
-            Ok([0; MAX_PMUS])
+        match self.live(alloc)? {
+            Some(life) => Ok(life.waiting()),
+            None => Ok([0; MAX_PMUS]),
         }
     }
 
@@ -179,11 +294,11 @@ impl<'a> LifePlayer<'a> {
         Ok(counts_of(counts).map(|counts| LifeStep::Tick { now, counts }))
     }
 
-    /// The counts that wait, one for each PMU.
+    /// The counts that wait, one for each column.
     fn waiting_text(&self, alloc: Global) -> Result<String, AllocError> {
         let counts = self.waiting(alloc)?;
         let mut text = String::new(alloc);
-        for count in counts.get(..self.settings.pmus.len()).unwrap_or(&[]) {
+        for count in counts.get(..self.concentrator.columns()).unwrap_or(&[]) {
             text.push_str(" ")?;
             text.push_str(&count.to_string(alloc)?)?;
         }
@@ -196,11 +311,11 @@ impl<'a> LifePlayer<'a> {
             return "no such call".to_string(alloc);
         };
         self.steps.push(step)?;
-        if !are_of_settings(&self.settings, &self.steps) {
+        let Some(life) = self.live(alloc)? else {
             self.steps.pop();
-            return "no such PMU".to_string(alloc);
-        }
-        match answers(alloc, &self.settings, &self.opening, &self.steps)?.last() {
+            return "no such stream".to_string(alloc);
+        };
+        match life.entries.first() {
             Some(answered) => answer_text(alloc, answered),
             None => Ok(String::new(alloc)),
         }
@@ -209,8 +324,8 @@ impl<'a> LifePlayer<'a> {
     /// The rows that closed, the first of them first.
     fn rows_text(&self, alloc: Global) -> Result<String, AllocError> {
         let mut text = String::new(alloc);
-        if are_of_settings(&self.settings, &self.steps) {
-            for row in &rows(alloc, &self.settings, &self.opening, &self.steps)? {
+        if let Some(life) = self.live(alloc)? {
+            for row in &life.rows(alloc)? {
                 text.push_str(" ")?;
                 text.push_str(&row_text(alloc, row)?)?;
             }
@@ -221,8 +336,8 @@ impl<'a> LifePlayer<'a> {
     /// The frames that are published, one after the other.
     fn published_text(&self, alloc: Global) -> Result<String, AllocError> {
         let mut bytes = Vec::new(alloc);
-        if are_of_settings(&self.settings, &self.steps) {
-            for frame in &published(alloc, &self.settings, &self.opening, &self.steps)? {
+        if let Some(life) = self.live(alloc)? {
+            for frame in &life.published(alloc)? {
                 bytes.extend_from_slice(frame)?;
             }
         }
@@ -232,15 +347,8 @@ impl<'a> LifePlayer<'a> {
     /// The length of the layout's frame, its fields before the payload and its check word.
     fn layout_text(&self, alloc: Global, soc: u32) -> Result<String, AllocError> {
         let mut frame = Vec::new(alloc);
-        if are_of_settings(&self.settings, &self.steps) {
-            layout(
-                alloc,
-                &self.settings,
-                &self.opening,
-                &self.steps,
-                soc,
-                &mut frame,
-            )?;
+        if let Some(life) = self.live(alloc)? {
+            life.layout(soc, &mut frame)?;
         }
         if frame.len() < 16 {
             return "no frame".to_string(alloc);
@@ -257,18 +365,24 @@ fn row_text(alloc: Global, row: &DueRow) -> Result<String, AllocError> {
     format!(in alloc; "{instant}/{quality} ({}, {})", row.start, row.change)
 }
 
+/// How many rows closed, and the columns that were adopted.
+fn tick_text(alloc: Global, closed: usize, adopted: &[usize]) -> Result<String, AllocError> {
+    let mut text = closed.to_string(alloc)?;
+    if !adopted.is_empty() {
+        text.push_str(" adopts")?;
+    }
+    for column in adopted {
+        text.push_str(" ")?;
+        text.push_str(&column.to_string(alloc)?)?;
+    }
+    Ok(text)
+}
+
 /// What a step was answered.
 fn answer_text(alloc: Global, answered: &Answered) -> Result<String, AllocError> {
     match answered {
         Answered::Arrival { answer, .. } => format!(in alloc; "{:?}", answer.outcome),
-        Answered::Tick { answer, .. } => {
-            let adopts = if answer.adopted.is_empty() {
-                ""
-            } else {
-                " adopts"
-            };
-            format!(in alloc; "{}{adopts}", answer.rows.len())
-        }
+        Answered::Tick { answer, .. } => tick_text(alloc, answer.rows.len(), &answer.adopted),
         Answered::Pop { row: Some(row) } => row_text(alloc, row),
         Answered::Pop { row: None } => "none".to_string(alloc),
     }
@@ -279,17 +393,17 @@ impl Player for LifePlayer<'_> {
         let words: Vec<&str> = call.split_whitespace().collect(alloc)?;
         match words.as_slice() {
             ["node", window, wait, pmus, more @ ..] => {
-                match self.begin(alloc, window, wait, pmus, more) {
-                    Some(_) => "ok".to_string(alloc),
-                    None => "no such node".to_string(alloc),
-                }
+                self.begin_text(alloc, Some(pmus), [window, wait], more)
             }
-            ["arrive", pmu, frame] => {
-                let step = self.arrival(pmu, frame, None);
+            ["merger", window, wait, more @ ..] => {
+                self.begin_text(alloc, None, [window, wait], more)
+            }
+            ["arrive", stream, frame] => {
+                let step = self.arrival(stream, frame, None);
                 self.step(alloc, step)
             }
-            ["arrive", pmu, frame, len] => {
-                let step = self.arrival(pmu, frame, Some(len));
+            ["arrive", stream, frame, len] => {
+                let step = self.arrival(stream, frame, Some(len));
                 self.step(alloc, step)
             }
             ["tick", now, counts @ ..] => {

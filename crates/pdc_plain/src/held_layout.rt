@@ -1,0 +1,14 @@
+//! A layout that the merger holds.
+ghost use Rattle.std.specs.Prelude.{◌≤◌, length};
+
+use pdc_reading::{ColumnSection, Stamp};
+
+/// The layout of a node that was accepted last.
+#[derive(Clone, Copy, Debug)]
+pub struct HeldLayout<'l, 'a> {
+    /// Its stamp.
+    pub stamp: Stamp,
+    /// Its sections of PMUs, each beside its column, at most 16.
+    pub sections: &'l [ColumnSection<'a>],
+    pub ghost few: { length sections.now ≤ 16 },
+}

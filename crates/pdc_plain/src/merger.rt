@@ -1,0 +1,190 @@
+//! What the merger answers to an arrival, asked of the whole list. A life is kept newest first.
+ghost use Rattle.std.specs.Prelude.{◌≡◌, ◌≤◌, ◌*◌, ◌++◌, [], ◌∷◌, ℕ, IfOk, OnOk, drop, if◌then◌else◌, length, map, nat_eq, option_map, sum};
+ghost use Rattle.std.specs.Option.{option_to_list};
+ghost use Rattle.std.specs.Cmp.Lexicographic.{pointwise};
+ghost use Rattle.pdc_block.specs.Block.{words_in};
+ghost use Rattle.pdc_cfg.specs.Section.{SectionFields, fields_of_view};
+ghost use Rattle.pdc_cfg.specs.Shape.{word_count_of};
+ghost use Rattle.pdc_output.specs.Layout.{stamp_words};
+ghost use Rattle.pdc_life.specs.Merger.{held_layout, is_in_force, merged_answer, merged_cells, merged_data_answer};
+ghost use Rattle.pdc_life.specs.Node.{cell_under};
+ghost use Rattle.pdc_reading.specs.Views.{arrival_view, section_part};
+ghost use Rattle.pdc_past.specs.Views.{answer_view, given_view, life_view, part_view};
+
+use crate::layouts::{has_count_conflict, held_layout, layout_answer};
+use pdc_cfg::{SectionView, Shape};
+use pdc_life::{Outcome, Refusal};
+use pdc_past::{Answer, Answered, ColumnCell, Given, answer_in_time, bare, body, section_in_force};
+use pdc_reading::{Arrival, ColumnSection, Stamp};
+use std::alloc::{AllocError, Global};
+
+/// The bytes of the own block, which stands first in data of a node.
+const OWN_BLOCK_LEN: usize = 14;
+
+/// The shape of the own block: the stamp is its digital words.
+const OWN_SHAPE: Shape = Shape {
+    phasors: 0,
+    analogs: 0,
+    digitals: 4,
+};
+
+/// The answer to an arrival from a node.
+///
+/// # Errors
+///
+/// [`AllocError`] where there is no room and none is got.
+pub fn merged_answer(
+    alloc: Global,
+    given: &Given,
+    life: &[Answered],
+    stream: usize,
+    arrival: &Arrival,
+) -> Result<Answer, AllocError>
+    ensures { IfOk result (λ answer. answer_view answer ≡ merged_answer (given_view given.now) (life_view life.now) stream (arrival_view arrival.now)) }
+{
+    match arrival {
+        Arrival::BytesRefused(refusal) => Ok(bare(alloc, Outcome::Refused(*refusal))),
+        Arrival::Data {
+            instant,
+            quality,
+            payload,
+        } => data_answer(alloc, given, life, stream, *instant, *quality, payload),
+        Arrival::Layout {
+            stamp: Some(stamp),
+            sections,
+        } => {
+            let conflicts = has_count_conflict(given, life, sections);
+            let outcome = layout_answer(held_layout(life, stream), *stamp, conflicts);
+            Ok(bare(alloc, outcome))
+        }
+        Arrival::Layout { stamp: None, .. } => {
+            Ok(bare(alloc, Outcome::Refused(Refusal::BadOwnBlock)))
+        }
+    }
+}
+
+/// The answer to data of a node, which is read under its held layout, where it bears that stamp.
+fn data_answer(
+    alloc: Global,
+    given: &Given,
+    life: &[Answered],
+    stream: usize,
+    instant: u64,
+    quality: u8,
+    payload: &[u8],
+) -> Result<Answer, AllocError>
+    ensures { IfOk result (λ answer. answer_view answer
+        ≡ merged_data_answer (given_view given.now) (life_view life.now) stream instant quality payload.now (held_layout (life_view life.now) stream)) }
+{
+    let Some(layout) = held_layout(life, stream) else {
+        return Ok(bare(alloc, Outcome::Refused(Refusal::NoConfig)));
+    };
+    if payload.len() < OWN_BLOCK_LEN {
+        return Ok(bare(alloc, Outcome::Refused(Refusal::WrongLength)));
+    }
+    let (own, blocks) = payload.split_at(OWN_BLOCK_LEN);
+    if !bears(own, layout.stamp) {
+        return Ok(bare(alloc, Outcome::Refused(Refusal::OtherStamp)));
+    }
+    if blocks.len() != blocks_len(layout.sections) {
+        return Ok(bare(alloc, Outcome::Refused(Refusal::WrongLength)));
+    }
+    let cells = cells_under(alloc, given, life, quality, layout.sections, blocks)?;
+    answer_in_time(alloc, given, life, stream, instant, cells)
+}
+
+/// Whether the own block bears the stamp, behind STAT, FREQ and DFREQ.
+fn bears(own: &[u8], stamp: Stamp) -> bool
+    requires { length own.now ≡ OWN_BLOCK_LEN }
+    ensures { result ≡ pointwise nat_eq (drop 3 (words_in own.now)) (stamp_words stamp.start stamp.change) }
+{
+    let block = body(OWN_SHAPE, own);
+    let digitals = &block.words()[3..];
+    digitals == stamp.words().as_slice()
+}
+
+/// The bytes of the blocks of these sections.
+fn blocks_len(sections: &[ColumnSection]) -> usize
+    requires { length sections.now ≤ 16 }
+    ensures value { result ≡ sum (map (λ (part : ℕ × SectionFields). 2 * word_count_of part.1.shape) (map section_part sections.now)) }
+    ensures most { result ≤ 214 * length sections.now }
+{
+    match sections.split_first() {
+        Some((first, later)) => 2 * first.section.shape.word_count() + blocks_len(later),
+        None => 0,
+    }
+}
+
+/// Whether the section has the count in force of its column.
+fn is_in_force(section: &SectionView, in_force: Option<SectionView>) -> bool
+    ensures { result ≡ is_in_force (fields_of_view section.now) (option_map fields_of_view in_force.entry) }
+{
+    match in_force {
+        Some(in_force) => section.count == in_force.count,
+        None => false,
+    }
+}
+
+/// The cells that the blocks of these sections give: one for each section with the count in force.
+fn cells_under(
+    alloc: Global,
+    given: &Given,
+    life: &[Answered],
+    quality: u8,
+    sections: &[ColumnSection],
+    blocks: &[u8],
+) -> Result<Vec<ColumnCell>, AllocError>
+    requires { length blocks.now ≡ sum (map (λ (part : ℕ × SectionFields). 2 * word_count_of part.1.shape) (map section_part sections.now)) }
+    ensures { IfOk result (λ cells. map part_view cells.items
+        ≡ merged_cells (given_view given.now) (life_view life.now) quality (map section_part sections.now) (words_in blocks.now)) }
+{
+    let Some((first, later)) = sections.split_first() else {
+        return Ok(Vec::new(alloc));
+    };
+    let (block, others) = blocks.split_at(2 * first.section.shape.word_count());
+    let mut cells = cells_under(alloc, given, life, quality, later, others)?;
+    let in_force = section_in_force(given, life, first.column);
+    put_first(cell_in_force(first, in_force, quality, block), &mut cells)?;
+    Ok(cells)
+}
+
+/// Puts the cell before the others, if there is one.
+fn put_first(cell: Option<ColumnCell>, cells: &mut Vec<ColumnCell>) -> Result<(), AllocError>
+    ensures { OnOk result (map part_view cells.new.items ≡ option_to_list (option_map part_view cell) ++ map part_view cells.old.items) }
+{
+    if let Some(cell) = cell {
+        cells.insert(0, cell)?;
+    }
+    Ok(())
+}
+
+/// The cell that a block gives, where its section has the count in force of its column.
+fn cell_in_force(
+    part: &ColumnSection,
+    in_force: Option<SectionView>,
+    quality: u8,
+    bytes: &[u8],
+) -> Option<ColumnCell>
+    requires { length bytes.now ≡ 2 * word_count_of part.now.section.shape }
+    ensures { option_to_list (option_map part_view result)
+        ≡ (if is_in_force (fields_of_view part.now.section) (option_map fields_of_view in_force.entry)
+        then (part.now.column, cell_under (fields_of_view part.now.section) quality (words_in bytes.now)) ∷ [] else []) }
+{
+    if is_in_force(&part.section, in_force) {
+        Some(cell_under(part, quality, bytes))
+    } else {
+        None
+    }
+}
+
+/// The cell that a block gives under its section.
+fn cell_under(part: &ColumnSection, quality: u8, bytes: &[u8]) -> ColumnCell
+    requires { length bytes.now ≡ 2 * word_count_of part.now.section.shape }
+    ensures { part_view result ≡ (part.now.column, cell_under (fields_of_view part.now.section) quality (words_in bytes.now)) }
+{
+    ColumnCell {
+        column: part.column,
+        block: body(part.section.shape, bytes),
+        quality,
+    }
+}

@@ -1,0 +1,129 @@
+//! What a node answers to an arrival, asked of the whole list. A life is kept newest first.
+ghost use Rattle.std.specs.Prelude.{◌≡◌, ◌∷◌, [], IfOk, Option, map, option_map};
+ghost use Rattle.pdc_cfg.specs.Section.{fields_of_view};
+ghost use Rattle.pdc_life.specs.Answer.{bare};
+ghost use Rattle.pdc_life.specs.Arrival.{Layout, Stamp};
+ghost use Rattle.pdc_life.specs.Life.{section_in_force};
+ghost use Rattle.pdc_life.specs.Node.{data_answer, node_answer, section_after, section_answer};
+ghost use Rattle.pdc_reading.specs.Views.{arrival_view, section_part};
+ghost use Rattle.pdc_past.specs.Views.{answer_view, given_view, life_view, part_view};
+
+use pdc_cfg::{CfgFault, SectionView};
+use pdc_life::{Outcome, Refusal};
+use pdc_past::{
+    Answer, Answered, ColumnCell, Given, answer_in_time, bare, body, count_for, held_section,
+    section_in_force,
+};
+use pdc_reading::{Arrival, ColumnSection};
+use std::alloc::{AllocError, Global};
+
+/// The answer to an arrival for a PMU.
+///
+/// # Errors
+///
+/// [`AllocError`] where there is no room and none is got.
+pub fn node_answer(
+    alloc: Global,
+    given: &Given,
+    life: &[Answered],
+    stream: usize,
+    arrival: &Arrival,
+) -> Result<Answer, AllocError>
+    ensures { IfOk result (λ answer. answer_view answer ≡ node_answer (given_view given.now) (life_view life.now) stream (arrival_view arrival.now)) }
+{
+    match arrival {
+        Arrival::BytesRefused(refusal) => Ok(bare(alloc, Outcome::Refused(*refusal))),
+        Arrival::Data {
+            instant,
+            quality,
+            payload,
+        } => data_answer(alloc, given, life, stream, *instant, *quality, payload),
+        Arrival::Layout { sections, .. } => {
+            Ok(bare(alloc, layout_outcome(given, life, stream, sections)))
+        }
+    }
+}
+
+/// The outcome of a configuration of a PMU, which has one section.
+fn layout_outcome(
+    given: &Given,
+    life: &[Answered],
+    stream: usize,
+    sections: &[ColumnSection],
+) -> Outcome
+    ensures { (stamp : Option Stamp) → bare result ≡ node_answer (given_view given.now) (life_view life.now) stream (Layout stamp (map section_part sections.now)) }
+{
+    match sections {
+        [only] => {
+            let opening = count_for(stream, &given.counts);
+            section_answer(opening, held_section(given, life, stream), &only.section)
+        }
+        _ => Outcome::Refused(Refusal::NoConfiguration(CfgFault::TooMany)),
+    }
+}
+
+/// The answer to data of a PMU: it gives the cell of its column, under the section in force.
+fn data_answer(
+    alloc: Global,
+    given: &Given,
+    life: &[Answered],
+    stream: usize,
+    instant: u64,
+    quality: u8,
+    payload: &[u8],
+) -> Result<Answer, AllocError>
+    ensures { IfOk result (λ answer. answer_view answer
+        ≡ data_answer (given_view given.now) (life_view life.now) stream instant quality payload.now (section_in_force (given_view given.now) (life_view life.now) stream)) }
+{
+    let Some(section) = section_in_force(given, life, stream) else {
+        return Ok(bare(alloc, Outcome::Refused(Refusal::NoConfig)));
+    };
+    if payload.len() != 2 * section.shape.word_count() {
+        return Ok(bare(alloc, Outcome::Refused(Refusal::WrongLength)));
+    }
+    let cell = ColumnCell {
+        column: stream,
+        block: body(section.shape, payload),
+        quality,
+    };
+    let cells = one_cell(alloc, cell)?;
+    answer_in_time(alloc, given, life, stream, instant, cells)
+}
+
+/// This cell alone.
+fn one_cell(alloc: Global, cell: ColumnCell) -> Result<Vec<ColumnCell>, AllocError>
+    ensures { IfOk result (λ cells. map part_view cells.items ≡ part_view cell ∷ []) }
+{
+    let mut cells = Vec::new(alloc);
+    cells.push(cell)?;
+    Ok(cells)
+}
+
+/// A section below the opening count is stale, also where nothing is held.
+fn section_answer(opening: u16, held: Option<SectionView>, section: &SectionView) -> Outcome
+    ensures { result ≡ section_answer opening (option_map fields_of_view held.entry) (fields_of_view section.now) }
+{
+    if section.count < opening {
+        Outcome::Refused(Refusal::StaleCount)
+    } else {
+        section_after(held, section)
+    }
+}
+
+/// A section is stale below the held count, new above it, and at the same count known where it has the same bytes.
+fn section_after(held: Option<SectionView>, section: &SectionView) -> Outcome
+    ensures { result ≡ section_after (option_map fields_of_view held.entry) (fields_of_view section.now) }
+{
+    let Some(held) = held else {
+        return Outcome::Candidate;
+    };
+    if section.count < held.count {
+        Outcome::Refused(Refusal::StaleCount)
+    } else if held.count < section.count {
+        Outcome::Candidate
+    } else if held.bytes == section.bytes {
+        Outcome::Known
+    } else {
+        Outcome::Refused(Refusal::CountConflict)
+    }
+}
