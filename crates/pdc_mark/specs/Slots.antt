@@ -81,6 +81,16 @@ greatest (Some a) (Some b) = if is_below a.stored b.stored then Some b else Some
 abbrev pub mark_of : List ℕ → Option Slot
 mark_of bytes = greatest (open_slot bytes 0) (open_slot bytes SLOT_LEN)
 
+-- the place of the greater, and of equal ones the first
+abbrev pub place_of : Option Slot → Option Slot → Place
+place_of None b = Second
+place_of (Some a) None = First
+place_of (Some a) (Some b) = if is_below a.stored b.stored then Second else First
+
+-- the place that holds the mark
+abbrev pub held_in : List ℕ → Place
+held_in bytes = place_of (open_slot bytes 0) (open_slot bytes SLOT_LEN)
+
 -- the bytes are a mark file, and this is its mark
 pub record HasMark (bytes : List ℕ) (mark : Option Slot) : Type 0 where
   pub size : length bytes ≡ MARK_LEN
@@ -100,4 +110,5 @@ pub record IsHeld (seen : List ℕ) (is_settled : ℕ → Bool) (place : Place) 
   pub settled : AllSettled is_settled
   pub here : is_open seen (offset_of place) ≡ true
   pub mark : mark_of seen ≡ Some (slot_at seen (offset_of place))
+  pub holds : held_in seen ≡ place
   pub other : is_open seen (offset_of (other_of place)) ≡ not is_closed
