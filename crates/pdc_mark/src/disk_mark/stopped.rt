@@ -2,7 +2,7 @@
 ghost use Rattle.std.specs.Prelude.{◌≡◌, ◌<◌, ◌≤◌, true, false, if◌then◌else◌};
 ghost use Rattle.std.proofs.Common.{rules};
 ghost use Rattle.pdc_disk.specs.Disk.{AllSettled};
-ghost use Rattle.pdc_disk.specs.MemoryDisk.{is_settled_at, seen_of};
+ghost use Rattle.pdc_disk.specs.MemoryDisk.{failures_of, is_settled_at, seen_of};
 ghost use Rattle.pdc_mark.specs.Counts.{IsRaise};
 ghost use Rattle.pdc_mark.specs.Slots.{slot_in, HasJust, IsHeld};
 ghost use Rattle.pdc_mark.specs.Stored.{is_below, with_counts, with_floor, with_next_start};
@@ -25,6 +25,7 @@ fn stopped_in_part(disk: &mut MemoryDisk, held: Place, is_closed: bool, next: Sl
     requires { IsHeld (seen_of disk.old) (is_settled_at disk.old) held is_closed }
     ensures file { seen_of result ≡ file_torn (seen_of disk.old) }
     ensures mark { HasJust (slot_in (seen_of disk.old) held) (seen_of result) }
+    ensures failures { failures_of result ≡ 0 }
 {
     make_ready(disk, held, is_closed).unwrap();
     let at = (held.other().offset() + FIELDS_AT) as u64;
@@ -37,10 +38,12 @@ impl DiskMark<MemoryDisk> {
 
     /// The mark as it is opened on this disk, which has it.
     fn opened(disk: MemoryDisk, slot: Slot) -> Self
-        requires { HasJust slot (seen_of disk) }
+        requires mark { HasJust slot (seen_of disk) }
+        requires failures { failures_of disk ≡ 0 }
         ensures mark { mark_on result ≡ slot }
         ensures file { seen_of (disk_of result) ≡ seen_of disk }
         ensures settled { AllSettled (is_settled_at (disk_of result)) }
+        ensures failures { failures_of (disk_of result) ≡ 0 }
     {
         match DiskMark::open(disk, slot.id, slot.rate) {
             Ok(mark) => mark,
@@ -56,6 +59,7 @@ impl DiskMark<MemoryDisk> {
             ≡ (if landed then with_stored (mark_on self.old) next else mark_on self.old) }
         ensures file { seen_of (disk_of self.new) ≡ file_stopped landed (seen_of (disk_of self.old)) (mark_on self.new) }
         ensures settled { AllSettled (is_settled_at (disk_of self.new)) }
+        ensures failures { failures_of (disk_of self.new) ≡ 0 }
     {
         if landed {
             self.put(next).unwrap();
@@ -88,6 +92,7 @@ impl Store for DiskMark<MemoryDisk> {
         ensures mark { mark_on self.new ≡ mark_on self.old }
         ensures file { seen_of (disk_of self.new) ≡ seen_of (disk_of self.old) }
         ensures settled { AllSettled (is_settled_at (disk_of self.new)) }
+        ensures failures { failures_of (disk_of self.new) ≡ 0 }
     {
         let slot = self.slot;
         *self = DiskMark::opened(self.disk.stopped(Landing::Before), slot);
@@ -100,6 +105,7 @@ impl Store for DiskMark<MemoryDisk> {
             ≡ (if landed then with_stored (mark_on self.old) (with_next_start (stored_of self.old)) else mark_on self.old) }
         ensures file { seen_of (disk_of self.new) ≡ file_stopped landed (seen_of (disk_of self.old)) (mark_on self.new) }
         ensures settled { AllSettled (is_settled_at (disk_of self.new)) }
+        ensures failures { failures_of (disk_of self.new) ≡ 0 }
     {
         self.put_stopped(self.slot.stored.with_next_start(), landed);
     }
@@ -111,6 +117,7 @@ impl Store for DiskMark<MemoryDisk> {
             ≡ (if landed then with_stored (mark_on self.old) (with_floor (stored_of self.old) floor) else mark_on self.old) }
         ensures file { seen_of (disk_of self.new) ≡ file_stopped landed (seen_of (disk_of self.old)) (mark_on self.new) }
         ensures settled { AllSettled (is_settled_at (disk_of self.new)) }
+        ensures failures { failures_of (disk_of self.new) ≡ 0 }
     {
         self.put_stopped(self.slot.stored.with_floor(floor), landed);
     }
@@ -122,6 +129,7 @@ impl Store for DiskMark<MemoryDisk> {
             ≡ (if landed then with_stored (mark_on self.old) (with_counts (stored_of self.old) counts.now) else mark_on self.old) }
         ensures file { seen_of (disk_of self.new) ≡ file_stopped landed (seen_of (disk_of self.old)) (mark_on self.new) }
         ensures settled { AllSettled (is_settled_at (disk_of self.new)) }
+        ensures failures { failures_of (disk_of self.new) ≡ 0 }
     {
         self.put_stopped(self.slot.stored.with_counts(*counts), landed);
     }

@@ -9,6 +9,7 @@ use pdc_disk::{Disk, DiskFault, FileDisk};
 use pdc_mark::{DiskMark, Mark, MarkFault};
 use std::fs::{self, File, OpenOptions};
 use std::io::ErrorKind;
+use std::os::fd::AsRawFd;
 use std::os::unix::fs::MetadataExt;
 use std::process::Abort;
 use std::rt::Files;
@@ -134,6 +135,43 @@ fn files_that_cannot_be_opened(rt: HostRuntime) {
     is!(&rt; not_made(&rt, "/proc/pdc_disk_test").is_some(), true);
     is!(&rt; not_opened(&rt, "/tmp").is_some(), true);
     is!(&rt; not_opened(&rt, "/dev/null").is_some(), true);
+}
+
+/// A disk whose file gave its descriptor to this device: a disk can't be opened on one that refuses to sync.
+fn disk_on(
+    rt: &(impl Abort + Alloc + Files<File = File>),
+    name: &str,
+    device: &str,
+) -> (FileDisk, File) {
+    fs::write(rt, name, HELD).expect(rt, "a file");
+    // Whatever is opened next gets the lowest descriptor that is free.
+    let lowest = File::open(rt, name).expect(rt, "a file").as_raw_fd();
+    let disk = disk(rt, name);
+    libc::close(lowest);
+    let file = OpenOptions::new().read(true).write(true).open(rt, device);
+    let file = file.expect(rt, "a device");
+    is!(rt; file.as_raw_fd(), lowest);
+    (disk, file)
+}
+
+/// The system refuses to sync one device, and a write to the other, which is always full: `sync` and `write_at` ask it.
+fn refused_by_the_device(rt: &(impl Abort + Alloc + Files<File = File>), name: &str) {
+    let (mut unsynced, _null) = disk_on(rt, name, "/dev/null");
+    is!(rt; unsynced.write_at(0, &[9, 9]), Ok(()));
+    is!(rt; unsynced.sync(), Err(DiskFault));
+    let (mut full, _full) = disk_on(rt, name, "/dev/full");
+    is!(rt; full.write_at(0, &[9, 9]), Err(DiskFault));
+    is!(rt; full.failures(), 1);
+    holds(rt, name, &HELD);
+}
+
+#[test]
+fn a_device_that_refuses(rt: HostRuntime) -> Result<(), Fail> {
+    let folder = folder(&rt, "device")?;
+    let path = folder.join(rt.alloc(), "disk")?;
+    refused_by_the_device(&rt, path.as_str());
+    fs::remove_dir_all(&rt, &folder)?;
+    Ok(())
 }
 
 /// A read-only folder binds everyone but root.

@@ -6,8 +6,8 @@ use Rattle.pdc_mark.specs.Slots.{HasJust}
 use Rattle.pdc_mark.specs.Stores.{file_after, file_stopped}
 use Rattle.pdc_mark.proofs.disk_mark.stopped.DiskMark+MemoryDisk.put_stopped.Goals as goal
 
-pub opened-opened-requires : goal.opened-opened-requires
-opened-opened-requires c =
+pub opened-opened-requires-clause-mark : goal.opened-opened-requires-clause-mark
+opened-opened-requires-clause-mark c =
     let mark = c.args.self.now in
     let whole : mark.is_broken ≡ false = mark.whole (search rules) in
     subst (λ (slot : Slot). HasJust slot (seen_of c.stopped_in_part-disk.result)) (mark.told whole) c.stopped_in_part-disk.ensures.mark
