@@ -10,7 +10,6 @@ use pdc_mark::{DiskMark, Mark, MarkFault};
 use std::fs::{self, File, OpenOptions};
 use std::io::ErrorKind;
 use std::os::fd::AsRawFd;
-use std::os::unix::fs::MetadataExt;
 use std::process::Abort;
 use std::rt::Files;
 use std::test::Fail;
@@ -73,15 +72,6 @@ fn written_again(rt: &(impl Abort + Alloc + Files<File = File>), name: &str) {
     is!(rt; read(&mut disk(rt, name), 1, 4), Ok([2, 3, 5, 6]));
 }
 
-#[test]
-fn a_file_is_written_and_opened_again(rt: HostRuntime) -> Result<(), Fail> {
-    let folder = folder(&rt, "again")?;
-    let path = folder.join(rt.alloc(), "disk")?;
-    written_again(&rt, path.as_str());
-    fs::remove_dir_all(&rt, &folder)?;
-    Ok(())
-}
-
 /// Whoever else writes to the file is found out at the next call that can tell, and each call fails from then on.
 fn cut_short(rt: &(impl Abort + Alloc + Files<File = File>), name: &str) {
     let mut disk = file_of(rt, name, &HELD);
@@ -101,40 +91,11 @@ fn changed(rt: &(impl Abort + Alloc + Files<File = File>), name: &str) {
     holds(rt, name, &[1, 2, 3, 5]);
 }
 
-#[test]
-fn a_file_that_others_change_is_lost(rt: HostRuntime) -> Result<(), Fail> {
-    let folder = folder(&rt, "lost")?;
-    let path = folder.join(rt.alloc(), "disk")?;
-    cut_short(&rt, path.as_str());
-    changed(&rt, path.as_str());
-    fs::remove_dir_all(&rt, &folder)?;
-    Ok(())
-}
-
 fn longer(rt: &(impl Abort + Alloc + Files<File = File>), name: &str) {
     let mut disk = file_of(rt, name, &[6; 300]);
     is!(rt; disk.len(), Ok(300));
     is!(rt; read(&mut disk, 255, 1), Ok([6, 0, 0, 0]));
     is!(rt; read(&mut disk, 256, 1), Err(DiskFault));
-}
-
-#[test]
-fn a_longer_file_tells_its_length(rt: HostRuntime) -> Result<(), Fail> {
-    let folder = folder(&rt, "longer")?;
-    let path = folder.join(rt.alloc(), "disk")?;
-    longer(&rt, path.as_str());
-    fs::remove_dir_all(&rt, &folder)?;
-    Ok(())
-}
-
-/// A device that can't be synced isn't opened: `open` calls the system's sync.
-#[test]
-fn files_that_cannot_be_opened(rt: HostRuntime) {
-    is!(&rt; not_opened(&rt, "/no/such/disk"), Some(ErrorKind::NotFound));
-    is!(&rt; not_made(&rt, "/no/such/disk"), Some(ErrorKind::NotFound));
-    is!(&rt; not_made(&rt, "/proc/pdc_disk_test").is_some(), true);
-    is!(&rt; not_opened(&rt, "/tmp").is_some(), true);
-    is!(&rt; not_opened(&rt, "/dev/null").is_some(), true);
 }
 
 /// A disk whose file gave its descriptor to this device: a disk can't be opened on one that refuses to sync.
@@ -166,27 +127,26 @@ fn refused_by_the_device(rt: &(impl Abort + Alloc + Files<File = File>), name: &
 }
 
 #[test]
-fn a_device_that_refuses(rt: HostRuntime) -> Result<(), Fail> {
-    let folder = folder(&rt, "device")?;
+fn disks_in_real_files(rt: HostRuntime) -> Result<(), Fail> {
+    let folder = folder(&rt, "disk")?;
     let path = folder.join(rt.alloc(), "disk")?;
+    written_again(&rt, path.as_str());
+    cut_short(&rt, path.as_str());
+    changed(&rt, path.as_str());
+    longer(&rt, path.as_str());
     refused_by_the_device(&rt, path.as_str());
     fs::remove_dir_all(&rt, &folder)?;
     Ok(())
 }
 
-/// A read-only folder binds everyone but root.
+/// A device that can't be synced isn't opened: `open` calls the system's sync.
 #[test]
-fn a_folder_that_takes_no_file(rt: HostRuntime) -> Result<(), Fail> {
-    let folder = folder(&rt, "read_only")?;
-    let path = folder.join(rt.alloc(), "disk")?;
-    let mut permissions = fs::metadata(&rt, &folder)?.permissions();
-    permissions.set_readonly(true);
-    fs::set_permissions(&rt, &folder, permissions)?;
-    if fs::metadata(&rt, &folder)?.uid() != 0 {
-        is!(&rt; not_made(&rt, path.as_str()), Some(ErrorKind::PermissionDenied));
-    }
-    fs::remove_dir_all(&rt, &folder)?;
-    Ok(())
+fn files_that_cannot_be_opened(rt: HostRuntime) {
+    is!(&rt; not_opened(&rt, "/no/such/disk"), Some(ErrorKind::NotFound));
+    is!(&rt; not_made(&rt, "/no/such/disk"), Some(ErrorKind::NotFound));
+    is!(&rt; not_made(&rt, "/proc/pdc_disk_test").is_some(), true);
+    is!(&rt; not_opened(&rt, "/tmp").is_some(), true);
+    is!(&rt; not_opened(&rt, "/dev/null").is_some(), true);
 }
 
 fn life_in_a_file(rt: &(impl Abort + Alloc + Files<File = File>), name: &str) {
@@ -209,19 +169,6 @@ fn refused_length(
     is!(rt; (len, refusal(disk(rt, name), ID, RATE)), (len, Some(fault)));
 }
 
-#[test]
-fn a_mark_in_a_real_file(rt: HostRuntime) -> Result<(), Fail> {
-    let folder = folder(&rt, "mark")?;
-    let path = folder.join(rt.alloc(), "mark")?;
-    life_in_a_file(&rt, path.as_str());
-    refused_length(&rt, path.as_str(), 257, MarkFault::NoMark);
-    refused_length(&rt, path.as_str(), 255, MarkFault::NoMark);
-    refused_length(&rt, path.as_str(), 129, MarkFault::NoMark);
-    refused_length(&rt, path.as_str(), 128, MarkFault::OldMark);
-    fs::remove_dir_all(&rt, &folder)?;
-    Ok(())
-}
-
 fn converted(rt: &(impl Abort + Alloc + Files<File = File>), old: &str, new: &str) {
     let mut made = FileDisk::create(rt, new).expect(rt, "a new file");
     let answer = DiskMark::convert(&mut file_of(rt, old, &old_file()), &mut made);
@@ -231,11 +178,16 @@ fn converted(rt: &(impl Abort + Alloc + Files<File = File>), old: &str, new: &st
 }
 
 #[test]
-fn a_real_file_is_converted(rt: HostRuntime) -> Result<(), Fail> {
-    let folder = folder(&rt, "convert")?;
-    let old = folder.join(rt.alloc(), "old")?;
+fn marks_in_real_files(rt: HostRuntime) -> Result<(), Fail> {
+    let folder = folder(&rt, "mark")?;
+    let path = folder.join(rt.alloc(), "mark")?;
+    life_in_a_file(&rt, path.as_str());
+    refused_length(&rt, path.as_str(), 257, MarkFault::NoMark);
+    refused_length(&rt, path.as_str(), 255, MarkFault::NoMark);
+    refused_length(&rt, path.as_str(), 129, MarkFault::NoMark);
+    refused_length(&rt, path.as_str(), 128, MarkFault::OldMark);
     let new = folder.join(rt.alloc(), "new")?;
-    converted(&rt, old.as_str(), new.as_str());
+    converted(&rt, path.as_str(), new.as_str());
     fs::remove_dir_all(&rt, &folder)?;
     Ok(())
 }
