@@ -1,9 +1,9 @@
 -- The bytes that the writes of a store make together.
-use Rattle.std.proofs.Common.{◌≡◌, ◌⊎◌, inl, inr, ℕ, ◌+◌, ◌<◌, ◌≤◌, Bool, IsTrue, true, false, cond, List, [], ◌∷◌, ◌++◌, length, take, drop, slice_index, replicate, refl, sym, ap, ◌∙◌, arith, rules}
+use Rattle.std.proofs.Common.{◌≡◌, ◌⊎◌, inl, inr, ℕ, ◌+◌, ◌<◌, ◌≤◌, Bool, IsTrue, true, false, cond, List, [], ◌∷◌, length, slice_index, replicate, refl, sym, ap, ◌∙◌, arith, rules}
 use Rattle.std.proofs.lemmas.Bool.{cases_lt}
 use Rattle.std.proofs.lemmas.List.{ext_get_or, length-append, length-drop, length-replicate, length-take-le, places, same_lists}
 use Rattle.pdc_disk.specs.Disk.{written}
-use Rattle.pdc_mark.specs.declared.layout.TheConstants.{CLOSED, FIELDS_AT, FIELDS_END, MARK_LEN, OPEN}
+use Rattle.pdc_mark.specs.declared.layout.TheConstants.{CLOSED, FIELDS_AT, MARK_LEN, OPEN}
 use Rattle.pdc_mark.specs.declared.slot.Place.{Place}
 use Rattle.pdc_mark.specs.declared.slot.Slot.{Slot}
 use Rattle.pdc_mark.specs.Slots.{fields_of, held_in, is_open, offset_of, other_of}

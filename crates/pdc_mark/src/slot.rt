@@ -16,7 +16,7 @@ pub(crate) struct Slot {
 }
 
 /// Which of the two slots.
-#[derive(Clone, Copy, Debug, PartialEq, Eq)]
+#[derive(Clone, Copy)]
 pub(crate) enum Place {
     First,
     Second,

@@ -1,5 +1,5 @@
 //! A mark on a disk in memory, into whose stores a stop may fall.
-ghost use Rattle.std.specs.Prelude.{◌≡◌, ◌<◌, ◌≤◌, true, false, if◌then◌else◌};
+ghost use Rattle.std.specs.Prelude.{◌≡◌, ◌<◌, true, false, if◌then◌else◌};
 ghost use Rattle.std.proofs.Common.{rules};
 ghost use Rattle.pdc_disk.specs.Disk.{AllSettled};
 ghost use Rattle.pdc_disk.specs.MemoryDisk.{failures_of, is_settled_at, seen_of};

@@ -1,4 +1,4 @@
-use Rattle.std.proofs.Common.{inl, ◌≡◌, ℕ, List, Some, subst, ◌∙◌}
+use Rattle.std.proofs.Common.{inl, Some, subst, ◌∙◌}
 use Rattle.std.proofs.lemmas.Result.{on_ok_weaker}
 use Rattle.pdc_mark.specs.declared.slot.Slot.{Slot}
 use Rattle.pdc_mark.specs.Slots.{offset_of, other_of, slot_at, HasEither, HasMark}
