@@ -2,7 +2,7 @@
 use Rattle.std.specs.Prelude.{◌≡◌, ◌⊎◌, ℕ, ◌+◌, ◌-◌, ◌<◌, ◌^◌, ◌==◌, if◌then◌else◌, Bool, true, not, List, ◌∷◌, ◌++◌, length, replicate, slice_index, slice_range, Option, Some, None}
 use Rattle.std.specs.Int.{w16, w32, w64, from_be_bytes, to_be_bytes}
 use Rattle.pdc_disk.specs.Disk.{AllSettled}
-use Rattle.pdc_mark.specs.declared.layout.TheConstants.{MARK_LEN, COUNTS, SLOT_LEN, FIELDS_AT, COUNTS_AT, FIELDS_LEN, FIELDS_END, REST_LEN, OPEN}
+use Rattle.pdc_mark.specs.declared.layout.TheConstants.{MARK_LEN, COUNTS, SLOT_LEN, FIELDS_AT, RATE_AT, START_AT, FLOOR_AT, COUNTS_AT, FIELDS_LEN, FIELDS_END, REST_LEN, OPEN}
 use Rattle.pdc_mark.specs.declared.slot.Slot.{Slot}
 use Rattle.pdc_mark.specs.declared.slot.Place.{Place}
 use Rattle.pdc_mark.specs.declared.slot.Place.TheVariants.{First, Second}
@@ -43,11 +43,11 @@ slot_bytes gate slot = gate ∷ replicate (FIELDS_AT - 1) 0 ++ fields_of slot ++
 -- what the bytes before the counts say, beside these counts
 abbrev pub slot_with : List ℕ → List ℕ → Slot
 slot_with counts numbers = record {
-  id = from_be_bytes w16 (slice_range numbers 0 2);
-  rate = from_be_bytes w16 (slice_range numbers 2 4);
+  id = from_be_bytes w16 (slice_range numbers 0 RATE_AT);
+  rate = from_be_bytes w16 (slice_range numbers RATE_AT START_AT);
   stored = record {
-    start = from_be_bytes w32 (slice_range numbers 4 8);
-    floor = from_be_bytes w64 (slice_range numbers 8 COUNTS_AT);
+    start = from_be_bytes w32 (slice_range numbers START_AT FLOOR_AT);
+    floor = from_be_bytes w64 (slice_range numbers FLOOR_AT COUNTS_AT);
     counts = counts;
   };
 }
