@@ -13,6 +13,3 @@ mod show;
 
 pub use command::parse;
 pub use request::{MAX_ID, MAX_RATE, MarkConvert, MarkInit, Request};
-
-#[cfg(test)]
-mod tests;

@@ -8,7 +8,7 @@ use Rattle.pdc_mark.specs.declared.slot.Place.TheVariants.{First}
 use Rattle.pdc_mark.specs.Counts.{count_bytes}
 use Rattle.pdc_mark.specs.Slots.{is_open, slot_at, slot_bytes, FitsWidths, HasJust, IsHeld}
 use Rattle.pdc_mark.proofs.Fields.{slot_of-fields_of}
-use Rattle.pdc_mark.proofs.Marks.{mark_alone}
+use Rattle.pdc_mark.proofs.Marks.{held_alone, mark_alone}
 
 -- a mark whose counts are 0
 abbrev pub fresh : ℕ → ℕ → ℕ → ℕ → Slot
@@ -36,6 +36,7 @@ module _ (id rate start floor : ℕ) (fits : FitsWidths (fresh id rate start flo
     settled = all;
     here = refl;
     mark = mark_alone made First refl other_made;
+    holds = held_alone made First refl other_made;
     other = other_made;
   }
 

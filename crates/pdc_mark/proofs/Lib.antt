@@ -5,3 +5,4 @@ mod Images
 mod Marks
 mod Runs
 mod Steps
+mod Writes

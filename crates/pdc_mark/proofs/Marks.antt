@@ -7,7 +7,7 @@ use Rattle.pdc_mark.specs.declared.slot.Slot.{Slot}
 use Rattle.pdc_mark.specs.declared.stored.Stored.{Stored}
 use Rattle.pdc_mark.specs.declared.slot.Place.{Place}
 use Rattle.pdc_mark.specs.declared.slot.Place.TheVariants.{First, Second}
-use Rattle.pdc_mark.specs.Slots.{offset_of, other_of, slot_at, is_open, greatest, mark_of, HasJust, IsHeld}
+use Rattle.pdc_mark.specs.Slots.{offset_of, other_of, slot_at, is_open, greatest, held_in, mark_of, place_of, HasJust, IsHeld}
 use Rattle.pdc_mark.specs.Counts.{are_below}
 use Rattle.pdc_mark.specs.Stored.{is_below}
 use Rattle.pdc_mark.proofs.Images.{settled_image}
@@ -46,6 +46,21 @@ unfolding pick
 mark_alone bytes First here there = by_gates bytes true false _ _ here there refl refl
 mark_alone bytes Second here there = by_gates bytes false true _ _ there here refl refl
 
+-- the place of the mark, by the same
+pick_place : Bool → Bool → Slot → Slot → Place
+pick_place x y a b = place_of (cond x (Some a) None) (cond y (Some b) None)
+
+place_by_gates : (bytes : List ℕ) (x y : Bool) → is_open bytes 0 ≡ x → is_open bytes SLOT_LEN ≡ y → held_in bytes ≡ pick_place x y (slot_at bytes 0) (slot_at bytes SLOT_LEN)
+unfolding pick_place
+place_by_gates bytes x y first second =
+    ap (λ (g : Bool). pick_place g (is_open bytes SLOT_LEN) (slot_at bytes 0) (slot_at bytes SLOT_LEN)) first
+    ∙ ap (λ (g : Bool). pick_place x g (slot_at bytes 0) (slot_at bytes SLOT_LEN)) second
+
+pub held_alone : (bytes : List ℕ) (place : Place) → is_open bytes (offset_of place) ≡ true → is_open bytes (offset_of (other_of place)) ≡ false → held_in bytes ≡ place
+unfolding pick_place
+held_alone bytes First here there = place_by_gates bytes true false here there
+held_alone bytes Second here there = place_by_gates bytes false true there here
+
 is_below_asym : (a b : Stored) → is_below a b ≡ true → is_below b a ≡ false
 is_below_asym a b below = let back : are_below a.counts b.counts ≡ true → are_below b.counts a.counts ≡ false = are_below_asym a.counts b.counts in grind (arith, nat_tests)
 
@@ -58,6 +73,13 @@ mark_above bytes First here there below =
     by_gates bytes true true _ _ here there refl refl ∙ ap (λ (b : Bool). cond b (Some (slot_at bytes SLOT_LEN)) (Some (slot_at bytes 0))) below
 mark_above bytes Second here there below =
     by_gates bytes true true _ _ there here refl refl ∙ ap (λ (b : Bool). cond b (Some (slot_at bytes SLOT_LEN)) (Some (slot_at bytes 0))) (is_below_asym (slot_at bytes SLOT_LEN).stored (slot_at bytes 0).stored below)
+
+pub held_above : (bytes : List ℕ) (place : Place) → is_open bytes (offset_of place) ≡ true → is_open bytes (offset_of (other_of place)) ≡ true
+    → is_below (slot_at bytes (offset_of place)).stored (slot_at bytes (offset_of (other_of place))).stored ≡ true → held_in bytes ≡ other_of place
+unfolding pick_place
+held_above bytes First here there below = place_by_gates bytes true true here there ∙ ap (λ (b : Bool). cond b Second First) below
+held_above bytes Second here there below =
+    place_by_gates bytes true true there here ∙ ap (λ (b : Bool). cond b Second First) (is_below_asym (slot_at bytes SLOT_LEN).stored (slot_at bytes 0).stored below)
 
 -- the same gates before the same fields
 pub mark_same : (old new : List ℕ) (place : Place) → is_open new (offset_of place) ≡ is_open old (offset_of place) → is_open new (offset_of (other_of place)) ≡ is_open old (offset_of (other_of place))

@@ -7,7 +7,7 @@ use Rattle.pdc_mark.specs.declared.slot.Place.{Place}
 use Rattle.pdc_mark.specs.Slots.{offset_of, other_of, slot_of, slot_at, is_open, mark_of, HasMark, HasEither, IsHeld}
 use Rattle.pdc_mark.specs.Stored.{is_below}
 use Rattle.pdc_mark.proofs.Images.{length-torn, slice_range-torn, slice_index-written, slice_range-written}
-use Rattle.pdc_mark.proofs.Marks.{apart, inside, other_of-other_of, mark_alone, mark_above, mark_same}
+use Rattle.pdc_mark.proofs.Marks.{apart, held_above, held_alone, inside, other_of-other_of, mark_alone, mark_above, mark_same}
 
 -- n bytes were torn, and neither the gate nor the fields of this slot lie in their range
 beside : (old new : List ℕ) (at n : ℕ) (place : Place) → IsTorn old at n new → length old ≡ MARK_LEN → at + n < MARK_LEN → (offset_of place + FIELDS_END ≤ at) ⊎ (at + n ≤ offset_of place)
@@ -88,6 +88,7 @@ module _ (old : List ℕ) (was_settled : ℕ → Bool) (place : Place) (held : I
         settled = all;
         here = here_open old was_settled place false held (offset_of (other_of place)) 1 (omega arith) (omega arith) new torn;
         mark = alone.holds ∙ ap Some (sym same);
+        holds = held_alone new place (here_open old was_settled place false held (offset_of (other_of place)) 1 (omega arith) (omega arith) new torn) closed;
         other = closed;
       }
 
@@ -110,6 +111,7 @@ module _ (old : List ℕ) (was_settled : ℕ → Bool) (place : Place) (held : I
         settled = all;
         here = here_open old was_settled place true held (offset_of (other_of place) + FIELDS_AT) FIELDS_LEN (omega arith) (omega arith) new torn;
         mark = alone.holds ∙ ap Some (sym (fields_here new torn));
+        holds = held_alone new place (here_open old was_settled place true held (offset_of (other_of place) + FIELDS_AT) FIELDS_LEN (omega arith) (omega arith) new torn) (still_closed new torn);
         other = still_closed new torn;
       }
 
@@ -128,12 +130,14 @@ module _ (old : List ℕ) (was_settled : ℕ → Bool) (place : Place) (held : I
   pub opening_there : (new : List ℕ) → IsTorn old (offset_of (other_of place)) 1 new → slot_at new (offset_of (other_of place)) ≡ slot_at old (offset_of (other_of place))
   opening_there new torn = there_same old was_settled place true held new torn
 
+  still_below : (new : List ℕ) → IsTorn old (offset_of (other_of place)) 1 new → is_below (slot_at new (offset_of place)).stored (slot_at new (offset_of (other_of place))).stored ≡ true
+  still_below new torn =
+      let same = here_same old was_settled place true held (offset_of (other_of place)) 1 (omega arith) (omega arith) new torn in
+      ap (λ (a : Slot). is_below a.stored (slot_at new (offset_of (other_of place))).stored) same ∙ ap (λ (b : Slot). is_below (slot_at old (offset_of place)).stored b.stored) (opening_there new torn) ∙ below
+
   both_open : (new : List ℕ) → IsTorn old (offset_of (other_of place)) 1 new → is_open new (offset_of (other_of place)) ≡ true → mark_of new ≡ Some (slot_at new (offset_of (other_of place)))
   both_open new torn stands =
-      let same = here_same old was_settled place true held (offset_of (other_of place)) 1 (omega arith) (omega arith) new torn in
-      let above : is_below (slot_at new (offset_of place)).stored (slot_at new (offset_of (other_of place))).stored ≡ true =
-      ap (λ (a : Slot). is_below a.stored (slot_at new (offset_of (other_of place))).stored) same ∙ ap (λ (b : Slot). is_below (slot_at old (offset_of place)).stored b.stored) (opening_there new torn) ∙ below in
-      mark_above new place (here_open old was_settled place true held (offset_of (other_of place)) 1 (omega arith) (omega arith) new torn) stands above
+      mark_above new place (here_open old was_settled place true held (offset_of (other_of place)) 1 (omega arith) (omega arith) new torn) stands (still_below new torn)
 
   pub opening_torn : (new : List ℕ) → IsTorn old (offset_of (other_of place)) 1 new → HasEither (slot_at old (offset_of place)) (slot_at old (offset_of (other_of place))) new
   opening_torn new torn = at_gate (is_open new (offset_of (other_of place))) refl
@@ -157,5 +161,6 @@ module _ (old : List ℕ) (was_settled : ℕ → Bool) (place : Place) (held : I
         settled = all;
         here = stands;
         mark = both_open new torn stands;
+        holds = held_above new place first stands (still_below new torn);
         other = ap (λ (p : Place). is_open new (offset_of p)) (other_of-other_of place) ∙ first;
       }

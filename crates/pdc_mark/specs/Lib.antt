@@ -7,4 +7,5 @@ pub mod ModelMark
 pub mod OldMark
 pub mod Slots
 pub mod Stored
+pub mod Stores
 pub mod VersionOne

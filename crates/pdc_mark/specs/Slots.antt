@@ -2,7 +2,7 @@
 use Rattle.std.specs.Prelude.{◌≡◌, ◌⊎◌, ℕ, ◌+◌, ◌-◌, ◌<◌, ◌^◌, ◌==◌, if◌then◌else◌, Bool, true, not, List, ◌∷◌, ◌++◌, length, replicate, slice_index, slice_range, Option, Some, None}
 use Rattle.std.specs.Int.{w16, w32, w64, from_be_bytes, to_be_bytes}
 use Rattle.pdc_disk.specs.Disk.{AllSettled}
-use Rattle.pdc_mark.specs.declared.layout.TheConstants.{MARK_LEN, COUNTS, SLOT_LEN, FIELDS_AT, COUNTS_AT, FIELDS_LEN, FIELDS_END, REST_LEN, OPEN}
+use Rattle.pdc_mark.specs.declared.layout.TheConstants.{MARK_LEN, COUNTS, SLOT_LEN, FIELDS_AT, RATE_AT, START_AT, FLOOR_AT, COUNTS_AT, FIELDS_LEN, FIELDS_END, REST_LEN, OPEN}
 use Rattle.pdc_mark.specs.declared.slot.Slot.{Slot}
 use Rattle.pdc_mark.specs.declared.slot.Place.{Place}
 use Rattle.pdc_mark.specs.declared.slot.Place.TheVariants.{First, Second}
@@ -43,11 +43,11 @@ slot_bytes gate slot = gate ∷ replicate (FIELDS_AT - 1) 0 ++ fields_of slot ++
 -- what the bytes before the counts say, beside these counts
 abbrev pub slot_with : List ℕ → List ℕ → Slot
 slot_with counts numbers = record {
-  id = from_be_bytes w16 (slice_range numbers 0 2);
-  rate = from_be_bytes w16 (slice_range numbers 2 4);
+  id = from_be_bytes w16 (slice_range numbers 0 RATE_AT);
+  rate = from_be_bytes w16 (slice_range numbers RATE_AT START_AT);
   stored = record {
-    start = from_be_bytes w32 (slice_range numbers 4 8);
-    floor = from_be_bytes w64 (slice_range numbers 8 COUNTS_AT);
+    start = from_be_bytes w32 (slice_range numbers START_AT FLOOR_AT);
+    floor = from_be_bytes w64 (slice_range numbers FLOOR_AT COUNTS_AT);
     counts = counts;
   };
 }
@@ -81,6 +81,16 @@ greatest (Some a) (Some b) = if is_below a.stored b.stored then Some b else Some
 abbrev pub mark_of : List ℕ → Option Slot
 mark_of bytes = greatest (open_slot bytes 0) (open_slot bytes SLOT_LEN)
 
+-- the place of the greater, and of equal ones the first
+abbrev pub place_of : Option Slot → Option Slot → Place
+place_of None b = Second
+place_of (Some a) None = First
+place_of (Some a) (Some b) = if is_below a.stored b.stored then Second else First
+
+-- the place that holds the mark
+abbrev pub held_in : List ℕ → Place
+held_in bytes = place_of (open_slot bytes 0) (open_slot bytes SLOT_LEN)
+
 -- the bytes are a mark file, and this is its mark
 pub record HasMark (bytes : List ℕ) (mark : Option Slot) : Type 0 where
   pub size : length bytes ≡ MARK_LEN
@@ -100,4 +110,5 @@ pub record IsHeld (seen : List ℕ) (is_settled : ℕ → Bool) (place : Place) 
   pub settled : AllSettled is_settled
   pub here : is_open seen (offset_of place) ≡ true
   pub mark : mark_of seen ≡ Some (slot_at seen (offset_of place))
+  pub holds : held_in seen ≡ place
   pub other : is_open seen (offset_of (other_of place)) ≡ not is_closed

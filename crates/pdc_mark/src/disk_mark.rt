@@ -7,6 +7,7 @@ ghost use Rattle.pdc_mark.specs.Found.{IsFound};
 ghost use Rattle.pdc_mark.specs.Slots.{slot_in, HasEither, HasJust, IsHeld};
 ghost use Rattle.pdc_mark.specs.Counts.{IsRaise};
 ghost use Rattle.pdc_mark.specs.Stored.{is_below, with_counts, with_floor, with_next_start};
+ghost use Rattle.pdc_mark.specs.Stores.{file_after};
 
 mod stopped;
 
@@ -160,6 +161,7 @@ impl<D: Disk> DiskMark<D> {
         requires { is_below (stored_of self.old) next ≡ true }
         ensures ok { OnOk result (mark_on self.new ≡ with_stored (mark_on self.old) next) }
         ensures err { OnErr result (mark_on self.new ≡ mark_on self.old) }
+        ensures file { OnOk result (D.seen (disk_of self.new) ≡ file_after (D.seen (disk_of self.old)) (mark_on self.new)) }
         ensures faults { OnErr result (IsErrOf result MarkFault.Device) }
         ensures cause { HasCauseOnDisk self.old self.new result }
         ensures safe { MARK_LEN ≤ D.safe → IsErrOf result MarkFault.Device → ⊥ }
@@ -225,6 +227,9 @@ impl<D: Disk> Mark for DiskMark<D> {
         ensures mark { OnOk result (mark_on self.new ≡ with_stored (mark_on self.old) (with_next_start (stored_of self.old))) }
         ensures mark_err { OnErr result (mark_on self.new ≡ mark_on self.old) }
 
+        // After `Ok` its fields stand in the slot that didn't hold the old one, behind an open gate.
+        ensures file { OnOk result (D.seen (disk_of self.new) ≡ file_after (D.seen (disk_of self.old)) (mark_on self.new)) }
+
         // What a stop leaves has the old mark or the new one, and after `Ok` the new one.
         ensures images { is_broken_of self.old ≡ false → StopLeaves self.new
             (HasEither (mark_on self.old) (with_stored (mark_on self.old) (with_next_start (stored_of self.old)))) }
@@ -257,6 +262,9 @@ impl<D: Disk> Mark for DiskMark<D> {
         ensures mark { OnOk result (mark_on self.new ≡ with_stored (mark_on self.old) (with_floor (stored_of self.old) floor)) }
         ensures mark_err { OnErr result (mark_on self.new ≡ mark_on self.old) }
 
+        // After `Ok` its fields stand in the slot that didn't hold the old one, behind an open gate.
+        ensures file { OnOk result (D.seen (disk_of self.new) ≡ file_after (D.seen (disk_of self.old)) (mark_on self.new)) }
+
         // What a stop leaves has the old mark or the new one, and after `Ok` the new one.
         ensures images { is_broken_of self.old ≡ false → StopLeaves self.new
             (HasEither (mark_on self.old) (with_stored (mark_on self.old) (with_floor (stored_of self.old) floor))) }
@@ -279,6 +287,9 @@ impl<D: Disk> Mark for DiskMark<D> {
         // The mark has the same owner.
         ensures mark { OnOk result (mark_on self.new ≡ with_stored (mark_on self.old) (with_counts (stored_of self.old) counts.now)) }
         ensures mark_err { OnErr result (mark_on self.new ≡ mark_on self.old) }
+
+        // After `Ok` its fields stand in the slot that didn't hold the old one, behind an open gate.
+        ensures file { OnOk result (D.seen (disk_of self.new) ≡ file_after (D.seen (disk_of self.old)) (mark_on self.new)) }
 
         // What a stop leaves has the old mark or the new one, and after `Ok` the new one.
         ensures images { is_broken_of self.old ≡ false → StopLeaves self.new

@@ -18,6 +18,15 @@ pub(crate) const SLOT_LEN: usize = 128;
 /// Where the fields begin in their slot.
 pub(crate) const FIELDS_AT: usize = 8;
 
+/// Where the data rate stands in the fields, behind the id.
+pub(crate) const RATE_AT: usize = 2;
+
+/// Where the start number stands in the fields.
+pub(crate) const START_AT: usize = 4;
+
+/// Where the floor stands in the fields.
+pub(crate) const FLOOR_AT: usize = 8;
+
 /// Where the counts begin in the fields.
 pub(crate) const COUNTS_AT: usize = 16;
 

@@ -3,7 +3,10 @@ ghost use Rattle.std.specs.Prelude.{◌≡◌, ℕ, ◌+◌, ◌^◌, ◌<◌, �
 ghost use Rattle.pdc_mark.specs.Counts.{count_bytes, counts_of};
 ghost use Rattle.pdc_mark.specs.declared.layout.TheConstants.{COUNTS, COUNTS_AT, COUNTS_LEN, FIELDS_LEN, SLOT_LEN};
 
-use crate::layout::{COUNTS, COUNTS_AT, COUNTS_LEN, FIELDS_AT, FIELDS_END, FIELDS_LEN, SLOT_LEN};
+use crate::layout::{
+    COUNTS, COUNTS_AT, COUNTS_LEN, FIELDS_AT, FIELDS_END, FIELDS_LEN, FLOOR_AT, RATE_AT, SLOT_LEN,
+    START_AT,
+};
 use crate::stored::Stored;
 use byteorder::{BigEndian, ByteOrder};
 
@@ -16,7 +19,7 @@ pub(crate) struct Slot {
 }
 
 /// Which of the two slots.
-#[derive(Clone, Copy, Debug, PartialEq, Eq)]
+#[derive(Clone, Copy)]
 pub(crate) enum Place {
     First,
     Second,
@@ -76,9 +79,9 @@ impl Slot {
     {
         let mut numbers = [0; COUNTS_AT];
         BigEndian::write_u16(&mut numbers, self.id);
-        BigEndian::write_u16(&mut numbers[2..], self.rate);
-        BigEndian::write_u32(&mut numbers[4..], self.stored.start);
-        BigEndian::write_u64(&mut numbers[8..], self.stored.floor);
+        BigEndian::write_u16(&mut numbers[RATE_AT..], self.rate);
+        BigEndian::write_u32(&mut numbers[START_AT..], self.stored.start);
+        BigEndian::write_u64(&mut numbers[FLOOR_AT..], self.stored.floor);
         numbers
     }
 
@@ -113,18 +116,23 @@ impl Slot {
     {
         Slot {
             id: u16::from_be_bytes([numbers[0], numbers[1]]),
-            rate: u16::from_be_bytes([numbers[2], numbers[3]]),
+            rate: u16::from_be_bytes([numbers[RATE_AT], numbers[RATE_AT + 1]]),
             stored: Stored {
-                start: u32::from_be_bytes([numbers[4], numbers[5], numbers[6], numbers[7]]),
+                start: u32::from_be_bytes([
+                    numbers[START_AT],
+                    numbers[START_AT + 1],
+                    numbers[START_AT + 2],
+                    numbers[START_AT + 3],
+                ]),
                 floor: u64::from_be_bytes([
-                    numbers[8],
-                    numbers[9],
-                    numbers[10],
-                    numbers[11],
-                    numbers[12],
-                    numbers[13],
-                    numbers[14],
-                    numbers[15],
+                    numbers[FLOOR_AT],
+                    numbers[FLOOR_AT + 1],
+                    numbers[FLOOR_AT + 2],
+                    numbers[FLOOR_AT + 3],
+                    numbers[FLOOR_AT + 4],
+                    numbers[FLOOR_AT + 5],
+                    numbers[FLOOR_AT + 6],
+                    numbers[FLOOR_AT + 7],
                 ]),
                 counts,
             },

@@ -2,9 +2,10 @@
 //! mark, write the fields behind it, and open it. Each is on the device before the next begins.
 ghost use Rattle.std.specs.Prelude.{◌≡◌, ◌≤◌, true, false, IsOk, OnOk};
 ghost use Rattle.pdc_disk.specs.Disk.{HasCause, Leaves};
-ghost use Rattle.pdc_mark.specs.declared.layout.TheConstants.{MARK_LEN};
-ghost use Rattle.pdc_mark.specs.Slots.{other_of, slot_in, HasEither, HasJust, IsHeld};
+ghost use Rattle.pdc_mark.specs.declared.layout.TheConstants.{CLOSED, MARK_LEN, OPEN};
+ghost use Rattle.pdc_mark.specs.Slots.{fields_of, other_of, slot_in, HasEither, HasJust, IsHeld};
 ghost use Rattle.pdc_mark.specs.Stored.{is_below};
+ghost use Rattle.pdc_mark.specs.Stores.{file_after, with_closed, with_fields, with_gate};
 
 use crate::layout::{CLOSED, FIELDS_AT, OPEN};
 use crate::slot::{Place, Slot};
@@ -13,6 +14,7 @@ use pdc_disk::{Disk, DiskFault};
 /// Closes the gate of the other slot. The mark stands at `held`.
 fn close_gate<D: Disk>(disk: &mut D, held: Place) -> Result<(), DiskFault>
     requires { IsHeld (D.seen disk.old) (D.is_settled disk.old) held false }
+    ensures bytes { OnOk result (D.seen disk.new ≡ with_gate (D.seen disk.old) (other_of held) CLOSED) }
     ensures ok { OnOk result (IsHeld (D.seen disk.new) (D.is_settled disk.new) held true) }
     ensures same { OnOk result (slot_in (D.seen disk.new) held ≡ slot_in (D.seen disk.old) held) }
     ensures images { Leaves (D.seen disk.new) (D.is_settled disk.new)
@@ -28,8 +30,13 @@ fn close_gate<D: Disk>(disk: &mut D, held: Place) -> Result<(), DiskFault>
 /// Closes the gate of the other slot where it is open.
 ///
 /// A closed gate isn't closed again: its fields may be torn, and a write to the gate could leave it open.
-fn make_ready<D: Disk>(disk: &mut D, held: Place, is_closed: bool) -> Result<(), DiskFault>
+pub(crate) fn make_ready<D: Disk>(
+    disk: &mut D,
+    held: Place,
+    is_closed: bool,
+) -> Result<(), DiskFault>
     requires { IsHeld (D.seen disk.old) (D.is_settled disk.old) held is_closed }
+    ensures bytes { OnOk result (D.seen disk.new ≡ with_closed (D.seen disk.old) (other_of held)) }
     ensures ok { OnOk result (IsHeld (D.seen disk.new) (D.is_settled disk.new) held true) }
     ensures same { OnOk result (slot_in (D.seen disk.new) held ≡ slot_in (D.seen disk.old) held) }
     ensures images { Leaves (D.seen disk.new) (D.is_settled disk.new)
@@ -46,6 +53,8 @@ fn make_ready<D: Disk>(disk: &mut D, held: Place, is_closed: bool) -> Result<(),
 /// Writes the fields behind the closed gate of the other slot.
 fn write_fields<D: Disk>(disk: &mut D, held: Place, next: Slot) -> Result<(), DiskFault>
     requires { IsHeld (D.seen disk.old) (D.is_settled disk.old) held true }
+    ensures bytes { OnOk result
+        (D.seen disk.new ≡ with_fields (D.seen disk.old) (other_of held) (fields_of next)) }
     ensures ok { OnOk result (IsHeld (D.seen disk.new) (D.is_settled disk.new) held true) }
     ensures same { OnOk result (slot_in (D.seen disk.new) held ≡ slot_in (D.seen disk.old) held) }
     ensures next { OnOk result (slot_in (D.seen disk.new) (other_of held) ≡ next) }
@@ -64,6 +73,7 @@ fn open_gate<D: Disk>(disk: &mut D, held: Place) -> Result<(), DiskFault>
     requires held { IsHeld (D.seen disk.old) (D.is_settled disk.old) held true }
     requires below { is_below (slot_in (D.seen disk.old) held).stored
         (slot_in (D.seen disk.old) (other_of held)).stored ≡ true }
+    ensures bytes { OnOk result (D.seen disk.new ≡ with_gate (D.seen disk.old) (other_of held) OPEN) }
     ensures ok { OnOk result (IsHeld (D.seen disk.new) (D.is_settled disk.new) (other_of held) false) }
     ensures next { OnOk result
         (slot_in (D.seen disk.new) (other_of held) ≡ slot_in (D.seen disk.old) (other_of held)) }
@@ -86,6 +96,7 @@ pub(crate) fn store<D: Disk>(
 ) -> Result<(), DiskFault>
     requires held { IsHeld (D.seen disk.old) (D.is_settled disk.old) held is_closed }
     requires below { is_below (slot_in (D.seen disk.old) held).stored next.stored ≡ true }
+    ensures bytes { OnOk result (D.seen disk.new ≡ file_after (D.seen disk.old) next) }
     ensures ok { OnOk result (IsHeld (D.seen disk.new) (D.is_settled disk.new) (other_of held) false) }
     ensures next { OnOk result (slot_in (D.seen disk.new) (other_of held) ≡ next) }
     ensures images { Leaves (D.seen disk.new) (D.is_settled disk.new)
@@ -96,20 +107,4 @@ pub(crate) fn store<D: Disk>(
     make_ready(disk, held, is_closed)?;
     write_fields(disk, held, next)?;
     open_gate(disk, held)
-}
-
-/// A store up to the write of the fields, which no sync follows.
-pub(crate) fn store_in_part<D: Disk>(
-    disk: &mut D,
-    held: Place,
-    is_closed: bool,
-    next: Slot,
-) -> Result<(), DiskFault>
-    requires { IsHeld (D.seen disk.old) (D.is_settled disk.old) held is_closed }
-    ensures images { Leaves (D.seen disk.new) (D.is_settled disk.new)
-        (HasJust (slot_in (D.seen disk.old) held)) }
-    ensures safe { MARK_LEN ≤ D.safe → IsOk result }
-{
-    make_ready(disk, held, is_closed)?;
-    disk.write_at((held.other().offset() + FIELDS_AT) as u64, &next.fields())
 }

@@ -9,7 +9,7 @@ use pdc_disk::{Disk, DiskFault, FileDisk};
 use pdc_mark::{DiskMark, Mark, MarkFault};
 use std::fs::{self, File, OpenOptions};
 use std::io::ErrorKind;
-use std::os::unix::fs::MetadataExt;
+use std::os::fd::AsRawFd;
 use std::process::Abort;
 use std::rt::Files;
 use std::test::Fail;
@@ -72,15 +72,6 @@ fn written_again(rt: &(impl Abort + Alloc + Files<File = File>), name: &str) {
     is!(rt; read(&mut disk(rt, name), 1, 4), Ok([2, 3, 5, 6]));
 }
 
-#[test]
-fn a_file_is_written_and_opened_again(rt: HostRuntime) -> Result<(), Fail> {
-    let folder = folder(&rt, "again")?;
-    let path = folder.join(rt.alloc(), "disk")?;
-    written_again(&rt, path.as_str());
-    fs::remove_dir_all(&rt, &folder)?;
-    Ok(())
-}
-
 /// Whoever else writes to the file is found out at the next call that can tell, and each call fails from then on.
 fn cut_short(rt: &(impl Abort + Alloc + Files<File = File>), name: &str) {
     let mut disk = file_of(rt, name, &HELD);
@@ -100,16 +91,6 @@ fn changed(rt: &(impl Abort + Alloc + Files<File = File>), name: &str) {
     holds(rt, name, &[1, 2, 3, 5]);
 }
 
-#[test]
-fn a_file_that_others_change_is_lost(rt: HostRuntime) -> Result<(), Fail> {
-    let folder = folder(&rt, "lost")?;
-    let path = folder.join(rt.alloc(), "disk")?;
-    cut_short(&rt, path.as_str());
-    changed(&rt, path.as_str());
-    fs::remove_dir_all(&rt, &folder)?;
-    Ok(())
-}
-
 fn longer(rt: &(impl Abort + Alloc + Files<File = File>), name: &str) {
     let mut disk = file_of(rt, name, &[6; 300]);
     is!(rt; disk.len(), Ok(300));
@@ -117,11 +98,43 @@ fn longer(rt: &(impl Abort + Alloc + Files<File = File>), name: &str) {
     is!(rt; read(&mut disk, 256, 1), Err(DiskFault));
 }
 
+/// A disk whose file gave its descriptor to this device: a disk can't be opened on one that refuses to sync.
+fn disk_on(
+    rt: &(impl Abort + Alloc + Files<File = File>),
+    name: &str,
+    device: &str,
+) -> (FileDisk, File) {
+    fs::write(rt, name, HELD).expect(rt, "a file");
+    // Whatever is opened next gets the lowest descriptor that is free.
+    let lowest = File::open(rt, name).expect(rt, "a file").as_raw_fd();
+    let disk = disk(rt, name);
+    libc::close(lowest);
+    let file = OpenOptions::new().read(true).write(true).open(rt, device);
+    let file = file.expect(rt, "a device");
+    is!(rt; file.as_raw_fd(), lowest);
+    (disk, file)
+}
+
+/// The system refuses to sync one device, and a write to the other, which is always full: `sync` and `write_at` ask it.
+fn refused_by_the_device(rt: &(impl Abort + Alloc + Files<File = File>), name: &str) {
+    let (mut unsynced, _null) = disk_on(rt, name, "/dev/null");
+    is!(rt; unsynced.write_at(0, &[9, 9]), Ok(()));
+    is!(rt; unsynced.sync(), Err(DiskFault));
+    let (mut full, _full) = disk_on(rt, name, "/dev/full");
+    is!(rt; full.write_at(0, &[9, 9]), Err(DiskFault));
+    is!(rt; full.failures(), 1);
+    holds(rt, name, &HELD);
+}
+
 #[test]
-fn a_longer_file_tells_its_length(rt: HostRuntime) -> Result<(), Fail> {
-    let folder = folder(&rt, "longer")?;
+fn disks_in_real_files(rt: HostRuntime) -> Result<(), Fail> {
+    let folder = folder(&rt, "disk")?;
     let path = folder.join(rt.alloc(), "disk")?;
+    written_again(&rt, path.as_str());
+    cut_short(&rt, path.as_str());
+    changed(&rt, path.as_str());
     longer(&rt, path.as_str());
+    refused_by_the_device(&rt, path.as_str());
     fs::remove_dir_all(&rt, &folder)?;
     Ok(())
 }
@@ -134,21 +147,6 @@ fn files_that_cannot_be_opened(rt: HostRuntime) {
     is!(&rt; not_made(&rt, "/proc/pdc_disk_test").is_some(), true);
     is!(&rt; not_opened(&rt, "/tmp").is_some(), true);
     is!(&rt; not_opened(&rt, "/dev/null").is_some(), true);
-}
-
-/// A read-only folder binds everyone but root.
-#[test]
-fn a_folder_that_takes_no_file(rt: HostRuntime) -> Result<(), Fail> {
-    let folder = folder(&rt, "read_only")?;
-    let path = folder.join(rt.alloc(), "disk")?;
-    let mut permissions = fs::metadata(&rt, &folder)?.permissions();
-    permissions.set_readonly(true);
-    fs::set_permissions(&rt, &folder, permissions)?;
-    if fs::metadata(&rt, &folder)?.uid() != 0 {
-        is!(&rt; not_made(&rt, path.as_str()), Some(ErrorKind::PermissionDenied));
-    }
-    fs::remove_dir_all(&rt, &folder)?;
-    Ok(())
 }
 
 fn life_in_a_file(rt: &(impl Abort + Alloc + Files<File = File>), name: &str) {
@@ -171,19 +169,6 @@ fn refused_length(
     is!(rt; (len, refusal(disk(rt, name), ID, RATE)), (len, Some(fault)));
 }
 
-#[test]
-fn a_mark_in_a_real_file(rt: HostRuntime) -> Result<(), Fail> {
-    let folder = folder(&rt, "mark")?;
-    let path = folder.join(rt.alloc(), "mark")?;
-    life_in_a_file(&rt, path.as_str());
-    refused_length(&rt, path.as_str(), 257, MarkFault::NoMark);
-    refused_length(&rt, path.as_str(), 255, MarkFault::NoMark);
-    refused_length(&rt, path.as_str(), 129, MarkFault::NoMark);
-    refused_length(&rt, path.as_str(), 128, MarkFault::OldMark);
-    fs::remove_dir_all(&rt, &folder)?;
-    Ok(())
-}
-
 fn converted(rt: &(impl Abort + Alloc + Files<File = File>), old: &str, new: &str) {
     let mut made = FileDisk::create(rt, new).expect(rt, "a new file");
     let answer = DiskMark::convert(&mut file_of(rt, old, &old_file()), &mut made);
@@ -193,11 +178,16 @@ fn converted(rt: &(impl Abort + Alloc + Files<File = File>), old: &str, new: &st
 }
 
 #[test]
-fn a_real_file_is_converted(rt: HostRuntime) -> Result<(), Fail> {
-    let folder = folder(&rt, "convert")?;
-    let old = folder.join(rt.alloc(), "old")?;
+fn marks_in_real_files(rt: HostRuntime) -> Result<(), Fail> {
+    let folder = folder(&rt, "mark")?;
+    let path = folder.join(rt.alloc(), "mark")?;
+    life_in_a_file(&rt, path.as_str());
+    refused_length(&rt, path.as_str(), 257, MarkFault::NoMark);
+    refused_length(&rt, path.as_str(), 255, MarkFault::NoMark);
+    refused_length(&rt, path.as_str(), 129, MarkFault::NoMark);
+    refused_length(&rt, path.as_str(), 128, MarkFault::OldMark);
     let new = folder.join(rt.alloc(), "new")?;
-    converted(&rt, old.as_str(), new.as_str());
+    converted(&rt, path.as_str(), new.as_str());
     fs::remove_dir_all(&rt, &folder)?;
     Ok(())
 }

@@ -1,12 +1,13 @@
 //! A stop, and a fault, behind each device call of a store.
 
 use super::fixtures::{
-    FLOOR, LANDINGS, OPENING, Told, begun, counts, fresh, opened, raise, reserve, reserved, told,
+    FLOOR, LANDINGS, OPENING, Told, begun, counts, fresh, opened, put, raise, reserve, reserved,
+    told,
 };
 use super::once_disk::OnceDisk;
 use super::same;
 use pdc_disk::{FuseDisk, Landing, MemoryDisk};
-use pdc_mark::{Mark, MarkFault, ModelMark, Store};
+use pdc_mark::{MARK_LEN, Mark, MarkFault, ModelMark, Store};
 use std::process::Abort;
 
 /// The three stores.
@@ -157,4 +158,18 @@ fn stores_with_stops(rt: HostRuntime) {
     let mut mark = opened(&rt, fresh(&rt));
     stop_in_each(&rt, &mut mark);
     is!(&rt; mark.begin(), Ok(2));
+}
+
+/// The fields of a store that doesn't land hold A5 behind a closed gate.
+#[test]
+fn a_store_that_does_not_land(rt: HostRuntime) {
+    let mut wanted = [0; MARK_LEN];
+    put(&mut wanted, 0, &[0x5A]);
+    put(&mut wanted, 8, &[0x00, 0xC9, 0x00, 0x32]);
+    put(&mut wanted, 136, &[0xA5; 48]);
+    let mut mark = opened(&rt, fresh(&rt));
+    if mark.stored().0 < 9 {
+        mark.begin_stopped(false);
+    }
+    is!(&rt; mark.into_disk().bytes(), wanted.as_slice());
 }

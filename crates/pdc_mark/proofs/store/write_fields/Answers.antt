@@ -1,5 +1,6 @@
-use Rattle.std.proofs.Common.{◌≡◌, ◌+◌, ◌<◌, ◌∙◌, length, ap, arith}
+use Rattle.std.proofs.Common.{◌≡◌, ℕ, ◌+◌, ◌<◌, ◌∙◌, List, length, ap, arith}
 use Rattle.std.proofs.lemmas.Result.{on_ok_weaker}
+use Rattle.pdc_disk.specs.Disk.{written}
 use Rattle.pdc_mark.specs.declared.layout.TheConstants.{FIELDS_AT, FIELDS_LEN}
 use Rattle.pdc_mark.specs.Slots.{offset_of, other_of, slot_of}
 use Rattle.pdc_mark.proofs.Fields.{slot_of-fields_of}
@@ -53,3 +54,13 @@ returns-clause-ok g c =
     let fits : offset_of (other_of c.args.held) + FIELDS_AT + FIELDS_LEN < length old = omega (arith, c.requires.size, inside (other_of c.args.held)) in
     let torn = torn_synced old _ was _ (c.offset.result + FIELDS_AT) (offset_of (other_of c.args.held) + FIELDS_AT) FIELDS_LEN is fits c.requires.settled (rw c.fields.ensures.len at c.write_at.ensures.torn) (rw c.fields.ensures.len at c.write_at.ensures.settled) _ c.sync.ensures.seen in
     on_ok_weaker c.sync.result (λ all. fields_done old was c.args.held c.requires (g.D.Disk.seen c.sync.new.self) _ torn all) c.sync.ensures.durable
+
+pub returns-clause-bytes : goal.returns-clause-bytes
+returns-clause-bytes g c =
+    let old = g.D.Disk.seen c.args.disk.now in
+    let was = g.D.Disk.is_settled c.args.disk.now in
+    let at = offset_of (other_of c.args.held) + FIELDS_AT in
+    let is : c.offset.result + FIELDS_AT ≡ at = ap (λ n. n + FIELDS_AT) (c.offset.ensures ∙ ap offset_of c.other.ensures) in
+    let fits : at + FIELDS_LEN < length old = omega (arith, c.requires.size, inside (other_of c.args.held)) in
+    let made = made_synced old _ was _ (c.offset.result + FIELDS_AT) at FIELDS_LEN is fits c.requires.settled (rw c.fields.ensures.len at c.write_at.ensures.torn) (rw c.fields.ensures.len at c.write_at.ensures.settled) _ _ c.sync.ensures.seen c.in_ok-write_at.ensures.written in
+    on_ok_weaker c.sync.result (λ all. made ∙ ap (λ (bytes : List ℕ). written old at bytes) c.fields.ensures.value) c.sync.ensures.durable

@@ -14,3 +14,8 @@ pub returns-in_err-put-clause-images : goal.returns-in_err-put-clause-images
 returns-in_err-put-clause-images g c whole image left =
     let mark = c.args.self.now in
     subst (λ (next : Stored). HasEither (mark_on mark) (with_stored (mark_on mark) next) image) c.with_next_start.ensures.value (c.put.ensures.images whole image left)
+
+pub returns-clause-images : goal.returns-clause-images
+returns-clause-images g c whole image left =
+    let mark = c.args.self.now in
+    subst (λ (next : Stored). HasEither (mark_on mark) (with_stored (mark_on mark) next) image) c.with_next_start.ensures.value (c.put.ensures.images whole image left)

@@ -3,8 +3,8 @@ use Rattle.pdc_mark.proofs.Images.{settled_image}
 use Rattle.pdc_mark.proofs.Marks.{held_image}
 use Rattle.pdc_mark.proofs.disk_mark.stopped.DiskMarkMemoryDiskStore.stopped.Goals as goal
 
-pub opened-requires : goal.opened-requires
-opened-requires c =
+pub opened-requires-clause-mark : goal.opened-requires-clause-mark
+opened-requires-clause-mark c =
     let mark = c.args.self.now in
     let whole : mark.is_broken ≡ false = mark.whole (search rules) in
     held_image _ _ mark.held mark.is_other_closed mark.slot (mark.stands whole) (mark.told whole) _ c.stopped.ensures.image

@@ -1,0 +1,85 @@
+//! What the words of the command line ask for.
+
+use pdc_command_line::{Request, parse};
+use std::alloc::{AllocError, Global};
+use std::process::Abort;
+use std::test::Fail;
+
+/// Words, with a bar between two, and what they ask for. What is no command is status 2, and help is status 0.
+const CASES: [(&str, &str); 34] = [
+    ("show", "show"),
+    ("mark-init|a.mark|65534|240", "mark-init a.mark 65534 240"),
+    ("mark-convert|a.mark|a2.mark", "mark-convert a.mark a2.mark"),
+    ("shew", "status 2"),
+    ("show|x", "status 2"),
+    ("mark-init", "status 2"),
+    ("mark-init|a|201", "status 2"),
+    ("mark-init|a|0|50", "status 2"),
+    ("mark-init|a|65535|50", "status 2"),
+    ("mark-init|a|201|241", "status 2"),
+    ("mark-init|a|+1|50", "status 2"),
+    ("mark-init|a|201|50|x", "status 2"),
+    ("mark-convert", "status 2"),
+    ("mark-convert|a.mark", "status 2"),
+    ("mark-convert|a.mark|a2.mark|x", "status 2"),
+    ("mark-convert|--no-such-flag|a2.mark", "status 2"),
+    ("--help", "status 0"),
+    ("show|--help", "status 0"),
+    ("mark-init|--help", "status 0"),
+    ("mark-convert|--help", "status 0"),
+    ("help|mark-init", "status 0"),
+    ("help|mark-convert", "status 0"),
+    // A number is decimal digits alone, from 1 to 240 here.
+    ("mark-init|a|201|1", "mark-init a 201 1"),
+    ("mark-init|a|201|0050", "mark-init a 201 50"),
+    ("mark-init|a|201|240", "mark-init a 201 240"),
+    ("mark-init|a|201|0", "status 2"),
+    ("mark-init|a|201|", "status 2"),
+    ("mark-init|a|201|+1", "status 2"),
+    ("mark-init|a|201|-1", "status 2"),
+    ("mark-init|a|201|1 ", "status 2"),
+    ("mark-init|a|201|1e1", "status 2"),
+    ("mark-init|a|201|65537", "status 2"),
+    ("mark-init|a|201|99999999999999999999", "status 2"),
+    ("mark-init|a|1|1", "mark-init a 1 1"),
+];
+
+/// The words of a line.
+fn words(alloc: Global, line: &str) -> Result<Vec<String>, AllocError> {
+    let mut words = Vec::new(alloc);
+    for word in line.split('|') {
+        words.push(String::from_str(alloc, word)?)?;
+    }
+    Ok(words)
+}
+
+/// What these words ask for, or the exit status with which they are refused.
+fn asked(alloc: Global, words: &[String]) -> Result<String, AllocError> {
+    match parse(alloc, words) {
+        Ok(Some(Request::Show)) => String::from_str(alloc, "show"),
+        Ok(Some(Request::MarkInit(mark))) => {
+            format!(in alloc; "mark-init {} {} {}", mark.file, mark.id, mark.rate)
+        }
+        Ok(Some(Request::MarkConvert(mark))) => {
+            format!(in alloc; "mark-convert {} {}", mark.old, mark.new)
+        }
+        Ok(None) => String::from_str(alloc, "nothing"),
+        Err(error) => format!(in alloc; "status {}", error.exit_code()),
+    }
+}
+
+fn same(rt: &impl Abort, found: &str, wanted: &str, line: &str) {
+    assert_eq!(rt; found, wanted, "{line}");
+}
+
+#[test]
+fn what_words_ask_for(rt: HostRuntime) -> Result<(), Fail> {
+    let alloc = rt.alloc();
+    for (line, wanted) in CASES {
+        let words = words(alloc, line)?;
+        same(&rt, asked(alloc, words.as_slice())?.as_str(), wanted, line);
+    }
+    let none = asked(alloc, &[])?;
+    same(&rt, none.as_str(), "status 2", "no words");
+    Ok(())
+}
