@@ -1,3 +1,4 @@
+pub mod Adoption
 pub mod Closing
 pub mod Come
 pub mod Frames

@@ -1,3 +1,4 @@
+pub mod Adoption
 pub mod Answer
 pub mod Arrival
 pub mod Cells

@@ -1,5 +1,6 @@
 //! Laws of every life, by the definitions: each is the contract of a function that does nothing but call the laws that it
 //! stands on. Node and merger are one kind of thing, and what is said of ticked lives and of runs is said of both.
+ghost use Rattle.pdc_life.specs.Adoption.{ReadyIsAdopted};
 ghost use Rattle.pdc_life.specs.Cells.{CellsAreOfSections};
 ghost use Rattle.pdc_life.specs.Frames.{ChangesFit, ClosedRowsAreFrames, LayoutsOfLivesAreFrames, LayoutsTellStamps};
 ghost use Rattle.pdc_life.specs.Genuine.{BlocksAreGenuine, CellsWereGiven, ChosenIsShown, NodeCellsAreData, NodeTakenIsShown, RowsAreGenuine};
@@ -34,6 +35,11 @@ pub fn changes_rise()
     ensures by_one { ChangesRiseByOne }
     ensures never_fall { ChangesNeverFall }
     ensures same { SameChangeSameSections }
+{}
+
+/// A tick adopts what is held of a column where it is newer than what is in force, and cleared, and a change number is left.
+pub fn ready_is_adopted()
+    ensures { ReadyIsAdopted }
 {}
 
 /// What is in force is cleared, and not below the opening count.

@@ -24,10 +24,10 @@ pub use laws::{
     answers_are_one, blocks_are_genuine, bytes_are_read_in_one_way, cells_are_of_sections,
     changes_rise, closed_rows_are_frames, closed_stay_closed, counts_never_fall, held_is_greatest,
     in_force_is_cleared, layouts_of_lives_are_frames, lives_are_runs, merged_cells_are_data,
-    merger_lives_are_runs, merger_steps_have_one_life, none_overtakes, rows_are_genuine,
-    rows_are_of_their_ticks, rows_have_tags, rows_rise, same_count_is_same_section,
-    sections_are_valid, sections_have_come, steps_have_one_life, steps_make_lives,
-    taken_is_in_time, taken_is_shown,
+    merger_lives_are_runs, merger_steps_have_one_life, none_overtakes, ready_is_adopted,
+    rows_are_genuine, rows_are_of_their_ticks, rows_have_tags, rows_rise,
+    same_count_is_same_section, sections_are_valid, sections_have_come, steps_have_one_life,
+    steps_make_lives, taken_is_in_time, taken_is_shown,
 };
 pub use limits::{MAX_AHEAD, MAX_WAIT, MAX_WINDOW, MIN_WINDOW};
 pub use merging::{MergedNode, MergerSettings};

@@ -1,5 +1,6 @@
 //! A layout that the merger holds.
 ghost use Rattle.std.specs.Prelude.{◌≤◌, length};
+ghost use Rattle.pdc_life.specs.declared.given.TheConstants.{MAX_PMUS};
 
 use pdc_reading::{ColumnSection, Stamp};
 
@@ -10,5 +11,5 @@ pub struct HeldLayout<'l, 'a> {
     pub stamp: Stamp,
     /// Its sections of PMUs, each beside its column, at most 16.
     pub sections: &'l [ColumnSection<'a>],
-    pub ghost few: { length sections.now ≤ 16 },
+    pub ghost few: { length sections.now ≤ MAX_PMUS },
 }

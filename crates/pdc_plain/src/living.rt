@@ -5,6 +5,7 @@ ghost use Rattle.pdc_life.specs.Answer.{step_of};
 ghost use Rattle.pdc_life.specs.MergerReading.{IsMergerLife};
 ghost use Rattle.pdc_life.specs.Node.{IsNodeLife};
 ghost use Rattle.pdc_life.specs.Run.{IsRun};
+ghost use Rattle.pdc_reading.specs.declared.from_node.TheConstants.{NODES};
 ghost use Rattle.pdc_past.specs.Views.{IsForStream, entry_view, given_view, life_view, step_view};
 ghost use Rattle.pdc_plain.specs.Views.{IsMergerLifeOf, IsNodeLifeOf, given_to_merger, given_to_node};
 
@@ -95,7 +96,7 @@ fn merger_step<'a>(
     step: &LifeStep<'a>,
 ) -> Result<Answered<'a>, AllocError>
     requires life { IsMergerLife settings.now (given_view given.now) (life_view life.now) }
-    requires step { IsForStream 2 (step_view step.now) }
+    requires step { IsForStream NODES (step_view step.now) }
     ensures life { IfOk result (λ answered. IsMergerLife settings.now (given_view given.now) (entry_view answered ∷ life_view life.now)) }
     ensures step { IfOk result (λ answered. step_of (entry_view answered) ≡ step_view step.now) }
 {
@@ -127,7 +128,7 @@ pub fn live_merger<'a>(
     opening: &Opening,
     steps: &[LifeStep<'a>],
 ) -> Result<Life<'a>, AllocError>
-    requires { All (λ step. IsForStream 2 (step_view step)) steps.now }
+    requires { All (λ step. IsForStream NODES (step_view step)) steps.now }
     ensures life { IfOk result (λ life. IsMergerLifeOf settings.now opening.now (map step_view steps.now) (life_view life.entries.items)) }
     ensures given { IfOk result (λ life. given_view life.given ≡ given_to_merger settings.now opening.now) }
 {

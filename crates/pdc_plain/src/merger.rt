@@ -5,7 +5,9 @@ ghost use Rattle.std.specs.Cmp.Lexicographic.{pointwise};
 ghost use Rattle.pdc_block.specs.Block.{words_in};
 ghost use Rattle.pdc_cfg.specs.Section.{SectionFields, fields_of_view};
 ghost use Rattle.pdc_cfg.specs.Shape.{word_count_of};
+ghost use Rattle.pdc_cfg.specs.declared.shape.TheConstants.{MAX_WORDS};
 ghost use Rattle.pdc_output.specs.Layout.{stamp_words};
+ghost use Rattle.pdc_life.specs.declared.given.TheConstants.{MAX_PMUS};
 ghost use Rattle.pdc_life.specs.Merger.{held_layout, is_in_force, merged_answer, merged_cells, merged_data_answer};
 ghost use Rattle.pdc_life.specs.Node.{cell_under};
 ghost use Rattle.pdc_reading.specs.Views.{arrival_view, section_part};
@@ -105,9 +107,9 @@ fn bears(own: &[u8], stamp: Stamp) -> bool
 
 /// The bytes of the blocks of these sections.
 fn blocks_len(sections: &[ColumnSection]) -> usize
-    requires { length sections.now ≤ 16 }
+    requires { length sections.now ≤ MAX_PMUS }
     ensures value { result ≡ sum (map (λ (part : ℕ × SectionFields). 2 * word_count_of part.1.shape) (map section_part sections.now)) }
-    ensures most { result ≤ 214 * length sections.now }
+    ensures most { result ≤ 2 * MAX_WORDS * length sections.now }
 {
     match sections.split_first() {
         Some((first, later)) => 2 * first.section.shape.word_count() + blocks_len(later),

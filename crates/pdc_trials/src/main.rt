@@ -1,8 +1,8 @@
 //! Plays scripts of calls on the finished libraries, and complains of each line whose answer is not the wanted one.
 //!
 //! The arguments are pairs: who plays, and the script. `names` reads the frames that scripts call by name, `calls` makes single
-//! calls, `table` plays on an alignment table, `life` on the plain program of lives of a node and of the merger; `shown` and `refused` show captured frames, each of which is
-//! shown, or some of which are refused. `script` tells how a script is written.
+//! calls, `table` plays on an alignment table, `life` on the plain program of lives of a node and of the merger; `shown` and
+//! `refused` show captured frames, each of which is shown, or some of which are refused. `script` tells how a script is written.
 #![tactic(auto)]
 
 mod blocks;

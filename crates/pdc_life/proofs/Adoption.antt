@@ -1,0 +1,73 @@
+-- A tick adopts what is ready.
+use Rattle.std.proofs.Common.{◌≡◌, ℕ, zero, suc, ◌+◌, ◌<◌, ◌≤◌, Bool, true, false, List, [], ◌∷◌, cond, eqb, leb, ltb, max, filter, refl, sym, ap, ◌∙◌, arith, rules, Option, Some, None}
+use Rattle.std.specs.Prelude.{◌&&◌, ◌||◌, ◌==◌}
+use Rattle.std.specs.List.{list_any, range_with_len}
+use Rattle.std.proofs.lemmas.Bool.{false≢true}
+use Rattle.pdc_cfg.specs.Section.{SectionFields}
+use Rattle.pdc_life.specs.Adoption.{IsNewer, ReadyIsAdopted}
+use Rattle.pdc_life.specs.Answer.{has_change, is_newer, is_ready, ready_columns}
+use Rattle.pdc_life.specs.Given.{columns_of, count_for}
+use Rattle.pdc_life.specs.Life.{TickAnswer, changes, cleared_count, held_section, section_in_force}
+
+same_number : (m n : ℕ) → eqb m n ≡ true → m ≡ n
+same_number m n h = search rules
+
+is_above : (m n : ℕ) → m ≤ n → eqb m n ≡ false → m + 1 ≤ n
+is_above m n h e = search rules
+
+here : (a b : Bool) → a ≡ true → (a || b) ≡ true
+here true b h = refl
+here false b h = absurd (false≢true h)
+
+there : (a b : Bool) → b ≡ true → (a || b) ≡ true
+there true b h = refl
+there false b h = h
+
+both : (a b : Bool) → a ≡ true → b ≡ true → (a && b) ≡ true
+both true b h k = k
+both false b h k = absurd (false≢true h)
+
+either_way : (a b c : ℕ) (x y : Bool) → eqb a c ≡ x → a ≤ c → (a + 1 ≤ c → y ≡ true) → (eqb a c || y) ≡ true
+either_way a b c true y e h k = here (eqb a c) y e
+either_way a b c false y e h k = there (eqb a c) y (k (is_above a c h e))
+
+in_range : (c n a : ℕ) → a ≤ c → c < a + n → list_any (λ d. d == c) (range_with_len a n) ≡ true
+in_range c zero a h k = absurd (omega (arith, h, k))
+in_range c (suc n) a h k =
+    either_way a n c (eqb a c) (list_any (λ d. d == c) (range_with_len (a + 1) n)) refl h (λ l. in_range c n (a + 1) l (omega (arith, k)))
+
+-- what passes the test and is listed is there behind the filter
+kept : (f : ℕ → Bool) (c d : ℕ) (ds : List ℕ) (x y : Bool) → eqb d c ≡ x → f d ≡ y → f c ≡ true → (list_any (λ z. z == c) ds ≡ true → list_any (λ z. z == c) (filter f ds) ≡ true)
+    → (x || list_any (λ z. z == c) ds) ≡ true → list_any (λ z. z == c) (cond y (d ∷ filter f ds) (filter f ds)) ≡ true
+kept f c d ds true true e k h ih l = here (eqb d c) _ e
+kept f c d ds false true e k h ih l = there (eqb d c) _ (ih l)
+kept f c d ds true false e k h ih l = absurd (false≢true (sym k ∙ ap f (same_number d c e) ∙ h))
+kept f c d ds false false e k h ih l = ih l
+
+still_there : (f : ℕ → Bool) (c : ℕ) (ds : List ℕ) → f c ≡ true → list_any (λ z. z == c) ds ≡ true → list_any (λ z. z == c) (filter f ds) ≡ true
+still_there f c [] h l = absurd (false≢true l)
+still_there f c (d ∷ ds) h l = kept f c d ds (eqb d c) (f d) refl refl h (still_there f c ds h) l
+
+less : (m n : ℕ) → m < n → ltb m n ≡ true
+less m n h = search rules
+
+at_most : (m n : ℕ) → m ≤ n → leb m n ≡ true
+at_most m n h = search rules
+
+newer_is : (held : SectionFields) (in_force : Option SectionFields) → IsNewer held in_force → is_newer held in_force ≡ true
+newer_is held None h = refl
+newer_is held (Some f) h = less f.count held.count h
+
+ready_is : (held in_force : Option SectionFields) (s : SectionFields) (cleared : ℕ) → held ≡ Some s → IsNewer s in_force → s.count ≤ cleared → is_ready held in_force cleared ≡ true
+ready_is held in_force s cleared e h k = ap (λ o. is_ready o in_force cleared) e ∙ both (is_newer s in_force) (leb s.count cleared) (newer_is s in_force h) (at_most s.count cleared k)
+
+pub ready_is_adopted : ReadyIsAdopted
+ready_is_adopted g E now counts answer c held ticked r =
+    let ready : (d : ℕ) → Bool = λ d. is_ready (held_section g E d) (section_in_force g E d) (max (cleared_count g E d) (count_for d counts)) in
+    let change : has_change E ≡ true = less (changes E) 4294967295 r.change in
+    let listed : list_any (λ d. d == c) (ready_columns g E counts) ≡ true =
+    still_there ready c (columns_of g) (ready_is (held_section g E c) (section_in_force g E c) held (max (cleared_count g E c) (count_for c counts)) r.is_held r.newer r.cleared)
+    (in_range c g.columns 0 (omega arith) (omega (arith, r.column))) in
+    let adopted : answer.adopted ≡ ready_columns g E counts = ap (λ (a : TickAnswer). a.adopted) ticked.0 ∙ ap (λ (b : Bool). cond b (ready_columns g E counts) []) change in
+    let is : list_any (λ d. d == c) answer.adopted ≡ true = ap (list_any (λ d. d == c)) adopted ∙ listed in
+    ap (λ (b : Bool). cond b (held_section g E c) (section_in_force g E c)) is ∙ r.is_held
