@@ -1,8 +1,7 @@
 //! Plays scripts of calls on the finished libraries, and complains of each line whose answer is not the wanted one.
 //!
 //! The arguments are pairs: who plays, and the script. `names` reads the frames that scripts call by name, `calls` makes single
-//! calls, `table` plays on
-//! an alignment table, `node` on the plain program of a node's life; `shown` and `refused` show captured frames, each of which is
+//! calls, `table` and `ring` play on an alignment table that is kept sorted or as a ring, `twins` on both at once, `node` on the plain program of a node's life; `shown` and `refused` show captured frames, each of which is
 //! shown, or some of which are refused. `script` tells how a script is written.
 #![tactic(auto)]
 
@@ -13,12 +12,13 @@ mod life_player;
 mod script;
 mod shown;
 mod table_player;
+mod twins;
 
 use calls_player::CallsPlayer;
 use frames::Frames;
 use life_player::LifePlayer;
 use pdc_show::Shown;
-use pdc_table::SortedTable;
+use pdc_table::{RingTable, SortedTable};
 use script::{Played, play_script};
 use shown::play_shown;
 use std::alloc::Global;
@@ -26,6 +26,7 @@ use std::process::ExitCode;
 use std::rt::Files;
 use std::{fs, io};
 use table_player::TablePlayer;
+use twins::Twins;
 
 /// Plays the script of this name.
 fn play(
@@ -46,6 +47,14 @@ fn play(
         "table" => {
             let mut table = TablePlayer::<SortedTable>::new(alloc)?;
             play_script(rt, alloc, name, &fs::read_to_string(rt, name)?, &mut table)
+        }
+        "ring" => {
+            let mut table = TablePlayer::<RingTable>::new(alloc)?;
+            play_script(rt, alloc, name, &fs::read_to_string(rt, name)?, &mut table)
+        }
+        "twins" => {
+            let mut twins = Twins::new(alloc)?;
+            play_script(rt, alloc, name, &fs::read_to_string(rt, name)?, &mut twins)
         }
         "node" => {
             let mut life = LifePlayer::new(alloc, frames);
