@@ -108,8 +108,10 @@ impl Column {
     pub(crate) fn disagrees(&self) -> bool
         ensures { result ≡ disagrees self.now }
     {
-        match (present(&self.first), present(&self.second)) {
-            (Some(first), Some(second)) => !first.agrees(second),
+        match (&self.first, &self.second) {
+            (Some(first), Some(second)) => {
+                first.is_present() && second.is_present() && !first.agrees(second)
+            }
             _ => false,
         }
     }
