@@ -12,7 +12,7 @@ ghost use Rattle.pdc_table.specs.Layout.{layout_view};
 ghost use Rattle.pdc_table.specs.Taking.{cells_of, conflicts, with_cell, with_cells, with_frame, without_column, without_stream};
 ghost use Rattle.pdc_table.specs.Views.{blank_row, empty_column};
 
-use crate::{Cell, Column, MAX_COLUMNS, PutOutcome, RowLayout, WaitRule};
+use crate::{Column, MAX_COLUMNS, PutOutcome, RowLayout, WaitRule};
 use arrayvec::ArrayVec;
 use pdc_block::Block;
 use pdc_cfg::Shape;
@@ -234,7 +234,7 @@ fn put_cells(columns: &mut [Column], lane: usize, cells: &[(usize, Block)], qual
     ensures { columns.new ≡ with_cells lane (cells_of cells.now quality) columns.old }
 {
     for (column, block) in cells {
-        columns[*column].set(lane, Some(Cell::new(block, quality)));
+        columns[*column].put(lane, block, quality);
     }
 }
 
@@ -274,6 +274,6 @@ fn clear_lane(columns: &mut [Column], lane: usize)
     ensures { columns.new ≡ map (with_cell lane None) columns.old }
 {
     for column in columns.iter_mut() {
-        column.set(lane, None);
+        column.clear(lane);
     }
 }
