@@ -4,7 +4,7 @@ ghost use Rattle.std.specs.Prelude.{◌≡◌, ◌<◌, ◌≤◌};
 use arrayvec::ArrayVec;
 use pdc_block::Block;
 use pdc_cfg::Shape;
-use pdc_table::{DueRow, RowLayout, SortedTable, Table, WaitRule};
+use pdc_table::{DueRow, RingTable, RowLayout, SortedTable, Table, WaitRule};
 use std::alloc::{AllocError, Global};
 
 const STREAMS: usize = 16;
@@ -129,7 +129,7 @@ fn fill<T: Table>(alloc: Global, window: u64, rounds: u32) -> Result<u64, AllocE
     Ok(aligner.mixed)
 }
 
-/// Runs a table for so many instants: for each 16 puts, of which the last is `behind` instants behind, 4 ticks, and the
+/// Runs a sorted table for so many instants: for each 16 puts, of which the last is `behind` instants behind, 4 ticks, and the
 /// rows that close taken out; 0 where the window is not 8 to 256 or memory runs out.
 #[unsafe(no_mangle)]
 pub extern "C" fn dagluwis_table_steady(
@@ -144,12 +144,35 @@ pub extern "C" fn dagluwis_table_steady(
     steady::<SortedTable>(alloc, window, behind, instants).unwrap_or(0)
 }
 
-/// Fills the window and closes it so many times: 16 puts an instant, one tick, and the rows taken out; 0 where the window
-/// is not 8 to 256 or memory runs out.
+/// Fills the window of a sorted table and closes it so many times: 16 puts an instant, one tick, and the rows taken out; 0
+/// where the window is not 8 to 256 or memory runs out.
 #[unsafe(no_mangle)]
 pub extern "C" fn dagluwis_table_fill(alloc: Global, window: u64, rounds: u32) -> u64 {
     if window < 8 || window > 256 {
         return 0;
     }
     fill::<SortedTable>(alloc, window, rounds).unwrap_or(0)
+}
+
+/// As `dagluwis_table_steady`, with a table kept as a ring.
+#[unsafe(no_mangle)]
+pub extern "C" fn dagluwis_ring_steady(
+    alloc: Global,
+    window: u64,
+    behind: u64,
+    instants: u32,
+) -> u64 {
+    if window < 8 || window > 256 {
+        return 0;
+    }
+    steady::<RingTable>(alloc, window, behind, instants).unwrap_or(0)
+}
+
+/// As `dagluwis_table_fill`, with a table kept as a ring.
+#[unsafe(no_mangle)]
+pub extern "C" fn dagluwis_ring_fill(alloc: Global, window: u64, rounds: u32) -> u64 {
+    if window < 8 || window > 256 {
+        return 0;
+    }
+    fill::<RingTable>(alloc, window, rounds).unwrap_or(0)
 }

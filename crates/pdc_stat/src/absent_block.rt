@@ -34,7 +34,8 @@ pub fn absent(shape: Shape) -> Block
 pub fn is_absent(block: &Block) -> bool
     ensures { IsTrue result ↔ IsAbsent block.now }
 {
-    block.words() == absent(block.shape).words()
+    let words = block.words();
+    words[0] == ABSENT_STAT && words == absent(block.shape).words()
 }
 
 /// Appends the word so many times.

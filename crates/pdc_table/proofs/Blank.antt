@@ -1,11 +1,12 @@
 -- A new table, and lists in which all elements are the same.
-use Rattle.std.proofs.Common.{◌≡◌, ℕ, ◌<◌, ◌≤◌, Bool, true, false, cond, eqb, List, [], ◌∷◌, length, get_or, replicate, take, ap, refl, ◌∙◌, arith, zero, suc}
+use Rattle.std.proofs.Common.{◌≡◌, ℕ, ◌<◌, ◌≤◌, Bool, true, false, cond, eqb, List, [], ◌∷◌, length, get_or, replicate, map, None, take, ap, refl, ◌∙◌, arith, zero, suc}
 use Rattle.std.proofs.lemmas.List.{take-replicate}
 use Rattle.std.specs.List.{All}
 use Rattle.pdc_block.specs.declared.block.Block.{Block}
 use Rattle.pdc_row.specs.CellView.{CellView, cell_view}
 use Rattle.pdc_table.specs.Content.{stream_count}
-use Rattle.pdc_table.specs.Taking.{cells_of}
+use Rattle.pdc_table.specs.Taking.{cells_of, with_cell}
+use Rattle.pdc_table.specs.Views.{ColumnView, empty_column}
 
 all_same : {A : Type 0} → (xs : List A) (n : ℕ) (a : A) → length xs ≡ n → ((i : ℕ) (d : A) → i < n → get_or xs i d ≡ a) → xs ≡ replicate n a
 all_same [] zero a e h = refl
@@ -28,3 +29,8 @@ pub columns_exist : (columns quality : ℕ) (blocks : List (ℕ × Block)) → A
 columns_exist columns quality [] h k d l = absurd (omega arith)
 columns_exist columns quality (b ∷ bs) h zero d l = h zero (d.0, cell_view d.1 quality) (omega arith)
 columns_exist columns quality (b ∷ bs) h (suc k) d l = columns_exist columns quality bs (λ j e m. h (suc j) e (omega arith)) k d (omega arith)
+
+-- a column whose lanes were both emptied is empty
+pub emptied : (columns : List ColumnView) → map (with_cell 1 None) (map (with_cell 0 None) columns) ≡ replicate (length columns) empty_column
+emptied [] = refl
+emptied (c ∷ cs) = ap (λ ds. empty_column ∷ ds) (emptied cs)

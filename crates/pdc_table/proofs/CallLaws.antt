@@ -1,5 +1,5 @@
 -- Laws over whole lists of calls.
-use Rattle.std.proofs.Common.{◌≡◌, ℕ, ◌+◌, ◌<◌, ◌≤◌, Bool, true, false, not, if◌then◌else◌, leb, List, [], ◌∷◌, ◌++◌, drop, map, refl, sym, ◌∙◌, ap, subst, arith, append_assoc, append-nil}
+use Rattle.std.proofs.Common.{◌≡◌, ℕ, ◌+◌, ◌<◌, ◌≤◌, Bool, true, false, not, if◌then◌else◌, leb, List, [], ◌∷◌, ◌++◌, drop, refl, sym, ◌∙◌, ap, subst, arith, append_assoc, append-nil}
 use Rattle.std.specs.List.{slice_get}
 use Rattle.std.specs.Option.{option_to_list}
 use Rattle.std.proofs.lemmas.List.{map-append}
@@ -12,7 +12,7 @@ use Rattle.pdc_table.specs.Calls.{Call, Put, Require, Tick, DropStream, DropColu
 use Rattle.pdc_table.specs.Content.{Content, lane_of}
 use Rattle.pdc_table.specs.OpenInstants.{instants_of}
 use Rattle.pdc_table.specs.Placing.{row_at}
-use Rattle.pdc_table.specs.Steps.{after_put, after_take, answer_at, closing_of, closed_by, first_cause, fresh_row, is_near_all, is_taken, put_answer, staying_of}
+use Rattle.pdc_table.specs.Steps.{after_put, after_take, answer_at, closing_of, first_cause, fresh_row, is_near_all, is_taken, put_answer, staying_of}
 use Rattle.pdc_table.specs.Taking.{with_frame, without_stream, without_column}
 use Rattle.pdc_table.specs.declared.outcome.PutOutcome.{PutOutcome}
 use Rattle.pdc_table.specs.declared.outcome.PutOutcome.TheVariants.{Taken}

@@ -1,5 +1,5 @@
 -- Which rows close, told by the calls.
-use Rattle.std.proofs.Common.{◌≡◌, ◌≢◌, ℕ, ◌+◌, ◌<◌, ◌≤◌, Bool, true, false, cond, not, ◌&&◌, ◌||◌, if◌then◌else◌, eqb, leb, List, [], ◌∷◌, length, get_or, set, map, filter, replicate, refl, sym, ◌∙◌, ap, subst, arith, inl, inr, Option, Some, None, zero, suc}
+use Rattle.std.proofs.Common.{◌≡◌, ℕ, ◌+◌, ◌<◌, Bool, true, false, cond, not, ◌||◌, if◌then◌else◌, leb, List, [], ◌∷◌, length, get_or, set, map, filter, refl, sym, ◌∙◌, ap, subst, arith, inl, inr, Option, Some, None, zero, suc}
 use Rattle.std.specs.List.{AllByRecursion, list_all, range_with_len}
 use Rattle.std.proofs.lemmas.Bool.{cases_eq, eq-eqb, ne_eqb}
 use Rattle.std.proofs.lemmas.Grind.{get_or-set_at}
@@ -7,7 +7,7 @@ use Rattle.std.proofs.lemmas.List.{get_or-replicate, get_or-set_other, length-re
 use Rattle.pdc_row.specs.Rising.{Rises}
 use Rattle.pdc_row.specs.RowView.{row_instants}
 use Rattle.pdc_table.specs.Calls.{AreAllowed, Call, Put, Require, Tick, DropStream, DropColumn, Pop, after_all}
-use Rattle.pdc_table.specs.Closing.{aged, all_taken, closes, counter, is_due, is_over}
+use Rattle.pdc_table.specs.Closing.{aged, all_taken, closes, counter, is_due}
 use Rattle.pdc_table.specs.Content.{Content, new_content, stream_count, streams_of}
 use Rattle.pdc_table.specs.Histories.{closing_after, is_awaited, is_due_after, is_taken_since, open_row_after, ticks_since_take}
 use Rattle.pdc_table.specs.Layout.{LayoutView}
@@ -20,7 +20,7 @@ use Rattle.pdc_table.proofs.CallLaws.{IsAbove, above_all}
 use Rattle.pdc_table.proofs.Follows.{follows, streams_same}
 use Rattle.pdc_table.proofs.Keeps.{instants-row_of}
 use Rattle.pdc_table.proofs.RowAt.{beyond, here, row_instant}
-use Rattle.pdc_table.proofs.Told.{Follows, HasSizes, IsTold, sizes_all}
+use Rattle.pdc_table.proofs.Told.{Follows, IsTold, sizes_all}
 
 -- the streams that are waited for are those that the calls told
 pub record AreAwaited (c d : Content) (calls : List Call) : Type 0 where

@@ -35,3 +35,19 @@ highest_row (x ∷ y ∷ ys) row h e =
 
 pub highest_closed : (rows : List DueRow) (row : DueRow) (n : ℕ) → n ≡ length rows → 0 < n → row ≡ get_or rows (n - 1) row → highest_of (row_instants (map row_view rows)) ≡ Some row.instant
 highest_closed rows row n l h e = highest_row rows row (omega arith) (e ∙ ap (λ m. get_or rows (m - 1) row) l)
+
+-- the same of instants alone
+pub highest_number : (cs ns : List ℕ) (n : ℕ) → Some n ≡ slice_get ns (length ns - 1) → highest_of (cs ++ ns) ≡ Some n
+highest_number cs [] n e = cc
+highest_number [] (x ∷ []) n e = let f : Some n ≡ Some x = e in cc
+highest_number [] (x ∷ y ∷ ys) n e =
+    let k : suc (suc (length ys)) - 1 ≡ suc (length ys) = omega arith in
+    let j : suc (length ys) - 1 ≡ length ys = omega arith in
+    let f : Some n ≡ slice_get (y ∷ ys) (length ys) = rw k at e in
+    highest_number [] (y ∷ ys) n (f ∙ ap (λ m. slice_get (y ∷ ys) m) (sym j))
+highest_number (c ∷ []) (x ∷ xs) n e = highest_number [] (x ∷ xs) n e
+highest_number (c ∷ d ∷ cs) (x ∷ xs) n e = highest_number (d ∷ cs) (x ∷ xs) n e
+
+pub no_numbers : (ns : List ℕ) → false ≡ ltb 0 (length ns) → ns ≡ []
+no_numbers [] h = refl
+no_numbers (x ∷ xs) h = let k : ltb 0 (suc (length xs)) ≡ true = lower 0 (suc (length xs)) (omega arith) in absurd (false≢true (h ∙ k))

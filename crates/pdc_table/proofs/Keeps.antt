@@ -1,5 +1,5 @@
 -- Each step keeps what holds of a table.
-use Rattle.std.proofs.Common.{◌≡◌, ℕ, ◌+◌, ◌<◌, ◌≤◌, Bool, true, false, cond, not, if◌then◌else◌, List, [], ◌∷◌, ◌++◌, length, get_or, set, drop, map, filter, replicate, refl, sym, ◌∙◌, ap, subst, arith, rules, ltb, eqb, Option, Some, None, append_assoc, length-append}
+use Rattle.std.proofs.Common.{◌≡◌, ℕ, ◌+◌, ◌<◌, ◌≤◌, Bool, true, false, cond, not, if◌then◌else◌, List, [], ◌∷◌, ◌++◌, length, get_or, set, drop, map, filter, refl, sym, ◌∙◌, ap, subst, arith, rules, ltb, eqb, Option, Some, None, append_assoc, length-append}
 use Rattle.std.specs.List.{prefix_len, AllByRecursion}
 use Rattle.std.proofs.lemmas.List.{map-append, take-append-drop, length-map, length-replicate, length-set}
 use Rattle.std.proofs.lemmas.List.Sums.{count_by-le-length, length-filter}

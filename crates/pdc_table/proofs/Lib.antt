@@ -7,6 +7,9 @@ pub mod Closes
 pub mod Keeps
 pub mod Places
 pub mod Highest
+pub mod RingKept
+pub mod RingPut
+pub mod RingRows
 pub mod RowAt
 pub mod RowSteps
 pub mod Told

@@ -1,28 +1,23 @@
 -- What a table contains is told by the calls on it.
-use Rattle.std.proofs.Common.{◌≡◌, ◌≢◌, ℕ, ◌+◌, ◌<◌, ◌≤◌, Bool, true, false, cond, not, ◌&&◌, ◌||◌, if◌then◌else◌, eqb, leb, ltb, List, [], ◌∷◌, length, get_or, set, map, replicate, refl, sym, ◌∙◌, ap, subst, arith, inl, inr, Option, Some, None, option_map, zero, suc}
-use Rattle.std.specs.Option.{IfSome, is_some, unwrap_or}
+use Rattle.std.proofs.Common.{◌≡◌, ◌≢◌, ℕ, ◌+◌, ◌<◌, Bool, true, false, cond, ◌&&◌, ◌||◌, if◌then◌else◌, eqb, List, [], ◌∷◌, length, get_or, set, map, refl, sym, ◌∙◌, ap, arith, inl, inr, Option, Some, None, suc}
+use Rattle.std.specs.Option.{unwrap_or}
 use Rattle.std.specs.List.{All}
 use Rattle.std.proofs.lemmas.Bool.{cases_eq, cases_Bool, eq-eqb, ne_eqb, eqb-true, false≢true, or_left, or_parts, and_from, and_left, and_right}
 use Rattle.std.proofs.lemmas.Grind.{get_or-set_at}
 use Rattle.std.proofs.lemmas.List.{get_or-map, get_or-replicate, get_or-set_other}
 use Rattle.pdc_row.specs.CellView.{CellView}
 use Rattle.pdc_row.specs.Chosen.{first_of}
-use Rattle.pdc_row.specs.Rising.{Rises}
-use Rattle.pdc_table.specs.Calls.{AreAllowed, Call, Put, Require, Tick, DropStream, DropColumn, Pop, IsAllowed, after, after_all}
+use Rattle.pdc_table.specs.Calls.{Call, Put, Require, Tick, DropStream, DropColumn, Pop, after, after_all}
 use Rattle.pdc_table.specs.Closing.{aged, counter}
-use Rattle.pdc_table.specs.Content.{Content, HasPlaces, HaveOwnColumns, IsPut, lane_of, stream_count, streams_of}
-use Rattle.pdc_table.specs.Histories.{first_put, given_by, is_drop_in, is_drop_of, is_of_stream, is_take, is_taken_since, open_row_after, ticks_since_take, was_taken}
-use Rattle.pdc_table.specs.OpenInstants.{instants_of}
-use Rattle.pdc_table.specs.Placing.{row_at, with_row}
-use Rattle.pdc_table.specs.Steps.{after_put, after_take, answer_at, first_cause, fresh_row, is_near_all, is_taken, put_answer}
+use Rattle.pdc_table.specs.Content.{Content, HasPlaces, HaveOwnColumns, lane_of, streams_of}
+use Rattle.pdc_table.specs.Histories.{first_put, given_by, is_drop_in, is_drop_of, is_of_stream, is_take, is_taken_since, ticks_since_take, was_taken}
+use Rattle.pdc_table.specs.Steps.{after_take, answer_at, first_cause, is_taken, put_answer}
 use Rattle.pdc_table.specs.Taking.{cell_in, conflicts, given_for, with_cell, with_cells, with_frame, with_given, without_column, without_stream}
 use Rattle.pdc_table.specs.Views.{ColumnView, OpenRowView, blank_row, empty_column}
 use Rattle.pdc_table.specs.declared.outcome.PutOutcome.{PutOutcome}
 use Rattle.pdc_table.specs.declared.outcome.PutOutcome.TheVariants.{Conflict, Duplicate, Taken}
-use Rattle.pdc_table.proofs.CallLaws.{IsAbove, above_all, last_step, taken_above}
 use Rattle.pdc_table.proofs.Given.{stands}
 use Rattle.pdc_table.proofs.Keeps.{places-blank, places-frame, places-without_column, places-without_stream}
-use Rattle.pdc_table.proofs.RowAt.{row_above, row_at-map, row_of_fresh, row_of_other, row_of_tick}
 
 -- the row is that of an instant after these calls
 pub record IsTold (c : Content) (calls : List Call) (i : ℕ) (row : OpenRowView) : Type 0 where

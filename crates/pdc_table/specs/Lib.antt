@@ -6,6 +6,8 @@ pub mod Histories
 pub mod Layout
 pub mod OpenInstants
 pub mod Placing
+pub mod Ring
+pub mod RingRows
 pub mod Row
 pub mod SortedTable
 pub mod Steps

@@ -1,5 +1,5 @@
 -- What a sorted table contains, and what holds of it.
-use Rattle.std.specs.Prelude.{◌≡◌, ℕ, ◌≤◌, List, [], ◌∷◌, map}
+use Rattle.std.specs.Prelude.{◌≤◌, [], ◌∷◌, map}
 use Rattle.std.specs.Vec.{vec_capacity}
 use Rattle.std.specs.VecDeque.{deque_capacity}
 use Rattle.pdc_row.specs.RowView.{row_view}

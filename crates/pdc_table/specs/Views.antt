@@ -1,5 +1,5 @@
 -- What an open instant holds, however a table keeps it (this profile).
-use Rattle.std.specs.Prelude.{ℕ, ◌==◌, Bool, false, if◌then◌else◌, List, replicate, Option, None}
+use Rattle.std.specs.Prelude.{ℕ, Bool, false, List, replicate, Option, None}
 use Rattle.pdc_row.specs.CellView.{CellView}
 
 -- what the lanes of a column hold at an instant; with one lane the second holds nothing

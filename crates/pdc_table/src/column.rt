@@ -1,6 +1,6 @@
 //! What was taken of one column at one instant.
-ghost use Rattle.std.specs.Prelude.{◌≡◌, ℕ, ◌+◌, ◌<◌, ◌≤◌, ◌++◌, List, length, map, option_copied, IfSome};
-ghost use Rattle.pdc_row.specs.CellView.{block_view};
+ghost use Rattle.std.specs.Prelude.{◌≡◌, ℕ, ◌+◌, ◌<◌, ◌≤◌, ◌++◌, List, length, map, option_copied, None, Some, IfSome};
+ghost use Rattle.pdc_row.specs.CellView.{block_view, cell_view};
 ghost use Rattle.pdc_table.specs.Row.{blocks_at, qualities_at};
 ghost use Rattle.pdc_row.specs.Quality.{worst_of};
 ghost use Rattle.pdc_table.specs.Chosen.{chosen_of, disagrees};
@@ -53,14 +53,25 @@ impl Column {
         present(&self.first).or(present(&self.second))
     }
 
-    /// Puts this into the lane, 0 or else 1.
-    pub(crate) fn set(&mut self, lane: usize, cell: Option<Cell>)
-        ensures { self.new ≡ with_cell lane cell self.old }
+    /// Puts a copy of the block, and the time quality byte of its frame, into the lane, 0 or else 1.
+    pub(crate) fn put(&mut self, lane: usize, block: &Block, quality: u8)
+        ensures { self.new ≡ with_cell lane (Some (cell_view block.now quality)) self.old }
     {
         if lane == 0 {
-            self.first = cell;
+            self.first = Some(Cell::new(block, quality));
         } else {
-            self.second = cell;
+            self.second = Some(Cell::new(block, quality));
+        }
+    }
+
+    /// Empties the lane, 0 or else 1.
+    pub(crate) fn clear(&mut self, lane: usize)
+        ensures { self.new ≡ with_cell lane None self.old }
+    {
+        if lane == 0 {
+            self.first = None;
+        } else {
+            self.second = None;
         }
     }
 
@@ -108,8 +119,10 @@ impl Column {
     pub(crate) fn disagrees(&self) -> bool
         ensures { result ≡ disagrees self.now }
     {
-        match (present(&self.first), present(&self.second)) {
-            (Some(first), Some(second)) => !first.agrees(second),
+        match (&self.first, &self.second) {
+            (Some(first), Some(second)) => {
+                first.is_present() && second.is_present() && !first.agrees(second)
+            }
             _ => false,
         }
     }

@@ -2,7 +2,8 @@
 //! (this profile).
 //!
 //! `Table` is the contract of every table: what each call answers, and what it makes of the table's content, which is a
-//! finite record that knows nothing of how the rows are kept. `SortedTable` keeps them as a sorted vector.
+//! finite record that knows nothing of how the rows are kept. `SortedTable` keeps them as a sorted vector, `RingTable` each at
+//! the remainder of its instant by the window.
 //!
 //! To the layers above this crate promises that a row closes exactly when every open instant up to its own is due, that
 //! it holds the first block taken for each column, and that no call but `new` takes memory.
@@ -14,6 +15,8 @@ mod laws;
 mod limits;
 mod open_row;
 mod outcome;
+mod ring;
+mod ring_table;
 mod row_layout;
 mod rows;
 mod sorted_table;
@@ -31,6 +34,7 @@ pub use limits::{MAX_COLUMNS, MAX_LANES, MAX_WINDOW, MIN_WINDOW};
 use open_row::OpenRow;
 pub use outcome::PutOutcome;
 pub use pdc_row::DueRow;
+pub use ring_table::RingTable;
 pub use row_layout::RowLayout;
 pub use sorted_table::SortedTable;
 pub use table_trait::Table;

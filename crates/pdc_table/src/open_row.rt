@@ -1,5 +1,5 @@
 //! The row of an instant that is open.
-ghost use Rattle.std.specs.Prelude.{◌≡◌, ℕ, ◌+◌, ◌<◌, ◌≤◌, ◌++◌, List, length, map, slice_index_or, Some, IfSome, if◌then◌else◌};
+ghost use Rattle.std.specs.Prelude.{◌≡◌, ℕ, ◌+◌, ◌<◌, ◌≤◌, ◌++◌, List, length, map, replicate, false, slice_index_or, Some, IfSome, if◌then◌else◌};
 ghost use Rattle.std.specs.List.{All};
 ghost use Rattle.pdc_block.specs.declared.block.Block.{Block as BlockData};
 ghost use Rattle.pdc_row.specs.CellView.{block_view};
@@ -12,7 +12,7 @@ ghost use Rattle.pdc_table.specs.Layout.{layout_view};
 ghost use Rattle.pdc_table.specs.Taking.{cells_of, conflicts, with_cell, with_cells, with_frame, without_column, without_stream};
 ghost use Rattle.pdc_table.specs.Views.{blank_row, empty_column};
 
-use crate::{Cell, Column, MAX_COLUMNS, PutOutcome, RowLayout, WaitRule};
+use crate::{Column, MAX_COLUMNS, PutOutcome, RowLayout, WaitRule};
 use arrayvec::ArrayVec;
 use pdc_block::Block;
 use pdc_cfg::Shape;
@@ -56,16 +56,24 @@ impl OpenRow {
         requires columns { places.columns ≤ MAX_COLUMNS }
         ensures { result ≡ blank_row places.streams places.columns instant }
     {
-        let mut taken = ArrayVec::from_array_in((), [false; MAX_COLUMNS]);
-        taken.truncate(places.streams);
         let mut columns = ArrayVec::from_array_in((), Default::default());
         columns.truncate(places.columns);
         OpenRow {
             instant,
             age: 0,
-            taken,
+            taken: falses(places.streams),
             columns,
         }
+    }
+
+    /// Makes this the row of an instant in which nothing was taken.
+    pub(crate) fn begin(&mut self, instant: u64)
+        ensures { self.new ≡ blank_row (length self.old.taken) (length self.old.columns) instant }
+    {
+        self.instant = instant;
+        self.age = 0;
+        self.taken = falses(self.taken.len());
+        empty(self.columns.as_mut_slice());
     }
 
     /// The instant.
@@ -198,6 +206,16 @@ impl OpenRow {
     }
 }
 
+/// So many times false.
+pub fn falses(count: usize) -> ArrayVec<bool, MAX_COLUMNS>
+    requires { count ≤ MAX_COLUMNS }
+    ensures { result.items ≡ replicate count false }
+{
+    let mut falses = ArrayVec::from_array_in((), [false; MAX_COLUMNS]);
+    falses.truncate(count);
+    falses
+}
+
 /// Whether each required stream was taken.
 fn all_taken(required: &[bool], taken: &[bool]) -> bool
     ensures { result ≡ all_taken required.now taken.now }
@@ -216,7 +234,7 @@ fn put_cells(columns: &mut [Column], lane: usize, cells: &[(usize, Block)], qual
     ensures { columns.new ≡ with_cells lane (cells_of cells.now quality) columns.old }
 {
     for (column, block) in cells {
-        columns[*column].set(lane, Some(Cell::new(block, quality)));
+        columns[*column].put(lane, block, quality);
     }
 }
 
@@ -243,11 +261,19 @@ fn give(
     }
 }
 
+/// Empties each column.
+fn empty(columns: &mut [Column])
+    ensures { columns.new ≡ replicate (length columns.old) empty_column }
+{
+    clear_lane(columns, 0);
+    clear_lane(columns, 1);
+}
+
 /// Empties the lane of each column.
 fn clear_lane(columns: &mut [Column], lane: usize)
     ensures { columns.new ≡ map (with_cell lane None) columns.old }
 {
     for column in columns.iter_mut() {
-        column.set(lane, None);
+        column.clear(lane);
     }
 }

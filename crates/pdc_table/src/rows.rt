@@ -180,7 +180,7 @@ pub fn are_near(rows: &[OpenRow], closed: &VecDeque<DueRow>, window: u64, instan
 }
 
 /// Whether the instant that is held, if there is one, is less than the window away.
-fn is_near(held: Option<u64>, window: u64, instant: u64) -> bool
+pub fn is_near(held: Option<u64>, window: u64, instant: u64) -> bool
     ensures { result ≡ is_near_any window instant held }
 {
     match held {

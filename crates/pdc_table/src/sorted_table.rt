@@ -1,8 +1,8 @@
 //! A table kept as sorted rows.
-ghost use Rattle.std.specs.Prelude.{◌≡◌};
+ghost use Rattle.std.specs.Prelude.{◌≡◌, ◌≤◌, ◌==◌, if◌then◌else◌};
 ghost use Rattle.pdc_table.specs.Content.{stream_count};
 
-use crate::open_row::{OpenRow, Places};
+use crate::open_row::{OpenRow, Places, falses};
 use crate::{MAX_COLUMNS, PutOutcome, RowLayout, Table, WaitRule, rows};
 use arrayvec::ArrayVec;
 use pdc_block::Block;
@@ -37,10 +37,19 @@ impl Model for SortedTable {
 }
 
 /// How many streams there are: with one lane one for each column, with two one for each lane.
-fn stream_count(columns: usize, lanes: usize) -> usize
-    ensures { result ≡ stream_count columns lanes }
+pub fn stream_count(columns: usize, lanes: usize) -> usize
+    requires { columns ≤ MAX_COLUMNS }
+    ensures value { result ≡ stream_count columns lanes }
+    ensures bound { result ≤ MAX_COLUMNS }
 {
     if lanes == 1 { columns } else { 2 }
+}
+
+/// The lane that a stream writes.
+pub fn lane_of(lanes: usize, stream: usize) -> usize
+    ensures { result ≡ (if lanes == 1 then 0 else stream) }
+{
+    if lanes == 1 { 0 } else { stream }
 }
 
 impl Table for SortedTable {
@@ -58,13 +67,11 @@ impl Table for SortedTable {
         floor: u64,
     ) -> Result<SortedTable, AllocError> {
         let room = window as usize;
-        let mut required = ArrayVec::from_array_in((), [false; MAX_COLUMNS]);
-        required.truncate(stream_count(columns, lanes));
         Ok(SortedTable {
             window,
             columns,
             lanes,
-            required,
+            required: falses(stream_count(columns, lanes)),
             rows: Vec::with_capacity(alloc, room)?,
             closed: VecDeque::with_capacity(alloc, room)?,
             last: floor,
@@ -85,7 +92,7 @@ impl Table for SortedTable {
         if !rows::are_near(&self.rows, &self.closed, self.window, instant) {
             return PutOutcome::OutOfWindow;
         }
-        let lane = if self.lanes == 1 { 0 } else { stream };
+        let lane = lane_of(self.lanes, stream);
         let places = Places {
             streams: self.required.len(),
             columns: self.columns,

@@ -1,8 +1,9 @@
 //! Plays scripts of calls on the finished libraries, and complains of each line whose answer is not the wanted one.
 //!
 //! The arguments are pairs: who plays, and the script. `names` reads the frames that scripts call by name, `calls` makes single
-//! calls, `table` plays on an alignment table, `life` on the plain program of lives of a node and of the merger; `shown` and
-//! `refused` show captured frames, each of which is shown, or some of which are refused. `script` tells how a script is written.
+//! calls, `table` and `ring` play on an alignment table that is kept as sorted rows or as a ring, `twins` on both at once, `life`
+//! on the plain program of lives of a node and of the merger; `shown` and `refused` show captured frames, each of which is
+//! shown, or some of which are refused. `script` tells how a script is written.
 #![tactic(auto)]
 
 mod blocks;
@@ -12,12 +13,13 @@ mod life_player;
 mod script;
 mod shown;
 mod table_player;
+mod twins;
 
 use calls_player::CallsPlayer;
 use frames::Frames;
 use life_player::LifePlayer;
 use pdc_show::Shown;
-use pdc_table::SortedTable;
+use pdc_table::{RingTable, SortedTable};
 use script::{Played, play_script};
 use shown::play_shown;
 use std::alloc::Global;
@@ -25,6 +27,7 @@ use std::process::ExitCode;
 use std::rt::Files;
 use std::{fs, io};
 use table_player::TablePlayer;
+use twins::Twins;
 
 /// Plays the script of this name.
 fn play(
@@ -45,6 +48,14 @@ fn play(
         "table" => {
             let mut table = TablePlayer::<SortedTable>::new(alloc)?;
             play_script(rt, alloc, name, &fs::read_to_string(rt, name)?, &mut table)
+        }
+        "ring" => {
+            let mut table = TablePlayer::<RingTable>::new(alloc)?;
+            play_script(rt, alloc, name, &fs::read_to_string(rt, name)?, &mut table)
+        }
+        "twins" => {
+            let mut twins = Twins::new(alloc)?;
+            play_script(rt, alloc, name, &fs::read_to_string(rt, name)?, &mut twins)
         }
         "life" => {
             let mut life = LifePlayer::new(alloc, frames);

@@ -4,7 +4,7 @@
 //! |---|---|
 //! | `new WINDOW COLUMNS LANES FLOOR` | `ok`; the calls below go to this table |
 //! | `require STREAM`, `free STREAM` | `ok` |
-//! | `put STREAM INSTANT QUALITY BLOCK..` | the outcome; one lane: at most one block; two: a block for each of two columns, `.` for none |
+//! | `put STREAM INSTANT QUALITY BLOCK..` | the outcome; one lane: at most one block; two: a block for the first column and one for the last, `.` for none |
 //! | `tick WAIT SHAPES` | how many rows closed; `WAIT` is a number of ticks, `until=INSTANT`, or `until=none`; `x` is a column with a shape, `.` one without, `0` nothing |
 //! | `ticks TIMES WAIT SHAPES` | how many rows closed in so many ticks |
 //! | `pop` | the row, as `8 1 2 0 sent absent`: its instant, stamp, quality and blocks; or `none` |
@@ -93,7 +93,7 @@ impl<T: Table> TablePlayer<T> {
         }
     }
 
-    /// A put of two lanes and two columns.
+    /// A put of two lanes, for the first column and the last.
     fn put_pair(
         &mut self,
         lane: usize,
@@ -101,16 +101,17 @@ impl<T: Table> TablePlayer<T> {
         quality: u8,
         blocks: &[&str],
     ) -> Option<PutOutcome> {
-        if self.lanes != 2 || self.columns != 2 || lane >= 2 {
+        if self.lanes != 2 || self.columns < 2 || lane >= 2 {
             return None;
         }
+        let last = self.columns - 1;
         match blocks {
             [".", second] => {
-                let cells = [(1, named(second)?)];
+                let cells = [(last, named(second)?)];
                 Some(self.table.put(lane, instant, &cells, quality))
             }
             [first, second] => {
-                let cells = [(0, named(first)?), (1, named(second)?)];
+                let cells = [(0, named(first)?), (last, named(second)?)];
                 Some(self.table.put(lane, instant, &cells, quality))
             }
             _ => None,

@@ -5,6 +5,6 @@ use Rattle.pdc_table.proofs.open_row.clear_lane.Goals as goal
 
 pub loop-column-preserved : goal.loop-column-preserved
 loop-column-preserved c =
-    rw (c.set.ensures, ← c.column-item.is)
+    rw (c.clear.ensures, ← c.column-item.is)
     (map_over_more (with_cell c.args.lane None) c.args.columns.now c.loop-column.columns c.loop-column.column-index c.column-item.result
     (omega arith) c.loop-column.invariant c.column-item.is)

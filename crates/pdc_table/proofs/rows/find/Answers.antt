@@ -1,4 +1,4 @@
-use Rattle.std.proofs.Common.{◌≡◌, ◌∙◌, arith, sym, ap, get_or}
+use Rattle.std.proofs.Common.{◌∙◌, arith, sym, ap}
 use Rattle.pdc_table.specs.Views.{OpenRowView, blank_row}
 use Rattle.pdc_table.proofs.Places.{row_place, gap, no_row_place}
 use Rattle.pdc_table.proofs.rows.find.Goals as goal

@@ -1,4 +1,4 @@
-use Rattle.std.proofs.Common.{arith, ◌≡◌, ◌<◌, ◌∙◌, ℕ, subst, sym, true, refl, length}
+use Rattle.std.proofs.Common.{arith, ◌≡◌, ◌<◌, ◌∙◌, ℕ, subst, sym, true, length}
 use Rattle.std.specs.List.{All}
 use Rattle.pdc_block.specs.declared.block.Block.{Block}
 use Rattle.pdc_table.specs.Content.{streams_of}
@@ -32,7 +32,7 @@ invariant_of-self c =
     let near : is_near_all (content_of c.self.inside) c.args.instant ≡ true = rw c.deref.ensures.value at (sym c.if-not-are_near.ensures) in
     let streams : c.len.result ≡ streams_of (content_of c.self.inside) = c.len.ensures.value ∙ c.self.invariant.content.required_each in
     record {
-      content = rw (c.take.ensures.items, streams) (keeps-offered (content_of c.self.inside) (is_taken (answer_at (row_at c.args.instant c.self.inside.rows.items) c.args.stream c.if-self-eq1.lane (cells_of c.args.cells.now c.args.quality))) c.args.stream c.if-self-eq1.lane c.args.instant (cells_of c.args.cells.now c.args.quality) c.if-instant-self.false near c.self.invariant.content);
+      content = rw (c.take.ensures.items, streams) (keeps-offered (content_of c.self.inside) (is_taken (answer_at (row_at c.args.instant c.self.inside.rows.items) c.args.stream c.lane_of-lane.result (cells_of c.args.cells.now c.args.quality))) c.args.stream c.lane_of-lane.result c.args.instant (cells_of c.args.cells.now c.args.quality) c.if-instant-self.false near c.self.invariant.content);
       room = omega (arith, c.self.invariant.room, c.take.ensures.capacity);
       closed_room = c.self.invariant.closed_room;
     }
@@ -41,4 +41,4 @@ pub returns-clause-well_formed : goal.returns-clause-well_formed
 returns-clause-well_formed c =
     let near : is_near_all (content_of c.self.inside) c.args.instant ≡ true = rw c.deref.ensures.value at (sym c.if-not-are_near.ensures) in
     let streams : c.len.result ≡ streams_of (content_of c.self.inside) = c.len.ensures.value ∙ c.self.invariant.content.required_each in
-    rw (c.take.ensures.items, streams) (keeps-offered (content_of c.self.inside) (is_taken (answer_at (row_at c.args.instant c.self.inside.rows.items) c.args.stream c.if-self-eq1.lane (cells_of c.args.cells.now c.args.quality))) c.args.stream c.if-self-eq1.lane c.args.instant (cells_of c.args.cells.now c.args.quality) c.if-instant-self.false near c.self.invariant.content)
+    rw (c.take.ensures.items, streams) (keeps-offered (content_of c.self.inside) (is_taken (answer_at (row_at c.args.instant c.self.inside.rows.items) c.args.stream c.lane_of-lane.result (cells_of c.args.cells.now c.args.quality))) c.args.stream c.lane_of-lane.result c.args.instant (cells_of c.args.cells.now c.args.quality) c.if-instant-self.false near c.self.invariant.content)

@@ -1,0 +1,34 @@
+-- What a put of a ring answers, and what it makes of the content.
+use Rattle.std.proofs.Common.{◌≡◌, ℕ, ◌<◌, Bool, true, false, not, if◌then◌else◌, List, ◌++◌, refl, sym, ◌∙◌, ap}
+use Rattle.std.proofs.lemmas.Bool.{lt-leb}
+use Rattle.pdc_row.specs.CellView.{CellView}
+use Rattle.pdc_row.specs.RowView.{row_instants}
+use Rattle.pdc_table.specs.Content.{Content, held_instants, lane_of}
+use Rattle.pdc_table.specs.OpenInstants.{instants_of}
+use Rattle.pdc_table.specs.Placing.{row_at}
+use Rattle.pdc_table.specs.RingRows.{rows_in}
+use Rattle.pdc_table.specs.Steps.{after_put, after_take, answer_at, first_cause, is_near_all, is_taken, put_answer}
+use Rattle.pdc_table.specs.Views.{OpenRowView}
+use Rattle.pdc_table.specs.declared.outcome.PutOutcome.TheVariants.{OutOfWindow}
+use Rattle.pdc_table.proofs.RingRows.{ArePlaced, instants_in}
+
+-- the instants that are held, as the code has them
+pub held_same : (c : Content) (places : List OpenRowView) (is seen : List ℕ) → seen ≡ is → ArePlaced places c.window is → c.open_rows ≡ rows_in places c.window is → row_instants c.closed ++ seen ≡ held_instants c
+held_same c places is seen e p o = ap (λ ns. row_instants c.closed ++ ns) (e ∙ sym (instants_in places c.window is p) ∙ ap instants_of (sym o))
+
+pub put_far : (c : Content) (stream instant : ℕ) (cells : List (ℕ × CellView)) → c.last < instant → is_near_all c instant ≡ false → OutOfWindow ≡ put_answer c stream instant cells
+put_far c stream instant cells h e =
+    sym (ap (λ b. first_cause b (not (is_near_all c instant)) (answer_at (row_at instant c.open_rows) stream (lane_of c stream) cells)) (lt-leb instant c.last h)
+    ∙ ap (λ b. first_cause false (not b) (answer_at (row_at instant c.open_rows) stream (lane_of c stream) cells)) e)
+
+pub put_near : (c : Content) (stream instant : ℕ) (cells : List (ℕ × CellView)) → c.last < instant → is_near_all c instant ≡ true → put_answer c stream instant cells ≡ answer_at (row_at instant c.open_rows) stream (lane_of c stream) cells
+put_near c stream instant cells h e =
+    ap (λ b. first_cause b (not (is_near_all c instant)) (answer_at (row_at instant c.open_rows) stream (lane_of c stream) cells)) (lt-leb instant c.last h)
+    ∙ ap (λ b. first_cause false (not b) (answer_at (row_at instant c.open_rows) stream (lane_of c stream) cells)) e
+
+pub far_content : (c : Content) (stream instant : ℕ) (cells : List (ℕ × CellView)) → OutOfWindow ≡ put_answer c stream instant cells → c ≡ after_put c stream instant cells
+far_content c stream instant cells e = ap (λ a. if is_taken a then after_take c stream instant cells else c) e
+
+pub put_content : (b : Bool) (c : Content) (rows : List OpenRowView) → record c { open_rows = if b then rows else c.open_rows } ≡ (if b then record c { open_rows = rows } else c)
+put_content true c rows = refl
+put_content false c rows = refl

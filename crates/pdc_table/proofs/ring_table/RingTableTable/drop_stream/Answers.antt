@@ -1,0 +1,39 @@
+use Rattle.std.proofs.Common.{◌≡◌, ap, map, refl, ◌∙◌}
+use Rattle.pdc_table.specs.Content.{streams_of}
+use Rattle.pdc_table.specs.Ring.{content_of}
+use Rattle.pdc_table.specs.RingRows.{rows_in}
+use Rattle.pdc_table.specs.Steps.{after_drop_stream}
+use Rattle.pdc_table.specs.TableView.{TableView}
+use Rattle.pdc_table.specs.Taking.{without_stream}
+use Rattle.pdc_table.proofs.Keeps.{keeps-drop_stream, places-without_stream}
+use Rattle.pdc_table.proofs.RingKept.{IsRing, changed_kept}
+use Rattle.pdc_table.proofs.RingRows.{changed-open}
+use Rattle.pdc_table.proofs.ring_table.RingTableTable.drop_stream.Goals as goal
+
+rows : (c : goal.After-drop_stream) → rows_in c.drop_stream.new.places.items c.self.inside.window c.self.inside.open.items ≡ map (without_stream c.self.inside.lanes c.args.stream) (rows_in c.self.inside.places.items c.self.inside.window c.self.inside.open.items)
+rows c =
+    changed-open (without_stream c.self.inside.lanes c.args.stream) (content_of c.self.inside) c.self.inside.places.items c.drop_stream.new.places.items c.self.inside.open.items c.deref.result.now
+    c.deref.ensures.value c.drop_stream.ensures.items c.self.invariant.size c.self.invariant.placed c.self.invariant.content
+
+pub invariant_of-self : goal.invariant_of-self
+invariant_of-self c =
+    let ring : IsRing c.self.inside.window c.self.inside.last (streams_of (content_of c.self.inside)) c.self.inside.columns c.drop_stream.new.places.items c.self.inside.open.items =
+    changed_kept (without_stream c.self.inside.lanes c.args.stream) (λ r. refl) (content_of c.self.inside) (λ r. places-without_stream c.self.inside.lanes c.args.stream (streams_of (content_of c.self.inside)) c.self.inside.columns r)
+    c.self.inside.places.items c.drop_stream.new.places.items c.self.inside.open.items c.deref.result.now c.deref.ensures.value c.drop_stream.ensures.items c.self.invariant.content
+    (record { size = c.self.invariant.size; each = c.self.invariant.each; placed = c.self.invariant.placed; known = c.self.invariant.known }) in
+    record {
+      content = rw (rows c) (keeps-drop_stream (content_of c.self.inside) c.args.stream c.self.invariant.content);
+      size = ring.size;
+      each = ring.each;
+      placed = ring.placed;
+      known = ring.known;
+      room = c.self.invariant.room;
+      closed_room = c.self.invariant.closed_room;
+    }
+
+pub returns-clause-content : goal.returns-clause-content
+returns-clause-content c =
+    ap (λ rs. record (content_of c.self.inside) { open_rows = rs }) (rows c) ∙ ap (λ (t : TableView). after_drop_stream t.content c.args.stream) c.self.view_is
+
+pub returns-clause-well_formed : goal.returns-clause-well_formed
+returns-clause-well_formed c = rw (rows c) (keeps-drop_stream (content_of c.self.inside) c.args.stream c.self.invariant.content)

@@ -1,0 +1,104 @@
+use Rattle.std.proofs.Common.{rules, arith, ◌≡◌, ◌≤◌, ◌+◌, ◌∙◌, ap, length, map, refl, subst, sym, vec_len}
+use Rattle.std.proofs.lemmas.List.{length-map}
+use Rattle.std.specs.VecDeque.{deque_len}
+use Rattle.pdc_row.specs.RowView.{row_view}
+use Rattle.pdc_table.specs.Closing.{aged, closing, counter, staying}
+use Rattle.pdc_table.specs.Content.{IsContent, streams_of}
+use Rattle.pdc_table.specs.Layout.{layout_view}
+use Rattle.pdc_table.specs.Ring.{content_of}
+use Rattle.pdc_table.specs.RingRows.{row_in, rows_in}
+use Rattle.pdc_table.specs.Steps.{after_tick, closing_of, disagreements_after, disagreements_in, staying_of, tick_answer}
+use Rattle.pdc_table.specs.TableView.{TableView}
+use Rattle.pdc_table.proofs.Keeps.{closed_shapes, closing_few, held_fit, keeps-tick}
+use Rattle.pdc_table.proofs.RingKept.{IsRing, changed_kept, ring_closed}
+use Rattle.pdc_table.proofs.RingRows.{ArePlaced, changed-open, near_open}
+use Rattle.pdc_table.proofs.ring_table.RingTableTable.tick.Goals as goal
+
+pub close_due-requires-clause-size : goal.close_due-requires-clause-size
+close_due-requires-clause-size c =
+    let ring : IsRing c.self.inside.window c.self.inside.last (streams_of (content_of c.self.inside)) c.self.inside.columns c.grow_older.new.places.items c.self.inside.open.items =
+    changed_kept aged (λ r. refl) (content_of c.self.inside) (λ r p. record { taken = p.taken; columns = p.columns }) c.self.inside.places.items c.grow_older.new.places.items c.self.inside.open.items c.deref.result.now c.deref.ensures.value c.grow_older.ensures.items c.self.invariant.content
+    (record { size = c.self.invariant.size; each = c.self.invariant.each; placed = c.self.invariant.placed; known = c.self.invariant.known }) in
+    ap length c.deref-2.ensures.value ∙ ring.size
+
+pub close_due-requires-clause-rising : goal.close_due-requires-clause-rising
+close_due-requires-clause-rising c = (near_open (content_of c.self.inside) c.self.inside.places.items c.self.inside.open.items c.self.invariant.placed c.self.invariant.content).0
+
+pub close_due-requires-clause-placed : goal.close_due-requires-clause-placed
+close_due-requires-clause-placed c =
+    let ring : IsRing c.self.inside.window c.self.inside.last (streams_of (content_of c.self.inside)) c.self.inside.columns c.grow_older.new.places.items c.self.inside.open.items =
+    changed_kept aged (λ r. refl) (content_of c.self.inside) (λ r p. record { taken = p.taken; columns = p.columns }) c.self.inside.places.items c.grow_older.new.places.items c.self.inside.open.items c.deref.result.now c.deref.ensures.value c.grow_older.ensures.items c.self.invariant.content
+    (record { size = c.self.invariant.size; each = c.self.invariant.each; placed = c.self.invariant.placed; known = c.self.invariant.known }) in
+    subst (λ ps. ArePlaced ps c.self.inside.window c.self.inside.open.items) (sym c.deref-2.ensures.value) ring.placed
+
+pub close_due-requires-clause-room : goal.close_due-requires-clause-room
+close_due-requires-clause-room c =
+    let fit : length (map row_view c.self.inside.closed.items) + length (rows_in c.self.inside.places.items c.self.inside.window c.self.inside.open.items) ≤ c.self.inside.window = held_fit (content_of c.self.inside) c.self.invariant.content in
+    let opened : vec_len c.self.inside.open ≡ length c.self.inside.open.items = search rules in
+    let closed : deque_len c.self.inside.closed ≡ length c.self.inside.closed.items = search rules in
+    omega (arith, c.self.invariant.closed_room, length-map c.self.inside.closed.items row_view, length-map c.self.inside.open.items (row_in c.self.inside.places.items c.self.inside.window))
+
+-- the rows that the code looks at are those before, each a tick older
+rows : (c : goal.After-close_due) → rows_in c.deref-2.result.now c.self.inside.window c.self.inside.open.items ≡ map aged (rows_in c.self.inside.places.items c.self.inside.window c.self.inside.open.items)
+rows c =
+    ap (λ ps. rows_in ps c.self.inside.window c.self.inside.open.items) c.deref-2.ensures.value
+    ∙ changed-open aged (content_of c.self.inside) c.self.inside.places.items c.grow_older.new.places.items c.self.inside.open.items c.deref.result.now c.deref.ensures.value c.grow_older.ensures.items c.self.invariant.size c.self.invariant.placed c.self.invariant.content
+
+closes : (c : goal.After-close_due) → closing c.as_slice-required.result.now c.args.rule (rows_in c.deref-2.result.now c.self.inside.window c.self.inside.open.items) ≡ closing_of (content_of c.self.inside) c.args.rule
+closes c =
+    ap (λ rs. closing rs c.args.rule (rows_in c.deref-2.result.now c.self.inside.window c.self.inside.open.items)) c.as_slice-required.ensures.value
+    ∙ ap (closing c.self.inside.required.items c.args.rule) (rows c)
+
+stays : (c : goal.After-close_due) → rows_in c.grow_older.new.places.items c.self.inside.window c.close_due.new.open.items ≡ staying_of (content_of c.self.inside) c.args.rule
+stays c =
+    ap (λ ps. rows_in ps c.self.inside.window c.close_due.new.open.items) (sym c.deref-2.ensures.value) ∙ c.close_due.ensures.rows
+    ∙ ap (λ rs. staying rs c.args.rule (rows_in c.deref-2.result.now c.self.inside.window c.self.inside.open.items)) c.as_slice-required.ensures.value
+    ∙ ap (staying c.self.inside.required.items c.args.rule) (rows c)
+
+content : (c : goal.After-close_due) → record (content_of c.self.inside) {
+  open_rows = rows_in c.grow_older.new.places.items c.self.inside.window c.close_due.new.open.items;
+  closed = map row_view c.close_due.new.closed.items;
+  last = c.close_due.new.last;
+} ≡ after_tick (content_of c.self.inside) c.args.rule (layout_view c.args.layout.now)
+content c =
+    rw (stays c, c.close_due.ensures.closed, c.close_due.ensures.last, closes c) refl
+
+pub overflow_cast-result : goal.overflow_cast-result
+overflow_cast-result c =
+    let few : length (closing_of (content_of c.self.inside) c.args.rule) ≤ c.self.inside.window = closing_few (content_of c.self.inside) c.args.rule c.self.invariant.content in
+    let is : c.close_due.result ≡ length (closing_of (content_of c.self.inside) c.args.rule) = c.close_due.ensures.answer ∙ ap length (closes c) in
+    omega (arith, c.self.invariant.content.window_most)
+
+pub returns-clause-answer : goal.returns-clause-answer
+returns-clause-answer c = c.close_due.ensures.answer ∙ ap length (closes c) ∙ ap (λ (t : TableView). tick_answer t.content c.args.rule) c.self.view_is
+
+pub returns-clause-content : goal.returns-clause-content
+returns-clause-content c = content c ∙ ap (λ (t : TableView). after_tick t.content c.args.rule (layout_view c.args.layout.now)) c.self.view_is
+
+pub returns-clause-shapes : goal.returns-clause-shapes
+returns-clause-shapes c h = closed_shapes c.args.self.now.content c.args.rule (layout_view c.args.layout.now) h
+
+pub returns-clause-disagreements : goal.returns-clause-disagreements
+returns-clause-disagreements c =
+    c.close_due.ensures.disagree ∙ ap (λ rs. counter (c.self.inside.disagree + disagreements_in (layout_view c.args.layout.now) rs)) (closes c)
+    ∙ ap (λ (t : TableView). disagreements_after t.disagreements t.content c.args.rule (layout_view c.args.layout.now)) c.self.view_is
+
+pub returns-clause-well_formed : goal.returns-clause-well_formed
+returns-clause-well_formed c = subst IsContent (sym (content c)) (keeps-tick (content_of c.self.inside) c.args.rule (layout_view c.args.layout.now) c.self.invariant.content)
+
+pub invariant_of-self : goal.invariant_of-self
+invariant_of-self c =
+    let older : IsRing c.self.inside.window c.self.inside.last (streams_of (content_of c.self.inside)) c.self.inside.columns c.grow_older.new.places.items c.self.inside.open.items =
+    changed_kept aged (λ r. refl) (content_of c.self.inside) (λ r p. record { taken = p.taken; columns = p.columns }) c.self.inside.places.items c.grow_older.new.places.items c.self.inside.open.items c.deref.result.now c.deref.ensures.value c.grow_older.ensures.items c.self.invariant.content
+    (record { size = c.self.invariant.size; each = c.self.invariant.each; placed = c.self.invariant.placed; known = c.self.invariant.known }) in
+    let ring : IsRing c.self.inside.window c.close_due.new.last (streams_of (content_of c.self.inside)) c.self.inside.columns c.grow_older.new.places.items c.close_due.new.open.items =
+    rw (c.close_due.ensures.front, c.close_due.ensures.open) (ring_closed c.self.inside.window c.self.inside.last (streams_of (content_of c.self.inside)) c.self.inside.columns c.close_due.result c.grow_older.new.places.items c.self.inside.open.items older) in
+    record {
+      content = subst IsContent (sym (content c)) (keeps-tick (content_of c.self.inside) c.args.rule (layout_view c.args.layout.now) c.self.invariant.content);
+      size = ring.size;
+      each = ring.each;
+      placed = ring.placed;
+      known = ring.known;
+      room = rw c.close_due.ensures.capacity c.self.invariant.room;
+      closed_room = rw c.close_due.ensures.closed_capacity c.self.invariant.closed_room;
+    }

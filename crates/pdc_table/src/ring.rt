@@ -1,0 +1,313 @@
+//! Rows at the places of their instants: that of an instant is its remainder by the window.
+//!
+//! ```text
+//! window 8, open 13 14 18     place  0  1  2  3  4  5  6  7
+//!                             row          18       13 14
+//! ```
+ghost use Rattle.std.specs.Prelude.{◌≡◌, ℕ, ◌+◌, ◌%◌, ◌==◌, ◌<◌, ◌≤◌, ◌++◌, drop, List, length, map, nat_lt, replicate, IfOk, slice_set, take, vec_len, if◌then◌else◌};
+ghost use Rattle.std.specs.List.{All, AllByRecursion, list_all, prefix_len, slice_get};
+ghost use Rattle.std.specs.Vec.{vec_capacity};
+ghost use Rattle.std.specs.VecDeque.{deque_capacity, deque_len};
+ghost use Rattle.pdc_block.specs.declared.block.Block.{Block as BlockData};
+ghost use Rattle.pdc_row.specs.Quality.{greatest};
+ghost use Rattle.pdc_row.specs.Rising.{Rises, highest_of, is_near, place};
+ghost use Rattle.pdc_row.specs.RowView.{row_instants, row_view};
+ghost use Rattle.pdc_table.specs.Closing.{aged, closing, counter, is_due, staying};
+ghost use Rattle.pdc_table.specs.Layout.{layout_view};
+ghost use Rattle.pdc_table.specs.OpenInstants.{instants_of};
+ghost use Rattle.pdc_table.specs.RingRows.{base_row, changed, met_row, row_in, rows_in};
+ghost use Rattle.pdc_table.specs.Row.{row_of};
+ghost use Rattle.pdc_table.specs.Steps.{answer_at, disagreements_in, is_taken};
+ghost use Rattle.pdc_table.specs.Taking.{cells_of, with_frame, without_column, without_stream};
+ghost use Rattle.pdc_table.specs.Views.{OpenRowView, blank_row};
+
+use crate::open_row::{OpenRow, Places};
+use crate::rows::is_near;
+use crate::{MAX_COLUMNS, PutOutcome, RowLayout, WaitRule};
+use pdc_block::Block;
+use pdc_row::DueRow;
+use std::alloc::{AllocError, Global};
+use std::collections::VecDeque;
+
+/// The place of an instant.
+fn place_of(window: u64, instant: u64) -> usize
+    requires { 0 < window }
+    ensures value { result ≡ instant % window }
+    ensures bound { result < window }
+{
+    (instant % window) as usize
+}
+
+/// So many places, in each of which stands a row of no instant.
+pub fn new_places(alloc: Global, count: usize, sizes: Places) -> Result<Vec<OpenRow>, AllocError>
+    requires streams { sizes.streams ≤ MAX_COLUMNS }
+    requires columns { sizes.columns ≤ MAX_COLUMNS }
+    ensures items { IfOk result (λ places. places.items ≡ replicate count (blank_row sizes.streams sizes.columns 0)) }
+{
+    let mut places = Vec::with_capacity(alloc, count)?;
+    for _ in 0..count {
+        places.push_reserved(OpenRow::blank(0, sizes));
+    }
+    Ok(places)
+}
+
+/// Whether each held instant is less than the window away.
+pub fn are_near(open: &[u64], closed: &VecDeque<DueRow>, window: u64, instant: u64) -> bool
+    requires { Rises 0 (row_instants (map row_view closed.now.items) ++ open.now) }
+    ensures { result ≡ list_all (is_near window instant) (row_instants (map row_view closed.now.items) ++ open.now) }
+{
+    is_near(lowest(open, closed), window, instant)
+        && is_near(highest(open, closed), window, instant)
+}
+
+/// The lowest instant held.
+fn lowest(open: &[u64], closed: &VecDeque<DueRow>) -> Option<u64>
+    ensures { result ≡ slice_get (row_instants (map row_view closed.now.items) ++ open.now) 0 }
+{
+    match closed.front() {
+        Some(row) => Some(row.instant),
+        None => Some(*open.first()?),
+    }
+}
+
+/// The highest instant held.
+fn highest(open: &[u64], closed: &VecDeque<DueRow>) -> Option<u64>
+    ensures { result ≡ highest_of (row_instants (map row_view closed.now.items) ++ open.now) }
+{
+    match (open.last(), closed.back()) {
+        (Some(instant), _) => Some(*instant),
+        (None, Some(row)) => Some(row.instant),
+        (None, None) => None,
+    }
+}
+
+/// Counts one more tick for each open instant.
+pub fn grow_older(places: &mut Vec<OpenRow>, window: u64, open: &[u64])
+    requires least { 0 < window }
+    requires size { length places.old.items ≡ window }
+    ensures items { places.new.items ≡ changed aged window open.now places.old.items }
+    ensures capacity { vec_capacity places.new ≡ vec_capacity places.old }
+{
+    for instant in open {
+        let place = place_of(window, *instant);
+        places[place].grow_older();
+    }
+}
+
+/// Forgets what was taken of a stream, at each open instant.
+pub fn drop_stream(
+    places: &mut Vec<OpenRow>,
+    window: u64,
+    open: &[u64],
+    lanes: usize,
+    stream: usize,
+)
+    requires least { 0 < window }
+    requires size { length places.old.items ≡ window }
+    requires taken { All (λ (row : OpenRowView). stream < length row.taken) places.old.items }
+    requires column { lanes ≡ 1 → All (λ (row : OpenRowView). stream < length row.columns) places.old.items }
+    ensures items { places.new.items ≡ changed (without_stream lanes stream) window open.now places.old.items }
+    ensures capacity { vec_capacity places.new ≡ vec_capacity places.old }
+{
+    for instant in open {
+        let place = place_of(window, *instant);
+        places[place].drop_stream(lanes, stream);
+    }
+}
+
+/// Forgets the cells of a column, at each open instant.
+pub fn drop_column(places: &mut Vec<OpenRow>, window: u64, open: &[u64], column: usize)
+    requires least { 0 < window }
+    requires size { length places.old.items ≡ window }
+    requires column { All (λ (row : OpenRowView). column < length row.columns) places.old.items }
+    ensures items { places.new.items ≡ changed (without_column column) window open.now places.old.items }
+    ensures capacity { vec_capacity places.new ≡ vec_capacity places.old }
+{
+    for instant in open {
+        let place = place_of(window, *instant);
+        places[place].drop_column(column);
+    }
+}
+
+/// How many open instants stand below this one.
+fn rank(open: &[u64], instant: u64) -> usize
+    requires { Rises 0 open.now }
+    ensures rank { result ≡ prefix_len (λ held. nat_lt held instant) open.now }
+    ensures bound { result ≤ length open.now }
+{
+    open.partition_point(|held| *held < instant)
+}
+
+/// Puts an instant into its place among rising ones.
+fn open_instant(open: &mut Vec<u64>, instant: u64)
+    requires rising { Rises 0 open.old.items }
+    requires room { vec_len open.old < vec_capacity open.old }
+    requires absent { All (λ i. i ≡ instant → ⊥) open.old.items }
+    ensures items { open.new.items ≡ place instant open.old.items }
+    ensures capacity { vec_capacity open.new ≡ vec_capacity open.old }
+{
+    let at = rank(open, instant);
+    open.insert(at, instant).unwrap();
+}
+
+/// Takes a frame of a stream for an instant, unless the stream was taken there.
+pub fn take(
+    places: &mut Vec<OpenRow>,
+    open: &mut Vec<u64>,
+    window: u64,
+    stream: usize,
+    lane: usize,
+    instant: u64,
+    cells: &[(usize, Block)],
+    quality: u8,
+) -> PutOutcome
+    requires least { 0 < window }
+    requires size { length places.old.items ≡ window }
+    requires rising { Rises 0 open.old.items }
+    requires placed { AllByRecursion (λ i. (row_in places.old.items window i).instant ≡ i) open.old.items }
+    requires room { ((row_in places.old.items window instant).instant ≡ instant → ⊥) → vec_len open.old < vec_capacity open.old }
+    requires stream { stream < length (row_in places.old.items window instant).taken }
+    requires columns { All (λ (cell : ℕ × BlockData). cell.0 < length (row_in places.old.items window instant).columns) cells.now }
+    ensures answer { result ≡ answer_at (met_row instant (row_in places.old.items window instant)) stream lane (cells_of cells.now quality) }
+    ensures places { places.new.items ≡ (if is_taken result
+        then slice_set places.old.items (instant % window)
+        (with_frame stream lane (cells_of cells.now quality) (base_row instant (row_in places.old.items window instant)))
+        else places.old.items) }
+    ensures open { open.new.items ≡ (if (row_in places.old.items window instant).instant == instant then open.old.items
+        else place instant open.old.items) }
+    ensures capacity { vec_capacity places.new ≡ vec_capacity places.old }
+    ensures open_capacity { vec_capacity open.new ≡ vec_capacity open.old }
+{
+    let place = place_of(window, instant);
+    let row = &mut places[place];
+    if row.instant() == instant {
+        return row.offer(stream, lane, cells, quality);
+    }
+    row.begin(instant);
+    row.take(stream, lane, cells, quality);
+    open_instant(open, instant);
+    PutOutcome::Taken
+}
+
+/// How many open instants from the front on are due.
+fn count_due(
+    places: &[OpenRow],
+    window: u64,
+    open: &[u64],
+    required: &[bool],
+    rule: WaitRule,
+) -> usize
+    requires least { 0 < window }
+    requires size { length places.now ≡ window }
+    ensures count { result ≡ prefix_len (is_due required.now rule) (rows_in places.now window open.now) }
+    ensures bound { result ≤ length open.now }
+{
+    let mut count = 0;
+    for instant in open {
+        let place = place_of(window, *instant);
+        if !places[place].is_due(required, rule) {
+            return count;
+        }
+        count += 1;
+    }
+    count
+}
+
+/// Closes the rows of these instants under a layout, in order.
+fn close(
+    places: &[OpenRow],
+    window: u64,
+    due: &[u64],
+    layout: &RowLayout,
+    closed: &mut VecDeque<DueRow>,
+)
+    requires least { 0 < window }
+    requires size { length places.now ≡ window }
+    requires room { deque_len closed.old + length due.now ≤ deque_capacity closed.old }
+    ensures items { map row_view closed.new.items
+        ≡ map row_view closed.old.items ++ map (row_of (layout_view layout.now)) (rows_in places.now window due.now) }
+    ensures capacity { deque_capacity closed.new ≡ deque_capacity closed.old }
+{
+    for instant in due {
+        let place = place_of(window, *instant);
+        closed.push_back_reserved(places[place].close(layout));
+    }
+}
+
+/// The count of disagreements after the rows of these instants closed.
+fn count_disagreements(
+    places: &[OpenRow],
+    window: u64,
+    due: &[u64],
+    layout: &RowLayout,
+    so_far: u64,
+) -> u64
+    requires least { 0 < window }
+    requires size { length places.now ≡ window }
+    ensures { result ≡ counter (so_far + disagreements_in (layout_view layout.now) (rows_in places.now window due.now)) }
+{
+    let mut count = so_far;
+    for instant in due {
+        let place = place_of(window, *instant);
+        count = count.saturating_add(places[place].disagreements(layout));
+    }
+    count
+}
+
+/// The greatest of these instants and this one.
+fn greatest(due: &[u64], last: u64) -> u64
+    ensures { result ≡ greatest last due.now }
+{
+    let mut greatest = last;
+    for instant in due {
+        greatest = greatest.max(*instant);
+    }
+    greatest
+}
+
+/// Removes this many instants from the front.
+fn remove_front(open: &mut Vec<u64>, count: usize)
+    requires { count ≤ vec_len open.old }
+    ensures items { open.new.items ≡ drop count open.old.items }
+    ensures capacity { vec_capacity open.new ≡ vec_capacity open.old }
+{
+    open.drain(..count);
+}
+
+/// Closes the rows for which every row up to them is due, and answers how many.
+pub fn close_due(
+    places: &[OpenRow],
+    window: u64,
+    open: &mut Vec<u64>,
+    required: &[bool],
+    rule: WaitRule,
+    layout: &RowLayout,
+    closed: &mut VecDeque<DueRow>,
+    last: &mut u64,
+    disagree: &mut u64,
+) -> usize
+    requires least { 0 < window }
+    requires size { length places.now ≡ window }
+    requires rising { Rises last.old open.old.items }
+    requires placed { AllByRecursion (λ i. (row_in places.now window i).instant ≡ i) open.old.items }
+    requires room { deque_len closed.old + vec_len open.old ≤ deque_capacity closed.old }
+    ensures answer { result ≡ length (closing required.now rule (rows_in places.now window open.old.items)) }
+    ensures open { open.new.items ≡ drop result open.old.items }
+    ensures rows { rows_in places.now window open.new.items ≡ staying required.now rule (rows_in places.now window open.old.items) }
+    ensures closed { map row_view closed.new.items ≡ map row_view closed.old.items
+        ++ map (row_of (layout_view layout.now)) (closing required.now rule (rows_in places.now window open.old.items)) }
+    ensures front { last.new ≡ greatest last.old (take result open.old.items) }
+    ensures last { last.new ≡ greatest last.old (instants_of (closing required.now rule (rows_in places.now window open.old.items))) }
+    ensures disagree { disagree.new ≡ counter (disagree.old
+        + disagreements_in (layout_view layout.now) (closing required.now rule (rows_in places.now window open.old.items))) }
+    ensures capacity { vec_capacity open.new ≡ vec_capacity open.old }
+    ensures closed_capacity { deque_capacity closed.new ≡ deque_capacity closed.old }
+{
+    let count = count_due(places, window, open, required, rule);
+    let due = &open[..count];
+    close(places, window, due, layout, closed);
+    *last = greatest(due, *last);
+    *disagree = count_disagreements(places, window, due, layout, *disagree);
+    remove_front(open, count);
+    count
+}

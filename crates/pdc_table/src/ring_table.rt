@@ -1,0 +1,140 @@
+//! A table kept as a ring.
+use crate::open_row::{OpenRow, Places, falses};
+use crate::sorted_table::{lane_of, stream_count};
+use crate::{MAX_COLUMNS, PutOutcome, RowLayout, Table, WaitRule, ring};
+use arrayvec::ArrayVec;
+use pdc_block::Block;
+use pdc_row::DueRow;
+use std::alloc::{AllocError, Global};
+use std::collections::VecDeque;
+use std::marker::Model;
+
+/// A table kept as a place for each instant of the window: a put finds its row at the remainder of its instant, and no row is
+/// moved.
+#[derive(Drop)]
+pub struct RingTable {
+    window: u64,
+    columns: usize,
+    lanes: usize,
+    required: ArrayVec<bool, MAX_COLUMNS>,
+    /// The row of an open instant stands at its remainder by the window.
+    places: Vec<OpenRow>,
+    /// The open instants, in rising order.
+    open: Vec<u64>,
+    closed: VecDeque<DueRow>,
+    last: u64,
+    disagree: u64,
+}
+
+impl Model for RingTable {
+    ghost use Rattle.pdc_table.specs.TableView.{TableView};
+
+    ghost Value = { TableView };
+
+    ghost use Rattle.pdc_table.specs.Ring.{IsKept, view_of};
+
+    ghost view = { view_of };
+
+    ghost invariant = { IsKept };
+}
+
+impl Table for RingTable {
+    ghost content = { λ table. table.content };
+
+    ghost disagreements = { λ table. table.disagreements };
+
+    ghost memory = { λ table. table.memory };
+
+    fn new(
+        alloc: Global,
+        window: u64,
+        columns: usize,
+        lanes: usize,
+        floor: u64,
+    ) -> Result<RingTable, AllocError> {
+        let room = window as usize;
+        let streams = stream_count(columns, lanes);
+        Ok(RingTable {
+            window,
+            columns,
+            lanes,
+            required: falses(streams),
+            places: ring::new_places(alloc, room, Places { streams, columns })?,
+            open: Vec::with_capacity(alloc, room)?,
+            closed: VecDeque::with_capacity(alloc, room)?,
+            last: floor,
+            disagree: 0,
+        })
+    }
+
+    fn put(
+        &mut self,
+        stream: usize,
+        instant: u64,
+        cells: &[(usize, Block)],
+        quality: u8,
+    ) -> PutOutcome {
+        if instant <= self.last {
+            return PutOutcome::Late;
+        }
+        if !ring::are_near(&self.open, &self.closed, self.window, instant) {
+            return PutOutcome::OutOfWindow;
+        }
+        let lane = lane_of(self.lanes, stream);
+        let RingTable {
+            window,
+            places,
+            open,
+            ..
+        } = self;
+        ring::take(places, open, *window, stream, lane, instant, cells, quality)
+    }
+
+    fn require(&mut self, stream: usize, is_required: bool) {
+        self.required[stream] = is_required;
+    }
+
+    fn tick(&mut self, rule: WaitRule, layout: &RowLayout) -> u32 {
+        ring::grow_older(&mut self.places, self.window, &self.open);
+        let RingTable {
+            window,
+            required,
+            places,
+            open,
+            closed,
+            last,
+            disagree,
+            ..
+        } = self;
+        let required = required.as_slice();
+        ring::close_due(
+            places, *window, open, required, rule, layout, closed, last, disagree,
+        ) as u32
+    }
+
+    fn drop_stream(&mut self, stream: usize) {
+        ring::drop_stream(
+            &mut self.places,
+            self.window,
+            &self.open,
+            self.lanes,
+            stream,
+        );
+    }
+
+    fn drop_column(&mut self, column: usize) {
+        ring::drop_column(&mut self.places, self.window, &self.open, column);
+    }
+
+    fn pop_due(&mut self) -> Option<DueRow> {
+        self.closed.pop_front()
+    }
+
+    fn last(&self) -> u64 {
+        self.last
+    }
+
+    fn disagree(&self) -> u64 {
+        self.disagree
+    }
+}
