@@ -1,3 +1,2 @@
 pub mod ChangeNumbers
 pub mod Held
-pub mod Ranges

@@ -10,22 +10,17 @@
 #![tactic(auto)]
 
 mod blocks;
-mod closing;
 mod given;
-mod in_force;
 mod in_time;
 mod instants;
 mod past;
-mod row_of;
 mod steps;
 mod taking;
-mod ticking;
 
-pub use blocks::body;
+pub use blocks::{body, copy_of};
 pub use given::Given;
-pub use in_force::sections_in_force;
 pub use in_time::{answer_in_time, bare};
-pub use instants::append;
-pub use past::{changes, count_for, held_section, section_in_force};
+pub use instants::{append, open_instants, waiting};
+pub use past::{change_number, changes, cleared_count, count_for, held_section, section_in_force};
 pub use steps::{Answer, Answered, ColumnCell, LifeStep, TickAnswer, are_for_streams};
-pub use ticking::{pop, tick, waiting_counts};
+pub use taking::{Take, age_of, cell_of, take_of};

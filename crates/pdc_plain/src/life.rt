@@ -9,8 +9,9 @@ ghost use Rattle.pdc_past.specs.Views.{given_view, life_view};
 
 use crate::publishing::{append_layout_of, closed, frames_of};
 use pdc_life::MAX_PMUS;
-use pdc_past::{Answered, Given, waiting_counts};
+use pdc_past::{Answered, Given};
 use pdc_row::DueRow;
+use pdc_ticking::waiting_counts;
 use std::alloc::{AllocError, Global};
 
 /// A life of a node or of the merger.

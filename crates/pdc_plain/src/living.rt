@@ -17,8 +17,9 @@ use pdc_life::{
     MergerSettings, Settings, closed_rows_are_frames, lives_are_runs, merger_lives_are_runs,
     rows_have_tags,
 };
-use pdc_past::{Answered, Given, LifeStep, pop, tick};
+use pdc_past::{Answered, Given, LifeStep};
 use pdc_reading::{read_from_node, read_from_pmu};
+use pdc_ticking::{pop, tick};
 use std::alloc::{AllocError, Global};
 
 /// The life that was given this and has these entries.

@@ -8,8 +8,9 @@ ghost use Rattle.pdc_life.specs.Published.{layout_wire, published};
 ghost use Rattle.pdc_past.specs.Views.{given_view, life_view};
 
 use pdc_output::{Output, append_layout, append_row};
-use pdc_past::{Answered, Given, append, changes, sections_in_force};
+use pdc_past::{Answered, Given, append, changes};
 use pdc_row::DueRow;
+use pdc_ticking::sections_in_force;
 use std::alloc::{AllocError, Global};
 
 /// The rows that closed, the first to close first.
