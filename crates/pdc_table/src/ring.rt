@@ -22,7 +22,7 @@ ghost use Rattle.pdc_table.specs.Taking.{cells_of, with_frame, without_column, w
 ghost use Rattle.pdc_table.specs.Views.{OpenRowView, blank_row};
 
 use crate::open_row::{OpenRow, Places};
-use crate::rows::is_near;
+use crate::rows::{is_near, remove_front};
 use crate::{MAX_COLUMNS, PutOutcome, RowLayout, WaitRule};
 use pdc_block::Block;
 use pdc_row::DueRow;
@@ -263,15 +263,6 @@ fn greatest(due: &[u64], last: u64) -> u64
         greatest = greatest.max(*instant);
     }
     greatest
-}
-
-/// Removes this many instants from the front.
-fn remove_front(open: &mut Vec<u64>, count: usize)
-    requires { count ≤ vec_len open.old }
-    ensures items { open.new.items ≡ drop count open.old.items }
-    ensures capacity { vec_capacity open.new ≡ vec_capacity open.old }
-{
-    open.drain(..count);
 }
 
 /// Closes the rows for which every row up to them is due, and answers how many.

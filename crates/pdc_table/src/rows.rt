@@ -93,13 +93,13 @@ pub fn drop_column(rows: &mut Vec<OpenRow>, column: usize)
     }
 }
 
-/// Removes this many rows from the front.
-pub fn remove_front(rows: &mut Vec<OpenRow>, count: usize)
-    requires { count ≤ vec_len rows.old }
-    ensures items { rows.new.items ≡ drop count rows.old.items }
-    ensures capacity { vec_capacity rows.new ≡ vec_capacity rows.old }
+/// Removes so many items from the front.
+pub fn remove_front<T: Drop>(items: &mut Vec<T>, count: usize)
+    requires { count ≤ vec_len items.old }
+    ensures items { items.new.items ≡ drop count items.old.items }
+    ensures capacity { vec_capacity items.new ≡ vec_capacity items.old }
 {
-    rows.drain(..count);
+    items.drain(..count);
 }
 
 /// Closes each of these rows under a layout, in order.
