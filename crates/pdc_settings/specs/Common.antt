@@ -9,8 +9,12 @@ use Rattle.pdc_output.specs.declared.output.Nominal.TheVariants.{Hz50, Hz60}
 use Rattle.pdc_output.specs.declared.output.Output.{Output}
 use Rattle.pdc_life.specs.declared.given.WaitKind.{WaitKind}
 use Rattle.pdc_life.specs.declared.given.WaitKind.TheVariants.{Relative, Absolute}
-use Rattle.pdc_settings.specs.Keys.{number_at, number_in}
-use Rattle.pdc_settings.specs.declared.limits.TheConstants.{MAX_TIME_BASE}
+use Rattle.pdc_life.specs.declared.limits.TheConstants.{MAX_AHEAD, MAX_WAIT, MAX_WINDOW, MIN_WINDOW}
+use Rattle.pdc_publisher.specs.declared.publisher.TheConstants.{MAX_LEAD}
+use Rattle.pdc_settings.specs.Keys.{number_at, number_or_0}
+use Rattle.pdc_settings.specs.declared.limits.TheConstants.{MAX_PORT, MAX_TIME_BASE}
+use Rattle.pdc_settings.specs.declared.service.Service.{Service}
+use Rattle.pdc_settings.specs.declared.timing.Timing.{Timing}
 
 abbrev pub id_in : Members → Option ℕ
 id_in = number_at (codes "id") 1 MAX_ID
@@ -47,3 +51,17 @@ pub record IsOutput (members : Members) (output : Output) : Type 0 where
   pub rate : rate_in members ≡ Some output.rate
   pub nominal : nominal_in members ≡ Some output.nominal
   pub time_base : time_base_in output.rate members ≡ Some output.time_base
+
+-- the settings say this of how long instants are held
+pub record IsTiming (members : Members) (timing : Timing) : Type 0 where
+  pub wait : number_at (codes "wait") 1 MAX_WAIT members ≡ Some timing.wait
+  pub wait_kind : wait_kind_in members ≡ Some timing.wait_kind
+  pub window : number_at (codes "window") MIN_WINDOW MAX_WINDOW members ≡ Some timing.window
+  pub ahead : number_at (codes "ahead") 0 MAX_AHEAD members ≡ Some timing.ahead
+
+-- the settings say this of what the program does with the rows and frames
+pub record IsService (members : Members) (service : Service) : Type 0 where
+  pub lead : number_or_0 MAX_LEAD (get_member (codes "lead") members) ≡ Some service.lead
+  pub layout_every : number_at (codes "layout_every") 1 MAX_PORT members ≡ Some service.layout_every
+  pub out_port : number_at (codes "out_port") 1 MAX_PORT members ≡ Some service.out_port
+  pub session_port : number_at (codes "session_port") 1 MAX_PORT members ≡ Some service.session_port

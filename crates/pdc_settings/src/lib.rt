@@ -8,6 +8,20 @@
 #![tactic(auto)]
 
 mod common;
+mod distinct;
+mod document;
+mod entries;
+mod fault;
 mod keys;
 mod limits;
+mod node;
+mod read_node;
+mod service;
+mod timing;
 mod wanted;
+
+pub use fault::SettingsFault;
+pub use limits::{MAX_PORT, MAX_TIME_BASE};
+pub use node::NodeSettings;
+pub use service::Service;
+pub use wanted::Wanted;
