@@ -7,7 +7,7 @@ ghost use Rattle.pdc_life.specs.declared.pmu.Pmu.{Pmu as PmuData};
 use pdc_life::Pmu;
 
 /// Whether one of them is this id.
-fn has_id(ids: &[u16], id: u16) -> bool
+pub(crate) fn has_id(ids: &[u16], id: u16) -> bool
     ensures { result ≡ list_any (λ other. other == id) ids.now }
 {
     ids.iter().any(|other| *other == id)

@@ -1,5 +1,5 @@
 //! A text as a TOML document.
-ghost use Rattle.std.specs.Prelude.{◌≡◌, IfOk, IfErr, IsNone, Some, None};
+ghost use Rattle.std.specs.Prelude.{◌≡◌, IfOk, IfErr, IsNone, Some, None, option_map};
 ghost use Rattle.toml.specs.Parse.{parse_document};
 ghost use Rattle.toml.specs.View.{table_view};
 ghost use Rattle.pdc_settings.specs.Kind.{IsNoDocument, is_merger};
@@ -33,4 +33,13 @@ pub(crate) fn is_merger(table: &Table) -> bool
         Some(_) => true,
         None => false,
     }
+}
+
+/// Whether a text is the settings of the merger, which it is by the key `node`. Any other document is a node's.
+pub fn is_of_merger(alloc: Global, text: &str) -> Result<bool, SettingsFault>
+    ensures value { IfOk result (λ answer. option_map is_merger (parse_document text.now) ≡ Some answer) }
+    ensures fault { IfErr result (IsNoDocument text.now) }
+{
+    let table = document(alloc, text)?;
+    Ok(is_merger(&table))
 }

@@ -14,7 +14,9 @@ mod entries;
 mod fault;
 mod keys;
 mod limits;
+mod merger;
 mod node;
+mod read_merger;
 mod read_node;
 mod service;
 mod timing;
@@ -22,6 +24,8 @@ mod wanted;
 
 pub use fault::SettingsFault;
 pub use limits::{MAX_PORT, MAX_TIME_BASE};
+pub use document::is_of_merger;
+pub use merger::MergerSettings;
 pub use node::NodeSettings;
 pub use service::Service;
 pub use wanted::Wanted;

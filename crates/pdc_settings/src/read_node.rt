@@ -1,11 +1,11 @@
 //! Reading the settings of a node.
-ghost use Rattle.std.specs.Prelude.{◌≡◌, ◌≤◌, ◌∷◌, IfOk, IsSomeAnd, IsTrue, false, length, map, nat_le};
+ghost use Rattle.std.specs.Prelude.{◌≡◌, ◌≤◌, ◌∷◌, IfOk, IfErr, IfSome, IsSomeAnd, IsTrue, false, length, map, nat_le};
 ghost use Rattle.std.specs.List.{list_all};
 ghost use Rattle.toml.specs.Parse.{parse_document};
 ghost use Rattle.toml.specs.View.{table_view};
 ghost use Rattle.pdc_life.specs.declared.given.TheConstants.{MAX_PMUS};
 ghost use Rattle.pdc_life.specs.declared.pmu.Pmu.{Pmu as PmuData};
-ghost use Rattle.pdc_settings.specs.Kind.{is_merger};
+ghost use Rattle.pdc_settings.specs.Kind.{IsFaultOf, is_merger};
 ghost use Rattle.pdc_settings.specs.Settings.{IsCommon, IsNodeSettings};
 ghost use Rattle.pdc_life.specs.Distinct.{are_distinct};
 
@@ -52,6 +52,7 @@ fn bases_reach(pmus: &[Pmu], rate: u16) -> bool
 /// Reads the PMUs, in their order.
 fn read_pmus(values: &[Value], rate: u16) -> Result<ArrayVec<Pmu, MAX_PMUS>, Wanted>
     requires few { length values.now ≤ MAX_PMUS }
+    ensures bases { IfOk result (λ pmus. IsTrue (list_all (λ (pmu : PmuData). nat_le rate pmu.time_base) pmus.items)) }
     ensures len { IfOk result (λ pmus. length pmus.items ≡ length values.now) }
 {
     let mut pmus = ArrayVec::new();
@@ -60,6 +61,9 @@ fn read_pmus(values: &[Value], rate: u16) -> Result<ArrayVec<Pmu, MAX_PMUS>, Wan
             return Err(Wanted::Pmus);
         };
         pmus.push(read_pmu(table, rate)?);
+    }
+    if !bases_reach(&pmus, rate) {
+        return Err(Wanted::PmuTimeBase);
     }
     Ok(pmus)
 }
@@ -86,6 +90,7 @@ fn read_parts(
     ensures kind { IfOk result (λ parts. is_merger (table_view table.now) ≡ false) }
     ensures common { IfOk result (λ parts. IsCommon (table_view table.now) parts.0) }
     ensures some { IfOk result (λ parts. 1 ≤ length parts.1.items) }
+    ensures bases { IfOk result (λ parts. IsTrue (list_all (λ (pmu : PmuData). nat_le parts.0.output.rate pmu.time_base) parts.1.items)) }
     ensures ports { IfOk result (λ parts. length parts.2.items ≡ length parts.1.items) }
 {
     if is_merger(table) {
@@ -109,27 +114,26 @@ fn ids_are_distinct(id: u16, pmus: &[Pmu]) -> bool
     !has_source(pmus, id) && sources_differ(pmus)
 }
 
-/// What the lives of a node depend on.
+/// What the lives of a node depend on, where its ids are distinct.
 fn life_of(
     output: Output,
     timing: Timing,
     pmus: ArrayVec<Pmu, MAX_PMUS>,
-) -> Result<Settings, SettingsFault>
+) -> Option<Settings>
     requires some { 1 ≤ length pmus.items }
-    ensures output { IfOk result (λ life. life.output ≡ output) }
-    ensures wait { IfOk result (λ life. life.wait ≡ timing.wait) }
-    ensures wait_kind { IfOk result (λ life. life.wait_kind ≡ timing.wait_kind) }
-    ensures window { IfOk result (λ life. life.window ≡ timing.window) }
-    ensures ahead { IfOk result (λ life. life.ahead ≡ timing.ahead) }
-    ensures pmus { IfOk result (λ life. life.pmus ≡ pmus) }
+    requires bases { IsTrue (list_all (λ (pmu : PmuData). nat_le output.rate pmu.time_base) pmus.items) }
+    ensures output { IfSome result (λ life. life.output ≡ output) }
+    ensures wait { IfSome result (λ life. life.wait ≡ timing.wait) }
+    ensures wait_kind { IfSome result (λ life. life.wait_kind ≡ timing.wait_kind) }
+    ensures window { IfSome result (λ life. life.window ≡ timing.window) }
+    ensures ahead { IfSome result (λ life. life.ahead ≡ timing.ahead) }
+    ensures pmus { IfSome result (λ life. life.pmus ≡ pmus) }
+    ensures len { IfSome result (λ life. length life.pmus.items ≡ length pmus.items) }
 {
-    if !bases_reach(&pmus, output.rate) {
-        return Err(SettingsFault::Range(Wanted::PmuTimeBase));
-    }
     if !ids_are_distinct(output.id, &pmus) {
-        return Err(SettingsFault::DoubledId);
+        return None;
     }
-    Ok(Settings {
+    Some(Settings {
         output,
         wait: timing.wait,
         wait_kind: timing.wait_kind,
@@ -143,11 +147,14 @@ impl NodeSettings {
     /// Reads the settings of a node out of a text of TOML.
     pub fn from_toml(alloc: Global, text: &str) -> Result<NodeSettings, SettingsFault>
         ensures value { IfOk result (λ settings. IsSomeAnd (parse_document text.now) (λ members. IsNodeSettings members settings)) }
+        ensures fault { IfErr result (IsFaultOf text.now) }
     {
         let table = document(alloc, text)?;
         match read_parts(&table) {
             Ok((common, pmus, ports)) => {
-                let life = life_of(common.output, common.timing, pmus)?;
+                let Some(life) = life_of(common.output, common.timing, pmus) else {
+                    return Err(SettingsFault::DoubledId);
+                };
                 Ok(NodeSettings {
                     life,
                     service: common.service,
