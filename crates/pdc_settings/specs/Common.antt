@@ -1,5 +1,5 @@
 -- What a node and the merger are told alike, key by key (this profile).
-use Rattle.std.specs.Prelude.{◌≡◌, ℕ, List, Bool, true, false, codes, nat_eq, if◌then◌else◌, Option, Some, None, option_and_then}
+use Rattle.std.specs.Prelude.{◌≡◌, ℕ, List, codes, nat_eq, if◌then◌else◌, Option, Some, None, option_and_then}
 use Rattle.std.specs.Cmp.Lexicographic.{pointwise}
 use Rattle.toml.specs.Data.{Data, Members, as_str, get_member}
 use Rattle.pdc_frame.specs.declared.limits.TheConstants.{MAX_ID}

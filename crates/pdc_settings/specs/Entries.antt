@@ -1,5 +1,5 @@
 -- What the tables of the PMUs and of the nodes say (this profile).
-use Rattle.std.specs.Prelude.{◌≡◌, ℕ, List, codes, Option, Some, None}
+use Rattle.std.specs.Prelude.{◌≡◌, ℕ, codes, Option, Some, None}
 use Rattle.toml.specs.Data.{Data, Members, get_member}
 use Rattle.pdc_frame.specs.declared.limits.TheConstants.{MAX_ID}
 use Rattle.pdc_life.specs.declared.pmu.Pmu.{Pmu}

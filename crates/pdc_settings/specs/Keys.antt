@@ -1,5 +1,5 @@
 -- The values at the keys of a settings text (this profile).
-use Rattle.std.specs.Prelude.{ℕ, ℤ, pos, negsuc, List, Bool, true, false, ◌&&◌, nat_le, if◌then◌else◌, Option, Some, None, option_and_then}
+use Rattle.std.specs.Prelude.{ℕ, ℤ, pos, negsuc, List, ◌&&◌, nat_le, if◌then◌else◌, Option, Some, None, option_and_then}
 use Rattle.toml.specs.Data.{Data, Members, as_integer, get_member}
 
 -- the number that an integer is, where it lies from `least` to `most`

@@ -44,7 +44,13 @@ pub(crate) fn read_pmu(table: &Table, rate: u16) -> Result<Pmu, Wanted>
         return Err(Wanted::PmuSource);
     };
     let most = u64::from(MAX_TIME_BASE);
-    let time_base = number(table, "time_base", u64::from(rate), most, Wanted::PmuTimeBase)?;
+    let time_base = number(
+        table,
+        "time_base",
+        u64::from(rate),
+        most,
+        Wanted::PmuTimeBase,
+    )?;
     Ok(Pmu {
         stream: stream as u16,
         source: source as u16,
@@ -59,7 +65,13 @@ pub(crate) fn read_node(table: &Table, rate: u16) -> Result<MergedNode, Wanted>
 {
     let id = number(table, "id", 1, u64::from(MAX_ID), Wanted::NodeId)?;
     let most = u64::from(MAX_TIME_BASE);
-    let time_base = number(table, "time_base", u64::from(rate), most, Wanted::NodeTimeBase)?;
+    let time_base = number(
+        table,
+        "time_base",
+        u64::from(rate),
+        most,
+        Wanted::NodeTimeBase,
+    )?;
     Ok(MergedNode {
         id: id as u16,
         time_base: time_base as u32,

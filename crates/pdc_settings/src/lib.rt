@@ -22,9 +22,9 @@ mod service;
 mod timing;
 mod wanted;
 
+pub use document::is_of_merger;
 pub use fault::SettingsFault;
 pub use limits::{MAX_PORT, MAX_TIME_BASE};
-pub use document::is_of_merger;
 pub use merger::MergerSettings;
 pub use node::NodeSettings;
 pub use service::Service;

@@ -115,11 +115,7 @@ fn ids_are_distinct(id: u16, pmus: &[Pmu]) -> bool
 }
 
 /// What the lives of a node depend on, where its ids are distinct.
-fn life_of(
-    output: Output,
-    timing: Timing,
-    pmus: ArrayVec<Pmu, MAX_PMUS>,
-) -> Option<Settings>
+fn life_of(output: Output, timing: Timing, pmus: ArrayVec<Pmu, MAX_PMUS>) -> Option<Settings>
     requires some { 1 ≤ length pmus.items }
     requires bases { IsTrue (list_all (λ (pmu : PmuData). nat_le output.rate pmu.time_base) pmus.items) }
     ensures output { IfSome result (λ life. life.output ≡ output) }

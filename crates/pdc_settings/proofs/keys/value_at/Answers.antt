@@ -1,4 +1,3 @@
-use Rattle.std.proofs.Common.{rules}
 use Rattle.toml.proofs.Views.{table_get}
 use Rattle.pdc_settings.proofs.keys.value_at.Goals as goal
 
