@@ -1,0 +1,67 @@
+-- What a node and the merger are told alike, key by key (this profile).
+use Rattle.std.specs.Prelude.{◌≡◌, ℕ, List, codes, nat_eq, if◌then◌else◌, Option, Some, None, option_and_then}
+use Rattle.std.specs.Cmp.Lexicographic.{pointwise}
+use Rattle.toml.specs.Data.{Data, Members, as_str, get_member}
+use Rattle.pdc_frame.specs.declared.limits.TheConstants.{MAX_ID}
+use Rattle.pdc_tag.specs.declared.limits.TheConstants.{MAX_RATE}
+use Rattle.pdc_output.specs.declared.output.Nominal.{Nominal}
+use Rattle.pdc_output.specs.declared.output.Nominal.TheVariants.{Hz50, Hz60}
+use Rattle.pdc_output.specs.declared.output.Output.{Output}
+use Rattle.pdc_life.specs.declared.given.WaitKind.{WaitKind}
+use Rattle.pdc_life.specs.declared.given.WaitKind.TheVariants.{Relative, Absolute}
+use Rattle.pdc_life.specs.declared.limits.TheConstants.{MAX_AHEAD, MAX_WAIT, MAX_WINDOW, MIN_WINDOW}
+use Rattle.pdc_publisher.specs.declared.publisher.TheConstants.{MAX_LEAD}
+use Rattle.pdc_settings.specs.Keys.{number_at, number_or_0}
+use Rattle.pdc_settings.specs.declared.limits.TheConstants.{MAX_PORT, MAX_TIME_BASE}
+use Rattle.pdc_settings.specs.declared.service.Service.{Service}
+use Rattle.pdc_settings.specs.declared.timing.Timing.{Timing}
+
+abbrev pub id_in : Members → Option ℕ
+id_in = number_at (codes "id") 1 MAX_ID
+
+abbrev pub rate_in : Members → Option ℕ
+rate_in = number_at (codes "rate") 1 MAX_RATE
+
+-- the nominal frequency of so many hertz
+abbrev pub nominal_of : ℕ → Option Nominal
+nominal_of n = if nat_eq n 50 then Some Hz50 else if nat_eq n 60 then Some Hz60 else None
+
+abbrev pub nominal_in : Members → Option Nominal
+nominal_in members = option_and_then nominal_of (number_at (codes "nominal") 50 60 members)
+
+-- TIME_BASE in a table, which is at least the rate
+abbrev pub time_base_in : ℕ → Members → Option ℕ
+time_base_in rate = number_at (codes "time_base") rate MAX_TIME_BASE
+
+-- the kind of wait of this name
+abbrev pub wait_kind_named : List ℕ → Option WaitKind
+wait_kind_named name = if pointwise nat_eq name (codes "relative") then Some Relative else if pointwise nat_eq name (codes "absolute") then Some Absolute else None
+
+-- the kind of wait that a value is: relative where it is left out
+abbrev pub wait_kind_of : Option Data → Option WaitKind
+wait_kind_of None = Some Relative
+wait_kind_of (Some value) = option_and_then wait_kind_named (as_str value)
+
+abbrev pub wait_kind_in : Members → Option WaitKind
+wait_kind_in members = wait_kind_of (get_member (codes "wait_kind") members)
+
+-- the settings say this of the output
+pub record IsOutput (members : Members) (output : Output) : Type 0 where
+  pub id : id_in members ≡ Some output.id
+  pub rate : rate_in members ≡ Some output.rate
+  pub nominal : nominal_in members ≡ Some output.nominal
+  pub time_base : time_base_in output.rate members ≡ Some output.time_base
+
+-- the settings say this of how long instants are held
+pub record IsTiming (members : Members) (timing : Timing) : Type 0 where
+  pub wait : number_at (codes "wait") 1 MAX_WAIT members ≡ Some timing.wait
+  pub wait_kind : wait_kind_in members ≡ Some timing.wait_kind
+  pub window : number_at (codes "window") MIN_WINDOW MAX_WINDOW members ≡ Some timing.window
+  pub ahead : number_at (codes "ahead") 0 MAX_AHEAD members ≡ Some timing.ahead
+
+-- the settings say this of what the program does with the rows and frames
+pub record IsService (members : Members) (service : Service) : Type 0 where
+  pub lead : number_or_0 MAX_LEAD (get_member (codes "lead") members) ≡ Some service.lead
+  pub layout_every : number_at (codes "layout_every") 1 MAX_PORT members ≡ Some service.layout_every
+  pub out_port : number_at (codes "out_port") 1 MAX_PORT members ≡ Some service.out_port
+  pub session_port : number_at (codes "session_port") 1 MAX_PORT members ≡ Some service.session_port

@@ -1,0 +1,21 @@
+-- The values at the keys of a settings text (this profile).
+use Rattle.std.specs.Prelude.{ℕ, ℤ, pos, negsuc, List, ◌&&◌, nat_le, if◌then◌else◌, Option, Some, None, option_and_then}
+use Rattle.toml.specs.Data.{Data, Members, as_integer, get_member}
+
+-- the number that an integer is, where it lies from `least` to `most`
+abbrev pub in_range : ℕ → ℕ → ℤ → Option ℕ
+in_range least most (pos n) = if nat_le least n && nat_le n most then Some n else None
+in_range least most (negsuc n) = None
+
+-- the number that a value is, where there is one and it is an integer of the range
+abbrev pub number_in : ℕ → ℕ → Option Data → Option ℕ
+number_in least most value = option_and_then (in_range least most) (option_and_then as_integer value)
+
+-- the number at a key that must stand
+abbrev pub number_at : List ℕ → ℕ → ℕ → Members → Option ℕ
+number_at key least most members = number_in least most (get_member key members)
+
+-- the number of a value that may be left out, and is 0 then
+abbrev pub number_or_0 : ℕ → Option Data → Option ℕ
+number_or_0 most None = Some 0
+number_or_0 most (Some value) = number_in 0 most (Some value)

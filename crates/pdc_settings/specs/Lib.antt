@@ -1,0 +1,5 @@
+pub mod Common
+pub mod Entries
+pub mod Keys
+pub mod Kind
+pub mod Settings

@@ -1,0 +1,138 @@
+//! What a node and the merger are told alike.
+ghost use Rattle.std.specs.Prelude.{◌≡◌, ◌≤◌, IfOk, ok_or};
+ghost use Rattle.toml.specs.View.{table_view};
+ghost use Rattle.pdc_settings.specs.Common.{IsOutput, IsService, IsTiming, nominal_in, nominal_of, wait_kind_in, wait_kind_named};
+ghost use Rattle.pdc_settings.specs.Settings.{IsCommon};
+
+use crate::keys::{number, number_or_0, value_at};
+use crate::limits::{MAX_PORT, MAX_TIME_BASE};
+use crate::service::Service;
+use crate::timing::Timing;
+use crate::wanted::Wanted;
+use pdc_frame::MAX_ID;
+use pdc_life::{MAX_AHEAD, MAX_WAIT, MAX_WINDOW, MIN_WINDOW, WaitKind};
+use pdc_output::{Nominal, Output};
+use pdc_publisher::MAX_LEAD;
+use pdc_tag::MAX_RATE;
+use toml::Table;
+
+fn nominal_of(hertz: u64) -> Option<Nominal>
+    ensures { result ≡ nominal_of hertz }
+{
+    match hertz {
+        50 => Some(Nominal::Hz50),
+        60 => Some(Nominal::Hz60),
+        _ => None,
+    }
+}
+
+fn nominal(table: &Table) -> Result<Nominal, Wanted>
+    ensures { result ≡ ok_or (nominal_in (table_view table.now)) Wanted.Nominal }
+{
+    let hertz = number(table, "nominal", 50, 60, Wanted::Nominal)?;
+    match nominal_of(hertz) {
+        Some(nominal) => Ok(nominal),
+        None => Err(Wanted::Nominal),
+    }
+}
+
+fn wait_kind_named(name: &str) -> Option<WaitKind>
+    ensures { result ≡ wait_kind_named name.now }
+{
+    if name == "relative" {
+        Some(WaitKind::Relative)
+    } else if name == "absolute" {
+        Some(WaitKind::Absolute)
+    } else {
+        None
+    }
+}
+
+/// What the wait is counted in: ticks where the key is left out.
+fn wait_kind(table: &Table) -> Option<WaitKind>
+    ensures { result ≡ wait_kind_in (table_view table.now) }
+{
+    match value_at(table, "wait_kind") {
+        Some(value) => match value.as_str() {
+            Some(name) => wait_kind_named(name),
+            None => None,
+        },
+        None => Some(WaitKind::Relative),
+    }
+}
+
+/// What the frames say that it publishes.
+fn output(table: &Table) -> Result<Output, Wanted>
+    ensures { IfOk result (IsOutput (table_view table.now)) }
+{
+    let id = number(table, "id", 1, u64::from(MAX_ID), Wanted::Id)?;
+    let rate = number(table, "rate", 1, u64::from(MAX_RATE), Wanted::Rate)?;
+    let nominal = nominal(table)?;
+    let most = u64::from(MAX_TIME_BASE);
+    let time_base = number(table, "time_base", rate, most, Wanted::TimeBase)?;
+    Ok(Output {
+        id: id as u16,
+        rate: rate as u16,
+        nominal,
+        time_base: time_base as u32,
+    })
+}
+
+/// How long instants are held.
+fn timing(table: &Table) -> Result<Timing, Wanted>
+    ensures { IfOk result (IsTiming (table_view table.now)) }
+{
+    let wait = number(table, "wait", 1, MAX_WAIT, Wanted::Wait)?;
+    let Some(wait_kind) = wait_kind(table) else {
+        return Err(Wanted::WaitKind);
+    };
+    let window = number(table, "window", MIN_WINDOW, MAX_WINDOW, Wanted::Window)?;
+    let ahead = number(table, "ahead", 0, MAX_AHEAD, Wanted::Ahead)?;
+    Ok(Timing {
+        wait,
+        wait_kind,
+        window,
+        ahead,
+    })
+}
+
+/// What the running program does with the rows and frames.
+fn service(table: &Table) -> Result<Service, Wanted>
+    ensures { IfOk result (IsService (table_view table.now)) }
+{
+    let most = u64::from(MAX_PORT);
+    let Some(lead) = number_or_0(table, "lead", u64::from(MAX_LEAD)) else {
+        return Err(Wanted::Lead);
+    };
+    let layout_every = number(table, "layout_every", 1, most, Wanted::LayoutEvery)?;
+    let out_port = number(table, "out_port", 1, most, Wanted::OutPort)?;
+    let session_port = number(table, "session_port", 1, most, Wanted::SessionPort)?;
+    Ok(Service {
+        lead: lead as u16,
+        layout_every: layout_every as u16,
+        out_port: out_port as u16,
+        session_port: session_port as u16,
+    })
+}
+
+/// What a node and the merger are told alike.
+#[derive(Clone, Copy, Debug)]
+pub(crate) struct Common {
+    pub output: Output,
+    pub timing: Timing,
+    pub service: Service,
+}
+
+/// What a node and the merger are told alike.
+pub(crate) fn read_common(table: &Table) -> Result<Common, Wanted>
+    ensures { IfOk result (IsCommon (table_view table.now)) }
+{
+    let output = output(table)?;
+    let timing = timing(table)?;
+    let service = service(table)?;
+    Ok(Common {
+        output,
+        timing,
+        service,
+    })
+}

@@ -1,0 +1,45 @@
+//! A text as a TOML document.
+ghost use Rattle.std.specs.Prelude.{◌≡◌, IfOk, IfErr, IsNone, Some, None, option_map};
+ghost use Rattle.toml.specs.Parse.{parse_document};
+ghost use Rattle.toml.specs.View.{table_view};
+ghost use Rattle.pdc_settings.specs.Kind.{IsNoDocument, is_merger};
+
+use crate::fault::SettingsFault;
+use crate::keys::value_at;
+use std::alloc::Global;
+use toml::Table;
+
+/// The document that a text is.
+pub(crate) fn document(alloc: Global, text: &str) -> Result<Table, SettingsFault>
+    ensures found { IfOk result (λ table. parse_document text.now ≡ Some (table_view table)) }
+    ensures fault { IfErr result (IsNoDocument text.now) }
+{
+    match toml::table_from_str(alloc, text) {
+        Ok(table) => Ok(table),
+        Err(error) => {
+            if error.is_memory() {
+                return Err(SettingsFault::NoMemory);
+            }
+            Err(SettingsFault::Toml)
+        }
+    }
+}
+
+/// Whether the settings are a merger's.
+pub(crate) fn is_merger(table: &Table) -> bool
+    ensures { result ≡ is_merger (table_view table.now) }
+{
+    match value_at(table, "node") {
+        Some(_) => true,
+        None => false,
+    }
+}
+
+/// Whether a text is the settings of the merger, which it is by the key `node`. Any other document is a node's.
+pub fn is_of_merger(alloc: Global, text: &str) -> Result<bool, SettingsFault>
+    ensures value { IfOk result (λ answer. option_map is_merger (parse_document text.now) ≡ Some answer) }
+    ensures fault { IfErr result (IsNoDocument text.now) }
+{
+    let table = document(alloc, text)?;
+    Ok(is_merger(&table))
+}

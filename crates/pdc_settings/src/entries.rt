@@ -1,0 +1,79 @@
+//! The tables of the PMUs and of the nodes.
+ghost use Rattle.std.specs.Prelude.{◌≡◌, ◌≤◌, IfOk, IfSome, Some, codes};
+ghost use Rattle.toml.specs.Data.{get_member};
+ghost use Rattle.toml.specs.View.{table_view};
+ghost use Rattle.pdc_frame.specs.declared.limits.TheConstants.{MAX_ID};
+ghost use Rattle.pdc_settings.specs.Entries.{IsNode, IsPmu, port_in, source_of};
+
+use crate::keys::{number, number_in, value_at};
+use crate::limits::{MAX_PORT, MAX_TIME_BASE};
+use crate::wanted::Wanted;
+use pdc_frame::MAX_ID;
+use pdc_life::{MergedNode, Pmu};
+use toml::Table;
+
+/// The port of a table, 1 to 65535.
+pub(crate) fn port(table: &Table, wanted: Wanted) -> Result<u16, Wanted>
+    ensures { IfOk result (λ n. port_in (table_view table.now) ≡ Some n) }
+{
+    let port = number(table, "port", 1, u64::from(MAX_PORT), wanted)?;
+    Ok(port as u16)
+}
+
+/// The source of a PMU's table: where it is left out, the stream.
+fn source(table: &Table, stream: u64) -> Option<u64>
+    requires low { 1 ≤ stream }
+    requires high { stream ≤ MAX_ID }
+    ensures value { result ≡ source_of stream (get_member (codes "source") (table_view table.now)) }
+    ensures low { IfSome result (λ n. 1 ≤ n) }
+    ensures high { IfSome result (λ n. n ≤ MAX_ID) }
+{
+    match value_at(table, "source") {
+        Some(value) => number_in(value, 1, u64::from(MAX_ID)),
+        None => Some(stream),
+    }
+}
+
+/// What a PMU's table says of it.
+pub(crate) fn read_pmu(table: &Table, rate: u16) -> Result<Pmu, Wanted>
+    ensures value { IfOk result (IsPmu rate (table_view table.now)) }
+    ensures base { IfOk result (λ pmu. rate ≤ pmu.time_base) }
+{
+    let stream = number(table, "stream", 1, u64::from(MAX_ID), Wanted::PmuStream)?;
+    let Some(source) = source(table, stream) else {
+        return Err(Wanted::PmuSource);
+    };
+    let most = u64::from(MAX_TIME_BASE);
+    let time_base = number(
+        table,
+        "time_base",
+        u64::from(rate),
+        most,
+        Wanted::PmuTimeBase,
+    )?;
+    Ok(Pmu {
+        stream: stream as u16,
+        source: source as u16,
+        time_base: time_base as u32,
+    })
+}
+
+/// What a node's table says of it.
+pub(crate) fn read_node(table: &Table, rate: u16) -> Result<MergedNode, Wanted>
+    ensures value { IfOk result (IsNode rate (table_view table.now)) }
+    ensures base { IfOk result (λ node. rate ≤ node.time_base) }
+{
+    let id = number(table, "id", 1, u64::from(MAX_ID), Wanted::NodeId)?;
+    let most = u64::from(MAX_TIME_BASE);
+    let time_base = number(
+        table,
+        "time_base",
+        u64::from(rate),
+        most,
+        Wanted::NodeTimeBase,
+    )?;
+    Ok(MergedNode {
+        id: id as u16,
+        time_base: time_base as u32,
+    })
+}

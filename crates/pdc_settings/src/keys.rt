@@ -1,0 +1,75 @@
+//! The values at the keys of a settings text.
+ghost use Rattle.std.specs.Prelude.{◌≡◌, ◌≤◌, IfSome, IfOk, Some, ok_or, option_map};
+ghost use Rattle.toml.specs.Data.{get_member};
+ghost use Rattle.toml.specs.View.{table_view, view};
+ghost use Rattle.pdc_settings.specs.Keys.{in_range, number_at, number_in, number_or_0};
+
+use crate::wanted::Wanted;
+use toml::{Table, Value};
+
+/// The value at a key.
+pub(crate) fn value_at<'t>(table: &'t Table, key: &str) -> Option<&'t Value>
+    ensures { option_map (λ v. view v.now) result ≡ get_member key.now (table_view table.now) }
+{
+    table.get(key)
+}
+
+fn within(n: i64, least: u64, most: u64) -> Option<u64>
+    ensures { result ≡ in_range least most n }
+{
+    let n = u64::try_from(n).ok()?;
+    if n < least || n > most {
+        return None;
+    }
+    Some(n)
+}
+
+/// The number that a value is, where it is an integer from `least` to `most`.
+pub(crate) fn number_in(value: &Value, least: u64, most: u64) -> Option<u64>
+    ensures { result ≡ number_in least most (Some (view value.now)) }
+{
+    match value.as_integer() {
+        Some(n) => within(n, least, most),
+        None => None,
+    }
+}
+
+fn number_at(table: &Table, key: &str, least: u64, most: u64) -> Option<u64>
+    ensures value { result ≡ number_at key.now least most (table_view table.now) }
+    ensures low { IfSome result (λ n. least ≤ n) }
+    ensures high { IfSome result (λ n. n ≤ most) }
+{
+    match value_at(table, key) {
+        Some(value) => number_in(value, least, most),
+        None => None,
+    }
+}
+
+/// The number at a key that must stand, from `least` to `most`.
+pub(crate) fn number(
+    table: &Table,
+    key: &str,
+    least: u64,
+    most: u64,
+    wanted: Wanted,
+) -> Result<u64, Wanted>
+    ensures value { result ≡ ok_or (number_at key.now least most (table_view table.now)) wanted }
+    ensures low { IfOk result (λ n. least ≤ n) }
+    ensures high { IfOk result (λ n. n ≤ most) }
+{
+    match number_at(table, key, least, most) {
+        Some(n) => Ok(n),
+        None => Err(wanted),
+    }
+}
+
+/// The number at a key that may be left out, and is 0 then: at most `most`.
+pub(crate) fn number_or_0(table: &Table, key: &str, most: u64) -> Option<u64>
+    ensures value { result ≡ number_or_0 most (get_member key.now (table_view table.now)) }
+    ensures high { IfSome result (λ n. n ≤ most) }
+{
+    match value_at(table, key) {
+        Some(value) => number_in(value, 0, most),
+        None => Some(0),
+    }
+}

@@ -1,0 +1,31 @@
+//! Settings of a node and of the merger, out of a text of TOML (this profile).
+//!
+//! The first types to look at are [`NodeSettings`] and [`MergerSettings`]. What the answers of a life depend on is the type of
+//! `pdc_life`; beside it stands what the running program is told.
+//!
+//! To the layers above this crate promises that the settings which it gives are the values of the document, key by key, in
+//! their ranges and with no id twice.
+#![tactic(auto)]
+
+mod common;
+mod distinct;
+mod document;
+mod entries;
+mod fault;
+mod keys;
+mod limits;
+mod merger;
+mod node;
+mod read_merger;
+mod read_node;
+mod service;
+mod timing;
+mod wanted;
+
+pub use document::is_of_merger;
+pub use fault::SettingsFault;
+pub use limits::{MAX_PORT, MAX_TIME_BASE};
+pub use merger::MergerSettings;
+pub use node::NodeSettings;
+pub use service::Service;
+pub use wanted::Wanted;

@@ -1,0 +1,187 @@
+//! Reading the settings of the merger.
+ghost use Rattle.std.specs.Prelude.{◌≡◌, ◌<◌, ◌≤◌, ◌∷◌, ◌&&◌, IfOk, IfErr, IfSome, IsSomeAnd, IsTrue, length, nat_le, nat_lt, true};
+ghost use Rattle.std.specs.List.{list_all};
+ghost use Rattle.toml.specs.Parse.{parse_document};
+ghost use Rattle.toml.specs.View.{table_view};
+ghost use Rattle.pdc_frame.specs.declared.limits.TheConstants.{MAX_ID};
+ghost use Rattle.pdc_life.specs.Distinct.{are_distinct};
+ghost use Rattle.pdc_life.specs.declared.given.TheConstants.{MAX_PMUS};
+ghost use Rattle.pdc_settings.specs.Kind.{IsFaultOf, is_merger};
+ghost use Rattle.pdc_settings.specs.Settings.{IsCommon, IsMergerSettings};
+
+use crate::common::{Common, read_common};
+use crate::distinct::{has_id, ids_differ};
+use crate::document::{document, is_merger};
+use crate::entries::{port, read_node};
+use crate::fault::SettingsFault;
+use crate::keys::{number, value_at};
+use crate::merger::MergerSettings;
+use crate::read_node::pmu_tables;
+use crate::timing::Timing;
+use crate::wanted::Wanted;
+use arrayvec::ArrayVec;
+use pdc_frame::MAX_ID;
+use pdc_life::{MAX_PMUS, MergedNode};
+use pdc_output::Output;
+use std::alloc::Global;
+use toml::{Table, Value};
+
+/// A node that the merger takes, with the port that it sends to.
+#[derive(Clone, Copy, Debug)]
+struct Taken {
+    node: MergedNode,
+    port: u16,
+}
+
+/// Reads a table at the key `node`.
+fn read_taken(value: &Value, rate: u16) -> Result<Taken, Wanted>
+    ensures base { IfOk result (λ taken. rate ≤ taken.node.time_base) }
+{
+    let Some(table) = value.as_table() else {
+        return Err(Wanted::Nodes);
+    };
+    let node = read_node(table, rate)?;
+    let port = port(table, Wanted::NodePort)?;
+    Ok(Taken { node, port })
+}
+
+/// Reads the two tables at the key `node`: node A and then node B.
+fn read_nodes(table: &Table, rate: u16) -> Result<(Taken, Taken), Wanted>
+    ensures first { IfOk result (λ nodes. rate ≤ nodes.0.node.time_base) }
+    ensures second { IfOk result (λ nodes. rate ≤ nodes.1.node.time_base) }
+{
+    let Some(value) = value_at(table, "node") else {
+        return Err(Wanted::Nodes);
+    };
+    let Some(list) = value.as_array() else {
+        return Err(Wanted::Nodes);
+    };
+    let values = list.as_slice();
+    if values.len() != 2 {
+        return Err(Wanted::Nodes);
+    }
+    let first = read_taken(&values[0], rate)?;
+    let second = read_taken(&values[1], rate)?;
+    Ok((first, second))
+}
+
+/// Whether each is the id of a stream, 1 to 65534.
+fn are_ids(ids: &[u16]) -> bool
+    ensures { result ≡ list_all (λ id. nat_lt 0 id && nat_le id MAX_ID) ids.now }
+{
+    ids.iter().all(|id| 0 < *id && *id <= MAX_ID)
+}
+
+/// Reads the sources of the PMUs, in their order.
+fn read_sources(values: &[Value]) -> Result<ArrayVec<u16, MAX_PMUS>, Wanted>
+    requires few { length values.now ≤ MAX_PMUS }
+    ensures ids { IfOk result (λ sources. IsTrue (list_all (λ id. nat_lt 0 id && nat_le id MAX_ID) sources.items)) }
+    ensures len { IfOk result (λ sources. length sources.items ≡ length values.now) }
+{
+    let mut sources = ArrayVec::new();
+    for value in values {
+        let Some(table) = value.as_table() else {
+            return Err(Wanted::Pmus);
+        };
+        let source = number(table, "source", 1, u64::from(MAX_ID), Wanted::PmuSource)?;
+        sources.push(source as u16);
+    }
+    if !are_ids(&sources) {
+        return Err(Wanted::PmuSource);
+    }
+    Ok(sources)
+}
+
+/// What the tables and keys of the merger's document say, each in its range.
+fn read_parts(table: &Table) -> Result<(Common, Taken, Taken, ArrayVec<u16, MAX_PMUS>), Wanted>
+    ensures kind { IfOk result (λ parts. is_merger (table_view table.now) ≡ true) }
+    ensures common { IfOk result (λ parts. IsCommon (table_view table.now) parts.0) }
+    ensures first { IfOk result (λ parts. parts.0.output.rate ≤ parts.1.node.time_base) }
+    ensures second { IfOk result (λ parts. parts.0.output.rate ≤ parts.2.node.time_base) }
+    ensures some { IfOk result (λ parts. 1 ≤ length parts.3.items) }
+    ensures ids { IfOk result (λ parts. IsTrue (list_all (λ id. nat_lt 0 id && nat_le id MAX_ID) parts.3.items)) }
+{
+    if !is_merger(table) {
+        return Err(Wanted::Nodes);
+    }
+    let common = read_common(table)?;
+    let (first, second) = read_nodes(table, common.output.rate)?;
+    let values = pmu_tables(table)?;
+    let sources = read_sources(values)?;
+    Ok((common, first, second, sources))
+}
+
+/// Whether these ids differ from one another, and from the id.
+fn is_apart(ids: &[u16], id: u16) -> bool
+    ensures { IsTrue result → IsTrue (are_distinct (id ∷ ids.now)) }
+{
+    ids_differ(ids) && !has_id(ids, id)
+}
+
+/// Whether the two differ and none of the sources is one of them.
+fn are_apart(first: u16, second: u16, sources: &[u16]) -> bool
+    ensures { IsTrue result → IsTrue (are_distinct (first ∷ second ∷ sources.now)) }
+{
+    first != second && is_apart(sources, second) && !has_id(sources, first)
+}
+
+/// What the lives of the merger depend on, where the ids are distinct.
+fn life_of(
+    output: Output,
+    timing: Timing,
+    first: MergedNode,
+    second: MergedNode,
+    sources: ArrayVec<u16, MAX_PMUS>,
+) -> Option<pdc_life::MergerSettings>
+    requires some { 1 ≤ length sources.items }
+    requires ids { IsTrue (list_all (λ id. nat_lt 0 id && nat_le id MAX_ID) sources.items) }
+    requires first_base { output.rate ≤ first.time_base }
+    requires second_base { output.rate ≤ second.time_base }
+    ensures output { IfSome result (λ life. life.output ≡ output) }
+    ensures wait { IfSome result (λ life. life.wait ≡ timing.wait) }
+    ensures wait_kind { IfSome result (λ life. life.wait_kind ≡ timing.wait_kind) }
+    ensures window { IfSome result (λ life. life.window ≡ timing.window) }
+    ensures ahead { IfSome result (λ life. life.ahead ≡ timing.ahead) }
+    ensures first { IfSome result (λ life. life.first ≡ first) }
+    ensures second { IfSome result (λ life. life.second ≡ second) }
+    ensures sources { IfSome result (λ life. life.sources ≡ sources) }
+{
+    if !is_apart(&sources, output.id) || !are_apart(first.id, second.id, &sources) {
+        return None;
+    }
+    Some(pdc_life::MergerSettings {
+        output,
+        wait: timing.wait,
+        wait_kind: timing.wait_kind,
+        window: timing.window,
+        ahead: timing.ahead,
+        first,
+        second,
+        sources,
+    })
+}
+
+impl MergerSettings {
+    /// Reads the settings of the merger out of a text of TOML.
+    pub fn from_toml(alloc: Global, text: &str) -> Result<MergerSettings, SettingsFault>
+        ensures value { IfOk result (λ settings. IsSomeAnd (parse_document text.now) (λ members. IsMergerSettings members settings)) }
+        ensures fault { IfErr result (IsFaultOf text.now) }
+    {
+        let table = document(alloc, text)?;
+        match read_parts(&table) {
+            Ok((common, first, second, sources)) => {
+                let (output, timing) = (common.output, common.timing);
+                let Some(life) = life_of(output, timing, first.node, second.node, sources) else {
+                    return Err(SettingsFault::DoubledId);
+                };
+                Ok(MergerSettings {
+                    life,
+                    service: common.service,
+                    first_port: first.port,
+                    second_port: second.port,
+                })
+            }
+            Err(wanted) => Err(SettingsFault::Range(wanted)),
+        }
+    }
+}

@@ -1,0 +1,163 @@
+//! Reading the settings of a node.
+ghost use Rattle.std.specs.Prelude.{◌≡◌, ◌≤◌, ◌∷◌, IfOk, IfErr, IfSome, IsSomeAnd, IsTrue, false, length, map, nat_le};
+ghost use Rattle.std.specs.List.{list_all};
+ghost use Rattle.toml.specs.Parse.{parse_document};
+ghost use Rattle.toml.specs.View.{table_view};
+ghost use Rattle.pdc_life.specs.declared.given.TheConstants.{MAX_PMUS};
+ghost use Rattle.pdc_life.specs.declared.pmu.Pmu.{Pmu as PmuData};
+ghost use Rattle.pdc_settings.specs.Kind.{IsFaultOf, is_merger};
+ghost use Rattle.pdc_settings.specs.Settings.{IsCommon, IsNodeSettings};
+ghost use Rattle.pdc_life.specs.Distinct.{are_distinct};
+
+use crate::common::{Common, read_common};
+use crate::distinct::{has_source, has_stream, sources_differ, streams_differ};
+use crate::document::{document, is_merger};
+use crate::entries::{port, read_pmu};
+use crate::fault::SettingsFault;
+use crate::keys::value_at;
+use crate::node::NodeSettings;
+use crate::timing::Timing;
+use crate::wanted::Wanted;
+use arrayvec::ArrayVec;
+use pdc_life::{MAX_PMUS, Pmu, Settings};
+use pdc_output::Output;
+use std::alloc::Global;
+use toml::{Table, Value};
+
+/// The tables at the key `pmu`, 1 to 16 of them.
+pub(crate) fn pmu_tables(table: &Table) -> Result<&[Value], Wanted>
+    ensures some { IfOk result (λ values. 1 ≤ length values.now) }
+    ensures few { IfOk result (λ values. length values.now ≤ MAX_PMUS) }
+{
+    let Some(value) = value_at(table, "pmu") else {
+        return Err(Wanted::Pmus);
+    };
+    let Some(list) = value.as_array() else {
+        return Err(Wanted::Pmus);
+    };
+    let values = list.as_slice();
+    if values.is_empty() || values.len() > MAX_PMUS {
+        return Err(Wanted::Pmus);
+    }
+    Ok(values)
+}
+
+/// Whether each TIME_BASE is at least the rate.
+fn bases_reach(pmus: &[Pmu], rate: u16) -> bool
+    ensures { result ≡ list_all (λ (pmu : PmuData). nat_le rate pmu.time_base) pmus.now }
+{
+    pmus.iter().all(|pmu| u32::from(rate) <= pmu.time_base)
+}
+
+/// Reads the PMUs, in their order.
+fn read_pmus(values: &[Value], rate: u16) -> Result<ArrayVec<Pmu, MAX_PMUS>, Wanted>
+    requires few { length values.now ≤ MAX_PMUS }
+    ensures bases { IfOk result (λ pmus. IsTrue (list_all (λ (pmu : PmuData). nat_le rate pmu.time_base) pmus.items)) }
+    ensures len { IfOk result (λ pmus. length pmus.items ≡ length values.now) }
+{
+    let mut pmus = ArrayVec::new();
+    for value in values {
+        let Some(table) = value.as_table() else {
+            return Err(Wanted::Pmus);
+        };
+        pmus.push(read_pmu(table, rate)?);
+    }
+    if !bases_reach(&pmus, rate) {
+        return Err(Wanted::PmuTimeBase);
+    }
+    Ok(pmus)
+}
+
+/// Reads the ports of the PMUs, in their order.
+fn read_ports(values: &[Value]) -> Result<ArrayVec<u16, MAX_PMUS>, Wanted>
+    requires few { length values.now ≤ MAX_PMUS }
+    ensures len { IfOk result (λ ports. length ports.items ≡ length values.now) }
+{
+    let mut ports = ArrayVec::new();
+    for value in values {
+        let Some(table) = value.as_table() else {
+            return Err(Wanted::Pmus);
+        };
+        ports.push(port(table, Wanted::PmuPort)?);
+    }
+    Ok(ports)
+}
+
+/// What the tables and keys of a node's document say, each in its range.
+fn read_parts(
+    table: &Table,
+) -> Result<(Common, ArrayVec<Pmu, MAX_PMUS>, ArrayVec<u16, MAX_PMUS>), Wanted>
+    ensures kind { IfOk result (λ parts. is_merger (table_view table.now) ≡ false) }
+    ensures common { IfOk result (λ parts. IsCommon (table_view table.now) parts.0) }
+    ensures some { IfOk result (λ parts. 1 ≤ length parts.1.items) }
+    ensures bases { IfOk result (λ parts. IsTrue (list_all (λ (pmu : PmuData). nat_le parts.0.output.rate pmu.time_base) parts.1.items)) }
+    ensures ports { IfOk result (λ parts. length parts.2.items ≡ length parts.1.items) }
+{
+    if is_merger(table) {
+        return Err(Wanted::NoNodes);
+    }
+    let common = read_common(table)?;
+    let values = pmu_tables(table)?;
+    let pmus = read_pmus(values, common.output.rate)?;
+    let ports = read_ports(values)?;
+    Ok((common, pmus, ports))
+}
+
+/// Whether the ids of the PMUs and the node's own are distinct, those of streams and those of sources.
+fn ids_are_distinct(id: u16, pmus: &[Pmu]) -> bool
+    ensures streams { IsTrue result → IsTrue (are_distinct (id ∷ map (λ (pmu : PmuData). pmu.stream) pmus.now)) }
+    ensures sources { IsTrue result → IsTrue (are_distinct (id ∷ map (λ (pmu : PmuData). pmu.source) pmus.now)) }
+{
+    if has_stream(pmus, id) || !streams_differ(pmus) {
+        return false;
+    }
+    !has_source(pmus, id) && sources_differ(pmus)
+}
+
+/// What the lives of a node depend on, where its ids are distinct.
+fn life_of(output: Output, timing: Timing, pmus: ArrayVec<Pmu, MAX_PMUS>) -> Option<Settings>
+    requires some { 1 ≤ length pmus.items }
+    requires bases { IsTrue (list_all (λ (pmu : PmuData). nat_le output.rate pmu.time_base) pmus.items) }
+    ensures output { IfSome result (λ life. life.output ≡ output) }
+    ensures wait { IfSome result (λ life. life.wait ≡ timing.wait) }
+    ensures wait_kind { IfSome result (λ life. life.wait_kind ≡ timing.wait_kind) }
+    ensures window { IfSome result (λ life. life.window ≡ timing.window) }
+    ensures ahead { IfSome result (λ life. life.ahead ≡ timing.ahead) }
+    ensures pmus { IfSome result (λ life. life.pmus ≡ pmus) }
+    ensures len { IfSome result (λ life. length life.pmus.items ≡ length pmus.items) }
+{
+    if !ids_are_distinct(output.id, &pmus) {
+        return None;
+    }
+    Some(Settings {
+        output,
+        wait: timing.wait,
+        wait_kind: timing.wait_kind,
+        window: timing.window,
+        ahead: timing.ahead,
+        pmus,
+    })
+}
+
+impl NodeSettings {
+    /// Reads the settings of a node out of a text of TOML.
+    pub fn from_toml(alloc: Global, text: &str) -> Result<NodeSettings, SettingsFault>
+        ensures value { IfOk result (λ settings. IsSomeAnd (parse_document text.now) (λ members. IsNodeSettings members settings)) }
+        ensures fault { IfErr result (IsFaultOf text.now) }
+    {
+        let table = document(alloc, text)?;
+        match read_parts(&table) {
+            Ok((common, pmus, ports)) => {
+                let Some(life) = life_of(common.output, common.timing, pmus) else {
+                    return Err(SettingsFault::DoubledId);
+                };
+                Ok(NodeSettings {
+                    life,
+                    service: common.service,
+                    ports,
+                })
+            }
+            Err(wanted) => Err(SettingsFault::Range(wanted)),
+        }
+    }
+}
