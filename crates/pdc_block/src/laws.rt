@@ -4,12 +4,15 @@ ghost use Rattle.pdc_frame.specs.Bytes.{AreBytes};
 ghost use Rattle.pdc_cfg.specs.Shape.{word_count_of};
 ghost use Rattle.pdc_cfg.specs.declared.shape.Shape.{Shape};
 ghost use Rattle.pdc_block.specs.Block.{IsBody, IsCut, body_len_of, words_in};
+ghost use Rattle.pdc_block.specs.Laws.{WordsOfBytes};
 
 use pdc_frame::{parts_keep_their_words, words_are_their_bytes};
 
-/// Bytes of the length of a shape are a body of it, with the words that they write and no others.
+/// Bytes write words, half as many; bytes of the length of a shape are a body of it, with the words that they write and no
+/// others.
 pub fn bodies_are_their_words()
     ensures found { (shape : Shape) (bytes : List ℕ) → AreBytes bytes → length bytes ≡ 2 * word_count_of shape → IsBody shape bytes (words_in bytes) }
+    ensures words { WordsOfBytes }
     ensures only { (shape : Shape) (bytes words : List ℕ) → AreBytes bytes → IsBody shape bytes words → words ≡ words_in bytes }
 {
     words_are_their_bytes();

@@ -12,7 +12,7 @@ use Rattle.pdc_row.specs.CellView.{CellView}
 use Rattle.pdc_row.specs.Quality.{greatest}
 use Rattle.pdc_row.specs.Rising.{AreBelow, is_near}
 use Rattle.pdc_row.specs.RowView.{row_instants}
-use Rattle.pdc_row.proofs.Rising.{below_greatest, below_higher, greatest-ge}
+use Rattle.pdc_row.proofs.Rising.{below_greatest, below_higher, greatest_ge}
 use Rattle.pdc_life.specs.declared.outcome.Outcome.{Outcome}
 use Rattle.pdc_life.specs.declared.outcome.Outcome.TheVariants.{Taken, Refused}
 use Rattle.pdc_life.specs.declared.outcome.Refusal.{Refusal}
@@ -183,7 +183,7 @@ merger_takes_in_time g E s i quality payload =
 above_all : (g : Given) (E : List Entry) (s i : ℕ) → ComesInTime g E s i → (g.floor < i) × AreBelow i (row_instants (closed E))
 above_all g E s i t =
     let e : last_of g E ≡ greatest g.floor (row_instants (closed E)) = last_is g E in
-    let k : g.floor ≤ greatest g.floor (row_instants (closed E)) = greatest-ge g.floor (row_instants (closed E)) in
+    let k : g.floor ≤ greatest g.floor (row_instants (closed E)) = greatest_ge g.floor (row_instants (closed E)) in
     let l : greatest g.floor (row_instants (closed E)) < i = omega (arith, t.later, e) in
     (omega (arith, k, l), below_higher (greatest g.floor (row_instants (closed E)) + 1) i (row_instants (closed E)) (omega (arith, l)) (below_greatest g.floor (row_instants (closed E))))
 

@@ -3,7 +3,7 @@ use Rattle.std.proofs.Common.{◌≡◌, ℕ, ◌+◌, ◌≤◌, ◌==◌, Bool
 use Rattle.std.proofs.lemmas.List.{append_assoc}
 use Rattle.std.specs.List.{AllByRecursion, list_any, slice_get}
 use Rattle.std.specs.Option.{option_to_list}
-use Rattle.pdc_row.proofs.Rising.{above_filter, below_greatest, greatest_append, greatest-ge, rises_append, rises_filter, rises_rising}
+use Rattle.pdc_row.proofs.Rising.{above_filter, below_greatest, greatest_append, greatest_ge, rises_append, rises_filter, rises_rising}
 use Rattle.pdc_row.specs.Quality.{greatest}
 use Rattle.pdc_row.specs.Rising.{Rises}
 use Rattle.pdc_row.specs.RowView.{RowView, row_instants}
@@ -74,7 +74,7 @@ rows_rise g (Tick now counts answer ∷ E) run =
     let e : row_instants answer.rows ≡ closing g E now = ap (λ (a : TickAnswer). row_instants a.rows) run.0 ∙ instants_rows g E (closing g E now) in
     let now_closed : Rises (greatest g.floor (row_instants (closed E))) (row_instants answer.rows) =
     subst (λ n. Rises n (row_instants answer.rows)) (last_is g E) (subst (λ ns. Rises (last_of g E) ns) (sym e) (closing_rises g E now)) in
-    subst (λ ns. Rises g.floor ns) (sym (instants_append (closed E) answer.rows)) (rises_append g.floor (greatest g.floor (row_instants (closed E))) (row_instants (closed E)) (row_instants answer.rows) (greatest-ge g.floor (row_instants (closed E))) before (below_greatest g.floor (row_instants (closed E))) now_closed)
+    subst (λ ns. Rises g.floor ns) (sym (instants_append (closed E) answer.rows)) (rises_append g.floor (greatest g.floor (row_instants (closed E))) (row_instants (closed E)) (row_instants answer.rows) (greatest_ge g.floor (row_instants (closed E))) before (below_greatest g.floor (row_instants (closed E))) now_closed)
 rows_rise g (Arrive s bytes arrival answer ∷ E) run = rows_rise g E run
 rows_rise g (Pop row ∷ E) run = rows_rise g E run.1
 

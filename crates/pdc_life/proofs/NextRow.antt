@@ -4,7 +4,7 @@ use Rattle.std.specs.List.{AllByRecursion}
 use Rattle.pdc_row.specs.Quality.{greatest}
 use Rattle.pdc_row.specs.Rising.{Rises}
 use Rattle.pdc_row.specs.RowView.{RowView, row_instants}
-use Rattle.pdc_row.proofs.Rising.{below_greatest, below_higher, greatest-ge, rises_back, rises_front}
+use Rattle.pdc_row.proofs.Rising.{below_greatest, below_higher, greatest_ge, rises_back, rises_front}
 use Rattle.pdc_life.specs.Life.{Pop, popped, waiting}
 use Rattle.pdc_life.specs.Tagged.{NextIsAbove}
 use Rattle.pdc_life.proofs.LifeLaws.{instants_append, rows_come_out_once, rows_rise}
@@ -28,4 +28,4 @@ next_is_above g E row run =
     let low : row.instant < 4294967296 * g.output.rate =
     last_holds (λ i. i < 4294967296 * g.output.rate) before row.instant
     (subst (λ (ns : List ℕ). AllByRecursion (λ i. i < 4294967296 * g.output.rate) ns) (instants_append (popped E) (row ∷ [])) (popped_low g (Pop (Some row) ∷ E) run.ticked run.sound)) in
-    (omega (arith, above, greatest-ge g.floor before), below_higher (greatest g.floor before + 1) row.instant before (omega (arith, above)) (below_greatest g.floor before), low)
+    (omega (arith, above, greatest_ge g.floor before), below_higher (greatest g.floor before + 1) row.instant before (omega (arith, above)) (below_greatest g.floor before), low)

@@ -6,6 +6,7 @@ use Rattle.std.proofs.lemmas.Bool.{cases_lt, false≢true}
 use borrow.Author.Tests.{ltb-true}
 use Rattle.pdc_row.specs.Quality.{greatest}
 use Rattle.pdc_row.specs.Rising.{Rises, AreAbove, AreBelow, AreNear, is_near, is_near_any, highest_of, place, rising}
+use Rattle.pdc_row.specs.RisingLaws.{AreAllNear, Compared, Below, At, Above, RisingLaws}
 
 -- a lower bound in place of this one
 pub rises_above : (low high : ℕ) (ns : List ℕ) → low ≤ high → Rises high ns → Rises low ns
@@ -22,9 +23,9 @@ rises-length low top [] r b = omega arith
 rises-length low top (n ∷ ns) r b = let h : length ns ≤ top - (n + 1) = rises-length n top ns r.1 b.1 in omega (arith, r.0, b.0)
 
 -- near each other, they are no more than the window
-pub near-length : (low window : ℕ) (ns : List ℕ) → 0 < window → Rises low ns → AreNear window ns → length ns ≤ window
-near-length low window [] w r b = omega arith
-near-length low window (n ∷ ns) w r b = let h : length ns ≤ (n + window) - (n + 1) = rises-length n (n + window) ns r.1 b in omega arith
+pub near_length : (low window : ℕ) (ns : List ℕ) → 0 < window → Rises low ns → AreNear window ns → length ns ≤ window
+near_length low window [] w r b = omega arith
+near_length low window (n ∷ ns) w r b = let h : length ns ≤ (n + window) - (n + 1) = rises-length n (n + window) ns r.1 b in omega arith
 
 -- by place
 pub rises_get : (low : ℕ) (ns : List ℕ) (k : ℕ) → Rises low ns → k < length ns → low < get_or ns k 0
@@ -63,13 +64,13 @@ pub below_back : (top : ℕ) (ns ms : List ℕ) → AreBelow top (ns ++ ms) → 
 below_back top [] ms b = b
 below_back top (n ∷ ns) ms b = below_back top ns ms b.1
 
-pub greatest-ge : (low : ℕ) (ns : List ℕ) → low ≤ greatest low ns
-greatest-ge low [] = omega arith
-greatest-ge low (n ∷ ns) = let h : max low n ≤ greatest (max low n) ns = greatest-ge (max low n) ns in omega arith
+pub greatest_ge : (low : ℕ) (ns : List ℕ) → low ≤ greatest low ns
+greatest_ge low [] = omega arith
+greatest_ge low (n ∷ ns) = let h : max low n ≤ greatest (max low n) ns = greatest_ge (max low n) ns in omega arith
 
 pub below_greatest : (low : ℕ) (ns : List ℕ) → AreBelow (greatest low ns + 1) ns
 below_greatest low [] = tt
-below_greatest low (n ∷ ns) = let h : max low n ≤ greatest (max low n) ns = greatest-ge (max low n) ns in (omega arith, below_greatest (max low n) ns)
+below_greatest low (n ∷ ns) = let h : max low n ≤ greatest (max low n) ns = greatest_ge (max low n) ns in (omega arith, below_greatest (max low n) ns)
 
 pub near_tail : (low window n : ℕ) (ns : List ℕ) → Rises low (n ∷ ns) → AreNear window (n ∷ ns) → AreNear window ns
 near_tail low window n [] r b = tt
@@ -84,21 +85,15 @@ place_same i n ns h = let e : ltb i n ≡ false = search rules in let f : eqb n 
 pub place_higher : (i n : ℕ) (ns : List ℕ) → n < i → place i (n ∷ ns) ≡ n ∷ place i ns
 place_higher i n ns h = let e : ltb i n ≡ false = search rules in let f : eqb n i ≡ false = search rules in rw (e, f) refl
 
--- i below, at or above n
-pub data Compared (i n : ℕ) : Type 0 where
-  Below : i < n → Compared i n
-  At : n ≡ i → Compared i n
-  Above : n < i → Compared i n
-
 pub compared : (i n : ℕ) → Compared i n
 compared i n = elim (cases_lt i n) [ inl h ↦ Below h | inr h ↦ elim (cases_lt n i) [ inl k ↦ Above k | inr k ↦ At (omega arith) ] ]
 
-pub rises-place : (low i : ℕ) (ns : List ℕ) → Rises low ns → low < i → Rises low (place i ns)
-rises-place low i [] r h = (h, tt)
-rises-place low i (n ∷ ns) r h = elim (compared i n) [
+pub rises_place : (low i : ℕ) (ns : List ℕ) → Rises low ns → low < i → Rises low (place i ns)
+rises_place low i [] r h = (h, tt)
+rises_place low i (n ∷ ns) r h = elim (compared i n) [
   | Below l ↦ rw (place_lower i n ns l) (h, (l, r.1))
   | At e ↦ rw (place_same i n ns e) r
-  | Above g ↦ rw (place_higher i n ns g) (r.0, rises-place n i ns r.1 g)
+  | Above g ↦ rw (place_higher i n ns g) (r.0, rises_place n i ns r.1 g)
 ]
 
 pub below-place : (top i : ℕ) (ns : List ℕ) → AreBelow top ns → i < top → AreBelow top (place i ns)
@@ -108,11 +103,6 @@ below-place top i (n ∷ ns) b h = elim (compared i n) [
   | At e ↦ rw (place_same i n ns e) b
   | Above g ↦ rw (place_higher i n ns g) (b.0, below-place top i ns b.1 h)
 ]
-
--- each number is less than the window away from i, both ways
-abbrev pub AreAllNear : ℕ → ℕ → List ℕ → Type 0
-AreAllNear window i [] = Unit {0}
-AreAllNear window i (n ∷ ns) = ((i < n + window) × (n < i + window)) × AreAllNear window i ns
 
 both : (a b : Bool) → (a && b) ≡ true → (a ≡ true) × (b ≡ true)
 both true b h = (refl, h)
@@ -132,14 +122,14 @@ below_from_near window i [] h = tt
 below_from_near window i (n ∷ ns) h = (h.0.1, below_from_near window i ns h.1)
 
 -- numbers near each other, and one more that is near each
-pub near-place : (window i : ℕ) (cs os : List ℕ) → 0 < window → AreNear window (cs ++ os) → AreAllNear window i (cs ++ os) → AreNear window (cs ++ place i os)
-near-place window i [] [] w b h = tt
-near-place window i [] (o ∷ os) w b h = elim (compared i o) [
+pub near_place : (window i : ℕ) (cs os : List ℕ) → 0 < window → AreNear window (cs ++ os) → AreAllNear window i (cs ++ os) → AreNear window (cs ++ place i os)
+near_place window i [] [] w b h = tt
+near_place window i [] (o ∷ os) w b h = elim (compared i o) [
   | Below l ↦ rw (place_lower i o os l) (h.0.1, below_from_near window i os h.1)
   | At e ↦ rw (place_same i o os e) b
   | Above g ↦ rw (place_higher i o os g) (below-place (o + window) i os b h.0.0)
 ]
-near-place window i (c ∷ cs) os w b h = below_append (c + window) cs (place i os) (below_front (c + window) cs os b) (below-place (c + window) i os (below_back (c + window) cs os b) h.0.0)
+near_place window i (c ∷ cs) os w b h = below_append (c + window) cs (place i os) (below_front (c + window) cs os b) (below-place (c + window) i os (below_back (c + window) cs os b) h.0.0)
 
 and_both : (a b : Bool) → a ≡ true → b ≡ true → (a && b) ≡ true
 and_both a b h k = rw (h, k) refl
@@ -209,7 +199,7 @@ above_filter low (n ∷ ns) = elim (cases_lt low n) [
 
 pub rises_rising : (low : ℕ) (ns : List ℕ) → AreAbove low ns → Rises low (rising ns)
 rises_rising low [] a = tt
-rises_rising low (n ∷ ns) a = rises-place low n (rising ns) (rises_rising low ns a.1) a.0
+rises_rising low (n ∷ ns) a = rises_place low n (rising ns) (rises_rising low ns a.1) a.0
 
 either : (b : Bool) (low : ℕ) (ns ms : List ℕ) → Rises low ns → Rises low ms → Rises low (cond b ns ms)
 either true low ns ms r s = r
@@ -220,3 +210,30 @@ rises_filter f low [] r = tt
 rises_filter f low (n ∷ ns) r =
     let rest : Rises n (filter f ns) = rises_filter f n ns r.1 in
     either (f n) low (n ∷ filter f ns) (filter f ns) (r.0, rest) (rises_above low n (filter f ns) (omega (arith, r.0)) rest)
+
+pub numbers_rise : RisingLaws
+numbers_rise = record {
+  rises_above = rises_above;
+  below_higher = below_higher;
+  rises_append = rises_append;
+  rises_front = rises_front;
+  rises_back = rises_back;
+  below_append = below_append;
+  greatest_ge = greatest_ge;
+  below_greatest = below_greatest;
+  greatest_append = greatest_append;
+  rises_order = rises_order;
+  compared = compared;
+  place_lower = place_lower;
+  place_same = place_same;
+  place_higher = place_higher;
+  rises_place = rises_place;
+  above_filter = above_filter;
+  rises_rising = rises_rising;
+  rises_filter = rises_filter;
+  near_length = near_length;
+  near_tail = near_tail;
+  all_near = all_near;
+  near_place = near_place;
+  ends_near = ends_near;
+}

@@ -2,4 +2,5 @@ pub mod CellView
 pub mod Chosen
 pub mod Quality
 pub mod Rising
+pub mod RisingLaws
 pub mod RowView

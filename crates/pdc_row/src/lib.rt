@@ -7,7 +7,9 @@
 #![tactic(auto)]
 
 mod due_row;
+mod laws;
 mod present;
 
 pub use due_row::DueRow;
+pub use laws::numbers_rise;
 pub use present::is_present;

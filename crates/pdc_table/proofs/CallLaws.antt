@@ -18,7 +18,7 @@ use Rattle.pdc_table.specs.declared.outcome.PutOutcome.{PutOutcome}
 use Rattle.pdc_table.specs.declared.outcome.PutOutcome.TheVariants.{Taken}
 use Rattle.pdc_table.specs.declared.wait_rule.WaitRule.{WaitRule}
 use Rattle.pdc_table.proofs.Keeps.{closed_stayed, instants-map, instants-row_of, instants-with_row}
-use Rattle.pdc_row.proofs.Rising.{below_append, below_greatest, below_higher, greatest-ge, rises_append, rises_back, rises_front, rises-place}
+use Rattle.pdc_row.proofs.Rising.{below_append, below_greatest, below_higher, greatest_ge, rises_append, rises_back, rises_front, rises_place}
 
 -- the open instants rise above the last
 abbrev pub IsAbove : Content → Type 0
@@ -54,7 +54,7 @@ put_closed c stream instant cells = either_closed c (after_take c stream instant
 above_taken : (c : Content) (stream instant : ℕ) (cells : List (ℕ × CellView)) → IsAbove c → c.last < instant → IsAbove (after_take c stream instant cells)
 above_taken c stream instant cells a h =
     rw (instants-with_row (with_frame stream (lane_of c stream) cells) (fresh_row c instant) (λ r. refl) c.open_rows)
-    (rises-place c.last instant (instants_of c.open_rows) a h)
+    (rises_place c.last instant (instants_of c.open_rows) a h)
 
 above_tick : (c : Content) (rule : WaitRule) → IsAbove c → Rises (greatest c.last (instants_of (closing_of c rule))) (instants_of (staying_of c rule))
 above_tick c rule a =
@@ -100,7 +100,7 @@ closing_below c Pop = tt
 pub last_step : (c : Content) (call : Call) → c.last ≤ (after c call).last
 last_step c (Put stream instant cells) = omega (arith, put_last c stream instant cells)
 last_step c (Require stream is_required) = omega arith
-last_step c (Tick rule layout) = greatest-ge c.last (instants_of (closing_of c rule))
+last_step c (Tick rule layout) = greatest_ge c.last (instants_of (closing_of c rule))
 last_step c (DropStream stream) = omega arith
 last_step c (DropColumn column) = omega arith
 last_step c Pop = omega arith

@@ -21,7 +21,8 @@ use Rattle.pdc_table.specs.Taking.{with_cell, with_cells, with_frame, without_st
 use Rattle.pdc_table.specs.Views.{ColumnView, OpenRowView, blank_row, empty_column}
 use Rattle.pdc_table.specs.declared.wait_rule.WaitRule.{WaitRule}
 use Rattle.pdc_table.proofs.Closes.{closing-front, staying-back}
-use Rattle.pdc_row.proofs.Rising.{Below, At, Above, compared, rises-place, near-place, all_near, rises_append, rises_front, rises_above, rises_back, below_append, below_higher, below_greatest, greatest-ge, near_tail, near-length}
+use Rattle.pdc_row.proofs.Rising.{compared, rises_place, near_place, all_near, rises_append, rises_front, rises_above, rises_back, below_append, below_higher, below_greatest, greatest_ge, near_tail, near_length}
+use Rattle.pdc_row.specs.RisingLaws.{Below, At, Above}
 
 -- a change that keeps each row's instant keeps the list of them
 pub instants-map : (f : OpenRowView → OpenRowView) → ((r : OpenRowView) → (f r).instant ≡ r.instant) → (rows : List OpenRowView) → instants_of (map f rows) ≡ instants_of rows
@@ -169,11 +170,11 @@ instants-with_row change fresh h (x ∷ xs) = elim (compared fresh.instant x.ins
 pub keeps-taken : (c : Content) (change : OpenRowView → OpenRowView) (instant : ℕ) → ((r : OpenRowView) → (change r).instant ≡ r.instant) → ((r : OpenRowView) → HasPlaces (streams_of c) c.columns r → HasPlaces (streams_of c) c.columns (change r)) → c.last < instant → is_near_all c instant ≡ true → IsContent c → IsContent (record c { open_rows = with_row change (fresh_row c instant) c.open_rows })
 keeps-taken c change instant same kept l n h =
     let e : instants_of (with_row change (fresh_row c instant) c.open_rows) ≡ place instant (instants_of c.open_rows) = instants-with_row change (fresh_row c instant) same c.open_rows in
-    let above : Rises c.last (place instant (instants_of c.open_rows)) = rises-place c.last instant (instants_of c.open_rows) h.open_above l in
+    let above : Rises c.last (place instant (instants_of c.open_rows)) = rises_place c.last instant (instants_of c.open_rows) h.open_above l in
     other_rows c (with_row change (fresh_row c instant) c.open_rows)
     (places-with_row change (fresh_row c instant) (streams_of c) c.columns kept (places-blank (streams_of c) c.columns instant) c.open_rows h.rows_each)
     (rw e (rises_append 0 c.last (row_instants c.closed) (place instant (instants_of c.open_rows)) (omega arith) (rises_front 0 (row_instants c.closed) (instants_of c.open_rows) h.held_rise) h.closed_below above))
-    (rw e (near-place c.window instant (row_instants c.closed) (instants_of c.open_rows) (omega (arith, h.window_least)) h.held_near (all_near c.window instant (held_instants c) n)))
+    (rw e (near_place c.window instant (row_instants c.closed) (instants_of c.open_rows) (omega (arith, h.window_least)) h.held_near (all_near c.window instant (held_instants c) n)))
     (rw e above) h
 
 pub keeps-offered : (c : Content) (b : Bool) (stream lane instant : ℕ) (cells : List (ℕ × CellView)) → c.last < instant → is_near_all c instant ≡ true → IsContent c → IsContent (record c { open_rows = if b then with_row (with_frame stream lane cells) (fresh_row c instant) c.open_rows else c.open_rows })
@@ -199,13 +200,13 @@ pub has_room : (c : Content) (instant : ℕ) → c.last < instant → is_near_al
 has_room c instant l n e h =
     let rows : List OpenRowView = with_row (λ r. r) (fresh_row c instant) c.open_rows in
     let k : IsContent (record c { open_rows = rows }) = keeps-taken c (λ r. r) instant (λ r. refl) (λ r p. p) l n h in
-    let most : length (row_instants c.closed ++ instants_of rows) ≤ c.window = near-length 0 c.window (row_instants c.closed ++ instants_of rows) (omega (arith, h.window_least)) k.held_rise k.held_near in
+    let most : length (row_instants c.closed ++ instants_of rows) ≤ c.window = near_length 0 c.window (row_instants c.closed ++ instants_of rows) (omega (arith, h.window_least)) k.held_rise k.held_near in
     omega (arith, length-held c.closed rows, length-with_row (λ r. r) (fresh_row c instant) c.open_rows e)
 
 -- at most as many are held as the window has
 pub held_fit : (c : Content) → IsContent c → length c.closed + length c.open_rows ≤ c.window
 held_fit c h =
-    let most : length (held_instants c) ≤ c.window = near-length 0 c.window (held_instants c) (omega (arith, h.window_least)) h.held_rise h.held_near in
+    let most : length (held_instants c) ≤ c.window = near_length 0 c.window (held_instants c) (omega (arith, h.window_least)) h.held_rise h.held_near in
     omega (arith, length-held c.closed c.open_rows)
 
 -- the closing rows and those that stay are the open rows, each a tick older
@@ -250,7 +251,7 @@ keeps-tick c rule layout h =
       open_above = rises_back c.last ns (instants_of rest) (subst (λ ms. Rises c.last ms) (sym e) h.open_above);
       closed_below = subst (λ ms. AreBelow (greatest c.last ns + 1) ms) (sym new)
           (below_append (greatest c.last ns + 1) (row_instants c.closed) ns
-          (below_higher (c.last + 1) (greatest c.last ns + 1) (row_instants c.closed) (omega (arith, greatest-ge c.last ns)) h.closed_below)
+          (below_higher (c.last + 1) (greatest c.last ns + 1) (row_instants c.closed) (omega (arith, greatest_ge c.last ns)) h.closed_below)
           (below_greatest c.last ns));
     }
 

@@ -8,7 +8,8 @@ use Rattle.std.proofs.lemmas.List.{length-set}
 use Rattle.pdc_row.specs.CellView.{CellView}
 use Rattle.pdc_row.specs.Quality.{greatest}
 use Rattle.pdc_row.specs.Rising.{Rises, AreBelow, place}
-use Rattle.pdc_row.proofs.Rising.{Below, At, Above, below_greatest, below_higher, compared, greatest-ge, place_higher, place_lower, place_same}
+use Rattle.pdc_row.proofs.Rising.{below_greatest, below_higher, compared, greatest_ge, place_higher, place_lower, place_same}
+use Rattle.pdc_row.specs.RisingLaws.{Below, At, Above}
 use Rattle.pdc_table.specs.Content.{Content, HasPlaces, IsContent, streams_of}
 use Rattle.pdc_table.specs.Placing.{row_at, with_row}
 use Rattle.pdc_table.specs.RingRows.{base_row, changed, met_row, row_in, rows_in}
@@ -49,7 +50,7 @@ ring_closed window last s k n places is r = record {
   placed = placed-drop places window n is r.placed;
   known = λ j d l m.
       any_behind n (get_or places j d).instant is (below_higher (greatest last (take n is) + 1) (get_or places j d).instant (take n is) (omega arith) (below_greatest last (take n is)))
-      (r.known j d l (omega (arith, greatest-ge last (take n is))));
+      (r.known j d l (omega (arith, greatest_ge last (take n is))));
 }
 
 -- an instant in its place among rising ones

@@ -11,7 +11,8 @@ use Rattle.std.proofs.lemmas.List.Sums.{prefix_len_is}
 use Rattle.pdc_row.specs.Rising.{Rises, AreBelow, AreNear, is_near, place}
 use Rattle.pdc_row.specs.RowView.{row_instants}
 use Rattle.pdc_table.specs.Content.{Content, IsContent}
-use Rattle.pdc_row.proofs.Rising.{rises_above, AreAllNear, Below, At, Above, all_near, compared, near_tail, place_higher, place_lower, place_same, rises_order}
+use Rattle.pdc_row.proofs.Rising.{rises_above, all_near, compared, near_tail, place_higher, place_lower, place_same, rises_order}
+use Rattle.pdc_row.specs.RisingLaws.{AreAllNear, Below, At, Above}
 use Rattle.pdc_table.specs.Closing.{closing, is_due, staying}
 use Rattle.pdc_table.specs.OpenInstants.{instants_of}
 use Rattle.pdc_table.specs.Placing.{row_at, with_row}

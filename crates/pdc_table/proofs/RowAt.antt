@@ -4,7 +4,8 @@ use Rattle.std.specs.Option.{unwrap_or}
 use Rattle.std.proofs.lemmas.Bool.{cases_eq, eq-eqb, ne_eqb}
 use Rattle.pdc_row.specs.Quality.{greatest}
 use Rattle.pdc_row.specs.Rising.{Rises, AreBelow}
-use Rattle.pdc_row.proofs.Rising.{Below, At, Above, compared, below_greatest}
+use Rattle.pdc_row.proofs.Rising.{compared, below_greatest}
+use Rattle.pdc_row.specs.RisingLaws.{Below, At, Above}
 use Rattle.pdc_table.specs.Closing.{aged}
 use Rattle.pdc_table.specs.Content.{Content}
 use Rattle.pdc_table.specs.OpenInstants.{instants_of}

@@ -1,0 +1,10 @@
+-- What holds of the words that bytes write (this profile).
+use Rattle.std.specs.Prelude.{◌≡◌, ℕ, ◌*◌, List, length}
+use Rattle.pdc_frame.specs.Bytes.{AreBytes}
+use Rattle.pdc_block.specs.Block.{AreWords, bytes_of_words, words_in}
+
+-- twice as many bytes write these words, each fits, and the bytes are their spelling
+pub record WordsOfBytes : Type 0 where
+  pub count : (bytes : List ℕ) (n : ℕ) → length bytes ≡ 2 * n → length (words_in bytes) ≡ n
+  pub fit : (bytes : List ℕ) → AreBytes bytes → AreWords (words_in bytes)
+  pub spell : (bytes : List ℕ) (n : ℕ) → AreBytes bytes → length bytes ≡ 2 * n → bytes ≡ bytes_of_words (words_in bytes)

@@ -1,0 +1,2 @@
+//! How the table of a concentrator follows the ticks and the pops of its life (this profile).
+#![tactic(auto)]
