@@ -20,6 +20,7 @@ use Rattle.pdc_life.specs.Run.{IsOfSectionInForce}
 use Rattle.pdc_life.proofs.Closing.{rows_are_of_their_ticks}
 use Rattle.pdc_life.proofs.InForce.{cells_are_of_sections}
 use Rattle.pdc_life.proofs.LifeLaws.{rows_come_out_once}
+use Rattle.pdc_block.specs.Laws.{WordsOfBytes}
 use Rattle.pdc_life.proofs.NodeRuns.{node_lives_are_runs}
 
 -- a take came with data that was taken, and what was in force of the column then is in force still
@@ -268,7 +269,8 @@ own_lane g E p i cell lanes h present =
     ap (λ (o : Option CellView). first_of (present_of o) (present_of (second_cell g E p i))) first
     ∙ ap (λ (b : Bool). first_of (cond b (Some cell) None) (present_of (second_cell g E p i))) present
 
-pub node_taken_is_shown : NodeTakenIsShown
-node_taken_is_shown settings g E p i cell life here h present =
-    chosen_is_shown g E p i cell (node_lives_are_runs settings g E life) here
-    (own_lane g E p i cell (ap (λ (k : Given). k.lanes) life.given) h present)
+module _ (W : WordsOfBytes) where
+  pub node_taken_is_shown : NodeTakenIsShown
+  node_taken_is_shown settings g E p i cell life here h present =
+      chosen_is_shown g E p i cell (node_lives_are_runs W settings g E life) here
+      (own_lane g E p i cell (ap (λ (k : Given). k.lanes) life.given) h present)

@@ -11,8 +11,8 @@ use Rattle.pdc_output.specs.Layout.{stamp_words}
 use Rattle.pdc_row.specs.CellView.{CellView}
 use Rattle.pdc_row.specs.Quality.{greatest}
 use Rattle.pdc_row.specs.Rising.{AreBelow, is_near}
+use Rattle.pdc_row.specs.RisingLaws.{RisingLaws}
 use Rattle.pdc_row.specs.RowView.{row_instants}
-use Rattle.pdc_row.proofs.Rising.{below_greatest, below_higher, greatest_ge}
 use Rattle.pdc_life.specs.declared.outcome.Outcome.{Outcome}
 use Rattle.pdc_life.specs.declared.outcome.Outcome.TheVariants.{Taken, Refused}
 use Rattle.pdc_life.specs.declared.outcome.Refusal.{Refusal}
@@ -180,15 +180,16 @@ merger_takes_in_time g E s i quality payload =
 
 -- ---- what closed stays closed
 
-above_all : (g : Given) (E : List Entry) (s i : ℕ) → ComesInTime g E s i → (g.floor < i) × AreBelow i (row_instants (closed E))
-above_all g E s i t =
-    let e : last_of g E ≡ greatest g.floor (row_instants (closed E)) = last_is g E in
-    let k : g.floor ≤ greatest g.floor (row_instants (closed E)) = greatest_ge g.floor (row_instants (closed E)) in
-    let l : greatest g.floor (row_instants (closed E)) < i = omega (arith, t.later, e) in
-    (omega (arith, k, l), below_higher (greatest g.floor (row_instants (closed E)) + 1) i (row_instants (closed E)) (omega (arith, l)) (below_greatest g.floor (row_instants (closed E))))
+module _ (R : RisingLaws) where
+  above_all : (g : Given) (E : List Entry) (s i : ℕ) → ComesInTime g E s i → (g.floor < i) × AreBelow i (row_instants (closed E))
+  above_all g E s i t =
+      let e : last_of g E ≡ greatest g.floor (row_instants (closed E)) = last_is R g E in
+      let k : g.floor ≤ greatest g.floor (row_instants (closed E)) = R.greatest_ge g.floor (row_instants (closed E)) in
+      let l : greatest g.floor (row_instants (closed E)) < i = omega (arith, t.later, e) in
+      (omega (arith, k, l), R.below_higher (greatest g.floor (row_instants (closed E)) + 1) i (row_instants (closed E)) (omega (arith, l)) (R.below_greatest g.floor (row_instants (closed E))))
 
-pub closed_stay_closed : ClosedStayClosed
-closed_stay_closed g E s i quality payload (inl h) =
-    above_all g E s i (node_takes g E s i quality payload (section_in_force g E s) refl h).in_time
-closed_stay_closed g E s i quality payload (inr h) =
-    above_all g E s i (merger_takes g E s i quality payload (held_layout E s) refl h).in_time
+  pub closed_stay_closed : ClosedStayClosed
+  closed_stay_closed g E s i quality payload (inl h) =
+      above_all g E s i (node_takes g E s i quality payload (section_in_force g E s) refl h).in_time
+  closed_stay_closed g E s i quality payload (inr h) =
+      above_all g E s i (merger_takes g E s i quality payload (held_layout E s) refl h).in_time

@@ -3,9 +3,9 @@ use Rattle.std.proofs.Common.{◌≡◌, ℕ, ◌+◌, ◌≤◌, ◌==◌, Bool
 use Rattle.std.proofs.lemmas.List.{append_assoc}
 use Rattle.std.specs.List.{AllByRecursion, list_any, slice_get}
 use Rattle.std.specs.Option.{option_to_list}
-use Rattle.pdc_row.proofs.Rising.{above_filter, below_greatest, greatest_append, greatest_ge, rises_append, rises_filter, rises_rising}
 use Rattle.pdc_row.specs.Quality.{greatest}
 use Rattle.pdc_row.specs.Rising.{Rises}
+use Rattle.pdc_row.specs.RisingLaws.{RisingLaws}
 use Rattle.pdc_row.specs.RowView.{RowView, row_instants}
 use Rattle.pdc_life.specs.Given.{Given}
 use Rattle.pdc_life.specs.Life.{Entry, Arrive, Tick, TickAnswer, Pop, Take, changes, closed, is_adoption, is_adoption_of, last_of, open_instants, popped, takes, waiting}
@@ -53,30 +53,6 @@ instants_append (r ∷ rows) more = ap (λ ns. r.instant ∷ ns) (instants_appen
 instants_rows : (g : Given) (E : List Entry) (is : List ℕ) → row_instants (map (row_of g E) is) ≡ is
 instants_rows g E [] = refl
 instants_rows g E (i ∷ is) = ap (λ ns. i ∷ ns) (instants_rows g E is)
-
-pub last_is : (g : Given) (E : List Entry) → last_of g E ≡ greatest g.floor (row_instants (closed E))
-last_is g [] = refl
-last_is g (Tick now counts answer ∷ E) =
-    ap (λ n. greatest n (row_instants answer.rows)) (last_is g E)
-    ∙ sym (ap (λ ns. greatest g.floor ns) (instants_append (closed E) answer.rows) ∙ greatest_append g.floor (row_instants (closed E)) (row_instants answer.rows))
-last_is g (Arrive s bytes arrival answer ∷ E) = last_is g E
-last_is g (Pop row ∷ E) = last_is g E
-
-closing_rises : (g : Given) (E : List Entry) (now : ℕ) → Rises (last_of g E) (closing g E now)
-closing_rises g E now =
-    rises_filter _ (last_of g E) (open_instants g E)
-    (rises_rising (last_of g E) _ (above_filter (last_of g E) (map (λ (t : Take). t.instant) (takes E))))
-
-pub rows_rise : RowsRise
-rows_rise g [] run = tt
-rows_rise g (Tick now counts answer ∷ E) run =
-    let before : Rises g.floor (row_instants (closed E)) = rows_rise g E run.1 in
-    let e : row_instants answer.rows ≡ closing g E now = ap (λ (a : TickAnswer). row_instants a.rows) run.0 ∙ instants_rows g E (closing g E now) in
-    let now_closed : Rises (greatest g.floor (row_instants (closed E))) (row_instants answer.rows) =
-    subst (λ n. Rises n (row_instants answer.rows)) (last_is g E) (subst (λ ns. Rises (last_of g E) ns) (sym e) (closing_rises g E now)) in
-    subst (λ ns. Rises g.floor ns) (sym (instants_append (closed E) answer.rows)) (rises_append g.floor (greatest g.floor (row_instants (closed E))) (row_instants (closed E)) (row_instants answer.rows) (greatest_ge g.floor (row_instants (closed E))) before (below_greatest g.floor (row_instants (closed E))) now_closed)
-rows_rise g (Arrive s bytes arrival answer ∷ E) run = rows_rise g E run
-rows_rise g (Pop row ∷ E) run = rows_rise g E run.1
 
 -- changes
 no_fewer : (b : Bool) (e : Entry) (es : List Entry) → length es ≤ length (cond b (e ∷ es) es)
@@ -135,3 +111,30 @@ steps_make_node_lives settings g E steps life says =
 pub steps_make_merger_lives : StepsMakeMergerLives
 steps_make_merger_lives settings g E steps life says =
     record { given = life.given; life = steps_make_lives merged_answer (ReadsForMerger settings) g E steps life.life says }
+
+-- ---- what follows from the laws of rising numbers: rows rise
+
+module _ (R : RisingLaws) where
+  pub last_is : (g : Given) (E : List Entry) → last_of g E ≡ greatest g.floor (row_instants (closed E))
+  last_is g [] = refl
+  last_is g (Tick now counts answer ∷ E) =
+      ap (λ n. greatest n (row_instants answer.rows)) (last_is g E)
+      ∙ sym (ap (λ ns. greatest g.floor ns) (instants_append (closed E) answer.rows) ∙ R.greatest_append g.floor (row_instants (closed E)) (row_instants answer.rows))
+  last_is g (Arrive s bytes arrival answer ∷ E) = last_is g E
+  last_is g (Pop row ∷ E) = last_is g E
+
+  closing_rises : (g : Given) (E : List Entry) (now : ℕ) → Rises (last_of g E) (closing g E now)
+  closing_rises g E now =
+      R.rises_filter _ (last_of g E) (open_instants g E)
+      (R.rises_rising (last_of g E) _ (R.above_filter (last_of g E) (map (λ (t : Take). t.instant) (takes E))))
+
+  pub rows_rise : RowsRise
+  rows_rise g [] run = tt
+  rows_rise g (Tick now counts answer ∷ E) run =
+      let before : Rises g.floor (row_instants (closed E)) = rows_rise g E run.1 in
+      let e : row_instants answer.rows ≡ closing g E now = ap (λ (a : TickAnswer). row_instants a.rows) run.0 ∙ instants_rows g E (closing g E now) in
+      let now_closed : Rises (greatest g.floor (row_instants (closed E))) (row_instants answer.rows) =
+      subst (λ n. Rises n (row_instants answer.rows)) (last_is g E) (subst (λ ns. Rises (last_of g E) ns) (sym e) (closing_rises g E now)) in
+      subst (λ ns. Rises g.floor ns) (sym (instants_append (closed E) answer.rows)) (R.rises_append g.floor (greatest g.floor (row_instants (closed E))) (row_instants (closed E)) (row_instants answer.rows) (R.greatest_ge g.floor (row_instants (closed E))) before (R.below_greatest g.floor (row_instants (closed E))) now_closed)
+  rows_rise g (Arrive s bytes arrival answer ∷ E) run = rows_rise g E run
+  rows_rise g (Pop row ∷ E) run = rows_rise g E run.1

@@ -9,9 +9,8 @@ use Rattle.std.proofs.lemmas.Grind.{flat_map-append}
 use Rattle.std.proofs.lemmas.List.{take-append-drop}
 use Rattle.std.proofs.lemmas.Option.{none-some, same_Some}
 use Rattle.pdc_frame.specs.Bytes.{AreBytes}
-use Rattle.pdc_frame.specs.Parts.{WordsAreTheirBytes}
 use Rattle.pdc_block.specs.Block.{AreOfShapes, AreWords, bytes_of_blocks, bytes_of_words, words_in}
-use Rattle.pdc_block.proofs.Bodies.{words_count, words_fit, words_spell}
+use Rattle.pdc_block.specs.Laws.{WordsOfBytes}
 use Rattle.pdc_cfg.specs.Section.{SectionFields}
 use Rattle.pdc_cfg.specs.Shape.{word_count_of}
 use Rattle.pdc_cfg.specs.declared.shape.Shape.{Shape}
@@ -154,14 +153,14 @@ same_at g E [] k c t h a = absurd (none-some (c, t) h)
 same_at g E (part ∷ parts) zero c t h a = subst (IsSame g E) (same_Some part (c, t) h) a.0
 same_at g E (part ∷ parts) (suc k) c t h a = same_at g E parts k c t h a.1
 
-module _ (once : ReadOnce) (spell : WordsAreTheirBytes) where
+module _ (once : ReadOnce) (W : WordsOfBytes) where
   cut_under : (layout : HeldLayout) (payload : List ℕ) → AreBytes payload → own_words payload ≡ stamp_words layout.stamp.start layout.stamp.change → length payload ≡ payload_len layout.sections
       → IsCutUnder layout payload (take 7 (words_in payload)) (split layout.sections (drop 7 (words_in payload)))
   cut_under layout payload bytes stamp size =
       let words : List ℕ = words_in payload in
       let twice : length payload ≡ 2 * (7 + total layout.sections) = omega (arith, size, twice_total layout.sections) in
-      let count : length words ≡ 7 + total layout.sections = words_count payload (7 + total layout.sections) twice in
-      let fits : AreWords words = words_fit payload bytes in
+      let count : length words ≡ 7 + total layout.sections = W.count payload (7 + total layout.sections) twice in
+      let fits : AreWords words = W.fit payload bytes in
       let left : length (drop 7 words) ≡ total layout.sections = drop_count 7 (total layout.sections) words count in
       record {
         cut = λ shape p a d. record {
@@ -170,7 +169,7 @@ module _ (once : ReadOnce) (spell : WordsAreTheirBytes) where
             take_words 7 words fits,
             split_shaped layout.sections (drop 7 words) left (drop_words 7 words fits),
           );
-          parts = words_spell spell payload (7 + total layout.sections) bytes twice ∙ sym (two_parts 7 words)
+          parts = W.spell payload (7 + total layout.sections) bytes twice ∙ sym (two_parts 7 words)
               ∙ ap (λ (blocks : List ℕ). bytes_of_words (take 7 words) ++ blocks) (sym (split_bytes layout.sections (drop 7 words) left));
         };
         stamp = stamp;
@@ -186,7 +185,7 @@ module _ (once : ReadOnce) (spell : WordsAreTheirBytes) where
       let rate : g.output.rate ≡ settings.output.rate = ap (λ (k : Given). k.output.rate) life.given in
       let tag : i < 4294967296 * settings.output.rate =
       instant_below reads.reads.fields.soc reads.reads.fields.frac reads.node.time_base settings.output.rate i (omega (arith, reads.reads.of_stream.frame.fits.soc)) reads.reads.tag in
-      let facts = known once settings g E s i payload layout life (merger_lives_are_runs once settings g E life).sound takes.held (subst (λ n. i < 4294967296 * n) (sym rate) tag) bytes in
+      let facts = known once settings g E s i payload layout life (merger_lives_are_runs once W settings g E life).sound takes.held (subst (λ n. i < 4294967296 * n) (sym rate) tag) bytes in
       let cells : answer.cells ≡ merged_cells g E quality layout.sections (drop 7 (words_in payload)) = given_cells g E s i quality payload layout answer (e ∙ ap (merged_data_answer g E s i quality payload) takes.held) taken in
       let blocks : List (List ℕ) = split layout.sections (drop 7 (words_in payload)) in
       let is : IsBlock g E quality layout.sections blocks (c, cell) =

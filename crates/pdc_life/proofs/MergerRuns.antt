@@ -9,7 +9,7 @@ use Rattle.std.proofs.lemmas.List.Sums.{sum_by-cons}
 use Rattle.std.proofs.lemmas.Option.{slice_get_within}
 use Rattle.pdc_frame.specs.Bytes.{AreBytes}
 use Rattle.pdc_block.specs.Block.{AreWords, words_in}
-use Rattle.pdc_block.proofs.Bodies.{words_count, words_fit}
+use Rattle.pdc_block.specs.Laws.{WordsOfBytes}
 use Rattle.pdc_cfg.specs.Config.{ConfigFields, IsConfig, payload_of}
 use Rattle.pdc_cfg.specs.Shape.{word_count_of}
 use Rattle.pdc_cfg.specs.Section.{SectionFields, IsSection}
@@ -221,32 +221,6 @@ same_length m n h = search rules
 two_not_one : (n : ℕ) → n ≡ 2 → n ≡ 1 → ⊥
 two_not_one n h k = absurd (omega (arith, h, k))
 
-in_time_at : (g : Given) (E : List Entry) (s i quality : ℕ) (payload : List ℕ) (layout : HeldLayout) → Facts g layout.sections → AllByRecursion (IsSame g E) layout.sections → g.lanes ≡ 2 → i < 4294967296 * g.output.rate
-    → AreBytes payload → length payload ≡ payload_len layout.sections
-    → (answer_in_time g E s i (merged_cells g E quality layout.sections (drop 7 (words_in payload)))).outcome ≡ Taken
-    → IsInTime g E s (Data i quality payload) (answer_in_time g E s i (merged_cells g E quality layout.sections (drop 7 (words_in payload))))
-in_time_at g E s i quality payload layout facts same lanes tag bytes size h =
-    let words : List ℕ = drop 7 (words_in payload) in
-    let count : length (words_in payload) ≡ 7 + total layout.sections = words_count payload (7 + total layout.sections) (omega (arith, size, twice_total layout.sections)) in
-    let left : length words ≡ total layout.sections = drop_count 7 (total layout.sections) (words_in payload) count in
-    let fits : AreWords words = drop_words 7 (words_in payload) (words_fit payload bytes) in
-    let cells : List (ℕ × CellView) = merged_cells g E quality layout.sections words in
-    let e = taken_cells (outcome_in_time g E s i cells) cells h in
-    record {
-      instant = i;
-      quality = quality;
-      payload = payload;
-      said = refl;
-      in_time = ap (λ (cs : List (ℕ × CellView)). answer_in_time g E s i cs) (sym e);
-      tag = tag;
-      columns = subst (λ (cs : List (ℕ × CellView)). HaveColumns g cs) (sym e) (record {
-        rise = cells_rise g E quality 0 layout.sections words facts.columns.rise;
-        exist = cells_exist g E quality layout.sections words facts.columns.exist;
-      });
-      sections = subst (λ (cs : List (ℕ × CellView)). AllByRecursion (IsOfSectionInForce g E) cs) (sym e) (cells_of_sections g E quality layout.sections words same left fits);
-      own = λ lane. absurd (two_not_one g.lanes lanes lane);
-    }
-
 -- what is common to all data of a node
 pub record OfData (g : Given) (E : List Entry) (s i : ℕ) (payload : List ℕ) (layout : HeldLayout) : Type 0 where
   pub facts : Facts g layout.sections
@@ -254,22 +228,6 @@ pub record OfData (g : Given) (E : List Entry) (s i : ℕ) (payload : List ℕ) 
   pub lanes : g.lanes ≡ 2
   pub tag : i < 4294967296 * g.output.rate
   pub bytes : AreBytes payload
-
-through : (g : Given) (E : List Entry) (s i quality : ℕ) (payload : List ℕ) (layout : HeldLayout) (short other long : Bool) → not (eqb (length payload) (payload_len layout.sections)) ≡ long → OfData g E s i payload layout
-    → (cond short (bare (Refused WrongLength)) (cond other (bare (Refused OtherStamp)) (cond long (bare (Refused WrongLength)) (answer_in_time g E s i (merged_cells g E quality layout.sections (drop 7 (words_in payload))))))).outcome ≡ Taken
-    → IsInTime g E s (Data i quality payload) (cond short (bare (Refused WrongLength)) (cond other (bare (Refused OtherStamp)) (cond long (bare (Refused WrongLength)) (answer_in_time g E s i (merged_cells g E quality layout.sections (drop 7 (words_in payload)))))))
-through g E s i quality payload layout true other long e k h = absurd (false≢true (ap is_taken h))
-through g E s i quality payload layout false true long e k h = absurd (false≢true (ap is_taken h))
-through g E s i quality payload layout false false true e k h = absurd (false≢true (ap is_taken h))
-through g E s i quality payload layout false false false e k h =
-    in_time_at g E s i quality payload layout k.facts k.same k.lanes k.tag k.bytes (same_length (length payload) (payload_len layout.sections) e) h
-
-of_data : (g : Given) (E : List Entry) (s i quality : ℕ) (payload : List ℕ) (o : Option HeldLayout) → ((layout : HeldLayout) → o ≡ Some layout → OfData g E s i payload layout)
-    → (merged_data_answer g E s i quality payload o).outcome ≡ Taken → IsInTime g E s (Data i quality payload) (merged_data_answer g E s i quality payload o)
-of_data g E s i quality payload None k h = absurd (false≢true (ap is_taken h))
-of_data g E s i quality payload (Some layout) k h =
-    through g E s i quality payload layout (ltb (length payload) 14) (not (pointwise nat_eq (own_words payload) (stamp_words layout.stamp.start layout.stamp.change)))
-    (not (eqb (length payload) (payload_len layout.sections))) refl (k layout refl) h
 
 none_taken : (old same conflicts : Bool) → is_taken (cond old (Refused OldStamp) (cond same Known (cond conflicts (Refused CountConflict) Candidate))) ≡ false
 none_taken true same conflicts = refl
@@ -282,6 +240,13 @@ layout_not : (held : Option HeldLayout) (stamp : Stamp) (conflicts : Bool) → i
 layout_not None stamp true = refl
 layout_not None stamp false = refl
 layout_not (Some held) stamp conflicts = none_taken (is_older stamp held.stamp) (not (is_older held.stamp stamp)) conflicts
+
+of_two : (settings : MergerSettings) (g : Given) (E : List Entry) (s : ℕ) (bytes : List ℕ) (arrival : Arrival) → g ≡ given_of_merger settings g.start g.floor g.counts g.opening → ReadsForMerger settings s bytes arrival → s < length (streams_of g)
+of_two settings g E s bytes arrival given r =
+    let below : s < length (nodes_of settings) = slice_get_within (nodes_of settings) s r.node r.listed in
+    let lanes : g.lanes ≡ 2 = ap (λ (k : Given). k.lanes) given in
+    let size : length (streams_of g) ≡ 2 = ap (λ n. length (range_with_len 0 (if n == 1 then g.columns else 2))) lanes in
+    omega (arith, below, size)
 
 module _ (once : ReadOnce) where
   pub known : (settings : MergerSettings) (g : Given) (E : List Entry) (s i : ℕ) (payload : List ℕ) (layout : HeldLayout) → IsMergerLife settings g E → AreSound g E → held_layout E s ≡ Some layout
@@ -301,6 +266,52 @@ module _ (once : ReadOnce) where
         bytes = bytes;
       }
 
+-- ---- what follows from the law of words
+
+module _ (W : WordsOfBytes) where
+  in_time_at : (g : Given) (E : List Entry) (s i quality : ℕ) (payload : List ℕ) (layout : HeldLayout) → Facts g layout.sections → AllByRecursion (IsSame g E) layout.sections → g.lanes ≡ 2 → i < 4294967296 * g.output.rate
+      → AreBytes payload → length payload ≡ payload_len layout.sections
+      → (answer_in_time g E s i (merged_cells g E quality layout.sections (drop 7 (words_in payload)))).outcome ≡ Taken
+      → IsInTime g E s (Data i quality payload) (answer_in_time g E s i (merged_cells g E quality layout.sections (drop 7 (words_in payload))))
+  in_time_at g E s i quality payload layout facts same lanes tag bytes size h =
+      let words : List ℕ = drop 7 (words_in payload) in
+      let count : length (words_in payload) ≡ 7 + total layout.sections = W.count payload (7 + total layout.sections) (omega (arith, size, twice_total layout.sections)) in
+      let left : length words ≡ total layout.sections = drop_count 7 (total layout.sections) (words_in payload) count in
+      let fits : AreWords words = drop_words 7 (words_in payload) (W.fit payload bytes) in
+      let cells : List (ℕ × CellView) = merged_cells g E quality layout.sections words in
+      let e = taken_cells (outcome_in_time g E s i cells) cells h in
+      record {
+        instant = i;
+        quality = quality;
+        payload = payload;
+        said = refl;
+        in_time = ap (λ (cs : List (ℕ × CellView)). answer_in_time g E s i cs) (sym e);
+        tag = tag;
+        columns = subst (λ (cs : List (ℕ × CellView)). HaveColumns g cs) (sym e) (record {
+          rise = cells_rise g E quality 0 layout.sections words facts.columns.rise;
+          exist = cells_exist g E quality layout.sections words facts.columns.exist;
+        });
+        sections = subst (λ (cs : List (ℕ × CellView)). AllByRecursion (IsOfSectionInForce g E) cs) (sym e) (cells_of_sections g E quality layout.sections words same left fits);
+        own = λ lane. absurd (two_not_one g.lanes lanes lane);
+      }
+
+  through : (g : Given) (E : List Entry) (s i quality : ℕ) (payload : List ℕ) (layout : HeldLayout) (short other long : Bool) → not (eqb (length payload) (payload_len layout.sections)) ≡ long → OfData g E s i payload layout
+      → (cond short (bare (Refused WrongLength)) (cond other (bare (Refused OtherStamp)) (cond long (bare (Refused WrongLength)) (answer_in_time g E s i (merged_cells g E quality layout.sections (drop 7 (words_in payload))))))).outcome ≡ Taken
+      → IsInTime g E s (Data i quality payload) (cond short (bare (Refused WrongLength)) (cond other (bare (Refused OtherStamp)) (cond long (bare (Refused WrongLength)) (answer_in_time g E s i (merged_cells g E quality layout.sections (drop 7 (words_in payload)))))))
+  through g E s i quality payload layout true other long e k h = absurd (false≢true (ap is_taken h))
+  through g E s i quality payload layout false true long e k h = absurd (false≢true (ap is_taken h))
+  through g E s i quality payload layout false false true e k h = absurd (false≢true (ap is_taken h))
+  through g E s i quality payload layout false false false e k h =
+      in_time_at g E s i quality payload layout k.facts k.same k.lanes k.tag k.bytes (same_length (length payload) (payload_len layout.sections) e) h
+
+  of_data : (g : Given) (E : List Entry) (s i quality : ℕ) (payload : List ℕ) (o : Option HeldLayout) → ((layout : HeldLayout) → o ≡ Some layout → OfData g E s i payload layout)
+      → (merged_data_answer g E s i quality payload o).outcome ≡ Taken → IsInTime g E s (Data i quality payload) (merged_data_answer g E s i quality payload o)
+  of_data g E s i quality payload None k h = absurd (false≢true (ap is_taken h))
+  of_data g E s i quality payload (Some layout) k h =
+      through g E s i quality payload layout (ltb (length payload) 14) (not (pointwise nat_eq (own_words payload) (stamp_words layout.stamp.start layout.stamp.change)))
+      (not (eqb (length payload) (payload_len layout.sections))) refl (k layout refl) h
+
+module _ (once : ReadOnce) (W : WordsOfBytes) where
   sound_at : (settings : MergerSettings) (g : Given) (E : List Entry) (s : ℕ) (bytes : List ℕ) (arrival : Arrival) → IsMergerLife settings g E → AreSound g E → s < length (streams_of g) → ReadsForMerger settings s bytes arrival
       → IsSound g E s arrival (merged_answer g E s arrival)
   sound_at settings g E s bytes (BytesRefused refusal) life sound here r = record {
@@ -314,8 +325,8 @@ module _ (once : ReadOnce) where
       let tag : i < 4294967296 * settings.output.rate = instant_below r.reads.fields.soc r.reads.fields.frac r.node.time_base settings.output.rate i (omega (arith, r.reads.of_stream.frame.fits.soc)) r.reads.tag in
       record {
         stream = here;
-        taken = of_data g E s i quality payload (held_layout E s)
-            (λ layout held. known settings g E s i payload layout life sound held (subst (λ n. i < 4294967296 * n) (sym rate) tag) (subst AreBytes r.reads.same_payload r.reads.of_stream.frame.fits.bytes));
+        taken = of_data W g E s i quality payload (held_layout E s)
+            (λ layout held. known once settings g E s i payload layout life sound held (subst (λ n. i < 4294967296 * n) (sym rate) tag) (subst AreBytes r.reads.same_payload r.reads.of_stream.frame.fits.bytes));
         columns = record { rise = tt; exist = tt };
         sections = tt;
       }
@@ -328,13 +339,6 @@ module _ (once : ReadOnce) where
         sections = facts.whole;
       }
   sound_at settings g E s bytes (Layout None parts) life sound here r = absurd r.reads
-
-  of_two : (settings : MergerSettings) (g : Given) (E : List Entry) (s : ℕ) (bytes : List ℕ) (arrival : Arrival) → g ≡ given_of_merger settings g.start g.floor g.counts g.opening → ReadsForMerger settings s bytes arrival → s < length (streams_of g)
-  of_two settings g E s bytes arrival given r =
-      let below : s < length (nodes_of settings) = slice_get_within (nodes_of settings) s r.node r.listed in
-      let lanes : g.lanes ≡ 2 = ap (λ (k : Given). k.lanes) given in
-      let size : length (streams_of g) ≡ 2 = ap (λ n. length (range_with_len 0 (if n == 1 then g.columns else 2))) lanes in
-      omega (arith, below, size)
 
   are_sound : (settings : MergerSettings) (g : Given) (E : List Entry) → g ≡ given_of_merger settings g.start g.floor g.counts g.opening → IsLife merged_answer (ReadsForMerger settings) g E → AreSound g E
   are_sound settings g [] given life = tt

@@ -3,8 +3,8 @@ use Rattle.std.proofs.Common.{ℕ, ◌+◌, ◌*◌, ◌<◌, List, [], ◌∷�
 use Rattle.std.specs.List.{AllByRecursion}
 use Rattle.pdc_row.specs.Quality.{greatest}
 use Rattle.pdc_row.specs.Rising.{Rises}
+use Rattle.pdc_row.specs.RisingLaws.{RisingLaws}
 use Rattle.pdc_row.specs.RowView.{RowView, row_instants}
-use Rattle.pdc_row.proofs.Rising.{below_greatest, below_higher, greatest_ge, rises_back, rises_front}
 use Rattle.pdc_life.specs.Life.{Pop, popped, waiting}
 use Rattle.pdc_life.specs.Tagged.{NextIsAbove}
 use Rattle.pdc_life.proofs.LifeLaws.{instants_append, rows_come_out_once, rows_rise}
@@ -14,18 +14,19 @@ last_holds : (P : ℕ → Type 0) (ns : List ℕ) (n : ℕ) → AllByRecursion P
 last_holds P [] n a = a.0
 last_holds P (m ∷ ns) n a = last_holds P ns n a.1
 
-pub next_is_above : NextIsAbove
-next_is_above g E row run =
-    let before : List ℕ = row_instants (popped E) in
-    let rest : List RowView = waiting (Pop (Some row) ∷ E) in
-    let whole : Rises g.floor (row_instants ((popped E ++ row ∷ []) ++ rest)) =
-    subst (λ (rows : List RowView). Rises g.floor (row_instants rows)) (rows_come_out_once g (Pop (Some row) ∷ E) run.ticked) (rows_rise g (Pop (Some row) ∷ E) run.ticked) in
-    let apart : Rises g.floor ((before ++ row.instant ∷ []) ++ row_instants rest) =
-    subst (λ (ns : List ℕ). Rises g.floor ns)
-    (instants_append (popped E ++ row ∷ []) rest ∙ ap (λ (ns : List ℕ). ns ++ row_instants rest) (instants_append (popped E) (row ∷ []))) whole in
-    let front : Rises g.floor (before ++ row.instant ∷ []) = rises_front g.floor (before ++ row.instant ∷ []) (row_instants rest) apart in
-    let above : greatest g.floor before < row.instant = (rises_back g.floor before (row.instant ∷ []) front).0 in
-    let low : row.instant < 4294967296 * g.output.rate =
-    last_holds (λ i. i < 4294967296 * g.output.rate) before row.instant
-    (subst (λ (ns : List ℕ). AllByRecursion (λ i. i < 4294967296 * g.output.rate) ns) (instants_append (popped E) (row ∷ [])) (popped_low g (Pop (Some row) ∷ E) run.ticked run.sound)) in
-    (omega (arith, above, greatest_ge g.floor before), below_higher (greatest g.floor before + 1) row.instant before (omega (arith, above)) (below_greatest g.floor before), low)
+module _ (R : RisingLaws) where
+  pub next_is_above : NextIsAbove
+  next_is_above g E row run =
+      let before : List ℕ = row_instants (popped E) in
+      let rest : List RowView = waiting (Pop (Some row) ∷ E) in
+      let whole : Rises g.floor (row_instants ((popped E ++ row ∷ []) ++ rest)) =
+      subst (λ (rows : List RowView). Rises g.floor (row_instants rows)) (rows_come_out_once g (Pop (Some row) ∷ E) run.ticked) (rows_rise R g (Pop (Some row) ∷ E) run.ticked) in
+      let apart : Rises g.floor ((before ++ row.instant ∷ []) ++ row_instants rest) =
+      subst (λ (ns : List ℕ). Rises g.floor ns)
+      (instants_append (popped E ++ row ∷ []) rest ∙ ap (λ (ns : List ℕ). ns ++ row_instants rest) (instants_append (popped E) (row ∷ []))) whole in
+      let front : Rises g.floor (before ++ row.instant ∷ []) = R.rises_front g.floor (before ++ row.instant ∷ []) (row_instants rest) apart in
+      let above : greatest g.floor before < row.instant = (R.rises_back g.floor before (row.instant ∷ []) front).0 in
+      let low : row.instant < 4294967296 * g.output.rate =
+      last_holds (λ i. i < 4294967296 * g.output.rate) before row.instant
+      (subst (λ (ns : List ℕ). AllByRecursion (λ i. i < 4294967296 * g.output.rate) ns) (instants_append (popped E) (row ∷ [])) (popped_low g (Pop (Some row) ∷ E) run.ticked run.sound)) in
+      (omega (arith, above, R.greatest_ge g.floor before), R.below_higher (greatest g.floor before + 1) row.instant before (omega (arith, above)) (R.below_greatest g.floor before), low)

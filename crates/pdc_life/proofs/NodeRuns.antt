@@ -9,7 +9,7 @@ use Rattle.std.proofs.lemmas.List.FromFn.{length-range_with_len}
 use Rattle.std.proofs.lemmas.Option.{slice_get_within}
 use Rattle.pdc_frame.specs.Bytes.{AreBytes}
 use Rattle.pdc_block.specs.Block.{words_in}
-use Rattle.pdc_block.proofs.Bodies.{words_count, words_fit}
+use Rattle.pdc_block.specs.Laws.{WordsOfBytes}
 use Rattle.pdc_cfg.specs.Shape.{word_count_of}
 use Rattle.pdc_cfg.specs.Section.{SectionFields, IsSection}
 use Rattle.pdc_row.specs.CellView.{CellView}
@@ -85,62 +85,6 @@ same_length m n h = search rules
 own_column : {A : Type 0} (g : Given) (p : ℕ) (a : A) → p < g.columns → HaveColumns g ((p, a) ∷ [])
 own_column g p a h = record { rise = (omega arith, tt); exist = (h, tt) }
 
-in_time_at : (g : Given) (E : List Entry) (p i quality : ℕ) (payload : List ℕ) (s : SectionFields) → p < g.columns → i < 4294967296 * g.output.rate → AreBytes payload → length payload ≡ 2 * word_count_of s.shape → section_in_force g E p ≡ Some s
-    → (answer_in_time g E p i ((p, cell_under s quality (words_in payload)) ∷ [])).outcome ≡ Taken
-    → IsInTime g E p (Data i quality payload) (answer_in_time g E p i ((p, cell_under s quality (words_in payload)) ∷ []))
-in_time_at g E p i quality payload s here tag bytes size f h =
-    let e = taken_cells (outcome_in_time g E p i ((p, cell_under s quality (words_in payload)) ∷ [])) ((p, cell_under s quality (words_in payload)) ∷ []) h in
-    record {
-      instant = i;
-      quality = quality;
-      payload = payload;
-      said = refl;
-      in_time = ap (λ (cs : List (ℕ × CellView)). answer_in_time g E p i cs) (sym e);
-      tag = tag;
-      columns = subst (λ (cs : List (ℕ × CellView)). HaveColumns g cs) (sym e) (own_column g p (cell_under s quality (words_in payload)) here);
-      sections = subst (λ (cs : List (ℕ × CellView)). AllByRecursion (IsOfSectionInForce g E) cs) (sym e) (record { section = s; in_force = f; shape = refl; count = words_count payload (word_count_of s.shape) size; fits = words_fit payload bytes }, tt);
-      own = λ lane. subst (λ (cs : List (ℕ × CellView)). AllByRecursion (λ (part : ℕ × CellView). part.0 ≡ p) cs) (sym e) (refl, tt);
-    }
-
-long_enough : (g : Given) (E : List Entry) (p i quality : ℕ) (payload : List ℕ) (s : SectionFields) (b : Bool) → not (eqb (length payload) (2 * word_count_of s.shape)) ≡ b → p < g.columns → i < 4294967296 * g.output.rate → AreBytes payload → section_in_force g E p ≡ Some s
-    → (cond b (bare (Refused WrongLength)) (answer_in_time g E p i ((p, cell_under s quality (words_in payload)) ∷ []))).outcome ≡ Taken
-    → IsInTime g E p (Data i quality payload) (cond b (bare (Refused WrongLength)) (answer_in_time g E p i ((p, cell_under s quality (words_in payload)) ∷ [])))
-long_enough g E p i quality payload s true size here tag bytes f h = absurd (false≢true (ap is_taken h))
-long_enough g E p i quality payload s false size here tag bytes f h =
-    in_time_at g E p i quality payload s here tag bytes (same_length (length payload) (2 * word_count_of s.shape) size) f h
-
-of_section : (g : Given) (E : List Entry) (p i quality : ℕ) (payload : List ℕ) (s : Option SectionFields) → p < g.columns → i < 4294967296 * g.output.rate → AreBytes payload → section_in_force g E p ≡ s
-    → (data_answer g E p i quality payload s).outcome ≡ Taken → IsInTime g E p (Data i quality payload) (data_answer g E p i quality payload s)
-of_section g E p i quality payload None here tag bytes f h = absurd (false≢true (ap is_taken h))
-of_section g E p i quality payload (Some s) here tag bytes f h =
-    long_enough g E p i quality payload s (not (eqb (length payload) (2 * word_count_of s.shape))) refl here tag bytes f h
-
-sound : (settings : Settings) (g : Given) (E : List Entry) (p : ℕ) (bytes : List ℕ) (arrival : Arrival) → g.output.rate ≡ settings.output.rate → Facts g p → ReadsFor settings p bytes arrival → IsSound g E p arrival (node_answer g E p arrival)
-sound settings g E p bytes (BytesRefused refusal) rate facts r = record {
-  stream = facts.stream;
-  taken = λ h. absurd (false≢true (ap is_taken h));
-  columns = record { rise = tt; exist = tt };
-  sections = tt;
-}
-sound settings g E p bytes (Data i quality payload) rate facts r =
-    let tag : i < 4294967296 * settings.output.rate = instant_below r.reads.fields.soc r.reads.fields.frac r.pmu.time_base settings.output.rate i (omega (arith, r.reads.of_stream.frame.fits.soc)) r.reads.tag in
-    record {
-      stream = facts.stream;
-      taken = of_section g E p i quality payload (section_in_force g E p) facts.here (subst (λ n. i < 4294967296 * n) (sym rate) tag)
-          (subst AreBytes r.reads.same_payload r.reads.of_stream.frame.fits.bytes) refl;
-      columns = record { rise = tt; exist = tt };
-      sections = tt;
-    }
-sound settings g E p bytes (Layout None ((c, s) ∷ [])) rate facts r = record {
-  stream = facts.stream;
-  taken = λ h. absurd (false≢true (sym (section_not (count_for p g.counts) (held_section g E p) s) ∙ ap is_taken h));
-  columns = own_column g c s (subst (λ n. n < g.columns) (sym r.reads.0) facts.here);
-  sections = (of_valid settings r.pmu bytes s r.reads.1, tt);
-}
-sound settings g E p bytes (Layout None []) rate facts r = absurd r.reads
-sound settings g E p bytes (Layout None (a ∷ b ∷ more)) rate facts r = absurd r.reads
-sound settings g E p bytes (Layout (Some stamp) sections) rate facts r = absurd r.reads
-
 facts_of : (settings : Settings) (g : Given) (p : ℕ) (bytes : List ℕ) (arrival : Arrival) → IsGivenBy settings g → ReadsFor settings p bytes arrival → Facts g p
 facts_of settings g p bytes arrival given r =
     let number : g.columns ≡ length settings.pmus.items = ap (λ (h : Given). h.columns) given in
@@ -150,17 +94,76 @@ facts_of settings g p bytes arrival given r =
     ap (λ n. length (range_with_len 0 (if n == 1 then g.columns else 2))) one ∙ length-range_with_len 0 g.columns in
     record { here = here; stream = omega (arith, here, size) }
 
-are_sound : (settings : Settings) (g : Given) (E : List Entry) → IsGivenBy settings g → IsLife node_answer (ReadsFor settings) g E → AreSound g E
-are_sound settings g [] given life = tt
-are_sound settings g (Arrive p bytes arrival answer ∷ E) given life = (
-  subst (λ (a : Answer). IsSound g E p arrival a) (sym life.1) (sound settings g E p bytes arrival (ap (λ (h : Given). h.output.rate) given) (facts_of settings g p bytes arrival given life.0) life.0),
-  are_sound settings g E given life.2,
-)
-are_sound settings g (Tick now counts answer ∷ E) given life = are_sound settings g E given life.1
-are_sound settings g (Pop row ∷ E) given life = are_sound settings g E given life.1
+-- ---- what follows from the law of words
 
-pub node_lives_are_runs : NodeLivesAreRuns
-node_lives_are_runs settings g E life = record {
-  ticked = lives_are_ticked node_answer (ReadsFor settings) g E life.life;
-  sound = are_sound settings g E life.given life.life;
-}
+module _ (W : WordsOfBytes) where
+  in_time_at : (g : Given) (E : List Entry) (p i quality : ℕ) (payload : List ℕ) (s : SectionFields) → p < g.columns → i < 4294967296 * g.output.rate → AreBytes payload → length payload ≡ 2 * word_count_of s.shape → section_in_force g E p ≡ Some s
+      → (answer_in_time g E p i ((p, cell_under s quality (words_in payload)) ∷ [])).outcome ≡ Taken
+      → IsInTime g E p (Data i quality payload) (answer_in_time g E p i ((p, cell_under s quality (words_in payload)) ∷ []))
+  in_time_at g E p i quality payload s here tag bytes size f h =
+      let e = taken_cells (outcome_in_time g E p i ((p, cell_under s quality (words_in payload)) ∷ [])) ((p, cell_under s quality (words_in payload)) ∷ []) h in
+      record {
+        instant = i;
+        quality = quality;
+        payload = payload;
+        said = refl;
+        in_time = ap (λ (cs : List (ℕ × CellView)). answer_in_time g E p i cs) (sym e);
+        tag = tag;
+        columns = subst (λ (cs : List (ℕ × CellView)). HaveColumns g cs) (sym e) (own_column g p (cell_under s quality (words_in payload)) here);
+        sections = subst (λ (cs : List (ℕ × CellView)). AllByRecursion (IsOfSectionInForce g E) cs) (sym e) (record { section = s; in_force = f; shape = refl; count = W.count payload (word_count_of s.shape) size; fits = W.fit payload bytes }, tt);
+        own = λ lane. subst (λ (cs : List (ℕ × CellView)). AllByRecursion (λ (part : ℕ × CellView). part.0 ≡ p) cs) (sym e) (refl, tt);
+      }
+
+  long_enough : (g : Given) (E : List Entry) (p i quality : ℕ) (payload : List ℕ) (s : SectionFields) (b : Bool) → not (eqb (length payload) (2 * word_count_of s.shape)) ≡ b → p < g.columns → i < 4294967296 * g.output.rate → AreBytes payload → section_in_force g E p ≡ Some s
+      → (cond b (bare (Refused WrongLength)) (answer_in_time g E p i ((p, cell_under s quality (words_in payload)) ∷ []))).outcome ≡ Taken
+      → IsInTime g E p (Data i quality payload) (cond b (bare (Refused WrongLength)) (answer_in_time g E p i ((p, cell_under s quality (words_in payload)) ∷ [])))
+  long_enough g E p i quality payload s true size here tag bytes f h = absurd (false≢true (ap is_taken h))
+  long_enough g E p i quality payload s false size here tag bytes f h =
+      in_time_at g E p i quality payload s here tag bytes (same_length (length payload) (2 * word_count_of s.shape) size) f h
+
+  of_section : (g : Given) (E : List Entry) (p i quality : ℕ) (payload : List ℕ) (s : Option SectionFields) → p < g.columns → i < 4294967296 * g.output.rate → AreBytes payload → section_in_force g E p ≡ s
+      → (data_answer g E p i quality payload s).outcome ≡ Taken → IsInTime g E p (Data i quality payload) (data_answer g E p i quality payload s)
+  of_section g E p i quality payload None here tag bytes f h = absurd (false≢true (ap is_taken h))
+  of_section g E p i quality payload (Some s) here tag bytes f h =
+      long_enough g E p i quality payload s (not (eqb (length payload) (2 * word_count_of s.shape))) refl here tag bytes f h
+
+  sound : (settings : Settings) (g : Given) (E : List Entry) (p : ℕ) (bytes : List ℕ) (arrival : Arrival) → g.output.rate ≡ settings.output.rate → Facts g p → ReadsFor settings p bytes arrival → IsSound g E p arrival (node_answer g E p arrival)
+  sound settings g E p bytes (BytesRefused refusal) rate facts r = record {
+    stream = facts.stream;
+    taken = λ h. absurd (false≢true (ap is_taken h));
+    columns = record { rise = tt; exist = tt };
+    sections = tt;
+  }
+  sound settings g E p bytes (Data i quality payload) rate facts r =
+      let tag : i < 4294967296 * settings.output.rate = instant_below r.reads.fields.soc r.reads.fields.frac r.pmu.time_base settings.output.rate i (omega (arith, r.reads.of_stream.frame.fits.soc)) r.reads.tag in
+      record {
+        stream = facts.stream;
+        taken = of_section g E p i quality payload (section_in_force g E p) facts.here (subst (λ n. i < 4294967296 * n) (sym rate) tag)
+            (subst AreBytes r.reads.same_payload r.reads.of_stream.frame.fits.bytes) refl;
+        columns = record { rise = tt; exist = tt };
+        sections = tt;
+      }
+  sound settings g E p bytes (Layout None ((c, s) ∷ [])) rate facts r = record {
+    stream = facts.stream;
+    taken = λ h. absurd (false≢true (sym (section_not (count_for p g.counts) (held_section g E p) s) ∙ ap is_taken h));
+    columns = own_column g c s (subst (λ n. n < g.columns) (sym r.reads.0) facts.here);
+    sections = (of_valid settings r.pmu bytes s r.reads.1, tt);
+  }
+  sound settings g E p bytes (Layout None []) rate facts r = absurd r.reads
+  sound settings g E p bytes (Layout None (a ∷ b ∷ more)) rate facts r = absurd r.reads
+  sound settings g E p bytes (Layout (Some stamp) sections) rate facts r = absurd r.reads
+
+  are_sound : (settings : Settings) (g : Given) (E : List Entry) → IsGivenBy settings g → IsLife node_answer (ReadsFor settings) g E → AreSound g E
+  are_sound settings g [] given life = tt
+  are_sound settings g (Arrive p bytes arrival answer ∷ E) given life = (
+    subst (λ (a : Answer). IsSound g E p arrival a) (sym life.1) (sound settings g E p bytes arrival (ap (λ (h : Given). h.output.rate) given) (facts_of settings g p bytes arrival given life.0) life.0),
+    are_sound settings g E given life.2,
+  )
+  are_sound settings g (Tick now counts answer ∷ E) given life = are_sound settings g E given life.1
+  are_sound settings g (Pop row ∷ E) given life = are_sound settings g E given life.1
+
+  pub node_lives_are_runs : NodeLivesAreRuns
+  node_lives_are_runs settings g E life = record {
+    ticked = lives_are_ticked node_answer (ReadsFor settings) g E life.life;
+    sound = are_sound settings g E life.given life.life;
+  }

@@ -14,21 +14,26 @@ ghost use Rattle.pdc_life.specs.Tagged.{NextIsAbove, RowsHaveTags};
 
 use pdc_block::bodies_are_their_words;
 use pdc_cfg::configurations_are_read_in_one_way;
-use pdc_frame::{frames_are_read_in_one_way, words_are_their_bytes};
+use pdc_frame::frames_are_read_in_one_way;
 use pdc_output::{layouts_are_frames, own_sections_tell_stamps, rows_are_frames};
+use pdc_row::numbers_rise;
 use pdc_tag::instant_is_nearest;
 
 /// A node's lives are runs, and the merger's are ticked: what holds of all runs, or of all ticked lives, holds of them.
 pub fn lives_are_runs()
     ensures of_node { NodeLivesAreRuns }
     ensures of_merger { MergerLivesAreTicked }
-{}
+{
+    bodies_are_their_words();
+}
 
 /// In every life the instants of the rows rise strictly, and lie above the floor; each row comes out once.
 pub fn rows_rise()
     ensures rise { RowsRise }
     ensures out { RowsComeOutOnce }
-{}
+{
+    numbers_rise();
+}
 
 /// Change numbers rise by one, and only where a tick adopts; while one stands, nothing in force changes.
 pub fn changes_rise()
@@ -79,7 +84,9 @@ pub fn taken_is_in_time()
 /// Data is taken only for an instant above the floor and above each one that closed.
 pub fn closed_stay_closed()
     ensures { ClosedStayClosed }
-{}
+{
+    numbers_rise();
+}
 
 /// Held is the greatest count that came, with the first section of it.
 pub fn held_is_greatest()
@@ -109,7 +116,9 @@ pub fn rows_have_tags()
     ensures tags { RowsHaveTags }
     // The next row to be popped is above all before it.
     ensures next { NextIsAbove }
-{}
+{
+    numbers_rise();
+}
 
 /// Bytes that arrive for a PMU say one thing at most.
 pub fn bytes_are_read_in_one_way()
@@ -153,7 +162,9 @@ pub fn rows_are_genuine()
 pub fn taken_is_shown()
     ensures chosen { ChosenIsShown }
     ensures of_node { NodeTakenIsShown }
-{}
+{
+    bodies_are_their_words();
+}
 
 /// The wire of each row that closed is a frame, whose payload is cut into the own words and the row's; its change number has 32 bits.
 pub fn closed_rows_are_frames()
@@ -183,6 +194,7 @@ pub fn same_count_is_same_section()
 pub fn merger_lives_are_runs()
     ensures { MergerLivesAreRuns }
 {
+    bodies_are_their_words();
     configurations_are_read_in_one_way();
 }
 
@@ -191,7 +203,7 @@ pub fn merger_lives_are_runs()
 pub fn merged_cells_are_data()
     ensures { MergerCellsAreData }
 {
-    words_are_their_bytes();
+    bodies_are_their_words();
     configurations_are_read_in_one_way();
 }
 

@@ -6,4 +6,4 @@ pub returns-clause-tags : goal.returns-clause-tags
 returns-clause-tags c g E run = rows_have_tags g E run
 
 pub returns-clause-next : goal.returns-clause-next
-returns-clause-next c g E row run = next_is_above g E row run
+returns-clause-next c g E row run = next_is_above c.numbers_rise.ensures g E row run
