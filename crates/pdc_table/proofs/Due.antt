@@ -6,6 +6,7 @@ use Rattle.std.proofs.lemmas.Grind.{get_or-set_at}
 use Rattle.std.proofs.lemmas.List.{get_or-replicate, get_or-set_other, length-replicate, length-set}
 use Rattle.pdc_row.specs.Rising.{Rises}
 use Rattle.pdc_row.specs.RowView.{row_instants}
+use Rattle.pdc_row.specs.RisingLaws.{RisingLaws}
 use Rattle.pdc_table.specs.Calls.{AreAllowed, Call, Put, Require, Tick, DropStream, DropColumn, Pop, after_all}
 use Rattle.pdc_table.specs.Closing.{aged, all_taken, closes, counter, is_due}
 use Rattle.pdc_table.specs.Content.{Content, new_content, stream_count, streams_of}
@@ -102,20 +103,23 @@ filter_same p q h (x ∷ xs) =
     kept_instants (p (aged x)) x (filter p (map aged xs)) ∙ ap (λ b. cond b (x.instant ∷ instants_of (filter p (map aged xs))) (instants_of (filter p (map aged xs)))) (h x)
     ∙ ap (λ ns. cond (q x.instant) (x.instant ∷ ns) ns) (filter_same p q h xs)
 
-pub close_where_due : (c : Content) (calls : List Call) (rule : WaitRule) (layout : LayoutView) → c.open_rows ≡ [] → IsAbove c → AreAwaited c c [] → AreAllowed c calls → row_instants (closed_by (after_all c calls) rule layout) ≡ closing_after c calls rule (instants_of (after_all c calls).open_rows)
-close_where_due c calls rule layout e a b h =
-    let d : Content = after_all c calls in
-    let w : AreAwaited c d calls = awaited c calls b h in
-    let all : AllByRecursion (λ (r : OpenRowView). is_due d.required rule (aged r) ≡ is_due_after c calls rule r.instant) d.open_rows =
-    each_row d.last d.open_rows (λ (r : OpenRowView). is_due d.required rule (aged r) ≡ is_due_after c calls rule r.instant) (above_all c calls a)
-    (λ i row l k. due_told c calls rule i row (row_instant i d.open_rows row k) w (told_row c calls i row (open_row_after c calls i) k (follows c calls i e a h l))
-    ∙ ap (is_due_after c calls rule) (sym (row_instant i d.open_rows row k))) in
-    instants-row_of layout (closing_of d rule)
-    ∙ filter_same (closes d.required rule (map aged d.open_rows)) (λ i. list_all (λ j. not (leb j i) || is_due_after c calls rule j) (instants_of d.open_rows))
-    (λ r. closes_same (is_due_after c calls rule) d.required rule r.instant d.open_rows all) d.open_rows
-
 pub new_awaited : (window columns lanes floor : ℕ) → AreAwaited (new_content window columns lanes floor) (new_content window columns lanes floor) []
 new_awaited window columns lanes floor = record {
   each = length-replicate (stream_count columns lanes) false;
   told = λ s l. get_or-replicate (stream_count columns lanes) s false false l;
 }
+
+-- ---- what follows from the laws of rising numbers
+
+module _ (R : RisingLaws) where
+  pub close_where_due : (c : Content) (calls : List Call) (rule : WaitRule) (layout : LayoutView) → c.open_rows ≡ [] → IsAbove c → AreAwaited c c [] → AreAllowed c calls → row_instants (closed_by (after_all c calls) rule layout) ≡ closing_after c calls rule (instants_of (after_all c calls).open_rows)
+  close_where_due c calls rule layout e a b h =
+      let d : Content = after_all c calls in
+      let w : AreAwaited c d calls = awaited c calls b h in
+      let all : AllByRecursion (λ (r : OpenRowView). is_due d.required rule (aged r) ≡ is_due_after c calls rule r.instant) d.open_rows =
+      each_row d.last d.open_rows (λ (r : OpenRowView). is_due d.required rule (aged r) ≡ is_due_after c calls rule r.instant) (above_all R c calls a)
+      (λ i row l k. due_told c calls rule i row (row_instant i d.open_rows row k) w (told_row c calls i row (open_row_after c calls i) k (follows R c calls i e a h l))
+      ∙ ap (is_due_after c calls rule) (sym (row_instant i d.open_rows row k))) in
+      instants-row_of layout (closing_of d rule)
+      ∙ filter_same (closes d.required rule (map aged d.open_rows)) (λ i. list_all (λ j. not (leb j i) || is_due_after c calls rule j) (instants_of d.open_rows))
+      (λ r. closes_same (is_due_after c calls rule) d.required rule r.instant d.open_rows all) d.open_rows

@@ -1,13 +1,15 @@
 -- The highest instant that is held.
-use Rattle.std.proofs.Common.{◌≡◌, ℕ, ◌-◌, ◌<◌, List, [], ◌∷◌, ◌++◌, length, get_or, map, refl, sym, ◌∙◌, ap, arith, suc, true, false, ltb, Some}
+use Rattle.std.proofs.Common.{◌≡◌, ℕ, ◌-◌, ◌<◌, List, [], ◌∷◌, ◌++◌, length, get_or, map, refl, sym, ◌∙◌, ap, arith, suc, true, false, ltb, rules, Some}
 use Rattle.std.specs.List.{slice_get}
 use Rattle.std.proofs.lemmas.Bool.{false≢true}
 use Rattle.pdc_row.specs.Rising.{highest_of}
-use Rattle.pdc_row.proofs.Rising.{lower}
 use Rattle.pdc_table.specs.OpenInstants.{instants_of}
 use Rattle.pdc_row.specs.RowView.{row_view, row_instants}
 use Rattle.pdc_row.specs.declared.due_row.DueRow.{DueRow}
 use Rattle.pdc_table.specs.Views.{OpenRowView}
+
+lower : (m n : ℕ) → m < n → ltb m n ≡ true
+lower m n h = search rules
 
 pub highest_open : (cs : List ℕ) (rows : List OpenRowView) (row : OpenRowView) → Some row ≡ slice_get rows (length rows - 1) → highest_of (cs ++ instants_of rows) ≡ Some row.instant
 highest_open cs [] row e = cc

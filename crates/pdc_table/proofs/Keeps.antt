@@ -21,8 +21,7 @@ use Rattle.pdc_table.specs.Taking.{with_cell, with_cells, with_frame, without_st
 use Rattle.pdc_table.specs.Views.{ColumnView, OpenRowView, blank_row, empty_column}
 use Rattle.pdc_table.specs.declared.wait_rule.WaitRule.{WaitRule}
 use Rattle.pdc_table.proofs.Closes.{closing-front, staying-back}
-use Rattle.pdc_row.proofs.Rising.{compared, rises_place, near_place, all_near, rises_append, rises_front, rises_above, rises_back, below_append, below_higher, below_greatest, greatest_ge, near_tail, near_length}
-use Rattle.pdc_row.specs.RisingLaws.{Below, At, Above}
+use Rattle.pdc_row.specs.RisingLaws.{RisingLaws, Below, At, Above}
 
 -- a change that keeps each row's instant keeps the list of them
 pub instants-map : (f : OpenRowView → OpenRowView) → ((r : OpenRowView) → (f r).instant ≡ r.instant) → (rows : List OpenRowView) → instants_of (map f rows) ≡ instants_of rows
@@ -121,93 +120,8 @@ keeps-drop_column c column h =
     same_instants c (map (without_column column) c.open_rows) (instants-map (without_column column) (λ r. refl) c.open_rows)
     (places-map (without_column column) (streams_of c) c.columns (λ r. places-without_column column (streams_of c) c.columns r) c.open_rows h.rows_each) h
 
-popped : (c : Content) (closed : List RowView) → c.closed ≡ closed → IsContent c → IsContent (record c { closed = drop 1 closed })
-popped c [] e h = record {
-  window_least = h.window_least;
-  window_most = h.window_most;
-  columns_least = h.columns_least;
-  columns_most = h.columns_most;
-  lanes_least = h.lanes_least;
-  lanes_most = h.lanes_most;
-  required_each = h.required_each;
-  rows_each = h.rows_each;
-  held_rise = rw e at h.held_rise;
-  held_near = rw e at h.held_near;
-  open_above = h.open_above;
-  closed_below = tt;
-}
-popped c (x ∷ xs) e h =
-    let rise : Rises 0 (x.instant ∷ (row_instants xs ++ instants_of c.open_rows)) = rw e at h.held_rise in
-    let near : AreNear c.window (x.instant ∷ (row_instants xs ++ instants_of c.open_rows)) = rw e at h.held_near in
-    let low : AreBelow (c.last + 1) (x.instant ∷ row_instants xs) = rw e at h.closed_below in
-    record {
-      window_least = h.window_least;
-      window_most = h.window_most;
-      columns_least = h.columns_least;
-      columns_most = h.columns_most;
-      lanes_least = h.lanes_least;
-      lanes_most = h.lanes_most;
-      required_each = h.required_each;
-      rows_each = h.rows_each;
-      held_rise = rises_above 0 x.instant (row_instants xs ++ instants_of c.open_rows) (omega arith) rise.1;
-      held_near = near_tail 0 c.window x.instant (row_instants xs ++ instants_of c.open_rows) rise near;
-      open_above = h.open_above;
-      closed_below = low.1;
-    }
-
-pub keeps-pop : (c : Content) → IsContent c → IsContent (after_pop c)
-keeps-pop c h = popped c c.closed refl h
-
-pub instants-with_row : (change : OpenRowView → OpenRowView) (fresh : OpenRowView) → ((r : OpenRowView) → (change r).instant ≡ r.instant) → (rows : List OpenRowView) → instants_of (with_row change fresh rows) ≡ place fresh.instant (instants_of rows)
-instants-with_row change fresh h [] = ap (λ n. n ∷ []) (h fresh)
-instants-with_row change fresh h (x ∷ xs) = elim (compared fresh.instant x.instant) [
-  | Below l ↦ (let e : ltb fresh.instant x.instant ≡ true = search rules in rw e (ap (λ n. n ∷ x.instant ∷ instants_of xs) (h fresh)))
-  | At k ↦ (let e : ltb fresh.instant x.instant ≡ false = search rules in let f : eqb x.instant fresh.instant ≡ true = search rules in rw (e, f) (ap (λ n. n ∷ instants_of xs) (h x)))
-  | Above g ↦ (let e : ltb fresh.instant x.instant ≡ false = search rules in let f : eqb x.instant fresh.instant ≡ false = search rules in rw (e, f) (ap (λ ns. x.instant ∷ ns) (instants-with_row change fresh h xs)))
-]
-
--- a frame is taken for an instant that is above the last and near each held one
-pub keeps-taken : (c : Content) (change : OpenRowView → OpenRowView) (instant : ℕ) → ((r : OpenRowView) → (change r).instant ≡ r.instant) → ((r : OpenRowView) → HasPlaces (streams_of c) c.columns r → HasPlaces (streams_of c) c.columns (change r)) → c.last < instant → is_near_all c instant ≡ true → IsContent c → IsContent (record c { open_rows = with_row change (fresh_row c instant) c.open_rows })
-keeps-taken c change instant same kept l n h =
-    let e : instants_of (with_row change (fresh_row c instant) c.open_rows) ≡ place instant (instants_of c.open_rows) = instants-with_row change (fresh_row c instant) same c.open_rows in
-    let above : Rises c.last (place instant (instants_of c.open_rows)) = rises_place c.last instant (instants_of c.open_rows) h.open_above l in
-    other_rows c (with_row change (fresh_row c instant) c.open_rows)
-    (places-with_row change (fresh_row c instant) (streams_of c) c.columns kept (places-blank (streams_of c) c.columns instant) c.open_rows h.rows_each)
-    (rw e (rises_append 0 c.last (row_instants c.closed) (place instant (instants_of c.open_rows)) (omega arith) (rises_front 0 (row_instants c.closed) (instants_of c.open_rows) h.held_rise) h.closed_below above))
-    (rw e (near_place c.window instant (row_instants c.closed) (instants_of c.open_rows) (omega (arith, h.window_least)) h.held_near (all_near c.window instant (held_instants c) n)))
-    (rw e above) h
-
-pub keeps-offered : (c : Content) (b : Bool) (stream lane instant : ℕ) (cells : List (ℕ × CellView)) → c.last < instant → is_near_all c instant ≡ true → IsContent c → IsContent (record c { open_rows = if b then with_row (with_frame stream lane cells) (fresh_row c instant) c.open_rows else c.open_rows })
-keeps-offered c true stream lane instant cells l n h =
-    keeps-taken c (with_frame stream lane cells) instant (λ r. refl) (λ r. places-frame stream lane cells (streams_of c) c.columns r) l n h
-keeps-offered c false stream lane instant cells l n h = same_instants c c.open_rows refl h.rows_each h
-
-length-with_row : (change : OpenRowView → OpenRowView) (fresh : OpenRowView) (rows : List OpenRowView) → row_at fresh.instant rows ≡ None → length (with_row change fresh rows) ≡ length rows + 1
-length-with_row change fresh [] e = refl
-length-with_row change fresh (x ∷ xs) e = elim (compared fresh.instant x.instant) [
-  | Below l ↦ (let f : ltb fresh.instant x.instant ≡ true = search rules in rw f (omega arith))
-  | At k ↦ (let f : eqb x.instant fresh.instant ≡ true = search rules in let g : Some x ≡ None = rw f at e in cc)
-  | Above g ↦ (let f : ltb fresh.instant x.instant ≡ false = search rules in let k : eqb x.instant fresh.instant ≡ false = search rules in
-      let n : row_at fresh.instant xs ≡ None = rw k at e in
-      let i : length (with_row change fresh xs) ≡ length xs + 1 = length-with_row change fresh xs n in rw (f, k) (omega arith))
-]
-
 length-held : (cs : List RowView) (os : List OpenRowView) → length (row_instants cs ++ instants_of os) ≡ length cs + length os
 length-held cs os = simp (length-append, length-map) refl
-
--- an instant that has no row yet has room for one
-pub has_room : (c : Content) (instant : ℕ) → c.last < instant → is_near_all c instant ≡ true → row_at instant c.open_rows ≡ None → IsContent c → length c.open_rows < c.window
-has_room c instant l n e h =
-    let rows : List OpenRowView = with_row (λ r. r) (fresh_row c instant) c.open_rows in
-    let k : IsContent (record c { open_rows = rows }) = keeps-taken c (λ r. r) instant (λ r. refl) (λ r p. p) l n h in
-    let most : length (row_instants c.closed ++ instants_of rows) ≤ c.window = near_length 0 c.window (row_instants c.closed ++ instants_of rows) (omega (arith, h.window_least)) k.held_rise k.held_near in
-    omega (arith, length-held c.closed rows, length-with_row (λ r. r) (fresh_row c instant) c.open_rows e)
-
--- at most as many are held as the window has
-pub held_fit : (c : Content) → IsContent c → length c.closed + length c.open_rows ≤ c.window
-held_fit c h =
-    let most : length (held_instants c) ≤ c.window = near_length 0 c.window (held_instants c) (omega (arith, h.window_least)) h.held_rise h.held_near in
-    omega (arith, length-held c.closed c.open_rows)
 
 -- the closing rows and those that stay are the open rows, each a tick older
 pub front_back : (required : List Bool) (rule : WaitRule) (low : ℕ) (rows : List OpenRowView) → Rises low (instants_of rows) → closing required rule rows ++ staying required rule rows ≡ rows
@@ -226,34 +140,6 @@ closed_stayed c rule h =
     sym (map-append (λ (r : OpenRowView). r.instant) (closing_of c rule) (staying_of c rule))
     ∙ ap instants_of (front_back c.required rule c.last (map aged c.open_rows) (aged_rise c h))
     ∙ instants-map aged (λ r. refl) c.open_rows
-
-pub keeps-tick : (c : Content) (rule : WaitRule) (layout : LayoutView) → IsContent c → IsContent (after_tick c rule layout)
-keeps-tick c rule layout h =
-    let ns : List ℕ = instants_of (closing_of c rule) in
-    let rest : List OpenRowView = staying_of c rule in
-    let e : ns ++ instants_of rest ≡ instants_of c.open_rows = closed_stayed c rule h.open_above in
-    let new : row_instants (c.closed ++ closed_by c rule layout) ≡ row_instants c.closed ++ ns =
-    map-append (λ (r : RowView). r.instant) c.closed (closed_by c rule layout) ∙ ap (λ ms. row_instants c.closed ++ ms) (instants-row_of layout (closing_of c rule)) in
-    let held : row_instants (c.closed ++ closed_by c rule layout) ++ instants_of rest ≡ held_instants c =
-    ap (λ ms. ms ++ instants_of rest) new ∙ append_assoc (row_instants c.closed) ns (instants_of rest) ∙ ap (λ ms. row_instants c.closed ++ ms) e in
-    record {
-      window_least = h.window_least;
-      window_most = h.window_most;
-      columns_least = h.columns_least;
-      columns_most = h.columns_most;
-      lanes_least = h.lanes_least;
-      lanes_most = h.lanes_most;
-      required_each = h.required_each;
-      rows_each = places-filter (λ row. not (closes c.required rule (map aged c.open_rows) row)) (streams_of c) c.columns (map aged c.open_rows)
-          (places-map aged (streams_of c) c.columns (λ r p. record { taken = p.taken; columns = p.columns }) c.open_rows h.rows_each);
-      held_rise = subst (λ ms. Rises 0 ms) (sym held) h.held_rise;
-      held_near = subst (λ ms. AreNear c.window ms) (sym held) h.held_near;
-      open_above = rises_back c.last ns (instants_of rest) (subst (λ ms. Rises c.last ms) (sym e) h.open_above);
-      closed_below = subst (λ ms. AreBelow (greatest c.last ns + 1) ms) (sym new)
-          (below_append (greatest c.last ns + 1) (row_instants c.closed) ns
-          (below_higher (c.last + 1) (greatest c.last ns + 1) (row_instants c.closed) (omega (arith, greatest_ge c.last ns)) h.closed_below)
-          (below_greatest c.last ns));
-    }
 
 -- the block that a column gives has its shape
 present_shape : (shape : Shape) (cell : CellView) (b : Bool) (other : Option CellView) → cell.block.shape ≡ shape → (block_or_absent shape other).shape ≡ shape → (block_or_absent shape (first_of (cond b (Some cell) None) other)).shape ≡ shape
@@ -296,8 +182,124 @@ rows_shapes p layout (x ∷ xs) h =
 pub closed_shapes : (c : Content) (rule : WaitRule) (layout : LayoutView) → HaveLayoutShapes c layout → AllByRecursion (λ (row : RowView). map shape_of row.blocks ≡ shapes_given layout.shapes) (closed_by c rule layout)
 closed_shapes c rule layout h = rows_shapes (closes c.required rule (map aged c.open_rows)) layout c.open_rows h
 
--- no more rows close than the window has
-pub closing_few : (c : Content) (rule : WaitRule) → IsContent c → length (closing_of c rule) ≤ c.window
-closing_few c rule h =
-    let p : OpenRowView → Bool = closes c.required rule (map aged c.open_rows) in
-    omega (arith, length-filter p (map aged c.open_rows), count_by-le-length p (map aged c.open_rows), length-map c.open_rows aged, held_fit c h)
+-- ---- what follows from the laws of rising numbers
+
+module _ (R : RisingLaws) where
+  popped : (c : Content) (closed : List RowView) → c.closed ≡ closed → IsContent c → IsContent (record c { closed = drop 1 closed })
+  popped c [] e h = record {
+    window_least = h.window_least;
+    window_most = h.window_most;
+    columns_least = h.columns_least;
+    columns_most = h.columns_most;
+    lanes_least = h.lanes_least;
+    lanes_most = h.lanes_most;
+    required_each = h.required_each;
+    rows_each = h.rows_each;
+    held_rise = rw e at h.held_rise;
+    held_near = rw e at h.held_near;
+    open_above = h.open_above;
+    closed_below = tt;
+  }
+  popped c (x ∷ xs) e h =
+      let rise : Rises 0 (x.instant ∷ (row_instants xs ++ instants_of c.open_rows)) = rw e at h.held_rise in
+      let near : AreNear c.window (x.instant ∷ (row_instants xs ++ instants_of c.open_rows)) = rw e at h.held_near in
+      let low : AreBelow (c.last + 1) (x.instant ∷ row_instants xs) = rw e at h.closed_below in
+      record {
+        window_least = h.window_least;
+        window_most = h.window_most;
+        columns_least = h.columns_least;
+        columns_most = h.columns_most;
+        lanes_least = h.lanes_least;
+        lanes_most = h.lanes_most;
+        required_each = h.required_each;
+        rows_each = h.rows_each;
+        held_rise = R.rises_above 0 x.instant (row_instants xs ++ instants_of c.open_rows) (omega arith) rise.1;
+        held_near = R.near_tail 0 c.window x.instant (row_instants xs ++ instants_of c.open_rows) rise near;
+        open_above = h.open_above;
+        closed_below = low.1;
+      }
+
+  pub keeps-pop : (c : Content) → IsContent c → IsContent (after_pop c)
+  keeps-pop c h = popped c c.closed refl h
+
+  pub instants-with_row : (change : OpenRowView → OpenRowView) (fresh : OpenRowView) → ((r : OpenRowView) → (change r).instant ≡ r.instant) → (rows : List OpenRowView) → instants_of (with_row change fresh rows) ≡ place fresh.instant (instants_of rows)
+  instants-with_row change fresh h [] = ap (λ n. n ∷ []) (h fresh)
+  instants-with_row change fresh h (x ∷ xs) = elim (R.compared fresh.instant x.instant) [
+    | Below l ↦ (let e : ltb fresh.instant x.instant ≡ true = search rules in rw e (ap (λ n. n ∷ x.instant ∷ instants_of xs) (h fresh)))
+    | At k ↦ (let e : ltb fresh.instant x.instant ≡ false = search rules in let f : eqb x.instant fresh.instant ≡ true = search rules in rw (e, f) (ap (λ n. n ∷ instants_of xs) (h x)))
+    | Above g ↦ (let e : ltb fresh.instant x.instant ≡ false = search rules in let f : eqb x.instant fresh.instant ≡ false = search rules in rw (e, f) (ap (λ ns. x.instant ∷ ns) (instants-with_row change fresh h xs)))
+  ]
+
+  -- a frame is taken for an instant that is above the last and near each held one
+  pub keeps-taken : (c : Content) (change : OpenRowView → OpenRowView) (instant : ℕ) → ((r : OpenRowView) → (change r).instant ≡ r.instant) → ((r : OpenRowView) → HasPlaces (streams_of c) c.columns r → HasPlaces (streams_of c) c.columns (change r)) → c.last < instant → is_near_all c instant ≡ true → IsContent c → IsContent (record c { open_rows = with_row change (fresh_row c instant) c.open_rows })
+  keeps-taken c change instant same kept l n h =
+      let e : instants_of (with_row change (fresh_row c instant) c.open_rows) ≡ place instant (instants_of c.open_rows) = instants-with_row change (fresh_row c instant) same c.open_rows in
+      let above : Rises c.last (place instant (instants_of c.open_rows)) = R.rises_place c.last instant (instants_of c.open_rows) h.open_above l in
+      other_rows c (with_row change (fresh_row c instant) c.open_rows)
+      (places-with_row change (fresh_row c instant) (streams_of c) c.columns kept (places-blank (streams_of c) c.columns instant) c.open_rows h.rows_each)
+      (rw e (R.rises_append 0 c.last (row_instants c.closed) (place instant (instants_of c.open_rows)) (omega arith) (R.rises_front 0 (row_instants c.closed) (instants_of c.open_rows) h.held_rise) h.closed_below above))
+      (rw e (R.near_place c.window instant (row_instants c.closed) (instants_of c.open_rows) (omega (arith, h.window_least)) h.held_near (R.all_near c.window instant (held_instants c) n)))
+      (rw e above) h
+
+  pub keeps-offered : (c : Content) (b : Bool) (stream lane instant : ℕ) (cells : List (ℕ × CellView)) → c.last < instant → is_near_all c instant ≡ true → IsContent c → IsContent (record c { open_rows = if b then with_row (with_frame stream lane cells) (fresh_row c instant) c.open_rows else c.open_rows })
+  keeps-offered c true stream lane instant cells l n h =
+      keeps-taken c (with_frame stream lane cells) instant (λ r. refl) (λ r. places-frame stream lane cells (streams_of c) c.columns r) l n h
+  keeps-offered c false stream lane instant cells l n h = same_instants c c.open_rows refl h.rows_each h
+
+  length-with_row : (change : OpenRowView → OpenRowView) (fresh : OpenRowView) (rows : List OpenRowView) → row_at fresh.instant rows ≡ None → length (with_row change fresh rows) ≡ length rows + 1
+  length-with_row change fresh [] e = refl
+  length-with_row change fresh (x ∷ xs) e = elim (R.compared fresh.instant x.instant) [
+    | Below l ↦ (let f : ltb fresh.instant x.instant ≡ true = search rules in rw f (omega arith))
+    | At k ↦ (let f : eqb x.instant fresh.instant ≡ true = search rules in let g : Some x ≡ None = rw f at e in cc)
+    | Above g ↦ (let f : ltb fresh.instant x.instant ≡ false = search rules in let k : eqb x.instant fresh.instant ≡ false = search rules in
+        let n : row_at fresh.instant xs ≡ None = rw k at e in
+        let i : length (with_row change fresh xs) ≡ length xs + 1 = length-with_row change fresh xs n in rw (f, k) (omega arith))
+  ]
+
+  -- an instant that has no row yet has room for one
+  pub has_room : (c : Content) (instant : ℕ) → c.last < instant → is_near_all c instant ≡ true → row_at instant c.open_rows ≡ None → IsContent c → length c.open_rows < c.window
+  has_room c instant l n e h =
+      let rows : List OpenRowView = with_row (λ r. r) (fresh_row c instant) c.open_rows in
+      let k : IsContent (record c { open_rows = rows }) = keeps-taken c (λ r. r) instant (λ r. refl) (λ r p. p) l n h in
+      let most : length (row_instants c.closed ++ instants_of rows) ≤ c.window = R.near_length 0 c.window (row_instants c.closed ++ instants_of rows) (omega (arith, h.window_least)) k.held_rise k.held_near in
+      omega (arith, length-held c.closed rows, length-with_row (λ r. r) (fresh_row c instant) c.open_rows e)
+
+  -- at most as many are held as the window has
+  pub held_fit : (c : Content) → IsContent c → length c.closed + length c.open_rows ≤ c.window
+  held_fit c h =
+      let most : length (held_instants c) ≤ c.window = R.near_length 0 c.window (held_instants c) (omega (arith, h.window_least)) h.held_rise h.held_near in
+      omega (arith, length-held c.closed c.open_rows)
+
+  pub keeps-tick : (c : Content) (rule : WaitRule) (layout : LayoutView) → IsContent c → IsContent (after_tick c rule layout)
+  keeps-tick c rule layout h =
+      let ns : List ℕ = instants_of (closing_of c rule) in
+      let rest : List OpenRowView = staying_of c rule in
+      let e : ns ++ instants_of rest ≡ instants_of c.open_rows = closed_stayed c rule h.open_above in
+      let new : row_instants (c.closed ++ closed_by c rule layout) ≡ row_instants c.closed ++ ns =
+      map-append (λ (r : RowView). r.instant) c.closed (closed_by c rule layout) ∙ ap (λ ms. row_instants c.closed ++ ms) (instants-row_of layout (closing_of c rule)) in
+      let held : row_instants (c.closed ++ closed_by c rule layout) ++ instants_of rest ≡ held_instants c =
+      ap (λ ms. ms ++ instants_of rest) new ∙ append_assoc (row_instants c.closed) ns (instants_of rest) ∙ ap (λ ms. row_instants c.closed ++ ms) e in
+      record {
+        window_least = h.window_least;
+        window_most = h.window_most;
+        columns_least = h.columns_least;
+        columns_most = h.columns_most;
+        lanes_least = h.lanes_least;
+        lanes_most = h.lanes_most;
+        required_each = h.required_each;
+        rows_each = places-filter (λ row. not (closes c.required rule (map aged c.open_rows) row)) (streams_of c) c.columns (map aged c.open_rows)
+            (places-map aged (streams_of c) c.columns (λ r p. record { taken = p.taken; columns = p.columns }) c.open_rows h.rows_each);
+        held_rise = subst (λ ms. Rises 0 ms) (sym held) h.held_rise;
+        held_near = subst (λ ms. AreNear c.window ms) (sym held) h.held_near;
+        open_above = R.rises_back c.last ns (instants_of rest) (subst (λ ms. Rises c.last ms) (sym e) h.open_above);
+        closed_below = subst (λ ms. AreBelow (greatest c.last ns + 1) ms) (sym new)
+            (R.below_append (greatest c.last ns + 1) (row_instants c.closed) ns
+            (R.below_higher (c.last + 1) (greatest c.last ns + 1) (row_instants c.closed) (omega (arith, R.greatest_ge c.last ns)) h.closed_below)
+            (R.below_greatest c.last ns));
+      }
+
+  -- no more rows close than the window has
+  pub closing_few : (c : Content) (rule : WaitRule) → IsContent c → length (closing_of c rule) ≤ c.window
+  closing_few c rule h =
+      let p : OpenRowView → Bool = closes c.required rule (map aged c.open_rows) in
+      omega (arith, length-filter p (map aged c.open_rows), count_by-le-length p (map aged c.open_rows), length-map c.open_rows aged, held_fit c h)

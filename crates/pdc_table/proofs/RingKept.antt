@@ -8,8 +8,7 @@ use Rattle.std.proofs.lemmas.List.{length-set}
 use Rattle.pdc_row.specs.CellView.{CellView}
 use Rattle.pdc_row.specs.Quality.{greatest}
 use Rattle.pdc_row.specs.Rising.{Rises, AreBelow, place}
-use Rattle.pdc_row.proofs.Rising.{below_greatest, below_higher, compared, greatest_ge, place_higher, place_lower, place_same}
-use Rattle.pdc_row.specs.RisingLaws.{Below, At, Above}
+use Rattle.pdc_row.specs.RisingLaws.{RisingLaws, Below, At, Above}
 use Rattle.pdc_table.specs.Content.{Content, HasPlaces, IsContent, streams_of}
 use Rattle.pdc_table.specs.Placing.{row_at, with_row}
 use Rattle.pdc_table.specs.RingRows.{base_row, changed, met_row, row_in, rows_in}
@@ -43,16 +42,6 @@ any_behind zero m is b h = h
 any_behind (suc n) m [] b h = h
 any_behind (suc n) m (i ∷ is) b h = any_behind n m is b.1 (sym (ap (λ c. c || list_any (λ j. eqb j m) is) (ne_eqb i m (λ e. omega (arith, b.0)))) ∙ h)
 
-pub ring_closed : (window last s k n : ℕ) (places : List OpenRowView) (is : List ℕ) → IsRing window last s k places is → IsRing window (greatest last (take n is)) s k places (drop n is)
-ring_closed window last s k n places is r = record {
-  size = r.size;
-  each = r.each;
-  placed = placed-drop places window n is r.placed;
-  known = λ j d l m.
-      any_behind n (get_or places j d).instant is (below_higher (greatest last (take n is) + 1) (get_or places j d).instant (take n is) (omega arith) (below_greatest last (take n is)))
-      (r.known j d l (omega (arith, greatest_ge last (take n is))));
-}
-
 -- an instant in its place among rising ones
 
 any_one : (m i : ℕ) (is : List ℕ) → i ≡ m → list_any (λ j. eqb j m) (i ∷ is) ≡ true
@@ -65,65 +54,19 @@ any_either false b e = e
 any_more : (m i : ℕ) (is : List ℕ) → list_any (λ j. eqb j m) is ≡ true → list_any (λ j. eqb j m) (i ∷ is) ≡ true
 any_more m i is e = any_either (eqb i m) (list_any (λ j. eqb j m) is) e
 
-any_placed : (i : ℕ) (is : List ℕ) → list_any (λ j. eqb j i) (place i is) ≡ true
-any_placed i [] = any_one i i [] refl
-any_placed i (n ∷ ns) = elim (compared i n) [
-  | Below l ↦ subst (λ ms. list_any (λ j. eqb j i) ms ≡ true) (sym (place_lower i n ns l)) (any_one i i (n ∷ ns) refl)
-  | At e ↦ subst (λ ms. list_any (λ j. eqb j i) ms ≡ true) (sym (place_same i n ns e)) (any_one i n ns e)
-  | Above g ↦ subst (λ ms. list_any (λ j. eqb j i) ms ≡ true) (sym (place_higher i n ns g)) (any_more i n (place i ns) (any_placed i ns))
-]
-
 any_cons : (m n : ℕ) (ns ms : List ℕ) → (list_any (λ j. eqb j m) ns ≡ true → list_any (λ j. eqb j m) ms ≡ true) → list_any (λ j. eqb j m) (n ∷ ns) ≡ true → list_any (λ j. eqb j m) (n ∷ ms) ≡ true
 any_cons m n ns ms h e = elim (cases_Bool (eqb n m)) [
   | inl t ↦ ap (λ b. b || list_any (λ j. eqb j m) ms) t
   | inr f ↦ any_more m n ms (h (sym (ap (λ b. b || list_any (λ j. eqb j m) ns) f) ∙ e))
 ]
 
-any_still : (m i : ℕ) (is : List ℕ) → list_any (λ j. eqb j m) is ≡ true → list_any (λ j. eqb j m) (place i is) ≡ true
-any_still m i [] e = absurd (false≢true e)
-any_still m i (n ∷ ns) e = elim (compared i n) [
-  | Below l ↦ subst (λ ms. list_any (λ j. eqb j m) ms ≡ true) (sym (place_lower i n ns l)) (any_more m i (n ∷ ns) e)
-  | At q ↦ subst (λ ms. list_any (λ j. eqb j m) ms ≡ true) (sym (place_same i n ns q)) e
-  | Above g ↦ subst (λ ms. list_any (λ j. eqb j m) ms ≡ true) (sym (place_higher i n ns g)) (any_cons m n ns (place i ns) (λ h. any_still m i ns h) e)
-]
-
 none_of_rising : (i n : ℕ) (ns : List ℕ) → i < n → Rises n ns → list_any (λ j. eqb j i) (n ∷ ns) ≡ false
 none_of_rising i n [] l r = ap (λ b. b || false) (ne_eqb n i (λ q. omega arith))
 none_of_rising i n (m ∷ ms) l r = ap (λ b. b || list_any (λ j. eqb j i) (m ∷ ms)) (ne_eqb n i (λ q. omega arith)) ∙ none_of_rising i m ms (omega (arith, r.0)) r.1
 
-place_held : (low i : ℕ) (is : List ℕ) → Rises low is → list_any (λ j. eqb j i) is ≡ true → place i is ≡ is
-place_held low i [] r e = absurd (false≢true e)
-place_held low i (n ∷ ns) r e = elim (compared i n) [
-  | Below l ↦ absurd (false≢true (sym (none_of_rising i n ns l r.1) ∙ e))
-  | At q ↦ place_same i n ns q
-  | Above g ↦ place_higher i n ns g ∙ ap (λ ms. n ∷ ms) (place_held n i ns r.1 (sym (ap (λ b. b || list_any (λ j. eqb j i) ns) (ne_eqb n i (λ q. omega arith))) ∙ e))
-]
-
 placed_rest : (places : List OpenRowView) (window i : ℕ) (row : OpenRowView) (js : List ℕ) → IsApart window i js → ArePlaced places window js → ArePlaced (set places (i % window) row) window js
 placed_rest places window i row [] a p = tt
 placed_rest places window i row (j ∷ js) a p = (ap (λ (x : OpenRowView). x.instant) (row_else places window i j row a.0) ∙ p.0, placed_rest places window i row js a.1 p.1)
-
-placed_put : (places : List OpenRowView) (window i low : ℕ) (row : OpenRowView) (is : List ℕ) → 0 < window → length places ≡ window → row.instant ≡ i → Rises low is → AreApartBut window i is → ArePlaced places window is → ArePlaced (set places (i % window) row) window (place i is)
-placed_put places window i low row [] h e q r a p = (ap (λ (x : OpenRowView). x.instant) (row_here places window i row h e) ∙ q, tt)
-placed_put places window i low row (n ∷ ns) h e q r a p = elim (compared i n) [
-  | Below l ↦ subst (λ ms. ArePlaced (set places (i % window) row) window ms) (sym (place_lower i n ns l))
-      (ap (λ (x : OpenRowView). x.instant) (row_here places window i row h e) ∙ q, placed_rest places window i row (n ∷ ns) (apart_but window i i (n ∷ ns) (omega arith) (l, r.1) a) p)
-  | At k ↦ subst (λ ms. ArePlaced (set places (i % window) row) window ms) (sym (place_same i n ns k)) (
-    ap (λ m. (row_in (set places (i % window) row) window m).instant) k ∙ ap (λ (x : OpenRowView). x.instant) (row_here places window i row h e) ∙ q ∙ sym k,
-    placed_rest places window i row ns (apart_but window i n ns (omega arith) r.1 a.1) p.1,
-  )
-  | Above g ↦ subst (λ ms. ArePlaced (set places (i % window) row) window ms) (sym (place_higher i n ns g))
-      (ap (λ (x : OpenRowView). x.instant) (row_else places window i n row (a.0 (λ m. omega arith))) ∙ p.0, placed_put places window i n row ns h e q r.1 a.1 p.1)
-]
-
-ring_put : (window last s k i : ℕ) (places : List OpenRowView) (is : List ℕ) (row : OpenRowView) → 0 < window → row.instant ≡ i → HasPlaces s k row → Rises last is → AreApartBut window i is → IsRing window last s k places is → IsRing window last s k (set places (i % window) row) (place i is)
-ring_put window last s k i places is row h q x rise a r = record {
-  size = length-set places (i % window) row ∙ r.size;
-  each = set-each (HasPlaces s k) places (i % window) row x r.each;
-  placed = placed_put places window i last row is h r.size q rise a r.placed;
-  known = set-each (IsKnown last (place i is)) places (i % window) row (λ m. subst (λ n. list_any (λ j. eqb j n) (place i is) ≡ true) (sym q) (any_placed i is))
-      (λ j d l m. any_still (get_or places j d).instant i is (r.known j d l m));
-}
 
 -- the row at a place has the places of the table
 pub sized_in : (window last s k i : ℕ) (places : List OpenRowView) (is : List ℕ) → 0 < window → IsRing window last s k places is → HasPlaces s k (row_in places window i)
@@ -135,12 +78,6 @@ open_if window last s k i places is h l r e =
 
 pub met_in : (window last s k i : ℕ) (places : List OpenRowView) (is : List ℕ) → 0 < window → last < i → IsRing window last s k places is → row_at i (rows_in places window is) ≡ met_row i (row_in places window i)
 met_in window last s k i places is h l r = met_is places window i is r.placed (open_if window last s k i places is h l r)
-
-open_is : (window last s k i : ℕ) (places : List OpenRowView) (is : List ℕ) → 0 < window → last < i → Rises last is → IsRing window last s k places is → (if eqb (row_in places window i).instant i then is else place i is) ≡ place i is
-open_is window last s k i places is h l rise r = elim (cases_eq (row_in places window i).instant i) [
-  | inl e ↦ ap (λ b. if b then is else place i is) (eq-eqb (row_in places window i).instant i e) ∙ sym (place_held last i is rise (open_if window last s k i places is h l r e))
-  | inr n ↦ ap (λ b. if b then is else place i is) (ne_eqb (row_in places window i).instant i n)
-]
 
 base_is : (s k i : ℕ) (row : OpenRowView) (o : Option OpenRowView) → HasPlaces s k row → o ≡ met_row i row → base_row i row ≡ unwrap_or o (blank_row s k i)
 base_is s k i row o p e =
@@ -179,35 +116,100 @@ pub record IsPutInto (window last s k i stream lane : ℕ) (cells : List (ℕ ×
   pub written : new ≡ (if is_taken answer then set places (i % window) (with_frame stream lane cells (base_row i (row_in places window i))) else places)
   pub opened : now ≡ (if eqb (row_in places window i).instant i then is else place i is)
 
-module _ (window last s k i stream lane : ℕ) (cells : List (ℕ × CellView)) (places : List OpenRowView) (is : List ℕ) (answer : PutOutcome) (new : List OpenRowView) (now : List ℕ) (h : IsPutInto window last s k i stream lane cells places is answer new now) where
-  left : is_taken answer ≡ false → (new ≡ places) × (now ≡ is)
-  left f =
-      let e : (row_in places window i).instant ≡ i = held_of i stream lane cells (row_in places window i) (ap is_taken (sym h.answered) ∙ f) in (
-        h.written ∙ ap (λ b. if b then set places (i % window) (with_frame stream lane cells (base_row i (row_in places window i))) else places) f,
-        h.opened ∙ ap (λ b. if b then is else place i is) (eq-eqb (row_in places window i).instant i e),
-      )
-
-  took : is_taken answer ≡ true → (new ≡ set places (i % window) (with_frame stream lane cells (base_row i (row_in places window i)))) × (now ≡ place i is)
-  took t = (
-    h.written ∙ ap (λ b. if b then set places (i % window) (with_frame stream lane cells (base_row i (row_in places window i))) else places) t,
-    h.opened ∙ open_is window last s k i places is h.least h.above h.rising h.ring,
-  )
-
-  pub put_kept : IsRing window last s k new now
-  put_kept = elim (cases_Bool (is_taken answer)) [
-    | inl t ↦ rw ((took t).0, (took t).1) (ring_put window last s k i places is (with_frame stream lane cells (base_row i (row_in places window i))) h.least (base_instant i (row_in places window i))
-        (places-frame stream lane cells s k (base_row i (row_in places window i)) (base_sized s k i (row_in places window i) (sized_in window last s k i places is h.least h.ring))) h.rising h.apart h.ring)
-    | inr f ↦ rw ((left f).0, (left f).1) h.ring
-  ]
-
-  pub put_rows : rows_in new window now ≡ (if is_taken answer then with_row (with_frame stream lane cells) (blank_row s k i) (rows_in places window is) else rows_in places window is)
-  put_rows = elim (cases_Bool (is_taken answer)) [
-    | inl t ↦ rw ((took t).0, (took t).1, t) (put_row (with_frame stream lane cells) (blank_row s k i) (with_frame stream lane cells (base_row i (row_in places window i))) places window last is h.least h.ring.size h.rising h.ring.placed h.apart
-        (ap (with_frame stream lane cells) (base_is s k i (row_in places window i) (row_at i (rows_in places window is)) (sized_in window last s k i places is h.least h.ring) (met_in window last s k i places is h.least h.above h.ring))))
-    | inr f ↦ rw ((left f).0, (left f).1, f) refl
-  ]
-
 pub changed_kept : (f : OpenRowView → OpenRowView) → ((row : OpenRowView) → (f row).instant ≡ row.instant) → (c : Content) → ((row : OpenRowView) → HasPlaces (streams_of c) c.columns row → HasPlaces (streams_of c) c.columns (f row)) → (places now : List OpenRowView) (is seen : List ℕ) → seen ≡ is → now ≡ changed f c.window seen places → IsContent (record c { open_rows = rows_in places c.window is }) → IsRing c.window c.last (streams_of c) c.columns places is → IsRing c.window c.last (streams_of c) c.columns now is
 changed_kept f g c q places now is seen s e h r =
     subst (λ ps. IsRing c.window c.last (streams_of c) c.columns ps is) (sym (e ∙ ap (λ js. changed f c.window js places) s))
     (ring_changed f g c.window c.last (streams_of c) c.columns q places is (omega (arith, h.window_least)) r)
+
+-- ---- what follows from the laws of rising numbers
+
+module _ (R : RisingLaws) where
+  pub ring_closed : (window last s k n : ℕ) (places : List OpenRowView) (is : List ℕ) → IsRing window last s k places is → IsRing window (greatest last (take n is)) s k places (drop n is)
+  ring_closed window last s k n places is r = record {
+    size = r.size;
+    each = r.each;
+    placed = placed-drop places window n is r.placed;
+    known = λ j d l m.
+        any_behind n (get_or places j d).instant is (R.below_higher (greatest last (take n is) + 1) (get_or places j d).instant (take n is) (omega arith) (R.below_greatest last (take n is)))
+        (r.known j d l (omega (arith, R.greatest_ge last (take n is))));
+  }
+
+  any_placed : (i : ℕ) (is : List ℕ) → list_any (λ j. eqb j i) (place i is) ≡ true
+  any_placed i [] = any_one i i [] refl
+  any_placed i (n ∷ ns) = elim (R.compared i n) [
+    | Below l ↦ subst (λ ms. list_any (λ j. eqb j i) ms ≡ true) (sym (R.place_lower i n ns l)) (any_one i i (n ∷ ns) refl)
+    | At e ↦ subst (λ ms. list_any (λ j. eqb j i) ms ≡ true) (sym (R.place_same i n ns e)) (any_one i n ns e)
+    | Above g ↦ subst (λ ms. list_any (λ j. eqb j i) ms ≡ true) (sym (R.place_higher i n ns g)) (any_more i n (place i ns) (any_placed i ns))
+  ]
+
+  any_still : (m i : ℕ) (is : List ℕ) → list_any (λ j. eqb j m) is ≡ true → list_any (λ j. eqb j m) (place i is) ≡ true
+  any_still m i [] e = absurd (false≢true e)
+  any_still m i (n ∷ ns) e = elim (R.compared i n) [
+    | Below l ↦ subst (λ ms. list_any (λ j. eqb j m) ms ≡ true) (sym (R.place_lower i n ns l)) (any_more m i (n ∷ ns) e)
+    | At q ↦ subst (λ ms. list_any (λ j. eqb j m) ms ≡ true) (sym (R.place_same i n ns q)) e
+    | Above g ↦ subst (λ ms. list_any (λ j. eqb j m) ms ≡ true) (sym (R.place_higher i n ns g)) (any_cons m n ns (place i ns) (λ h. any_still m i ns h) e)
+  ]
+
+  place_held : (low i : ℕ) (is : List ℕ) → Rises low is → list_any (λ j. eqb j i) is ≡ true → place i is ≡ is
+  place_held low i [] r e = absurd (false≢true e)
+  place_held low i (n ∷ ns) r e = elim (R.compared i n) [
+    | Below l ↦ absurd (false≢true (sym (none_of_rising i n ns l r.1) ∙ e))
+    | At q ↦ R.place_same i n ns q
+    | Above g ↦ R.place_higher i n ns g ∙ ap (λ ms. n ∷ ms) (place_held n i ns r.1 (sym (ap (λ b. b || list_any (λ j. eqb j i) ns) (ne_eqb n i (λ q. omega arith))) ∙ e))
+  ]
+
+  placed_put : (places : List OpenRowView) (window i low : ℕ) (row : OpenRowView) (is : List ℕ) → 0 < window → length places ≡ window → row.instant ≡ i → Rises low is → AreApartBut window i is → ArePlaced places window is → ArePlaced (set places (i % window) row) window (place i is)
+  placed_put places window i low row [] h e q r a p = (ap (λ (x : OpenRowView). x.instant) (row_here places window i row h e) ∙ q, tt)
+  placed_put places window i low row (n ∷ ns) h e q r a p = elim (R.compared i n) [
+    | Below l ↦ subst (λ ms. ArePlaced (set places (i % window) row) window ms) (sym (R.place_lower i n ns l))
+        (ap (λ (x : OpenRowView). x.instant) (row_here places window i row h e) ∙ q, placed_rest places window i row (n ∷ ns) (apart_but window i i (n ∷ ns) (omega arith) (l, r.1) a) p)
+    | At k ↦ subst (λ ms. ArePlaced (set places (i % window) row) window ms) (sym (R.place_same i n ns k)) (
+      ap (λ m. (row_in (set places (i % window) row) window m).instant) k ∙ ap (λ (x : OpenRowView). x.instant) (row_here places window i row h e) ∙ q ∙ sym k,
+      placed_rest places window i row ns (apart_but window i n ns (omega arith) r.1 a.1) p.1,
+    )
+    | Above g ↦ subst (λ ms. ArePlaced (set places (i % window) row) window ms) (sym (R.place_higher i n ns g))
+        (ap (λ (x : OpenRowView). x.instant) (row_else places window i n row (a.0 (λ m. omega arith))) ∙ p.0, placed_put places window i n row ns h e q r.1 a.1 p.1)
+  ]
+
+  ring_put : (window last s k i : ℕ) (places : List OpenRowView) (is : List ℕ) (row : OpenRowView) → 0 < window → row.instant ≡ i → HasPlaces s k row → Rises last is → AreApartBut window i is → IsRing window last s k places is → IsRing window last s k (set places (i % window) row) (place i is)
+  ring_put window last s k i places is row h q x rise a r = record {
+    size = length-set places (i % window) row ∙ r.size;
+    each = set-each (HasPlaces s k) places (i % window) row x r.each;
+    placed = placed_put places window i last row is h r.size q rise a r.placed;
+    known = set-each (IsKnown last (place i is)) places (i % window) row (λ m. subst (λ n. list_any (λ j. eqb j n) (place i is) ≡ true) (sym q) (any_placed i is))
+        (λ j d l m. any_still (get_or places j d).instant i is (r.known j d l m));
+  }
+
+  open_is : (window last s k i : ℕ) (places : List OpenRowView) (is : List ℕ) → 0 < window → last < i → Rises last is → IsRing window last s k places is → (if eqb (row_in places window i).instant i then is else place i is) ≡ place i is
+  open_is window last s k i places is h l rise r = elim (cases_eq (row_in places window i).instant i) [
+    | inl e ↦ ap (λ b. if b then is else place i is) (eq-eqb (row_in places window i).instant i e) ∙ sym (place_held last i is rise (open_if window last s k i places is h l r e))
+    | inr n ↦ ap (λ b. if b then is else place i is) (ne_eqb (row_in places window i).instant i n)
+  ]
+
+  module _ (window last s k i stream lane : ℕ) (cells : List (ℕ × CellView)) (places : List OpenRowView) (is : List ℕ) (answer : PutOutcome) (new : List OpenRowView) (now : List ℕ) (h : IsPutInto window last s k i stream lane cells places is answer new now) where
+    left : is_taken answer ≡ false → (new ≡ places) × (now ≡ is)
+    left f =
+        let e : (row_in places window i).instant ≡ i = held_of i stream lane cells (row_in places window i) (ap is_taken (sym h.answered) ∙ f) in (
+          h.written ∙ ap (λ b. if b then set places (i % window) (with_frame stream lane cells (base_row i (row_in places window i))) else places) f,
+          h.opened ∙ ap (λ b. if b then is else place i is) (eq-eqb (row_in places window i).instant i e),
+        )
+
+    took : is_taken answer ≡ true → (new ≡ set places (i % window) (with_frame stream lane cells (base_row i (row_in places window i)))) × (now ≡ place i is)
+    took t = (
+      h.written ∙ ap (λ b. if b then set places (i % window) (with_frame stream lane cells (base_row i (row_in places window i))) else places) t,
+      h.opened ∙ open_is window last s k i places is h.least h.above h.rising h.ring,
+    )
+
+    pub put_kept : IsRing window last s k new now
+    put_kept = elim (cases_Bool (is_taken answer)) [
+      | inl t ↦ rw ((took t).0, (took t).1) (ring_put window last s k i places is (with_frame stream lane cells (base_row i (row_in places window i))) h.least (base_instant i (row_in places window i))
+          (places-frame stream lane cells s k (base_row i (row_in places window i)) (base_sized s k i (row_in places window i) (sized_in window last s k i places is h.least h.ring))) h.rising h.apart h.ring)
+      | inr f ↦ rw ((left f).0, (left f).1) h.ring
+    ]
+
+    pub put_rows : rows_in new window now ≡ (if is_taken answer then with_row (with_frame stream lane cells) (blank_row s k i) (rows_in places window is) else rows_in places window is)
+    put_rows = elim (cases_Bool (is_taken answer)) [
+      | inl t ↦ rw ((took t).0, (took t).1, t) (put_row R (with_frame stream lane cells) (blank_row s k i) (with_frame stream lane cells (base_row i (row_in places window i))) places window last is h.least h.ring.size h.rising h.ring.placed h.apart
+          (ap (with_frame stream lane cells) (base_is s k i (row_in places window i) (row_at i (rows_in places window is)) (sized_in window last s k i places is h.least h.ring) (met_in window last s k i places is h.least h.above h.ring))))
+      | inr f ↦ rw ((left f).0, (left f).1, f) refl
+    ]

@@ -11,8 +11,7 @@ use Rattle.std.proofs.lemmas.List.Sums.{prefix_len_is}
 use Rattle.pdc_row.specs.Rising.{Rises, AreBelow, AreNear, is_near, place}
 use Rattle.pdc_row.specs.RowView.{row_instants}
 use Rattle.pdc_table.specs.Content.{Content, IsContent}
-use Rattle.pdc_row.proofs.Rising.{rises_above, all_near, compared, near_tail, place_higher, place_lower, place_same, rises_order}
-use Rattle.pdc_row.specs.RisingLaws.{AreAllNear, Below, At, Above}
+use Rattle.pdc_row.specs.RisingLaws.{RisingLaws, AreAllNear, Below, At, Above}
 use Rattle.pdc_table.specs.Closing.{closing, is_due, staying}
 use Rattle.pdc_table.specs.OpenInstants.{instants_of}
 use Rattle.pdc_table.specs.Placing.{row_at, with_row}
@@ -45,13 +44,6 @@ apart_higher : (window i low : ℕ) (ns : List ℕ) → i ≤ low → Rises low 
 apart_higher window i low [] l r b = tt
 apart_higher window i low (n ∷ ns) l r b = (apart_by window i n (omega (arith, r.0)) b.0, apart_higher window i n ns (omega (arith, r.0)) r.1 b.1)
 
-apart_pair : (window i j : ℕ) → i < j + window → j < i + window → j ≢ i → i % window ≢ j % window
-apart_pair window i j h k n e = elim (compared i j) [
-  | Below l ↦ apart_by window i j l k e
-  | At q ↦ n q
-  | Above g ↦ apart_by window j i g h (sym e)
-]
-
 near_back : (window i : ℕ) (cs js : List ℕ) → AreAllNear window i (cs ++ js) → AreAllNear window i js
 near_back window i [] js h = h
 near_back window i (c ∷ cs) js h = near_back window i cs js h.1
@@ -78,18 +70,6 @@ changed-else : (f : OpenRowView → OpenRowView) (window j : ℕ) (is : List ℕ
 changed-else f window j [] places a = refl
 changed-else f window j (i ∷ is) places a =
     changed-else f window j is (set places (i % window) (f (row_in places window i))) a.1 ∙ row_else places window i j (f (row_in places window i)) (λ e. a.0 (sym e))
-
-pub changed-rows : (f : OpenRowView → OpenRowView) (window low : ℕ) (is : List ℕ) (places : List OpenRowView) → 0 < window → length places ≡ window → Rises low is → AreNear window is → rows_in (changed f window is places) window is ≡ map f (rows_in places window is)
-changed-rows f window low [] places h e r n = refl
-changed-rows f window low (i ∷ is) places h e r n =
-    let next : List OpenRowView = set places (i % window) (f (row_in places window i)) in
-    let apart : IsApart window i is = apart_higher window i i is (omega arith) r.1 n in
-    let first : row_in (changed f window is next) window i ≡ f (row_in places window i) =
-    changed-else f window i is next apart ∙ row_here places window i (f (row_in places window i)) h e in
-    let rest : rows_in (changed f window is next) window is ≡ map f (rows_in places window is) =
-    changed-rows f window i is next h (length-set places (i % window) (f (row_in places window i)) ∙ e) r.1 (near_tail low window i is r n)
-    ∙ ap (map f) (rows_else places window i (f (row_in places window i)) is apart) in
-    rw (first, rest) refl
 
 pub set-each : (Q : OpenRowView → Type 0) (places : List OpenRowView) (k : ℕ) (row : OpenRowView) → Q row → All Q places → All Q (set places k row)
 set-each Q places k row q a n d l = elim (cases_eq n k) [
@@ -172,60 +152,6 @@ pub apart_but : (window i low : ℕ) (js : List ℕ) → i ≤ low → Rises low
 apart_but window i low [] l r a = tt
 apart_but window i low (j ∷ js) l r a = (a.0 (λ e. omega (arith, r.0)), apart_but window i j js (omega (arith, r.0)) r.1 a.1)
 
-pub put_row : (change : OpenRowView → OpenRowView) (fresh row : OpenRowView) (places : List OpenRowView) (window low : ℕ) (is : List ℕ) → 0 < window → length places ≡ window → Rises low is → ArePlaced places window is → AreApartBut window fresh.instant is → row ≡ change (unwrap_or (row_at fresh.instant (rows_in places window is)) fresh) → rows_in (set places (fresh.instant % window) row) window (place fresh.instant is) ≡ with_row change fresh (rows_in places window is)
-put_row change fresh row places window low [] h e r p a q = rw (row_here places window fresh.instant row h e, q) refl
-put_row change fresh row places window low (j ∷ js) h e r p a q = elim (compared fresh.instant j) [
-  | Below l ↦ (let apart : IsApart window fresh.instant (j ∷ js) = apart_but window fresh.instant fresh.instant (j ∷ js) (omega arith) (l, r.1) a in
-      let none : row_at fresh.instant (rows_in places window (j ∷ js)) ≡ None = row_above fresh.instant fresh.instant (rows_in places window (j ∷ js)) (omega arith) (subst (λ ns. Rises fresh.instant ns) (sym (instants_in places window (j ∷ js) p)) (l, r.1)) in
-      let is : row ≡ change fresh = q ∙ ap (λ o. change (unwrap_or o fresh)) none in
-      ap (rows_in (set places (fresh.instant % window) row) window) (place_lower fresh.instant j js l)
-      ∙ ap (λ x. x ∷ rows_in (set places (fresh.instant % window) row) window (j ∷ js)) (row_here places window fresh.instant row h e ∙ is)
-      ∙ ap (λ xs. change fresh ∷ xs) (rows_else places window fresh.instant row (j ∷ js) apart)
-      ∙ ap (λ b. cond b (change fresh ∷ rows_in places window (j ∷ js)) (cond (eqb (row_in places window j).instant fresh.instant) (change (row_in places window j) ∷ rows_in places window js) (row_in places window j ∷ with_row change fresh (rows_in places window js)))) (sym (lt-ltb fresh.instant (row_in places window j).instant (omega (arith, p.0)))))
-  | At k ↦ (let apart : IsApart window fresh.instant js = apart_but window fresh.instant j js (omega arith) r.1 a.1 in
-      let found : row_at fresh.instant (rows_in places window (j ∷ js)) ≡ Some (row_in places window j) = here fresh.instant (row_in places window j) (rows_in places window js) (p.0 ∙ k) in
-      let is : row ≡ change (row_in places window j) = q ∙ ap (λ o. change (unwrap_or o fresh)) found in
-      ap (rows_in (set places (fresh.instant % window) row) window) (place_same fresh.instant j js k)
-      ∙ ap (λ m. row_in (set places (fresh.instant % window) row) window m ∷ rows_in (set places (fresh.instant % window) row) window js) k
-      ∙ ap (λ x. x ∷ rows_in (set places (fresh.instant % window) row) window js) (row_here places window fresh.instant row h e ∙ is)
-      ∙ ap (λ xs. change (row_in places window j) ∷ xs) (rows_else places window fresh.instant row js apart)
-      ∙ ap (λ b. cond b (change (row_in places window j) ∷ rows_in places window js) (row_in places window j ∷ with_row change fresh (rows_in places window js))) (sym (eq-eqb (row_in places window j).instant fresh.instant (p.0 ∙ k)))
-      ∙ ap (λ b. cond b (change fresh ∷ rows_in places window (j ∷ js)) (cond (eqb (row_in places window j).instant fresh.instant) (change (row_in places window j) ∷ rows_in places window js) (row_in places window j ∷ with_row change fresh (rows_in places window js)))) (sym (le-ltb fresh.instant (row_in places window j).instant (omega (arith, p.0)))))
-  | Above g ↦ (let other : row_at fresh.instant (rows_in places window (j ∷ js)) ≡ row_at fresh.instant (rows_in places window js) = beyond fresh.instant (row_in places window j) (rows_in places window js) (λ m. omega (arith, p.0)) in
-      let rest : rows_in (set places (fresh.instant % window) row) window (place fresh.instant js) ≡ with_row change fresh (rows_in places window js) =
-      put_row change fresh row places window j js h e r.1 p.1 a.1 (q ∙ ap (λ o. change (unwrap_or o fresh)) other) in
-      ap (rows_in (set places (fresh.instant % window) row) window) (place_higher fresh.instant j js g)
-      ∙ ap (λ x. x ∷ rows_in (set places (fresh.instant % window) row) window (place fresh.instant js)) (row_else places window fresh.instant j row (a.0 (λ m. omega arith)))
-      ∙ ap (λ xs. row_in places window j ∷ xs) rest
-      ∙ ap (λ b. cond b (change (row_in places window j) ∷ rows_in places window js) (row_in places window j ∷ with_row change fresh (rows_in places window js))) (sym (ne_eqb (row_in places window j).instant fresh.instant (λ m. omega (arith, p.0))))
-      ∙ ap (λ b. cond b (change fresh ∷ rows_in places window (j ∷ js)) (cond (eqb (row_in places window j).instant fresh.instant) (change (row_in places window j) ∷ rows_in places window js) (row_in places window j ∷ with_row change fresh (rows_in places window js)))) (sym (le-ltb fresh.instant (row_in places window j).instant (omega (arith, p.0)))))
-]
-
-near_but : (window i : ℕ) (js : List ℕ) → AreAllNear window i js → AreApartBut window i js
-near_but window i [] h = tt
-near_but window i (j ∷ js) h = ((λ n. apart_pair window i j h.0.0 h.0.1 n), near_but window i js h.1)
-
-pub near_apart : (window i : ℕ) (cs js : List ℕ) → list_all (is_near window i) (cs ++ js) ≡ true → AreApartBut window i js
-near_apart window i cs js h = near_but window i js (near_back window i cs js (all_near window i (cs ++ js) h))
-
--- an instant put into its place among rising ones
-
-pub numbers_do_not_fall : (low : ℕ) (ns : List ℕ) → Rises low ns → IsNonDecreasingBy (λ n. n) ns
-numbers_do_not_fall low ns r i j d h k = elim (cases_lt i j) [
-  | inl l ↦ (let s : get_or ns i 0 < get_or ns j 0 = rises_order low ns i j r l k in omega (arith, get_or_default ns i d 0 (omega arith), get_or_default ns j d 0 k))
-  | inr l ↦ (let e : i ≡ j = omega arith in rw e (omega arith))
-]
-
-pub insert_is_place : (low i : ℕ) (ns : List ℕ) → Rises low ns → All (λ n. n ≡ i → ⊥) ns → insert ns (prefix_len (λ n. ltb n i) ns) i ≡ place i ns
-insert_is_place low i [] r a = refl
-insert_is_place low i (n ∷ ns) r a = elim (compared i n) [
-  | Below l ↦ ap (λ b. insert (n ∷ ns) (cond b (1 + prefix_len (λ m. ltb m i) ns) 0) i) (le-ltb n i (omega arith)) ∙ sym (place_lower i n ns l)
-  | At e ↦ absurd (a 0 n (omega arith) e)
-  | Above g ↦ (let k : 1 + prefix_len (λ m. ltb m i) ns ≡ suc (prefix_len (λ m. ltb m i) ns) = omega arith in
-      ap (λ b. insert (n ∷ ns) (cond b (1 + prefix_len (λ m. ltb m i) ns) 0) i) (lt-ltb n i g) ∙ ap (λ m. insert (n ∷ ns) m i) k
-      ∙ ap (λ ms. n ∷ ms) (insert_is_place n i ns r.1 (λ j d l. a (suc j) d (omega arith))) ∙ sym (place_higher i n ns g))
-]
-
 pub point_is_rank : (ns : List ℕ) (instant k : ℕ) → IsPartitionPoint (λ n. ltb n instant ≡ true) (λ n. ltb n instant ≡ false) ns k → k ≤ length ns → k ≡ prefix_len (λ n. ltb n instant) ns
 point_is_rank ns instant k p h = sym (prefix_len_is (λ n. ltb n instant) ns k 0 h (λ j l. p.0 j 0 (omega arith) l) (λ l. p.1 k 0 (omega arith) l))
 
@@ -248,20 +174,96 @@ back_in required rule low places window is seen n e k r p =
     sym (drop-map (row_in places window) n is)
     ∙ back_is required rule low (rows_in places window is) (rows_in places window seen) n (ap (rows_in places window) e) k (rising_in places window low is r p)
 
--- the open instants of a table rise, and are near each other
-near_after : (window : ℕ) (cs os : List ℕ) → AreNear window (cs ++ os) → Rises 0 (cs ++ os) → AreNear window os
-near_after window [] os n r = n
-near_after window (c ∷ cs) os n r = near_after window cs os (near_tail 0 window c (cs ++ os) r n) (rises_above 0 c (cs ++ os) (omega arith) r.1)
+-- ---- what follows from the laws of rising numbers
 
-pub near_open : (c : Content) (places : List OpenRowView) (is : List ℕ) → ArePlaced places c.window is → IsContent (record c { open_rows = rows_in places c.window is }) → Rises c.last is × AreNear c.window is
-near_open c places is p h =
-    let e : instants_of (rows_in places c.window is) ≡ is = instants_in places c.window is p in (
-      subst (λ ns. Rises c.last ns) e h.open_above,
-      near_after c.window (row_instants c.closed) is (subst (λ ns. AreNear c.window (row_instants c.closed ++ ns)) e h.held_near) (subst (λ ns. Rises 0 (row_instants c.closed ++ ns)) e h.held_rise),
-    )
+module _ (R : RisingLaws) where
+  apart_pair : (window i j : ℕ) → i < j + window → j < i + window → j ≢ i → i % window ≢ j % window
+  apart_pair window i j h k n e = elim (R.compared i j) [
+    | Below l ↦ apart_by window i j l k e
+    | At q ↦ n q
+    | Above g ↦ apart_by window j i g h (sym e)
+  ]
 
--- a change at each open instant is a change to each row
-pub changed-open : (f : OpenRowView → OpenRowView) (c : Content) (places now : List OpenRowView) (is seen : List ℕ) → seen ≡ is → now ≡ changed f c.window seen places → length places ≡ c.window → ArePlaced places c.window is → IsContent (record c { open_rows = rows_in places c.window is }) → rows_in now c.window is ≡ map f (rows_in places c.window is)
-changed-open f c places now is seen s e l p h =
-    ap (λ ps. rows_in ps c.window is) (e ∙ ap (λ js. changed f c.window js places) s)
-    ∙ changed-rows f c.window c.last is places (omega (arith, h.window_least)) l (near_open c places is p h).0 (near_open c places is p h).1
+  pub changed-rows : (f : OpenRowView → OpenRowView) (window low : ℕ) (is : List ℕ) (places : List OpenRowView) → 0 < window → length places ≡ window → Rises low is → AreNear window is → rows_in (changed f window is places) window is ≡ map f (rows_in places window is)
+  changed-rows f window low [] places h e r n = refl
+  changed-rows f window low (i ∷ is) places h e r n =
+      let next : List OpenRowView = set places (i % window) (f (row_in places window i)) in
+      let apart : IsApart window i is = apart_higher window i i is (omega arith) r.1 n in
+      let first : row_in (changed f window is next) window i ≡ f (row_in places window i) =
+      changed-else f window i is next apart ∙ row_here places window i (f (row_in places window i)) h e in
+      let rest : rows_in (changed f window is next) window is ≡ map f (rows_in places window is) =
+      changed-rows f window i is next h (length-set places (i % window) (f (row_in places window i)) ∙ e) r.1 (R.near_tail low window i is r n)
+      ∙ ap (map f) (rows_else places window i (f (row_in places window i)) is apart) in
+      rw (first, rest) refl
+
+  pub put_row : (change : OpenRowView → OpenRowView) (fresh row : OpenRowView) (places : List OpenRowView) (window low : ℕ) (is : List ℕ) → 0 < window → length places ≡ window → Rises low is → ArePlaced places window is → AreApartBut window fresh.instant is → row ≡ change (unwrap_or (row_at fresh.instant (rows_in places window is)) fresh) → rows_in (set places (fresh.instant % window) row) window (place fresh.instant is) ≡ with_row change fresh (rows_in places window is)
+  put_row change fresh row places window low [] h e r p a q = rw (row_here places window fresh.instant row h e, q) refl
+  put_row change fresh row places window low (j ∷ js) h e r p a q = elim (R.compared fresh.instant j) [
+    | Below l ↦ (let apart : IsApart window fresh.instant (j ∷ js) = apart_but window fresh.instant fresh.instant (j ∷ js) (omega arith) (l, r.1) a in
+        let none : row_at fresh.instant (rows_in places window (j ∷ js)) ≡ None = row_above fresh.instant fresh.instant (rows_in places window (j ∷ js)) (omega arith) (subst (λ ns. Rises fresh.instant ns) (sym (instants_in places window (j ∷ js) p)) (l, r.1)) in
+        let is : row ≡ change fresh = q ∙ ap (λ o. change (unwrap_or o fresh)) none in
+        ap (rows_in (set places (fresh.instant % window) row) window) (R.place_lower fresh.instant j js l)
+        ∙ ap (λ x. x ∷ rows_in (set places (fresh.instant % window) row) window (j ∷ js)) (row_here places window fresh.instant row h e ∙ is)
+        ∙ ap (λ xs. change fresh ∷ xs) (rows_else places window fresh.instant row (j ∷ js) apart)
+        ∙ ap (λ b. cond b (change fresh ∷ rows_in places window (j ∷ js)) (cond (eqb (row_in places window j).instant fresh.instant) (change (row_in places window j) ∷ rows_in places window js) (row_in places window j ∷ with_row change fresh (rows_in places window js)))) (sym (lt-ltb fresh.instant (row_in places window j).instant (omega (arith, p.0)))))
+    | At k ↦ (let apart : IsApart window fresh.instant js = apart_but window fresh.instant j js (omega arith) r.1 a.1 in
+        let found : row_at fresh.instant (rows_in places window (j ∷ js)) ≡ Some (row_in places window j) = here fresh.instant (row_in places window j) (rows_in places window js) (p.0 ∙ k) in
+        let is : row ≡ change (row_in places window j) = q ∙ ap (λ o. change (unwrap_or o fresh)) found in
+        ap (rows_in (set places (fresh.instant % window) row) window) (R.place_same fresh.instant j js k)
+        ∙ ap (λ m. row_in (set places (fresh.instant % window) row) window m ∷ rows_in (set places (fresh.instant % window) row) window js) k
+        ∙ ap (λ x. x ∷ rows_in (set places (fresh.instant % window) row) window js) (row_here places window fresh.instant row h e ∙ is)
+        ∙ ap (λ xs. change (row_in places window j) ∷ xs) (rows_else places window fresh.instant row js apart)
+        ∙ ap (λ b. cond b (change (row_in places window j) ∷ rows_in places window js) (row_in places window j ∷ with_row change fresh (rows_in places window js))) (sym (eq-eqb (row_in places window j).instant fresh.instant (p.0 ∙ k)))
+        ∙ ap (λ b. cond b (change fresh ∷ rows_in places window (j ∷ js)) (cond (eqb (row_in places window j).instant fresh.instant) (change (row_in places window j) ∷ rows_in places window js) (row_in places window j ∷ with_row change fresh (rows_in places window js)))) (sym (le-ltb fresh.instant (row_in places window j).instant (omega (arith, p.0)))))
+    | Above g ↦ (let other : row_at fresh.instant (rows_in places window (j ∷ js)) ≡ row_at fresh.instant (rows_in places window js) = beyond fresh.instant (row_in places window j) (rows_in places window js) (λ m. omega (arith, p.0)) in
+        let rest : rows_in (set places (fresh.instant % window) row) window (place fresh.instant js) ≡ with_row change fresh (rows_in places window js) =
+        put_row change fresh row places window j js h e r.1 p.1 a.1 (q ∙ ap (λ o. change (unwrap_or o fresh)) other) in
+        ap (rows_in (set places (fresh.instant % window) row) window) (R.place_higher fresh.instant j js g)
+        ∙ ap (λ x. x ∷ rows_in (set places (fresh.instant % window) row) window (place fresh.instant js)) (row_else places window fresh.instant j row (a.0 (λ m. omega arith)))
+        ∙ ap (λ xs. row_in places window j ∷ xs) rest
+        ∙ ap (λ b. cond b (change (row_in places window j) ∷ rows_in places window js) (row_in places window j ∷ with_row change fresh (rows_in places window js))) (sym (ne_eqb (row_in places window j).instant fresh.instant (λ m. omega (arith, p.0))))
+        ∙ ap (λ b. cond b (change fresh ∷ rows_in places window (j ∷ js)) (cond (eqb (row_in places window j).instant fresh.instant) (change (row_in places window j) ∷ rows_in places window js) (row_in places window j ∷ with_row change fresh (rows_in places window js)))) (sym (le-ltb fresh.instant (row_in places window j).instant (omega (arith, p.0)))))
+  ]
+
+  near_but : (window i : ℕ) (js : List ℕ) → AreAllNear window i js → AreApartBut window i js
+  near_but window i [] h = tt
+  near_but window i (j ∷ js) h = ((λ n. apart_pair window i j h.0.0 h.0.1 n), near_but window i js h.1)
+
+  pub near_apart : (window i : ℕ) (cs js : List ℕ) → list_all (is_near window i) (cs ++ js) ≡ true → AreApartBut window i js
+  near_apart window i cs js h = near_but window i js (near_back window i cs js (R.all_near window i (cs ++ js) h))
+
+  -- an instant put into its place among rising ones
+
+  pub numbers_do_not_fall : (low : ℕ) (ns : List ℕ) → Rises low ns → IsNonDecreasingBy (λ n. n) ns
+  numbers_do_not_fall low ns r i j d h k = elim (cases_lt i j) [
+    | inl l ↦ (let s : get_or ns i 0 < get_or ns j 0 = R.rises_order low ns i j r l k in omega (arith, get_or_default ns i d 0 (omega arith), get_or_default ns j d 0 k))
+    | inr l ↦ (let e : i ≡ j = omega arith in rw e (omega arith))
+  ]
+
+  pub insert_is_place : (low i : ℕ) (ns : List ℕ) → Rises low ns → All (λ n. n ≡ i → ⊥) ns → insert ns (prefix_len (λ n. ltb n i) ns) i ≡ place i ns
+  insert_is_place low i [] r a = refl
+  insert_is_place low i (n ∷ ns) r a = elim (R.compared i n) [
+    | Below l ↦ ap (λ b. insert (n ∷ ns) (cond b (1 + prefix_len (λ m. ltb m i) ns) 0) i) (le-ltb n i (omega arith)) ∙ sym (R.place_lower i n ns l)
+    | At e ↦ absurd (a 0 n (omega arith) e)
+    | Above g ↦ (let k : 1 + prefix_len (λ m. ltb m i) ns ≡ suc (prefix_len (λ m. ltb m i) ns) = omega arith in
+        ap (λ b. insert (n ∷ ns) (cond b (1 + prefix_len (λ m. ltb m i) ns) 0) i) (lt-ltb n i g) ∙ ap (λ m. insert (n ∷ ns) m i) k
+        ∙ ap (λ ms. n ∷ ms) (insert_is_place n i ns r.1 (λ j d l. a (suc j) d (omega arith))) ∙ sym (R.place_higher i n ns g))
+  ]
+
+  -- the open instants of a table rise, and are near each other
+  near_after : (window : ℕ) (cs os : List ℕ) → AreNear window (cs ++ os) → Rises 0 (cs ++ os) → AreNear window os
+  near_after window [] os n r = n
+  near_after window (c ∷ cs) os n r = near_after window cs os (R.near_tail 0 window c (cs ++ os) r n) (R.rises_above 0 c (cs ++ os) (omega arith) r.1)
+
+  pub near_open : (c : Content) (places : List OpenRowView) (is : List ℕ) → ArePlaced places c.window is → IsContent (record c { open_rows = rows_in places c.window is }) → Rises c.last is × AreNear c.window is
+  near_open c places is p h =
+      let e : instants_of (rows_in places c.window is) ≡ is = instants_in places c.window is p in (
+        subst (λ ns. Rises c.last ns) e h.open_above,
+        near_after c.window (row_instants c.closed) is (subst (λ ns. AreNear c.window (row_instants c.closed ++ ns)) e h.held_near) (subst (λ ns. Rises 0 (row_instants c.closed ++ ns)) e h.held_rise),
+      )
+
+  -- a change at each open instant is a change to each row
+  pub changed-open : (f : OpenRowView → OpenRowView) (c : Content) (places now : List OpenRowView) (is seen : List ℕ) → seen ≡ is → now ≡ changed f c.window seen places → length places ≡ c.window → ArePlaced places c.window is → IsContent (record c { open_rows = rows_in places c.window is }) → rows_in now c.window is ≡ map f (rows_in places c.window is)
+  changed-open f c places now is seen s e l p h =
+      ap (λ ps. rows_in ps c.window is) (e ∙ ap (λ js. changed f c.window js places) s)
+      ∙ changed-rows f c.window c.last is places (omega (arith, h.window_least)) l (near_open c places is p h).0 (near_open c places is p h).1

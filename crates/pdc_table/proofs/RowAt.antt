@@ -4,8 +4,7 @@ use Rattle.std.specs.Option.{unwrap_or}
 use Rattle.std.proofs.lemmas.Bool.{cases_eq, eq-eqb, ne_eqb}
 use Rattle.pdc_row.specs.Quality.{greatest}
 use Rattle.pdc_row.specs.Rising.{Rises, AreBelow}
-use Rattle.pdc_row.proofs.Rising.{compared, below_greatest}
-use Rattle.pdc_row.specs.RisingLaws.{Below, At, Above}
+use Rattle.pdc_row.specs.RisingLaws.{RisingLaws, Below, At, Above}
 use Rattle.pdc_table.specs.Closing.{aged}
 use Rattle.pdc_table.specs.Content.{Content}
 use Rattle.pdc_table.specs.OpenInstants.{instants_of}
@@ -57,32 +56,35 @@ row_instant i (x ∷ xs) row e = elim (cases_eq x.instant i) [
   | inr k ↦ (let g : row_at i xs ≡ Some row = rw (ne_eqb x.instant i k) at e in row_instant i xs row g)
 ]
 
-pub row_of_fresh : (change : OpenRowView → OpenRowView) (fresh : OpenRowView) → ((r : OpenRowView) → (change r).instant ≡ r.instant) → (low : ℕ) (rows : List OpenRowView) → Rises low (instants_of rows) → row_at fresh.instant (with_row change fresh rows) ≡ Some (change (unwrap_or (row_at fresh.instant rows) fresh))
-row_of_fresh change fresh h low [] r = here fresh.instant (change fresh) [] (h fresh)
-row_of_fresh change fresh h low (x ∷ xs) r = elim (compared fresh.instant x.instant) [
-  | Below l ↦ (let e : ltb fresh.instant x.instant ≡ true = search rules in
-      let none : row_at fresh.instant (x ∷ xs) ≡ None = row_above fresh.instant fresh.instant (x ∷ xs) (omega arith) (l, r.1) in
-      rw e (here fresh.instant (change fresh) (x ∷ xs) (h fresh) ∙ ap (λ o. Some (change (unwrap_or o fresh))) (sym none)))
-  | At k ↦ (let e : ltb fresh.instant x.instant ≡ false = search rules in let f : eqb x.instant fresh.instant ≡ true = search rules in
-      rw (e, f) (here fresh.instant (change x) xs (h x ∙ k)))
-  | Above g ↦ (let e : ltb fresh.instant x.instant ≡ false = search rules in let f : eqb x.instant fresh.instant ≡ false = search rules in
-      rw (e, f) (beyond fresh.instant x (with_row change fresh xs) (λ q. omega arith) ∙ row_of_fresh change fresh h x.instant xs r.1))
-]
+-- ---- what follows from the laws of rising numbers
 
-pub row_of_other : (change : OpenRowView → OpenRowView) (fresh : OpenRowView) → ((r : OpenRowView) → (change r).instant ≡ r.instant) → (i : ℕ) (rows : List OpenRowView) → fresh.instant ≢ i → row_at i (with_row change fresh rows) ≡ row_at i rows
-row_of_other change fresh h i [] n = beyond i (change fresh) [] (λ e. n (sym (h fresh) ∙ e))
-row_of_other change fresh h i (x ∷ xs) n = elim (compared fresh.instant x.instant) [
-  | Below l ↦ (let e : ltb fresh.instant x.instant ≡ true = search rules in rw e (beyond i (change fresh) (x ∷ xs) (λ q. n (sym (h fresh) ∙ q))))
-  | At k ↦ (let e : ltb fresh.instant x.instant ≡ false = search rules in let f : eqb x.instant fresh.instant ≡ true = search rules in
-      let m : x.instant ≢ i = λ q. n (sym k ∙ q) in
-      rw (e, f) (beyond i (change x) xs (λ q. m (sym (h x) ∙ q)) ∙ sym (beyond i x xs m)))
-  | Above g ↦ (let e : ltb fresh.instant x.instant ≡ false = search rules in let f : eqb x.instant fresh.instant ≡ false = search rules in
-      rw (e, f) (ap (λ o. cond (eqb x.instant i) (Some x) o) (row_of_other change fresh h i xs n)))
-]
+module _ (R : RisingLaws) where
+  pub row_of_fresh : (change : OpenRowView → OpenRowView) (fresh : OpenRowView) → ((r : OpenRowView) → (change r).instant ≡ r.instant) → (low : ℕ) (rows : List OpenRowView) → Rises low (instants_of rows) → row_at fresh.instant (with_row change fresh rows) ≡ Some (change (unwrap_or (row_at fresh.instant rows) fresh))
+  row_of_fresh change fresh h low [] r = here fresh.instant (change fresh) [] (h fresh)
+  row_of_fresh change fresh h low (x ∷ xs) r = elim (R.compared fresh.instant x.instant) [
+    | Below l ↦ (let e : ltb fresh.instant x.instant ≡ true = search rules in
+        let none : row_at fresh.instant (x ∷ xs) ≡ None = row_above fresh.instant fresh.instant (x ∷ xs) (omega arith) (l, r.1) in
+        rw e (here fresh.instant (change fresh) (x ∷ xs) (h fresh) ∙ ap (λ o. Some (change (unwrap_or o fresh))) (sym none)))
+    | At k ↦ (let e : ltb fresh.instant x.instant ≡ false = search rules in let f : eqb x.instant fresh.instant ≡ true = search rules in
+        rw (e, f) (here fresh.instant (change x) xs (h x ∙ k)))
+    | Above g ↦ (let e : ltb fresh.instant x.instant ≡ false = search rules in let f : eqb x.instant fresh.instant ≡ false = search rules in
+        rw (e, f) (beyond fresh.instant x (with_row change fresh xs) (λ q. omega arith) ∙ row_of_fresh change fresh h x.instant xs r.1))
+  ]
 
--- above what closes at a tick, each row is that before it, a tick older
-pub row_of_tick : (c : Content) (rule : WaitRule) (i : ℕ) → Rises c.last (instants_of c.open_rows) → greatest c.last (instants_of (closing_of c rule)) < i → row_at i (staying_of c rule) ≡ option_map aged (row_at i c.open_rows)
-row_of_tick c rule i a h =
-    sym (row_behind i (closing_of c rule) (staying_of c rule) (row_below i (greatest c.last (instants_of (closing_of c rule)) + 1) (closing_of c rule) (omega arith) (below_greatest c.last (instants_of (closing_of c rule)))))
-    ∙ ap (row_at i) (front_back c.required rule c.last (map aged c.open_rows) (aged_rise c a))
-    ∙ row_at-map aged (λ r. refl) i c.open_rows
+  pub row_of_other : (change : OpenRowView → OpenRowView) (fresh : OpenRowView) → ((r : OpenRowView) → (change r).instant ≡ r.instant) → (i : ℕ) (rows : List OpenRowView) → fresh.instant ≢ i → row_at i (with_row change fresh rows) ≡ row_at i rows
+  row_of_other change fresh h i [] n = beyond i (change fresh) [] (λ e. n (sym (h fresh) ∙ e))
+  row_of_other change fresh h i (x ∷ xs) n = elim (R.compared fresh.instant x.instant) [
+    | Below l ↦ (let e : ltb fresh.instant x.instant ≡ true = search rules in rw e (beyond i (change fresh) (x ∷ xs) (λ q. n (sym (h fresh) ∙ q))))
+    | At k ↦ (let e : ltb fresh.instant x.instant ≡ false = search rules in let f : eqb x.instant fresh.instant ≡ true = search rules in
+        let m : x.instant ≢ i = λ q. n (sym k ∙ q) in
+        rw (e, f) (beyond i (change x) xs (λ q. m (sym (h x) ∙ q)) ∙ sym (beyond i x xs m)))
+    | Above g ↦ (let e : ltb fresh.instant x.instant ≡ false = search rules in let f : eqb x.instant fresh.instant ≡ false = search rules in
+        rw (e, f) (ap (λ o. cond (eqb x.instant i) (Some x) o) (row_of_other change fresh h i xs n)))
+  ]
+
+  -- above what closes at a tick, each row is that before it, a tick older
+  pub row_of_tick : (c : Content) (rule : WaitRule) (i : ℕ) → Rises c.last (instants_of c.open_rows) → greatest c.last (instants_of (closing_of c rule)) < i → row_at i (staying_of c rule) ≡ option_map aged (row_at i c.open_rows)
+  row_of_tick c rule i a h =
+      sym (row_behind i (closing_of c rule) (staying_of c rule) (row_below i (greatest c.last (instants_of (closing_of c rule)) + 1) (closing_of c rule) (omega arith) (R.below_greatest c.last (instants_of (closing_of c rule)))))
+      ∙ ap (row_at i) (front_back c.required rule c.last (map aged c.open_rows) (aged_rise c a))
+      ∙ row_at-map aged (λ r. refl) i c.open_rows

@@ -2,15 +2,21 @@
 ghost use Rattle.pdc_table.specs.Calls.{BlocksStandInTheirColumns, InstantsCloseOnce, NothingIsPutBelowClosed, RowsComeOutOnce, RowsComeOutRising};
 ghost use Rattle.pdc_table.specs.Histories.{AgesAreTicks, CellsAreFirstPuts, InstantsOpenWhereTaken, RowsCloseWhereDue};
 
+use pdc_row::numbers_rise;
+
 /// Over every list of calls on a new table, the rows come out in strictly rising order, above the floor.
 pub fn rows_come_out_rising()
     ensures { RowsComeOutRising }
-{}
+{
+    numbers_rise();
+}
 
 /// Over every list of calls on a new table, an instant closes at most once.
 pub fn instants_close_once()
     ensures { InstantsCloseOnce }
-{}
+{
+    numbers_rise();
+}
 
 /// Over every list of calls on a new table, each row that closed came out once or waits, in the order of closing.
 pub fn rows_come_out_once()
@@ -20,28 +26,38 @@ pub fn rows_come_out_once()
 /// Over every list of calls on a new table, what is taken is for an instant above the floor and each one that closed.
 pub fn nothing_is_put_below_closed()
     ensures { NothingIsPutBelowClosed }
-{}
+{
+    numbers_rise();
+}
 
 /// Over every list of calls on a new table, an instant is open exactly where it was taken and is above the last that closed.
 pub fn instants_open_where_taken()
     ensures { InstantsOpenWhereTaken }
-{}
+{
+    numbers_rise();
+}
 
 /// Over every list of calls on a new table, the age of an open instant is the ticks since its first take.
 pub fn ages_are_ticks()
     ensures { AgesAreTicks }
-{}
+{
+    numbers_rise();
+}
 
 /// Over every list of calls on a new table, a cell of an open instant is the first that was put of it since its last drop.
 pub fn cells_are_first_puts()
     ensures { CellsAreFirstPuts }
-{}
+{
+    numbers_rise();
+}
 
 /// Over every list of calls on a new table, the rows that close at a tick are those of the open instants for which every
 /// open one up to them is due: each stream that it waits for was taken since its last drop, or the wait is over.
 pub fn rows_close_where_due()
     ensures { RowsCloseWhereDue }
-{}
+{
+    numbers_rise();
+}
 
 /// Each column of a row holds what was given for it, where each is given at most one block, and is else as before.
 pub fn blocks_stand_in_their_columns()

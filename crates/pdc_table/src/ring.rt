@@ -25,7 +25,7 @@ use crate::open_row::{OpenRow, Places};
 use crate::rows::{is_near, remove_front};
 use crate::{MAX_COLUMNS, PutOutcome, RowLayout, WaitRule};
 use pdc_block::Block;
-use pdc_row::DueRow;
+use pdc_row::{DueRow, numbers_rise};
 use std::alloc::{AllocError, Global};
 use std::collections::VecDeque;
 
@@ -56,6 +56,7 @@ pub fn are_near(open: &[u64], closed: &VecDeque<DueRow>, window: u64, instant: u
     requires { Rises 0 (row_instants (map row_view closed.now.items) ++ open.now) }
     ensures { result ≡ list_all (is_near window instant) (row_instants (map row_view closed.now.items) ++ open.now) }
 {
+    numbers_rise();
     is_near(lowest(open, closed), window, instant)
         && is_near(highest(open, closed), window, instant)
 }
@@ -135,6 +136,7 @@ fn rank(open: &[u64], instant: u64) -> usize
     ensures rank { result ≡ prefix_len (λ held. nat_lt held instant) open.now }
     ensures bound { result ≤ length open.now }
 {
+    numbers_rise();
     open.partition_point(|held| *held < instant)
 }
 
@@ -146,6 +148,7 @@ fn open_instant(open: &mut Vec<u64>, instant: u64)
     ensures items { open.new.items ≡ place instant open.old.items }
     ensures capacity { vec_capacity open.new ≡ vec_capacity open.old }
 {
+    numbers_rise();
     let at = rank(open, instant);
     open.insert(at, instant).unwrap();
 }

@@ -4,7 +4,7 @@ use crate::sorted_table::{lane_of, stream_count};
 use crate::{MAX_COLUMNS, PutOutcome, RowLayout, Table, WaitRule, ring};
 use arrayvec::ArrayVec;
 use pdc_block::Block;
-use pdc_row::DueRow;
+use pdc_row::{DueRow, numbers_rise};
 use std::alloc::{AllocError, Global};
 use std::collections::VecDeque;
 use std::marker::Model;
@@ -74,6 +74,7 @@ impl Table for RingTable {
         cells: &[(usize, Block)],
         quality: u8,
     ) -> PutOutcome {
+        numbers_rise();
         if instant <= self.last {
             return PutOutcome::Late;
         }
@@ -95,6 +96,7 @@ impl Table for RingTable {
     }
 
     fn tick(&mut self, rule: WaitRule, layout: &RowLayout) -> u32 {
+        numbers_rise();
         ring::grow_older(&mut self.places, self.window, &self.open);
         let RingTable {
             window,
@@ -113,6 +115,7 @@ impl Table for RingTable {
     }
 
     fn drop_stream(&mut self, stream: usize) {
+        numbers_rise();
         ring::drop_stream(
             &mut self.places,
             self.window,
@@ -123,10 +126,12 @@ impl Table for RingTable {
     }
 
     fn drop_column(&mut self, column: usize) {
+        numbers_rise();
         ring::drop_column(&mut self.places, self.window, &self.open, column);
     }
 
     fn pop_due(&mut self) -> Option<DueRow> {
+        numbers_rise();
         self.closed.pop_front()
     }
 

@@ -21,7 +21,7 @@ ghost use Rattle.pdc_table.specs.Views.{OpenRowView, blank_row};
 use crate::open_row::{OpenRow, Places};
 use crate::{MAX_COLUMNS, PutOutcome, RowLayout, WaitRule};
 use pdc_block::Block;
-use pdc_row::DueRow;
+use pdc_row::{DueRow, numbers_rise};
 use std::collections::VecDeque;
 
 /// How many rows stand below the instant.
@@ -175,6 +175,7 @@ pub fn are_near(rows: &[OpenRow], closed: &VecDeque<DueRow>, window: u64, instan
     ensures { result ≡ list_all (is_near window instant)
         (row_instants (map row_view closed.now.items) ++ instants_of rows.now) }
 {
+    numbers_rise();
     is_near(lowest(rows, closed), window, instant)
         && is_near(highest(rows, closed), window, instant)
 }

@@ -6,7 +6,7 @@ use crate::open_row::{OpenRow, Places, falses};
 use crate::{MAX_COLUMNS, PutOutcome, RowLayout, Table, WaitRule, rows};
 use arrayvec::ArrayVec;
 use pdc_block::Block;
-use pdc_row::DueRow;
+use pdc_row::{DueRow, numbers_rise};
 use std::alloc::{AllocError, Global};
 use std::collections::VecDeque;
 use std::marker::Model;
@@ -86,6 +86,7 @@ impl Table for SortedTable {
         cells: &[(usize, Block)],
         quality: u8,
     ) -> PutOutcome {
+        numbers_rise();
         if instant <= self.last {
             return PutOutcome::Late;
         }
@@ -113,6 +114,7 @@ impl Table for SortedTable {
     }
 
     fn tick(&mut self, rule: WaitRule, layout: &RowLayout) -> u32 {
+        numbers_rise();
         rows::grow_older(&mut self.rows);
         let SortedTable {
             required,
@@ -135,6 +137,7 @@ impl Table for SortedTable {
     }
 
     fn pop_due(&mut self) -> Option<DueRow> {
+        numbers_rise();
         self.closed.pop_front()
     }
 

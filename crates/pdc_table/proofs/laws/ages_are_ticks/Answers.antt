@@ -7,4 +7,4 @@ use Rattle.pdc_table.proofs.laws.ages_are_ticks.Goals as goal
 
 pub returns : goal.returns
 returns c window columns lanes floor calls i h =
-    of_told (new_content window columns lanes floor) calls i refl tt h (λ row. row.age ≡ counter (ticks_since_take (new_content window columns lanes floor) calls i)) (λ row told. told.age)
+    of_told c.numbers_rise.ensures (new_content window columns lanes floor) calls i refl tt h (λ row. row.age ≡ counter (ticks_since_take (new_content window columns lanes floor) calls i)) (λ row told. told.age)

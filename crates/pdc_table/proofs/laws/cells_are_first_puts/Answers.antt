@@ -8,6 +8,6 @@ use Rattle.pdc_table.proofs.laws.cells_are_first_puts.Goals as goal
 
 pub returns : goal.returns
 returns c window columns lanes floor calls s k i h l m o =
-    of_told (new_content window columns lanes floor) calls i refl tt h
+    of_told c.numbers_rise.ensures (new_content window columns lanes floor) calls i refl tt h
     (λ row. cell_in (lane_of (new_content window columns lanes floor) s) (get_or row.columns k empty_column) ≡ first_put (new_content window columns lanes floor) calls s k i)
     (λ row told. told.cells s k l m o)

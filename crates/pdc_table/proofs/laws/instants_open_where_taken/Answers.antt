@@ -4,4 +4,4 @@ use Rattle.pdc_table.proofs.Follows.{open_where_taken}
 use Rattle.pdc_table.proofs.laws.instants_open_where_taken.Goals as goal
 
 pub returns : goal.returns
-returns c window columns lanes floor calls i h = open_where_taken (new_content window columns lanes floor) calls i refl tt h
+returns c window columns lanes floor calls i h = open_where_taken c.numbers_rise.ensures (new_content window columns lanes floor) calls i refl tt h

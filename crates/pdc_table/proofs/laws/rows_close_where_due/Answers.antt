@@ -5,4 +5,4 @@ use Rattle.pdc_table.proofs.laws.rows_close_where_due.Goals as goal
 
 pub returns : goal.returns
 returns c window columns lanes floor calls rule layout h =
-    close_where_due (new_content window columns lanes floor) calls rule layout refl tt (new_awaited window columns lanes floor) h
+    close_where_due c.numbers_rise.ensures (new_content window columns lanes floor) calls rule layout refl tt (new_awaited window columns lanes floor) h

@@ -2,7 +2,6 @@ use Rattle.std.proofs.Common.{◌≡◌, ◌++◌, ◌&&◌, ◌∙◌, ap, map,
 use Rattle.std.specs.List.{slice_get}
 use Rattle.pdc_row.specs.RowView.{row_view, row_instants}
 use Rattle.pdc_row.specs.Rising.{highest_of, is_near_any}
-use Rattle.pdc_row.proofs.Rising.{ends_near}
 use Rattle.pdc_table.proofs.ring.are_near.Goals as goal
 
 pub returns-then-is_near : goal.returns-then-is_near
@@ -11,7 +10,7 @@ returns-then-is_near c =
     let low : true ≡ is_near_any c.args.window c.args.instant (slice_get held 0) = c.if-is_near.ensures ∙ ap (is_near_any c.args.window c.args.instant) c.lowest.ensures in
     c.is_near-then-is_near.ensures ∙ ap (is_near_any c.args.window c.args.instant) c.highest.ensures
     ∙ ap (λ b. b && is_near_any c.args.window c.args.instant (highest_of held)) low
-    ∙ ends_near c.args.window c.args.instant 0 held c.requires
+    ∙ c.numbers_rise.ensures.ends_near c.args.window c.args.instant 0 held c.requires
 
 pub returns-else-is_near : goal.returns-else-is_near
 returns-else-is_near c =
@@ -19,4 +18,4 @@ returns-else-is_near c =
     let low : false ≡ is_near_any c.args.window c.args.instant (slice_get held 0) = c.if-is_near.ensures ∙ ap (is_near_any c.args.window c.args.instant) c.lowest.ensures in
     c.if-is_near.false
     ∙ ap (λ b. b && is_near_any c.args.window c.args.instant (highest_of held)) low
-    ∙ ends_near c.args.window c.args.instant 0 held c.requires
+    ∙ c.numbers_rise.ensures.ends_near c.args.window c.args.instant 0 held c.requires

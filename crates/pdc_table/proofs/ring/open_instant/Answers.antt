@@ -8,4 +8,4 @@ returns-clause-items c =
     let inserted : c.insert.new.self.items ≡ insert c.args.open.now.items c.rank-at.result c.args.instant = search rules in
     let rank : c.rank-at.result ≡ prefix_len (λ n. ltb n c.args.instant) c.args.open.now.items = search rules in
     inserted ∙ ap (λ k. insert c.args.open.now.items k c.args.instant) rank
-    ∙ insert_is_place 0 c.args.instant c.args.open.now.items c.requires.rising c.requires.absent
+    ∙ insert_is_place c.numbers_rise.ensures 0 c.args.instant c.args.open.now.items c.requires.rising c.requires.absent

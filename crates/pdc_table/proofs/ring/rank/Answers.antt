@@ -8,6 +8,6 @@ returns-clause-rank c =
     point_is_rank c.args.open.now c.args.instant c.partition_point.result
     (IsPartitionPoint-from_clause (λ (n : ℕ). ltb n c.args.instant) c.args.open.now c.partition_point.result
     c.partition_point.ensures.partitioned
-    (IsPartitionedBy-ltb (λ (n : ℕ). n) c.args.open.now c.args.instant (numbers_do_not_fall 0 c.args.open.now c.requires))
+    (IsPartitionedBy-ltb (λ (n : ℕ). n) c.args.open.now c.args.instant (numbers_do_not_fall c.numbers_rise.ensures 0 c.args.open.now c.requires))
     (λ a r f h. search rules))
     c.partition_point.ensures.bound

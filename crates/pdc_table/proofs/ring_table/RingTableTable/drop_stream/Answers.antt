@@ -12,7 +12,7 @@ use Rattle.pdc_table.proofs.ring_table.RingTableTable.drop_stream.Goals as goal
 
 rows : (c : goal.After-drop_stream) → rows_in c.drop_stream.new.places.items c.self.inside.window c.self.inside.open.items ≡ map (without_stream c.self.inside.lanes c.args.stream) (rows_in c.self.inside.places.items c.self.inside.window c.self.inside.open.items)
 rows c =
-    changed-open (without_stream c.self.inside.lanes c.args.stream) (content_of c.self.inside) c.self.inside.places.items c.drop_stream.new.places.items c.self.inside.open.items c.deref.result.now
+    changed-open c.numbers_rise.ensures (without_stream c.self.inside.lanes c.args.stream) (content_of c.self.inside) c.self.inside.places.items c.drop_stream.new.places.items c.self.inside.open.items c.deref.result.now
     c.deref.ensures.value c.drop_stream.ensures.items c.self.invariant.size c.self.invariant.placed c.self.invariant.content
 
 pub invariant_of-self : goal.invariant_of-self

@@ -9,7 +9,7 @@ pub invariant_of-self : goal.invariant_of-self
 invariant_of-self c =
     let e : map row_view c.pop_front.new.self.items ≡ drop 1 (map row_view c.self.inside.closed.items) = ap (map row_view) c.pop_front.ensures.rest ∙ sym (drop-map row_view 1 c.self.inside.closed.items) in
     record {
-      content = rw e (keeps-pop (content_of c.self.inside) c.self.invariant.content);
+      content = rw e (keeps-pop c.numbers_rise.ensures (content_of c.self.inside) c.self.invariant.content);
       size = c.self.invariant.size;
       each = c.self.invariant.each;
       placed = c.self.invariant.placed;
@@ -21,4 +21,4 @@ invariant_of-self c =
 pub returns-clause-well_formed : goal.returns-clause-well_formed
 returns-clause-well_formed c =
     let e : map row_view c.pop_front.new.self.items ≡ drop 1 (map row_view c.self.inside.closed.items) = ap (map row_view) c.pop_front.ensures.rest ∙ sym (drop-map row_view 1 c.self.inside.closed.items) in
-    rw e (keeps-pop (content_of c.self.inside) c.self.invariant.content)
+    rw e (keeps-pop c.numbers_rise.ensures (content_of c.self.inside) c.self.invariant.content)

@@ -5,7 +5,6 @@ use Rattle.std.proofs.lemmas.List.{length-map}
 use Rattle.pdc_block.specs.declared.block.Block.{Block}
 use Rattle.pdc_row.specs.Rising.{Rises, is_near}
 use Rattle.pdc_row.specs.RowView.{row_instants, row_view}
-use Rattle.pdc_row.proofs.Rising.{rises_above}
 use Rattle.pdc_table.specs.Content.{HasPlaces, lane_of, streams_of}
 use Rattle.pdc_table.specs.Placing.{row_at, with_row}
 use Rattle.pdc_table.specs.Ring.{content_of}
@@ -43,8 +42,8 @@ returns-then-not-are_near-clause-content c =
 
 pub take-requires-clause-rising : goal.take-requires-clause-rising
 take-requires-clause-rising c =
-    rises_above 0 c.self.inside.last c.self.inside.open.items (omega arith)
-    (near_open (content_of c.self.inside) c.self.inside.places.items c.self.inside.open.items c.self.invariant.placed c.self.invariant.content).0
+    c.numbers_rise.ensures.rises_above 0 c.self.inside.last c.self.inside.open.items (omega arith)
+    (near_open c.numbers_rise.ensures (content_of c.self.inside) c.self.inside.places.items c.self.inside.open.items c.self.invariant.placed c.self.invariant.content).0
 
 pub take-requires-clause-room : goal.take-requires-clause-room
 take-requires-clause-room c n =
@@ -58,7 +57,7 @@ take-requires-clause-room c n =
     met_in c.self.inside.window c.self.inside.last (streams_of (content_of c.self.inside)) c.self.inside.columns c.args.instant c.self.inside.places.items c.self.inside.open.items least c.if-instant-self.false ring
     ∙ ap (λ b. cond b (Some (row_in c.self.inside.places.items c.self.inside.window c.args.instant)) None) (ne_eqb (row_in c.self.inside.places.items c.self.inside.window c.args.instant).instant c.args.instant n) in
     let room : length (rows_in c.self.inside.places.items c.self.inside.window c.self.inside.open.items) < c.self.inside.window =
-    has_room (content_of c.self.inside) c.args.instant c.if-instant-self.false near none c.self.invariant.content in
+    has_room c.numbers_rise.ensures (content_of c.self.inside) c.args.instant c.if-instant-self.false near none c.self.invariant.content in
     omega (arith, c.self.invariant.room, length-map c.self.inside.open.items (row_in c.self.inside.places.items c.self.inside.window))
 
 pub take-requires-clause-columns : goal.take-requires-clause-columns
@@ -85,8 +84,8 @@ into c = record {
   ring = record { size = c.self.invariant.size; each = c.self.invariant.each; placed = c.self.invariant.placed; known = c.self.invariant.known };
   least = omega (arith, c.self.invariant.content.window_least);
   above = c.if-instant-self.false;
-  rising = (near_open (content_of c.self.inside) c.self.inside.places.items c.self.inside.open.items c.self.invariant.placed c.self.invariant.content).0;
-  apart = near_apart c.self.inside.window c.args.instant (row_instants (map row_view c.self.inside.closed.items)) c.self.inside.open.items
+  rising = (near_open c.numbers_rise.ensures (content_of c.self.inside) c.self.inside.places.items c.self.inside.open.items c.self.invariant.placed c.self.invariant.content).0;
+  apart = near_apart c.numbers_rise.ensures c.self.inside.window c.args.instant (row_instants (map row_view c.self.inside.closed.items)) c.self.inside.open.items
       (ap (λ ns. list_all (is_near c.self.inside.window c.args.instant) (row_instants (map row_view c.self.inside.closed.items) ++ ns)) (sym c.deref.ensures.value) ∙ sym c.if-not-are_near.ensures);
   answered = c.take.ensures.answer ∙ ap (λ l. answer_at (met_row c.args.instant (row_in c.self.inside.places.items c.self.inside.window c.args.instant)) c.args.stream l (cells_of c.args.cells.now c.args.quality)) c.lane_of-lane.ensures;
   written = c.take.ensures.places
@@ -106,7 +105,7 @@ rows : (c : goal.After-take) → rows_in c.take.new.places.items c.self.inside.w
     then with_row (with_frame c.args.stream (lane_of (content_of c.self.inside) c.args.stream) (cells_of c.args.cells.now c.args.quality)) (fresh_row (content_of c.self.inside) c.args.instant) (rows_in c.self.inside.places.items c.self.inside.window c.self.inside.open.items)
     else rows_in c.self.inside.places.items c.self.inside.window c.self.inside.open.items)
 rows c =
-    put_rows c.self.inside.window c.self.inside.last (streams_of (content_of c.self.inside)) c.self.inside.columns c.args.instant c.args.stream (lane_of (content_of c.self.inside) c.args.stream) (cells_of c.args.cells.now c.args.quality) c.self.inside.places.items c.self.inside.open.items c.take.result c.take.new.places.items c.take.new.open.items (into c)
+    put_rows c.numbers_rise.ensures c.self.inside.window c.self.inside.last (streams_of (content_of c.self.inside)) c.self.inside.columns c.args.instant c.args.stream (lane_of (content_of c.self.inside) c.args.stream) (cells_of c.args.cells.now c.args.quality) c.self.inside.places.items c.self.inside.open.items c.take.result c.take.new.places.items c.take.new.open.items (into c)
 
 pub returns-clause-answer : goal.returns-clause-answer
 returns-clause-answer c = answered c ∙ ap (λ (t : TableView). put_answer t.content c.args.stream c.args.instant (cells_of c.args.cells.now c.args.quality)) c.self.view_is
@@ -120,14 +119,14 @@ returns-clause-content c =
 
 pub returns-clause-well_formed : goal.returns-clause-well_formed
 returns-clause-well_formed c =
-    rw (rows c) (keeps-offered (content_of c.self.inside) (is_taken c.take.result) c.args.stream (lane_of (content_of c.self.inside) c.args.stream) c.args.instant (cells_of c.args.cells.now c.args.quality) c.if-instant-self.false (near c) c.self.invariant.content)
+    rw (rows c) (keeps-offered c.numbers_rise.ensures (content_of c.self.inside) (is_taken c.take.result) c.args.stream (lane_of (content_of c.self.inside) c.args.stream) c.args.instant (cells_of c.args.cells.now c.args.quality) c.if-instant-self.false (near c) c.self.invariant.content)
 
 pub invariant_of-self : goal.invariant_of-self
 invariant_of-self c =
     let ring : IsRing c.self.inside.window c.self.inside.last (streams_of (content_of c.self.inside)) c.self.inside.columns c.take.new.places.items c.take.new.open.items =
-    put_kept c.self.inside.window c.self.inside.last (streams_of (content_of c.self.inside)) c.self.inside.columns c.args.instant c.args.stream (lane_of (content_of c.self.inside) c.args.stream) (cells_of c.args.cells.now c.args.quality) c.self.inside.places.items c.self.inside.open.items c.take.result c.take.new.places.items c.take.new.open.items (into c) in
+    put_kept c.numbers_rise.ensures c.self.inside.window c.self.inside.last (streams_of (content_of c.self.inside)) c.self.inside.columns c.args.instant c.args.stream (lane_of (content_of c.self.inside) c.args.stream) (cells_of c.args.cells.now c.args.quality) c.self.inside.places.items c.self.inside.open.items c.take.result c.take.new.places.items c.take.new.open.items (into c) in
     record {
-      content = rw (rows c) (keeps-offered (content_of c.self.inside) (is_taken c.take.result) c.args.stream (lane_of (content_of c.self.inside) c.args.stream) c.args.instant (cells_of c.args.cells.now c.args.quality) c.if-instant-self.false (near c) c.self.invariant.content);
+      content = rw (rows c) (keeps-offered c.numbers_rise.ensures (content_of c.self.inside) (is_taken c.take.result) c.args.stream (lane_of (content_of c.self.inside) c.args.stream) c.args.instant (cells_of c.args.cells.now c.args.quality) c.if-instant-self.false (near c) c.self.invariant.content);
       size = ring.size;
       each = ring.each;
       placed = ring.placed;

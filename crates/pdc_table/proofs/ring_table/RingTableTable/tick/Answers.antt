@@ -22,7 +22,7 @@ close_due-requires-clause-size c =
     ap length c.deref-2.ensures.value ∙ ring.size
 
 pub close_due-requires-clause-rising : goal.close_due-requires-clause-rising
-close_due-requires-clause-rising c = (near_open (content_of c.self.inside) c.self.inside.places.items c.self.inside.open.items c.self.invariant.placed c.self.invariant.content).0
+close_due-requires-clause-rising c = (near_open c.numbers_rise.ensures (content_of c.self.inside) c.self.inside.places.items c.self.inside.open.items c.self.invariant.placed c.self.invariant.content).0
 
 pub close_due-requires-clause-placed : goal.close_due-requires-clause-placed
 close_due-requires-clause-placed c =
@@ -33,7 +33,7 @@ close_due-requires-clause-placed c =
 
 pub close_due-requires-clause-room : goal.close_due-requires-clause-room
 close_due-requires-clause-room c =
-    let fit : length (map row_view c.self.inside.closed.items) + length (rows_in c.self.inside.places.items c.self.inside.window c.self.inside.open.items) ≤ c.self.inside.window = held_fit (content_of c.self.inside) c.self.invariant.content in
+    let fit : length (map row_view c.self.inside.closed.items) + length (rows_in c.self.inside.places.items c.self.inside.window c.self.inside.open.items) ≤ c.self.inside.window = held_fit c.numbers_rise.ensures (content_of c.self.inside) c.self.invariant.content in
     let opened : vec_len c.self.inside.open ≡ length c.self.inside.open.items = search rules in
     let closed : deque_len c.self.inside.closed ≡ length c.self.inside.closed.items = search rules in
     omega (arith, c.self.invariant.closed_room, length-map c.self.inside.closed.items row_view, length-map c.self.inside.open.items (row_in c.self.inside.places.items c.self.inside.window))
@@ -42,7 +42,7 @@ close_due-requires-clause-room c =
 rows : (c : goal.After-close_due) → rows_in c.deref-2.result.now c.self.inside.window c.self.inside.open.items ≡ map aged (rows_in c.self.inside.places.items c.self.inside.window c.self.inside.open.items)
 rows c =
     ap (λ ps. rows_in ps c.self.inside.window c.self.inside.open.items) c.deref-2.ensures.value
-    ∙ changed-open aged (content_of c.self.inside) c.self.inside.places.items c.grow_older.new.places.items c.self.inside.open.items c.deref.result.now c.deref.ensures.value c.grow_older.ensures.items c.self.invariant.size c.self.invariant.placed c.self.invariant.content
+    ∙ changed-open c.numbers_rise.ensures aged (content_of c.self.inside) c.self.inside.places.items c.grow_older.new.places.items c.self.inside.open.items c.deref.result.now c.deref.ensures.value c.grow_older.ensures.items c.self.invariant.size c.self.invariant.placed c.self.invariant.content
 
 closes : (c : goal.After-close_due) → closing c.as_slice-required.result.now c.args.rule (rows_in c.deref-2.result.now c.self.inside.window c.self.inside.open.items) ≡ closing_of (content_of c.self.inside) c.args.rule
 closes c =
@@ -65,7 +65,7 @@ content c =
 
 pub overflow_cast-result : goal.overflow_cast-result
 overflow_cast-result c =
-    let few : length (closing_of (content_of c.self.inside) c.args.rule) ≤ c.self.inside.window = closing_few (content_of c.self.inside) c.args.rule c.self.invariant.content in
+    let few : length (closing_of (content_of c.self.inside) c.args.rule) ≤ c.self.inside.window = closing_few c.numbers_rise.ensures (content_of c.self.inside) c.args.rule c.self.invariant.content in
     let is : c.close_due.result ≡ length (closing_of (content_of c.self.inside) c.args.rule) = c.close_due.ensures.answer ∙ ap length (closes c) in
     omega (arith, c.self.invariant.content.window_most)
 
@@ -84,7 +84,7 @@ returns-clause-disagreements c =
     ∙ ap (λ (t : TableView). disagreements_after t.disagreements t.content c.args.rule (layout_view c.args.layout.now)) c.self.view_is
 
 pub returns-clause-well_formed : goal.returns-clause-well_formed
-returns-clause-well_formed c = subst IsContent (sym (content c)) (keeps-tick (content_of c.self.inside) c.args.rule (layout_view c.args.layout.now) c.self.invariant.content)
+returns-clause-well_formed c = subst IsContent (sym (content c)) (keeps-tick c.numbers_rise.ensures (content_of c.self.inside) c.args.rule (layout_view c.args.layout.now) c.self.invariant.content)
 
 pub invariant_of-self : goal.invariant_of-self
 invariant_of-self c =
@@ -92,9 +92,9 @@ invariant_of-self c =
     changed_kept aged (λ r. refl) (content_of c.self.inside) (λ r p. record { taken = p.taken; columns = p.columns }) c.self.inside.places.items c.grow_older.new.places.items c.self.inside.open.items c.deref.result.now c.deref.ensures.value c.grow_older.ensures.items c.self.invariant.content
     (record { size = c.self.invariant.size; each = c.self.invariant.each; placed = c.self.invariant.placed; known = c.self.invariant.known }) in
     let ring : IsRing c.self.inside.window c.close_due.new.last (streams_of (content_of c.self.inside)) c.self.inside.columns c.grow_older.new.places.items c.close_due.new.open.items =
-    rw (c.close_due.ensures.front, c.close_due.ensures.open) (ring_closed c.self.inside.window c.self.inside.last (streams_of (content_of c.self.inside)) c.self.inside.columns c.close_due.result c.grow_older.new.places.items c.self.inside.open.items older) in
+    rw (c.close_due.ensures.front, c.close_due.ensures.open) (ring_closed c.numbers_rise.ensures c.self.inside.window c.self.inside.last (streams_of (content_of c.self.inside)) c.self.inside.columns c.close_due.result c.grow_older.new.places.items c.self.inside.open.items older) in
     record {
-      content = subst IsContent (sym (content c)) (keeps-tick (content_of c.self.inside) c.args.rule (layout_view c.args.layout.now) c.self.invariant.content);
+      content = subst IsContent (sym (content c)) (keeps-tick c.numbers_rise.ensures (content_of c.self.inside) c.args.rule (layout_view c.args.layout.now) c.self.invariant.content);
       size = ring.size;
       each = ring.each;
       placed = ring.placed;

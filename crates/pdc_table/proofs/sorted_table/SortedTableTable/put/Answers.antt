@@ -8,18 +8,17 @@ use Rattle.pdc_table.specs.OpenInstants.{instants_of}
 use Rattle.pdc_table.specs.Steps.{answer_at, is_near_all, is_taken}
 use Rattle.pdc_table.specs.TableView.{TableView}
 use Rattle.pdc_table.specs.Taking.{cells_of}
-use Rattle.pdc_row.proofs.Rising.{rises_above}
 use Rattle.pdc_table.proofs.Blank.{columns_exist}
 use Rattle.pdc_table.proofs.Keeps.{has_room, keeps-offered}
 use Rattle.pdc_table.proofs.sorted_table.SortedTableTable.put.Goals as goal
 
 pub take-requires-clause-rising : goal.take-requires-clause-rising
-take-requires-clause-rising c = rises_above 0 c.self.inside.last (instants_of c.self.inside.rows.items) (omega arith) c.self.invariant.content.open_above
+take-requires-clause-rising c = c.numbers_rise.ensures.rises_above 0 c.self.inside.last (instants_of c.self.inside.rows.items) (omega arith) c.self.invariant.content.open_above
 
 pub take-requires-clause-room : goal.take-requires-clause-room
 take-requires-clause-room c none =
     let near : is_near_all (content_of c.self.inside) c.args.instant ≡ true = rw c.deref.ensures.value at (sym c.if-not-are_near.ensures) in
-    let room : length c.self.inside.rows.items < c.self.inside.window = has_room (content_of c.self.inside) c.args.instant c.if-instant-self.false near none c.self.invariant.content in
+    let room : length c.self.inside.rows.items < c.self.inside.window = has_room c.numbers_rise.ensures (content_of c.self.inside) c.args.instant c.if-instant-self.false near none c.self.invariant.content in
     omega (arith, c.self.invariant.room, room)
 
 pub take-requires-clause-columns : goal.take-requires-clause-columns
@@ -32,7 +31,7 @@ invariant_of-self c =
     let near : is_near_all (content_of c.self.inside) c.args.instant ≡ true = rw c.deref.ensures.value at (sym c.if-not-are_near.ensures) in
     let streams : c.len.result ≡ streams_of (content_of c.self.inside) = c.len.ensures.value ∙ c.self.invariant.content.required_each in
     record {
-      content = rw (c.take.ensures.items, streams) (keeps-offered (content_of c.self.inside) (is_taken (answer_at (row_at c.args.instant c.self.inside.rows.items) c.args.stream c.lane_of-lane.result (cells_of c.args.cells.now c.args.quality))) c.args.stream c.lane_of-lane.result c.args.instant (cells_of c.args.cells.now c.args.quality) c.if-instant-self.false near c.self.invariant.content);
+      content = rw (c.take.ensures.items, streams) (keeps-offered c.numbers_rise.ensures (content_of c.self.inside) (is_taken (answer_at (row_at c.args.instant c.self.inside.rows.items) c.args.stream c.lane_of-lane.result (cells_of c.args.cells.now c.args.quality))) c.args.stream c.lane_of-lane.result c.args.instant (cells_of c.args.cells.now c.args.quality) c.if-instant-self.false near c.self.invariant.content);
       room = omega (arith, c.self.invariant.room, c.take.ensures.capacity);
       closed_room = c.self.invariant.closed_room;
     }
@@ -41,4 +40,4 @@ pub returns-clause-well_formed : goal.returns-clause-well_formed
 returns-clause-well_formed c =
     let near : is_near_all (content_of c.self.inside) c.args.instant ≡ true = rw c.deref.ensures.value at (sym c.if-not-are_near.ensures) in
     let streams : c.len.result ≡ streams_of (content_of c.self.inside) = c.len.ensures.value ∙ c.self.invariant.content.required_each in
-    rw (c.take.ensures.items, streams) (keeps-offered (content_of c.self.inside) (is_taken (answer_at (row_at c.args.instant c.self.inside.rows.items) c.args.stream c.lane_of-lane.result (cells_of c.args.cells.now c.args.quality))) c.args.stream c.lane_of-lane.result c.args.instant (cells_of c.args.cells.now c.args.quality) c.if-instant-self.false near c.self.invariant.content)
+    rw (c.take.ensures.items, streams) (keeps-offered c.numbers_rise.ensures (content_of c.self.inside) (is_taken (answer_at (row_at c.args.instant c.self.inside.rows.items) c.args.stream c.lane_of-lane.result (cells_of c.args.cells.now c.args.quality))) c.args.stream c.lane_of-lane.result c.args.instant (cells_of c.args.cells.now c.args.quality) c.if-instant-self.false near c.self.invariant.content)
