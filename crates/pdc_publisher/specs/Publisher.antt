@@ -1,5 +1,5 @@
 -- What a publisher keeps, and what publishing a row makes of it (this profile).
-use Rattle.std.specs.Prelude.{◌≡◌, ◌⊎◌, ℕ, ◌+◌, ◌<◌, nat_lt, Bool, IsTrue, if◌then◌else◌}
+use Rattle.std.specs.Prelude.{ℕ, ◌+◌, nat_lt, Bool, if◌then◌else◌}
 use Rattle.pdc_mark.specs.declared.mark.Mark.{Ghosts}
 use Rattle.pdc_mark.specs.declared.stored.Stored.{Stored}
 use Rattle.pdc_mark.specs.Stored.{with_floor}

@@ -152,8 +152,9 @@ impl<M: Mark> Publisher<M> {
         // A row that is not published leaves all as it was,
         ensures err { OnErr result ((B.content out.new ≡ B.content out.old)
             × (M.stored (mark_in self.new) ≡ M.stored (mark_in self.old)) × (last_in self.new ≡ last_in self.old)) }
-        // and comes back where memory was wanted.
+        // and comes back where memory was wanted: then the publisher is the one before.
         ensures no_memory { IfErr result (HandsBack (row_view row)) }
+        ensures untouched { IfErr result (λ fault. (IsDevice fault → ⊥) → self.new ≡ self.old) }
         ensures room { length (B.content out.old) + length (wire_of (output_in self.old) (row_view row)) ≤ B.capacity out.old → IfErr result IsDevice }
         ensures in_place { length (B.content out.old) + length (wire_of (output_in self.old) (row_view row)) ≤ B.capacity out.old
             → B.capacity out.new ≡ B.capacity out.old }

@@ -1,5 +1,5 @@
 -- Rising numbers.
-use Rattle.std.proofs.Common.{◌≡◌, ℕ, ◌+◌, ◌-◌, ◌<◌, ◌≤◌, List, [], ◌∷◌, ◌++◌, length, get_or, filter, refl, sym, ◌∙◌, ap, arith, rules, zero, suc, max, Bool, true, false, cond, ltb, eqb, inl, inr, ◌&&◌, Some, nat_lt}
+use Rattle.std.proofs.Common.{◌≡◌, ℕ, ◌+◌, ◌-◌, ◌<◌, ◌≤◌, List, [], ◌∷◌, ◌++◌, length, get_or, filter, refl, sym, ◌∙◌, ap, arith, rules, zero, suc, max, Bool, true, false, cond, ltb, eqb, inl, inr, ◌&&◌, nat_lt}
 use Rattle.std.specs.Int.{abs_diff}
 use Rattle.std.specs.List.{list_all, slice_get}
 use Rattle.std.proofs.lemmas.Bool.{cases_lt, false≢true}

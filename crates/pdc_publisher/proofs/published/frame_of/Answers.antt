@@ -1,5 +1,5 @@
 use Rattle.std.proofs.lemmas.Bool.{false≢true}
-use Rattle.std.proofs.Common.{ℕ, ◌≡◌, ◌+◌, ◌≤◌, ◌++◌, ◌∙◌, List, Result, Ok, Err, IsOk, OnOk, length, refl, ap, arith}
+use Rattle.std.proofs.Common.{ℕ, ◌++◌, ◌∙◌, List, Result, Ok, Err, IsOk, OnOk, length, refl, ap, arith}
 use Rattle.pdc_row.specs.RowView.{row_view}
 use Rattle.pdc_output.specs.Layout.{wire_of}
 use Rattle.pdc_publisher.proofs.published.frame_of.Goals as goal
