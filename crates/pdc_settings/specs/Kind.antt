@@ -22,3 +22,10 @@ IsFaultOf text Toml = parse_document text ≡ None
 IsFaultOf text (Range wanted) = IsSome (parse_document text)
 IsFaultOf text DoubledId = IsSome (parse_document text)
 IsFaultOf text NoMemory = Unit {0}
+
+-- the fault says why a document is no settings
+abbrev pub IsOfDocument : SettingsFault → Type 0
+IsOfDocument Toml = ⊥
+IsOfDocument (Range wanted) = Unit {0}
+IsOfDocument DoubledId = Unit {0}
+IsOfDocument NoMemory = ⊥

@@ -1,23 +1,37 @@
 //! The tables of the PMUs and of the nodes.
-ghost use Rattle.std.specs.Prelude.{◌≡◌, ◌≤◌, IfOk, IfSome, Some, codes};
+ghost use Rattle.std.specs.Prelude.{◌≡◌, ◌≤◌, IfOk, IfSome, None, OnErr, Some, codes};
 ghost use Rattle.toml.specs.Data.{get_member};
-ghost use Rattle.toml.specs.View.{table_view};
+ghost use Rattle.toml.specs.View.{table_view, view};
 ghost use Rattle.pdc_frame.specs.declared.limits.TheConstants.{MAX_ID};
-ghost use Rattle.pdc_settings.specs.Entries.{IsNode, IsPmu, port_in, source_of};
+ghost use Rattle.pdc_settings.specs.Entries.{node_fields, node_in, pmu_fields, pmu_in, port_in, port_of, source_of};
 
 use crate::keys::{number, number_in, value_at};
 use crate::limits::{MAX_PORT, MAX_TIME_BASE};
 use crate::wanted::Wanted;
 use pdc_frame::MAX_ID;
 use pdc_life::{MergedNode, Pmu};
-use toml::Table;
+use toml::{Table, Value};
 
 /// The port of a table, 1 to 65535.
-pub(crate) fn port(table: &Table, wanted: Wanted) -> Result<u16, Wanted>
-    ensures { IfOk result (λ n. port_in (table_view table.now) ≡ Some n) }
+fn port(table: &Table, wanted: Wanted) -> Result<u16, Wanted>
+    ensures value { IfOk result (λ n. port_in (table_view table.now) ≡ Some n) }
+    ensures none { OnErr result (port_in (table_view table.now) ≡ None) }
+    ensures low { IfOk result (λ n. 1 ≤ n) }
 {
     let port = number(table, "port", 1, u64::from(MAX_PORT), wanted)?;
     Ok(port as u16)
+}
+
+/// The port of a table among others.
+pub(crate) fn port_of(value: &Value, wanted: Wanted) -> Result<u16, Wanted>
+    ensures value { IfOk result (λ n. port_of (view value.now) ≡ Some n) }
+    ensures none { OnErr result (port_of (view value.now) ≡ None) }
+    ensures low { IfOk result (λ n. 1 ≤ n) }
+{
+    match value.as_table() {
+        Some(table) => port(table, wanted),
+        None => Err(wanted),
+    }
 }
 
 /// The source of a PMU's table: where it is left out, the stream.
@@ -36,7 +50,8 @@ fn source(table: &Table, stream: u64) -> Option<u64>
 
 /// What a PMU's table says of it.
 pub(crate) fn read_pmu(table: &Table, rate: u16) -> Result<Pmu, Wanted>
-    ensures value { IfOk result (IsPmu rate (table_view table.now)) }
+    ensures value { IfOk result (λ pmu. pmu_in rate (table_view table.now) ≡ Some (pmu_fields pmu)) }
+    ensures none { OnErr result (pmu_in rate (table_view table.now) ≡ None) }
     ensures base { IfOk result (λ pmu. rate ≤ pmu.time_base) }
 {
     let stream = number(table, "stream", 1, u64::from(MAX_ID), Wanted::PmuStream)?;
@@ -60,7 +75,8 @@ pub(crate) fn read_pmu(table: &Table, rate: u16) -> Result<Pmu, Wanted>
 
 /// What a node's table says of it.
 pub(crate) fn read_node(table: &Table, rate: u16) -> Result<MergedNode, Wanted>
-    ensures value { IfOk result (IsNode rate (table_view table.now)) }
+    ensures value { IfOk result (λ node. node_in rate (table_view table.now) ≡ Some (node_fields node)) }
+    ensures none { OnErr result (node_in rate (table_view table.now) ≡ None) }
     ensures base { IfOk result (λ node. rate ≤ node.time_base) }
 {
     let id = number(table, "id", 1, u64::from(MAX_ID), Wanted::NodeId)?;

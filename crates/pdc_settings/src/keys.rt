@@ -1,7 +1,7 @@
 //! The values at the keys of a settings text.
-ghost use Rattle.std.specs.Prelude.{◌≡◌, ◌≤◌, IfSome, IfOk, Some, ok_or, option_map};
-ghost use Rattle.toml.specs.Data.{get_member};
-ghost use Rattle.toml.specs.View.{table_view, view};
+ghost use Rattle.std.specs.Prelude.{◌≡◌, ◌≤◌, IfSome, IfOk, None, OnErr, Some, ok_or, option_and_then, option_map};
+ghost use Rattle.toml.specs.Data.{as_array, get_member};
+ghost use Rattle.toml.specs.View.{items_view, table_view, view};
 ghost use Rattle.pdc_settings.specs.Keys.{in_range, number_at, number_in, number_or_0};
 
 use crate::wanted::Wanted;
@@ -12,6 +12,19 @@ pub(crate) fn value_at<'t>(table: &'t Table, key: &str) -> Option<&'t Value>
     ensures { option_map (λ v. view v.now) result ≡ get_member key.now (table_view table.now) }
 {
     table.get(key)
+}
+
+/// The values of the list at a key.
+pub(crate) fn values_at<'t>(table: &'t Table, key: &str) -> Option<&'t [Value]>
+    ensures { option_map (λ v. items_view v.now) result ≡ option_and_then as_array (get_member key.now (table_view table.now)) }
+{
+    match value_at(table, key) {
+        Some(value) => match value.as_array() {
+            Some(list) => Some(list.as_slice()),
+            None => None,
+        },
+        None => None,
+    }
 }
 
 fn within(n: i64, least: u64, most: u64) -> Option<u64>
@@ -54,6 +67,8 @@ pub(crate) fn number(
     wanted: Wanted,
 ) -> Result<u64, Wanted>
     ensures value { result ≡ ok_or (number_at key.now least most (table_view table.now)) wanted }
+    ensures some { IfOk result (λ n. number_at key.now least most (table_view table.now) ≡ Some n) }
+    ensures none { OnErr result (number_at key.now least most (table_view table.now) ≡ None) }
     ensures low { IfOk result (λ n. least ≤ n) }
     ensures high { IfOk result (λ n. n ≤ most) }
 {

@@ -1,20 +1,21 @@
 //! Reading the settings of the merger.
-ghost use Rattle.std.specs.Prelude.{◌≡◌, ◌<◌, ◌≤◌, ◌∷◌, ◌&&◌, IfOk, IfErr, IfSome, IsSomeAnd, IsTrue, length, nat_le, nat_lt, true};
+ghost use Rattle.std.specs.Prelude.{◌≡◌, ◌<◌, ◌≤◌, ◌∷◌, ◌&&◌, IfOk, IfErr, IfSome, IsSomeAnd, IsTrue, None, OnErr, Some, length, nat_le, nat_lt, true};
 ghost use Rattle.std.specs.List.{list_all};
 ghost use Rattle.toml.specs.Parse.{parse_document};
-ghost use Rattle.toml.specs.View.{table_view};
+ghost use Rattle.toml.specs.View.{items_view, table_view, view};
 ghost use Rattle.pdc_frame.specs.declared.limits.TheConstants.{MAX_ID};
 ghost use Rattle.pdc_life.specs.Distinct.{are_distinct};
 ghost use Rattle.pdc_life.specs.declared.given.TheConstants.{MAX_PMUS};
-ghost use Rattle.pdc_settings.specs.Kind.{IsFaultOf, is_merger};
+ghost use Rattle.pdc_settings.specs.Entries.{each_of, first_node_in, first_port_in, node_fields, node_of, node_tables_in, port_of, second_node_in, second_port_in, source_at, sources_in, two_of};
+ghost use Rattle.pdc_settings.specs.Kind.{IsFaultOf, IsOfDocument, is_merger};
 ghost use Rattle.pdc_settings.specs.Settings.{IsCommon, IsMergerSettings};
 
 use crate::common::{Common, read_common};
 use crate::distinct::{has_id, ids_differ};
 use crate::document::{document, is_merger};
-use crate::entries::{port, read_node};
+use crate::entries::{port_of, read_node};
 use crate::fault::SettingsFault;
-use crate::keys::{number, value_at};
+use crate::keys::{number, values_at};
 use crate::merger::MergerSettings;
 use crate::read_node::pmu_tables;
 use crate::timing::Timing;
@@ -33,61 +34,85 @@ struct Taken {
     port: u16,
 }
 
-/// Reads a table at the key `node`.
+/// Reads what a table at the key `node` says of the node.
+fn read_node_of(value: &Value, rate: u16) -> Result<MergedNode, Wanted>
+    ensures value { IfOk result (λ node. node_of rate (view value.now) ≡ Some (node_fields node)) }
+    ensures none { OnErr result (node_of rate (view value.now) ≡ None) }
+    ensures base { IfOk result (λ node. rate ≤ node.time_base) }
+{
+    match value.as_table() {
+        Some(table) => read_node(table, rate),
+        None => Err(Wanted::Nodes),
+    }
+}
+
+/// Reads a table at the key `node`, with its port.
 fn read_taken(value: &Value, rate: u16) -> Result<Taken, Wanted>
+    ensures node { IfOk result (λ taken. node_of rate (view value.now) ≡ Some (node_fields taken.node)) }
+    ensures port { IfOk result (λ taken. port_of (view value.now) ≡ Some taken.port) }
+    ensures low { IfOk result (λ taken. 1 ≤ taken.port) }
     ensures base { IfOk result (λ taken. rate ≤ taken.node.time_base) }
 {
-    let Some(table) = value.as_table() else {
+    let node = read_node_of(value, rate)?;
+    let port = port_of(value, Wanted::NodePort)?;
+    Ok(Taken { node, port })
+}
+
+/// The two tables at the key `node`.
+fn node_tables(table: &Table) -> Result<&[Value], Wanted>
+    ensures value { IfOk result (λ values. node_tables_in (table_view table.now) ≡ two_of (items_view values.now)) }
+    ensures none { OnErr result (node_tables_in (table_view table.now) ≡ None) }
+    ensures two { IfOk result (λ values. length values.now ≡ 2) }
+{
+    let Some(values) = values_at(table, "node") else {
         return Err(Wanted::Nodes);
     };
-    let node = read_node(table, rate)?;
-    let port = port(table, Wanted::NodePort)?;
-    Ok(Taken { node, port })
+    if values.len() != 2 {
+        return Err(Wanted::Nodes);
+    }
+    Ok(values)
 }
 
 /// Reads the two tables at the key `node`: node A and then node B.
 fn read_nodes(table: &Table, rate: u16) -> Result<(Taken, Taken), Wanted>
+    ensures first_node { IfOk result (λ nodes. first_node_in rate (table_view table.now) ≡ Some (node_fields nodes.0.node)) }
+    ensures second_node { IfOk result (λ nodes. second_node_in rate (table_view table.now) ≡ Some (node_fields nodes.1.node)) }
+    ensures first_port { IfOk result (λ nodes. first_port_in (table_view table.now) ≡ Some nodes.0.port) }
+    ensures second_port { IfOk result (λ nodes. second_port_in (table_view table.now) ≡ Some nodes.1.port) }
     ensures first { IfOk result (λ nodes. rate ≤ nodes.0.node.time_base) }
     ensures second { IfOk result (λ nodes. rate ≤ nodes.1.node.time_base) }
 {
-    let Some(value) = value_at(table, "node") else {
-        return Err(Wanted::Nodes);
-    };
-    let Some(list) = value.as_array() else {
-        return Err(Wanted::Nodes);
-    };
-    let values = list.as_slice();
-    if values.len() != 2 {
-        return Err(Wanted::Nodes);
-    }
+    let values = node_tables(table)?;
     let first = read_taken(&values[0], rate)?;
     let second = read_taken(&values[1], rate)?;
     Ok((first, second))
 }
 
-/// Whether each is the id of a stream, 1 to 65534.
-fn are_ids(ids: &[u16]) -> bool
-    ensures { result ≡ list_all (λ id. nat_lt 0 id && nat_le id MAX_ID) ids.now }
+/// Reads the source of a PMU at the key `pmu`.
+fn read_source(value: &Value) -> Result<u16, Wanted>
+    ensures value { IfOk result (λ source. source_at (view value.now) ≡ Some source) }
+    ensures none { OnErr result (source_at (view value.now) ≡ None) }
+    ensures low { IfOk result (λ source. 1 ≤ source) }
+    ensures is_id { IfOk result (λ source. IsTrue (nat_lt 0 source && nat_le source MAX_ID)) }
 {
-    ids.iter().all(|id| 0 < *id && *id <= MAX_ID)
+    let Some(table) = value.as_table() else {
+        return Err(Wanted::Pmus);
+    };
+    let source = number(table, "source", 1, u64::from(MAX_ID), Wanted::PmuSource)?;
+    Ok(source as u16)
 }
 
 /// Reads the sources of the PMUs, in their order.
 fn read_sources(values: &[Value]) -> Result<ArrayVec<u16, MAX_PMUS>, Wanted>
     requires few { length values.now ≤ MAX_PMUS }
+    ensures value { IfOk result (λ sources. each_of source_at (items_view values.now) ≡ Some sources.items) }
+    ensures none { OnErr result (each_of source_at (items_view values.now) ≡ None) }
     ensures ids { IfOk result (λ sources. IsTrue (list_all (λ id. nat_lt 0 id && nat_le id MAX_ID) sources.items)) }
     ensures len { IfOk result (λ sources. length sources.items ≡ length values.now) }
 {
     let mut sources = ArrayVec::new();
     for value in values {
-        let Some(table) = value.as_table() else {
-            return Err(Wanted::Pmus);
-        };
-        let source = number(table, "source", 1, u64::from(MAX_ID), Wanted::PmuSource)?;
-        sources.push(source as u16);
-    }
-    if !are_ids(&sources) {
-        return Err(Wanted::PmuSource);
+        sources.push(read_source(value)?);
     }
     Ok(sources)
 }
@@ -96,6 +121,11 @@ fn read_sources(values: &[Value]) -> Result<ArrayVec<u16, MAX_PMUS>, Wanted>
 fn read_parts(table: &Table) -> Result<(Common, Taken, Taken, ArrayVec<u16, MAX_PMUS>), Wanted>
     ensures kind { IfOk result (λ parts. is_merger (table_view table.now) ≡ true) }
     ensures common { IfOk result (λ parts. IsCommon (table_view table.now) parts.0) }
+    ensures first_node { IfOk result (λ parts. first_node_in parts.0.output.rate (table_view table.now) ≡ Some (node_fields parts.1.node)) }
+    ensures second_node { IfOk result (λ parts. second_node_in parts.0.output.rate (table_view table.now) ≡ Some (node_fields parts.2.node)) }
+    ensures first_port { IfOk result (λ parts. first_port_in (table_view table.now) ≡ Some parts.1.port) }
+    ensures second_port { IfOk result (λ parts. second_port_in (table_view table.now) ≡ Some parts.2.port) }
+    ensures sources { IfOk result (λ parts. sources_in (table_view table.now) ≡ Some parts.3.items) }
     ensures first { IfOk result (λ parts. parts.0.output.rate ≤ parts.1.node.time_base) }
     ensures second { IfOk result (λ parts. parts.0.output.rate ≤ parts.2.node.time_base) }
     ensures some { IfOk result (λ parts. 1 ≤ length parts.3.items) }
@@ -161,6 +191,28 @@ fn life_of(
     })
 }
 
+/// What the merger's document says, where it says settings.
+fn read_settings(table: &Table) -> Result<MergerSettings, SettingsFault>
+    ensures value { IfOk result (IsMergerSettings (table_view table.now)) }
+    ensures fault { IfErr result IsOfDocument }
+{
+    match read_parts(table) {
+        Ok((common, first, second, sources)) => {
+            let (output, timing) = (common.output, common.timing);
+            let Some(life) = life_of(output, timing, first.node, second.node, sources) else {
+                return Err(SettingsFault::DoubledId);
+            };
+            Ok(MergerSettings {
+                life,
+                service: common.service,
+                first_port: first.port,
+                second_port: second.port,
+            })
+        }
+        Err(wanted) => Err(SettingsFault::Range(wanted)),
+    }
+}
+
 impl MergerSettings {
     /// Reads the settings of the merger out of a text of TOML.
     pub fn from_toml(alloc: Global, text: &str) -> Result<MergerSettings, SettingsFault>
@@ -168,20 +220,6 @@ impl MergerSettings {
         ensures fault { IfErr result (IsFaultOf text.now) }
     {
         let table = document(alloc, text)?;
-        match read_parts(&table) {
-            Ok((common, first, second, sources)) => {
-                let (output, timing) = (common.output, common.timing);
-                let Some(life) = life_of(output, timing, first.node, second.node, sources) else {
-                    return Err(SettingsFault::DoubledId);
-                };
-                Ok(MergerSettings {
-                    life,
-                    service: common.service,
-                    first_port: first.port,
-                    second_port: second.port,
-                })
-            }
-            Err(wanted) => Err(SettingsFault::Range(wanted)),
-        }
+        read_settings(&table)
     }
 }

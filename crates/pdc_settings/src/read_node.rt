@@ -1,20 +1,21 @@
 //! Reading the settings of a node.
-ghost use Rattle.std.specs.Prelude.{◌≡◌, ◌≤◌, ◌∷◌, IfOk, IfErr, IfSome, IsSomeAnd, IsTrue, false, length, map, nat_le};
+ghost use Rattle.std.specs.Prelude.{◌≡◌, ◌≤◌, ◌∷◌, ◌&&◌, IfOk, IfErr, IfSome, IsSomeAnd, IsTrue, None, OnErr, Some, false, length, map, nat_le};
 ghost use Rattle.std.specs.List.{list_all};
 ghost use Rattle.toml.specs.Parse.{parse_document};
-ghost use Rattle.toml.specs.View.{table_view};
+ghost use Rattle.toml.specs.View.{items_view, table_view, view};
 ghost use Rattle.pdc_life.specs.declared.given.TheConstants.{MAX_PMUS};
 ghost use Rattle.pdc_life.specs.declared.pmu.Pmu.{Pmu as PmuData};
-ghost use Rattle.pdc_settings.specs.Kind.{IsFaultOf, is_merger};
+ghost use Rattle.pdc_settings.specs.Entries.{each_of, pmu_fields, pmu_of, pmu_tables_in, pmus_in, port_of, ports_in};
+ghost use Rattle.pdc_settings.specs.Kind.{IsFaultOf, IsOfDocument, is_merger};
 ghost use Rattle.pdc_settings.specs.Settings.{IsCommon, IsNodeSettings};
 ghost use Rattle.pdc_life.specs.Distinct.{are_distinct};
 
 use crate::common::{Common, read_common};
 use crate::distinct::{has_source, has_stream, sources_differ, streams_differ};
 use crate::document::{document, is_merger};
-use crate::entries::{port, read_pmu};
+use crate::entries::{port_of, read_pmu};
 use crate::fault::SettingsFault;
-use crate::keys::value_at;
+use crate::keys::values_at;
 use crate::node::NodeSettings;
 use crate::timing::Timing;
 use crate::wanted::Wanted;
@@ -24,46 +25,52 @@ use pdc_output::Output;
 use std::alloc::Global;
 use toml::{Table, Value};
 
+/// Whether there are 1 to 16 of them.
+fn are_some(values: &[Value]) -> bool
+    ensures { result ≡ (nat_le 1 (length values.now) && nat_le (length values.now) MAX_PMUS) }
+{
+    1 <= values.len() && values.len() <= MAX_PMUS
+}
+
 /// The tables at the key `pmu`, 1 to 16 of them.
 pub(crate) fn pmu_tables(table: &Table) -> Result<&[Value], Wanted>
+    ensures value { IfOk result (λ values. pmu_tables_in (table_view table.now) ≡ Some (items_view values.now)) }
+    ensures none { OnErr result (pmu_tables_in (table_view table.now) ≡ None) }
     ensures some { IfOk result (λ values. 1 ≤ length values.now) }
     ensures few { IfOk result (λ values. length values.now ≤ MAX_PMUS) }
 {
-    let Some(value) = value_at(table, "pmu") else {
+    let Some(values) = values_at(table, "pmu") else {
         return Err(Wanted::Pmus);
     };
-    let Some(list) = value.as_array() else {
-        return Err(Wanted::Pmus);
-    };
-    let values = list.as_slice();
-    if values.is_empty() || values.len() > MAX_PMUS {
+    if !are_some(values) {
         return Err(Wanted::Pmus);
     }
     Ok(values)
 }
 
-/// Whether each TIME_BASE is at least the rate.
-fn bases_reach(pmus: &[Pmu], rate: u16) -> bool
-    ensures { result ≡ list_all (λ (pmu : PmuData). nat_le rate pmu.time_base) pmus.now }
+/// Reads a PMU at the key `pmu`.
+fn read_pmu_of(value: &Value, rate: u16) -> Result<Pmu, Wanted>
+    ensures value { IfOk result (λ pmu. pmu_of rate (view value.now) ≡ Some (pmu_fields pmu)) }
+    ensures none { OnErr result (pmu_of rate (view value.now) ≡ None) }
+    ensures base { IfOk result (λ pmu. IsTrue (nat_le rate pmu.time_base)) }
 {
-    pmus.iter().all(|pmu| u32::from(rate) <= pmu.time_base)
+    match value.as_table() {
+        Some(table) => read_pmu(table, rate),
+        None => Err(Wanted::Pmus),
+    }
 }
 
 /// Reads the PMUs, in their order.
 fn read_pmus(values: &[Value], rate: u16) -> Result<ArrayVec<Pmu, MAX_PMUS>, Wanted>
     requires few { length values.now ≤ MAX_PMUS }
+    ensures value { IfOk result (λ pmus. each_of (pmu_of rate) (items_view values.now) ≡ Some (map pmu_fields pmus.items)) }
+    ensures none { OnErr result (each_of (pmu_of rate) (items_view values.now) ≡ None) }
     ensures bases { IfOk result (λ pmus. IsTrue (list_all (λ (pmu : PmuData). nat_le rate pmu.time_base) pmus.items)) }
     ensures len { IfOk result (λ pmus. length pmus.items ≡ length values.now) }
 {
     let mut pmus = ArrayVec::new();
     for value in values {
-        let Some(table) = value.as_table() else {
-            return Err(Wanted::Pmus);
-        };
-        pmus.push(read_pmu(table, rate)?);
-    }
-    if !bases_reach(&pmus, rate) {
-        return Err(Wanted::PmuTimeBase);
+        pmus.push(read_pmu_of(value, rate)?);
     }
     Ok(pmus)
 }
@@ -71,14 +78,13 @@ fn read_pmus(values: &[Value], rate: u16) -> Result<ArrayVec<Pmu, MAX_PMUS>, Wan
 /// Reads the ports of the PMUs, in their order.
 fn read_ports(values: &[Value]) -> Result<ArrayVec<u16, MAX_PMUS>, Wanted>
     requires few { length values.now ≤ MAX_PMUS }
+    ensures value { IfOk result (λ ports. each_of port_of (items_view values.now) ≡ Some ports.items) }
+    ensures none { OnErr result (each_of port_of (items_view values.now) ≡ None) }
     ensures len { IfOk result (λ ports. length ports.items ≡ length values.now) }
 {
     let mut ports = ArrayVec::new();
     for value in values {
-        let Some(table) = value.as_table() else {
-            return Err(Wanted::Pmus);
-        };
-        ports.push(port(table, Wanted::PmuPort)?);
+        ports.push(port_of(value, Wanted::PmuPort)?);
     }
     Ok(ports)
 }
@@ -89,6 +95,8 @@ fn read_parts(
 ) -> Result<(Common, ArrayVec<Pmu, MAX_PMUS>, ArrayVec<u16, MAX_PMUS>), Wanted>
     ensures kind { IfOk result (λ parts. is_merger (table_view table.now) ≡ false) }
     ensures common { IfOk result (λ parts. IsCommon (table_view table.now) parts.0) }
+    ensures pmus { IfOk result (λ parts. pmus_in parts.0.output.rate (table_view table.now) ≡ Some (map pmu_fields parts.1.items)) }
+    ensures each_port { IfOk result (λ parts. ports_in (table_view table.now) ≡ Some parts.2.items) }
     ensures some { IfOk result (λ parts. 1 ≤ length parts.1.items) }
     ensures bases { IfOk result (λ parts. IsTrue (list_all (λ (pmu : PmuData). nat_le parts.0.output.rate pmu.time_base) parts.1.items)) }
     ensures ports { IfOk result (λ parts. length parts.2.items ≡ length parts.1.items) }
@@ -139,6 +147,26 @@ fn life_of(output: Output, timing: Timing, pmus: ArrayVec<Pmu, MAX_PMUS>) -> Opt
     })
 }
 
+/// What a node's document says, where it says settings.
+fn read_settings(table: &Table) -> Result<NodeSettings, SettingsFault>
+    ensures value { IfOk result (IsNodeSettings (table_view table.now)) }
+    ensures fault { IfErr result IsOfDocument }
+{
+    match read_parts(table) {
+        Ok((common, pmus, ports)) => {
+            let Some(life) = life_of(common.output, common.timing, pmus) else {
+                return Err(SettingsFault::DoubledId);
+            };
+            Ok(NodeSettings {
+                life,
+                service: common.service,
+                ports,
+            })
+        }
+        Err(wanted) => Err(SettingsFault::Range(wanted)),
+    }
+}
+
 impl NodeSettings {
     /// Reads the settings of a node out of a text of TOML.
     pub fn from_toml(alloc: Global, text: &str) -> Result<NodeSettings, SettingsFault>
@@ -146,18 +174,6 @@ impl NodeSettings {
         ensures fault { IfErr result (IsFaultOf text.now) }
     {
         let table = document(alloc, text)?;
-        match read_parts(&table) {
-            Ok((common, pmus, ports)) => {
-                let Some(life) = life_of(common.output, common.timing, pmus) else {
-                    return Err(SettingsFault::DoubledId);
-                };
-                Ok(NodeSettings {
-                    life,
-                    service: common.service,
-                    ports,
-                })
-            }
-            Err(wanted) => Err(SettingsFault::Range(wanted)),
-        }
+        read_settings(&table)
     }
 }
