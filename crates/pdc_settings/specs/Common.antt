@@ -1,5 +1,5 @@
 -- What a node and the merger are told alike, key by key (this profile).
-use Rattle.std.specs.Prelude.{◌≡◌, ℕ, List, codes, nat_eq, if◌then◌else◌, Option, Some, None, option_and_then}
+use Rattle.std.specs.Prelude.{◌≡◌, ℕ, Bool, ◌&&◌, List, codes, nat_eq, if◌then◌else◌, Option, Some, None, is_some, option_and_then}
 use Rattle.std.specs.Cmp.Lexicographic.{pointwise}
 use Rattle.toml.specs.Data.{Data, Members, as_str, get_member}
 use Rattle.pdc_frame.specs.declared.limits.TheConstants.{MAX_ID}
@@ -65,3 +65,21 @@ pub record IsService (members : Members) (service : Service) : Type 0 where
   pub layout_every : number_at (codes "layout_every") 1 MAX_PORT members ≡ Some service.layout_every
   pub out_port : number_at (codes "out_port") 1 MAX_PORT members ≡ Some service.out_port
   pub session_port : number_at (codes "session_port") 1 MAX_PORT members ≡ Some service.session_port
+
+-- each of these keys is there, and in its range
+abbrev pub has_output : Members → Bool
+has_output members =
+    is_some (id_in members) && (is_some (rate_in members) && (is_some (nominal_in members) && is_some (option_and_then (λ rate. time_base_in rate members) (rate_in members))))
+
+abbrev pub has_timing : Members → Bool
+has_timing members =
+    is_some (number_at (codes "wait") 1 MAX_WAIT members) && (is_some (wait_kind_in members)
+    && (is_some (number_at (codes "window") MIN_WINDOW MAX_WINDOW members) && is_some (number_at (codes "ahead") 0 MAX_AHEAD members)))
+
+abbrev pub has_service : Members → Bool
+has_service members =
+    is_some (number_or_0 MAX_LEAD (get_member (codes "lead") members)) && (is_some (number_at (codes "layout_every") 1 MAX_PORT members)
+    && (is_some (number_at (codes "out_port") 1 MAX_PORT members) && is_some (number_at (codes "session_port") 1 MAX_PORT members)))
+
+abbrev pub has_common : Members → Bool
+has_common members = has_output members && (has_timing members && has_service members)

@@ -1,5 +1,5 @@
 -- Whose settings a text is.
-use Rattle.std.specs.Prelude.{◌≡◌, ℕ, List, Bool, IsSome, None, codes, is_some}
+use Rattle.std.specs.Prelude.{◌≡◌, ℕ, List, Bool, None, codes, is_some}
 use Rattle.toml.specs.Data.{Members, get_member}
 use Rattle.toml.specs.Parse.{parse_document}
 use Rattle.pdc_settings.specs.declared.fault.SettingsFault.{SettingsFault}
@@ -15,17 +15,3 @@ IsNoDocument text Toml = parse_document text ≡ None
 IsNoDocument text (Range wanted) = ⊥
 IsNoDocument text DoubledId = ⊥
 IsNoDocument text NoMemory = Unit {0}
-
--- the fault is the first of its kinds: no document, or a document that is no settings
-abbrev pub IsFaultOf : List ℕ → SettingsFault → Type 0
-IsFaultOf text Toml = parse_document text ≡ None
-IsFaultOf text (Range wanted) = IsSome (parse_document text)
-IsFaultOf text DoubledId = IsSome (parse_document text)
-IsFaultOf text NoMemory = Unit {0}
-
--- the fault says why a document is no settings
-abbrev pub IsOfDocument : SettingsFault → Type 0
-IsOfDocument Toml = ⊥
-IsOfDocument (Range wanted) = Unit {0}
-IsOfDocument DoubledId = Unit {0}
-IsOfDocument NoMemory = ⊥

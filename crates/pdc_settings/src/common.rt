@@ -1,7 +1,7 @@
 //! What a node and the merger are told alike.
-ghost use Rattle.std.specs.Prelude.{◌≡◌, ◌≤◌, IfOk, ok_or};
+ghost use Rattle.std.specs.Prelude.{◌≡◌, ◌≤◌, IfOk, None, OnErr, OnOk, Some, false, true};
 ghost use Rattle.toml.specs.View.{table_view};
-ghost use Rattle.pdc_settings.specs.Common.{IsOutput, IsService, IsTiming, nominal_in, nominal_of, wait_kind_in, wait_kind_named};
+ghost use Rattle.pdc_settings.specs.Common.{IsOutput, IsService, IsTiming, has_common, has_output, has_service, has_timing, nominal_in, nominal_of, wait_kind_in, wait_kind_named};
 ghost use Rattle.pdc_settings.specs.Settings.{IsCommon};
 
 use crate::keys::{number, number_or_0, value_at};
@@ -27,7 +27,8 @@ fn nominal_of(hertz: u64) -> Option<Nominal>
 }
 
 fn nominal(table: &Table) -> Result<Nominal, Wanted>
-    ensures { result ≡ ok_or (nominal_in (table_view table.now)) Wanted.Nominal }
+    ensures some { IfOk result (λ n. nominal_in (table_view table.now) ≡ Some n) }
+    ensures none { OnErr result (nominal_in (table_view table.now) ≡ None) }
 {
     let hertz = number(table, "nominal", 50, 60, Wanted::Nominal)?;
     match nominal_of(hertz) {
@@ -63,7 +64,9 @@ fn wait_kind(table: &Table) -> Option<WaitKind>
 
 /// What the frames say that it publishes.
 fn output(table: &Table) -> Result<Output, Wanted>
-    ensures { IfOk result (IsOutput (table_view table.now)) }
+    ensures value { IfOk result (IsOutput (table_view table.now)) }
+    ensures some { OnOk result (has_output (table_view table.now) ≡ true) }
+    ensures none { OnErr result (has_output (table_view table.now) ≡ false) }
 {
     let id = number(table, "id", 1, u64::from(MAX_ID), Wanted::Id)?;
     let rate = number(table, "rate", 1, u64::from(MAX_RATE), Wanted::Rate)?;
@@ -80,7 +83,9 @@ fn output(table: &Table) -> Result<Output, Wanted>
 
 /// How long instants are held.
 fn timing(table: &Table) -> Result<Timing, Wanted>
-    ensures { IfOk result (IsTiming (table_view table.now)) }
+    ensures value { IfOk result (IsTiming (table_view table.now)) }
+    ensures some { OnOk result (has_timing (table_view table.now) ≡ true) }
+    ensures none { OnErr result (has_timing (table_view table.now) ≡ false) }
 {
     let wait = number(table, "wait", 1, MAX_WAIT, Wanted::Wait)?;
     let Some(wait_kind) = wait_kind(table) else {
@@ -98,7 +103,9 @@ fn timing(table: &Table) -> Result<Timing, Wanted>
 
 /// What the running program does with the rows and frames.
 fn service(table: &Table) -> Result<Service, Wanted>
-    ensures { IfOk result (IsService (table_view table.now)) }
+    ensures value { IfOk result (IsService (table_view table.now)) }
+    ensures some { OnOk result (has_service (table_view table.now) ≡ true) }
+    ensures none { OnErr result (has_service (table_view table.now) ≡ false) }
 {
     let most = u64::from(MAX_PORT);
     let Some(lead) = number_or_0(table, "lead", u64::from(MAX_LEAD)) else {
@@ -125,7 +132,9 @@ pub(crate) struct Common {
 
 /// What a node and the merger are told alike.
 pub(crate) fn read_common(table: &Table) -> Result<Common, Wanted>
-    ensures { IfOk result (IsCommon (table_view table.now)) }
+    ensures value { IfOk result (IsCommon (table_view table.now)) }
+    ensures some { OnOk result (has_common (table_view table.now) ≡ true) }
+    ensures none { OnErr result (has_common (table_view table.now) ≡ false) }
 {
     let output = output(table)?;
     let timing = timing(table)?;

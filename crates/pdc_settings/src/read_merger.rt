@@ -1,5 +1,5 @@
 //! Reading the settings of the merger.
-ghost use Rattle.std.specs.Prelude.{◌≡◌, ◌<◌, ◌≤◌, ◌∷◌, ◌&&◌, IfOk, IfErr, IfSome, IsSomeAnd, IsTrue, None, OnErr, Some, length, nat_le, nat_lt, true};
+ghost use Rattle.std.specs.Prelude.{◌≡◌, ◌<◌, ◌≤◌, ◌∷◌, ◌&&◌, IfOk, IfErr, IfSome, IsSomeAnd, IsTrue, None, is_some, OnErr, OnOk, Some, false, length, nat_le, nat_lt, true};
 ghost use Rattle.std.specs.List.{list_all};
 ghost use Rattle.toml.specs.Parse.{parse_document};
 ghost use Rattle.toml.specs.View.{items_view, table_view, view};
@@ -7,8 +7,8 @@ ghost use Rattle.pdc_frame.specs.declared.limits.TheConstants.{MAX_ID};
 ghost use Rattle.pdc_life.specs.Distinct.{are_distinct};
 ghost use Rattle.pdc_life.specs.declared.given.TheConstants.{MAX_PMUS};
 ghost use Rattle.pdc_settings.specs.Entries.{each_of, first_node_in, first_port_in, node_fields, node_of, node_tables_in, port_of, second_node_in, second_port_in, source_at, sources_in, two_of};
-ghost use Rattle.pdc_settings.specs.Kind.{IsFaultOf, IsOfDocument, is_merger};
-ghost use Rattle.pdc_settings.specs.Settings.{IsCommon, IsMergerSettings};
+ghost use Rattle.pdc_settings.specs.Kind.{is_merger};
+ghost use Rattle.pdc_settings.specs.Settings.{IsCommon, IsFaultOf, IsMergerFault, IsMergerSettings, are_merger_ids, has_merger_keys};
 
 use crate::common::{Common, read_common};
 use crate::distinct::{has_id, ids_differ};
@@ -48,6 +48,7 @@ fn read_node_of(value: &Value, rate: u16) -> Result<MergedNode, Wanted>
 
 /// Reads a table at the key `node`, with its port.
 fn read_taken(value: &Value, rate: u16) -> Result<Taken, Wanted>
+    ensures none { OnErr result ((is_some (node_of rate (view value.now)) && is_some (port_of (view value.now))) ≡ false) }
     ensures node { IfOk result (λ taken. node_of rate (view value.now) ≡ Some (node_fields taken.node)) }
     ensures port { IfOk result (λ taken. port_of (view value.now) ≡ Some taken.port) }
     ensures low { IfOk result (λ taken. 1 ≤ taken.port) }
@@ -75,6 +76,8 @@ fn node_tables(table: &Table) -> Result<&[Value], Wanted>
 
 /// Reads the two tables at the key `node`: node A and then node B.
 fn read_nodes(table: &Table, rate: u16) -> Result<(Taken, Taken), Wanted>
+    ensures none { OnErr result (((is_some (first_node_in rate (table_view table.now)) && is_some (first_port_in (table_view table.now)))
+        && (is_some (second_node_in rate (table_view table.now)) && is_some (second_port_in (table_view table.now)))) ≡ false) }
     ensures first_node { IfOk result (λ nodes. first_node_in rate (table_view table.now) ≡ Some (node_fields nodes.0.node)) }
     ensures second_node { IfOk result (λ nodes. second_node_in rate (table_view table.now) ≡ Some (node_fields nodes.1.node)) }
     ensures first_port { IfOk result (λ nodes. first_port_in (table_view table.now) ≡ Some nodes.0.port) }
@@ -119,6 +122,8 @@ fn read_sources(values: &[Value]) -> Result<ArrayVec<u16, MAX_PMUS>, Wanted>
 
 /// What the tables and keys of the merger's document say, each in its range.
 fn read_parts(table: &Table) -> Result<(Common, Taken, Taken, ArrayVec<u16, MAX_PMUS>), Wanted>
+    ensures whole { OnOk result (has_merger_keys (table_view table.now) ≡ true) }
+    ensures lacks { OnErr result (has_merger_keys (table_view table.now) ≡ false) }
     ensures kind { IfOk result (λ parts. is_merger (table_view table.now) ≡ true) }
     ensures common { IfOk result (λ parts. IsCommon (table_view table.now) parts.0) }
     ensures first_node { IfOk result (λ parts. first_node_in parts.0.output.rate (table_view table.now) ≡ Some (node_fields parts.1.node)) }
@@ -143,14 +148,14 @@ fn read_parts(table: &Table) -> Result<(Common, Taken, Taken, ArrayVec<u16, MAX_
 
 /// Whether these ids differ from one another, and from the id.
 fn is_apart(ids: &[u16], id: u16) -> bool
-    ensures { IsTrue result → IsTrue (are_distinct (id ∷ ids.now)) }
+    ensures { result ≡ are_distinct (id ∷ ids.now) }
 {
     ids_differ(ids) && !has_id(ids, id)
 }
 
 /// Whether the two differ and none of the sources is one of them.
 fn are_apart(first: u16, second: u16, sources: &[u16]) -> bool
-    ensures { IsTrue result → IsTrue (are_distinct (first ∷ second ∷ sources.now)) }
+    ensures { result ≡ are_distinct (first ∷ second ∷ sources.now) }
 {
     first != second && is_apart(sources, second) && !has_id(sources, first)
 }
@@ -167,6 +172,7 @@ fn life_of(
     requires ids { IsTrue (list_all (λ id. nat_lt 0 id && nat_le id MAX_ID) sources.items) }
     requires first_base { output.rate ≤ first.time_base }
     requires second_base { output.rate ≤ second.time_base }
+    ensures doubled { result ≡ None → are_merger_ids output.id first.id second.id sources.items ≡ false }
     ensures output { IfSome result (λ life. life.output ≡ output) }
     ensures wait { IfSome result (λ life. life.wait ≡ timing.wait) }
     ensures wait_kind { IfSome result (λ life. life.wait_kind ≡ timing.wait_kind) }
@@ -194,7 +200,7 @@ fn life_of(
 /// What the merger's document says, where it says settings.
 fn read_settings(table: &Table) -> Result<MergerSettings, SettingsFault>
     ensures value { IfOk result (IsMergerSettings (table_view table.now)) }
-    ensures fault { IfErr result IsOfDocument }
+    ensures fault { IfErr result (IsMergerFault (table_view table.now)) }
 {
     match read_parts(table) {
         Ok((common, first, second, sources)) => {
@@ -217,7 +223,7 @@ impl MergerSettings {
     /// Reads the settings of the merger out of a text of TOML.
     pub fn from_toml(alloc: Global, text: &str) -> Result<MergerSettings, SettingsFault>
         ensures value { IfOk result (λ settings. IsSomeAnd (parse_document text.now) (λ members. IsMergerSettings members settings)) }
-        ensures fault { IfErr result (IsFaultOf text.now) }
+        ensures fault { IfErr result (IsFaultOf IsMergerFault text.now) }
     {
         let table = document(alloc, text)?;
         read_settings(&table)

@@ -1,13 +1,13 @@
 //! Reading the settings of a node.
-ghost use Rattle.std.specs.Prelude.{◌≡◌, ◌≤◌, ◌∷◌, ◌&&◌, IfOk, IfErr, IfSome, IsSomeAnd, IsTrue, None, OnErr, Some, false, length, map, nat_le};
+ghost use Rattle.std.specs.Prelude.{◌≡◌, ◌≤◌, ◌∷◌, ◌&&◌, IfOk, IfErr, IfSome, IsSomeAnd, IsTrue, None, OnErr, OnOk, Some, false, true, length, map, nat_le};
 ghost use Rattle.std.specs.List.{list_all};
 ghost use Rattle.toml.specs.Parse.{parse_document};
 ghost use Rattle.toml.specs.View.{items_view, table_view, view};
 ghost use Rattle.pdc_life.specs.declared.given.TheConstants.{MAX_PMUS};
 ghost use Rattle.pdc_life.specs.declared.pmu.Pmu.{Pmu as PmuData};
 ghost use Rattle.pdc_settings.specs.Entries.{each_of, pmu_fields, pmu_of, pmu_tables_in, pmus_in, port_of, ports_in};
-ghost use Rattle.pdc_settings.specs.Kind.{IsFaultOf, IsOfDocument, is_merger};
-ghost use Rattle.pdc_settings.specs.Settings.{IsCommon, IsNodeSettings};
+ghost use Rattle.pdc_settings.specs.Kind.{is_merger};
+ghost use Rattle.pdc_settings.specs.Settings.{IsCommon, IsFaultOf, IsNodeFault, IsNodeSettings, are_node_ids, has_node_keys};
 ghost use Rattle.pdc_life.specs.Distinct.{are_distinct};
 
 use crate::common::{Common, read_common};
@@ -93,6 +93,8 @@ fn read_ports(values: &[Value]) -> Result<ArrayVec<u16, MAX_PMUS>, Wanted>
 fn read_parts(
     table: &Table,
 ) -> Result<(Common, ArrayVec<Pmu, MAX_PMUS>, ArrayVec<u16, MAX_PMUS>), Wanted>
+    ensures whole { OnOk result (has_node_keys (table_view table.now) ≡ true) }
+    ensures lacks { OnErr result (has_node_keys (table_view table.now) ≡ false) }
     ensures kind { IfOk result (λ parts. is_merger (table_view table.now) ≡ false) }
     ensures common { IfOk result (λ parts. IsCommon (table_view table.now) parts.0) }
     ensures pmus { IfOk result (λ parts. pmus_in parts.0.output.rate (table_view table.now) ≡ Some (map pmu_fields parts.1.items)) }
@@ -113,8 +115,7 @@ fn read_parts(
 
 /// Whether the ids of the PMUs and the node's own are distinct, those of streams and those of sources.
 fn ids_are_distinct(id: u16, pmus: &[Pmu]) -> bool
-    ensures streams { IsTrue result → IsTrue (are_distinct (id ∷ map (λ (pmu : PmuData). pmu.stream) pmus.now)) }
-    ensures sources { IsTrue result → IsTrue (are_distinct (id ∷ map (λ (pmu : PmuData). pmu.source) pmus.now)) }
+    ensures { result ≡ are_node_ids id (map (λ (pmu : PmuData). pmu.stream) pmus.now) (map (λ (pmu : PmuData). pmu.source) pmus.now) }
 {
     if has_stream(pmus, id) || !streams_differ(pmus) {
         return false;
@@ -126,6 +127,7 @@ fn ids_are_distinct(id: u16, pmus: &[Pmu]) -> bool
 fn life_of(output: Output, timing: Timing, pmus: ArrayVec<Pmu, MAX_PMUS>) -> Option<Settings>
     requires some { 1 ≤ length pmus.items }
     requires bases { IsTrue (list_all (λ (pmu : PmuData). nat_le output.rate pmu.time_base) pmus.items) }
+    ensures doubled { result ≡ None → are_node_ids output.id (map (λ (pmu : PmuData). pmu.stream) pmus.items) (map (λ (pmu : PmuData). pmu.source) pmus.items) ≡ false }
     ensures output { IfSome result (λ life. life.output ≡ output) }
     ensures wait { IfSome result (λ life. life.wait ≡ timing.wait) }
     ensures wait_kind { IfSome result (λ life. life.wait_kind ≡ timing.wait_kind) }
@@ -150,7 +152,7 @@ fn life_of(output: Output, timing: Timing, pmus: ArrayVec<Pmu, MAX_PMUS>) -> Opt
 /// What a node's document says, where it says settings.
 fn read_settings(table: &Table) -> Result<NodeSettings, SettingsFault>
     ensures value { IfOk result (IsNodeSettings (table_view table.now)) }
-    ensures fault { IfErr result IsOfDocument }
+    ensures fault { IfErr result (IsNodeFault (table_view table.now)) }
 {
     match read_parts(table) {
         Ok((common, pmus, ports)) => {
@@ -171,7 +173,7 @@ impl NodeSettings {
     /// Reads the settings of a node out of a text of TOML.
     pub fn from_toml(alloc: Global, text: &str) -> Result<NodeSettings, SettingsFault>
         ensures value { IfOk result (λ settings. IsSomeAnd (parse_document text.now) (λ members. IsNodeSettings members settings)) }
-        ensures fault { IfErr result (IsFaultOf text.now) }
+        ensures fault { IfErr result (IsFaultOf IsNodeFault text.now) }
     {
         let table = document(alloc, text)?;
         read_settings(&table)
