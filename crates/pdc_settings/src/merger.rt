@@ -1,4 +1,5 @@
 //! The settings of the merger.
+ghost use Rattle.std.specs.Prelude.{◌≤◌};
 
 use crate::service::Service;
 
@@ -13,4 +14,6 @@ pub struct MergerSettings {
     pub first_port: u16,
     /// The UDP port that node B sends to, 1 to 65535.
     pub second_port: u16,
+    pub ghost first_port_low: { 1 ≤ first_port },
+    pub ghost second_port_low: { 1 ≤ second_port },
 }

@@ -1,5 +1,6 @@
 //! The settings of a node.
-ghost use Rattle.std.specs.Prelude.{◌≡◌, length};
+ghost use Rattle.std.specs.Prelude.{◌≡◌, IsTrue, length, nat_le};
+ghost use Rattle.std.specs.List.{list_all};
 
 use crate::service::Service;
 use arrayvec::ArrayVec;
@@ -14,5 +15,6 @@ pub struct NodeSettings {
     pub service: Service,
     /// The UDP ports that the PMUs send to, in the order of the PMUs, 1 to 65535 each.
     pub ports: ArrayVec<u16, MAX_PMUS>,
+    pub ghost ports_low: { IsTrue (list_all (λ port. nat_le 1 port) ports.items) },
     pub ghost ports_of_pmus: { length ports.items ≡ length life.pmus.items },
 }

@@ -1,6 +1,5 @@
-use Rattle.std.proofs.Common.{◌≡◌, ◌∙◌, ap, sym, None, Some}
+use Rattle.std.proofs.Common.{◌∙◌, ap, sym}
 use Rattle.std.specs.Prelude.{option_and_then}
-use Rattle.toml.specs.View.{items_view}
 use Rattle.pdc_settings.specs.Entries.{two_of}
 use Rattle.pdc_settings.proofs.Tables.{two-none}
 use Rattle.pdc_settings.proofs.read_merger.node_tables.Goals as goal

@@ -1,7 +1,6 @@
-use Rattle.std.proofs.Common.{rules, ◌≡◌, ◌∙◌, ap, sym, true, None, Some}
+use Rattle.std.proofs.Common.{◌∙◌, ap, sym, None, Some}
 use Rattle.std.specs.Prelude.{if◌then◌else◌, option_and_then}
 use Rattle.toml.specs.View.{items_view}
-use Rattle.toml.specs.Data.{Items}
 use Rattle.pdc_settings.specs.Entries.{some_pmus}
 use Rattle.pdc_settings.proofs.Tables.{some-tables}
 use Rattle.pdc_settings.proofs.read_node.pmu_tables.Goals as goal

@@ -1,4 +1,4 @@
-use Rattle.std.proofs.Common.{◌≡◌, ◌+◌, ◌∙◌, IsTrue, List, ap, map, subst, sym, arith, None, Some}
+use Rattle.std.proofs.Common.{◌≡◌, ◌∙◌, IsTrue, List, ap, map, subst, sym, arith, None, Some}
 use Rattle.std.specs.Prelude.{nat_le}
 use Rattle.std.specs.List.{list_all}
 use Rattle.std.proofs.lemmas.List.{map_push}
