@@ -98,16 +98,16 @@ pub record HasDoubledSources (members : Members) : Type 0 where
 
 -- why a document is no settings: a key is missing or out of its range; else two ids are the same
 abbrev pub IsNodeFault : Members → SettingsFault → Type 0
-IsNodeFault members Toml = ⊥
+IsNodeFault _ Toml = ⊥
 IsNodeFault members (Range wanted) = has_node_keys members ≡ false
 IsNodeFault members DoubledId = HasDoubledIds members
-IsNodeFault members NoMemory = ⊥
+IsNodeFault _ NoMemory = ⊥
 
 abbrev pub IsMergerFault : Members → SettingsFault → Type 0
-IsMergerFault members Toml = ⊥
+IsMergerFault _ Toml = ⊥
 IsMergerFault members (Range wanted) = has_merger_keys members ≡ false
 IsMergerFault members DoubledId = HasDoubledSources members
-IsMergerFault members NoMemory = ⊥
+IsMergerFault _ NoMemory = ⊥
 
 -- why a text is none: it is no document, or a document that is none; or memory was wanted
 abbrev pub IsFaultOf : (Members → SettingsFault → Type 0) → List ℕ → SettingsFault → Type 0

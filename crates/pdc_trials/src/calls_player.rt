@@ -12,7 +12,7 @@
 //! What is none of these, or what cannot be asked, is answered `no such call`.
 ghost use Rattle.std.specs.Prelude.{◌≤◌};
 
-use crate::script::Player;
+use pdc_script::Player;
 use arrayvec::ArrayVec;
 use pdc_block::Block;
 use pdc_cfg::{MAX_ANALOGS, MAX_DIGITALS, MAX_PHASORS, Shape};

@@ -17,8 +17,8 @@
 
 ghost use Rattle.std.specs.Prelude.{◌≤◌};
 
-use crate::frames::Frames;
-use crate::script::Player;
+use pdc_script::Frames;
+use pdc_script::Player;
 use arrayvec::ArrayVec;
 use pdc_life::{MAX_PMUS, MergedNode, MergerSettings, Pmu, Settings, WaitKind};
 use pdc_output::{Nominal, Output};

@@ -2,25 +2,22 @@
 //!
 //! The arguments are pairs: who plays, and the script. `names` reads the frames that scripts call by name, `calls` makes single
 //! calls, `table` and `ring` play on an alignment table that is kept as sorted rows or as a ring, `twins` on both at once, `life`
-//! on the plain program of lives of a node and of the merger; `shown` and `refused` show captured frames, each of which is
-//! shown, or some of which are refused. `script` tells how a script is written.
+//! on the plain program of lives of a node and of the merger; `shown` and `refused` show captured
+//! frames, each of which is shown, or some of which are refused. `pdc_script` tells how a script is written.
 #![tactic(auto)]
 
 mod blocks;
 mod calls_player;
-mod frames;
 mod life_player;
-mod script;
 mod shown;
 mod table_player;
 mod twins;
 
 use calls_player::CallsPlayer;
-use frames::Frames;
 use life_player::LifePlayer;
+use pdc_script::{Frames, Played, play_script};
 use pdc_show::Shown;
 use pdc_table::{RingTable, SortedTable};
-use script::{Played, play_script};
 use shown::play_shown;
 use std::alloc::Global;
 use std::process::ExitCode;

@@ -1,6 +1,6 @@
 //! Captured frames, and what `pdc show` prints of them: `show/NAME.hex` and `show/NAME.txt`.
 
-use crate::script::Played;
+use pdc_script::Played;
 use pdc_show::{Shown, run_show};
 use std::alloc::Global;
 use std::rt::Files;
