@@ -7,12 +7,18 @@ use Rattle.pdc_table.specs.Steps.{after_require}
 use Rattle.pdc_life.specs.Answer.{has_change, ready_columns}
 use Rattle.pdc_life.specs.Given.{Given, columns_of}
 use Rattle.pdc_state.specs.State.{after_adoption}
-use Rattle.pdc_closing.specs.Answers.{AdoptedExist, ContentAtStart, MayAdopt, OneAdoptionMore, RowsAreCounted}
+use Rattle.pdc_closing.specs.Answers.{AdoptedExist, ContentAtStart, MayAdopt, MergerWaitsAreCounted, NodeWaitsAreCounted, OneAdoptionMore, RowsAreCounted}
 use Rattle.pdc_closing.proofs.Front.{all_filter}
 use Rattle.pdc_closing.proofs.Rows.{count_is}
 
 pub rows_are_counted : RowsAreCounted
 rows_are_counted g E now h = count_is g E now h
+
+pub node_waits_are_counted : NodeWaitsAreCounted
+node_waits_are_counted settings g e = omega (arith, ap (λ (h : Given). h.wait) e, settings.wait_high)
+
+pub merger_waits_are_counted : MergerWaitsAreCounted
+merger_waits_are_counted settings g e = omega (arith, ap (λ (h : Given). h.wait) e, settings.wait_high)
 
 may_adopt : (columns lanes n : ℕ) → n < columns → MayAdopt columns lanes n
 may_adopt columns lanes n h = record {

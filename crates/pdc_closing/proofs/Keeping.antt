@@ -1,5 +1,5 @@
 -- What a concentrator keeps beside its table follows its life.
-use Rattle.std.proofs.Common.{◌≡◌, ℕ, ◌+◌, ◌-◌, ◌<◌, ◌≤◌, ◌==◌, Bool, true, false, not, ◌||◌, ◌&&◌, cond, if◌then◌else◌, max, List, [], ◌∷◌, ◌++◌, length, map, filter, get_or, replicate, refl, sym, ap, ◌∙◌, arith, zero, suc, inl, inr, Option, Some, None}
+use Rattle.std.proofs.Common.{◌≡◌, ℕ, ◌+◌, ◌-◌, ◌<◌, ◌≤◌, ◌==◌, Bool, true, false, not, ◌||◌, ◌&&◌, cond, if◌then◌else◌, max, List, [], ◌∷◌, ◌++◌, length, map, filter, set, get_or, replicate, refl, sym, ap, ◌∙◌, arith, zero, suc, inl, inr, Option, Some, None}
 use Rattle.std.specs.Prelude.{nat_le, nat_lt, option_map}
 use Rattle.std.specs.List.{AllByRecursion, find, flat_map, list_any, range_with_len}
 use Rattle.std.specs.Option.{option_to_list}
@@ -13,8 +13,8 @@ use Rattle.pdc_life.specs.Arrival.{BytesRefused, Data, Layout}
 use Rattle.pdc_life.specs.Given.{Given, columns_of, count_for}
 use Rattle.pdc_life.specs.Life.{Entry, Tick, changes, cleared_count, first_greatest, greater, held_section, is_adoption, is_candidate, is_of_column, section_in_force, sections_at}
 use Rattle.pdc_state.specs.State.{shape_in}
-use Rattle.pdc_closing.specs.Kept.{KeptAfterArrival, KeptAfterTick, KeptAtStart, KeptShows, AdoptedAreThose, LayoutIsThat, UsedUpIsThat, WaitingIsThat, adopted_in, cleared_at, cleared_with, held_after, held_at, held_with, in_force_at, in_force_with, is_ready_in, kept_of, ready_in, section_for}
-use Rattle.pdc_closing.proofs.Lists.{map_alike, map_twice}
+use Rattle.pdc_closing.specs.Kept.{KeptAfterArrival, KeptAfterTick, KeptAtStart, KeptShows, AdoptedAreThose, LayoutIsThat, SectionsComeOneByOne, UsedUpIsThat, WaitingIsThat, adopted_in, cleared_at, cleared_with, held_after, held_at, held_one_by_one, held_with, in_force_at, in_force_with, is_ready_in, kept_of, ready_in, section_for}
+use Rattle.pdc_closing.proofs.Lists.{map_alike, map_same, map_twice, set_at, set_range}
 
 -- ---- lists by column
 
@@ -219,3 +219,37 @@ waiting_is_that g E =
     (on_range (λ n. greatest_count (cleared_count g E n) (held_section g E n)) (λ n. greatest_count (cleared_at (kept_of g E) n) (held_at (kept_of g E) n)) g.columns
     (λ n h. ap (λ m. greatest_count m (held_section g E n)) (sym (at_range (cleared_count g E) 0 g.columns n h))
     ∙ ap (λ o. greatest_count (cleared_at (kept_of g E) n) o) (sym (at_range (held_section g E) None g.columns n h))))
+
+-- ---- sections one after the other
+
+find_none : (n low : ℕ) (parts : List (ℕ × SectionFields)) → n < low → Rises low (map (λ (part : ℕ × SectionFields). part.0 + 1) parts) → section_for n parts ≡ None
+find_none n low [] l h = refl
+find_none n low (part ∷ parts) l h =
+    ap (λ b. option_map (λ (p : ℕ × SectionFields). p.1) (cond b (Some part) (find (is_of_column n) parts))) (ne_eqb part.0 n (λ e. omega (arith, l, h.0, e)))
+    ∙ find_none n (part.0 + 1) parts (omega (arith, l, h.0)) h.1
+
+-- a column after the first section, and after the others
+one_more : (counts : List ℕ) (f : ℕ → Option SectionFields) (part : ℕ × SectionFields) (parts : List (ℕ × SectionFields)) → Rises (part.0 + 1) (map (λ (p : ℕ × SectionFields). p.0 + 1) parts) → (n : ℕ) → held_with (count_for n counts) (set_at part.0 (held_with (count_for part.0 counts) (f part.0) (Some part.1)) f n) (section_for n parts) ≡ held_with (count_for n counts) (f n) (section_for n (part ∷ parts))
+one_more counts f part parts r n = elim (cases_eq part.0 n) [
+  | inl e ↦ ap (λ b. held_with (count_for n counts) (if b then held_with (count_for part.0 counts) (f part.0) (Some part.1) else f n) (section_for n parts)) (eq-eqb part.0 n e)
+    ∙ ap (λ o. held_with (count_for n counts) (held_with (count_for part.0 counts) (f part.0) (Some part.1)) o) (find_none n (part.0 + 1) parts (omega (arith, e)) r)
+    ∙ ap (λ m. held_with (count_for m counts) (f m) (Some part.1)) e
+    ∙ sym (ap (λ b. held_with (count_for n counts) (f n) (option_map (λ (p : ℕ × SectionFields). p.1) (cond b (Some part) (find (is_of_column n) parts)))) (eq-eqb part.0 n e))
+  | inr e ↦ ap (λ b. held_with (count_for n counts) (if b then held_with (count_for part.0 counts) (f part.0) (Some part.1) else f n) (section_for n parts)) (ne_eqb part.0 n e)
+    ∙ sym (ap (λ b. held_with (count_for n counts) (f n) (option_map (λ (p : ℕ × SectionFields). p.1) (cond b (Some part) (find (is_of_column n) parts)))) (ne_eqb part.0 n e))
+]
+
+from_each : (counts : List ℕ) (columns low : ℕ) (f : ℕ → Option SectionFields) (parts : List (ℕ × SectionFields)) → Rises low (map (λ (part : ℕ × SectionFields). part.0 + 1) parts) → AllByRecursion (λ (part : ℕ × SectionFields). part.0 < columns) parts → held_one_by_one counts (map f (range_with_len 0 columns)) parts ≡ map (λ n. held_with (count_for n counts) (f n) (section_for n parts)) (range_with_len 0 columns)
+from_each counts columns low f [] r a = refl
+from_each counts columns low f (part ∷ parts) r a =
+    let v : Option SectionFields = held_with (count_for part.0 counts) (f part.0) (Some part.1) in
+    ap (λ o. held_one_by_one counts (set (map f (range_with_len 0 columns)) part.0 (held_with (count_for part.0 counts) o (Some part.1))) parts) (at_range f None columns part.0 a.0)
+    ∙ ap (λ os. held_one_by_one counts os parts) (set_range f v part.0 columns)
+    ∙ from_each counts columns (part.0 + 1) (set_at part.0 v f) parts r.1 a.1
+    ∙ map_same (λ n. held_with (count_for n counts) (set_at part.0 v f n) (section_for n parts)) (λ n. held_with (count_for n counts) (f n) (section_for n (part ∷ parts))) (one_more counts f part parts r.1) (range_with_len 0 columns)
+
+pub sections_come_one_by_one : SectionsComeOneByOne
+sections_come_one_by_one g E parts h =
+    sym (from_each g.counts g.columns 0 (held_section g E) parts h.rise h.exist
+    ∙ on_range (λ n. held_with (count_for n g.counts) (held_section g E n) (section_for n parts)) (λ n. held_with (count_for n g.counts) (held_at (kept_of g E) n) (section_for n parts)) g.columns
+    (λ n l. ap (λ o. held_with (count_for n g.counts) o (section_for n parts)) (sym (at_range (held_section g E) None g.columns n l))))

@@ -5,3 +5,4 @@ pub mod Adopting
 pub mod Ticks
 pub mod Keeping
 pub mod Answering
+pub mod Worked

@@ -4,9 +4,12 @@ use Rattle.std.specs.List.{AllByRecursion}
 use Rattle.pdc_table.specs.Content.{Content, new_content, stream_count}
 use Rattle.pdc_table.specs.Steps.{after_require}
 use Rattle.pdc_table.specs.Steps as table
+use Rattle.pdc_life.specs.declared.given.Settings.{Settings}
+use Rattle.pdc_life.specs.declared.merging.MergerSettings.{MergerSettings}
 use Rattle.pdc_life.specs.Answer.{pop_answer, tick_answer}
-use Rattle.pdc_life.specs.Given.{Given}
+use Rattle.pdc_life.specs.Given.{Given, IsGivenBy}
 use Rattle.pdc_life.specs.Life.{Entry}
+use Rattle.pdc_life.specs.MergerReading.{given_of_merger}
 use Rattle.pdc_life.specs.Row.{rows_of}
 use Rattle.pdc_state.specs.State.{after_adoption, after_adoptions, content_of, rule_of}
 
@@ -18,6 +21,14 @@ content_at_start window columns lanes floor =
 
 abbrev pub ContentAtStart : Type 0
 ContentAtStart = (g : Given) → content_of g [] ≡ content_at_start g.window g.columns g.lanes g.floor
+
+-- The wait that settings give is within the counter of an open instant's age.
+abbrev pub NodeWaitsAreCounted : Type 0
+NodeWaitsAreCounted = (settings : Settings) (g : Given) → IsGivenBy settings g → g.wait < 2 ^ 64
+
+abbrev pub MergerWaitsAreCounted : Type 0
+MergerWaitsAreCounted =
+    (settings : MergerSettings) (g : Given) → g ≡ given_of_merger settings g.start g.floor g.counts g.opening → g.wait < 2 ^ 64
 
 -- As many rows close at a tick as the table answers,
 abbrev pub RowsAreCounted : Type 0

@@ -1,5 +1,5 @@
 -- What a concentrator keeps of its life beside the table, by column, and how each step changes it (this profile).
-use Rattle.std.specs.Prelude.{◌≡◌, ℕ, ◌+◌, ◌-◌, ◌^◌, ◌<◌, ◌++◌, Bool, ◌&&◌, not, List, [], ◌∷◌, length, map, max, filter, find, replicate, nat_le, nat_lt, if◌then◌else◌, Option, None, Some, option_map, slice_index_or}
+use Rattle.std.specs.Prelude.{◌≡◌, ℕ, ◌+◌, ◌-◌, ◌^◌, ◌<◌, ◌++◌, Bool, ◌&&◌, not, List, [], ◌∷◌, length, map, max, filter, find, replicate, nat_le, nat_lt, if◌then◌else◌, Option, None, Some, option_map, slice_index_or, slice_set}
 use Rattle.std.specs.List.{range_with_len}
 use Rattle.pdc_cfg.specs.Section.{SectionFields}
 use Rattle.pdc_table.specs.Layout.{LayoutView}
@@ -143,6 +143,17 @@ abbrev pub KeptAfterArrival : Type 0
 KeptAfterArrival =
     (g : Given) (E : List Entry) (s : ℕ) (bytes : List ℕ) (arrival : Arrival) (answer : Answer) → HaveColumns g (sections_of arrival) →
     kept_of g (Arrive s bytes arrival answer ∷ E) ≡ kept_after_arrival g.columns g.counts (kept_of g E) arrival answer.outcome
+
+-- The same, one section after the other.
+abbrev pub held_one_by_one : (counts : List ℕ) → List (Option SectionFields) → List (ℕ × SectionFields) → List (Option SectionFields)
+held_one_by_one counts held [] = held
+held_one_by_one counts held (part ∷ parts) =
+    held_one_by_one counts (slice_set held part.0 (held_with (count_for part.0 counts) (slice_index_or held part.0 None) (Some part.1))) parts
+
+abbrev pub SectionsComeOneByOne : Type 0
+SectionsComeOneByOne =
+    (g : Given) (E : List Entry) (sections : List (ℕ × SectionFields)) → HaveColumns g sections →
+    held_after g.columns g.counts (kept_of g E) sections ≡ held_one_by_one g.counts (kept_of g E).held sections
 
 -- ---- A pop
 

@@ -1,11 +1,17 @@
 //! Laws of every life, by the definitions: each is the contract of a function that does nothing but call the laws that it
 //! stands on. What is said of ticks is said where the wait is within the counter of an open instant's age, which has 64 bits.
 ghost use Rattle.pdc_state.specs.Follows.{CellsHaveShapes, PopIsPop, RowsAreThose, TickIsTick};
-ghost use Rattle.pdc_closing.specs.Answers.{AdoptedExist, ContentAtStart, OneAdoptionMore, PopsAgree, RowsAreCounted};
-ghost use Rattle.pdc_closing.specs.Kept.{AdoptedAreThose, KeptAfterArrival, KeptAfterPop, KeptAfterTick, KeptAtStart, KeptShows, LayoutIsThat, UsedUpIsThat, WaitingIsThat};
+ghost use Rattle.pdc_closing.specs.Answers.{AdoptedExist, ContentAtStart, MergerWaitsAreCounted, NodeWaitsAreCounted, OneAdoptionMore, PopsAgree, RowsAreCounted};
+ghost use Rattle.pdc_closing.specs.Kept.{AdoptedAreThose, KeptAfterArrival, KeptAfterPop, KeptAfterTick, KeptAtStart, KeptShows, LayoutIsThat, SectionsComeOneByOne, UsedUpIsThat, WaitingIsThat};
 
 use pdc_life::cells_are_of_sections;
 use pdc_row::numbers_rise;
+
+/// The wait that settings give is within the counter of an open instant's age.
+pub fn waits_are_counted()
+    ensures of_node { NodeWaitsAreCounted }
+    ensures of_merger { MergerWaitsAreCounted }
+{}
 
 /// A pop of a concentrator is a pop of its table.
 pub fn pop_is_pop()
@@ -75,7 +81,8 @@ pub fn kept_after_tick()
 
 /// What is kept after an arrival: a layout that is answered Candidate changes what is held, and nothing else changes anything.
 pub fn kept_after_arrival()
-    ensures { KeptAfterArrival }
+    ensures kept { KeptAfterArrival }
+    ensures one_by_one { SectionsComeOneByOne }
 {}
 
 /// A pop changes nothing of what is kept.
