@@ -1,5 +1,5 @@
 -- What a concentrator keeps beside its table follows its life.
-use Rattle.std.proofs.Common.{◌≡◌, ℕ, ◌+◌, ◌-◌, ◌<◌, ◌≤◌, ◌==◌, Bool, true, false, not, ◌||◌, ◌&&◌, cond, if◌then◌else◌, max, List, [], ◌∷◌, ◌++◌, length, map, filter, set, get_or, replicate, refl, sym, ap, ◌∙◌, arith, zero, suc, inl, inr, Option, Some, None}
+use Rattle.std.proofs.Common.{◌≡◌, ℕ, ◌+◌, ◌-◌, ◌<◌, ◌≤◌, ◌==◌, Bool, true, false, not, ◌||◌, ◌&&◌, cond, if◌then◌else◌, max, List, [], ◌∷◌, ◌++◌, length, map, filter, set, get_or, replicate, refl, sym, ap, ◌∙◌, arith, zero, suc, ◌⊎◌, inl, inr, Option, Some, None}
 use Rattle.std.specs.Prelude.{nat_le, nat_lt, option_map}
 use Rattle.std.specs.List.{AllByRecursion, find, flat_map, list_any, range_with_len}
 use Rattle.std.specs.Option.{option_to_list}
@@ -13,7 +13,8 @@ use Rattle.pdc_life.specs.Arrival.{BytesRefused, Data, Layout}
 use Rattle.pdc_life.specs.Given.{Given, columns_of, count_for}
 use Rattle.pdc_life.specs.Life.{Entry, Tick, changes, cleared_count, first_greatest, greater, held_section, is_adoption, is_candidate, is_of_column, section_in_force, sections_at}
 use Rattle.pdc_state.specs.State.{shape_in}
-use Rattle.pdc_closing.specs.Kept.{KeptAfterArrival, KeptAfterTick, KeptAtStart, KeptShows, AdoptedAreThose, LayoutIsThat, SectionsComeOneByOne, UsedUpIsThat, WaitingIsThat, adopted_in, cleared_at, cleared_with, held_after, held_at, held_one_by_one, held_with, in_force_at, in_force_with, is_ready_in, kept_of, ready_in, section_for}
+use Rattle.pdc_closing.specs.Kept.{KeptAfterArrival, KeptAfterTick, KeptAtStart, KeptShows, AdoptedAreThose, AdoptionsComeOneByOne, LayoutIsThat, SectionsComeOneByOne, UsedUpIsThat, WaitingIsThat, adopted_in, cleared_at, cleared_with, held_after, held_at, held_one_by_one, held_with, in_force_at, in_force_one_by_one, in_force_with, is_ready_in, kept_of, ready_in, section_for}
+use Rattle.pdc_closing.proofs.Front.{all_filter}
 use Rattle.pdc_closing.proofs.Lists.{map_alike, map_same, map_twice, set_at, set_range}
 
 -- ---- lists by column
@@ -140,6 +141,39 @@ in_force_same g E now counts n h =
 cleared_same : (g : Given) (E : List Entry) (counts : List ℕ) (n : ℕ) → n < g.columns → max (cleared_count g E n) (count_for n counts) ≡ cleared_with (kept_of g E) counts n
 cleared_same g E counts n h = ap (λ m. max m (count_for n counts)) (sym (at_range (cleared_count g E) 0 g.columns n h))
 
+-- columns one after the other
+each_adopted : (h f : ℕ → Option SectionFields) (columns : ℕ) (ds : List ℕ) → AllByRecursion (λ d. d < columns) ds → in_force_one_by_one (map h (range_with_len 0 columns)) (map f (range_with_len 0 columns)) ds ≡ map (λ n. if list_any (λ d. d == n) ds then h n else f n) (range_with_len 0 columns)
+each_adopted h f columns [] a = refl
+each_adopted h f columns (d ∷ ds) a =
+    ap (λ o. in_force_one_by_one (map h (range_with_len 0 columns)) (set (map f (range_with_len 0 columns)) d o) ds) (at_range h None columns d a.0)
+    ∙ ap (λ os. in_force_one_by_one (map h (range_with_len 0 columns)) os ds) (set_range f (h d) d columns)
+    ∙ each_adopted h (set_at d (h d) f) columns ds a.1
+    ∙ map_same (λ n. if list_any (λ e. e == n) ds then h n else set_at d (h d) f n) (λ n. if list_any (λ e. e == n) (d ∷ ds) then h n else f n) (λ n. same n (cases_eq d n)) (range_with_len 0 columns)
+  where
+    either : (b : Bool) (x : Option SectionFields) → (if b then x else x) ≡ x
+    either true x = refl
+    either false x = refl
+
+    same : (n : ℕ) → (d ≡ n) ⊎ (d ≡ n → ⊥) → (if list_any (λ e. e == n) ds then h n else set_at d (h d) f n) ≡ (if list_any (λ e. e == n) (d ∷ ds) then h n else f n)
+    same n (inl e) =
+        ap (λ b. if list_any (λ m. m == n) ds then h n else (if b then h d else f n)) (eq-eqb d n e)
+        ∙ ap (λ m. if list_any (λ k. k == n) ds then h n else h m) e
+        ∙ either (list_any (λ m. m == n) ds) (h n)
+        ∙ sym (ap (λ b. if b || list_any (λ m. m == n) ds then h n else f n) (eq-eqb d n e))
+    same n (inr e) =
+        ap (λ b. if list_any (λ m. m == n) ds then h n else (if b then h d else f n)) (ne_eqb d n e)
+        ∙ sym (ap (λ b. if b || list_any (λ m. m == n) ds then h n else f n) (ne_eqb d n e))
+
+adopted_below : (b : Bool) (columns : ℕ) (p : ℕ → Bool) → AllByRecursion (λ d. d < columns) (if b then filter p (range_with_len 0 columns) else [])
+adopted_below true columns p = all_filter (λ d. d < columns) p (range_with_len 0 columns) (in_range 0 columns columns (omega arith))
+adopted_below false columns p = tt
+
+pub adoptions_come_one_by_one : AdoptionsComeOneByOne
+adoptions_come_one_by_one g E now counts =
+    sym (each_adopted (held_section g E) (section_in_force g E) g.columns (tick_answer g E now counts).adopted
+    (adopted_below (has_change E) g.columns _)
+    ∙ on_range (λ n. if list_any (λ d. d == n) (tick_answer g E now counts).adopted then held_section g E n else section_in_force g E n) (in_force_with (kept_of g E) counts) g.columns (in_force_same g E now counts))
+
 one_by_one : (b : Bool) (e : Entry) (es : List Entry) → length (cond b (e ∷ es) es) ≡ (if b then length es + 1 else length es)
 one_by_one true e es = omega arith
 one_by_one false e es = refl
@@ -232,11 +266,11 @@ find_none n low (part ∷ parts) l h =
 one_more : (counts : List ℕ) (f : ℕ → Option SectionFields) (part : ℕ × SectionFields) (parts : List (ℕ × SectionFields)) → Rises (part.0 + 1) (map (λ (p : ℕ × SectionFields). p.0 + 1) parts) → (n : ℕ) → held_with (count_for n counts) (set_at part.0 (held_with (count_for part.0 counts) (f part.0) (Some part.1)) f n) (section_for n parts) ≡ held_with (count_for n counts) (f n) (section_for n (part ∷ parts))
 one_more counts f part parts r n = elim (cases_eq part.0 n) [
   | inl e ↦ ap (λ b. held_with (count_for n counts) (if b then held_with (count_for part.0 counts) (f part.0) (Some part.1) else f n) (section_for n parts)) (eq-eqb part.0 n e)
-    ∙ ap (λ o. held_with (count_for n counts) (held_with (count_for part.0 counts) (f part.0) (Some part.1)) o) (find_none n (part.0 + 1) parts (omega (arith, e)) r)
-    ∙ ap (λ m. held_with (count_for m counts) (f m) (Some part.1)) e
-    ∙ sym (ap (λ b. held_with (count_for n counts) (f n) (option_map (λ (p : ℕ × SectionFields). p.1) (cond b (Some part) (find (is_of_column n) parts)))) (eq-eqb part.0 n e))
+      ∙ ap (λ o. held_with (count_for n counts) (held_with (count_for part.0 counts) (f part.0) (Some part.1)) o) (find_none n (part.0 + 1) parts (omega (arith, e)) r)
+      ∙ ap (λ m. held_with (count_for m counts) (f m) (Some part.1)) e
+      ∙ sym (ap (λ b. held_with (count_for n counts) (f n) (option_map (λ (p : ℕ × SectionFields). p.1) (cond b (Some part) (find (is_of_column n) parts)))) (eq-eqb part.0 n e))
   | inr e ↦ ap (λ b. held_with (count_for n counts) (if b then held_with (count_for part.0 counts) (f part.0) (Some part.1) else f n) (section_for n parts)) (ne_eqb part.0 n e)
-    ∙ sym (ap (λ b. held_with (count_for n counts) (f n) (option_map (λ (p : ℕ × SectionFields). p.1) (cond b (Some part) (find (is_of_column n) parts)))) (ne_eqb part.0 n e))
+      ∙ sym (ap (λ b. held_with (count_for n counts) (f n) (option_map (λ (p : ℕ × SectionFields). p.1) (cond b (Some part) (find (is_of_column n) parts)))) (ne_eqb part.0 n e))
 ]
 
 from_each : (counts : List ℕ) (columns low : ℕ) (f : ℕ → Option SectionFields) (parts : List (ℕ × SectionFields)) → Rises low (map (λ (part : ℕ × SectionFields). part.0 + 1) parts) → AllByRecursion (λ (part : ℕ × SectionFields). part.0 < columns) parts → held_one_by_one counts (map f (range_with_len 0 columns)) parts ≡ map (λ n. held_with (count_for n counts) (f n) (section_for n parts)) (range_with_len 0 columns)

@@ -107,6 +107,18 @@ KeptAfterTick =
     (g : Given) (E : List Entry) (now : ℕ) (counts : List ℕ) →
     kept_of g (Tick now counts (tick_answer g E now counts) ∷ E) ≡ kept_after_tick g.columns (kept_of g E) now counts
 
+-- What is in force after these columns are adopted, one after the other.
+abbrev pub in_force_one_by_one : (held in_force : List (Option SectionFields)) → (adopted : List ℕ) → List (Option SectionFields)
+in_force_one_by_one held in_force [] = in_force
+in_force_one_by_one held in_force (c ∷ adopted) =
+    in_force_one_by_one held (slice_set in_force c (slice_index_or held c None)) adopted
+
+abbrev pub AdoptionsComeOneByOne : Type 0
+AdoptionsComeOneByOne =
+    (g : Given) (E : List Entry) (now : ℕ) (counts : List ℕ) →
+    map (in_force_with (kept_of g E) counts) (columns_of g)
+    ≡ in_force_one_by_one (kept_of g E).held (kept_of g E).in_force (tick_answer g E now counts).adopted
+
 -- The tick's answer is told by what is kept.
 abbrev pub AdoptedAreThose : Type 0
 AdoptedAreThose =

@@ -2,7 +2,7 @@
 //! stands on. What is said of ticks is said where the wait is within the counter of an open instant's age, which has 64 bits.
 ghost use Rattle.pdc_state.specs.Follows.{CellsHaveShapes, PopIsPop, RowsAreThose, TickIsTick};
 ghost use Rattle.pdc_closing.specs.Answers.{AdoptedExist, ContentAtStart, MergerWaitsAreCounted, NodeWaitsAreCounted, OneAdoptionMore, PopsAgree, RowsAreCounted};
-ghost use Rattle.pdc_closing.specs.Kept.{AdoptedAreThose, KeptAfterArrival, KeptAfterPop, KeptAfterTick, KeptAtStart, KeptShows, LayoutIsThat, SectionsComeOneByOne, UsedUpIsThat, WaitingIsThat};
+ghost use Rattle.pdc_closing.specs.Kept.{AdoptedAreThose, AdoptionsComeOneByOne, KeptAfterArrival, KeptAfterPop, KeptAfterTick, KeptAtStart, KeptShows, LayoutIsThat, SectionsComeOneByOne, UsedUpIsThat, WaitingIsThat};
 
 use pdc_life::cells_are_of_sections;
 use pdc_row::numbers_rise;
@@ -76,6 +76,7 @@ pub fn kept_at_start()
 pub fn kept_after_tick()
     ensures kept { KeptAfterTick }
     ensures adopted { AdoptedAreThose }
+    ensures one_by_one { AdoptionsComeOneByOne }
     ensures used_up { UsedUpIsThat }
 {}
 

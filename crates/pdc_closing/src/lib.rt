@@ -14,6 +14,5 @@ mod laws;
 pub use laws::{
     adopted_exist, cells_have_shapes, content_at_start, kept_after_arrival, kept_after_pop,
     kept_after_tick, kept_at_start, kept_shows, kept_tells, one_adoption_more, pop_is_pop,
-    pops_agree, rows_are_counted, rows_are_those, tick_is_tick,
-    waits_are_counted,
+    pops_agree, rows_are_counted, rows_are_those, tick_is_tick, waits_are_counted,
 };
