@@ -1,19 +1,24 @@
 -- What a concentrator keeps beside its table follows its life.
 use Rattle.std.proofs.Common.{◌≡◌, ℕ, ◌+◌, ◌-◌, ◌<◌, ◌≤◌, ◌==◌, Bool, true, false, not, ◌||◌, ◌&&◌, cond, if◌then◌else◌, max, List, [], ◌∷◌, ◌++◌, length, map, filter, set, get_or, replicate, refl, sym, ap, ◌∙◌, arith, zero, suc, ◌⊎◌, inl, inr, Option, Some, None}
-use Rattle.std.specs.Prelude.{nat_le, nat_lt, option_map}
+use Rattle.std.specs.Prelude.{nat_eq, nat_le, nat_lt, option_map}
 use Rattle.std.specs.List.{AllByRecursion, find, flat_map, list_any, range_with_len}
 use Rattle.std.specs.Option.{option_to_list}
-use Rattle.std.proofs.lemmas.Bool.{cases_eq, eq-eqb, ne_eqb}
+use Rattle.std.specs.Cmp.Lexicographic.{pointwise}
+use Rattle.std.proofs.lemmas.Bool.{cases_eq, eq-eqb, le-leb, ltb-false, ne_eqb}
 use Rattle.std.proofs.lemmas.List.{get_or-map, length-map}
 use Rattle.std.proofs.lemmas.List.FromFn.{get_or-range_with_len, length-range_with_len}
 use Rattle.pdc_cfg.specs.Section.{SectionFields}
 use Rattle.pdc_row.specs.Rising.{Rises}
+use Rattle.pdc_life.specs.declared.outcome.Outcome.{Outcome}
+use Rattle.pdc_life.specs.declared.outcome.Outcome.TheVariants.{Candidate, Known, Refused}
+use Rattle.pdc_life.specs.declared.outcome.Refusal.TheVariants.{CountConflict, StaleCount}
+use Rattle.pdc_life.specs.Node.{section_after}
 use Rattle.pdc_life.specs.Answer.{greatest_count, has_change, is_ready, ready_columns, tick_answer}
 use Rattle.pdc_life.specs.Arrival.{BytesRefused, Data, Layout}
 use Rattle.pdc_life.specs.Given.{Given, columns_of, count_for}
 use Rattle.pdc_life.specs.Life.{Entry, Tick, changes, cleared_count, first_greatest, greater, held_section, is_adoption, is_candidate, is_of_column, section_in_force, sections_at}
 use Rattle.pdc_state.specs.State.{shape_in}
-use Rattle.pdc_closing.specs.Kept.{KeptAfterArrival, KeptAfterTick, KeptAtStart, KeptShows, AdoptedAreThose, AdoptionsComeOneByOne, LayoutIsThat, SectionsComeOneByOne, UsedUpIsThat, WaitingIsThat, adopted_in, cleared_at, cleared_with, held_after, held_at, held_one_by_one, held_with, in_force_at, in_force_one_by_one, in_force_with, is_ready_in, kept_of, ready_in, section_for}
+use Rattle.pdc_closing.specs.Kept.{KeptAfterArrival, KeptAfterTick, KeptAtStart, KeptShows, AdoptedAreThose, AdoptionsComeOneByOne, CandidateIsHeld, LayoutIsThat, SectionsComeOneByOne, UsedUpIsThat, WaitingIsThat, adopted_in, cleared_at, cleared_with, held_after, held_at, held_one_by_one, held_with, in_force_at, in_force_one_by_one, in_force_with, is_ready_in, kept_of, ready_in, section_for}
 use Rattle.pdc_closing.proofs.Front.{all_filter}
 use Rattle.pdc_closing.proofs.Lists.{map_alike, map_same, map_twice, set_at, set_range}
 
@@ -253,6 +258,29 @@ waiting_is_that g E =
     (on_range (λ n. greatest_count (cleared_count g E n) (held_section g E n)) (λ n. greatest_count (cleared_at (kept_of g E) n) (held_at (kept_of g E) n)) g.columns
     (λ n h. ap (λ m. greatest_count m (held_section g E n)) (sym (at_range (cleared_count g E) 0 g.columns n h))
     ∙ ap (λ o. greatest_count (cleared_at (kept_of g E) n) o) (sym (at_range (held_section g E) None g.columns n h))))
+
+-- ---- a candidate of a node
+
+-- a count below the held one is stale, and one that is not above it is known or conflicts
+above_is_held : (stale above same : Bool) (held s : SectionFields) → (if stale then Refused StaleCount else (if above then Candidate else (if same then Known else Refused CountConflict))) ≡ Candidate → (if above then Some s else Some held) ≡ Some s
+above_is_held true above same held s h = cc
+above_is_held false true same held s h = refl
+above_is_held false false true held s h = cc
+above_is_held false false false held s h = cc
+
+greater_is_held : (held : Option SectionFields) (s : SectionFields) → section_after held s ≡ Candidate → greater held s ≡ Some s
+greater_is_held None s h = refl
+greater_is_held (Some held) s h = above_is_held (nat_lt s.count held.count) (nat_lt held.count s.count) (pointwise nat_eq held.bytes s.bytes) held s h
+
+not_stale : (stale : Bool) (answer : Outcome) → (if stale then Refused StaleCount else answer) ≡ Candidate → (stale ≡ false) × (answer ≡ Candidate)
+not_stale true answer h = cc
+not_stale false answer h = (refl, h)
+
+pub candidate_is_held : CandidateIsHeld
+candidate_is_held opening held s h =
+    let parts : (nat_lt s.count opening ≡ false) × (section_after held s ≡ Candidate) = not_stale (nat_lt s.count opening) (section_after held s) h in
+    ap (λ b. if b then greater held s else held) (le-leb opening s.count (ltb-false s.count opening parts.0))
+    ∙ greater_is_held held s parts.1
 
 -- ---- sections one after the other
 

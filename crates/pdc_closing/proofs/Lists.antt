@@ -32,10 +32,6 @@ filter_map_is p q f h (n ∷ ns) =
     ∙ ap (λ xs. cond (q n) (f n ∷ xs) xs) (filter_map_is p q f h ns)
     ∙ kept f (q n) n (filter q ns)
 
-pub filter_same : (p q : ℕ → Bool) → ((n : ℕ) → p n ≡ q n) → (ns : List ℕ) → filter p ns ≡ filter q ns
-filter_same p q h [] = refl
-filter_same p q h (n ∷ ns) = ap (λ b. cond b (n ∷ filter p ns) (filter p ns)) (h n) ∙ ap (λ xs. cond (q n) (n ∷ xs) xs) (filter_same p q h ns)
-
 -- a function with another value at one number
 abbrev pub set_at : {X : Type 0} → ℕ → X → (ℕ → X) → ℕ → X
 set_at d v f n = if d == n then v else f n

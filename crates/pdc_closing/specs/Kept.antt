@@ -4,10 +4,12 @@ use Rattle.std.specs.List.{range_with_len}
 use Rattle.pdc_cfg.specs.Section.{SectionFields}
 use Rattle.pdc_table.specs.Layout.{LayoutView}
 use Rattle.pdc_life.specs.declared.outcome.Outcome.{Outcome}
+use Rattle.pdc_life.specs.declared.outcome.Outcome.TheVariants.{Candidate}
 use Rattle.pdc_life.specs.Answer.{greatest_count, is_ready, pop_answer, tick_answer, waiting_counts}
 use Rattle.pdc_life.specs.Arrival.{Arrival, Layout}
 use Rattle.pdc_life.specs.Given.{Given, columns_of, count_for}
 use Rattle.pdc_life.specs.Life.{Answer, Entry, Arrive, Tick, Pop, changes, cleared_count, greater, held_section, is_candidate, is_of_column, now_of, section_in_force}
+use Rattle.pdc_life.specs.Node.{section_answer}
 use Rattle.pdc_life.specs.Run.{HaveColumns, sections_of}
 use Rattle.pdc_state.specs.State.{row_layout_of, shape_in}
 
@@ -156,7 +158,13 @@ KeptAfterArrival =
     (g : Given) (E : List Entry) (s : ℕ) (bytes : List ℕ) (arrival : Arrival) (answer : Answer) → HaveColumns g (sections_of arrival) →
     kept_of g (Arrive s bytes arrival answer ∷ E) ≡ kept_after_arrival g.columns g.counts (kept_of g E) arrival answer.outcome
 
--- The same, one section after the other.
+-- At a node a section that is answered Candidate is held from then on.
+abbrev pub CandidateIsHeld : Type 0
+CandidateIsHeld =
+    (opening : ℕ) (held : Option SectionFields) (s : SectionFields) → section_answer opening held s ≡ Candidate →
+    held_with opening held (Some s) ≡ Some s
+
+-- What is held after these sections came, one after the other.
 abbrev pub held_one_by_one : (counts : List ℕ) → List (Option SectionFields) → List (ℕ × SectionFields) → List (Option SectionFields)
 held_one_by_one counts held [] = held
 held_one_by_one counts held (part ∷ parts) =

@@ -2,7 +2,7 @@
 //! stands on. What is said of ticks is said where the wait is within the counter of an open instant's age, which has 64 bits.
 ghost use Rattle.pdc_state.specs.Follows.{CellsHaveShapes, PopIsPop, RowsAreThose, TickIsTick};
 ghost use Rattle.pdc_closing.specs.Answers.{AdoptedExist, ContentAtStart, MergerWaitsAreCounted, NodeWaitsAreCounted, OneAdoptionMore, PopsAgree, RowsAreCounted};
-ghost use Rattle.pdc_closing.specs.Kept.{AdoptedAreThose, AdoptionsComeOneByOne, KeptAfterArrival, KeptAfterPop, KeptAfterTick, KeptAtStart, KeptShows, LayoutIsThat, SectionsComeOneByOne, UsedUpIsThat, WaitingIsThat};
+ghost use Rattle.pdc_closing.specs.Kept.{AdoptedAreThose, AdoptionsComeOneByOne, CandidateIsHeld, KeptAfterArrival, KeptAfterPop, KeptAfterTick, KeptAtStart, KeptShows, LayoutIsThat, SectionsComeOneByOne, UsedUpIsThat, WaitingIsThat};
 
 use pdc_life::cells_are_of_sections;
 use pdc_row::numbers_rise;
@@ -84,6 +84,7 @@ pub fn kept_after_tick()
 pub fn kept_after_arrival()
     ensures kept { KeptAfterArrival }
     ensures one_by_one { SectionsComeOneByOne }
+    ensures of_node { CandidateIsHeld }
 {}
 
 /// A pop changes nothing of what is kept.
