@@ -1,7 +1,7 @@
 pub mod Lists
 pub mod Front
 pub mod Rows
-pub mod Adopting
+pub mod Adoptions
 pub mod Ticks
 pub mod Keeping
 pub mod Answering

@@ -20,7 +20,7 @@ use Rattle.pdc_life.specs.Life.{Entry, Take, Tick, TickAnswer, age_of, cell_in, 
 use Rattle.pdc_life.specs.Row.{closing, is_due, is_required, row_of, rows_of}
 use Rattle.pdc_state.specs.Follows.{TickIsTick}
 use Rattle.pdc_state.specs.State.{after_adoptions, column_of, content_of, open_row_of, row_layout_of, rule_of}
-use Rattle.pdc_closing.proofs.Adopting.{all_with_one_lane, all_with_two_lanes, content_same, content_with, row_same, row_with}
+use Rattle.pdc_closing.proofs.Adoptions.{all_with_one_lane, all_with_two_lanes, content_same, content_with, row_same, row_with}
 use Rattle.pdc_closing.proofs.Front.{all_filter, all_rising, closes, stay_open}
 use Rattle.pdc_closing.proofs.Lists.{map_alike, set_all}
 use Rattle.pdc_closing.proofs.Rows.{aged_row_of, closing_is, rows_are_those, staying_is}
