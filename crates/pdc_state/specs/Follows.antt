@@ -1,5 +1,5 @@
 -- How the table of a concentrator follows its life, step by step (this profile).
-use Rattle.std.specs.Prelude.{◌≡◌, ℕ, ◌+◌, ◌<◌, List, [], ◌∷◌, length, nat_le, nat_lt, if◌then◌else◌}
+use Rattle.std.specs.Prelude.{◌≡◌, ℕ, ◌+◌, ◌^◌, ◌<◌, List, [], ◌∷◌, length, nat_le, nat_lt, if◌then◌else◌}
 use Rattle.std.specs.List.{AllByRecursion}
 use Rattle.pdc_row.specs.CellView.{CellView}
 use Rattle.pdc_table.specs.Content.{HaveLayoutShapes, IsPut}
@@ -62,16 +62,16 @@ OthersLeaveIt =
 abbrev pub CellsHaveShapes : Type 0
 CellsHaveShapes = (g : Given) (E : List Entry) → IsRun g E → HaveLayoutShapes (content_of g E) (row_layout_of g E)
 
--- The rows that the table closes at a tick are those of the life,
+-- The rows that the table closes at a tick are those of the life, where the wait is within the counter of a row's age,
 abbrev pub RowsAreThose : Type 0
 RowsAreThose =
-    (g : Given) (E : List Entry) (now : ℕ) → IsRun g E →
+    (g : Given) (E : List Entry) (now : ℕ) → g.wait < 2 ^ 64 →
     closed_by (content_of g E) (rule_of g.wait_kind g.wait now) (row_layout_of g E) ≡ rows_of g E now
 
 -- and a tick of the concentrator is a tick of the table under the layout before it, and then the adoptions.
 abbrev pub TickIsTick : Type 0
 TickIsTick =
-    (g : Given) (E : List Entry) (now : ℕ) (counts : List ℕ) → IsRun g E →
+    (g : Given) (E : List Entry) (now : ℕ) (counts : List ℕ) → g.wait < 2 ^ 64 →
     content_of g (Tick now counts (tick_answer g E now counts) ∷ E)
     ≡ after_adoptions (after_tick (content_of g E) (rule_of g.wait_kind g.wait now) (row_layout_of g E)) (tick_answer g E now counts).adopted
 

@@ -1,0 +1,8 @@
+pub mod Lists
+pub mod Front
+pub mod Rows
+pub mod Adoptions
+pub mod Ticks
+pub mod Keeping
+pub mod Answering
+pub mod Worked
