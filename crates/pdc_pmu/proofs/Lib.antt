@@ -1,0 +1,3 @@
+pub mod Configs
+pub mod Rising
+pub mod Words

@@ -1,0 +1,3 @@
+pub mod Pmu
+pub mod Renamed
+pub mod Sent
