@@ -1,0 +1,409 @@
+//! The alignment of a concentrator.
+ghost use Rattle.std.specs.Prelude.{◌≡◌, ◌<◌, ◌-◌, ◌^◌, [], ◌∷◌, ℕ, List, IfOk, Option, length, map, option_map};
+ghost use Rattle.std.specs.List.{All};
+ghost use Rattle.pdc_cfg.specs.Section.{fields_of_view};
+ghost use Rattle.pdc_output.specs.declared.output.Output.{Output};
+ghost use Rattle.pdc_row.specs.RowView.{row_view};
+ghost use Rattle.pdc_table.specs.Content.{HasSizesOf, IsContent, IsPut};
+ghost use Rattle.pdc_table.specs.Layout.{layout_view};
+ghost use Rattle.pdc_table.specs.Steps as table;
+ghost use Rattle.pdc_table.specs.Taking.{cells_of};
+ghost use Rattle.pdc_reading.specs.Views.{section_part};
+ghost use Rattle.pdc_reading.specs.declared.arrival.ColumnSection.{ColumnSection as ColumnSectionData};
+ghost use Rattle.pdc_state.specs.Follows.{told_by};
+ghost use Rattle.pdc_life.specs.Answer.{bare, outcome_in_time, pop_answer, tick_answer, waiting_counts, with_cells};
+ghost use Rattle.pdc_life.specs.Arrival.{Data, Layout, Stamp};
+ghost use Rattle.pdc_life.specs.Given.{Given};
+ghost use Rattle.pdc_life.specs.Life.{Arrive, Entry, Pop, Tick, changes, held_section, section_in_force};
+ghost use Rattle.pdc_life.specs.Run.{IsRun};
+ghost use Rattle.pdc_life.specs.declared.outcome.Outcome.TheVariants.{Candidate};
+ghost use Rattle.pdc_state.specs.State.{after_adoption, after_adoptions, row_layout_of, rule_of};
+ghost use Rattle.pdc_align.specs.Align.{HasSizes, KeepsSizes, StandsFor, given_by, new_change, ticked_of};
+ghost use Rattle.pdc_align.specs.Calls.{after_data, after_adopting, after_closing, after_tick_of, told_at, after_hold, after_pop_of, first_content, first_of_plan, put_outcome, row_layout_in, waiting_in};
+
+use crate::{Column, Plan, Ticked, columns};
+use pdc_block::Block;
+use pdc_cfg::SectionView;
+use pdc_closing::{rows_are_those, tick_is_tick};
+use pdc_life::{MAX_PMUS, Outcome, Refusal, WaitKind};
+use pdc_reading::ColumnSection;
+use pdc_state::{answers_agree, others_leave_it, take_is_take};
+use pdc_table::{DueRow, PutOutcome, RowLayout, Table, WaitRule};
+use std::alloc::{AllocError, Global};
+use std::marker::Model;
+
+/// The alignment of a concentrator over a table (this profile).
+#[derive(Drop)]
+pub struct Alignment<T: Table> {
+    wait: u64,
+    wait_kind: WaitKind,
+    ahead: u64,
+    start: u32,
+    current: u64,
+    change: u32,
+    lanes: usize,
+    columns: Vec<Column>,
+    table: T,
+}
+
+impl<T: Table> Model for Alignment<T> {
+    ghost use Rattle.std.specs.Prelude.{◌≡◌, ◌∷◌, length};
+    ghost use Rattle.std.specs.Vec.{vec_capacity};
+    ghost use Rattle.pdc_align.specs.Align.{AlignmentView};
+    ghost use Rattle.pdc_table.specs.Content.{IsContent};
+
+    ghost Value = { AlignmentView };
+
+    ghost view = { λ a. record {
+      state = record {
+        wait = a.wait;
+        wait_kind = a.wait_kind;
+        ahead = a.ahead;
+        start = a.start;
+        current = a.current;
+        change = a.change;
+        columns = a.columns.items;
+        content = T.content a.table;
+      };
+      memory = vec_capacity a.columns ∷ T.memory a.table;
+    } };
+
+    ghost invariant = { λ a. record {
+      well_formed : IsContent (T.content a.table);
+      each : length a.columns.items ≡ (T.content a.table).columns;
+      lanes : a.lanes ≡ (T.content a.table).lanes;
+    } };
+}
+
+/// An empty table, in which an instant waits for both streams where there are two lanes.
+fn new_table<T: Table>(alloc: Global, plan: Plan, floor: u64) -> Result<T, AllocError>
+    ensures content { IfOk result (λ t. T.content t ≡ first_content plan.window plan.columns plan.lanes floor) }
+    ensures well_formed { IfOk result (λ t. IsContent (T.content t)) }
+{
+    let mut table = T::new(alloc, plan.window, plan.columns, plan.lanes, floor)?;
+    if plan.lanes != 1 {
+        table.require(0, true);
+        table.require(1, true);
+    }
+    Ok(table)
+}
+
+/// What a put into the table is answered, as a concentrator tells it.
+fn outcome_of(outcome: PutOutcome) -> Outcome
+    ensures { result ≡ told_by outcome }
+{
+    match outcome {
+        PutOutcome::Taken => Outcome::Taken,
+        PutOutcome::Late => Outcome::Refused(Refusal::Late),
+        PutOutcome::OutOfWindow => Outcome::Refused(Refusal::OutOfWindow),
+        PutOutcome::Duplicate => Outcome::Refused(Refusal::Duplicate),
+        PutOutcome::Conflict => Outcome::Refused(Refusal::Conflict),
+    }
+}
+
+/// The rule that a tick hands to the table: the wait in ticks, or the instant that lies the wait below now.
+fn rule_of(kind: WaitKind, wait: u64, now: u64) -> WaitRule
+    ensures { result ≡ rule_of kind wait now }
+{
+    match kind {
+        WaitKind::Relative => WaitRule::Ticks(wait),
+        WaitKind::Absolute if wait <= now => WaitRule::Until(Some(now - wait)),
+        WaitKind::Absolute => WaitRule::Until(None),
+    }
+}
+
+/// Adopts the columns in the table, one after the other: with one lane the column's stream is waited for, and what was taken of it
+/// is dropped; with two the cells of the column are.
+fn adopt_in<T: Table>(table: &mut T, lanes: usize, columns: &[usize])
+    requires lanes { lanes ≡ (T.content table.old).lanes }
+    requires columns { All (λ (column : ℕ). column < (T.content table.old).columns) columns.now }
+    requires well_formed { IsContent (T.content table.old) }
+    ensures content { T.content table.new ≡ after_adoptions (T.content table.old) columns.now }
+    ensures sizes { HasSizesOf (T.content table.old) (T.content table.new) }
+    ensures memory { T.memory table.new ≡ T.memory table.old }
+    ensures well_formed { IsContent (T.content table.new) }
+{
+    for column in columns {
+        adopt_one(table, lanes, *column);
+    }
+}
+
+/// Adopts one column in the table.
+fn adopt_one<T: Table>(table: &mut T, lanes: usize, column: usize)
+    requires lanes { lanes ≡ (T.content table.old).lanes }
+    requires column { column < (T.content table.old).columns }
+    requires well_formed { IsContent (T.content table.old) }
+    ensures content { T.content table.new ≡ after_adoption (T.content table.old) column }
+    ensures sizes { HasSizesOf (T.content table.old) (T.content table.new) }
+    ensures memory { T.memory table.new ≡ T.memory table.old }
+    ensures well_formed { IsContent (T.content table.new) }
+{
+    if lanes == 1 {
+        table.require(column, true);
+        table.drop_stream(column);
+    } else {
+        table.drop_column(column);
+    }
+}
+
+impl<T: Table> Alignment<T> {
+    /// The alignment at the start of a life: the number of the start, the instant up to which all is published, for each column the
+    /// count below which no section is held, and what counts as now until the first tick.
+    ///
+    /// # Errors
+    ///
+    /// [`AllocError`] where there is no memory. No other call takes any.
+    pub fn new(
+        alloc: Global,
+        plan: Plan,
+        start: u32,
+        floor: u64,
+        counts: &[u16; MAX_PMUS],
+        now: u64,
+    ) -> Result<Alignment<T>, AllocError>
+        ensures stands { IfOk result (λ a. (output : Output) → StandsFor (given_by plan output start floor counts.now now) [] a.state) }
+        ensures sizes { IfOk result (λ a. HasSizes plan.columns plan.lanes a.state) }
+    {
+        Alignment::first(alloc, plan, start, floor, counts, now)
+    }
+
+    /// Offers data of a stream for an instant: its blocks, each with its column, and its time quality byte. The answer is the end
+    /// of what a concentrator answers to data.
+    pub fn put(
+        &mut self,
+        stream: usize,
+        instant: u64,
+        cells: &[(usize, Block)],
+        quality: u8,
+    ) -> Outcome
+        requires { IsPut self.old.state.content stream (cells_of cells.now quality) }
+        ensures answer { (g : Given) (E : List Entry) → StandsFor g E self.old.state →
+            result ≡ outcome_in_time g E stream instant (cells_of cells.now quality) }
+        ensures stands { (g : Given) (E : List Entry) (bytes payload : List ℕ) → StandsFor g E self.old.state →
+            IsRun g (Arrive stream bytes (Data instant quality payload) (with_cells result (cells_of cells.now quality)) ∷ E) →
+            StandsFor g (Arrive stream bytes (Data instant quality payload) (with_cells result (cells_of cells.now quality)) ∷ E) self.new.state }
+        ensures sizes { KeepsSizes self.old.state self.new.state }
+        ensures memory { self.new.memory ≡ self.old.memory }
+    {
+        answers_agree();
+        take_is_take();
+        others_leave_it();
+        self.offer(stream, instant, cells, quality)
+    }
+
+    /// Holds the sections of a layout that is a candidate, each in its column: of the greatest count, the first of that count.
+    pub fn hold(&mut self, sections: &[ColumnSection<'_>])
+        requires { All (λ (s : ColumnSectionData). s.column < length self.old.state.columns) sections.now }
+        ensures stands { (g : Given) (E : List Entry) (stream : ℕ) (bytes : List ℕ) (stamp : Option Stamp) → StandsFor g E self.old.state →
+            IsRun g (Arrive stream bytes (Layout stamp (map section_part sections.now)) (bare Candidate) ∷ E) →
+            StandsFor g (Arrive stream bytes (Layout stamp (map section_part sections.now)) (bare Candidate) ∷ E) self.new.state }
+        ensures sizes { KeepsSizes self.old.state self.new.state }
+        ensures memory { self.new.memory ≡ self.old.memory }
+    {
+        others_leave_it();
+        self.keep(sections);
+    }
+
+    /// A tick with its now, and for each column the count up to which it is cleared: rows close under the layout before it, and then
+    /// the columns that are ready are adopted, where a change number is left.
+    pub fn tick(&mut self, now: u64, counts: &[u16; MAX_PMUS]) -> Ticked
+        ensures answer { (g : Given) (E : List Entry) → StandsFor g E self.old.state → result ≡ ticked_of (changes E) (tick_answer g E now counts.now) }
+        ensures stands { (g : Given) (E : List Entry) → StandsFor g E self.old.state →
+            StandsFor g (Tick now counts.now (tick_answer g E now counts.now) ∷ E) self.new.state }
+        ensures sizes { KeepsSizes self.old.state self.new.state }
+        ensures memory { self.new.memory ≡ self.old.memory }
+    {
+        rows_are_those();
+        tick_is_tick();
+        self.step(now, counts)
+    }
+
+    /// The lowest closed row that was not popped.
+    pub fn pop_due(&mut self) -> Option<DueRow>
+        ensures answer { (g : Given) (E : List Entry) → StandsFor g E self.old.state → option_map row_view result ≡ pop_answer E }
+        ensures stands { (g : Given) (E : List Entry) → StandsFor g E self.old.state → StandsFor g (Pop (pop_answer E) ∷ E) self.new.state }
+        ensures sizes { KeepsSizes self.old.state self.new.state }
+        ensures memory { self.new.memory ≡ self.old.memory }
+    {
+        self.take_due()
+    }
+
+    /// The layout under which rows close now: the stamp, and the shapes in force.
+    pub fn row_layout(&self) -> RowLayout
+        ensures { (g : Given) (E : List Entry) → StandsFor g E self.now.state → layout_view result ≡ row_layout_of g E }
+    {
+        self.layout()
+    }
+
+    /// For each column the count that waits to be stored: the greater of the cleared and the held one; 0 past the last column.
+    pub fn waiting(&self) -> [u16; MAX_PMUS]
+        ensures { (g : Given) (E : List Entry) → StandsFor g E self.now.state → result ≡ waiting_counts g E }
+    {
+        self.counts()
+    }
+
+    /// The section that is held of the column.
+    pub fn held(&self, column: usize) -> Option<SectionView<'_>>
+        requires { column < length self.now.state.columns }
+        ensures { (g : Given) (E : List Entry) → StandsFor g E self.now.state → option_map fields_of_view result ≡ held_section g E column }
+    {
+        self.columns[column].held()
+    }
+
+    /// The section in force for the column.
+    pub fn in_force(&self, column: usize) -> Option<SectionView<'_>>
+        requires { column < length self.now.state.columns }
+        ensures { (g : Given) (E : List Entry) → StandsFor g E self.now.state → option_map fields_of_view result ≡ section_in_force g E column }
+    {
+        self.columns[column].in_force()
+    }
+
+    /// The change number.
+    pub fn change(&self) -> u32
+        ensures { (g : Given) (E : List Entry) → StandsFor g E self.now.state → result ≡ changes E }
+    {
+        self.change
+    }
+
+    /// What stands at the start of a life.
+    fn first(
+        alloc: Global,
+        plan: Plan,
+        start: u32,
+        floor: u64,
+        counts: &[u16; MAX_PMUS],
+        now: u64,
+    ) -> Result<Alignment<T>, AllocError>
+        ensures { IfOk result (λ a. a.state ≡ first_of_plan plan start floor counts.now now) }
+    {
+        Ok(Alignment {
+            wait: plan.wait,
+            wait_kind: plan.wait_kind,
+            ahead: plan.ahead,
+            start,
+            current: now,
+            change: 0,
+            lanes: plan.lanes,
+            columns: columns::new_columns(alloc, plan.columns, counts)?,
+            table: new_table(alloc, plan, floor)?,
+        })
+    }
+
+    /// Offers data to the table, unless it is too far above now.
+    fn offer(
+        &mut self,
+        stream: usize,
+        instant: u64,
+        cells: &[(usize, Block)],
+        quality: u8,
+    ) -> Outcome
+        requires { IsPut self.old.state.content stream (cells_of cells.now quality) }
+        ensures answer { result ≡ put_outcome self.old.state stream instant (cells_of cells.now quality) }
+        ensures state { self.new.state ≡ after_data self.old.state stream instant (cells_of cells.now quality) }
+        ensures sizes { KeepsSizes self.old.state self.new.state }
+        ensures memory { self.new.memory ≡ self.old.memory }
+    {
+        if instant <= self.table.last() {
+            return Outcome::Refused(Refusal::Late);
+        }
+        if instant.saturating_sub(self.current) > self.ahead {
+            return Outcome::Refused(Refusal::Ahead);
+        }
+        outcome_of(self.table.put(stream, instant, cells, quality))
+    }
+
+    /// Holds each section in its column.
+    fn keep(&mut self, sections: &[ColumnSection<'_>])
+        requires { All (λ (s : ColumnSectionData). s.column < length self.old.state.columns) sections.now }
+        ensures state { self.new.state ≡ after_hold self.old.state (map section_part sections.now) }
+        ensures sizes { KeepsSizes self.old.state self.new.state }
+        ensures memory { self.new.memory ≡ self.old.memory }
+    {
+        columns::hold(&mut self.columns, sections);
+    }
+
+    /// A tick: rows close under the layout before it, and then the columns that are ready are adopted.
+    fn step(&mut self, now: u64, counts: &[u16; MAX_PMUS]) -> Ticked
+        ensures answer { result ≡ told_at self.old.state now counts.now }
+        ensures state { self.new.state ≡ after_tick_of self.old.state now counts.now }
+        ensures wait { self.old.state.wait < 2 ^ 64 }
+        ensures sizes { KeepsSizes self.old.state self.new.state }
+        ensures memory { self.new.memory ≡ self.old.memory }
+    {
+        let closed = self.close(now, counts);
+        let ready = columns::ready(&self.columns);
+        if self.change == u32::MAX {
+            return Ticked {
+                closed,
+                change: None,
+                used_up: !ready.is_empty(),
+            };
+        }
+        Ticked {
+            closed,
+            change: self.adopt(ready.as_slice()),
+            used_up: false,
+        }
+    }
+
+    /// Closes the rows that are due, and clears the counts. It answers how many rows.
+    fn close(&mut self, now: u64, counts: &[u16; MAX_PMUS]) -> u32
+        ensures answer { result ≡ table.tick_answer self.old.state.content (rule_of self.old.state.wait_kind self.old.state.wait now) }
+        ensures state { self.new.state ≡ after_closing self.old.state now counts.now }
+        ensures sizes { KeepsSizes self.old.state self.new.state }
+        ensures memory { self.new.memory ≡ self.old.memory }
+    {
+        let layout = self.layout();
+        let rule = rule_of(self.wait_kind, self.wait, now);
+        let closed = self.table.tick(rule, &layout);
+        columns::clear(&mut self.columns, counts);
+        self.current = now;
+        closed
+    }
+
+    /// Puts into force what is ready, and adopts these columns in the table. It answers the change number, where there are any.
+    fn adopt(&mut self, adopted: &[usize]) -> Option<u32>
+        requires change { self.old.state.change < 2 ^ 32 - 1 }
+        requires exist { All (λ (column : ℕ). column < length self.old.state.columns) adopted.now }
+        ensures answer { result ≡ new_change self.old.state.change adopted.now }
+        ensures state { self.new.state ≡ after_adopting self.old.state adopted.now }
+        ensures sizes { KeepsSizes self.old.state self.new.state }
+        ensures memory { self.new.memory ≡ self.old.memory }
+    {
+        columns::adopt(&mut self.columns);
+        adopt_in(&mut self.table, self.lanes, adopted);
+        if adopted.is_empty() {
+            return None;
+        }
+        self.change += 1;
+        Some(self.change)
+    }
+
+    /// Takes out the first row that waits.
+    fn take_due(&mut self) -> Option<DueRow>
+        ensures answer { option_map row_view result ≡ table.pop_answer self.old.state.content }
+        ensures state { self.new.state ≡ after_pop_of self.old.state }
+        ensures sizes { KeepsSizes self.old.state self.new.state }
+        ensures memory { self.new.memory ≡ self.old.memory }
+    {
+        self.table.pop_due()
+    }
+
+    /// The layout under which rows close.
+    fn layout(&self) -> RowLayout
+        ensures { layout_view result ≡ row_layout_in self.now.state }
+    {
+        RowLayout {
+            start: self.start,
+            change: self.change,
+            shapes: columns::shapes(&self.columns),
+        }
+    }
+
+    /// The counts that wait to be stored.
+    fn counts(&self) -> [u16; MAX_PMUS]
+        ensures { result ≡ waiting_in self.now.state }
+    {
+        columns::waiting(&self.columns)
+    }
+}
