@@ -3,6 +3,4 @@ pub mod Front
 pub mod Rows
 pub mod Adoptions
 pub mod Ticks
-pub mod Keeping
-pub mod Answering
 pub mod Worked

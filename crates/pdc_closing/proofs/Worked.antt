@@ -19,7 +19,6 @@ use Rattle.pdc_life.specs.Life.{Entry}
 use Rattle.pdc_life.specs.Merger.{merged_answer}
 use Rattle.pdc_life.specs.Node.{node_answer}
 use Rattle.pdc_state.specs.State.{content_of}
-use Rattle.pdc_closing.specs.Kept.{kept_of}
 
 -- ---- what is given, and what arrives
 
@@ -160,15 +159,6 @@ a_tick_that_adopts : content_of node adopted ≡ record {
   last = 10;
 }
 a_tick_that_adopts = refl
-
-what_is_kept : kept_of node adopted ≡ record {
-  now = 11;
-  change = 2;
-  held = Some (section 2) ∷ Some other_section ∷ [];
-  in_force = Some (section 2) ∷ Some other_section ∷ [];
-  cleared = 9 ∷ 9 ∷ [];
-}
-what_is_kept = refl
 
 -- data of column 0 for 11 and 13; the wait of 11 and of 12 is over, and 13 stays
 abbrev shut : List Entry
