@@ -1,10 +1,9 @@
 -- The rows that close are those of the life, and the cells that the table holds have the shapes in force.
-use Rattle.std.proofs.Common.{◌≡◌, ℕ, ◌+◌, ◌-◌, ◌^◌, ◌<◌, ◌≤◌, Bool, true, false, not, ◌||◌, ◌&&◌, cond, leb, List, [], ◌∷◌, ◌++◌, map, filter, length, refl, sym, ap, ◌∙◌, arith, inl, inr, Option, Some, None}
+use Rattle.std.proofs.Common.{◌≡◌, ℕ, ◌+◌, ◌-◌, ◌^◌, ◌<◌, ◌≤◌, Bool, true, false, not, ◌||◌, ◌&&◌, cond, leb, List, [], ◌∷◌, ◌++◌, map, filter, refl, sym, ap, ◌∙◌, arith, inl, inr, Option, Some, None}
 use Rattle.std.specs.Prelude.{nat_le, is_some}
 use Rattle.std.specs.List.{AllByRecursion, cons_option, filter_map, list_all}
 use Rattle.std.specs.Option.{option_to_list}
 use Rattle.std.proofs.lemmas.Bool.{cases_lt, le-leb, lt-leb}
-use Rattle.std.proofs.lemmas.List.{length-map}
 use Rattle.pdc_cfg.specs.Section.{SectionFields}
 use Rattle.pdc_cfg.specs.declared.shape.Shape.{Shape}
 use Rattle.pdc_row.specs.CellView.{BlockView, CellView}
@@ -174,8 +173,3 @@ rows_are_those g E now h =
     ap (λ rows. map (closed.row_of (row_layout_of g E)) rows) (closing_is g E now h)
     ∙ map_twice (closed.row_of (row_layout_of g E)) (aged_row_of g E) (life.closing g E now)
     ∙ map_same (λ i. closed.row_of (row_layout_of g E) (aged_row_of g E i)) (row_of g E) (row_is_row g E) (life.closing g E now)
-
--- as many rows close as the table tells
-pub count_is : (g : Given) (E : List Entry) (now : ℕ) → g.wait < 2 ^ 64 → length (closing_of (content_of g E) (rule_of g.wait_kind g.wait now)) ≡ length (rows_of g E now)
-count_is g E now h =
-    ap length (closing_is g E now h) ∙ length-map (life.closing g E now) (aged_row_of g E) ∙ sym (length-map (life.closing g E now) (row_of g E))
