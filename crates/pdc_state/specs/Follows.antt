@@ -40,7 +40,7 @@ AnswersAgree =
     (g : Given) (E : List Entry) (s i : ℕ) (cells : List (ℕ × CellView)) → IsRun g E → AreCells g s cells →
     outcome_in_time g E s i cells
     ≡ (if nat_le i (last_of g E) then Refused Late
-       else (if nat_lt (now_of g E + g.ahead) i then Refused Ahead else told_by (put_answer (content_of g E) s i cells)))
+    else (if nat_lt (now_of g E + g.ahead) i then Refused Ahead else told_by (put_answer (content_of g E) s i cells)))
 
 -- Data that is taken is a take of the table; whatever else arrives leaves the table as it was.
 abbrev pub TakeIsTake : Type 0

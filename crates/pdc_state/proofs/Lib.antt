@@ -1,0 +1,4 @@
+pub mod Arrivals
+pub mod Quiet
+pub mod Rows
+pub mod Takes
