@@ -55,7 +55,7 @@ stream_is : (g : Given) (s : ℕ) → s < length (streams_of g) → s < stream_c
 stream_is g s l = omega (arith, l, length-range_with_len 0 (stream_count g.columns g.lanes))
 
 pub cells_are_put : CellsArePut
-cells_are_put g E s cells run are = record {
+cells_are_put g E s cells are = record {
   stream_exists = stream_is g s are.stream;
   columns_exist = each_is (λ (part : ℕ × CellView). part.0 < g.columns) cells are.columns.exist;
   own_column = λ e. each_is (λ (part : ℕ × CellView). part.0 ≡ s) cells (are.own e);
@@ -134,7 +134,7 @@ causes_same false false far true other answer e h = ap (λ b. cond b (Refused Ou
 causes_same false false far false other answer e h = ap (λ b. cond b (Refused OutOfWindow) other) e
 
 pub answers_agree : AnswersAgree
-answers_agree g E s i cells run are =
+answers_agree g E s i cells are =
     causes_same (leb i (last_of g E)) (ltb (now_of g E + g.ahead) i) (not (list_all (is_near g.window i) (held_instants g E))) (is_near_all (content_of g E) i)
     (again_answer (take_of g E s i) (list_any (λ (part : ℕ × CellView). is_other (cell_of E s part.0 i) part.1) cells))
     (answer_at (row_at i (content_of g E).open_rows) s (lane_of (content_of g E) s) cells)

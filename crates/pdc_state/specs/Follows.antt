@@ -16,7 +16,7 @@ use Rattle.pdc_life.specs.Row.{rows_of}
 use Rattle.pdc_life.specs.Run.{HaveColumns, IsRun}
 use Rattle.pdc_state.specs.State.{after_adoptions, content_of, row_layout_of, rule_of}
 
--- The cells that a stream of a run may give: their columns rise and exist, and with one lane they are of the stream's own.
+-- The cells that a stream may give: their columns rise and exist, and with one lane they are of the stream's own.
 pub record AreCells (g : Given) (s : ℕ) (cells : List (ℕ × CellView)) : Type 0 where
   pub stream : s < length (streams_of g)
   pub columns : HaveColumns g cells
@@ -25,7 +25,7 @@ pub record AreCells (g : Given) (s : ℕ) (cells : List (ℕ × CellView)) : Typ
 -- They may be put.
 abbrev pub CellsArePut : Type 0
 CellsArePut =
-    (g : Given) (E : List Entry) (s : ℕ) (cells : List (ℕ × CellView)) → IsRun g E → AreCells g s cells → IsPut (content_of g E) s cells
+    (g : Given) (E : List Entry) (s : ℕ) (cells : List (ℕ × CellView)) → AreCells g s cells → IsPut (content_of g E) s cells
 
 -- What the table answers is the end of what the life answers: Ahead stands between Late and the rest.
 abbrev pub told_by : PutOutcome → Outcome
@@ -37,7 +37,7 @@ told_by PutOutcome.Conflict = Refused Conflict
 
 abbrev pub AnswersAgree : Type 0
 AnswersAgree =
-    (g : Given) (E : List Entry) (s i : ℕ) (cells : List (ℕ × CellView)) → IsRun g E → AreCells g s cells →
+    (g : Given) (E : List Entry) (s i : ℕ) (cells : List (ℕ × CellView)) → AreCells g s cells →
     outcome_in_time g E s i cells
     ≡ (if nat_le i (last_of g E) then Refused Late
     else (if nat_lt (now_of g E + g.ahead) i then Refused Ahead else told_by (put_answer (content_of g E) s i cells)))

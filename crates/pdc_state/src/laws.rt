@@ -5,12 +5,13 @@ use pdc_life::taken_is_in_time;
 use pdc_row::numbers_rise;
 use pdc_table::blocks_stand_in_their_columns;
 
-/// In every run the cells that a stream may give may be put into the table.
+/// After every life the cells that a stream may give may be put into the table.
 pub fn cells_are_put()
     ensures { CellsArePut }
 {}
 
-/// What the table answers to data is the end of what the life answers; that it is too far above now comes after that it is late.
+/// After every life the table answers to data what the life answers to data in time; that it is too far above now is told after
+/// that it is late, and before all else.
 pub fn answers_agree()
     ensures { AnswersAgree }
 {}
