@@ -11,7 +11,7 @@ use Rattle.pdc_row.specs.RisingLaws.{RisingLaws}
 use Rattle.pdc_row.specs.RowView.{row_instants}
 use Rattle.pdc_table.specs.Calls.{BlocksStandInTheirColumns}
 use Rattle.pdc_table.specs.Closing.{counter}
-use Rattle.pdc_table.specs.Content.{Content, HaveOwnColumns, NoneIsOf, lane_of, stream_count}
+use Rattle.pdc_table.specs.Content.{Content, HaveOwnColumns, IsPut, NoneIsOf, lane_of, stream_count}
 use Rattle.pdc_table.specs.OpenInstants.{instants_of}
 use Rattle.pdc_table.specs.Placing.{row_at}
 use Rattle.pdc_table.specs.Steps.{after_take, answer_at, is_near_all, put_answer}
@@ -30,7 +30,7 @@ use Rattle.pdc_life.specs.InTime.{ComesInTime, TakenIsInTime}
 use Rattle.pdc_life.specs.Life.{Answer, Entry, Arrive, Tick, Pop, Take, age_of, cell_of, is_take_of, held_instants, last_of, now_of, open_instants, take_at, take_of, takes, takes_since_adopted, waiting}
 use Rattle.pdc_life.specs.Life as given
 use Rattle.pdc_life.specs.Run.{IsInTime}
-use Rattle.pdc_state.specs.Follows.{AnswersAgree, AreCells, CellsArePut, OthersLeaveIt, TakeIsTake, told_by}
+use Rattle.pdc_state.specs.Follows.{AnswersAgree, CellsArePut, OthersLeaveIt, TakeIsTake, told_by}
 use Rattle.pdc_state.specs.State.{column_of, content_of, open_row_of}
 use Rattle.pdc_state.proofs.Quiet.{is_in, no_take, open_is_taken, row_is_fresh}
 use Rattle.pdc_state.proofs.Rows.{row_at_open, rows_placed}
@@ -50,6 +50,10 @@ each_is : {A : Type 0} (P : A → Type 0) (xs : List A) → AllByRecursion P xs 
 each_is P [] a k d l = absurd (omega (arith, l))
 each_is P (x ∷ xs) a zero d l = a.0
 each_is P (x ∷ xs) a (suc k) d l = each_is P xs a.1 k d (omega (arith, l))
+
+all_are : {A : Type 0} (P : A → Type 0) (xs : List A) → All P xs → AllByRecursion P xs
+all_are P [] a = tt
+all_are P (x ∷ xs) a = (a zero x (omega arith), all_are P xs (λ k d l. a (suc k) d (omega (arith, l))))
 
 stream_is : (g : Given) (s : ℕ) → s < length (streams_of g) → s < stream_count g.columns g.lanes
 stream_is g s l = omega (arith, l, length-range_with_len 0 (stream_count g.columns g.lanes))
@@ -115,7 +119,7 @@ again_same (Some t) true true false e h = absurd (false≢true (sym h))
 again_same (Some t) true false true e h = absurd (false≢true h)
 
 -- above the last, an instant that is open tells what was taken, and for one that is not nothing was
-answer_same : (g : Given) (E : List Entry) (s i : ℕ) (cells : List (ℕ × CellView)) (b : Bool) → AreCells g s cells → last_of g E < i → is_in i (open_instants g E) ≡ b
+answer_same : (g : Given) (E : List Entry) (s i : ℕ) (cells : List (ℕ × CellView)) (b : Bool) → IsPut (content_of g E) s cells → last_of g E < i → is_in i (open_instants g E) ≡ b
     → again_answer (take_of g E s i) (list_any (λ (part : ℕ × CellView). is_other (cell_of E s part.0 i) part.1) cells)
     ≡ told_by (answer_at (cond b (Some (open_row_of g E i)) None) s (cond (eqb g.lanes 1) 0 s) cells)
 answer_same g E s i cells false are l e =
@@ -123,8 +127,9 @@ answer_same g E s i cells false are l e =
 answer_same g E s i cells true are l e =
     again_same (take_of g E s i) (get_or (open_row_of g E i).taken s false) (conflicts (cond (eqb g.lanes 1) 0 s) cells (open_row_of g E i).columns)
     (list_any (λ (part : ℕ × CellView). is_other (cell_of E s part.0 i) part.1) cells)
-    (get_or-map-range_with_len (λ r. is_some (take_of g E r i)) 0 (stream_count g.columns g.lanes) s s false (stream_is g s are.stream) (omega arith))
-    (conflicts_same g E s i cells (λ f. subst (λ c. s < cond c g.columns 2) f (stream_is g s are.stream)) are.columns.exist are.own)
+    (get_or-map-range_with_len (λ r. is_some (take_of g E r i)) 0 (stream_count g.columns g.lanes) s s false are.stream_exists (omega arith))
+    (conflicts_same g E s i cells (λ f. subst (λ c. s < cond c g.columns 2) f are.stream_exists) (all_are (λ (part : ℕ × CellView). part.0 < g.columns) cells are.columns_exist)
+    (λ e. all_are (λ (part : ℕ × CellView). part.0 ≡ s) cells (are.own_column e)))
 
 causes_same : (late ahead far near : Bool) (other : Outcome) (answer : PutOutcome) → far ≡ not near → (late ≡ false → other ≡ told_by answer)
     → first_cause late ahead far other ≡ cond late (Refused Late) (cond ahead (Refused Ahead) (told_by (table.first_cause late (not near) answer)))

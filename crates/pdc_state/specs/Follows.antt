@@ -37,7 +37,7 @@ told_by PutOutcome.Conflict = Refused Conflict
 
 abbrev pub AnswersAgree : Type 0
 AnswersAgree =
-    (g : Given) (E : List Entry) (s i : ℕ) (cells : List (ℕ × CellView)) → AreCells g s cells →
+    (g : Given) (E : List Entry) (s i : ℕ) (cells : List (ℕ × CellView)) → IsPut (content_of g E) s cells →
     outcome_in_time g E s i cells
     ≡ (if nat_le i (last_of g E) then Refused Late
     else (if nat_lt (now_of g E + g.ahead) i then Refused Ahead else told_by (put_answer (content_of g E) s i cells)))
