@@ -1,0 +1,13 @@
+use Rattle.std.proofs.Common.{ap, length, sym, ◌∙◌}
+use Rattle.std.proofs.lemmas.List.FromFn.{length-map-range_with_len}
+use Rattle.pdc_align.specs.Calls.{new_column}
+use Rattle.pdc_table.specs.Content.{Content}
+use Rattle.pdc_align.proofs.alignment.Alignment.first.Goals as goal
+
+pub invariant_of-result : goal.invariant_of-result
+invariant_of-result g c = record {
+  well_formed = c.in_ok-new_table.ensures.well_formed;
+  each =
+    ap length c.in_ok-new_columns.ensures ∙ length-map-range_with_len (new_column c.args.counts.now) 0 c.args.plan.columns
+    ∙ sym (ap (λ (t : Content). t.columns) c.in_ok-new_table.ensures.content);
+}

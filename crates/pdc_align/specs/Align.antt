@@ -1,0 +1,73 @@
+-- What the alignment of a concentrator keeps of a life: a function of the life (this profile).
+use Rattle.std.specs.Prelude.{◌≡◌, ℕ, List, map, Option}
+use Rattle.pdc_cfg.specs.Section.{SectionFields}
+use Rattle.pdc_output.specs.declared.output.Output.{Output}
+use Rattle.pdc_table.specs.Content.{Content}
+use Rattle.pdc_life.specs.Given.{Given, columns_of, count_for}
+use Rattle.pdc_life.specs.Life.{Entry, changes, cleared_count, held_section, now_of, section_in_force}
+use Rattle.pdc_life.specs.Run.{IsRun}
+use Rattle.pdc_life.specs.declared.given.WaitKind.{WaitKind}
+use Rattle.pdc_state.specs.State.{content_of}
+use Rattle.pdc_align.specs.declared.plan.Plan.{Plan}
+
+-- what is kept of a column: the count below which no section is held, the count up to which one may be adopted, and the sections
+-- that are held and in force
+pub record ColumnState : Type 0 where
+  pub opening : ℕ
+  pub cleared : ℕ
+  pub held : Option SectionFields
+  pub in_force : Option SectionFields
+
+pub record AlignmentView : Type 0 where
+  -- what is fixed: how long an open instant waits, how far above now one may lie, and the number of the start
+  pub wait : ℕ
+  pub wait_kind : WaitKind
+  pub ahead : ℕ
+  pub start : ℕ
+  -- what counts as now, the change number, the columns, and what the table contains
+  pub current : ℕ
+  pub change : ℕ
+  pub columns : List ColumnState
+  pub content : Content
+
+abbrev pub column_state_of : Given → List Entry → (c : ℕ) → ColumnState
+column_state_of g E c = record {
+  opening = count_for c g.counts;
+  cleared = cleared_count g E c;
+  held = held_section g E c;
+  in_force = section_in_force g E c;
+}
+
+-- What an alignment keeps after E.
+abbrev pub align_of : Given → List Entry → AlignmentView
+align_of g E = record {
+  wait = g.wait;
+  wait_kind = g.wait_kind;
+  ahead = g.ahead;
+  start = g.start;
+  current = now_of g E;
+  change = changes E;
+  columns = map (column_state_of g E) (columns_of g);
+  content = content_of g E;
+}
+
+-- The alignment stands for this life, which is a run.
+pub record StandsFor (g : Given) (E : List Entry) (a : AlignmentView) : Type 0 where
+  pub run : IsRun g E
+  pub same : a ≡ align_of g E
+
+-- What is given to a life by a plan, with what its frames say.
+abbrev pub given_by : Plan → Output → (start floor : ℕ) → (counts : List ℕ) → (opening : ℕ) → Given
+given_by plan output start floor counts opening = record {
+  output = output;
+  wait = plan.wait;
+  wait_kind = plan.wait_kind;
+  window = plan.window;
+  ahead = plan.ahead;
+  columns = plan.columns;
+  lanes = plan.lanes;
+  start = start;
+  floor = floor;
+  counts = counts;
+  opening = opening;
+}

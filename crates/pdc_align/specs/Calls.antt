@@ -1,0 +1,77 @@
+-- What each call of an alignment answers, and what it makes of what is kept (this profile).
+use Rattle.std.specs.Prelude.{ℕ, ◌+◌, ◌-◌, ◌^◌, ◌++◌, ◌==◌, Bool, ◌&&◌, false, true, not, if◌then◌else◌, List, [], ◌∷◌, length, map, max, nat_le, nat_lt, replicate, slice_set, slice_index_or, Option, None, Some}
+use Rattle.std.specs.List.{range_with_len}
+use Rattle.pdc_cfg.specs.Section.{SectionFields}
+use Rattle.pdc_row.specs.CellView.{CellView}
+use Rattle.pdc_table.specs.Content.{Content, new_content}
+use Rattle.pdc_table.specs.Layout.{LayoutView}
+use Rattle.pdc_table.specs.Steps.{after_pop, after_take, put_answer}
+use Rattle.pdc_life.specs.declared.outcome.Outcome.{Outcome}
+use Rattle.pdc_life.specs.declared.outcome.Outcome.TheVariants.{Refused}
+use Rattle.pdc_life.specs.declared.outcome.Refusal.TheVariants.{Ahead, Late}
+use Rattle.pdc_life.specs.Answer.{greatest_count}
+use Rattle.pdc_life.specs.Given.{count_for}
+use Rattle.pdc_life.specs.Life.{greater, is_taken}
+use Rattle.pdc_state.specs.Follows.{told_by}
+use Rattle.pdc_state.specs.State.{shape_in}
+use Rattle.pdc_align.specs.Align.{AlignmentView, ColumnState}
+use Rattle.pdc_align.specs.declared.plan.Plan.{Plan}
+
+-- a column for which nothing came; up to its opening count all is cleared
+abbrev pub new_column : (counts : List ℕ) → (c : ℕ) → ColumnState
+new_column counts c = record { opening = count_for c counts; cleared = count_for c counts; held = None; in_force = None }
+
+-- what the table contains at the start: with one lane no instant waits for a stream, with two each waits for both
+abbrev pub first_content : (window columns lanes floor : ℕ) → Content
+first_content window columns lanes floor =
+    record (new_content window columns lanes floor) { required = if lanes == 1 then replicate columns false else true ∷ true ∷ [] }
+
+abbrev pub first_of_plan : Plan → (start floor : ℕ) → (counts : List ℕ) → (opening : ℕ) → AlignmentView
+first_of_plan plan start floor counts opening = record {
+  wait = plan.wait;
+  wait_kind = plan.wait_kind;
+  ahead = plan.ahead;
+  start = start;
+  current = opening;
+  change = 0;
+  columns = map (new_column counts) (range_with_len 0 plan.columns);
+  content = first_content plan.window plan.columns plan.lanes floor;
+}
+
+-- data of a stream for an instant, with its cells: the end of what a concentrator answers
+abbrev pub put_outcome : AlignmentView → (stream instant : ℕ) → List (ℕ × CellView) → Outcome
+put_outcome a stream instant cells =
+    if nat_le instant a.content.last then Refused Late
+    else (if nat_lt (a.current + a.ahead) instant then Refused Ahead else told_by (put_answer a.content stream instant cells))
+
+abbrev pub after_data : AlignmentView → (stream instant : ℕ) → List (ℕ × CellView) → AlignmentView
+after_data a stream instant cells =
+    if is_taken (put_outcome a stream instant cells) then record a { content = after_take a.content stream instant cells } else a
+
+-- the column after a section that was accepted: one below its opening count is not held
+abbrev pub with_section : SectionFields → ColumnState → ColumnState
+with_section s column = if nat_le column.opening s.count then record column { held = greater column.held s } else column
+
+-- the column that keeps nothing
+abbrev pub no_column : ColumnState
+no_column = record { opening = 0; cleared = 0; held = None; in_force = None }
+
+-- the columns after such sections, each with its column, the first of them first
+abbrev pub with_sections : List (ℕ × SectionFields) → List ColumnState → List ColumnState
+with_sections [] columns = columns
+with_sections (part ∷ parts) columns =
+    with_sections parts (slice_set columns part.0 (with_section part.1 (slice_index_or columns part.0 no_column)))
+
+abbrev pub after_hold : AlignmentView → List (ℕ × SectionFields) → AlignmentView
+after_hold a parts = record a { columns = with_sections parts a.columns }
+
+abbrev pub after_pop_of : AlignmentView → AlignmentView
+after_pop_of a = record a { content = after_pop a.content }
+
+-- the layout under which rows close: the stamp, and the shapes in force
+abbrev pub row_layout_in : AlignmentView → LayoutView
+row_layout_in a = record { start = a.start; change = a.change; shapes = map (λ (column : ColumnState). shape_in column.in_force) a.columns }
+
+-- the counts that wait to be stored: the greater of cleared and held, and 0 past the last of 16
+abbrev pub waiting_in : AlignmentView → List ℕ
+waiting_in a = map (λ (column : ColumnState). greatest_count column.cleared column.held) a.columns ++ replicate (16 - length a.columns) 0

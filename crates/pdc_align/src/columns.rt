@@ -1,0 +1,66 @@
+//! All columns of an alignment, one call for each thing that is asked of them.
+ghost use Rattle.std.specs.Prelude.{◌≡◌, ℕ, ◌-◌, ◌<◌, ◌≤◌, ◌++◌, IfOk, length, map, replicate};
+ghost use Rattle.std.specs.List.{All, range_with_len};
+ghost use Rattle.pdc_life.specs.Answer.{greatest_count};
+ghost use Rattle.pdc_reading.specs.Views.{section_part};
+ghost use Rattle.pdc_reading.specs.declared.arrival.ColumnSection.{ColumnSection as ColumnSectionData};
+ghost use Rattle.pdc_state.specs.State.{shape_in};
+ghost use Rattle.pdc_align.specs.Align.{ColumnState};
+ghost use Rattle.pdc_align.specs.Calls.{new_column, with_sections};
+
+use crate::Column;
+use arrayvec::ArrayVec;
+use pdc_cfg::Shape;
+use pdc_life::MAX_PMUS;
+use pdc_reading::ColumnSection;
+use std::alloc::{AllocError, Global};
+
+/// So many columns for which nothing came, each with its opening count.
+pub fn new_columns(
+    alloc: Global,
+    count: usize,
+    counts: &[u16; MAX_PMUS],
+) -> Result<Vec<Column>, AllocError>
+    requires { count ≤ 16 }
+    ensures { IfOk result (λ columns. columns.items ≡ map (new_column counts.now) (range_with_len 0 count)) }
+{
+    let mut columns = Vec::with_capacity(alloc, count)?;
+    for place in 0..count {
+        columns.push_reserved(Column::new(counts[place]));
+    }
+    Ok(columns)
+}
+
+/// Holds each section in its column, where it is not below the opening count and above what is held.
+pub fn hold(columns: &mut [Column], sections: &[ColumnSection<'_>])
+    requires { All (λ (s : ColumnSectionData). s.column < length columns.old) sections.now }
+    ensures { columns.new ≡ with_sections (map section_part sections.now) columns.old }
+{
+    for section in sections {
+        columns[section.column].hold(&section.section);
+    }
+}
+
+/// The shape in force of each column.
+pub fn shapes(columns: &[Column]) -> ArrayVec<Option<Shape>, 16>
+    requires { length columns.now ≤ 16 }
+    ensures { result.items ≡ map (λ (column : ColumnState). shape_in column.in_force) columns.now }
+{
+    let mut shapes = ArrayVec::new();
+    for column in columns {
+        shapes.push(column.shape());
+    }
+    shapes
+}
+
+/// The count of each column that waits to be stored, and 0 past the last column.
+pub fn waiting(columns: &[Column]) -> [u16; MAX_PMUS]
+    requires { length columns.now ≤ 16 }
+    ensures { result ≡ map (λ (column : ColumnState). greatest_count column.cleared column.held) columns.now ++ replicate (16 - length columns.now) 0 }
+{
+    let mut counts = [0; MAX_PMUS];
+    for (place, column) in columns.iter().enumerate() {
+        counts[place] = column.waiting();
+    }
+    counts
+}
