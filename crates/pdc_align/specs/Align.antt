@@ -1,10 +1,13 @@
 -- What the alignment of a concentrator keeps of a life: a function of the life (this profile).
-use Rattle.std.specs.Prelude.{◌≡◌, ℕ, List, map, Option}
+use Rattle.std.specs.Prelude.{◌≡◌, ℕ, Bool, true, false, List, ◌∷◌, map, Option}
 use Rattle.pdc_cfg.specs.Section.{SectionFields}
 use Rattle.pdc_output.specs.declared.output.Output.{Output}
 use Rattle.pdc_table.specs.Content.{Content}
 use Rattle.pdc_life.specs.Given.{Given, columns_of, count_for}
-use Rattle.pdc_life.specs.Life.{Entry, changes, cleared_count, held_section, now_of, section_in_force}
+use Rattle.pdc_life.specs.Arrival.{Arrival}
+use Rattle.pdc_life.specs.declared.outcome.Outcome.{Outcome}
+use Rattle.pdc_life.specs.declared.outcome.Outcome.TheVariants.{Known, Refused}
+use Rattle.pdc_life.specs.Life.{Answer, Arrive, Entry, changes, cleared_count, held_section, now_of, section_in_force}
 use Rattle.pdc_life.specs.Run.{IsRun}
 use Rattle.pdc_life.specs.declared.given.WaitKind.{WaitKind}
 use Rattle.pdc_state.specs.State.{content_of}
@@ -71,3 +74,15 @@ given_by plan output start floor counts opening = record {
   counts = counts;
   opening = opening;
 }
+
+-- the answer neither takes data nor holds a section
+abbrev pub is_left : Outcome → Bool
+is_left Known = true
+is_left (Refused refusal) = true
+is_left outcome = false
+
+-- An arrival that was neither taken nor a candidate leaves an alignment as it is: it stands for the run with that step more.
+abbrev pub LeavesIt : Type 0
+LeavesIt =
+    (g : Given) (E : List Entry) (a : AlignmentView) (s : ℕ) (bytes : List ℕ) (arrival : Arrival) (answer : Answer) →
+    StandsFor g E a → is_left answer.outcome ≡ true → IsRun g (Arrive s bytes arrival answer ∷ E) → StandsFor g (Arrive s bytes arrival answer ∷ E) a

@@ -1,5 +1,5 @@
 -- What each call of an alignment answers, and what it makes of what is kept (this profile).
-use Rattle.std.specs.Prelude.{ℕ, ◌+◌, ◌-◌, ◌^◌, ◌++◌, ◌==◌, Bool, ◌&&◌, false, true, not, if◌then◌else◌, List, [], ◌∷◌, length, map, max, nat_le, nat_lt, replicate, slice_set, slice_index_or, Option, None, Some}
+use Rattle.std.specs.Prelude.{ℕ, ◌+◌, ◌-◌, ◌++◌, ◌==◌, false, true, if◌then◌else◌, List, [], ◌∷◌, length, map, nat_le, nat_lt, replicate, slice_set, slice_index_or, None}
 use Rattle.std.specs.List.{range_with_len}
 use Rattle.pdc_cfg.specs.Section.{SectionFields}
 use Rattle.pdc_row.specs.CellView.{CellView}

@@ -1,5 +1,5 @@
 //! The alignment of a concentrator.
-ghost use Rattle.std.specs.Prelude.{◌≡◌, ◌<◌, [], ◌∷◌, ℕ, List, IfOk, length, map, option_map, None};
+ghost use Rattle.std.specs.Prelude.{◌≡◌, ◌<◌, [], ◌∷◌, ℕ, List, IfOk, Option, length, map, option_map};
 ghost use Rattle.std.specs.List.{All};
 ghost use Rattle.pdc_cfg.specs.Section.{fields_of_view};
 ghost use Rattle.pdc_output.specs.declared.output.Output.{Output};
@@ -11,13 +11,21 @@ ghost use Rattle.pdc_table.specs.Taking.{cells_of};
 ghost use Rattle.pdc_reading.specs.Views.{section_part};
 ghost use Rattle.pdc_reading.specs.declared.arrival.ColumnSection.{ColumnSection as ColumnSectionData};
 ghost use Rattle.pdc_state.specs.Follows.{told_by};
-ghost use Rattle.pdc_align.specs.Align.{AlignmentView};
+ghost use Rattle.pdc_life.specs.Answer.{bare, outcome_in_time, pop_answer, waiting_counts, with_cells};
+ghost use Rattle.pdc_life.specs.Arrival.{Data, Layout, Stamp};
+ghost use Rattle.pdc_life.specs.Given.{Given};
+ghost use Rattle.pdc_life.specs.Life.{Arrive, Entry, Pop};
+ghost use Rattle.pdc_life.specs.Run.{IsRun};
+ghost use Rattle.pdc_life.specs.declared.outcome.Outcome.TheVariants.{Candidate};
+ghost use Rattle.pdc_state.specs.State.{row_layout_of};
+ghost use Rattle.pdc_align.specs.Align.{StandsFor, given_by};
 ghost use Rattle.pdc_align.specs.Calls.{after_data, after_hold, after_pop_of, first_content, first_of_plan, put_outcome, row_layout_in, waiting_in};
 
 use crate::{Column, Plan, columns};
 use pdc_block::Block;
 use pdc_life::{MAX_PMUS, Outcome, Refusal, WaitKind};
 use pdc_reading::ColumnSection;
+use pdc_state::{answers_agree, others_leave_it, take_is_take};
 use pdc_table::{DueRow, PutOutcome, RowLayout, Table};
 use std::alloc::{AllocError, Global};
 use std::marker::Model;
@@ -86,6 +94,80 @@ fn outcome_of(outcome: PutOutcome) -> Outcome
 }
 
 impl<T: Table> Alignment<T> {
+    /// The alignment at the start of a life: the number of the start, the instant up to which all is published, for each column the
+    /// count below which no section is held, and what counts as now until the first tick.
+    ///
+    /// # Errors
+    ///
+    /// [`AllocError`] where there is no memory. No other call takes any.
+    pub fn new(
+        alloc: Global,
+        plan: Plan,
+        start: u32,
+        floor: u64,
+        counts: &[u16; MAX_PMUS],
+        now: u64,
+    ) -> Result<Alignment<T>, AllocError>
+        ensures { IfOk result (λ a. (output : Output) → StandsFor (given_by plan output start floor counts.now now) [] a) }
+    {
+        Alignment::first(alloc, plan, start, floor, counts, now)
+    }
+
+    /// Offers data of a stream for an instant: its blocks, each with its column, and its time quality byte. The answer is the end
+    /// of what a concentrator answers to data.
+    pub fn put(
+        &mut self,
+        stream: usize,
+        instant: u64,
+        cells: &[(usize, Block)],
+        quality: u8,
+    ) -> Outcome
+        requires { IsPut self.old.content stream (cells_of cells.now quality) }
+        ensures answer { (g : Given) (E : List Entry) → StandsFor g E self.old →
+            result ≡ outcome_in_time g E stream instant (cells_of cells.now quality) }
+        ensures stands { (g : Given) (E : List Entry) (bytes payload : List ℕ) → StandsFor g E self.old →
+            IsRun g (Arrive stream bytes (Data instant quality payload) (with_cells result (cells_of cells.now quality)) ∷ E) →
+            StandsFor g (Arrive stream bytes (Data instant quality payload) (with_cells result (cells_of cells.now quality)) ∷ E) self.new }
+    {
+        answers_agree();
+        take_is_take();
+        others_leave_it();
+        self.offer(stream, instant, cells, quality)
+    }
+
+    /// Holds the sections of a layout that is a candidate, each in its column: of the greatest count, the first of that count.
+    pub fn hold(&mut self, sections: &[ColumnSection<'_>])
+        requires { All (λ (s : ColumnSectionData). s.column < length self.old.columns) sections.now }
+        ensures { (g : Given) (E : List Entry) (stream : ℕ) (bytes : List ℕ) (stamp : Option Stamp) → StandsFor g E self.old →
+            IsRun g (Arrive stream bytes (Layout stamp (map section_part sections.now)) (bare Candidate) ∷ E) →
+            StandsFor g (Arrive stream bytes (Layout stamp (map section_part sections.now)) (bare Candidate) ∷ E) self.new }
+    {
+        others_leave_it();
+        self.keep(sections);
+    }
+
+    /// The lowest closed row that was not popped.
+    pub fn pop_due(&mut self) -> Option<DueRow>
+        ensures answer { (g : Given) (E : List Entry) → StandsFor g E self.old → option_map row_view result ≡ pop_answer E }
+        ensures stands { (g : Given) (E : List Entry) → StandsFor g E self.old → StandsFor g (Pop (pop_answer E) ∷ E) self.new }
+    {
+        self.take_due()
+    }
+
+    /// The layout under which rows close now: the stamp, and the shapes in force.
+    pub fn row_layout(&self) -> RowLayout
+        ensures { (g : Given) (E : List Entry) → StandsFor g E self.now → layout_view result ≡ row_layout_of g E }
+    {
+        self.layout()
+    }
+
+    /// For each column the count that waits to be stored: the greater of the cleared and the held one; 0 past the last column.
+    pub fn waiting(&self) -> [u16; MAX_PMUS]
+        ensures { (g : Given) (E : List Entry) → StandsFor g E self.now → result ≡ waiting_counts g E }
+    {
+        self.counts()
+    }
+
     /// What stands at the start of a life.
     fn first(
         alloc: Global,

@@ -8,6 +8,6 @@ pub invariant_of-result : goal.invariant_of-result
 invariant_of-result g c = record {
   well_formed = c.in_ok-new_table.ensures.well_formed;
   each =
-    ap length c.in_ok-new_columns.ensures ∙ length-map-range_with_len (new_column c.args.counts.now) 0 c.args.plan.columns
-    ∙ sym (ap (λ (t : Content). t.columns) c.in_ok-new_table.ensures.content);
+      ap length c.in_ok-new_columns.ensures ∙ length-map-range_with_len (new_column c.args.counts.now) 0 c.args.plan.columns
+      ∙ sym (ap (λ (t : Content). t.columns) c.in_ok-new_table.ensures.content);
 }
