@@ -1,21 +1,22 @@
 -- What each call of an alignment answers, and what it makes of what is kept (this profile).
-use Rattle.std.specs.Prelude.{ℕ, ◌+◌, ◌-◌, ◌++◌, ◌==◌, false, true, if◌then◌else◌, List, [], ◌∷◌, length, map, nat_le, nat_lt, replicate, slice_set, slice_index_or, None}
+use Rattle.std.specs.Prelude.{ℕ, ◌+◌, ◌-◌, ◌^◌, ◌++◌, ◌==◌, Bool, ◌&&◌, false, true, not, if◌then◌else◌, List, [], ◌∷◌, length, map, max, nat_le, nat_lt, replicate, slice_set, slice_index_or, Option, None, Some}
 use Rattle.std.specs.List.{range_with_len}
 use Rattle.pdc_cfg.specs.Section.{SectionFields}
 use Rattle.pdc_row.specs.CellView.{CellView}
 use Rattle.pdc_table.specs.Content.{Content, new_content}
 use Rattle.pdc_table.specs.Layout.{LayoutView}
-use Rattle.pdc_table.specs.Steps.{after_pop, after_take, put_answer}
+use Rattle.pdc_table.specs.Steps.{after_pop, after_take, after_tick, put_answer, tick_answer}
 use Rattle.pdc_life.specs.declared.outcome.Outcome.{Outcome}
 use Rattle.pdc_life.specs.declared.outcome.Outcome.TheVariants.{Refused}
 use Rattle.pdc_life.specs.declared.outcome.Refusal.TheVariants.{Ahead, Late}
-use Rattle.pdc_life.specs.Answer.{greatest_count}
+use Rattle.pdc_life.specs.Answer.{greatest_count, is_ready}
 use Rattle.pdc_life.specs.Given.{count_for}
 use Rattle.pdc_life.specs.Life.{greater, is_taken}
 use Rattle.pdc_state.specs.Follows.{told_by}
-use Rattle.pdc_state.specs.State.{shape_in}
+use Rattle.pdc_state.specs.State.{after_adoptions, rule_of, shape_in}
 use Rattle.pdc_align.specs.Align.{AlignmentView, ColumnState}
 use Rattle.pdc_align.specs.declared.plan.Plan.{Plan}
+use Rattle.pdc_align.specs.declared.ticked.Ticked.{Ticked}
 
 -- a column for which nothing came; up to its opening count all is cleared
 abbrev pub new_column : (counts : List ℕ) → (c : ℕ) → ColumnState
@@ -75,3 +76,70 @@ row_layout_in a = record { start = a.start; change = a.change; shapes = map (λ 
 -- the counts that wait to be stored: the greater of cleared and held, and 0 past the last of 16
 abbrev pub waiting_in : AlignmentView → List ℕ
 waiting_in a = map (λ (column : ColumnState). greatest_count column.cleared column.held) a.columns ++ replicate (16 - length a.columns) 0
+
+-- ---- a tick
+
+-- the column after this count was cleared
+abbrev pub clear_to : (count : ℕ) → ColumnState → ColumnState
+clear_to count column = record column { cleared = max column.cleared count }
+
+-- the columns from the number first on, each after its count was cleared
+abbrev pub cleared_from : (first : ℕ) → (counts : List ℕ) → List ColumnState → List ColumnState
+cleared_from first counts [] = []
+cleared_from first counts (column ∷ columns) = clear_to (count_for first counts) column ∷ cleared_from (first + 1) counts columns
+
+-- what is held of the column is newer than what is in force, and cleared
+abbrev pub is_ready_in : ColumnState → Bool
+is_ready_in column = is_ready column.held column.in_force column.cleared
+
+-- the numbers of those that are ready, where the first is the number first
+abbrev pub ready_from : (first : ℕ) → List ColumnState → List ℕ
+ready_from first [] = []
+ready_from first (column ∷ columns) = if is_ready_in column then first ∷ ready_from (first + 1) columns else ready_from (first + 1) columns
+
+-- what is held of a column that is ready comes into force
+abbrev pub with_adoption : ColumnState → ColumnState
+with_adoption column = if is_ready_in column then record column { in_force = column.held } else column
+
+-- a change number is left
+abbrev pub has_change_in : AlignmentView → Bool
+has_change_in a = nat_lt a.change (2 ^ 32 - 1)
+
+-- First the rows close that are due, under the layout before the tick, and the counts are cleared;
+abbrev pub after_closing : AlignmentView → (now : ℕ) → (counts : List ℕ) → AlignmentView
+after_closing a now counts = record a {
+  current = now;
+  columns = cleared_from 0 counts a.columns;
+  content = after_tick a.content (rule_of a.wait_kind a.wait now) (row_layout_in a);
+}
+
+-- then the columns that are ready are adopted, which takes one change number, where one is left.
+abbrev pub change_after : (change : ℕ) → (adopted : List ℕ) → ℕ
+change_after change [] = change
+change_after change (column ∷ columns) = change + 1
+
+abbrev pub after_adopting : AlignmentView → (adopted : List ℕ) → AlignmentView
+after_adopting a adopted = record a {
+  change = change_after a.change adopted;
+  columns = map with_adoption a.columns;
+  content = after_adoptions a.content adopted;
+}
+
+abbrev pub ready_at : AlignmentView → (counts : List ℕ) → List ℕ
+ready_at a counts = ready_from 0 (cleared_from 0 counts a.columns)
+
+abbrev pub after_tick_of : AlignmentView → (now : ℕ) → (counts : List ℕ) → AlignmentView
+after_tick_of a now counts =
+    if has_change_in a then after_adopting (after_closing a now counts) (ready_at a counts) else after_closing a now counts
+
+-- What a tick tells: how many rows it closed, the change number where it adopted, and whether the change numbers were used up.
+abbrev pub new_change : (change : ℕ) → (adopted : List ℕ) → Option ℕ
+new_change change [] = None
+new_change change (column ∷ columns) = Some (change + 1)
+
+abbrev pub told_at : AlignmentView → (now : ℕ) → (counts : List ℕ) → Ticked
+told_at a now counts = record {
+  closed = tick_answer a.content (rule_of a.wait_kind a.wait now);
+  change = if has_change_in a then new_change a.change (ready_at a counts) else None;
+  used_up = not (has_change_in a) && nat_lt 0 (length (ready_at a counts));
+}

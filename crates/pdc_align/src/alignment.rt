@@ -1,10 +1,10 @@
 //! The alignment of a concentrator.
-ghost use Rattle.std.specs.Prelude.{◌≡◌, ◌<◌, [], ◌∷◌, ℕ, List, IfOk, Option, length, map, option_map};
+ghost use Rattle.std.specs.Prelude.{◌≡◌, ◌<◌, ◌-◌, ◌^◌, [], ◌∷◌, ℕ, List, IfOk, Option, length, map, option_map};
 ghost use Rattle.std.specs.List.{All};
 ghost use Rattle.pdc_cfg.specs.Section.{fields_of_view};
 ghost use Rattle.pdc_output.specs.declared.output.Output.{Output};
 ghost use Rattle.pdc_row.specs.RowView.{row_view};
-ghost use Rattle.pdc_table.specs.Content.{IsContent, IsPut};
+ghost use Rattle.pdc_table.specs.Content.{HasSizesOf, IsContent, IsPut};
 ghost use Rattle.pdc_table.specs.Layout.{layout_view};
 ghost use Rattle.pdc_table.specs.Steps as table;
 ghost use Rattle.pdc_table.specs.Taking.{cells_of};
@@ -17,16 +17,16 @@ ghost use Rattle.pdc_life.specs.Given.{Given};
 ghost use Rattle.pdc_life.specs.Life.{Arrive, Entry, Pop};
 ghost use Rattle.pdc_life.specs.Run.{IsRun};
 ghost use Rattle.pdc_life.specs.declared.outcome.Outcome.TheVariants.{Candidate};
-ghost use Rattle.pdc_state.specs.State.{row_layout_of};
+ghost use Rattle.pdc_state.specs.State.{after_adoption, after_adoptions, row_layout_of, rule_of};
 ghost use Rattle.pdc_align.specs.Align.{StandsFor, given_by};
-ghost use Rattle.pdc_align.specs.Calls.{after_data, after_hold, after_pop_of, first_content, first_of_plan, put_outcome, row_layout_in, waiting_in};
+ghost use Rattle.pdc_align.specs.Calls.{after_data, after_adopting, after_closing, after_tick_of, new_change, told_at, after_hold, after_pop_of, first_content, first_of_plan, put_outcome, row_layout_in, waiting_in};
 
-use crate::{Column, Plan, columns};
+use crate::{Column, Plan, Ticked, columns};
 use pdc_block::Block;
 use pdc_life::{MAX_PMUS, Outcome, Refusal, WaitKind};
 use pdc_reading::ColumnSection;
 use pdc_state::{answers_agree, others_leave_it, take_is_take};
-use pdc_table::{DueRow, PutOutcome, RowLayout, Table};
+use pdc_table::{DueRow, PutOutcome, RowLayout, Table, WaitRule};
 use std::alloc::{AllocError, Global};
 use std::marker::Model;
 
@@ -39,6 +39,7 @@ pub struct Alignment<T: Table> {
     start: u32,
     current: u64,
     change: u32,
+    lanes: usize,
     columns: Vec<Column>,
     table: T,
 }
@@ -64,6 +65,7 @@ impl<T: Table> Model for Alignment<T> {
     ghost invariant = { λ a. record {
       well_formed : IsContent (T.content a.table);
       each : length a.columns.items ≡ (T.content a.table).columns;
+      lanes : a.lanes ≡ (T.content a.table).lanes;
     } };
 }
 
@@ -90,6 +92,49 @@ fn outcome_of(outcome: PutOutcome) -> Outcome
         PutOutcome::OutOfWindow => Outcome::Refused(Refusal::OutOfWindow),
         PutOutcome::Duplicate => Outcome::Refused(Refusal::Duplicate),
         PutOutcome::Conflict => Outcome::Refused(Refusal::Conflict),
+    }
+}
+
+/// The rule that a tick hands to the table: the wait in ticks, or the instant that lies the wait below now.
+fn rule_of(kind: WaitKind, wait: u64, now: u64) -> WaitRule
+    ensures { result ≡ rule_of kind wait now }
+{
+    match kind {
+        WaitKind::Relative => WaitRule::Ticks(wait),
+        WaitKind::Absolute if wait <= now => WaitRule::Until(Some(now - wait)),
+        WaitKind::Absolute => WaitRule::Until(None),
+    }
+}
+
+/// Adopts the columns in the table, one after the other: with one lane the column's stream is waited for, and what was taken of it
+/// is dropped; with two the cells of the column are.
+fn adopt_in<T: Table>(table: &mut T, lanes: usize, columns: &[usize])
+    requires lanes { lanes ≡ (T.content table.old).lanes }
+    requires columns { All (λ (column : ℕ). column < (T.content table.old).columns) columns.now }
+    requires well_formed { IsContent (T.content table.old) }
+    ensures content { T.content table.new ≡ after_adoptions (T.content table.old) columns.now }
+    ensures sizes { HasSizesOf (T.content table.old) (T.content table.new) }
+    ensures well_formed { IsContent (T.content table.new) }
+{
+    for column in columns {
+        adopt_one(table, lanes, *column);
+    }
+}
+
+/// Adopts one column in the table.
+fn adopt_one<T: Table>(table: &mut T, lanes: usize, column: usize)
+    requires lanes { lanes ≡ (T.content table.old).lanes }
+    requires column { column < (T.content table.old).columns }
+    requires well_formed { IsContent (T.content table.old) }
+    ensures content { T.content table.new ≡ after_adoption (T.content table.old) column }
+    ensures sizes { HasSizesOf (T.content table.old) (T.content table.new) }
+    ensures well_formed { IsContent (T.content table.new) }
+{
+    if lanes == 1 {
+        table.require(column, true);
+        table.drop_stream(column);
+    } else {
+        table.drop_column(column);
     }
 }
 
@@ -186,6 +231,7 @@ impl<T: Table> Alignment<T> {
             start,
             current: now,
             change: 0,
+            lanes: plan.lanes,
             columns: columns::new_columns(alloc, plan.columns, counts)?,
             table: new_table(alloc, plan, floor)?,
         })
@@ -218,6 +264,56 @@ impl<T: Table> Alignment<T> {
         ensures { self.new ≡ after_hold self.old (map section_part sections.now) }
     {
         columns::hold(&mut self.columns, sections);
+    }
+
+    /// A tick: rows close under the layout before it, and then the columns that are ready are adopted.
+    fn step(&mut self, now: u64, counts: &[u16; MAX_PMUS]) -> Ticked
+        ensures answer { result ≡ told_at self.old now counts.now }
+        ensures state { self.new ≡ after_tick_of self.old now counts.now }
+    {
+        let closed = self.close(now, counts);
+        let ready = columns::ready(&self.columns);
+        if self.change == u32::MAX {
+            return Ticked {
+                closed,
+                change: None,
+                used_up: !ready.is_empty(),
+            };
+        }
+        Ticked {
+            closed,
+            change: self.adopt(ready.as_slice()),
+            used_up: false,
+        }
+    }
+
+    /// Closes the rows that are due, and clears the counts. It answers how many rows.
+    fn close(&mut self, now: u64, counts: &[u16; MAX_PMUS]) -> u32
+        ensures answer { result ≡ table.tick_answer self.old.content (rule_of self.old.wait_kind self.old.wait now) }
+        ensures state { self.new ≡ after_closing self.old now counts.now }
+    {
+        let layout = self.layout();
+        let rule = rule_of(self.wait_kind, self.wait, now);
+        let closed = self.table.tick(rule, &layout);
+        columns::clear(&mut self.columns, counts);
+        self.current = now;
+        closed
+    }
+
+    /// Puts into force what is ready, and adopts these columns in the table. It answers the change number, where there are any.
+    fn adopt(&mut self, adopted: &[usize]) -> Option<u32>
+        requires change { self.old.change < 2 ^ 32 - 1 }
+        requires exist { All (λ (column : ℕ). column < length self.old.columns) adopted.now }
+        ensures answer { result ≡ new_change self.old.change adopted.now }
+        ensures state { self.new ≡ after_adopting self.old adopted.now }
+    {
+        columns::adopt(&mut self.columns);
+        adopt_in(&mut self.table, self.lanes, adopted);
+        if adopted.is_empty() {
+            return None;
+        }
+        self.change += 1;
+        Some(self.change)
     }
 
     /// Takes out the first row that waits.

@@ -1,9 +1,9 @@
 //! What is kept of a column.
-ghost use Rattle.std.specs.Prelude.{◌≡◌, None, option_map, max};
+ghost use Rattle.std.specs.Prelude.{◌≡◌, None, option_map};
 ghost use Rattle.pdc_cfg.specs.Section.{fields_of_section, fields_of_view};
-ghost use Rattle.pdc_life.specs.Answer.{greatest_count, is_ready};
+ghost use Rattle.pdc_life.specs.Answer.{greatest_count, is_newer};
 ghost use Rattle.pdc_state.specs.State.{shape_in};
-ghost use Rattle.pdc_align.specs.Calls.{with_section};
+ghost use Rattle.pdc_align.specs.Calls.{clear_to, is_ready_in, with_adoption, with_section};
 
 use pdc_cfg::{Section, SectionView, Shape};
 use std::marker::Model;
@@ -102,5 +102,44 @@ impl Column {
         if is_greater {
             self.held = Some(section.to_section());
         }
+    }
+
+    /// Clears counts up to this one.
+    pub(crate) fn clear(&mut self, count: u16)
+        ensures { self.new ≡ clear_to count self.old }
+    {
+        self.cleared = self.cleared.max(count);
+    }
+
+    /// Whether what is held is newer than what is in force, and cleared.
+    pub(crate) fn is_ready(&self) -> bool
+        ensures { result ≡ is_ready_in self.now }
+    {
+        match &self.held {
+            Some(held) => is_newer(held, &self.in_force) && held.count <= self.cleared,
+            None => false,
+        }
+    }
+
+    /// Puts what is held into force, where it is ready.
+    pub(crate) fn adopt(&mut self)
+        ensures { self.new ≡ with_adoption self.old }
+    {
+        if !self.is_ready() {
+            return;
+        }
+        if let Some(held) = &self.held {
+            self.in_force = Some(held.view().to_section());
+        }
+    }
+}
+
+/// Whether the count is greater than the one in force, or the first.
+fn is_newer(held: &Section, in_force: &Option<Section>) -> bool
+    ensures { result ≡ is_newer (fields_of_section held.now) (option_map fields_of_section in_force.now) }
+{
+    match in_force {
+        Some(in_force) => in_force.count < held.count,
+        None => true,
     }
 }

@@ -1,12 +1,12 @@
 //! All columns of an alignment, one call for each thing that is asked of them.
-ghost use Rattle.std.specs.Prelude.{◌≡◌, ℕ, ◌-◌, ◌<◌, ◌≤◌, ◌++◌, IfOk, length, map, replicate};
+ghost use Rattle.std.specs.Prelude.{◌≡◌, ℕ, ◌+◌, ◌-◌, ◌<◌, ◌≤◌, ◌++◌, [], ◌∷◌, if◌then◌else◌, IfOk, length, map, replicate};
 ghost use Rattle.std.specs.List.{All, range_with_len};
 ghost use Rattle.pdc_life.specs.Answer.{greatest_count};
 ghost use Rattle.pdc_reading.specs.Views.{section_part};
 ghost use Rattle.pdc_reading.specs.declared.arrival.ColumnSection.{ColumnSection as ColumnSectionData};
 ghost use Rattle.pdc_state.specs.State.{shape_in};
 ghost use Rattle.pdc_align.specs.Align.{ColumnState};
-ghost use Rattle.pdc_align.specs.Calls.{new_column, with_sections};
+ghost use Rattle.pdc_align.specs.Calls.{cleared_from, new_column, ready_from, with_adoption, with_sections};
 
 use crate::Column;
 use arrayvec::ArrayVec;
@@ -63,4 +63,48 @@ pub fn waiting(columns: &[Column]) -> [u16; MAX_PMUS]
         counts[place] = column.waiting();
     }
     counts
+}
+
+/// Clears the count of each column.
+pub fn clear(columns: &mut [Column], counts: &[u16; MAX_PMUS])
+    requires { length columns.old ≤ 16 }
+    ensures { columns.new ≡ cleared_from 0 counts.now columns.old }
+{
+    let count = columns.len();
+    for place in 0..count {
+        columns[place].clear(counts[place]);
+    }
+}
+
+/// The numbers of the columns that are ready, in rising order.
+pub fn ready(columns: &[Column]) -> ArrayVec<usize, 16>
+    requires { length columns.now ≤ 16 }
+    ensures ready { result.items ≡ ready_from 0 columns.now }
+    ensures exist { All (λ (column : ℕ). column < length columns.now) result.items }
+{
+    let mut ready = ArrayVec::new();
+    for (place, column) in columns.iter().enumerate() {
+        push_ready(place, column.is_ready(), &mut ready);
+    }
+    ready
+}
+
+/// Appends the number, if its column is ready.
+fn push_ready(place: usize, is_ready: bool, ready: &mut ArrayVec<usize, 16>)
+    requires { length ready.old.items < 16 }
+    ensures ready { ready.new.items ≡ ready.old.items ++ (if is_ready then place ∷ [] else []) }
+    ensures grown { length ready.new.items ≤ length ready.old.items + 1 }
+{
+    if is_ready {
+        ready.push(place);
+    }
+}
+
+/// Puts into force what is held of the columns that are ready.
+pub fn adopt(columns: &mut [Column])
+    ensures { columns.new ≡ map with_adoption columns.old }
+{
+    for column in columns.iter_mut() {
+        column.adopt();
+    }
 }

@@ -12,7 +12,9 @@ mod alignment;
 mod column;
 mod columns;
 mod plan;
+mod ticked;
 
 pub use alignment::Alignment;
 use column::Column;
 pub use plan::Plan;
+pub use ticked::Ticked;

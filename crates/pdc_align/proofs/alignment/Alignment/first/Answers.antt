@@ -10,4 +10,5 @@ invariant_of-result g c = record {
   each =
       ap length c.in_ok-new_columns.ensures ∙ length-map-range_with_len (new_column c.args.counts.now) 0 c.args.plan.columns
       ∙ sym (ap (λ (t : Content). t.columns) c.in_ok-new_table.ensures.content);
+  lanes = sym (ap (λ (t : Content). t.lanes) c.in_ok-new_table.ensures.content);
 }

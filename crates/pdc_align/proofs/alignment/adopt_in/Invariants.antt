@@ -1,0 +1,12 @@
+use Rattle.std.proofs.Common.{◌≡◌, drop}
+use Rattle.pdc_table.specs.Content.{HasSizesOf, IsContent}
+use Rattle.pdc_state.specs.State.{after_adoptions}
+use Rattle.pdc_align.proofs.alignment.adopt_in.Given as goal
+
+-- what is left is adopted in the table as it is
+abbrev pub invariant-loop-column : goal.invariant-loop-column
+invariant-loop-column g l = record {
+  content : after_adoptions (g.T.Table.content l.table) (drop l.column-index l.columns) ≡ after_adoptions (g.T.Table.content l.initial.table) l.columns;
+  sizes : HasSizesOf (g.T.Table.content l.initial.table) (g.T.Table.content l.table);
+  well_formed : IsContent (g.T.Table.content l.table);
+}
