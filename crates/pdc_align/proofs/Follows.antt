@@ -246,3 +246,11 @@ waiting_same g E a stands =
     (length-map-range_with_len (column_state_of g E) 0 g.columns)
     ∙ ap (λ counts. counts ++ replicate (16 - g.columns) 0)
     (map-map (λ (column : ColumnState). greatest_count column.cleared column.held) (column_state_of g E) (columns_of g))
+
+-- what is kept of one column
+pub column_at : (g : Given) (E : List Entry) (a : AlignmentView) (c : ℕ) (d : ColumnState) → StandsFor g E a → c < length a.columns
+    → get_or a.columns c d ≡ column_state_of g E c
+column_at g E a c d stands l =
+    let m : length a.columns ≡ g.columns = ap (λ (b : AlignmentView). length b.columns) stands.same ∙ length-map-range_with_len (column_state_of g E) 0 g.columns in
+    ap (λ (b : AlignmentView). get_or b.columns c d) stands.same
+    ∙ get_or-map-range_with_len (column_state_of g E) 0 g.columns c c d (omega (arith, l, m)) (omega arith)

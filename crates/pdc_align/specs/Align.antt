@@ -1,5 +1,5 @@
 -- What the alignment of a concentrator keeps of a life: a function of the life (this profile).
-use Rattle.std.specs.Prelude.{◌≡◌, ℕ, Bool, true, false, List, ◌∷◌, map, Option}
+use Rattle.std.specs.Prelude.{◌≡◌, ℕ, ◌+◌, Bool, true, false, List, [], ◌∷◌, length, map, Option, None, Some}
 use Rattle.pdc_cfg.specs.Section.{SectionFields}
 use Rattle.pdc_output.specs.declared.output.Output.{Output}
 use Rattle.pdc_table.specs.Content.{Content}
@@ -7,11 +7,12 @@ use Rattle.pdc_life.specs.Given.{Given, columns_of, count_for}
 use Rattle.pdc_life.specs.Arrival.{Arrival}
 use Rattle.pdc_life.specs.declared.outcome.Outcome.{Outcome}
 use Rattle.pdc_life.specs.declared.outcome.Outcome.TheVariants.{Known, Refused}
-use Rattle.pdc_life.specs.Life.{Answer, Arrive, Entry, changes, cleared_count, held_section, now_of, section_in_force}
+use Rattle.pdc_life.specs.Life.{Answer, Arrive, Entry, TickAnswer, changes, cleared_count, held_section, now_of, section_in_force}
 use Rattle.pdc_life.specs.Run.{IsRun}
 use Rattle.pdc_life.specs.declared.given.WaitKind.{WaitKind}
 use Rattle.pdc_state.specs.State.{content_of}
 use Rattle.pdc_align.specs.declared.plan.Plan.{Plan}
+use Rattle.pdc_align.specs.declared.ticked.Ticked.{Ticked}
 
 -- what is kept of a column: the count below which no section is held, the count up to which one may be adopted, and the sections
 -- that are held and in force
@@ -86,3 +87,11 @@ abbrev pub LeavesIt : Type 0
 LeavesIt =
     (g : Given) (E : List Entry) (a : AlignmentView) (s : ℕ) (bytes : List ℕ) (arrival : Arrival) (answer : Answer) →
     StandsFor g E a → is_left answer.outcome ≡ true → IsRun g (Arrive s bytes arrival answer ∷ E) → StandsFor g (Arrive s bytes arrival answer ∷ E) a
+
+-- What a tick tells: how many rows closed, the change number where some column was adopted, and whether the numbers were used up.
+abbrev pub new_change : (change : ℕ) → (adopted : List ℕ) → Option ℕ
+new_change change [] = None
+new_change change (column ∷ columns) = Some (change + 1)
+
+abbrev pub ticked_of : (change : ℕ) → TickAnswer → Ticked
+ticked_of change answer = record { closed = length answer.rows; change = new_change change answer.adopted; used_up = answer.used_up }

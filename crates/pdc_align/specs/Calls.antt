@@ -1,5 +1,5 @@
 -- What each call of an alignment answers, and what it makes of what is kept (this profile).
-use Rattle.std.specs.Prelude.{ℕ, ◌+◌, ◌-◌, ◌^◌, ◌++◌, ◌==◌, Bool, ◌&&◌, false, true, not, if◌then◌else◌, List, [], ◌∷◌, length, map, max, nat_le, nat_lt, replicate, slice_set, slice_index_or, Option, None, Some}
+use Rattle.std.specs.Prelude.{ℕ, ◌+◌, ◌-◌, ◌^◌, ◌++◌, ◌==◌, Bool, ◌&&◌, false, true, not, if◌then◌else◌, List, [], ◌∷◌, length, map, max, nat_le, nat_lt, replicate, slice_set, slice_index_or, None}
 use Rattle.std.specs.List.{range_with_len}
 use Rattle.pdc_cfg.specs.Section.{SectionFields}
 use Rattle.pdc_row.specs.CellView.{CellView}
@@ -14,7 +14,7 @@ use Rattle.pdc_life.specs.Given.{count_for}
 use Rattle.pdc_life.specs.Life.{greater, is_taken}
 use Rattle.pdc_state.specs.Follows.{told_by}
 use Rattle.pdc_state.specs.State.{after_adoptions, rule_of, shape_in}
-use Rattle.pdc_align.specs.Align.{AlignmentView, ColumnState}
+use Rattle.pdc_align.specs.Align.{AlignmentView, ColumnState, new_change}
 use Rattle.pdc_align.specs.declared.plan.Plan.{Plan}
 use Rattle.pdc_align.specs.declared.ticked.Ticked.{Ticked}
 
@@ -132,11 +132,7 @@ abbrev pub after_tick_of : AlignmentView → (now : ℕ) → (counts : List ℕ)
 after_tick_of a now counts =
     if has_change_in a then after_adopting (after_closing a now counts) (ready_at a counts) else after_closing a now counts
 
--- What a tick tells: how many rows it closed, the change number where it adopted, and whether the change numbers were used up.
-abbrev pub new_change : (change : ℕ) → (adopted : List ℕ) → Option ℕ
-new_change change [] = None
-new_change change (column ∷ columns) = Some (change + 1)
-
+-- what it tells
 abbrev pub told_at : AlignmentView → (now : ℕ) → (counts : List ℕ) → Ticked
 told_at a now counts = record {
   closed = tick_answer a.content (rule_of a.wait_kind a.wait now);

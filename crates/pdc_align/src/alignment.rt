@@ -14,15 +14,16 @@ ghost use Rattle.pdc_state.specs.Follows.{told_by};
 ghost use Rattle.pdc_life.specs.Answer.{bare, outcome_in_time, pop_answer, waiting_counts, with_cells};
 ghost use Rattle.pdc_life.specs.Arrival.{Data, Layout, Stamp};
 ghost use Rattle.pdc_life.specs.Given.{Given};
-ghost use Rattle.pdc_life.specs.Life.{Arrive, Entry, Pop};
+ghost use Rattle.pdc_life.specs.Life.{Arrive, Entry, Pop, changes, held_section, section_in_force};
 ghost use Rattle.pdc_life.specs.Run.{IsRun};
 ghost use Rattle.pdc_life.specs.declared.outcome.Outcome.TheVariants.{Candidate};
 ghost use Rattle.pdc_state.specs.State.{after_adoption, after_adoptions, row_layout_of, rule_of};
-ghost use Rattle.pdc_align.specs.Align.{StandsFor, given_by};
-ghost use Rattle.pdc_align.specs.Calls.{after_data, after_adopting, after_closing, after_tick_of, new_change, told_at, after_hold, after_pop_of, first_content, first_of_plan, put_outcome, row_layout_in, waiting_in};
+ghost use Rattle.pdc_align.specs.Align.{StandsFor, given_by, new_change};
+ghost use Rattle.pdc_align.specs.Calls.{after_data, after_adopting, after_closing, after_tick_of, told_at, after_hold, after_pop_of, first_content, first_of_plan, put_outcome, row_layout_in, waiting_in};
 
 use crate::{Column, Plan, Ticked, columns};
 use pdc_block::Block;
+use pdc_cfg::SectionView;
 use pdc_life::{MAX_PMUS, Outcome, Refusal, WaitKind};
 use pdc_reading::ColumnSection;
 use pdc_state::{answers_agree, others_leave_it, take_is_take};
@@ -191,6 +192,28 @@ impl<T: Table> Alignment<T> {
         self.keep(sections);
     }
 
+    /// A tick with its now, and for each column the count up to which it is cleared: rows close under the layout before it, and then
+    /// the columns that are ready are adopted, where a change number is left.
+    pub fn tick(&mut self, now: u64, counts: &[u16; MAX_PMUS]) -> Ticked
+        ensures answer { result ≡ told_at self.old now counts.now }
+        ensures state { self.new ≡ after_tick_of self.old now counts.now }
+    {
+        let closed = self.close(now, counts);
+        let ready = columns::ready(&self.columns);
+        if self.change == u32::MAX {
+            return Ticked {
+                closed,
+                change: None,
+                used_up: !ready.is_empty(),
+            };
+        }
+        Ticked {
+            closed,
+            change: self.adopt(ready.as_slice()),
+            used_up: false,
+        }
+    }
+
     /// The lowest closed row that was not popped.
     pub fn pop_due(&mut self) -> Option<DueRow>
         ensures answer { (g : Given) (E : List Entry) → StandsFor g E self.old → option_map row_view result ≡ pop_answer E }
@@ -211,6 +234,29 @@ impl<T: Table> Alignment<T> {
         ensures { (g : Given) (E : List Entry) → StandsFor g E self.now → result ≡ waiting_counts g E }
     {
         self.counts()
+    }
+
+    /// The section that is held of the column.
+    pub fn held(&self, column: usize) -> Option<SectionView<'_>>
+        requires { column < length self.now.columns }
+        ensures { (g : Given) (E : List Entry) → StandsFor g E self.now → option_map fields_of_view result ≡ held_section g E column }
+    {
+        self.columns[column].held()
+    }
+
+    /// The section in force for the column.
+    pub fn in_force(&self, column: usize) -> Option<SectionView<'_>>
+        requires { column < length self.now.columns }
+        ensures { (g : Given) (E : List Entry) → StandsFor g E self.now → option_map fields_of_view result ≡ section_in_force g E column }
+    {
+        self.columns[column].in_force()
+    }
+
+    /// The change number.
+    pub fn change(&self) -> u32
+        ensures { (g : Given) (E : List Entry) → StandsFor g E self.now → result ≡ changes E }
+    {
+        self.change
     }
 
     /// What stands at the start of a life.
@@ -264,27 +310,6 @@ impl<T: Table> Alignment<T> {
         ensures { self.new ≡ after_hold self.old (map section_part sections.now) }
     {
         columns::hold(&mut self.columns, sections);
-    }
-
-    /// A tick: rows close under the layout before it, and then the columns that are ready are adopted.
-    fn step(&mut self, now: u64, counts: &[u16; MAX_PMUS]) -> Ticked
-        ensures answer { result ≡ told_at self.old now counts.now }
-        ensures state { self.new ≡ after_tick_of self.old now counts.now }
-    {
-        let closed = self.close(now, counts);
-        let ready = columns::ready(&self.columns);
-        if self.change == u32::MAX {
-            return Ticked {
-                closed,
-                change: None,
-                used_up: !ready.is_empty(),
-            };
-        }
-        Ticked {
-            closed,
-            change: self.adopt(ready.as_slice()),
-            used_up: false,
-        }
     }
 
     /// Closes the rows that are due, and clears the counts. It answers how many rows.

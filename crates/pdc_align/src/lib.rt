@@ -11,10 +11,12 @@
 mod alignment;
 mod column;
 mod columns;
+mod laws;
 mod plan;
 mod ticked;
 
 pub use alignment::Alignment;
 use column::Column;
+pub use laws::others_are_left;
 pub use plan::Plan;
 pub use ticked::Ticked;

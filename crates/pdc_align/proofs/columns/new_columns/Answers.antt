@@ -12,5 +12,5 @@ loop-place-preserved c = record {
       ∙ ap (λ x. map (new_column c.args.counts.now) (range_with_len 0 c.loop-place.place) ++ x ∷ []) c.new.ensures
       ∙ sym (map-range_with_len_more (new_column c.args.counts.now) 0 c.loop-place.place c.loop-place.place (omega arith));
   len = omega (arith, c.push_reserved.ensures.len);
-  room = omega (arith, c.push_reserved.ensures.capacity, c.push_reserved.ensures.in_place);
+  room = omega (arith, c.push_reserved.ensures.capacity);
 }

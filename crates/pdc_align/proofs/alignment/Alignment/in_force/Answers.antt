@@ -1,0 +1,12 @@
+use Rattle.std.proofs.Common.{ap, get_or, ◌∙◌}
+use Rattle.pdc_align.specs.Align.{AlignmentView, ColumnState}
+use Rattle.pdc_align.proofs.Follows.{column_at}
+use Rattle.pdc_align.proofs.alignment.Alignment.in_force.Goals as goal
+
+pub returns : goal.returns
+returns g c life E stands =
+    c.in_force.ensures
+    ∙ ap (λ (x : ColumnState). x.in_force)
+    (c.index.ensures
+    ∙ ap (λ (a : AlignmentView). get_or a.columns c.args.column c.index.result.now) c.self.view_is
+    ∙ column_at life E c.args.self.now c.args.column c.index.result.now stands c.requires)

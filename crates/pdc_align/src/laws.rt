@@ -1,0 +1,11 @@
+//! A law of alignments: the contract of a function that does nothing.
+ghost use Rattle.pdc_align.specs.Align.{LeavesIt};
+
+use pdc_state::others_leave_it;
+
+/// An arrival that was neither taken nor a candidate leaves an alignment as it is.
+pub fn others_are_left()
+    ensures { LeavesIt }
+{
+    others_leave_it();
+}
