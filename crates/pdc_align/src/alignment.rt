@@ -11,19 +11,20 @@ ghost use Rattle.pdc_table.specs.Taking.{cells_of};
 ghost use Rattle.pdc_reading.specs.Views.{section_part};
 ghost use Rattle.pdc_reading.specs.declared.arrival.ColumnSection.{ColumnSection as ColumnSectionData};
 ghost use Rattle.pdc_state.specs.Follows.{told_by};
-ghost use Rattle.pdc_life.specs.Answer.{bare, outcome_in_time, pop_answer, waiting_counts, with_cells};
+ghost use Rattle.pdc_life.specs.Answer.{bare, outcome_in_time, pop_answer, tick_answer, waiting_counts, with_cells};
 ghost use Rattle.pdc_life.specs.Arrival.{Data, Layout, Stamp};
 ghost use Rattle.pdc_life.specs.Given.{Given};
-ghost use Rattle.pdc_life.specs.Life.{Arrive, Entry, Pop, changes, held_section, section_in_force};
+ghost use Rattle.pdc_life.specs.Life.{Arrive, Entry, Pop, Tick, changes, held_section, section_in_force};
 ghost use Rattle.pdc_life.specs.Run.{IsRun};
 ghost use Rattle.pdc_life.specs.declared.outcome.Outcome.TheVariants.{Candidate};
 ghost use Rattle.pdc_state.specs.State.{after_adoption, after_adoptions, row_layout_of, rule_of};
-ghost use Rattle.pdc_align.specs.Align.{StandsFor, given_by, new_change};
+ghost use Rattle.pdc_align.specs.Align.{StandsFor, given_by, new_change, ticked_of};
 ghost use Rattle.pdc_align.specs.Calls.{after_data, after_adopting, after_closing, after_tick_of, told_at, after_hold, after_pop_of, first_content, first_of_plan, put_outcome, row_layout_in, waiting_in};
 
 use crate::{Column, Plan, Ticked, columns};
 use pdc_block::Block;
 use pdc_cfg::SectionView;
+use pdc_closing::{rows_are_those, tick_is_tick};
 use pdc_life::{MAX_PMUS, Outcome, Refusal, WaitKind};
 use pdc_reading::ColumnSection;
 use pdc_state::{answers_agree, others_leave_it, take_is_take};
@@ -195,23 +196,13 @@ impl<T: Table> Alignment<T> {
     /// A tick with its now, and for each column the count up to which it is cleared: rows close under the layout before it, and then
     /// the columns that are ready are adopted, where a change number is left.
     pub fn tick(&mut self, now: u64, counts: &[u16; MAX_PMUS]) -> Ticked
-        ensures answer { result ≡ told_at self.old now counts.now }
-        ensures state { self.new ≡ after_tick_of self.old now counts.now }
+        ensures answer { (g : Given) (E : List Entry) → StandsFor g E self.old → result ≡ ticked_of (changes E) (tick_answer g E now counts.now) }
+        ensures stands { (g : Given) (E : List Entry) → StandsFor g E self.old →
+            StandsFor g (Tick now counts.now (tick_answer g E now counts.now) ∷ E) self.new }
     {
-        let closed = self.close(now, counts);
-        let ready = columns::ready(&self.columns);
-        if self.change == u32::MAX {
-            return Ticked {
-                closed,
-                change: None,
-                used_up: !ready.is_empty(),
-            };
-        }
-        Ticked {
-            closed,
-            change: self.adopt(ready.as_slice()),
-            used_up: false,
-        }
+        rows_are_those();
+        tick_is_tick();
+        self.step(now, counts)
     }
 
     /// The lowest closed row that was not popped.
@@ -310,6 +301,28 @@ impl<T: Table> Alignment<T> {
         ensures { self.new ≡ after_hold self.old (map section_part sections.now) }
     {
         columns::hold(&mut self.columns, sections);
+    }
+
+    /// A tick: rows close under the layout before it, and then the columns that are ready are adopted.
+    fn step(&mut self, now: u64, counts: &[u16; MAX_PMUS]) -> Ticked
+        ensures answer { result ≡ told_at self.old now counts.now }
+        ensures state { self.new ≡ after_tick_of self.old now counts.now }
+        ensures wait { self.old.wait < 2 ^ 64 }
+    {
+        let closed = self.close(now, counts);
+        let ready = columns::ready(&self.columns);
+        if self.change == u32::MAX {
+            return Ticked {
+                closed,
+                change: None,
+                used_up: !ready.is_empty(),
+            };
+        }
+        Ticked {
+            closed,
+            change: self.adopt(ready.as_slice()),
+            used_up: false,
+        }
     }
 
     /// Closes the rows that are due, and clears the counts. It answers how many rows.
