@@ -20,7 +20,7 @@ use Rattle.pdc_life.specs.Life.{Answer, Arrive, Entry, Pop, changes, cleared_cou
 use Rattle.pdc_life.specs.Run.{IsRun}
 use Rattle.pdc_state.specs.Follows.{AnswersAgree, OthersLeaveIt, TakeIsTake}
 use Rattle.pdc_state.specs.State.{content_of, row_layout_of, shape_in}
-use Rattle.pdc_align.specs.Align.{AlignmentView, LeavesIt, ColumnState, StandsFor, align_of, is_left, column_state_of, given_by}
+use Rattle.pdc_align.specs.Align.{State, LeavesIt, ColumnState, StandsFor, align_of, is_left, column_state_of, given_by}
 use Rattle.pdc_align.specs.Calls.{after_data, after_hold, after_pop_of, first_of_plan, no_column, put_outcome, row_layout_in, waiting_in, with_section, with_sections}
 use Rattle.pdc_align.specs.declared.plan.Plan.{Plan}
 
@@ -34,7 +34,7 @@ first_required : (one : Bool) (columns : ℕ) → cond one (replicate columns fa
 first_required true columns = falses 0 columns
 first_required false columns = refl
 
-pub begins : (plan : Plan) (output : Output) (start floor : ℕ) (counts : List ℕ) (opening : ℕ) (a : AlignmentView)
+pub begins : (plan : Plan) (output : Output) (start floor : ℕ) (counts : List ℕ) (opening : ℕ) (a : State)
     → a ≡ first_of_plan plan start floor counts opening → StandsFor (given_by plan output start floor counts opening) [] a
 begins plan output start floor counts opening a e = record {
   run = record { ticked = tt; sound = tt };
@@ -45,11 +45,11 @@ begins plan output start floor counts opening a e = record {
 -- ---- data
 
 module _ (agree : AnswersAgree) where
-  pub data_answer : (g : Given) (E : List Entry) (a : AlignmentView) (s i : ℕ) (cells : List (ℕ × CellView)) → IsPut a.content s cells → StandsFor g E a
+  pub data_answer : (g : Given) (E : List Entry) (a : State) (s i : ℕ) (cells : List (ℕ × CellView)) → IsPut a.content s cells → StandsFor g E a
       → put_outcome a s i cells ≡ outcome_in_time g E s i cells
   data_answer g E a s i cells p stands =
       ap (λ b. put_outcome b s i cells) stands.same
-      ∙ sym (agree g E s i cells (subst (λ (b : AlignmentView). IsPut b.content s cells) stands.same p))
+      ∙ sym (agree g E s i cells (subst (λ (b : State). IsPut b.content s cells) stands.same p))
 
 module _ (take : TakeIsTake) (others : OthersLeaveIt) where
   data_state : (g : Given) (E : List Entry) (s i quality : ℕ) (bytes payload : List ℕ) (cells : List (ℕ × CellView)) (o : Outcome)
@@ -64,14 +64,14 @@ module _ (take : TakeIsTake) (others : OthersLeaveIt) where
   data_state g E s i quality bytes payload cells (Refused r) run =
       ap (λ c. record (align_of g E) { content = c }) (sym (others g E (Arrive s bytes (Data i quality payload) (with_cells (Refused r) cells)) tt refl))
 
-  pub data_follows : (g : Given) (E : List Entry) (a b : AlignmentView) (s i quality : ℕ) (bytes payload : List ℕ) (cells : List (ℕ × CellView)) (o : Outcome)
+  pub data_follows : (g : Given) (E : List Entry) (a b : State) (s i quality : ℕ) (bytes payload : List ℕ) (cells : List (ℕ × CellView)) (o : Outcome)
       → o ≡ put_outcome a s i cells → b ≡ after_data a s i cells → StandsFor g E a
       → IsRun g (Arrive s bytes (Data i quality payload) (with_cells o cells) ∷ E)
       → StandsFor g (Arrive s bytes (Data i quality payload) (with_cells o cells) ∷ E) b
   data_follows g E a b s i quality bytes payload cells o answer e stands run = record {
     run = run;
     same = e ∙ ap (λ p. cond (is_taken p) (record a { content = after_take a.content s i cells }) a) (sym answer)
-        ∙ ap (λ (c : AlignmentView). cond (is_taken o) (record c { content = after_take c.content s i cells }) c) stands.same
+        ∙ ap (λ (c : State). cond (is_taken o) (record c { content = after_take c.content s i cells }) c) stands.same
         ∙ data_state g E s i quality bytes payload cells o run;
   }
 
@@ -185,7 +185,7 @@ not_candidate Known h = refl
 not_candidate (Refused r) h = refl
 
 -- what is kept after a layout, where it is a candidate, and where not
-abbrev columns_if : Given → List Entry → (s : ℕ) → (bytes : List ℕ) → Option Stamp → List (ℕ × SectionFields) → Answer → Bool → AlignmentView
+abbrev columns_if : Given → List Entry → (s : ℕ) → (bytes : List ℕ) → Option Stamp → List (ℕ × SectionFields) → Answer → Bool → State
 columns_if g E s bytes stamp sections answer b = record (align_of g (Arrive s bytes (Layout stamp sections) answer ∷ E)) {
   columns = map (λ c. column_with (count_for c g.counts) (cleared_count g E c)
       (first_greatest (filter (λ (t : SectionFields). leb (count_for c g.counts) t.count)
@@ -194,12 +194,12 @@ columns_if g E s bytes stamp sections answer b = record (align_of g (Arrive s by
 }
 
 module _ (others : OthersLeaveIt) where
-  pub layout_follows : (g : Given) (E : List Entry) (a b : AlignmentView) (s : ℕ) (bytes : List ℕ) (stamp : Option Stamp) (parts : List (ℕ × SectionFields))
+  pub layout_follows : (g : Given) (E : List Entry) (a b : State) (s : ℕ) (bytes : List ℕ) (stamp : Option Stamp) (parts : List (ℕ × SectionFields))
       → b ≡ after_hold a parts → StandsFor g E a → IsRun g (Arrive s bytes (Layout stamp parts) (record { outcome = Candidate; cells = [] }) ∷ E)
       → StandsFor g (Arrive s bytes (Layout stamp parts) (record { outcome = Candidate; cells = [] }) ∷ E) b
   layout_follows g E a b s bytes stamp parts e stands run = record {
     run = run;
-    same = e ∙ ap (λ (c : AlignmentView). after_hold c parts) stands.same
+    same = e ∙ ap (λ (c : State). after_hold c parts) stands.same
         ∙ ap (λ cs. record (align_of g E) { columns = cs }) (layout_columns g E s bytes stamp parts run.sound.0.columns.rise)
         ∙ ap (λ t. record (align_of g (Arrive s bytes (Layout stamp parts) (record { outcome = Candidate; cells = [] }) ∷ E)) { content = t })
         (sym (others g E (Arrive s bytes (Layout stamp parts) (record { outcome = Candidate; cells = [] })) tt refl));
@@ -227,19 +227,19 @@ module _ (others : OthersLeaveIt) where
 
 -- ---- pops, and what is asked
 
-pub pop_follows : (g : Given) (E : List Entry) (a b : AlignmentView) → b ≡ after_pop_of a → StandsFor g E a → StandsFor g (Pop (pop_answer E) ∷ E) b
+pub pop_follows : (g : Given) (E : List Entry) (a b : State) → b ≡ after_pop_of a → StandsFor g E a → StandsFor g (Pop (pop_answer E) ∷ E) b
 pop_follows g E a b e stands = record {
   run = record { ticked = (refl, stands.run.ticked); sound = stands.run.sound };
   same = e ∙ ap after_pop_of stands.same;
 }
 
-pub layout_same : (g : Given) (E : List Entry) (a : AlignmentView) → StandsFor g E a → row_layout_in a ≡ row_layout_of g E
+pub layout_same : (g : Given) (E : List Entry) (a : State) → StandsFor g E a → row_layout_in a ≡ row_layout_of g E
 layout_same g E a stands =
     ap row_layout_in stands.same
     ∙ ap (λ shapes. record { start = g.start; change = changes E; shapes = shapes })
     (map-map (λ (column : ColumnState). shape_in column.in_force) (column_state_of g E) (columns_of g))
 
-pub waiting_same : (g : Given) (E : List Entry) (a : AlignmentView) → StandsFor g E a → waiting_in a ≡ waiting_counts g E
+pub waiting_same : (g : Given) (E : List Entry) (a : State) → StandsFor g E a → waiting_in a ≡ waiting_counts g E
 waiting_same g E a stands =
     ap waiting_in stands.same
     ∙ ap (λ n. map (λ (column : ColumnState). greatest_count column.cleared column.held) (map (column_state_of g E) (columns_of g)) ++ replicate (16 - n) 0)
@@ -248,9 +248,9 @@ waiting_same g E a stands =
     (map-map (λ (column : ColumnState). greatest_count column.cleared column.held) (column_state_of g E) (columns_of g))
 
 -- what is kept of one column
-pub column_at : (g : Given) (E : List Entry) (a : AlignmentView) (c : ℕ) (d : ColumnState) → StandsFor g E a → c < length a.columns
+pub column_at : (g : Given) (E : List Entry) (a : State) (c : ℕ) (d : ColumnState) → StandsFor g E a → c < length a.columns
     → get_or a.columns c d ≡ column_state_of g E c
 column_at g E a c d stands l =
-    let m : length a.columns ≡ g.columns = ap (λ (b : AlignmentView). length b.columns) stands.same ∙ length-map-range_with_len (column_state_of g E) 0 g.columns in
-    ap (λ (b : AlignmentView). get_or b.columns c d) stands.same
+    let m : length a.columns ≡ g.columns = ap (λ (b : State). length b.columns) stands.same ∙ length-map-range_with_len (column_state_of g E) 0 g.columns in
+    ap (λ (b : State). get_or b.columns c d) stands.same
     ∙ get_or-map-range_with_len (column_state_of g E) 0 g.columns c c d (omega (arith, l, m)) (omega arith)

@@ -13,7 +13,7 @@ use Rattle.pdc_life.specs.Given.{Given, columns_of, count_for}
 use Rattle.pdc_life.specs.Life.{Entry, Tick, TickAnswer, changes, cleared_count, held_section, is_adoption, section_in_force}
 use Rattle.pdc_life.specs.Row.{rows_of}
 use Rattle.pdc_state.specs.State.{after_adoptions, content_of, row_layout_of, rule_of, shape_in}
-use Rattle.pdc_align.specs.Align.{AlignmentView, ColumnState, StandsFor, align_of, column_state_of, new_change, ticked_of}
+use Rattle.pdc_align.specs.Align.{State, ColumnState, StandsFor, align_of, column_state_of, new_change, ticked_of}
 use Rattle.pdc_align.specs.Calls.{after_adopting, after_closing, after_tick_of, change_after, clear_to, cleared_from, is_ready_in, no_column, ready_at, ready_from, row_layout_in, told_at, with_adoption}
 
 -- ---- columns by their numbers
@@ -74,7 +74,7 @@ state_after g E counts adopted c = record {
   in_force = cond (list_any (λ d. eqb d c) adopted) (held_section g E c) (section_in_force g E c);
 }
 
-abbrev kept_after : Given → List Entry → (now : ℕ) → (counts : List ℕ) → (change : ℕ) → (adopted : List ℕ) → AlignmentView
+abbrev kept_after : Given → List Entry → (now : ℕ) → (counts : List ℕ) → (change : ℕ) → (adopted : List ℕ) → State
 kept_after g E now counts change adopted = record {
   wait = g.wait;
   wait_kind = g.wait_kind;
@@ -147,13 +147,13 @@ changes_after g E now counts answer (d ∷ ds) e =
     more ∙ ap (λ b. length (cond b (Tick now counts answer ∷ filter is_adoption E) (filter is_adoption E))) (sym some)
 
 -- where the table's tick is the life's
-pub tick_follows : (g : Given) (E : List Entry) (a b : AlignmentView) (now : ℕ) (counts : List ℕ) → b ≡ after_tick_of a now counts → StandsFor g E a
+pub tick_follows : (g : Given) (E : List Entry) (a b : State) (now : ℕ) (counts : List ℕ) → b ≡ after_tick_of a now counts → StandsFor g E a
     → content_of g (Tick now counts (tick_answer g E now counts) ∷ E)
     ≡ after_adoptions (after_tick (content_of g E) (rule_of g.wait_kind g.wait now) (row_layout_of g E)) (tick_answer g E now counts).adopted
     → StandsFor g (Tick now counts (tick_answer g E now counts) ∷ E) b
 tick_follows g E a b now counts e stands content = record {
   run = record { ticked = (refl, stands.run.ticked); sound = stands.run.sound };
-  same = e ∙ ap (λ (c : AlignmentView). after_tick_of c now counts) stands.same
+  same = e ∙ ap (λ (c : State). after_tick_of c now counts) stands.same
       ∙ if_change g E now counts (has_change E)
       ∙ ap (λ n. kept_after g E now counts n (tick_answer g E now counts).adopted)
       (changes_after g E now counts (tick_answer g E now counts) (tick_answer g E now counts).adopted refl)
@@ -165,12 +165,12 @@ new_if change true ds = refl
 new_if change false ds = refl
 
 -- where the rows that the table closes are the life's
-pub tick_told : (g : Given) (E : List Entry) (a : AlignmentView) (now : ℕ) (counts : List ℕ) → StandsFor g E a
+pub tick_told : (g : Given) (E : List Entry) (a : State) (now : ℕ) (counts : List ℕ) → StandsFor g E a
     → closed_by (content_of g E) (rule_of g.wait_kind g.wait now) (row_layout_of g E) ≡ rows_of g E now
     → told_at a now counts ≡ ticked_of (changes E) (tick_answer g E now counts)
 tick_told g E a now counts stands rows =
     let rule = rule_of g.wait_kind g.wait now in
-    ap (λ (c : AlignmentView). told_at c now counts) stands.same
+    ap (λ (c : State). told_at c now counts) stands.same
     ∙ ap (λ n. record (told_at (align_of g E) now counts) { closed = n })
     (sym (length-map (closing_of (content_of g E) rule) (row_of (row_layout_of g E))) ∙ ap length rows)
     ∙ ap (λ ds. record (ticked_of (changes E) (tick_answer g E now counts)) { change = cond (has_change E) (new_change (changes E) ds) None; used_up = not (has_change E) && ltb 0 (length ds) })

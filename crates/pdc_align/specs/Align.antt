@@ -22,7 +22,8 @@ pub record ColumnState : Type 0 where
   pub held : Option SectionFields
   pub in_force : Option SectionFields
 
-pub record AlignmentView : Type 0 where
+-- The state of an alignment.
+pub record State : Type 0 where
   -- what is fixed: how long an open instant waits, how far above now one may lie, and the number of the start
   pub wait : ℕ
   pub wait_kind : WaitKind
@@ -34,6 +35,11 @@ pub record AlignmentView : Type 0 where
   pub columns : List ColumnState
   pub content : Content
 
+-- What contracts see of an alignment: its state, and for each buffer that it holds how many places it has.
+pub record AlignmentView : Type 0 where
+  pub state : State
+  pub memory : List ℕ
+
 abbrev pub column_state_of : Given → List Entry → (c : ℕ) → ColumnState
 column_state_of g E c = record {
   opening = count_for c g.counts;
@@ -43,7 +49,7 @@ column_state_of g E c = record {
 }
 
 -- What an alignment keeps after E.
-abbrev pub align_of : Given → List Entry → AlignmentView
+abbrev pub align_of : Given → List Entry → State
 align_of g E = record {
   wait = g.wait;
   wait_kind = g.wait_kind;
@@ -56,7 +62,7 @@ align_of g E = record {
 }
 
 -- The alignment stands for this life, which is a run.
-pub record StandsFor (g : Given) (E : List Entry) (a : AlignmentView) : Type 0 where
+pub record StandsFor (g : Given) (E : List Entry) (a : State) : Type 0 where
   pub run : IsRun g E
   pub same : a ≡ align_of g E
 
@@ -85,7 +91,7 @@ is_left outcome = false
 -- An arrival that was neither taken nor a candidate leaves an alignment as it is: it stands for the run with that step more.
 abbrev pub LeavesIt : Type 0
 LeavesIt =
-    (g : Given) (E : List Entry) (a : AlignmentView) (s : ℕ) (bytes : List ℕ) (arrival : Arrival) (answer : Answer) →
+    (g : Given) (E : List Entry) (a : State) (s : ℕ) (bytes : List ℕ) (arrival : Arrival) (answer : Answer) →
     StandsFor g E a → is_left answer.outcome ≡ true → IsRun g (Arrive s bytes arrival answer ∷ E) → StandsFor g (Arrive s bytes arrival answer ∷ E) a
 
 -- What a tick tells: how many rows closed, the change number where some column was adopted, and whether the numbers were used up.

@@ -14,7 +14,7 @@ use Rattle.pdc_life.specs.Given.{count_for}
 use Rattle.pdc_life.specs.Life.{greater, is_taken}
 use Rattle.pdc_state.specs.Follows.{told_by}
 use Rattle.pdc_state.specs.State.{after_adoptions, rule_of, shape_in}
-use Rattle.pdc_align.specs.Align.{AlignmentView, ColumnState, new_change}
+use Rattle.pdc_align.specs.Align.{State, ColumnState, new_change}
 use Rattle.pdc_align.specs.declared.plan.Plan.{Plan}
 use Rattle.pdc_align.specs.declared.ticked.Ticked.{Ticked}
 
@@ -27,7 +27,7 @@ abbrev pub first_content : (window columns lanes floor : ℕ) → Content
 first_content window columns lanes floor =
     record (new_content window columns lanes floor) { required = if lanes == 1 then replicate columns false else true ∷ true ∷ [] }
 
-abbrev pub first_of_plan : Plan → (start floor : ℕ) → (counts : List ℕ) → (opening : ℕ) → AlignmentView
+abbrev pub first_of_plan : Plan → (start floor : ℕ) → (counts : List ℕ) → (opening : ℕ) → State
 first_of_plan plan start floor counts opening = record {
   wait = plan.wait;
   wait_kind = plan.wait_kind;
@@ -40,12 +40,12 @@ first_of_plan plan start floor counts opening = record {
 }
 
 -- data of a stream for an instant, with its cells: the end of what a concentrator answers
-abbrev pub put_outcome : AlignmentView → (stream instant : ℕ) → List (ℕ × CellView) → Outcome
+abbrev pub put_outcome : State → (stream instant : ℕ) → List (ℕ × CellView) → Outcome
 put_outcome a stream instant cells =
     if nat_le instant a.content.last then Refused Late
     else (if nat_lt (a.current + a.ahead) instant then Refused Ahead else told_by (put_answer a.content stream instant cells))
 
-abbrev pub after_data : AlignmentView → (stream instant : ℕ) → List (ℕ × CellView) → AlignmentView
+abbrev pub after_data : State → (stream instant : ℕ) → List (ℕ × CellView) → State
 after_data a stream instant cells =
     if is_taken (put_outcome a stream instant cells) then record a { content = after_take a.content stream instant cells } else a
 
@@ -63,18 +63,18 @@ with_sections [] columns = columns
 with_sections (part ∷ parts) columns =
     with_sections parts (slice_set columns part.0 (with_section part.1 (slice_index_or columns part.0 no_column)))
 
-abbrev pub after_hold : AlignmentView → List (ℕ × SectionFields) → AlignmentView
+abbrev pub after_hold : State → List (ℕ × SectionFields) → State
 after_hold a parts = record a { columns = with_sections parts a.columns }
 
-abbrev pub after_pop_of : AlignmentView → AlignmentView
+abbrev pub after_pop_of : State → State
 after_pop_of a = record a { content = after_pop a.content }
 
 -- the layout under which rows close: the stamp, and the shapes in force
-abbrev pub row_layout_in : AlignmentView → LayoutView
+abbrev pub row_layout_in : State → LayoutView
 row_layout_in a = record { start = a.start; change = a.change; shapes = map (λ (column : ColumnState). shape_in column.in_force) a.columns }
 
 -- the counts that wait to be stored: the greater of cleared and held, and 0 past the last of 16
-abbrev pub waiting_in : AlignmentView → List ℕ
+abbrev pub waiting_in : State → List ℕ
 waiting_in a = map (λ (column : ColumnState). greatest_count column.cleared column.held) a.columns ++ replicate (16 - length a.columns) 0
 
 -- ---- a tick
@@ -102,11 +102,11 @@ abbrev pub with_adoption : ColumnState → ColumnState
 with_adoption column = if is_ready_in column then record column { in_force = column.held } else column
 
 -- a change number is left
-abbrev pub has_change_in : AlignmentView → Bool
+abbrev pub has_change_in : State → Bool
 has_change_in a = nat_lt a.change (2 ^ 32 - 1)
 
 -- First the rows close that are due, under the layout before the tick, and the counts are cleared;
-abbrev pub after_closing : AlignmentView → (now : ℕ) → (counts : List ℕ) → AlignmentView
+abbrev pub after_closing : State → (now : ℕ) → (counts : List ℕ) → State
 after_closing a now counts = record a {
   current = now;
   columns = cleared_from 0 counts a.columns;
@@ -118,22 +118,22 @@ abbrev pub change_after : (change : ℕ) → (adopted : List ℕ) → ℕ
 change_after change [] = change
 change_after change (column ∷ columns) = change + 1
 
-abbrev pub after_adopting : AlignmentView → (adopted : List ℕ) → AlignmentView
+abbrev pub after_adopting : State → (adopted : List ℕ) → State
 after_adopting a adopted = record a {
   change = change_after a.change adopted;
   columns = map with_adoption a.columns;
   content = after_adoptions a.content adopted;
 }
 
-abbrev pub ready_at : AlignmentView → (counts : List ℕ) → List ℕ
+abbrev pub ready_at : State → (counts : List ℕ) → List ℕ
 ready_at a counts = ready_from 0 (cleared_from 0 counts a.columns)
 
-abbrev pub after_tick_of : AlignmentView → (now : ℕ) → (counts : List ℕ) → AlignmentView
+abbrev pub after_tick_of : State → (now : ℕ) → (counts : List ℕ) → State
 after_tick_of a now counts =
     if has_change_in a then after_adopting (after_closing a now counts) (ready_at a counts) else after_closing a now counts
 
 -- what it tells
-abbrev pub told_at : AlignmentView → (now : ℕ) → (counts : List ℕ) → Ticked
+abbrev pub told_at : State → (now : ℕ) → (counts : List ℕ) → Ticked
 told_at a now counts = record {
   closed = tick_answer a.content (rule_of a.wait_kind a.wait now);
   change = if has_change_in a then new_change a.change (ready_at a counts) else None;

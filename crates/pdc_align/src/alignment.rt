@@ -47,21 +47,25 @@ pub struct Alignment<T: Table> {
 }
 
 impl<T: Table> Model for Alignment<T> {
-    ghost use Rattle.std.specs.Prelude.{◌≡◌, length};
+    ghost use Rattle.std.specs.Prelude.{◌≡◌, ◌∷◌, length};
+    ghost use Rattle.std.specs.Vec.{vec_capacity};
     ghost use Rattle.pdc_align.specs.Align.{AlignmentView};
     ghost use Rattle.pdc_table.specs.Content.{IsContent};
 
     ghost Value = { AlignmentView };
 
     ghost view = { λ a. record {
-      wait = a.wait;
-      wait_kind = a.wait_kind;
-      ahead = a.ahead;
-      start = a.start;
-      current = a.current;
-      change = a.change;
-      columns = a.columns.items;
-      content = T.content a.table;
+      state = record {
+        wait = a.wait;
+        wait_kind = a.wait_kind;
+        ahead = a.ahead;
+        start = a.start;
+        current = a.current;
+        change = a.change;
+        columns = a.columns.items;
+        content = T.content a.table;
+      };
+      memory = vec_capacity a.columns ∷ T.memory a.table;
     } };
 
     ghost invariant = { λ a. record {
@@ -116,6 +120,7 @@ fn adopt_in<T: Table>(table: &mut T, lanes: usize, columns: &[usize])
     requires well_formed { IsContent (T.content table.old) }
     ensures content { T.content table.new ≡ after_adoptions (T.content table.old) columns.now }
     ensures sizes { HasSizesOf (T.content table.old) (T.content table.new) }
+    ensures memory { T.memory table.new ≡ T.memory table.old }
     ensures well_formed { IsContent (T.content table.new) }
 {
     for column in columns {
@@ -130,6 +135,7 @@ fn adopt_one<T: Table>(table: &mut T, lanes: usize, column: usize)
     requires well_formed { IsContent (T.content table.old) }
     ensures content { T.content table.new ≡ after_adoption (T.content table.old) column }
     ensures sizes { HasSizesOf (T.content table.old) (T.content table.new) }
+    ensures memory { T.memory table.new ≡ T.memory table.old }
     ensures well_formed { IsContent (T.content table.new) }
 {
     if lanes == 1 {
@@ -155,7 +161,7 @@ impl<T: Table> Alignment<T> {
         counts: &[u16; MAX_PMUS],
         now: u64,
     ) -> Result<Alignment<T>, AllocError>
-        ensures { IfOk result (λ a. (output : Output) → StandsFor (given_by plan output start floor counts.now now) [] a) }
+        ensures { IfOk result (λ a. (output : Output) → StandsFor (given_by plan output start floor counts.now now) [] a.state) }
     {
         Alignment::first(alloc, plan, start, floor, counts, now)
     }
@@ -169,12 +175,13 @@ impl<T: Table> Alignment<T> {
         cells: &[(usize, Block)],
         quality: u8,
     ) -> Outcome
-        requires { IsPut self.old.content stream (cells_of cells.now quality) }
-        ensures answer { (g : Given) (E : List Entry) → StandsFor g E self.old →
+        requires { IsPut self.old.state.content stream (cells_of cells.now quality) }
+        ensures answer { (g : Given) (E : List Entry) → StandsFor g E self.old.state →
             result ≡ outcome_in_time g E stream instant (cells_of cells.now quality) }
-        ensures stands { (g : Given) (E : List Entry) (bytes payload : List ℕ) → StandsFor g E self.old →
+        ensures stands { (g : Given) (E : List Entry) (bytes payload : List ℕ) → StandsFor g E self.old.state →
             IsRun g (Arrive stream bytes (Data instant quality payload) (with_cells result (cells_of cells.now quality)) ∷ E) →
-            StandsFor g (Arrive stream bytes (Data instant quality payload) (with_cells result (cells_of cells.now quality)) ∷ E) self.new }
+            StandsFor g (Arrive stream bytes (Data instant quality payload) (with_cells result (cells_of cells.now quality)) ∷ E) self.new.state }
+        ensures memory { self.new.memory ≡ self.old.memory }
     {
         answers_agree();
         take_is_take();
@@ -184,10 +191,11 @@ impl<T: Table> Alignment<T> {
 
     /// Holds the sections of a layout that is a candidate, each in its column: of the greatest count, the first of that count.
     pub fn hold(&mut self, sections: &[ColumnSection<'_>])
-        requires { All (λ (s : ColumnSectionData). s.column < length self.old.columns) sections.now }
-        ensures { (g : Given) (E : List Entry) (stream : ℕ) (bytes : List ℕ) (stamp : Option Stamp) → StandsFor g E self.old →
+        requires { All (λ (s : ColumnSectionData). s.column < length self.old.state.columns) sections.now }
+        ensures stands { (g : Given) (E : List Entry) (stream : ℕ) (bytes : List ℕ) (stamp : Option Stamp) → StandsFor g E self.old.state →
             IsRun g (Arrive stream bytes (Layout stamp (map section_part sections.now)) (bare Candidate) ∷ E) →
-            StandsFor g (Arrive stream bytes (Layout stamp (map section_part sections.now)) (bare Candidate) ∷ E) self.new }
+            StandsFor g (Arrive stream bytes (Layout stamp (map section_part sections.now)) (bare Candidate) ∷ E) self.new.state }
+        ensures memory { self.new.memory ≡ self.old.memory }
     {
         others_leave_it();
         self.keep(sections);
@@ -196,9 +204,10 @@ impl<T: Table> Alignment<T> {
     /// A tick with its now, and for each column the count up to which it is cleared: rows close under the layout before it, and then
     /// the columns that are ready are adopted, where a change number is left.
     pub fn tick(&mut self, now: u64, counts: &[u16; MAX_PMUS]) -> Ticked
-        ensures answer { (g : Given) (E : List Entry) → StandsFor g E self.old → result ≡ ticked_of (changes E) (tick_answer g E now counts.now) }
-        ensures stands { (g : Given) (E : List Entry) → StandsFor g E self.old →
-            StandsFor g (Tick now counts.now (tick_answer g E now counts.now) ∷ E) self.new }
+        ensures answer { (g : Given) (E : List Entry) → StandsFor g E self.old.state → result ≡ ticked_of (changes E) (tick_answer g E now counts.now) }
+        ensures stands { (g : Given) (E : List Entry) → StandsFor g E self.old.state →
+            StandsFor g (Tick now counts.now (tick_answer g E now counts.now) ∷ E) self.new.state }
+        ensures memory { self.new.memory ≡ self.old.memory }
     {
         rows_are_those();
         tick_is_tick();
@@ -207,45 +216,46 @@ impl<T: Table> Alignment<T> {
 
     /// The lowest closed row that was not popped.
     pub fn pop_due(&mut self) -> Option<DueRow>
-        ensures answer { (g : Given) (E : List Entry) → StandsFor g E self.old → option_map row_view result ≡ pop_answer E }
-        ensures stands { (g : Given) (E : List Entry) → StandsFor g E self.old → StandsFor g (Pop (pop_answer E) ∷ E) self.new }
+        ensures answer { (g : Given) (E : List Entry) → StandsFor g E self.old.state → option_map row_view result ≡ pop_answer E }
+        ensures stands { (g : Given) (E : List Entry) → StandsFor g E self.old.state → StandsFor g (Pop (pop_answer E) ∷ E) self.new.state }
+        ensures memory { self.new.memory ≡ self.old.memory }
     {
         self.take_due()
     }
 
     /// The layout under which rows close now: the stamp, and the shapes in force.
     pub fn row_layout(&self) -> RowLayout
-        ensures { (g : Given) (E : List Entry) → StandsFor g E self.now → layout_view result ≡ row_layout_of g E }
+        ensures { (g : Given) (E : List Entry) → StandsFor g E self.now.state → layout_view result ≡ row_layout_of g E }
     {
         self.layout()
     }
 
     /// For each column the count that waits to be stored: the greater of the cleared and the held one; 0 past the last column.
     pub fn waiting(&self) -> [u16; MAX_PMUS]
-        ensures { (g : Given) (E : List Entry) → StandsFor g E self.now → result ≡ waiting_counts g E }
+        ensures { (g : Given) (E : List Entry) → StandsFor g E self.now.state → result ≡ waiting_counts g E }
     {
         self.counts()
     }
 
     /// The section that is held of the column.
     pub fn held(&self, column: usize) -> Option<SectionView<'_>>
-        requires { column < length self.now.columns }
-        ensures { (g : Given) (E : List Entry) → StandsFor g E self.now → option_map fields_of_view result ≡ held_section g E column }
+        requires { column < length self.now.state.columns }
+        ensures { (g : Given) (E : List Entry) → StandsFor g E self.now.state → option_map fields_of_view result ≡ held_section g E column }
     {
         self.columns[column].held()
     }
 
     /// The section in force for the column.
     pub fn in_force(&self, column: usize) -> Option<SectionView<'_>>
-        requires { column < length self.now.columns }
-        ensures { (g : Given) (E : List Entry) → StandsFor g E self.now → option_map fields_of_view result ≡ section_in_force g E column }
+        requires { column < length self.now.state.columns }
+        ensures { (g : Given) (E : List Entry) → StandsFor g E self.now.state → option_map fields_of_view result ≡ section_in_force g E column }
     {
         self.columns[column].in_force()
     }
 
     /// The change number.
     pub fn change(&self) -> u32
-        ensures { (g : Given) (E : List Entry) → StandsFor g E self.now → result ≡ changes E }
+        ensures { (g : Given) (E : List Entry) → StandsFor g E self.now.state → result ≡ changes E }
     {
         self.change
     }
@@ -259,7 +269,7 @@ impl<T: Table> Alignment<T> {
         counts: &[u16; MAX_PMUS],
         now: u64,
     ) -> Result<Alignment<T>, AllocError>
-        ensures { IfOk result (λ a. a ≡ first_of_plan plan start floor counts.now now) }
+        ensures { IfOk result (λ a. a.state ≡ first_of_plan plan start floor counts.now now) }
     {
         Ok(Alignment {
             wait: plan.wait,
@@ -282,9 +292,10 @@ impl<T: Table> Alignment<T> {
         cells: &[(usize, Block)],
         quality: u8,
     ) -> Outcome
-        requires { IsPut self.old.content stream (cells_of cells.now quality) }
-        ensures answer { result ≡ put_outcome self.old stream instant (cells_of cells.now quality) }
-        ensures state { self.new ≡ after_data self.old stream instant (cells_of cells.now quality) }
+        requires { IsPut self.old.state.content stream (cells_of cells.now quality) }
+        ensures answer { result ≡ put_outcome self.old.state stream instant (cells_of cells.now quality) }
+        ensures state { self.new.state ≡ after_data self.old.state stream instant (cells_of cells.now quality) }
+        ensures memory { self.new.memory ≡ self.old.memory }
     {
         if instant <= self.table.last() {
             return Outcome::Refused(Refusal::Late);
@@ -297,17 +308,19 @@ impl<T: Table> Alignment<T> {
 
     /// Holds each section in its column.
     fn keep(&mut self, sections: &[ColumnSection<'_>])
-        requires { All (λ (s : ColumnSectionData). s.column < length self.old.columns) sections.now }
-        ensures { self.new ≡ after_hold self.old (map section_part sections.now) }
+        requires { All (λ (s : ColumnSectionData). s.column < length self.old.state.columns) sections.now }
+        ensures state { self.new.state ≡ after_hold self.old.state (map section_part sections.now) }
+        ensures memory { self.new.memory ≡ self.old.memory }
     {
         columns::hold(&mut self.columns, sections);
     }
 
     /// A tick: rows close under the layout before it, and then the columns that are ready are adopted.
     fn step(&mut self, now: u64, counts: &[u16; MAX_PMUS]) -> Ticked
-        ensures answer { result ≡ told_at self.old now counts.now }
-        ensures state { self.new ≡ after_tick_of self.old now counts.now }
-        ensures wait { self.old.wait < 2 ^ 64 }
+        ensures answer { result ≡ told_at self.old.state now counts.now }
+        ensures state { self.new.state ≡ after_tick_of self.old.state now counts.now }
+        ensures wait { self.old.state.wait < 2 ^ 64 }
+        ensures memory { self.new.memory ≡ self.old.memory }
     {
         let closed = self.close(now, counts);
         let ready = columns::ready(&self.columns);
@@ -327,8 +340,9 @@ impl<T: Table> Alignment<T> {
 
     /// Closes the rows that are due, and clears the counts. It answers how many rows.
     fn close(&mut self, now: u64, counts: &[u16; MAX_PMUS]) -> u32
-        ensures answer { result ≡ table.tick_answer self.old.content (rule_of self.old.wait_kind self.old.wait now) }
-        ensures state { self.new ≡ after_closing self.old now counts.now }
+        ensures answer { result ≡ table.tick_answer self.old.state.content (rule_of self.old.state.wait_kind self.old.state.wait now) }
+        ensures state { self.new.state ≡ after_closing self.old.state now counts.now }
+        ensures memory { self.new.memory ≡ self.old.memory }
     {
         let layout = self.layout();
         let rule = rule_of(self.wait_kind, self.wait, now);
@@ -340,10 +354,11 @@ impl<T: Table> Alignment<T> {
 
     /// Puts into force what is ready, and adopts these columns in the table. It answers the change number, where there are any.
     fn adopt(&mut self, adopted: &[usize]) -> Option<u32>
-        requires change { self.old.change < 2 ^ 32 - 1 }
-        requires exist { All (λ (column : ℕ). column < length self.old.columns) adopted.now }
-        ensures answer { result ≡ new_change self.old.change adopted.now }
-        ensures state { self.new ≡ after_adopting self.old adopted.now }
+        requires change { self.old.state.change < 2 ^ 32 - 1 }
+        requires exist { All (λ (column : ℕ). column < length self.old.state.columns) adopted.now }
+        ensures answer { result ≡ new_change self.old.state.change adopted.now }
+        ensures state { self.new.state ≡ after_adopting self.old.state adopted.now }
+        ensures memory { self.new.memory ≡ self.old.memory }
     {
         columns::adopt(&mut self.columns);
         adopt_in(&mut self.table, self.lanes, adopted);
@@ -356,15 +371,16 @@ impl<T: Table> Alignment<T> {
 
     /// Takes out the first row that waits.
     fn take_due(&mut self) -> Option<DueRow>
-        ensures answer { option_map row_view result ≡ table.pop_answer self.old.content }
-        ensures state { self.new ≡ after_pop_of self.old }
+        ensures answer { option_map row_view result ≡ table.pop_answer self.old.state.content }
+        ensures state { self.new.state ≡ after_pop_of self.old.state }
+        ensures memory { self.new.memory ≡ self.old.memory }
     {
         self.table.pop_due()
     }
 
     /// The layout under which rows close.
     fn layout(&self) -> RowLayout
-        ensures { layout_view result ≡ row_layout_in self.now }
+        ensures { layout_view result ≡ row_layout_in self.now.state }
     {
         RowLayout {
             start: self.start,
@@ -375,7 +391,7 @@ impl<T: Table> Alignment<T> {
 
     /// The counts that wait to be stored.
     fn counts(&self) -> [u16; MAX_PMUS]
-        ensures { result ≡ waiting_in self.now }
+        ensures { result ≡ waiting_in self.now.state }
     {
         columns::waiting(&self.columns)
     }

@@ -8,5 +8,6 @@ abbrev pub invariant-loop-column : goal.invariant-loop-column
 invariant-loop-column g l = record {
   content : after_adoptions (g.T.Table.content l.table) (drop l.column-index l.columns) ≡ after_adoptions (g.T.Table.content l.initial.table) l.columns;
   sizes : HasSizesOf (g.T.Table.content l.initial.table) (g.T.Table.content l.table);
+  memory : g.T.Table.memory l.table ≡ g.T.Table.memory l.initial.table;
   well_formed : IsContent (g.T.Table.content l.table);
 }

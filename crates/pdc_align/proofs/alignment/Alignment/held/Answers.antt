@@ -8,5 +8,5 @@ returns g c life E stands =
     c.held.ensures
     ∙ ap (λ (x : ColumnState). x.held)
     (c.index.ensures
-    ∙ ap (λ (a : AlignmentView). get_or a.columns c.args.column c.index.result.now) c.self.view_is
-    ∙ column_at life E c.args.self.now c.args.column c.index.result.now stands c.requires)
+    ∙ ap (λ (a : AlignmentView). get_or a.state.columns c.args.column c.index.result.now) c.self.view_is
+    ∙ column_at life E c.args.self.now.state c.args.column c.index.result.now stands c.requires)

@@ -9,6 +9,6 @@ use Rattle.pdc_align.proofs.alignment.Alignment.new.Goals as goal
 pub returns : goal.returns
 returns g c =
     IfOk-weaker c.first.result
-    (λ (a : AlignmentView). a ≡ first_of_plan c.args.plan c.args.start c.args.floor c.args.counts.now c.args.now)
-    (λ (a : AlignmentView). (output : Output) → StandsFor (given_by c.args.plan output c.args.start c.args.floor c.args.counts.now c.args.now) [] a)
-    (λ a h output. begins c.args.plan output c.args.start c.args.floor c.args.counts.now c.args.now a h) c.first.ensures
+    (λ (a : AlignmentView). a.state ≡ first_of_plan c.args.plan c.args.start c.args.floor c.args.counts.now c.args.now)
+    (λ (a : AlignmentView). (output : Output) → StandsFor (given_by c.args.plan output c.args.start c.args.floor c.args.counts.now c.args.now) [] a.state)
+    (λ a h output. begins c.args.plan output c.args.start c.args.floor c.args.counts.now c.args.now a.state h) c.first.ensures
