@@ -20,8 +20,8 @@ use Rattle.pdc_life.specs.Life.{Answer, Arrive, Entry, Pop, changes, cleared_cou
 use Rattle.pdc_life.specs.Run.{IsRun}
 use Rattle.pdc_state.specs.Follows.{AnswersAgree, OthersLeaveIt, TakeIsTake}
 use Rattle.pdc_state.specs.State.{content_of, row_layout_of, shape_in}
-use Rattle.pdc_align.specs.Align.{State, LeavesIt, ColumnState, StandsFor, align_of, is_left, column_state_of, given_by}
-use Rattle.pdc_align.specs.Calls.{after_data, after_hold, after_pop_of, first_of_plan, no_column, put_outcome, row_layout_in, waiting_in, with_section, with_sections}
+use Rattle.pdc_align.specs.Align.{HasSizes, State, LeavesIt, ColumnState, StandsFor, align_of, is_left, column_state_of, given_by}
+use Rattle.pdc_align.specs.Calls.{after_data, after_hold, after_pop_of, first_of_plan, new_column, no_column, put_outcome, row_layout_in, waiting_in, with_section, with_sections}
 use Rattle.pdc_align.specs.declared.plan.Plan.{Plan}
 
 -- ---- the start
@@ -40,6 +40,13 @@ begins plan output start floor counts opening a e = record {
   run = record { ticked = tt; sound = tt };
   same = e ∙ ap (λ bs. record (first_of_plan plan start floor counts opening) { content = record ((first_of_plan plan start floor counts opening).content) { required = bs } })
       (first_required (eqb plan.lanes 1) plan.columns);
+}
+
+pub first_sizes : (plan : Plan) (start floor : ℕ) (counts : List ℕ) (opening : ℕ) (a : State) → a ≡ first_of_plan plan start floor counts opening → HasSizes plan.columns plan.lanes a
+first_sizes plan start floor counts opening a e = record {
+  column_count = ap (λ (b : State). b.content.columns) e;
+  lane_count = ap (λ (b : State). b.content.lanes) e;
+  each_column = ap (λ (b : State). length b.columns) e ∙ length-map-range_with_len (new_column counts) 0 plan.columns;
 }
 
 -- ---- data

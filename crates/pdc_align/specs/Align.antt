@@ -40,6 +40,18 @@ pub record AlignmentView : Type 0 where
   pub state : State
   pub memory : List ℕ
 
+-- It has so many columns and lanes,
+pub record HasSizes (columns lanes : ℕ) (a : State) : Type 0 where
+  pub column_count : a.content.columns ≡ columns
+  pub lane_count : a.content.lanes ≡ lanes
+  pub each_column : length a.columns ≡ columns
+
+-- which never changes.
+pub record KeepsSizes (old new : State) : Type 0 where
+  pub columns : new.content.columns ≡ old.content.columns
+  pub lanes : new.content.lanes ≡ old.content.lanes
+  pub each : length new.columns ≡ length old.columns
+
 abbrev pub column_state_of : Given → List Entry → (c : ℕ) → ColumnState
 column_state_of g E c = record {
   opening = count_for c g.counts;

@@ -18,7 +18,7 @@ ghost use Rattle.pdc_life.specs.Life.{Arrive, Entry, Pop, Tick, changes, held_se
 ghost use Rattle.pdc_life.specs.Run.{IsRun};
 ghost use Rattle.pdc_life.specs.declared.outcome.Outcome.TheVariants.{Candidate};
 ghost use Rattle.pdc_state.specs.State.{after_adoption, after_adoptions, row_layout_of, rule_of};
-ghost use Rattle.pdc_align.specs.Align.{StandsFor, given_by, new_change, ticked_of};
+ghost use Rattle.pdc_align.specs.Align.{HasSizes, KeepsSizes, StandsFor, given_by, new_change, ticked_of};
 ghost use Rattle.pdc_align.specs.Calls.{after_data, after_adopting, after_closing, after_tick_of, told_at, after_hold, after_pop_of, first_content, first_of_plan, put_outcome, row_layout_in, waiting_in};
 
 use crate::{Column, Plan, Ticked, columns};
@@ -161,7 +161,8 @@ impl<T: Table> Alignment<T> {
         counts: &[u16; MAX_PMUS],
         now: u64,
     ) -> Result<Alignment<T>, AllocError>
-        ensures { IfOk result (λ a. (output : Output) → StandsFor (given_by plan output start floor counts.now now) [] a.state) }
+        ensures stands { IfOk result (λ a. (output : Output) → StandsFor (given_by plan output start floor counts.now now) [] a.state) }
+        ensures sizes { IfOk result (λ a. HasSizes plan.columns plan.lanes a.state) }
     {
         Alignment::first(alloc, plan, start, floor, counts, now)
     }
@@ -181,6 +182,7 @@ impl<T: Table> Alignment<T> {
         ensures stands { (g : Given) (E : List Entry) (bytes payload : List ℕ) → StandsFor g E self.old.state →
             IsRun g (Arrive stream bytes (Data instant quality payload) (with_cells result (cells_of cells.now quality)) ∷ E) →
             StandsFor g (Arrive stream bytes (Data instant quality payload) (with_cells result (cells_of cells.now quality)) ∷ E) self.new.state }
+        ensures sizes { KeepsSizes self.old.state self.new.state }
         ensures memory { self.new.memory ≡ self.old.memory }
     {
         answers_agree();
@@ -195,6 +197,7 @@ impl<T: Table> Alignment<T> {
         ensures stands { (g : Given) (E : List Entry) (stream : ℕ) (bytes : List ℕ) (stamp : Option Stamp) → StandsFor g E self.old.state →
             IsRun g (Arrive stream bytes (Layout stamp (map section_part sections.now)) (bare Candidate) ∷ E) →
             StandsFor g (Arrive stream bytes (Layout stamp (map section_part sections.now)) (bare Candidate) ∷ E) self.new.state }
+        ensures sizes { KeepsSizes self.old.state self.new.state }
         ensures memory { self.new.memory ≡ self.old.memory }
     {
         others_leave_it();
@@ -207,6 +210,7 @@ impl<T: Table> Alignment<T> {
         ensures answer { (g : Given) (E : List Entry) → StandsFor g E self.old.state → result ≡ ticked_of (changes E) (tick_answer g E now counts.now) }
         ensures stands { (g : Given) (E : List Entry) → StandsFor g E self.old.state →
             StandsFor g (Tick now counts.now (tick_answer g E now counts.now) ∷ E) self.new.state }
+        ensures sizes { KeepsSizes self.old.state self.new.state }
         ensures memory { self.new.memory ≡ self.old.memory }
     {
         rows_are_those();
@@ -218,6 +222,7 @@ impl<T: Table> Alignment<T> {
     pub fn pop_due(&mut self) -> Option<DueRow>
         ensures answer { (g : Given) (E : List Entry) → StandsFor g E self.old.state → option_map row_view result ≡ pop_answer E }
         ensures stands { (g : Given) (E : List Entry) → StandsFor g E self.old.state → StandsFor g (Pop (pop_answer E) ∷ E) self.new.state }
+        ensures sizes { KeepsSizes self.old.state self.new.state }
         ensures memory { self.new.memory ≡ self.old.memory }
     {
         self.take_due()
@@ -295,6 +300,7 @@ impl<T: Table> Alignment<T> {
         requires { IsPut self.old.state.content stream (cells_of cells.now quality) }
         ensures answer { result ≡ put_outcome self.old.state stream instant (cells_of cells.now quality) }
         ensures state { self.new.state ≡ after_data self.old.state stream instant (cells_of cells.now quality) }
+        ensures sizes { KeepsSizes self.old.state self.new.state }
         ensures memory { self.new.memory ≡ self.old.memory }
     {
         if instant <= self.table.last() {
@@ -310,6 +316,7 @@ impl<T: Table> Alignment<T> {
     fn keep(&mut self, sections: &[ColumnSection<'_>])
         requires { All (λ (s : ColumnSectionData). s.column < length self.old.state.columns) sections.now }
         ensures state { self.new.state ≡ after_hold self.old.state (map section_part sections.now) }
+        ensures sizes { KeepsSizes self.old.state self.new.state }
         ensures memory { self.new.memory ≡ self.old.memory }
     {
         columns::hold(&mut self.columns, sections);
@@ -320,6 +327,7 @@ impl<T: Table> Alignment<T> {
         ensures answer { result ≡ told_at self.old.state now counts.now }
         ensures state { self.new.state ≡ after_tick_of self.old.state now counts.now }
         ensures wait { self.old.state.wait < 2 ^ 64 }
+        ensures sizes { KeepsSizes self.old.state self.new.state }
         ensures memory { self.new.memory ≡ self.old.memory }
     {
         let closed = self.close(now, counts);
@@ -342,6 +350,7 @@ impl<T: Table> Alignment<T> {
     fn close(&mut self, now: u64, counts: &[u16; MAX_PMUS]) -> u32
         ensures answer { result ≡ table.tick_answer self.old.state.content (rule_of self.old.state.wait_kind self.old.state.wait now) }
         ensures state { self.new.state ≡ after_closing self.old.state now counts.now }
+        ensures sizes { KeepsSizes self.old.state self.new.state }
         ensures memory { self.new.memory ≡ self.old.memory }
     {
         let layout = self.layout();
@@ -358,6 +367,7 @@ impl<T: Table> Alignment<T> {
         requires exist { All (λ (column : ℕ). column < length self.old.state.columns) adopted.now }
         ensures answer { result ≡ new_change self.old.state.change adopted.now }
         ensures state { self.new.state ≡ after_adopting self.old.state adopted.now }
+        ensures sizes { KeepsSizes self.old.state self.new.state }
         ensures memory { self.new.memory ≡ self.old.memory }
     {
         columns::adopt(&mut self.columns);
@@ -373,6 +383,7 @@ impl<T: Table> Alignment<T> {
     fn take_due(&mut self) -> Option<DueRow>
         ensures answer { option_map row_view result ≡ table.pop_answer self.old.state.content }
         ensures state { self.new.state ≡ after_pop_of self.old.state }
+        ensures sizes { KeepsSizes self.old.state self.new.state }
         ensures memory { self.new.memory ≡ self.old.memory }
     {
         self.table.pop_due()
