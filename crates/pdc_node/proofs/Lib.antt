@@ -1,0 +1,4 @@
+mod Answers
+mod Counting
+mod Lives
+mod InOrder
