@@ -12,10 +12,10 @@
 //! What is none of these, or what cannot be asked, is answered `no such call`.
 ghost use Rattle.std.specs.Prelude.{◌≤◌};
 
-use pdc_script::Player;
 use arrayvec::ArrayVec;
 use pdc_block::Block;
 use pdc_cfg::{MAX_ANALOGS, MAX_DIGITALS, MAX_PHASORS, Shape};
+use pdc_script::Player;
 use pdc_stat::{Stat, absent, is_absent};
 use pdc_tag::{COUNT_LIMIT, MAX_RATE, SECONDS, instant, slot, tag_of};
 use std::alloc::{AllocError, Global};

@@ -15,104 +15,14 @@
 //! A stream is a PMU's at a node, and at the merger 0 for node 201 and 1 for node 202. Counts that are not told are 0. What is
 //! none of these is answered `no such call`.
 
-ghost use Rattle.std.specs.Prelude.{◌≤◌};
-
-use pdc_script::Frames;
-use pdc_script::Player;
-use arrayvec::ArrayVec;
-use pdc_life::{MAX_PMUS, MergedNode, MergerSettings, Pmu, Settings, WaitKind};
-use pdc_output::{Nominal, Output};
+use pdc_life::{MAX_PMUS, MergerSettings, Settings, WaitKind};
 use pdc_past::{Answered, LifeStep, are_for_streams};
 use pdc_plain::{Life, Opening, live_merger, live_node};
 use pdc_reading::NODES;
 use pdc_row::DueRow;
+use pdc_script::{Frames, Player};
+use pdc_script_lives::{counts_of, merger, node, opening_counts, wait_kind};
 use std::alloc::{AllocError, Global};
-
-/// How far above now an instant may lie.
-const AHEAD: u64 = 32;
-
-const PMU_11: Pmu = Pmu {
-    stream: 11,
-    source: 11,
-    time_base: 1_000_000,
-};
-
-const PMU_12: Pmu = Pmu {
-    stream: 12,
-    source: 12,
-    time_base: 1_000_000,
-};
-
-const PMU_13: Pmu = Pmu {
-    stream: 13,
-    source: 13,
-    time_base: 1_000_000,
-};
-
-const NODE_201: MergedNode = MergedNode {
-    id: 201,
-    time_base: 1_000_000,
-};
-
-const NODE_202: MergedNode = MergedNode {
-    id: 202,
-    time_base: 1_000_000,
-};
-
-/// Node 201 of the PMUs 11 and 12, or 11 to 13: 50 frames a second, this window and wait.
-fn node(window: u64, wait: u64, wait_kind: WaitKind, has_third: bool) -> Settings
-    requires window_low { 8 ≤ window }
-    requires window_high { window ≤ 256 }
-    requires wait_low { 1 ≤ wait }
-    requires wait_high { wait ≤ 1000 }
-{
-    let mut pmus = ArrayVec::new();
-    pmus.push(PMU_11);
-    pmus.push(PMU_12);
-    if has_third {
-        pmus.push(PMU_13);
-    }
-    Settings {
-        output: Output {
-            id: 201,
-            rate: 50,
-            nominal: Nominal::Hz50,
-            time_base: 1_000_000,
-        },
-        wait,
-        wait_kind,
-        window,
-        ahead: AHEAD,
-        pmus,
-    }
-}
-
-/// Merger 301 of the nodes 201 and 202 and the sources 11 and 12: 50 frames a second, this window and wait.
-fn merger(window: u64, wait: u64, wait_kind: WaitKind) -> MergerSettings
-    requires window_low { 8 ≤ window }
-    requires window_high { window ≤ 256 }
-    requires wait_low { 1 ≤ wait }
-    requires wait_high { wait ≤ 1000 }
-{
-    let mut sources = ArrayVec::new();
-    sources.push(11);
-    sources.push(12);
-    MergerSettings {
-        output: Output {
-            id: 301,
-            rate: 50,
-            nominal: Nominal::Hz50,
-            time_base: 1_000_000,
-        },
-        wait,
-        wait_kind,
-        window,
-        ahead: AHEAD,
-        first: NODE_201,
-        second: NODE_202,
-        sources,
-    }
-}
 
 /// The first life, with these counts.
 fn first_opening(counts: [u16; MAX_PMUS]) -> Opening {
@@ -121,32 +31,6 @@ fn first_opening(counts: [u16; MAX_PMUS]) -> Opening {
         floor: 0,
         counts,
         first_now: 0,
-    }
-}
-
-/// The counts that the words say, and 0 for the columns that are left.
-fn counts_of(words: &[&str]) -> Option<[u16; MAX_PMUS]> {
-    let mut counts = [0; MAX_PMUS];
-    for (place, word) in words.iter().enumerate() {
-        *counts.get_mut(place)? = word.parse().ok()?;
-    }
-    Some(counts)
-}
-
-/// The kind of wait that the words say, and the words behind it.
-fn wait_kind<'w, 's>(words: &'w [&'s str]) -> (WaitKind, &'w [&'s str]) {
-    match words {
-        ["absolute", more @ ..] => (WaitKind::Absolute, more),
-        _ => (WaitKind::Relative, words),
-    }
-}
-
-/// The opening counts that the words say.
-fn opening_counts(words: &[&str]) -> Option<[u16; MAX_PMUS]> {
-    match words {
-        [] => counts_of(&[]),
-        ["counts", counts @ ..] => counts_of(counts),
-        _ => None,
     }
 }
 

@@ -16,9 +16,9 @@ ghost use Rattle.pdc_table.specs.Content.{streams_of};
 ghost use Rattle.std.specs.Prelude.{◌≡◌, ◌<◌, IsTrue};
 
 use crate::blocks::{ONE_PHASOR, name_of, named};
-use pdc_script::Player;
 use arrayvec::ArrayVec;
 use pdc_row::DueRow;
+use pdc_script::Player;
 use pdc_table::{PutOutcome, RowLayout, Table, WaitRule};
 use std::alloc::{AllocError, Global};
 use std::fmt::Write;

@@ -8,8 +8,8 @@
 //! The calls follow from the seed: puts for instants around a window that rises, ticks under each kind of rule, pops, drops, and
 //! streams that are waited for or not.
 
-use pdc_script::Player;
 use crate::table_player::TablePlayer;
+use pdc_script::Player;
 use pdc_table::{RingTable, SortedTable};
 use std::alloc::{AllocError, Global};
 

@@ -1,0 +1,92 @@
+//! The settings of the concentrators that scripts of lives are of.
+ghost use Rattle.std.specs.Prelude.{◌≡◌, ◌+◌, ◌≤◌, if◌then◌else◌, length};
+
+use arrayvec::ArrayVec;
+use pdc_life::{MergedNode, MergerSettings, Pmu, Settings, WaitKind};
+use pdc_output::{Nominal, Output};
+
+/// How far above now an instant may lie.
+const AHEAD: u64 = 32;
+
+const PMU_11: Pmu = Pmu {
+    stream: 11,
+    source: 11,
+    time_base: 1_000_000,
+};
+
+const PMU_12: Pmu = Pmu {
+    stream: 12,
+    source: 12,
+    time_base: 1_000_000,
+};
+
+const PMU_13: Pmu = Pmu {
+    stream: 13,
+    source: 13,
+    time_base: 1_000_000,
+};
+
+const NODE_201: MergedNode = MergedNode {
+    id: 201,
+    time_base: 1_000_000,
+};
+
+const NODE_202: MergedNode = MergedNode {
+    id: 202,
+    time_base: 1_000_000,
+};
+
+/// Node 201 of the PMUs 11 and 12, or 11 to 13: 50 frames a second, this window and wait.
+pub fn node(window: u64, wait: u64, wait_kind: WaitKind, has_third: bool) -> Settings
+    requires window_low { 8 ≤ window }
+    requires window_high { window ≤ 256 }
+    requires wait_low { 1 ≤ wait }
+    requires wait_high { wait ≤ 1000 }
+{
+    let mut pmus = ArrayVec::new();
+    pmus.push(PMU_11);
+    pmus.push(PMU_12);
+    if has_third {
+        pmus.push(PMU_13);
+    }
+    Settings {
+        output: Output {
+            id: 201,
+            rate: 50,
+            nominal: Nominal::Hz50,
+            time_base: 1_000_000,
+        },
+        wait,
+        wait_kind,
+        window,
+        ahead: AHEAD,
+        pmus,
+    }
+}
+
+/// Merger 301 of the nodes 201 and 202 and the sources 11 and 12: 50 frames a second, this window and wait.
+pub fn merger(window: u64, wait: u64, wait_kind: WaitKind) -> MergerSettings
+    requires window_low { 8 ≤ window }
+    requires window_high { window ≤ 256 }
+    requires wait_low { 1 ≤ wait }
+    requires wait_high { wait ≤ 1000 }
+{
+    let mut sources = ArrayVec::new();
+    sources.push(11);
+    sources.push(12);
+    MergerSettings {
+        output: Output {
+            id: 301,
+            rate: 50,
+            nominal: Nominal::Hz50,
+            time_base: 1_000_000,
+        },
+        wait,
+        wait_kind,
+        window,
+        ahead: AHEAD,
+        first: NODE_201,
+        second: NODE_202,
+        sources,
+    }
+}
