@@ -27,7 +27,14 @@ impl Default for Block {
     ghost is_default = { λ block. (word_count_of block.shape ≡ 3) × (words_of block ≡ 0 ∷ 0 ∷ 0 ∷ []) };
 
     fn default() -> Block {
-        Block::from_words(Shape::default(), &[0; 3])
+        let mut words = ArrayVec::new();
+        words.push(0);
+        words.push(0);
+        words.push(0);
+        Block {
+            shape: Shape::default(),
+            words,
+        }
     }
 }
 
@@ -53,9 +60,7 @@ impl Block {
         ensures words { words_of result ≡ words.now }
     {
         let mut taken = ArrayVec::new();
-        for word in words {
-            taken.push(*word);
-        }
+        taken.try_extend_from_slice(words).unwrap();
         Block {
             shape,
             words: taken,
