@@ -19,18 +19,20 @@ use std::marker::Model;
 /// What was taken of one column at one instant, lane by lane.
 #[derive(Drop)]
 pub struct Column {
-    /// What lane 0 holds.
-    first: Option<Cell>,
-    /// What lane 1 holds, in a table of two lanes.
-    second: Option<Cell>,
+    /// Whether lane 0 holds a cell.
+    has_first: bool,
+    /// Whether lane 1 holds one, in a table of two lanes.
+    has_second: bool,
+    first: Cell,
+    second: Cell,
 }
 
 impl Model for Column {
-    ghost use Rattle.pdc_table.specs.Views.{ColumnView};
+    ghost use Rattle.pdc_table.specs.Views.{ColumnView, kept};
 
     ghost Value = { ColumnView };
 
-    ghost view = { λ column. record { first = column.first; second = column.second } };
+    ghost view = { λ column. record { first = kept column.has_first column.first; second = kept column.has_second column.second } };
 }
 
 /// The column in which nothing was taken.
@@ -39,8 +41,10 @@ impl Default for Column {
 
     fn default() -> Column {
         Column {
-            first: None,
-            second: None,
+            has_first: false,
+            has_second: false,
+            first: Cell::blank(),
+            second: Cell::blank(),
         }
     }
 }
@@ -50,7 +54,13 @@ impl Column {
     pub(crate) fn chosen(&self) -> Option<&Cell>
         ensures { option_copied result ≡ chosen_of self.now }
     {
-        present(&self.first).or(present(&self.second))
+        if self.has_first && self.first.is_present() {
+            return Some(&self.first);
+        }
+        if self.has_second && self.second.is_present() {
+            return Some(&self.second);
+        }
+        None
     }
 
     /// Puts a copy of the block, and the time quality byte of its frame, into the lane, 0 or else 1.
@@ -58,9 +68,11 @@ impl Column {
         ensures { self.new ≡ with_cell lane (Some (cell_view block.now quality)) self.old }
     {
         if lane == 0 {
-            self.first = Some(Cell::new(block, quality));
+            self.has_first = true;
+            self.first.set(block, quality);
         } else {
-            self.second = Some(Cell::new(block, quality));
+            self.has_second = true;
+            self.second.set(block, quality);
         }
     }
 
@@ -69,9 +81,9 @@ impl Column {
         ensures { self.new ≡ with_cell lane None self.old }
     {
         if lane == 0 {
-            self.first = None;
+            self.has_first = false;
         } else {
-            self.second = None;
+            self.has_second = false;
         }
     }
 
@@ -79,10 +91,10 @@ impl Column {
     pub(crate) fn holds_other(&self, lane: usize, block: &Block) -> bool
         ensures { result ≡ holds_other (cell_in lane self.now) (block_view block.now) }
     {
-        let cell = if lane == 0 { &self.first } else { &self.second };
-        match cell {
-            Some(cell) => !cell.holds(block),
-            None => false,
+        if lane == 0 {
+            self.has_first && !self.first.holds(block)
+        } else {
+            self.has_second && !self.second.holds(block)
         }
     }
 
@@ -119,12 +131,11 @@ impl Column {
     pub(crate) fn disagrees(&self) -> bool
         ensures { result ≡ disagrees self.now }
     {
-        match (&self.first, &self.second) {
-            (Some(first), Some(second)) => {
-                first.is_present() && second.is_present() && !first.agrees(second)
-            }
-            _ => false,
-        }
+        self.has_second
+            && self.has_first
+            && self.first.is_present()
+            && self.second.is_present()
+            && !self.first.agrees(&self.second)
     }
 
     /// One where the column has a shape and its lanes disagree.
@@ -137,15 +148,5 @@ impl Column {
         } else {
             0
         }
-    }
-}
-
-/// The cell, where its block is present.
-fn present(cell: &Option<Cell>) -> Option<&Cell>
-    ensures { option_copied result ≡ present_of cell.now }
-{
-    match cell {
-        Some(cell) if cell.is_present() => Some(cell),
-        _ => None,
     }
 }
