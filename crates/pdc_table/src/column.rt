@@ -9,10 +9,11 @@ ghost use Rattle.pdc_table.specs.Steps.{disagreement_at};
 ghost use Rattle.pdc_table.specs.Taking.{cell_in, holds_other, with_cell};
 ghost use Rattle.pdc_table.specs.Views.{empty_column};
 
-use crate::{Cell, MAX_COLUMNS};
+use crate::MAX_COLUMNS;
 use arrayvec::ArrayVec;
 use pdc_block::Block;
 use pdc_cfg::Shape;
+use pdc_row::Cell;
 use pdc_stat::absent;
 use std::marker::Model;
 

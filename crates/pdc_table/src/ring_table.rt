@@ -1,7 +1,7 @@
 //! A table kept as a ring.
 use crate::open_row::{OpenRow, Places, falses};
 use crate::sorted_table::{lane_of, stream_count};
-use crate::{MAX_COLUMNS, PutOutcome, RowLayout, Table, WaitRule, ring};
+use crate::{ClosingLayout, MAX_COLUMNS, PutOutcome, RowLayout, Table, WaitRule, ring};
 use arrayvec::ArrayVec;
 use pdc_block::Block;
 use pdc_row::{DueRow, numbers_rise};
@@ -17,11 +17,14 @@ pub struct RingTable {
     columns: usize,
     lanes: usize,
     required: ArrayVec<bool, MAX_COLUMNS>,
-    /// The row of an open instant stands at its remainder by the window.
+    /// The row of an instant that is held stands at its remainder by the window.
     places: Vec<OpenRow>,
+    /// At the same place stands the layout that a closed row closed under.
+    layouts: Vec<ClosingLayout>,
     /// The open instants, in rising order.
     open: Vec<u64>,
-    closed: VecDeque<DueRow>,
+    /// The closed instants that were not popped, in rising order: their rows stay at their places.
+    closed: VecDeque<u64>,
     last: u64,
     disagree: u64,
 }
@@ -60,6 +63,7 @@ impl Table for RingTable {
             lanes,
             required: falses(streams),
             places: ring::new_places(alloc, room, Places { streams, columns })?,
+            layouts: ring::new_layouts(alloc, room)?,
             open: Vec::with_capacity(alloc, room)?,
             closed: VecDeque::with_capacity(alloc, room)?,
             last: floor,
@@ -102,6 +106,7 @@ impl Table for RingTable {
             window,
             required,
             places,
+            layouts,
             open,
             closed,
             last,
@@ -110,7 +115,7 @@ impl Table for RingTable {
         } = self;
         let required = required.as_slice();
         ring::close_due(
-            places, *window, open, required, rule, layout, closed, last, disagree,
+            places, layouts, *window, open, required, rule, layout, closed, last, disagree,
         ) as u32
     }
 
@@ -132,7 +137,14 @@ impl Table for RingTable {
 
     fn pop_due(&mut self) -> Option<DueRow> {
         numbers_rise();
-        self.closed.pop_front()
+        let RingTable {
+            window,
+            places,
+            layouts,
+            closed,
+            ..
+        } = self;
+        ring::pop(places, layouts, *window, closed)
     }
 
     fn last(&self) -> u64 {

@@ -1,12 +1,10 @@
-use Rattle.std.proofs.Common.{◌≡◌, ◌+◌, ◌++◌, ◌∙◌, ap, map, subst, sym, take}
+use Rattle.std.proofs.Common.{◌≡◌, ◌+◌, ◌++◌, ◌∙◌, ap, refl, subst, sym, take}
 use Rattle.std.specs.List.{prefix_len}
 use Rattle.pdc_row.specs.Quality.{greatest}
-use Rattle.pdc_row.specs.RowView.{row_view}
 use Rattle.pdc_table.specs.Closing.{counter, is_due}
 use Rattle.pdc_table.specs.Layout.{layout_view}
 use Rattle.pdc_table.specs.OpenInstants.{instants_of}
 use Rattle.pdc_table.specs.RingRows.{rows_in}
-use Rattle.pdc_table.specs.Row.{row_of}
 use Rattle.pdc_table.specs.Steps.{disagreements_in}
 use Rattle.pdc_table.proofs.RingRows.{ArePlaced, back_in, front_in, instants_in, length_in, placed-take}
 use Rattle.pdc_table.proofs.ring.close_due.Goals as goal
@@ -23,12 +21,12 @@ returns-clause-rows c =
     c.deref.ensures.value c.count_due-count.ensures.count c.requires.rising c.requires.placed
 
 pub returns-clause-closed : goal.returns-clause-closed
-returns-clause-closed c =
-    let count : c.count_due-count.result ≡ prefix_len (is_due c.args.required.now c.args.rule) (rows_in c.args.places.now c.args.window c.deref-2.result.now) =
-    c.count_due-count.ensures.count ∙ ap (λ is. prefix_len (is_due c.args.required.now c.args.rule) (rows_in c.args.places.now c.args.window is)) (c.deref.ensures.value ∙ sym c.deref-2.ensures.value) in
-    c.close.ensures.items ∙ ap (λ rows. map row_view c.args.closed.now.items ++ map (row_of (layout_view c.args.layout.now)) rows)
-    (front_in c.args.required.now c.args.rule c.args.last.now c.args.places.now c.args.window c.args.open.now.items c.deref-2.result.now c.count_due-count.result
-    c.deref-2.ensures.value count c.requires.rising c.requires.placed)
+returns-clause-closed c = c.close.ensures.items ∙ ap (λ is. c.args.closed.now.items ++ take c.count_due-count.result is) c.deref-2.ensures.value
+
+pub returns-clause-due_rows : goal.returns-clause-due_rows
+returns-clause-due_rows c =
+    front_in c.args.required.now c.args.rule c.args.last.now c.args.places.now c.args.window c.args.open.now.items c.args.open.now.items c.count_due-count.result
+    refl (c.count_due-count.ensures.count ∙ ap (λ is. prefix_len (is_due c.args.required.now c.args.rule) (rows_in c.args.places.now c.args.window is)) c.deref.ensures.value) c.requires.rising c.requires.placed
 
 pub returns-clause-front : goal.returns-clause-front
 returns-clause-front c = c.greatest.ensures ∙ ap (λ is. greatest c.args.last.now (take c.count_due-count.result is)) c.deref-2.ensures.value

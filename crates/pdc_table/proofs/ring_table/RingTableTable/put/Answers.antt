@@ -1,32 +1,32 @@
-use Rattle.std.proofs.Common.{arith, ◌≡◌, ◌<◌, ◌++◌, ◌∙◌, ap, ℕ, ◌%◌, cond, if◌then◌else◌, map, set, subst, sym, true, false, refl, length, None, Some}
+use Rattle.std.proofs.Common.{arith, ◌≡◌, ◌<◌, ◌++◌, ◌∙◌, ap, ℕ, ◌%◌, cond, if◌then◌else◌, set, subst, sym, true, false, refl, length, None, Some}
 use Rattle.std.specs.List.{All, list_all}
 use Rattle.std.proofs.lemmas.Bool.{ne_eqb}
 use Rattle.std.proofs.lemmas.List.{length-map}
 use Rattle.pdc_block.specs.declared.block.Block.{Block}
 use Rattle.pdc_row.specs.Rising.{Rises, is_near}
-use Rattle.pdc_row.specs.RowView.{row_instants, row_view}
 use Rattle.pdc_table.specs.Content.{HasPlaces, lane_of, streams_of}
 use Rattle.pdc_table.specs.Placing.{row_at, with_row}
 use Rattle.pdc_table.specs.Ring.{content_of}
-use Rattle.pdc_table.specs.RingRows.{base_row, met_row, row_in, rows_in}
+use Rattle.pdc_table.specs.RingRows.{base_row, closed_rows, met_row, row_in, rows_in}
 use Rattle.pdc_table.specs.Steps.{after_put, after_take, answer_at, fresh_row, is_near_all, is_taken, put_answer}
 use Rattle.pdc_table.specs.TableView.{TableView}
 use Rattle.pdc_table.specs.Taking.{cells_of, with_frame}
 use Rattle.pdc_table.proofs.Blank.{columns_exist}
 use Rattle.pdc_table.proofs.Keeps.{has_room, keeps-offered}
+use Rattle.pdc_table.proofs.RingClosed.{near_closed, ring_held, written_closed, written_placed}
 use Rattle.pdc_table.proofs.RingKept.{IsPutInto, IsRing, met_in, put_kept, put_rows, sized_in}
-use Rattle.pdc_table.proofs.RingPut.{far_content, held_same, put_content, put_far, put_near}
-use Rattle.pdc_table.proofs.RingRows.{near_apart, near_open}
+use Rattle.pdc_table.proofs.RingPut.{far_content, put_content, put_far, put_near}
+use Rattle.pdc_table.proofs.RingRows.{ArePlaced, IsApart, near_apart, near_open}
 use Rattle.pdc_table.proofs.ring_table.RingTableTable.put.Goals as goal
 
 pub are_near-requires : goal.are_near-requires
 are_near-requires c =
-    subst (λ ns. Rises 0 ns) (sym (held_same (content_of c.self.inside) c.self.inside.places.items c.self.inside.open.items c.deref.result.now c.deref.ensures.value c.self.invariant.placed refl))
+    subst (λ ns. Rises 0 ns) (sym (ring_held (content_of c.self.inside) c.self.inside.places.items c.self.inside.layouts.items c.self.inside.closed.items c.self.inside.open.items c.deref.result.now c.deref.ensures.value c.self.invariant.closed_placed c.self.invariant.placed refl refl))
     c.self.invariant.content.held_rise
 
 far : (c : goal.Then-not-are_near) → is_near_all (content_of c.self.inside) c.args.instant ≡ false
 far c =
-    ap (list_all (is_near c.self.inside.window c.args.instant)) (sym (held_same (content_of c.self.inside) c.self.inside.places.items c.self.inside.open.items c.deref.result.now c.deref.ensures.value c.self.invariant.placed refl))
+    ap (list_all (is_near c.self.inside.window c.args.instant)) (sym (ring_held (content_of c.self.inside) c.self.inside.places.items c.self.inside.layouts.items c.self.inside.closed.items c.self.inside.open.items c.deref.result.now c.deref.ensures.value c.self.invariant.closed_placed c.self.invariant.placed refl refl))
     ∙ sym c.are_near.ensures ∙ c.if-not-are_near.true
 
 pub returns-then-not-are_near-clause-answer : goal.returns-then-not-are_near-clause-answer
@@ -48,7 +48,7 @@ take-requires-clause-rising c =
 pub take-requires-clause-room : goal.take-requires-clause-room
 take-requires-clause-room c n =
     let near : is_near_all (content_of c.self.inside) c.args.instant ≡ true =
-    ap (list_all (is_near c.self.inside.window c.args.instant)) (sym (held_same (content_of c.self.inside) c.self.inside.places.items c.self.inside.open.items c.deref.result.now c.deref.ensures.value c.self.invariant.placed refl))
+    ap (list_all (is_near c.self.inside.window c.args.instant)) (sym (ring_held (content_of c.self.inside) c.self.inside.places.items c.self.inside.layouts.items c.self.inside.closed.items c.self.inside.open.items c.deref.result.now c.deref.ensures.value c.self.invariant.closed_placed c.self.invariant.placed refl refl))
     ∙ sym c.if-not-are_near.ensures in
     let ring : IsRing c.self.inside.window c.self.inside.last (streams_of (content_of c.self.inside)) c.self.inside.columns c.self.inside.places.items c.self.inside.open.items =
     record { size = c.self.invariant.size; each = c.self.invariant.each; placed = c.self.invariant.placed; known = c.self.invariant.known } in
@@ -76,7 +76,7 @@ take-requires-clause-columns c k d l =
 
 near : (c : goal.After-take) → is_near_all (content_of c.self.inside) c.args.instant ≡ true
 near c =
-    ap (list_all (is_near c.self.inside.window c.args.instant)) (sym (held_same (content_of c.self.inside) c.self.inside.places.items c.self.inside.open.items c.deref.result.now c.deref.ensures.value c.self.invariant.placed refl))
+    ap (list_all (is_near c.self.inside.window c.args.instant)) (sym (ring_held (content_of c.self.inside) c.self.inside.places.items c.self.inside.layouts.items c.self.inside.closed.items c.self.inside.open.items c.deref.result.now c.deref.ensures.value c.self.invariant.closed_placed c.self.invariant.placed refl refl))
     ∙ sym c.if-not-are_near.ensures
 
 into : (c : goal.After-take) → IsPutInto c.self.inside.window c.self.inside.last (streams_of (content_of c.self.inside)) c.self.inside.columns c.args.instant c.args.stream (lane_of (content_of c.self.inside) c.args.stream) (cells_of c.args.cells.now c.args.quality) c.self.inside.places.items c.self.inside.open.items c.take.result c.take.new.places.items c.take.new.open.items
@@ -85,8 +85,8 @@ into c = record {
   least = omega (arith, c.self.invariant.content.window_least);
   above = c.if-instant-self.false;
   rising = (near_open c.numbers_rise.ensures (content_of c.self.inside) c.self.inside.places.items c.self.inside.open.items c.self.invariant.placed c.self.invariant.content).0;
-  apart = near_apart c.numbers_rise.ensures c.self.inside.window c.args.instant (row_instants (map row_view c.self.inside.closed.items)) c.self.inside.open.items
-      (ap (λ ns. list_all (is_near c.self.inside.window c.args.instant) (row_instants (map row_view c.self.inside.closed.items) ++ ns)) (sym c.deref.ensures.value) ∙ sym c.if-not-are_near.ensures);
+  apart = near_apart c.numbers_rise.ensures c.self.inside.window c.args.instant c.self.inside.closed.items c.self.inside.open.items
+      (ap (λ ns. list_all (is_near c.self.inside.window c.args.instant) (c.self.inside.closed.items ++ ns)) (sym c.deref.ensures.value) ∙ sym c.if-not-are_near.ensures);
   answered = c.take.ensures.answer ∙ ap (λ l. answer_at (met_row c.args.instant (row_in c.self.inside.places.items c.self.inside.window c.args.instant)) c.args.stream l (cells_of c.args.cells.now c.args.quality)) c.lane_of-lane.ensures;
   written = c.take.ensures.places
       ∙ ap (λ l. if is_taken c.take.result then set c.self.inside.places.items (c.args.instant % c.self.inside.window) (with_frame c.args.stream l (cells_of c.args.cells.now c.args.quality) (base_row c.args.instant (row_in c.self.inside.places.items c.self.inside.window c.args.instant))) else c.self.inside.places.items) c.lane_of-lane.ensures;
@@ -101,6 +101,33 @@ answered c =
     (sym (met_in c.self.inside.window c.self.inside.last (streams_of (content_of c.self.inside)) c.self.inside.columns c.args.instant c.self.inside.places.items c.self.inside.open.items p.least p.above p.ring))
     ∙ sym (put_near (content_of c.self.inside) c.args.stream c.args.instant (cells_of c.args.cells.now c.args.quality) c.if-instant-self.false (near c))
 
+-- the place is that of no closed instant
+apart : (c : goal.After-take) → IsApart c.self.inside.window c.args.instant c.self.inside.closed.items
+apart c =
+    near_closed c.numbers_rise.ensures (content_of c.self.inside) c.self.inside.places.items c.self.inside.layouts.items c.args.instant c.self.inside.closed.items c.self.inside.open.items c.if-instant-self.false c.self.invariant.closed_placed
+    (ap (λ ns. list_all (is_near c.self.inside.window c.args.instant) (c.self.inside.closed.items ++ ns)) (sym c.deref.ensures.value) ∙ sym c.if-not-are_near.ensures) c.self.invariant.content
+
+written : (c : goal.After-take) → c.take.new.places.items ≡ (if is_taken c.take.result
+    then set c.self.inside.places.items (c.args.instant % c.self.inside.window) (with_frame c.args.stream (lane_of (content_of c.self.inside) c.args.stream) (cells_of c.args.cells.now c.args.quality) (base_row c.args.instant (row_in c.self.inside.places.items c.self.inside.window c.args.instant)))
+    else c.self.inside.places.items)
+written c =
+    let p : IsPutInto c.self.inside.window c.self.inside.last (streams_of (content_of c.self.inside)) c.self.inside.columns c.args.instant c.args.stream (lane_of (content_of c.self.inside) c.args.stream) (cells_of c.args.cells.now c.args.quality) c.self.inside.places.items c.self.inside.open.items c.take.result c.take.new.places.items c.take.new.open.items = into c in
+    p.written
+
+closed : (c : goal.After-take) → closed_rows c.take.new.places.items c.self.inside.layouts.items c.self.inside.window c.self.inside.closed.items ≡ closed_rows c.self.inside.places.items c.self.inside.layouts.items c.self.inside.window c.self.inside.closed.items
+closed c =
+    ap (λ ps. closed_rows ps c.self.inside.layouts.items c.self.inside.window c.self.inside.closed.items) (written c)
+    ∙ written_closed c.self.inside.places.items c.self.inside.layouts.items c.self.inside.window c.args.instant
+    (with_frame c.args.stream (lane_of (content_of c.self.inside) c.args.stream) (cells_of c.args.cells.now c.args.quality) (base_row c.args.instant (row_in c.self.inside.places.items c.self.inside.window c.args.instant)))
+    c.self.inside.closed.items (is_taken c.take.result) (apart c)
+
+stands : (c : goal.After-take) → ArePlaced c.take.new.places.items c.self.inside.window c.self.inside.closed.items
+stands c =
+    subst (λ ps. ArePlaced ps c.self.inside.window c.self.inside.closed.items) (sym (written c))
+    (written_placed c.self.inside.places.items c.self.inside.window c.args.instant
+    (with_frame c.args.stream (lane_of (content_of c.self.inside) c.args.stream) (cells_of c.args.cells.now c.args.quality) (base_row c.args.instant (row_in c.self.inside.places.items c.self.inside.window c.args.instant)))
+    c.self.inside.closed.items (is_taken c.take.result) (apart c) c.self.invariant.closed_placed)
+
 rows : (c : goal.After-take) → rows_in c.take.new.places.items c.self.inside.window c.take.new.open.items ≡ (if is_taken c.take.result
     then with_row (with_frame c.args.stream (lane_of (content_of c.self.inside) c.args.stream) (cells_of c.args.cells.now c.args.quality)) (fresh_row (content_of c.self.inside) c.args.instant) (rows_in c.self.inside.places.items c.self.inside.window c.self.inside.open.items)
     else rows_in c.self.inside.places.items c.self.inside.window c.self.inside.open.items)
@@ -112,24 +139,27 @@ returns-clause-answer c = answered c ∙ ap (λ (t : TableView). put_answer t.co
 
 pub returns-clause-content : goal.returns-clause-content
 returns-clause-content c =
-    ap (λ rs. record (content_of c.self.inside) { open_rows = rs }) (rows c)
+    ap (λ rs. record (content_of c.self.inside) { open_rows = rows_in c.take.new.places.items c.self.inside.window c.take.new.open.items; closed = rs }) (closed c)
+    ∙ ap (λ rs. record (content_of c.self.inside) { open_rows = rs }) (rows c)
     ∙ put_content (is_taken c.take.result) (content_of c.self.inside) (with_row (with_frame c.args.stream (lane_of (content_of c.self.inside) c.args.stream) (cells_of c.args.cells.now c.args.quality)) (fresh_row (content_of c.self.inside) c.args.instant) (rows_in c.self.inside.places.items c.self.inside.window c.self.inside.open.items))
     ∙ ap (λ a. if is_taken a then after_take (content_of c.self.inside) c.args.stream c.args.instant (cells_of c.args.cells.now c.args.quality) else content_of c.self.inside) (answered c)
     ∙ ap (λ (t : TableView). after_put t.content c.args.stream c.args.instant (cells_of c.args.cells.now c.args.quality)) c.self.view_is
 
 pub returns-clause-well_formed : goal.returns-clause-well_formed
 returns-clause-well_formed c =
-    rw (rows c) (keeps-offered c.numbers_rise.ensures (content_of c.self.inside) (is_taken c.take.result) c.args.stream (lane_of (content_of c.self.inside) c.args.stream) c.args.instant (cells_of c.args.cells.now c.args.quality) c.if-instant-self.false (near c) c.self.invariant.content)
+    rw (rows c, closed c) (keeps-offered c.numbers_rise.ensures (content_of c.self.inside) (is_taken c.take.result) c.args.stream (lane_of (content_of c.self.inside) c.args.stream) c.args.instant (cells_of c.args.cells.now c.args.quality) c.if-instant-self.false (near c) c.self.invariant.content)
 
 pub invariant_of-self : goal.invariant_of-self
 invariant_of-self c =
     let ring : IsRing c.self.inside.window c.self.inside.last (streams_of (content_of c.self.inside)) c.self.inside.columns c.take.new.places.items c.take.new.open.items =
     put_kept c.numbers_rise.ensures c.self.inside.window c.self.inside.last (streams_of (content_of c.self.inside)) c.self.inside.columns c.args.instant c.args.stream (lane_of (content_of c.self.inside) c.args.stream) (cells_of c.args.cells.now c.args.quality) c.self.inside.places.items c.self.inside.open.items c.take.result c.take.new.places.items c.take.new.open.items (into c) in
     record {
-      content = rw (rows c) (keeps-offered c.numbers_rise.ensures (content_of c.self.inside) (is_taken c.take.result) c.args.stream (lane_of (content_of c.self.inside) c.args.stream) c.args.instant (cells_of c.args.cells.now c.args.quality) c.if-instant-self.false (near c) c.self.invariant.content);
+      content = rw (rows c, closed c) (keeps-offered c.numbers_rise.ensures (content_of c.self.inside) (is_taken c.take.result) c.args.stream (lane_of (content_of c.self.inside) c.args.stream) c.args.instant (cells_of c.args.cells.now c.args.quality) c.if-instant-self.false (near c) c.self.invariant.content);
       size = ring.size;
       each = ring.each;
       placed = ring.placed;
+      layouts = c.self.invariant.layouts;
+      closed_placed = stands c;
       known = ring.known;
       room = rw c.take.ensures.open_capacity c.self.invariant.room;
       closed_room = c.self.invariant.closed_room;

@@ -1,15 +1,16 @@
-use Rattle.std.proofs.Common.{rules, arith, ◌≡◌, ◌≤◌, ◌+◌, ◌∙◌, ap, length, map, refl, subst, sym, vec_len}
+use Rattle.std.proofs.Common.{rules, arith, ◌≡◌, ◌≤◌, ◌+◌, ◌++◌, ◌∙◌, ap, length, map, refl, subst, sym, take, vec_len}
 use Rattle.std.proofs.lemmas.List.{length-map}
 use Rattle.std.specs.VecDeque.{deque_len}
-use Rattle.pdc_row.specs.RowView.{row_view}
 use Rattle.pdc_table.specs.Closing.{aged, closing, counter, staying}
 use Rattle.pdc_table.specs.Content.{IsContent, streams_of}
 use Rattle.pdc_table.specs.Layout.{layout_view}
 use Rattle.pdc_table.specs.Ring.{content_of}
-use Rattle.pdc_table.specs.RingRows.{row_in, rows_in}
+use Rattle.pdc_table.specs.RingRows.{closed_row, closed_rows, laid, row_in, rows_in}
+use Rattle.pdc_table.specs.Row.{row_of}
 use Rattle.pdc_table.specs.Steps.{after_tick, closing_of, disagreements_after, disagreements_in, staying_of, tick_answer}
 use Rattle.pdc_table.specs.TableView.{TableView}
 use Rattle.pdc_table.proofs.Keeps.{closed_shapes, closing_few, held_fit, keeps-tick}
+use Rattle.pdc_table.proofs.RingClosed.{AreApart, are_apart_take, changed_stand, held_apart, laid-length, laid_closed, open_changed, placed_more}
 use Rattle.pdc_table.proofs.RingKept.{IsRing, changed_kept, ring_closed}
 use Rattle.pdc_table.proofs.RingRows.{ArePlaced, changed-open, near_open}
 use Rattle.pdc_table.proofs.ring_table.RingTableTable.tick.Goals as goal
@@ -33,10 +34,10 @@ close_due-requires-clause-placed c =
 
 pub close_due-requires-clause-room : goal.close_due-requires-clause-room
 close_due-requires-clause-room c =
-    let fit : length (map row_view c.self.inside.closed.items) + length (rows_in c.self.inside.places.items c.self.inside.window c.self.inside.open.items) ≤ c.self.inside.window = held_fit c.numbers_rise.ensures (content_of c.self.inside) c.self.invariant.content in
+    let fit : length (closed_rows c.self.inside.places.items c.self.inside.layouts.items c.self.inside.window c.self.inside.closed.items) + length (rows_in c.self.inside.places.items c.self.inside.window c.self.inside.open.items) ≤ c.self.inside.window = held_fit c.numbers_rise.ensures (content_of c.self.inside) c.self.invariant.content in
     let opened : vec_len c.self.inside.open ≡ length c.self.inside.open.items = search rules in
     let closed : deque_len c.self.inside.closed ≡ length c.self.inside.closed.items = search rules in
-    omega (arith, c.self.invariant.closed_room, length-map c.self.inside.closed.items row_view, length-map c.self.inside.open.items (row_in c.self.inside.places.items c.self.inside.window))
+    omega (arith, c.self.invariant.closed_room, length-map c.self.inside.closed.items (closed_row c.self.inside.places.items c.self.inside.layouts.items c.self.inside.window), length-map c.self.inside.open.items (row_in c.self.inside.places.items c.self.inside.window))
 
 -- the rows that the code looks at are those before, each a tick older
 rows : (c : goal.After-close_due) → rows_in c.deref-2.result.now c.self.inside.window c.self.inside.open.items ≡ map aged (rows_in c.self.inside.places.items c.self.inside.window c.self.inside.open.items)
@@ -55,13 +56,37 @@ stays c =
     ∙ ap (λ rs. staying rs c.args.rule (rows_in c.deref-2.result.now c.self.inside.window c.self.inside.open.items)) c.as_slice-required.ensures.value
     ∙ ap (staying c.self.inside.required.items c.args.rule) (rows c)
 
+-- the closed rows are those before, and those that close now
+older_closed : (c : goal.After-close_due) → closed_rows c.grow_older.new.places.items c.self.inside.layouts.items c.self.inside.window c.self.inside.closed.items ≡ closed_rows c.self.inside.places.items c.self.inside.layouts.items c.self.inside.window c.self.inside.closed.items
+older_closed c =
+    open_changed c.numbers_rise.ensures aged (content_of c.self.inside) c.self.inside.places.items c.grow_older.new.places.items c.self.inside.layouts.items c.self.inside.closed.items c.self.inside.open.items c.deref.result.now
+    c.deref.ensures.value c.grow_older.ensures.items c.self.invariant.closed_placed c.self.invariant.placed c.self.invariant.content
+
+apart : (c : goal.After-close_due) → AreApart c.self.inside.window c.self.inside.closed.items (take c.close_due.result c.self.inside.open.items)
+apart c =
+    are_apart_take c.self.inside.window c.close_due.result c.self.inside.closed.items c.self.inside.open.items
+    (held_apart c.numbers_rise.ensures (content_of c.self.inside) c.self.inside.places.items c.self.inside.layouts.items c.self.inside.closed.items c.self.inside.open.items c.self.invariant.closed_placed c.self.invariant.placed c.self.invariant.content)
+
+due : (c : goal.After-close_due) → rows_in c.grow_older.new.places.items c.self.inside.window (take c.close_due.result c.self.inside.open.items) ≡ closing_of (content_of c.self.inside) c.args.rule
+due c = ap (λ ps. rows_in ps c.self.inside.window (take c.close_due.result c.self.inside.open.items)) (sym c.deref-2.ensures.value) ∙ c.close_due.ensures.due_rows ∙ closes c
+
+more : (c : goal.After-close_due) → closed_rows c.grow_older.new.places.items c.close_due.new.layouts.items c.self.inside.window c.close_due.new.closed.items
+    ≡ closed_rows c.self.inside.places.items c.self.inside.layouts.items c.self.inside.window c.self.inside.closed.items ++ map (row_of (layout_view c.args.layout.now)) (closing_of (content_of c.self.inside) c.args.rule)
+more c =
+    ap (λ ls. closed_rows c.grow_older.new.places.items ls c.self.inside.window c.close_due.new.closed.items) c.close_due.ensures.layouts
+    ∙ ap (closed_rows c.grow_older.new.places.items (laid (layout_view c.args.layout.now) c.self.inside.window (take c.close_due.result c.self.inside.open.items) c.self.inside.layouts.items) c.self.inside.window) c.close_due.ensures.closed
+    ∙ laid_closed (layout_view c.args.layout.now) c.self.inside.window (take c.close_due.result c.self.inside.open.items) c.grow_older.new.places.items c.self.inside.layouts.items c.self.inside.closed.items
+    (omega (arith, c.self.invariant.content.window_least)) c.self.invariant.layouts (apart c)
+    ∙ ap (λ rs. rs ++ map (row_of (layout_view c.args.layout.now)) (rows_in c.grow_older.new.places.items c.self.inside.window (take c.close_due.result c.self.inside.open.items))) (older_closed c)
+    ∙ ap (λ rs. closed_rows c.self.inside.places.items c.self.inside.layouts.items c.self.inside.window c.self.inside.closed.items ++ map (row_of (layout_view c.args.layout.now)) rs) (due c)
+
 content : (c : goal.After-close_due) → record (content_of c.self.inside) {
   open_rows = rows_in c.grow_older.new.places.items c.self.inside.window c.close_due.new.open.items;
-  closed = map row_view c.close_due.new.closed.items;
+  closed = closed_rows c.grow_older.new.places.items c.close_due.new.layouts.items c.self.inside.window c.close_due.new.closed.items;
   last = c.close_due.new.last;
 } ≡ after_tick (content_of c.self.inside) c.args.rule (layout_view c.args.layout.now)
 content c =
-    rw (stays c, c.close_due.ensures.closed, c.close_due.ensures.last, closes c) refl
+    rw (stays c, more c, c.close_due.ensures.last, closes c) refl
 
 pub overflow_cast-result : goal.overflow_cast-result
 overflow_cast-result c =
@@ -98,6 +123,11 @@ invariant_of-self c =
       size = ring.size;
       each = ring.each;
       placed = ring.placed;
+      layouts = ap length c.close_due.ensures.layouts ∙ laid-length (layout_view c.args.layout.now) c.self.inside.window (take c.close_due.result c.self.inside.open.items) c.self.inside.layouts.items ∙ c.self.invariant.layouts;
+      closed_placed = rw c.close_due.ensures.closed (placed_more c.grow_older.new.places.items c.self.inside.window c.close_due.result c.self.inside.closed.items c.self.inside.open.items
+          (changed_stand aged (λ r. refl) (content_of c.self.inside) c.self.inside.places.items c.grow_older.new.places.items c.self.inside.closed.items c.self.inside.open.items c.deref.result.now
+          c.deref.ensures.value c.grow_older.ensures.items c.self.invariant.size c.self.invariant.closed_placed c.self.invariant.content)
+          older.placed);
       known = ring.known;
       room = rw c.close_due.ensures.capacity c.self.invariant.room;
       closed_room = rw c.close_due.ensures.closed_capacity c.self.invariant.closed_room;

@@ -2,12 +2,13 @@
 ghost use Rattle.std.specs.Prelude.{◌≡◌, ◌%◌, length};
 ghost use Rattle.pdc_cfg.specs.Shape.{word_count_of};
 
+use crate::is_present;
 use pdc_block::Block;
 use pdc_cfg::{MAX_WORDS, Shape};
-use pdc_row::is_present;
 use std::marker::Model;
 
-/// A block that was taken, and the time quality byte of its frame.
+/// A block that was taken, and the time quality byte of its frame. Its words are kept in place: [`Cell::set`] copies as many
+/// as there are.
 #[derive(Drop)]
 pub struct Cell {
     shape: Shape,
@@ -26,8 +27,8 @@ impl Model for Cell {
     ghost Value = { CellView };
 
     ghost view = { λ cell. record {
-        block = record { shape = cell.shape; words = take (word_count_of cell.shape) cell.words };
-        quality = cell.quality;
+      block = record { shape = cell.shape; words = take (word_count_of cell.shape) cell.words };
+      quality = cell.quality;
     } };
 
     ghost invariant = { λ cell. cell.has_data
@@ -37,8 +38,8 @@ impl Model for Cell {
 impl Cell {
     ghost use Rattle.pdc_row.specs.CellView.{cell_view, is_present, same_block, block_view};
 
-    /// Some cell.
-    pub(crate) fn blank() -> Cell {
+    /// Some cell, to be set.
+    pub fn blank() -> Cell {
         Cell {
             shape: Shape {
                 phasors: 0,
@@ -52,7 +53,7 @@ impl Cell {
     }
 
     /// Makes this the block, copied, and the time quality byte of its frame.
-    pub(crate) fn set(&mut self, block: &Block, quality: u8)
+    pub fn set(&mut self, block: &Block, quality: u8)
         ensures { self.new ≡ cell_view block.now quality }
     {
         let words = block.words();
@@ -71,35 +72,35 @@ impl Cell {
     }
 
     /// A copy of the block.
-    pub(crate) fn block(&self) -> Block
+    pub fn block(&self) -> Block
         ensures { block_view result ≡ self.now.block }
     {
         Block::from_words(self.shape, self.words())
     }
 
     /// The time quality, the low nibble of the byte: greater is worse.
-    pub(crate) fn time_quality(&self) -> u8
+    pub fn time_quality(&self) -> u8
         ensures { result ≡ self.now.quality % 16 }
     {
         self.quality % 16
     }
 
     /// Whether the block is any other than the absent block of its shape.
-    pub(crate) fn is_present(&self) -> bool
+    pub fn is_present(&self) -> bool
         ensures { result ≡ is_present self.now.block }
     {
         self.has_data
     }
 
     /// Whether the block has this shape and these words.
-    pub(crate) fn holds(&self, block: &Block) -> bool
+    pub fn holds(&self, block: &Block) -> bool
         ensures { result ≡ same_block self.now.block (block_view block.now) }
     {
         self.shape == block.shape && self.words() == block.words()
     }
 
     /// Whether both hold the same block.
-    pub(crate) fn agrees(&self, other: &Cell) -> bool
+    pub fn agrees(&self, other: &Cell) -> bool
         ensures { result ≡ same_block self.now.block other.now.block }
     {
         other.shape == self.shape && other.words() == self.words()
