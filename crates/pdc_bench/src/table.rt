@@ -67,8 +67,9 @@ impl<T: Table> Aligner<T> {
     fn tick(&mut self, wait: u64) {
         let closed = self.table.tick(WaitRule::Ticks(wait), &self.layout);
         for _ in 0..closed {
-            if let Some(row) = self.table.pop_due() {
-                self.mixed = self.mixed.rotate_left(1) ^ mix(&row);
+            let popped = self.table.pop_due();
+            if let Some(row) = &popped {
+                self.mixed = self.mixed.rotate_left(1) ^ mix(row);
             }
         }
     }

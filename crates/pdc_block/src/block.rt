@@ -67,6 +67,17 @@ impl Block {
         }
     }
 
+    /// Makes this the block of this shape and these words, in place.
+    pub fn set(&mut self, shape: Shape, words: &[u16])
+        requires { length words.now ≡ word_count_of shape }
+        ensures shape { self.new.shape ≡ shape }
+        ensures words { words_of self.new ≡ words.now }
+    {
+        self.shape = shape;
+        self.words.clear();
+        self.words.try_extend_from_slice(words).unwrap();
+    }
+
     /// The words in wire order.
     #[inline]
     pub fn words(&self) -> &[u16]

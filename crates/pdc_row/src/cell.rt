@@ -71,11 +71,11 @@ impl Cell {
         &self.words[..self.shape.word_count()]
     }
 
-    /// A copy of the block.
-    pub fn block(&self) -> Block
-        ensures { block_view result ≡ self.now.block }
+    /// Makes the block a copy of this one.
+    pub fn copy_to(&self, block: &mut Block)
+        ensures { block_view block.new ≡ self.now.block }
     {
-        Block::from_words(self.shape, self.words())
+        block.set(self.shape, self.words());
     }
 
     /// The time quality, the low nibble of the byte: greater is worse.

@@ -1,5 +1,5 @@
 //! What was taken of one column at one instant.
-ghost use Rattle.std.specs.Prelude.{◌≡◌, ℕ, ◌+◌, ◌<◌, ◌≤◌, ◌++◌, List, length, map, option_copied, None, Some, IfSome};
+ghost use Rattle.std.specs.Prelude.{◌≡◌, ℕ, ◌+◌, ◌<◌, ◌≤◌, ◌++◌, List, length, map, option_copied, take, None, Some, IfSome};
 ghost use Rattle.pdc_row.specs.CellView.{block_view, cell_view};
 ghost use Rattle.pdc_table.specs.Row.{blocks_at, qualities_at};
 ghost use Rattle.pdc_row.specs.Quality.{worst_of};
@@ -9,8 +9,6 @@ ghost use Rattle.pdc_table.specs.Steps.{disagreement_at};
 ghost use Rattle.pdc_table.specs.Taking.{cell_in, holds_other, with_cell};
 ghost use Rattle.pdc_table.specs.Views.{empty_column};
 
-use crate::MAX_COLUMNS;
-use arrayvec::ArrayVec;
 use pdc_block::Block;
 use pdc_cfg::Shape;
 use pdc_row::Cell;
@@ -99,33 +97,37 @@ impl Column {
         }
     }
 
-    /// Adds what the column gives to a row: with a shape a block, and its time quality if it is present.
+    /// Writes what the column gives to a row behind so many blocks, and answers how many there are then: with a shape one more,
+    /// and its time quality if it is present.
     pub(crate) fn give(
         &self,
         shape: Option<Shape>,
-        blocks: &mut ArrayVec<Block, 16>,
+        blocks: &mut [Block],
+        count: usize,
         quality: &mut Option<u8>,
-    )
-        requires room { length blocks.old.items < MAX_COLUMNS }
+    ) -> usize
+        requires room { count < length blocks.old }
         requires fits { IfSome quality.old (λ n. n ≤ 15) }
-        ensures blocks { map block_view blocks.new.items ≡ map block_view blocks.old.items ++ blocks_at shape self.now }
-        ensures grown { length blocks.new.items ≤ length blocks.old.items + 1 }
+        ensures blocks { map block_view (take result blocks.new) ≡ map block_view (take count blocks.old) ++ blocks_at shape self.now }
+        ensures len { length blocks.new ≡ length blocks.old }
+        ensures grown { result ≤ count + 1 }
         ensures quality { (ns : List ℕ) → worst_of quality.new ns ≡ worst_of quality.old (qualities_at shape self.now ++ ns) }
         ensures quality_fits { IfSome quality.new (λ n. n ≤ 15) }
     {
         let Some(shape) = shape else {
-            return;
+            return count;
         };
         let Some(cell) = self.chosen() else {
-            blocks.push(absent(shape));
-            return;
+            blocks[count] = absent(shape);
+            return count + 1;
         };
-        blocks.push(cell.block());
+        cell.copy_to(&mut blocks[count]);
         let given = cell.time_quality();
         *quality = Some(match *quality {
             Some(worst) => worst.max(given),
             None => given,
         });
+        count + 1
     }
 
     /// Whether both lanes hold present blocks, and they differ.

@@ -1,5 +1,5 @@
 //! The row of an instant that is open.
-ghost use Rattle.std.specs.Prelude.{◌≡◌, ℕ, ◌+◌, ◌<◌, ◌≤◌, ◌++◌, List, length, map, replicate, false, slice_index_or, Some, IfSome, if◌then◌else◌};
+ghost use Rattle.std.specs.Prelude.{◌≡◌, ℕ, ◌+◌, ◌<◌, ◌≤◌, ◌++◌, List, length, map, replicate, take, false, slice_index_or, Some, IfSome, if◌then◌else◌};
 ghost use Rattle.std.specs.List.{All};
 ghost use Rattle.pdc_block.specs.declared.block.Block.{Block as BlockData};
 ghost use Rattle.pdc_row.specs.CellView.{block_view};
@@ -185,17 +185,20 @@ impl OpenRow {
     pub(crate) fn close(&self, layout: &RowLayout) -> DueRow
         ensures { row_view result ≡ row_of (layout_view layout.now) self.now }
     {
-        let mut blocks = ArrayVec::new();
+        let mut blocks = ArrayVec::from_array_in((), Default::default());
+        let mut count = 0;
         let mut quality = None;
         for (place, shape) in layout.shapes.as_slice().iter().enumerate() {
-            give(
+            count = give(
                 self.columns.as_slice(),
                 place,
                 *shape,
-                &mut blocks,
+                blocks.as_mut_slice(),
+                count,
                 &mut quality,
             );
         }
+        blocks.truncate(count);
         DueRow {
             instant: self.instant,
             start: layout.start,
@@ -238,26 +241,29 @@ fn put_cells(columns: &mut [Column], lane: usize, cells: &[(usize, Block)], qual
     }
 }
 
-/// Adds what the column at this place gives to a row; past the last column there is nothing.
+/// Writes what the column at this place gives to a row behind so many blocks, and answers how many there are then; past the
+/// last column there is nothing.
 fn give(
     columns: &[Column],
     place: usize,
     shape: Option<Shape>,
-    blocks: &mut ArrayVec<Block, 16>,
+    blocks: &mut [Block],
+    count: usize,
     quality: &mut Option<u8>,
-)
-    requires room { length blocks.old.items < MAX_COLUMNS }
+) -> usize
+    requires room { count < length blocks.old }
     requires fits { IfSome quality.old (λ n. n ≤ 15) }
-    ensures blocks { map block_view blocks.new.items
-        ≡ map block_view blocks.old.items ++ blocks_at shape (slice_index_or columns.now place empty_column) }
-    ensures grown { length blocks.new.items ≤ length blocks.old.items + 1 }
+    ensures blocks { map block_view (take result blocks.new)
+        ≡ map block_view (take count blocks.old) ++ blocks_at shape (slice_index_or columns.now place empty_column) }
+    ensures len { length blocks.new ≡ length blocks.old }
+    ensures grown { result ≤ count + 1 }
     ensures quality { (ns : List ℕ) → worst_of quality.new ns
         ≡ worst_of quality.old (qualities_at shape (slice_index_or columns.now place empty_column) ++ ns) }
     ensures quality_fits { IfSome quality.new (λ n. n ≤ 15) }
 {
     match columns.get(place) {
-        Some(column) => column.give(shape, blocks, quality),
-        None => Column::default().give(shape, blocks, quality),
+        Some(column) => column.give(shape, blocks, count, quality),
+        None => Column::default().give(shape, blocks, count, quality),
     }
 }
 
