@@ -67,10 +67,14 @@ impl<T: Table> Aligner<T> {
     fn tick(&mut self, wait: u64) {
         let closed = self.table.tick(WaitRule::Ticks(wait), &self.layout);
         for _ in 0..closed {
-            let popped = self.table.pop_due();
-            if let Some(row) = &popped {
-                self.mixed = self.mixed.rotate_left(1) ^ mix(row);
-            }
+            self.pop();
+        }
+    }
+
+    fn pop(&mut self) {
+        let popped = self.table.pop_due();
+        if let Some(row) = &popped {
+            self.mixed = self.mixed.rotate_left(1) ^ mix(row);
         }
     }
 }

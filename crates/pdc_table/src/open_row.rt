@@ -186,6 +186,24 @@ impl OpenRow {
         ensures { row_view result ≡ row_of (layout_view layout.now) self.now }
     {
         let mut blocks = ArrayVec::from_array_in((), Default::default());
+        let quality = self.fill(layout, &mut blocks);
+        DueRow {
+            instant: self.instant,
+            start: layout.start,
+            change: layout.change,
+            quality,
+            blocks,
+        }
+    }
+
+    /// Makes these the blocks of the row that it closes to, each in place, and answers its quality.
+    pub(crate) fn fill(&self, layout: &RowLayout, blocks: &mut ArrayVec<Block, 16>) -> u8
+        requires { length blocks.old.items ≡ 16 }
+        ensures blocks { map block_view blocks.new.items ≡ (row_of (layout_view layout.now) self.now).blocks }
+        ensures quality { result ≡ (row_of (layout_view layout.now) self.now).quality }
+        ensures fits { result ≤ 15 }
+        ensures few { length blocks.new.items ≤ 16 }
+    {
         let mut count = 0;
         let mut quality = None;
         for (place, shape) in layout.shapes.as_slice().iter().enumerate() {
@@ -199,13 +217,7 @@ impl OpenRow {
             );
         }
         blocks.truncate(count);
-        DueRow {
-            instant: self.instant,
-            start: layout.start,
-            change: layout.change,
-            quality: quality.unwrap_or(WORST_QUALITY),
-            blocks,
-        }
+        quality.unwrap_or(WORST_QUALITY)
     }
 }
 

@@ -23,6 +23,7 @@ ghost use Rattle.pdc_table.specs.Views.{OpenRowView, blank_row};
 use crate::open_row::{OpenRow, Places};
 use crate::rows::{is_near, remove_front};
 use crate::{ClosingLayout, MAX_COLUMNS, PutOutcome, RowLayout, WaitRule};
+use arrayvec::ArrayVec;
 use pdc_block::Block;
 use pdc_row::{DueRow, numbers_rise};
 use std::alloc::{AllocError, Global};
@@ -265,7 +266,17 @@ pub fn pop(
 {
     let instant = closed.pop_front()?;
     let place = place_of(window, instant);
-    Some(places[place].close(layouts[place].layout()))
+    let row = &places[place];
+    let layout = layouts[place].layout();
+    let mut blocks = ArrayVec::from_array_in((), Default::default());
+    let quality = row.fill(layout, &mut blocks);
+    Some(DueRow {
+        instant: row.instant(),
+        start: layout.start,
+        change: layout.change,
+        quality,
+        blocks,
+    })
 }
 
 /// The count of disagreements after the rows of these instants closed.

@@ -6,15 +6,15 @@ use Rattle.pdc_row.specs.Quality.{worst_of}
 use Rattle.pdc_table.specs.Row.{blocks_at, blocks_of, qualities_at, qualities_of}
 use Rattle.pdc_table.specs.Views.{OpenRowView, empty_column}
 use Rattle.pdc_table.proofs.RowSteps.{blocks_more, qualities_step, refilled}
-use Rattle.pdc_table.proofs.open_row.OpenRow.close.Goals as goal
+use Rattle.pdc_table.proofs.open_row.OpenRow.fill.Goals as goal
 
-shape : (c : goal.After-blocks-in-loop-place-1) → c.shape-item.result ≡ get_or c.as_slice-shape-items.result.now c.loop-place.place None
+shape : (c : goal.After-blocks-1) → c.shape-item.result ≡ get_or c.as_slice-shape-items.result.now c.loop-place.place None
 shape c = c.shape-item.is ∙ get_or_default c.as_slice-shape-items.result.now c.loop-place.place c.shape-item.result None (omega arith)
 
-columns : (c : goal.After-blocks-in-loop-place-1) → c.as_slice.result.now ≡ c.args.self.now.columns
+columns : (c : goal.After-blocks-1) → c.as_slice.result.now ≡ c.args.self.now.columns
 columns c = c.as_slice.ensures.value ∙ ap (λ (r : OpenRowView). r.columns) c.self.view_is
 
-same : (c : goal.After-blocks-in-loop-place-1) → refill (length c.loop-place.blocks.items) c.loop-place.blocks.items c.give-count.new.blocks ≡ c.give-count.new.blocks
+same : (c : goal.After-blocks-1) → refill (length c.loop-place.blocks.items) c.loop-place.blocks.items c.give-count.new.blocks ≡ c.give-count.new.blocks
 same c =
     refilled (length c.loop-place.blocks.items) c.loop-place.blocks.items c.give-count.new.blocks refl (c.give-count.ensures.len ∙ ap length c.as_mut_slice.ensures.value)
 

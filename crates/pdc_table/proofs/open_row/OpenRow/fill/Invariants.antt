@@ -3,7 +3,7 @@ use Rattle.std.specs.Option.{IfSome}
 use Rattle.pdc_row.specs.CellView.{block_view}
 use Rattle.pdc_table.specs.Row.{blocks_of, qualities_of}
 use Rattle.pdc_row.specs.Quality.{worst_of, quality_of}
-use Rattle.pdc_table.proofs.open_row.OpenRow.close.Given as goal
+use Rattle.pdc_table.proofs.open_row.OpenRow.fill.Given as goal
 
 -- the blocks so far, and those of the columns that are left; the worst quality so far, and those that are left
 abbrev pub invariant-loop-place : goal.invariant-loop-place
