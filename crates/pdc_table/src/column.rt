@@ -12,7 +12,7 @@ ghost use Rattle.pdc_table.specs.Views.{empty_column};
 use pdc_block::Block;
 use pdc_cfg::Shape;
 use pdc_row::Cell;
-use pdc_stat::absent;
+use pdc_stat::set_absent;
 use std::marker::Model;
 
 /// What was taken of one column at one instant, lane by lane.
@@ -118,7 +118,7 @@ impl Column {
             return count;
         };
         let Some(cell) = self.chosen() else {
-            blocks[count] = absent(shape);
+            set_absent(&mut blocks[count], shape);
             return count + 1;
         };
         cell.copy_to(&mut blocks[count]);

@@ -17,6 +17,7 @@ use arrayvec::ArrayVec;
 use pdc_block::Block;
 use pdc_cfg::Shape;
 use pdc_row::DueRow;
+use pdc_stat::set_absent;
 use std::marker::Model;
 
 /// The quality of a row in which no block is present.
@@ -275,7 +276,13 @@ fn give(
 {
     match columns.get(place) {
         Some(column) => column.give(shape, blocks, count, quality),
-        None => Column::default().give(shape, blocks, count, quality),
+        None => match shape {
+            Some(shape) => {
+                set_absent(&mut blocks[count], shape);
+                count + 1
+            }
+            None => count,
+        },
     }
 }
 

@@ -251,6 +251,7 @@ fn close(
 }
 
 /// Takes the lowest closed instant out, and gives its row.
+#[inline(never)]
 pub fn pop(
     places: &[OpenRow],
     layouts: &[ClosingLayout],
