@@ -72,8 +72,7 @@ impl<T: Table> Aligner<T> {
     }
 
     fn pop(&mut self) {
-        let popped = self.table.pop_due();
-        if let Some(row) = &popped {
+        if let Some(row) = &self.table.pop_due() {
             self.mixed = self.mixed.rotate_left(1) ^ mix(row);
         }
     }
