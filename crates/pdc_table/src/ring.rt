@@ -267,17 +267,17 @@ pub fn pop(
 {
     let instant = closed.pop_front()?;
     let place = place_of(window, instant);
-    let row = &places[place];
+    let open_row = &places[place];
     let layout = layouts[place].layout();
-    let mut blocks = ArrayVec::from_array_in((), Default::default());
-    let quality = row.fill(layout, &mut blocks);
-    Some(DueRow {
-        instant: row.instant(),
+    let mut row = DueRow {
+        instant: open_row.instant(),
         start: layout.start,
         change: layout.change,
-        quality,
-        blocks,
-    })
+        quality: 0,
+        blocks: ArrayVec::from_array_in((), Default::default()),
+    };
+    row.quality = open_row.fill(layout, &mut row.blocks);
+    Some(row)
 }
 
 /// The count of disagreements after the rows of these instants closed.
