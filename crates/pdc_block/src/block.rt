@@ -74,7 +74,7 @@ impl Block {
         ensures words { words_of self.new ≡ words.now }
     {
         self.shape = shape;
-        self.words.clear();
+        self.words = ArrayVec::new();
         self.words.try_extend_from_slice(words).unwrap();
     }
 
