@@ -79,6 +79,7 @@ impl<T: Table> Aligner<T> {
 }
 
 /// A number that depends on all of the row.
+#[inline(never)]
 fn mix(row: &DueRow) -> u64 {
     let mut mixed = row.instant ^ u64::from(row.quality) << 60;
     for block in row.blocks.as_slice() {
