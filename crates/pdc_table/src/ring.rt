@@ -38,6 +38,21 @@ fn place_of(window: u64, instant: u64) -> usize
     (instant % window) as usize
 }
 
+/// The place of an instant, told from that of another, without a division where it is less than the window behind.
+fn place_behind(window: u64, other: u64, place: usize, instant: u64) -> usize
+    requires least { 0 < window }
+    requires other { place ≡ other % window }
+    ensures value { result ≡ instant % window }
+    ensures bound { result < window }
+{
+    if instant < other || window <= instant - other {
+        return place_of(window, instant);
+    }
+    let next = place as u64 + (instant - other);
+    let behind = if next < window { next } else { next - window };
+    behind as usize
+}
+
 /// So many places, in each of which stands a row of no instant.
 pub fn new_places(alloc: Global, count: usize, sizes: Places) -> Result<Vec<OpenRow>, AllocError>
     requires streams { sizes.streams ≤ MAX_COLUMNS }
@@ -100,8 +115,11 @@ pub fn grow_older(places: &mut Vec<OpenRow>, window: u64, open: &[u64])
     ensures items { places.new.items ≡ changed aged window open.now places.old.items }
     ensures capacity { vec_capacity places.new ≡ vec_capacity places.old }
 {
+    let mut other = 0;
+    let mut place = 0;
     for instant in open {
-        let place = place_of(window, *instant);
+        place = place_behind(window, other, place, *instant);
+        other = *instant;
         places[place].grow_older();
     }
 }
