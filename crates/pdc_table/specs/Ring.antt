@@ -7,7 +7,7 @@ use Rattle.pdc_table.specs.Content.{Content, HasPlaces, IsContent, streams_of}
 use Rattle.pdc_table.specs.TableView.{TableView}
 use Rattle.pdc_table.specs.Views.{OpenRowView}
 use Rattle.pdc_table.specs.declared.ring_table.RingTable.TheInside.{Inside}
-use Rattle.pdc_table.specs.RingRows.{closed_rows, rows_in, row_in}
+use Rattle.pdc_table.specs.RingRows.{closed_rows, rows_in, row_in, with_ages}
 
 abbrev pub content_of : Inside → Content
 content_of t = record {
@@ -15,17 +15,17 @@ content_of t = record {
   columns = t.columns;
   lanes = t.lanes;
   required = t.required.items;
-  open_rows = rows_in t.places.items t.window t.open.items;
-  closed = closed_rows t.places.items t.layouts.items t.window t.closed.items;
+  open_rows = rows_in (with_ages t.places.items t.ages.items) t.window t.open.items;
+  closed = closed_rows (with_ages t.places.items t.ages.items) t.layouts.items t.window t.closed.items;
   last = t.last;
 }
 
--- its places, their layouts, its open instants, and its closed ones
+-- its places, their ages and layouts, its open instants, and its closed ones
 abbrev pub view_of : Inside → TableView
 view_of t = record {
   content = content_of t;
   disagreements = t.disagree;
-  memory = vec_capacity t.places ∷ vec_capacity t.layouts ∷ vec_capacity t.open ∷ deque_capacity t.closed ∷ [];
+  memory = vec_capacity t.places ∷ vec_capacity t.ages ∷ vec_capacity t.layouts ∷ vec_capacity t.open ∷ deque_capacity t.closed ∷ [];
 }
 
 -- There is a place for each instant of the window, and room for each instant that can be held. At the place of an instant that
@@ -36,6 +36,7 @@ pub record IsKept (t : Inside) : Type 0 where
   pub size : length t.places.items ≡ t.window
   pub each : All (HasPlaces (streams_of (content_of t)) t.columns) t.places.items
   pub placed : AllByRecursion (λ i. (row_in t.places.items t.window i).instant ≡ i) t.open.items
+  pub ages : length t.ages.items ≡ t.window
   pub layouts : length t.layouts.items ≡ t.window
   pub closed_placed : AllByRecursion (λ i. (row_in t.places.items t.window i).instant ≡ i) t.closed.items
   pub known : All (λ (row : OpenRowView). t.last < row.instant → list_any (λ i. i == row.instant) t.open.items ≡ true) t.places.items

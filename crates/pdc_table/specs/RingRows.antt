@@ -1,10 +1,25 @@
 -- Rows that stand at the places of their instants.
-use Rattle.std.specs.Prelude.{ℕ, ◌%◌, ◌==◌, List, [], ◌∷◌, length, map, slice_index_or, slice_set, Option, Some, None, if◌then◌else◌}
+use Rattle.std.specs.Prelude.{ℕ, ◌+◌, ◌%◌, ◌==◌, List, [], ◌∷◌, length, map, slice_index_or, slice_set, Option, Some, None, if◌then◌else◌}
 use Rattle.std.specs.Option.{unwrap_or}
 use Rattle.pdc_row.specs.RowView.{RowView}
+use Rattle.pdc_table.specs.Closing.{counter}
 use Rattle.pdc_table.specs.Layout.{LayoutView}
 use Rattle.pdc_table.specs.Row.{row_of}
 use Rattle.pdc_table.specs.Views.{OpenRowView, blank_row}
+
+-- the row with this age in place of its own
+abbrev pub at_age : ℕ → OpenRowView → OpenRowView
+at_age age row = record row { age = age }
+
+-- the rows with these ages, one for each, in place of their own
+abbrev pub with_ages : List OpenRowView → List ℕ → List OpenRowView
+with_ages [] ages = []
+with_ages (row ∷ rows) [] = []
+with_ages (row ∷ rows) (age ∷ ages) = at_age age row ∷ with_ages rows ages
+
+-- an age after one more tick
+abbrev pub older : ℕ → ℕ
+older age = counter (age + 1)
 
 -- the row at the place of an instant
 abbrev pub row_in : List OpenRowView → (window i : ℕ) → OpenRowView

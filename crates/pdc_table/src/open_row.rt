@@ -5,6 +5,7 @@ ghost use Rattle.pdc_block.specs.declared.block.Block.{Block as BlockData};
 ghost use Rattle.pdc_row.specs.CellView.{block_view};
 ghost use Rattle.pdc_row.specs.Quality.{worst_of};
 ghost use Rattle.pdc_row.specs.RowView.{row_view};
+ghost use Rattle.pdc_table.specs.RingRows.{at_age};
 ghost use Rattle.pdc_table.specs.Row.{blocks_at, qualities_at, row_of};
 ghost use Rattle.pdc_table.specs.Closing.{aged, all_taken, is_due};
 ghost use Rattle.pdc_table.specs.Steps.{answer_at, disagreements_of, is_taken};
@@ -161,11 +162,18 @@ impl OpenRow {
         self.age = self.age.saturating_add(1);
     }
 
-    /// Whether every required stream was taken, or the wait is over.
-    pub(crate) fn is_due(&self, required: &[bool], rule: WaitRule) -> bool
-        ensures { result ≡ is_due required.now rule self.now }
+    /// Its age, in ticks.
+    pub(crate) fn age(&self) -> u64
+        ensures { result ≡ self.now.age }
     {
-        all_taken(required, self.taken.as_slice()) || rule.is_over(self.age, self.instant)
+        self.age
+    }
+
+    /// Whether every required stream was taken, or the wait is over, at this age.
+    pub(crate) fn is_due(&self, age: u64, required: &[bool], rule: WaitRule) -> bool
+        ensures { result ≡ is_due required.now rule (at_age age self.now) }
+    {
+        all_taken(required, self.taken.as_slice()) || rule.is_over(age, self.instant)
     }
 
     /// How many columns with a shape hold present blocks in both lanes that differ.

@@ -4,7 +4,7 @@
 //! window 8, open 13 14 18     place  0  1  2  3  4  5  6  7
 //!                             row          18       13 14
 //! ```
-ghost use Rattle.std.specs.Prelude.{◌≡◌, ℕ, ◌+◌, ◌%◌, ◌==◌, ◌<◌, ◌≤◌, ◌++◌, drop, List, length, nat_lt, option_map, replicate, IfOk, slice_set, take, vec_len, if◌then◌else◌};
+ghost use Rattle.std.specs.Prelude.{◌≡◌, ℕ, ◌+◌, ◌%◌, ◌==◌, ◌<◌, ◌≤◌, ◌++◌, drop, List, length, map, nat_lt, option_map, replicate, IfOk, slice_set, take, vec_len, if◌then◌else◌};
 ghost use Rattle.std.specs.List.{All, AllByRecursion, list_all, prefix_len, slice_get};
 ghost use Rattle.std.specs.Vec.{vec_capacity};
 ghost use Rattle.std.specs.VecDeque.{deque_capacity, deque_len};
@@ -12,10 +12,10 @@ ghost use Rattle.pdc_block.specs.declared.block.Block.{Block as BlockData};
 ghost use Rattle.pdc_row.specs.Quality.{greatest};
 ghost use Rattle.pdc_row.specs.Rising.{Rises, highest_of, is_near, place};
 ghost use Rattle.pdc_row.specs.RowView.{row_view};
-ghost use Rattle.pdc_table.specs.Closing.{aged, closing, counter, is_due, staying};
+ghost use Rattle.pdc_table.specs.Closing.{closing, counter, is_due, staying};
 ghost use Rattle.pdc_table.specs.Layout.{layout_view};
 ghost use Rattle.pdc_table.specs.OpenInstants.{instants_of};
-ghost use Rattle.pdc_table.specs.RingRows.{base_row, changed, closed_rows, laid, met_row, no_layout, row_in, rows_in};
+ghost use Rattle.pdc_table.specs.RingRows.{base_row, changed, closed_rows, laid, met_row, no_layout, older, row_in, rows_in, with_ages};
 ghost use Rattle.pdc_table.specs.Steps.{answer_at, disagreements_in, is_taken};
 ghost use Rattle.pdc_table.specs.Taking.{cells_of, with_frame, without_column, without_stream};
 ghost use Rattle.pdc_table.specs.Views.{OpenRowView, blank_row};
@@ -36,21 +36,6 @@ fn place_of(window: u64, instant: u64) -> usize
     ensures bound { result < window }
 {
     (instant % window) as usize
-}
-
-/// The place of an instant, told from that of another, without a division where it is less than the window behind.
-fn place_behind(window: u64, other: u64, place: usize, instant: u64) -> usize
-    requires least { 0 < window }
-    requires other { place ≡ other % window }
-    ensures value { result ≡ instant % window }
-    ensures bound { result < window }
-{
-    if instant < other || window <= instant - other {
-        return place_of(window, instant);
-    }
-    let next = place as u64 + (instant - other);
-    let behind = if next < window { next } else { next - window };
-    behind as usize
 }
 
 /// So many places, in each of which stands a row of no instant.
@@ -108,19 +93,13 @@ fn highest(open: &[u64], closed: &VecDeque<u64>) -> Option<u64>
     }
 }
 
-/// Counts one more tick for each open instant.
-pub fn grow_older(places: &mut Vec<OpenRow>, window: u64, open: &[u64])
-    requires least { 0 < window }
-    requires size { length places.old.items ≡ window }
-    ensures items { places.new.items ≡ changed aged window open.now places.old.items }
-    ensures capacity { vec_capacity places.new ≡ vec_capacity places.old }
+/// Counts one more tick at each place.
+pub fn grow_older(ages: &mut Vec<u64>)
+    ensures items { ages.new.items ≡ map older ages.old.items }
+    ensures capacity { vec_capacity ages.new ≡ vec_capacity ages.old }
 {
-    let mut other = 0;
-    let mut place = 0;
-    for instant in open {
-        place = place_behind(window, other, place, *instant);
-        other = *instant;
-        places[place].grow_older();
+    for age in ages.iter_mut() {
+        *age = age.saturating_add(1);
     }
 }
 
@@ -185,6 +164,7 @@ fn open_instant(open: &mut Vec<u64>, instant: u64)
 /// Takes a frame of a stream for an instant, unless the stream was taken there.
 pub fn take(
     places: &mut Vec<OpenRow>,
+    ages: &mut Vec<u64>,
     open: &mut Vec<u64>,
     window: u64,
     stream: usize,
@@ -195,6 +175,7 @@ pub fn take(
 ) -> PutOutcome
     requires least { 0 < window }
     requires size { length places.old.items ≡ window }
+    requires ages_size { length ages.old.items ≡ window }
     requires rising { Rises 0 open.old.items }
     requires placed { AllByRecursion (λ i. (row_in places.old.items window i).instant ≡ i) open.old.items }
     requires room { ((row_in places.old.items window instant).instant ≡ instant → ⊥) → vec_len open.old < vec_capacity open.old }
@@ -205,8 +186,11 @@ pub fn take(
         then slice_set places.old.items (instant % window)
         (with_frame stream lane (cells_of cells.now quality) (base_row instant (row_in places.old.items window instant)))
         else places.old.items) }
+    ensures ages { ages.new.items ≡ (if (row_in places.old.items window instant).instant == instant then ages.old.items
+        else slice_set ages.old.items (instant % window) 0) }
     ensures open { open.new.items ≡ (if (row_in places.old.items window instant).instant == instant then open.old.items
         else place instant open.old.items) }
+    ensures ages_capacity { vec_capacity ages.new ≡ vec_capacity ages.old }
     ensures capacity { vec_capacity places.new ≡ vec_capacity places.old }
     ensures open_capacity { vec_capacity open.new ≡ vec_capacity open.old }
 {
@@ -217,6 +201,7 @@ pub fn take(
     }
     row.begin(instant);
     row.take(stream, lane, cells, quality);
+    ages[place] = 0;
     open_instant(open, instant);
     PutOutcome::Taken
 }
@@ -224,6 +209,7 @@ pub fn take(
 /// How many open instants from the front on are due.
 fn count_due(
     places: &[OpenRow],
+    ages: &[u64],
     window: u64,
     open: &[u64],
     required: &[bool],
@@ -231,13 +217,14 @@ fn count_due(
 ) -> usize
     requires least { 0 < window }
     requires size { length places.now ≡ window }
-    ensures count { result ≡ prefix_len (is_due required.now rule) (rows_in places.now window open.now) }
+    requires ages_size { length ages.now ≡ window }
+    ensures count { result ≡ prefix_len (is_due required.now rule) (rows_in (with_ages places.now ages.now) window open.now) }
     ensures bound { result ≤ length open.now }
 {
     let mut count = 0;
     for instant in open {
         let place = place_of(window, *instant);
-        if !places[place].is_due(required, rule) {
+        if !places[place].is_due(ages[place], required, rule) {
             return count;
         }
         count += 1;
@@ -332,6 +319,7 @@ fn greatest(due: &[u64], last: u64) -> u64
 /// Closes the rows for which every row up to them is due, and answers how many.
 pub fn close_due(
     places: &[OpenRow],
+    ages: &[u64],
     layouts: &mut Vec<ClosingLayout>,
     window: u64,
     open: &mut Vec<u64>,
@@ -344,25 +332,26 @@ pub fn close_due(
 ) -> usize
     requires least { 0 < window }
     requires size { length places.now ≡ window }
+    requires ages_size { length ages.now ≡ window }
     requires layouts_size { length layouts.old.items ≡ window }
     requires rising { Rises last.old open.old.items }
-    requires placed { AllByRecursion (λ i. (row_in places.now window i).instant ≡ i) open.old.items }
+    requires placed { AllByRecursion (λ i. (row_in (with_ages places.now ages.now) window i).instant ≡ i) open.old.items }
     requires room { deque_len closed.old + vec_len open.old ≤ deque_capacity closed.old }
-    ensures answer { result ≡ length (closing required.now rule (rows_in places.now window open.old.items)) }
+    ensures answer { result ≡ length (closing required.now rule (rows_in (with_ages places.now ages.now) window open.old.items)) }
     ensures open { open.new.items ≡ drop result open.old.items }
-    ensures rows { rows_in places.now window open.new.items ≡ staying required.now rule (rows_in places.now window open.old.items) }
+    ensures rows { rows_in (with_ages places.now ages.now) window open.new.items ≡ staying required.now rule (rows_in (with_ages places.now ages.now) window open.old.items) }
     ensures layouts { layouts.new.items ≡ laid (layout_view layout.now) window (take result open.old.items) layouts.old.items }
     ensures closed { closed.new.items ≡ closed.old.items ++ take result open.old.items }
-    ensures due_rows { rows_in places.now window (take result open.old.items) ≡ closing required.now rule (rows_in places.now window open.old.items) }
+    ensures due_rows { rows_in (with_ages places.now ages.now) window (take result open.old.items) ≡ closing required.now rule (rows_in (with_ages places.now ages.now) window open.old.items) }
     ensures front { last.new ≡ greatest last.old (take result open.old.items) }
-    ensures last { last.new ≡ greatest last.old (instants_of (closing required.now rule (rows_in places.now window open.old.items))) }
+    ensures last { last.new ≡ greatest last.old (instants_of (closing required.now rule (rows_in (with_ages places.now ages.now) window open.old.items))) }
     ensures disagree { disagree.new ≡ counter (disagree.old
-        + disagreements_in (layout_view layout.now) (closing required.now rule (rows_in places.now window open.old.items))) }
+        + disagreements_in (layout_view layout.now) (closing required.now rule (rows_in (with_ages places.now ages.now) window open.old.items))) }
     ensures layouts_capacity { vec_capacity layouts.new ≡ vec_capacity layouts.old }
     ensures capacity { vec_capacity open.new ≡ vec_capacity open.old }
     ensures closed_capacity { deque_capacity closed.new ≡ deque_capacity closed.old }
 {
-    let count = count_due(places, window, open, required, rule);
+    let count = count_due(places, ages, window, open, required, rule);
     let due = &open[..count];
     close(layouts, window, due, layout, closed);
     *last = greatest(due, *last);

@@ -19,6 +19,8 @@ pub struct RingTable {
     required: ArrayVec<bool, MAX_COLUMNS>,
     /// The row of an instant that is held stands at its remainder by the window.
     places: Vec<OpenRow>,
+    /// At the same place stands the age of an open row, in ticks.
+    ages: Vec<u64>,
     /// At the same place stands the layout that a closed row closed under.
     layouts: Vec<ClosingLayout>,
     /// The open instants, in rising order.
@@ -63,6 +65,7 @@ impl Table for RingTable {
             lanes,
             required: falses(streams),
             places: ring::new_places(alloc, room, Places { streams, columns })?,
+            ages: vec![in alloc; 0; room]?,
             layouts: ring::new_layouts(alloc, room)?,
             open: Vec::with_capacity(alloc, room)?,
             closed: VecDeque::with_capacity(alloc, room)?,
@@ -89,10 +92,13 @@ impl Table for RingTable {
         let RingTable {
             window,
             places,
+            ages,
             open,
             ..
         } = self;
-        ring::take(places, open, *window, stream, lane, instant, cells, quality)
+        ring::take(
+            places, ages, open, *window, stream, lane, instant, cells, quality,
+        )
     }
 
     fn require(&mut self, stream: usize, is_required: bool) {
@@ -101,11 +107,12 @@ impl Table for RingTable {
 
     fn tick(&mut self, rule: WaitRule, layout: &RowLayout) -> u32 {
         numbers_rise();
-        ring::grow_older(&mut self.places, self.window, &self.open);
+        ring::grow_older(&mut self.ages);
         let RingTable {
             window,
             required,
             places,
+            ages,
             layouts,
             open,
             closed,
@@ -115,7 +122,7 @@ impl Table for RingTable {
         } = self;
         let required = required.as_slice();
         ring::close_due(
-            places, layouts, *window, open, required, rule, layout, closed, last, disagree,
+            places, ages, layouts, *window, open, required, rule, layout, closed, last, disagree,
         ) as u32
     }
 
