@@ -60,7 +60,8 @@ pub extern "C" fn dagluwis_read_data(
     let Ok(frame) = read_frame(bytes) else {
         return 0;
     };
-    let Ok(block) = read_body(shape, frame.payload) else {
+    let read = read_body(shape, frame.payload);
+    let Ok(block) = &read else {
         return 0;
     };
     let Some(instant) = instant(frame.soc, frame.frac, time_base, rate) else {
