@@ -1,6 +1,6 @@
 //! The reading and writing paths and the table, proved and plain, side by side in one process.
 //!
-//! Each line is the best of several turns that take the two in alternation; both must give the same answer.
+//! Each line is the median of several turns that take the two in alternation; both must give the same answer.
 
 mod plain;
 mod tables;
@@ -51,13 +51,11 @@ fn plain_read_config(bytes: &[u8]) -> u64 {
 #[inline(never)]
 fn plain_read_data(bytes: &[u8], shape: plain::Shape) -> u64 {
     let Ok(frame) = plain::read_frame(bytes) else { return 0 };
-    let Ok(blocks) = plain::cut(&[shape], frame.payload) else { return 0 };
+    let Ok(body) = plain::read_body(shape, frame.payload) else { return 0 };
     let Some(instant) = plain::instant(frame.soc, frame.frac, TIME_BASE, RATE) else { return 0 };
     let mut mixed = instant;
-    for block in blocks.as_slice() {
-        for word in block.words() {
-            mixed ^= u64::from(*word);
-        }
+    for word in body.words() {
+        mixed ^= u64::from(word);
     }
     mixed
 }
@@ -121,9 +119,15 @@ fn data_frame(shape: plain::Shape) -> Vec<u8> {
     frame(0, &payload)
 }
 
-/// Nanoseconds a frame, the best of the turns, of ours and of the plain one.
+/// The middle one of the turns' times.
+fn median(mut times: Vec<f64>) -> f64 {
+    times.sort_by(f64::total_cmp);
+    times[times.len() / 2]
+}
+
+/// Nanoseconds a frame, the median of the turns, of ours and of the plain one.
 fn measure(rounds: u32, ours: &mut dyn FnMut(u32) -> u64, plain: &mut dyn FnMut(u32) -> u64) -> (f64, f64) {
-    let (mut a, mut b) = (f64::INFINITY, f64::INFINITY);
+    let (mut a, mut b) = (Vec::new(), Vec::new());
     for _ in 0..TURNS {
         let start = Instant::now();
         let x = ours(rounds);
@@ -132,10 +136,10 @@ fn measure(rounds: u32, ours: &mut dyn FnMut(u32) -> u64, plain: &mut dyn FnMut(
         let y = plain(rounds);
         let second = start.elapsed().as_nanos() as f64 / f64::from(rounds);
         assert_eq!(x, y, "both give the same answer");
-        a = a.min(first);
-        b = b.min(second);
+        a.push(first);
+        b.push(second);
     }
-    (a, b)
+    (median(a), median(b))
 }
 
 fn line(name: &str, shape: &str, (ours, plain): (f64, f64)) {

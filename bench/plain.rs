@@ -290,6 +290,27 @@ pub fn instant(soc: u32, frac: u32, time_base: u32, rate: u32) -> Option<u64> {
     (tag.abs_diff(k * base) < u64::from(rate)).then(|| u64::from(soc) * u64::from(rate) + k)
 }
 
+/// A block as it lies in a payload: its words are read where they are.
+#[derive(Clone, Copy)]
+pub struct Body<'a> {
+    pub shape: Shape,
+    bytes: &'a [u8],
+}
+
+impl<'a> Body<'a> {
+    pub fn words(&self) -> impl Iterator<Item = u16> + 'a {
+        self.bytes.chunks_exact(2).map(|pair| u16::from_be_bytes([pair[0], pair[1]]))
+    }
+}
+
+/// The block of this shape that the payload is.
+pub fn read_body(shape: Shape, payload: &[u8]) -> Result<Body<'_>, Fault> {
+    if payload.len() != 2 * shape.word_count() {
+        return Err(Fault::WrongLength);
+    }
+    Ok(Body { shape, bytes: payload })
+}
+
 fn begin(kind: u8, id: u16, soc: u32, fracsec: u32, payload_len: usize, out: &mut Vec<u8>) {
     out.reserve(payload_len + 16);
     out.extend_from_slice(&[0xAA, 16 * kind + 2]);

@@ -1,6 +1,6 @@
 //! From bytes to values.
 
-use pdc_block::cut;
+use pdc_block::Body;
 use pdc_cfg::{MAX_ANALOGS, MAX_DIGITALS, MAX_PHASORS, Shape, read_config};
 use pdc_frame::{check_word, read_frame};
 use pdc_tag::{COUNT_LIMIT, MAX_RATE, instant};
@@ -60,17 +60,15 @@ pub extern "C" fn dagluwis_read_data(
     let Ok(frame) = read_frame(bytes) else {
         return 0;
     };
-    let Ok(blocks) = cut(&[shape], frame.payload) else {
+    let Ok(body) = Body::new(shape, frame.payload) else {
         return 0;
     };
     let Some(instant) = instant(frame.soc, frame.frac, time_base, rate) else {
         return 0;
     };
     let mut mixed = instant;
-    for block in blocks.as_slice() {
-        for word in block.words() {
-            mixed ^= u64::from(*word);
-        }
+    for place in 0..shape.word_count() {
+        mixed ^= u64::from(body.word(place));
     }
     mixed
 }

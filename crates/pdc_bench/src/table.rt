@@ -67,14 +67,19 @@ impl<T: Table> Aligner<T> {
     fn tick(&mut self, wait: u64) {
         let closed = self.table.tick(WaitRule::Ticks(wait), &self.layout);
         for _ in 0..closed {
-            if let Some(row) = self.table.pop_due() {
-                self.mixed = self.mixed.rotate_left(1) ^ mix(&row);
-            }
+            self.pop();
+        }
+    }
+
+    fn pop(&mut self) {
+        if let Some(row) = &self.table.pop_due() {
+            self.mixed = self.mixed.rotate_left(1) ^ mix(row);
         }
     }
 }
 
 /// A number that depends on all of the row.
+#[inline(never)]
 fn mix(row: &DueRow) -> u64 {
     let mut mixed = row.instant ^ u64::from(row.quality) << 60;
     for block in row.blocks.as_slice() {

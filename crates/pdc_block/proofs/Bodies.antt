@@ -1,6 +1,6 @@
 -- The words that bytes write.
-use Rattle.std.proofs.Common.{◌≡◌, ℕ, ◌*◌, List, [], ◌∷◌, ◌++◌, length, refl, sym, ap, ◌∙◌, arith, zero, suc}
-use Rattle.pdc_frame.specs.Bytes.{AreBytes}
+use Rattle.std.proofs.Common.{◌≡◌, ℕ, ◌+◌, ◌*◌, List, [], ◌∷◌, ◌++◌, get_or, length, ◌<◌, refl, sym, ap, ◌∙◌, arith, zero, suc}
+use Rattle.pdc_frame.specs.Bytes.{AreBytes, word_at}
 use Rattle.pdc_frame.specs.Parts.{WordsAreTheirBytes}
 use Rattle.pdc_block.proofs.Words.{length-bytes_of_words, same_words}
 use Rattle.pdc_cfg.specs.Shape.{word_count_of}
@@ -22,6 +22,19 @@ words_fit [] fits i = omega arith
 words_fit (byte ∷ []) fits i = omega arith
 words_fit (high ∷ low ∷ bytes) fits zero = omega (arith, fits 0, fits 1)
 words_fit (high ∷ low ∷ bytes) fits (suc i) = words_fit bytes (tail_bytes high low bytes fits) i
+
+-- a word by its place
+pub word_in : (bytes : List ℕ) (i n : ℕ) → length bytes ≡ 2 * n → i < n → word_at bytes (2 * i) ≡ get_or (words_in bytes) i 0
+word_in [] i n e h = absurd (omega (arith, e))
+word_in (byte ∷ []) i n e h = absurd (omega (arith, e))
+word_in (high ∷ low ∷ bytes) i zero e h = absurd (omega arith)
+word_in (high ∷ low ∷ bytes) zero (suc n) e h = refl
+word_in (high ∷ low ∷ bytes) (suc i) (suc n) e h =
+    let k : 2 * suc i ≡ suc (suc (2 * i)) = omega arith in
+    let m : 2 * suc i + 1 ≡ suc (suc (2 * i + 1)) = omega arith in
+    ap (λ p. 256 * get_or (high ∷ low ∷ bytes) p 0 + get_or (high ∷ low ∷ bytes) (2 * suc i + 1) 0) k
+    ∙ ap (λ p. 256 * get_or bytes (2 * i) 0 + get_or (high ∷ low ∷ bytes) p 0) m
+    ∙ word_in bytes i n (omega (arith, e)) (omega arith)
 
 -- ---- what follows from the law of words
 

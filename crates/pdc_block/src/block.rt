@@ -27,7 +27,14 @@ impl Default for Block {
     ghost is_default = { λ block. (word_count_of block.shape ≡ 3) × (words_of block ≡ 0 ∷ 0 ∷ 0 ∷ []) };
 
     fn default() -> Block {
-        Block::from_words(Shape::default(), &[0; 3])
+        let mut words = ArrayVec::new();
+        words.push(0);
+        words.push(0);
+        words.push(0);
+        Block {
+            shape: Shape::default(),
+            words,
+        }
     }
 }
 
@@ -53,13 +60,22 @@ impl Block {
         ensures words { words_of result ≡ words.now }
     {
         let mut taken = ArrayVec::new();
-        for word in words {
-            taken.push(*word);
-        }
+        taken.try_extend_from_slice(words).unwrap();
         Block {
             shape,
             words: taken,
         }
+    }
+
+    /// Makes this the block of this shape and these words, in place.
+    pub fn set(&mut self, shape: Shape, words: &[u16])
+        requires { length words.now ≡ word_count_of shape }
+        ensures shape { self.new.shape ≡ shape }
+        ensures words { words_of self.new ≡ words.now }
+    {
+        self.shape = shape;
+        self.words = ArrayVec::new();
+        self.words.try_extend_from_slice(words).unwrap();
     }
 
     /// The words in wire order.

@@ -7,12 +7,14 @@
 #![tactic(auto)]
 
 mod block;
+mod body;
 mod fault;
 mod laws;
 mod reading;
 mod writing;
 
 pub use block::Block;
+pub use body::Body;
 pub use fault::BodyFault;
 pub use laws::{bodies_are_their_words, payloads_are_cut_in_one_way};
 pub use pdc_cfg::MAX_WORDS;

@@ -6,10 +6,12 @@
 //! To the layers above this crate promises the ranges of a closed row: at most 16 blocks, and a quality of at most 15.
 #![tactic(auto)]
 
+mod cell;
 mod due_row;
 mod laws;
 mod present;
 
+pub use cell::Cell;
 pub use due_row::DueRow;
 pub use laws::numbers_rise;
 pub use present::is_present;

@@ -34,8 +34,24 @@ pub fn absent(shape: Shape) -> Block
 pub fn is_absent(block: &Block) -> bool
     ensures { IsTrue result ↔ IsAbsent block.now }
 {
-    let words = block.words();
-    words[0] == ABSENT_STAT && words == absent(block.shape).words()
+    block.words()[0] == ABSENT_STAT && has_absent_words(block)
+}
+
+/// Whether the block has exactly the words of `absent` of its shape. Few blocks come here: those whose STAT is that word.
+#[inline(never)]
+fn has_absent_words(block: &Block) -> bool
+    ensures { IsTrue result ↔ IsAbsent block.now }
+{
+    block.words() == absent(block.shape).words()
+}
+
+/// Makes this the block that `absent` gives, in place.
+#[inline(never)]
+pub fn set_absent(block: &mut Block, shape: Shape)
+    ensures shape { block.new.shape ≡ shape }
+    ensures words { words_of block.new ≡ absent_of shape }
+{
+    *block = absent(shape);
 }
 
 /// Appends the word so many times.

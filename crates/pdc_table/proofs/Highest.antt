@@ -53,3 +53,15 @@ highest_number (c ∷ d ∷ cs) (x ∷ xs) n e = highest_number (d ∷ cs) (x �
 pub no_numbers : (ns : List ℕ) → false ≡ ltb 0 (length ns) → ns ≡ []
 no_numbers [] h = refl
 no_numbers (x ∷ xs) h = let k : ltb 0 (suc (length xs)) ≡ true = lower 0 (suc (length xs)) (omega arith) in absurd (false≢true (h ∙ k))
+
+highest_back : (ns : List ℕ) (n : ℕ) → 0 < length ns → n ≡ get_or ns (length ns - 1) n → highest_of ns ≡ Some n
+highest_back [] n h e = absurd (omega arith)
+highest_back (x ∷ []) n h e = ap (λ m. Some m) (sym e)
+highest_back (x ∷ y ∷ ys) n h e =
+    let k : suc (suc (length ys)) - 1 ≡ suc (length ys) = omega arith in
+    let j : suc (length ys) - 1 ≡ length ys = omega arith in
+    let f : n ≡ get_or (y ∷ ys) (length ys) n = e ∙ ap (λ m. get_or (x ∷ y ∷ ys) m n) k in
+    highest_back (y ∷ ys) n (omega arith) (f ∙ ap (λ m. get_or (y ∷ ys) m n) (sym j))
+
+pub highest_last : (ns : List ℕ) (n k : ℕ) → k ≡ length ns → 0 < k → n ≡ get_or ns (k - 1) n → highest_of ns ≡ Some n
+highest_last ns n k l h e = highest_back ns n (omega arith) (e ∙ ap (λ m. get_or ns (m - 1) n) l)

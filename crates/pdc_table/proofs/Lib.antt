@@ -7,6 +7,8 @@ pub mod Closes
 pub mod Keeps
 pub mod Places
 pub mod Highest
+pub mod RingAges
+pub mod RingClosed
 pub mod RingKept
 pub mod RingPut
 pub mod RingRows

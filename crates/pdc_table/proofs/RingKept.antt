@@ -64,7 +64,7 @@ none_of_rising : (i n : ℕ) (ns : List ℕ) → i < n → Rises n ns → list_a
 none_of_rising i n [] l r = ap (λ b. b || false) (ne_eqb n i (λ q. omega arith))
 none_of_rising i n (m ∷ ms) l r = ap (λ b. b || list_any (λ j. eqb j i) (m ∷ ms)) (ne_eqb n i (λ q. omega arith)) ∙ none_of_rising i m ms (omega (arith, r.0)) r.1
 
-placed_rest : (places : List OpenRowView) (window i : ℕ) (row : OpenRowView) (js : List ℕ) → IsApart window i js → ArePlaced places window js → ArePlaced (set places (i % window) row) window js
+pub placed_rest : (places : List OpenRowView) (window i : ℕ) (row : OpenRowView) (js : List ℕ) → IsApart window i js → ArePlaced places window js → ArePlaced (set places (i % window) row) window js
 placed_rest places window i row [] a p = tt
 placed_rest places window i row (j ∷ js) a p = (ap (λ (x : OpenRowView). x.instant) (row_else places window i j row a.0) ∙ p.0, placed_rest places window i row js a.1 p.1)
 

@@ -1,20 +1,12 @@
 -- What a put of a ring answers, and what it makes of the content.
-use Rattle.std.proofs.Common.{◌≡◌, ℕ, ◌<◌, Bool, true, false, not, if◌then◌else◌, List, ◌++◌, refl, sym, ◌∙◌, ap}
+use Rattle.std.proofs.Common.{◌≡◌, ℕ, ◌<◌, Bool, true, false, not, if◌then◌else◌, List, refl, sym, ◌∙◌, ap}
 use Rattle.std.proofs.lemmas.Bool.{lt-leb}
 use Rattle.pdc_row.specs.CellView.{CellView}
-use Rattle.pdc_row.specs.RowView.{row_instants}
-use Rattle.pdc_table.specs.Content.{Content, held_instants, lane_of}
-use Rattle.pdc_table.specs.OpenInstants.{instants_of}
+use Rattle.pdc_table.specs.Content.{Content, lane_of}
 use Rattle.pdc_table.specs.Placing.{row_at}
-use Rattle.pdc_table.specs.RingRows.{rows_in}
 use Rattle.pdc_table.specs.Steps.{after_put, after_take, answer_at, first_cause, is_near_all, is_taken, put_answer}
 use Rattle.pdc_table.specs.Views.{OpenRowView}
 use Rattle.pdc_table.specs.declared.outcome.PutOutcome.TheVariants.{OutOfWindow}
-use Rattle.pdc_table.proofs.RingRows.{ArePlaced, instants_in}
-
--- the instants that are held, as the code has them
-pub held_same : (c : Content) (places : List OpenRowView) (is seen : List ℕ) → seen ≡ is → ArePlaced places c.window is → c.open_rows ≡ rows_in places c.window is → row_instants c.closed ++ seen ≡ held_instants c
-held_same c places is seen e p o = ap (λ ns. row_instants c.closed ++ ns) (e ∙ sym (instants_in places c.window is p) ∙ ap instants_of (sym o))
 
 pub put_far : (c : Content) (stream instant : ℕ) (cells : List (ℕ × CellView)) → c.last < instant → is_near_all c instant ≡ false → OutOfWindow ≡ put_answer c stream instant cells
 put_far c stream instant cells h e =

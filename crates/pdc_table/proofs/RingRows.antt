@@ -40,7 +40,7 @@ pub apart_by : (window i j : ℕ) → i < j → j < i + window → i % window �
 apart_by window i j l m e =
     too_near window (i / window) (j / window) (i % window) i j (div-add-mod i window) (ap (λ r. window * (j / window) + r) e ∙ div-add-mod j window) l m
 
-apart_higher : (window i low : ℕ) (ns : List ℕ) → i ≤ low → Rises low ns → AreBelow (i + window) ns → IsApart window i ns
+pub apart_higher : (window i low : ℕ) (ns : List ℕ) → i ≤ low → Rises low ns → AreBelow (i + window) ns → IsApart window i ns
 apart_higher window i low [] l r b = tt
 apart_higher window i low (n ∷ ns) l r b = (apart_by window i n (omega (arith, r.0)) b.0, apart_higher window i n ns (omega (arith, r.0)) r.1 b.1)
 
@@ -66,7 +66,7 @@ pub changed-length : (f : OpenRowView → OpenRowView) (window : ℕ) (is : List
 changed-length f window [] places = refl
 changed-length f window (i ∷ is) places = changed-length f window is (set places (i % window) (f (row_in places window i))) ∙ length-set places (i % window) (f (row_in places window i))
 
-changed-else : (f : OpenRowView → OpenRowView) (window j : ℕ) (is : List ℕ) (places : List OpenRowView) → IsApart window j is → row_in (changed f window is places) window j ≡ row_in places window j
+pub changed-else : (f : OpenRowView → OpenRowView) (window j : ℕ) (is : List ℕ) (places : List OpenRowView) → IsApart window j is → row_in (changed f window is places) window j ≡ row_in places window j
 changed-else f window j [] places a = refl
 changed-else f window j (i ∷ is) places a =
     changed-else f window j is (set places (i % window) (f (row_in places window i))) a.1 ∙ row_else places window i j (f (row_in places window i)) (λ e. a.0 (sym e))
@@ -177,7 +177,7 @@ back_in required rule low places window is seen n e k r p =
 -- ---- what follows from the laws of rising numbers
 
 module _ (R : RisingLaws) where
-  apart_pair : (window i j : ℕ) → i < j + window → j < i + window → j ≢ i → i % window ≢ j % window
+  pub apart_pair : (window i j : ℕ) → i < j + window → j < i + window → j ≢ i → i % window ≢ j % window
   apart_pair window i j h k n e = elim (R.compared i j) [
     | Below l ↦ apart_by window i j l k e
     | At q ↦ n q

@@ -1,10 +1,11 @@
 -- One more column of a row, one more stream, or one more block of a frame.
-use Rattle.std.proofs.Common.{◌≡◌, ℕ, ◌+◌, ◌<◌, Bool, true, false, not, ◌||◌, ◌&&◌, List, [], ◌∷◌, ◌++◌, length, get_or, set, drop, refl, Option, Some, None, arith, suc, inl, inr, add-one, drop-cons}
+use Rattle.std.proofs.Common.{◌≡◌, ℕ, ◌+◌, ◌<◌, Bool, true, false, not, ◌||◌, ◌&&◌, List, [], ◌∷◌, ◌++◌, length, get_or, set, drop, refl, Option, Some, None, append_assoc, append-nil, ap, sym, ◌∙◌, arith, suc, inl, inr, add-one, drop-cons}
 use Rattle.std.proofs.lemmas.Bool.{cases_lt}
-use Rattle.std.proofs.lemmas.List.{drop_all, get_or_past}
+use Rattle.std.specs.List.{refill}
+use Rattle.std.proofs.lemmas.List.{drop_all, get_or_past, take_all}
 use Rattle.pdc_block.specs.declared.block.Block.{Block}
 use Rattle.pdc_cfg.specs.declared.shape.Shape.{Shape}
-use Rattle.pdc_row.specs.CellView.{block_view, cell_view}
+use Rattle.pdc_row.specs.CellView.{BlockView, block_view, cell_view}
 use Rattle.pdc_table.specs.Row.{blocks_at, blocks_of, qualities_at, qualities_of}
 use Rattle.pdc_table.specs.Closing.{all_taken}
 use Rattle.pdc_table.specs.Steps.{disagreement_at, disagreements_of}
@@ -65,3 +66,14 @@ cells_step lane quality blocks columns i part h e = rw (add-one, drop-cons block
 
 pub conflicts_step : (lane quality : ℕ) (blocks : List (ℕ × Block)) (columns : List ColumnView) (i : ℕ) (part : ℕ × Block) → i < length blocks → part ≡ get_or blocks i part → conflicts lane (cells_of (drop i blocks) quality) columns ≡ holds_other (cell_in lane (get_or columns part.0 empty_column)) (block_view part.1) || conflicts lane (cells_of (drop (i + 1) blocks) quality) columns
 conflicts_step lane quality blocks columns i part h e = rw (add-one, drop-cons blocks i part, ← e) refl
+
+-- one more column of a row that is written
+pub blocks_more : (os : List (Option Shape)) (cs : List ColumnView) (i : ℕ) (front next all : List BlockView) → i < length os → next ≡ front ++ blocks_at (get_or os i None) (get_or cs i empty_column) → front ++ blocks_of (drop i os) (drop i cs) ≡ all → next ++ blocks_of (drop (i + 1) os) (drop (i + 1) cs) ≡ all
+blocks_more os cs i front next all h e k =
+    ap (λ bs. bs ++ blocks_of (drop (i + 1) os) (drop (i + 1) cs)) e
+    ∙ append_assoc front (blocks_at (get_or os i None) (get_or cs i empty_column)) (blocks_of (drop (i + 1) os) (drop (i + 1) cs))
+    ∙ ap (λ bs. front ++ bs) (sym (blocks_step os cs i h)) ∙ k
+
+-- as many blocks again, in place of those that were there
+pub refilled : (n : ℕ) (xs ws : List Block) → n ≡ length xs → length ws ≡ n → refill n xs ws ≡ ws
+refilled n xs ws e k = rw (drop_all (length ws) xs (omega arith), append-nil ws) (take_all n ws (omega arith))

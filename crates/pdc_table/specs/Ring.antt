@@ -1,14 +1,13 @@
 -- A table as a ring: each instant has a place, which is its remainder by the window.
-use Rattle.std.specs.Prelude.{◌≡◌, ◌<◌, ◌≤◌, ◌==◌, true, [], ◌∷◌, length, map}
+use Rattle.std.specs.Prelude.{◌≡◌, ◌<◌, ◌≤◌, ◌==◌, true, [], ◌∷◌, length}
 use Rattle.std.specs.List.{All, AllByRecursion, list_any}
 use Rattle.std.specs.Vec.{vec_capacity}
 use Rattle.std.specs.VecDeque.{deque_capacity}
-use Rattle.pdc_row.specs.RowView.{row_view}
 use Rattle.pdc_table.specs.Content.{Content, HasPlaces, IsContent, streams_of}
 use Rattle.pdc_table.specs.TableView.{TableView}
 use Rattle.pdc_table.specs.Views.{OpenRowView}
 use Rattle.pdc_table.specs.declared.ring_table.RingTable.TheInside.{Inside}
-use Rattle.pdc_table.specs.RingRows.{rows_in, row_in}
+use Rattle.pdc_table.specs.RingRows.{closed_rows, rows_in, row_in, with_ages}
 
 abbrev pub content_of : Inside → Content
 content_of t = record {
@@ -16,26 +15,30 @@ content_of t = record {
   columns = t.columns;
   lanes = t.lanes;
   required = t.required.items;
-  open_rows = rows_in t.places.items t.window t.open.items;
-  closed = map row_view t.closed.items;
+  open_rows = rows_in (with_ages t.places.items t.ages.items) t.window t.open.items;
+  closed = closed_rows (with_ages t.places.items t.ages.items) t.layouts.items t.window t.closed.items;
   last = t.last;
 }
 
--- its places, its open instants, and its closed rows
+-- its places, their ages and layouts, its open instants, and its closed ones
 abbrev pub view_of : Inside → TableView
 view_of t = record {
   content = content_of t;
   disagreements = t.disagree;
-  memory = vec_capacity t.places ∷ vec_capacity t.open ∷ deque_capacity t.closed ∷ [];
+  memory = vec_capacity t.places ∷ vec_capacity t.ages ∷ vec_capacity t.layouts ∷ vec_capacity t.open ∷ deque_capacity t.closed ∷ [];
 }
 
--- There is a place for each instant of the window, and room for each instant that can be held. At the place of an open
--- instant stands its row; a row of an instant above the last closed is that of an open one.
+-- There is a place for each instant of the window, and room for each instant that can be held. At the place of an instant that
+-- is held stands its row, and of a closed one the layout that it closed under; a row of an instant above the last closed is
+-- that of an open one.
 pub record IsKept (t : Inside) : Type 0 where
   pub content : IsContent (content_of t)
   pub size : length t.places.items ≡ t.window
   pub each : All (HasPlaces (streams_of (content_of t)) t.columns) t.places.items
   pub placed : AllByRecursion (λ i. (row_in t.places.items t.window i).instant ≡ i) t.open.items
+  pub ages : length t.ages.items ≡ t.window
+  pub layouts : length t.layouts.items ≡ t.window
+  pub closed_placed : AllByRecursion (λ i. (row_in t.places.items t.window i).instant ≡ i) t.closed.items
   pub known : All (λ (row : OpenRowView). t.last < row.instant → list_any (λ i. i == row.instant) t.open.items ≡ true) t.places.items
   pub room : t.window ≤ vec_capacity t.open
   pub closed_room : t.window ≤ deque_capacity t.closed

@@ -1,5 +1,5 @@
 -- What an open instant holds, however a table keeps it (this profile).
-use Rattle.std.specs.Prelude.{ℕ, Bool, false, List, replicate, Option, None}
+use Rattle.std.specs.Prelude.{ℕ, Bool, false, if◌then◌else◌, List, replicate, Option, None, Some}
 use Rattle.pdc_row.specs.CellView.{CellView}
 
 -- what the lanes of a column hold at an instant; with one lane the second holds nothing
@@ -13,6 +13,10 @@ pub record OpenRowView : Type 0 where
   pub age : ℕ
   pub taken : List Bool
   pub columns : List ColumnView
+
+-- the cell, where there is one
+abbrev pub kept : Bool → CellView → Option CellView
+kept is_held cell = if is_held then Some cell else None
 
 -- the column in which nothing was taken
 abbrev pub empty_column : ColumnView

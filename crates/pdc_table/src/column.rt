@@ -1,5 +1,5 @@
 //! What was taken of one column at one instant.
-ghost use Rattle.std.specs.Prelude.{◌≡◌, ℕ, ◌+◌, ◌<◌, ◌≤◌, ◌++◌, List, length, map, option_copied, None, Some, IfSome};
+ghost use Rattle.std.specs.Prelude.{◌≡◌, ℕ, ◌+◌, ◌<◌, ◌≤◌, ◌++◌, List, length, map, option_copied, take, None, Some, IfSome};
 ghost use Rattle.pdc_row.specs.CellView.{block_view, cell_view};
 ghost use Rattle.pdc_table.specs.Row.{blocks_at, qualities_at};
 ghost use Rattle.pdc_row.specs.Quality.{worst_of};
@@ -9,28 +9,29 @@ ghost use Rattle.pdc_table.specs.Steps.{disagreement_at};
 ghost use Rattle.pdc_table.specs.Taking.{cell_in, holds_other, with_cell};
 ghost use Rattle.pdc_table.specs.Views.{empty_column};
 
-use crate::{Cell, MAX_COLUMNS};
-use arrayvec::ArrayVec;
 use pdc_block::Block;
 use pdc_cfg::Shape;
-use pdc_stat::absent;
+use pdc_row::Cell;
+use pdc_stat::set_absent;
 use std::marker::Model;
 
 /// What was taken of one column at one instant, lane by lane.
 #[derive(Drop)]
 pub struct Column {
-    /// What lane 0 holds.
-    first: Option<Cell>,
-    /// What lane 1 holds, in a table of two lanes.
-    second: Option<Cell>,
+    /// Whether lane 0 holds a cell.
+    has_first: bool,
+    /// Whether lane 1 holds one, in a table of two lanes.
+    has_second: bool,
+    first: Cell,
+    second: Cell,
 }
 
 impl Model for Column {
-    ghost use Rattle.pdc_table.specs.Views.{ColumnView};
+    ghost use Rattle.pdc_table.specs.Views.{ColumnView, kept};
 
     ghost Value = { ColumnView };
 
-    ghost view = { λ column. record { first = column.first; second = column.second } };
+    ghost view = { λ column. record { first = kept column.has_first column.first; second = kept column.has_second column.second } };
 }
 
 /// The column in which nothing was taken.
@@ -39,8 +40,10 @@ impl Default for Column {
 
     fn default() -> Column {
         Column {
-            first: None,
-            second: None,
+            has_first: false,
+            has_second: false,
+            first: Cell::blank(),
+            second: Cell::blank(),
         }
     }
 }
@@ -50,7 +53,13 @@ impl Column {
     pub(crate) fn chosen(&self) -> Option<&Cell>
         ensures { option_copied result ≡ chosen_of self.now }
     {
-        present(&self.first).or(present(&self.second))
+        if self.has_first && self.first.is_present() {
+            return Some(&self.first);
+        }
+        if self.has_second && self.second.is_present() {
+            return Some(&self.second);
+        }
+        None
     }
 
     /// Puts a copy of the block, and the time quality byte of its frame, into the lane, 0 or else 1.
@@ -58,9 +67,11 @@ impl Column {
         ensures { self.new ≡ with_cell lane (Some (cell_view block.now quality)) self.old }
     {
         if lane == 0 {
-            self.first = Some(Cell::new(block, quality));
+            self.has_first = true;
+            self.first.set(block, quality);
         } else {
-            self.second = Some(Cell::new(block, quality));
+            self.has_second = true;
+            self.second.set(block, quality);
         }
     }
 
@@ -69,9 +80,9 @@ impl Column {
         ensures { self.new ≡ with_cell lane None self.old }
     {
         if lane == 0 {
-            self.first = None;
+            self.has_first = false;
         } else {
-            self.second = None;
+            self.has_second = false;
         }
     }
 
@@ -79,52 +90,55 @@ impl Column {
     pub(crate) fn holds_other(&self, lane: usize, block: &Block) -> bool
         ensures { result ≡ holds_other (cell_in lane self.now) (block_view block.now) }
     {
-        let cell = if lane == 0 { &self.first } else { &self.second };
-        match cell {
-            Some(cell) => !cell.holds(block),
-            None => false,
+        if lane == 0 {
+            self.has_first && !self.first.holds(block)
+        } else {
+            self.has_second && !self.second.holds(block)
         }
     }
 
-    /// Adds what the column gives to a row: with a shape a block, and its time quality if it is present.
+    /// Writes what the column gives to a row behind so many blocks, and answers how many there are then: with a shape one more,
+    /// and its time quality if it is present.
     pub(crate) fn give(
         &self,
         shape: Option<Shape>,
-        blocks: &mut ArrayVec<Block, 16>,
+        blocks: &mut [Block],
+        count: usize,
         quality: &mut Option<u8>,
-    )
-        requires room { length blocks.old.items < MAX_COLUMNS }
+    ) -> usize
+        requires room { count < length blocks.old }
         requires fits { IfSome quality.old (λ n. n ≤ 15) }
-        ensures blocks { map block_view blocks.new.items ≡ map block_view blocks.old.items ++ blocks_at shape self.now }
-        ensures grown { length blocks.new.items ≤ length blocks.old.items + 1 }
+        ensures blocks { map block_view (take result blocks.new) ≡ map block_view (take count blocks.old) ++ blocks_at shape self.now }
+        ensures len { length blocks.new ≡ length blocks.old }
+        ensures grown { result ≤ count + 1 }
         ensures quality { (ns : List ℕ) → worst_of quality.new ns ≡ worst_of quality.old (qualities_at shape self.now ++ ns) }
         ensures quality_fits { IfSome quality.new (λ n. n ≤ 15) }
     {
         let Some(shape) = shape else {
-            return;
+            return count;
         };
         let Some(cell) = self.chosen() else {
-            blocks.push(absent(shape));
-            return;
+            set_absent(&mut blocks[count], shape);
+            return count + 1;
         };
-        blocks.push(cell.block());
+        cell.copy_to(&mut blocks[count]);
         let given = cell.time_quality();
         *quality = Some(match *quality {
             Some(worst) => worst.max(given),
             None => given,
         });
+        count + 1
     }
 
     /// Whether both lanes hold present blocks, and they differ.
     pub(crate) fn disagrees(&self) -> bool
         ensures { result ≡ disagrees self.now }
     {
-        match (&self.first, &self.second) {
-            (Some(first), Some(second)) => {
-                first.is_present() && second.is_present() && !first.agrees(second)
-            }
-            _ => false,
-        }
+        self.has_second
+            && self.has_first
+            && self.first.is_present()
+            && self.second.is_present()
+            && !self.first.agrees(&self.second)
     }
 
     /// One where the column has a shape and its lanes disagree.
@@ -137,15 +151,5 @@ impl Column {
         } else {
             0
         }
-    }
-}
-
-/// The cell, where its block is present.
-fn present(cell: &Option<Cell>) -> Option<&Cell>
-    ensures { option_copied result ≡ present_of cell.now }
-{
-    match cell {
-        Some(cell) if cell.is_present() => Some(cell),
-        _ => None,
     }
 }

@@ -9,7 +9,7 @@
 //! it holds the first block taken for each column, and that no call but `new` takes memory.
 #![tactic(auto)]
 
-mod cell;
+mod closing_layout;
 mod column;
 mod laws;
 mod limits;
@@ -23,7 +23,7 @@ mod sorted_table;
 mod table_trait;
 mod wait_rule;
 
-use cell::Cell;
+use closing_layout::ClosingLayout;
 use column::Column;
 pub use laws::{
     ages_are_ticks, blocks_stand_in_their_columns, cells_are_first_puts, instants_close_once,

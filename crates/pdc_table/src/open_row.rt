@@ -1,10 +1,11 @@
 //! The row of an instant that is open.
-ghost use Rattle.std.specs.Prelude.{◌≡◌, ℕ, ◌+◌, ◌<◌, ◌≤◌, ◌++◌, List, length, map, replicate, false, slice_index_or, Some, IfSome, if◌then◌else◌};
+ghost use Rattle.std.specs.Prelude.{◌≡◌, ℕ, ◌+◌, ◌<◌, ◌≤◌, ◌++◌, List, length, map, replicate, take, false, slice_index_or, Some, IfSome, if◌then◌else◌};
 ghost use Rattle.std.specs.List.{All};
 ghost use Rattle.pdc_block.specs.declared.block.Block.{Block as BlockData};
 ghost use Rattle.pdc_row.specs.CellView.{block_view};
 ghost use Rattle.pdc_row.specs.Quality.{worst_of};
 ghost use Rattle.pdc_row.specs.RowView.{row_view};
+ghost use Rattle.pdc_table.specs.RingRows.{at_age};
 ghost use Rattle.pdc_table.specs.Row.{blocks_at, qualities_at, row_of};
 ghost use Rattle.pdc_table.specs.Closing.{aged, all_taken, is_due};
 ghost use Rattle.pdc_table.specs.Steps.{answer_at, disagreements_of, is_taken};
@@ -17,6 +18,7 @@ use arrayvec::ArrayVec;
 use pdc_block::Block;
 use pdc_cfg::Shape;
 use pdc_row::DueRow;
+use pdc_stat::set_absent;
 use std::marker::Model;
 
 /// The quality of a row in which no block is present.
@@ -160,11 +162,18 @@ impl OpenRow {
         self.age = self.age.saturating_add(1);
     }
 
-    /// Whether every required stream was taken, or the wait is over.
-    pub(crate) fn is_due(&self, required: &[bool], rule: WaitRule) -> bool
-        ensures { result ≡ is_due required.now rule self.now }
+    /// Its age, in ticks.
+    pub(crate) fn age(&self) -> u64
+        ensures { result ≡ self.now.age }
     {
-        all_taken(required, self.taken.as_slice()) || rule.is_over(self.age, self.instant)
+        self.age
+    }
+
+    /// Whether every required stream was taken, or the wait is over, at this age.
+    pub(crate) fn is_due(&self, age: u64, required: &[bool], rule: WaitRule) -> bool
+        ensures { result ≡ is_due required.now rule (at_age age self.now) }
+    {
+        all_taken(required, self.taken.as_slice()) || rule.is_over(age, self.instant)
     }
 
     /// How many columns with a shape hold present blocks in both lanes that differ.
@@ -185,24 +194,39 @@ impl OpenRow {
     pub(crate) fn close(&self, layout: &RowLayout) -> DueRow
         ensures { row_view result ≡ row_of (layout_view layout.now) self.now }
     {
-        let mut blocks = ArrayVec::new();
-        let mut quality = None;
-        for (place, shape) in layout.shapes.as_slice().iter().enumerate() {
-            give(
-                self.columns.as_slice(),
-                place,
-                *shape,
-                &mut blocks,
-                &mut quality,
-            );
-        }
+        let mut blocks = ArrayVec::from_array_in((), Default::default());
+        let quality = self.fill(layout, &mut blocks);
         DueRow {
             instant: self.instant,
             start: layout.start,
             change: layout.change,
-            quality: quality.unwrap_or(WORST_QUALITY),
+            quality,
             blocks,
         }
+    }
+
+    /// Makes these the blocks of the row that it closes to, each in place, and answers its quality.
+    pub(crate) fn fill(&self, layout: &RowLayout, blocks: &mut ArrayVec<Block, 16>) -> u8
+        requires { length blocks.old.items ≡ 16 }
+        ensures blocks { map block_view blocks.new.items ≡ (row_of (layout_view layout.now) self.now).blocks }
+        ensures quality { result ≡ (row_of (layout_view layout.now) self.now).quality }
+        ensures fits { result ≤ 15 }
+        ensures few { length blocks.new.items ≤ 16 }
+    {
+        let mut count = 0;
+        let mut quality = None;
+        for (place, shape) in layout.shapes.as_slice().iter().enumerate() {
+            count = give(
+                self.columns.as_slice(),
+                place,
+                *shape,
+                blocks.as_mut_slice(),
+                count,
+                &mut quality,
+            );
+        }
+        blocks.truncate(count);
+        quality.unwrap_or(WORST_QUALITY)
     }
 }
 
@@ -238,26 +262,35 @@ fn put_cells(columns: &mut [Column], lane: usize, cells: &[(usize, Block)], qual
     }
 }
 
-/// Adds what the column at this place gives to a row; past the last column there is nothing.
+/// Writes what the column at this place gives to a row behind so many blocks, and answers how many there are then; past the
+/// last column there is nothing.
 fn give(
     columns: &[Column],
     place: usize,
     shape: Option<Shape>,
-    blocks: &mut ArrayVec<Block, 16>,
+    blocks: &mut [Block],
+    count: usize,
     quality: &mut Option<u8>,
-)
-    requires room { length blocks.old.items < MAX_COLUMNS }
+) -> usize
+    requires room { count < length blocks.old }
     requires fits { IfSome quality.old (λ n. n ≤ 15) }
-    ensures blocks { map block_view blocks.new.items
-        ≡ map block_view blocks.old.items ++ blocks_at shape (slice_index_or columns.now place empty_column) }
-    ensures grown { length blocks.new.items ≤ length blocks.old.items + 1 }
+    ensures blocks { map block_view (take result blocks.new)
+        ≡ map block_view (take count blocks.old) ++ blocks_at shape (slice_index_or columns.now place empty_column) }
+    ensures len { length blocks.new ≡ length blocks.old }
+    ensures grown { result ≤ count + 1 }
     ensures quality { (ns : List ℕ) → worst_of quality.new ns
         ≡ worst_of quality.old (qualities_at shape (slice_index_or columns.now place empty_column) ++ ns) }
     ensures quality_fits { IfSome quality.new (λ n. n ≤ 15) }
 {
     match columns.get(place) {
-        Some(column) => column.give(shape, blocks, quality),
-        None => Column::default().give(shape, blocks, quality),
+        Some(column) => column.give(shape, blocks, count, quality),
+        None => match shape {
+            Some(shape) => {
+                set_absent(&mut blocks[count], shape);
+                count + 1
+            }
+            None => count,
+        },
     }
 }
 

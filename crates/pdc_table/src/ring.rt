@@ -4,26 +4,26 @@
 //! window 8, open 13 14 18     place  0  1  2  3  4  5  6  7
 //!                             row          18       13 14
 //! ```
-ghost use Rattle.std.specs.Prelude.{◌≡◌, ℕ, ◌+◌, ◌%◌, ◌==◌, ◌<◌, ◌≤◌, ◌++◌, drop, List, length, map, nat_lt, replicate, IfOk, slice_set, take, vec_len, if◌then◌else◌};
+ghost use Rattle.std.specs.Prelude.{◌≡◌, ℕ, ◌+◌, ◌%◌, ◌==◌, ◌<◌, ◌≤◌, ◌++◌, drop, List, length, map, nat_lt, option_map, replicate, IfOk, slice_set, take, vec_len, if◌then◌else◌};
 ghost use Rattle.std.specs.List.{All, AllByRecursion, list_all, prefix_len, slice_get};
 ghost use Rattle.std.specs.Vec.{vec_capacity};
 ghost use Rattle.std.specs.VecDeque.{deque_capacity, deque_len};
 ghost use Rattle.pdc_block.specs.declared.block.Block.{Block as BlockData};
 ghost use Rattle.pdc_row.specs.Quality.{greatest};
 ghost use Rattle.pdc_row.specs.Rising.{Rises, highest_of, is_near, place};
-ghost use Rattle.pdc_row.specs.RowView.{row_instants, row_view};
-ghost use Rattle.pdc_table.specs.Closing.{aged, closing, counter, is_due, staying};
+ghost use Rattle.pdc_row.specs.RowView.{row_view};
+ghost use Rattle.pdc_table.specs.Closing.{closing, counter, is_due, staying};
 ghost use Rattle.pdc_table.specs.Layout.{layout_view};
 ghost use Rattle.pdc_table.specs.OpenInstants.{instants_of};
-ghost use Rattle.pdc_table.specs.RingRows.{base_row, changed, met_row, row_in, rows_in};
-ghost use Rattle.pdc_table.specs.Row.{row_of};
+ghost use Rattle.pdc_table.specs.RingRows.{base_row, changed, closed_rows, laid, met_row, no_layout, older, row_in, rows_in, with_ages};
 ghost use Rattle.pdc_table.specs.Steps.{answer_at, disagreements_in, is_taken};
 ghost use Rattle.pdc_table.specs.Taking.{cells_of, with_frame, without_column, without_stream};
 ghost use Rattle.pdc_table.specs.Views.{OpenRowView, blank_row};
 
 use crate::open_row::{OpenRow, Places};
 use crate::rows::{is_near, remove_front};
-use crate::{MAX_COLUMNS, PutOutcome, RowLayout, WaitRule};
+use crate::{ClosingLayout, MAX_COLUMNS, PutOutcome, RowLayout, WaitRule};
+use arrayvec::ArrayVec;
 use pdc_block::Block;
 use pdc_row::{DueRow, numbers_rise};
 use std::alloc::{AllocError, Global};
@@ -51,10 +51,21 @@ pub fn new_places(alloc: Global, count: usize, sizes: Places) -> Result<Vec<Open
     Ok(places)
 }
 
+/// So many places for the layouts of closed rows.
+pub fn new_layouts(alloc: Global, count: usize) -> Result<Vec<ClosingLayout>, AllocError>
+    ensures items { IfOk result (λ layouts. layouts.items ≡ replicate count no_layout) }
+{
+    let mut layouts = Vec::with_capacity(alloc, count)?;
+    for _ in 0..count {
+        layouts.push_reserved(ClosingLayout::blank());
+    }
+    Ok(layouts)
+}
+
 /// Whether each held instant is less than the window away.
-pub fn are_near(open: &[u64], closed: &VecDeque<DueRow>, window: u64, instant: u64) -> bool
-    requires { Rises 0 (row_instants (map row_view closed.now.items) ++ open.now) }
-    ensures { result ≡ list_all (is_near window instant) (row_instants (map row_view closed.now.items) ++ open.now) }
+pub fn are_near(open: &[u64], closed: &VecDeque<u64>, window: u64, instant: u64) -> bool
+    requires { Rises 0 (closed.now.items ++ open.now) }
+    ensures { result ≡ list_all (is_near window instant) (closed.now.items ++ open.now) }
 {
     numbers_rise();
     is_near(lowest(open, closed), window, instant)
@@ -62,36 +73,33 @@ pub fn are_near(open: &[u64], closed: &VecDeque<DueRow>, window: u64, instant: u
 }
 
 /// The lowest instant held.
-fn lowest(open: &[u64], closed: &VecDeque<DueRow>) -> Option<u64>
-    ensures { result ≡ slice_get (row_instants (map row_view closed.now.items) ++ open.now) 0 }
+fn lowest(open: &[u64], closed: &VecDeque<u64>) -> Option<u64>
+    ensures { result ≡ slice_get (closed.now.items ++ open.now) 0 }
 {
     match closed.front() {
-        Some(row) => Some(row.instant),
+        Some(instant) => Some(*instant),
         None => Some(*open.first()?),
     }
 }
 
 /// The highest instant held.
-fn highest(open: &[u64], closed: &VecDeque<DueRow>) -> Option<u64>
-    ensures { result ≡ highest_of (row_instants (map row_view closed.now.items) ++ open.now) }
+fn highest(open: &[u64], closed: &VecDeque<u64>) -> Option<u64>
+    ensures { result ≡ highest_of (closed.now.items ++ open.now) }
 {
     match (open.last(), closed.back()) {
         (Some(instant), _) => Some(*instant),
-        (None, Some(row)) => Some(row.instant),
+        (None, Some(instant)) => Some(*instant),
         (None, None) => None,
     }
 }
 
-/// Counts one more tick for each open instant.
-pub fn grow_older(places: &mut Vec<OpenRow>, window: u64, open: &[u64])
-    requires least { 0 < window }
-    requires size { length places.old.items ≡ window }
-    ensures items { places.new.items ≡ changed aged window open.now places.old.items }
-    ensures capacity { vec_capacity places.new ≡ vec_capacity places.old }
+/// Counts one more tick at each place.
+pub fn grow_older(ages: &mut Vec<u64>)
+    ensures items { ages.new.items ≡ map older ages.old.items }
+    ensures capacity { vec_capacity ages.new ≡ vec_capacity ages.old }
 {
-    for instant in open {
-        let place = place_of(window, *instant);
-        places[place].grow_older();
+    for age in ages.iter_mut() {
+        *age = age.saturating_add(1);
     }
 }
 
@@ -156,6 +164,7 @@ fn open_instant(open: &mut Vec<u64>, instant: u64)
 /// Takes a frame of a stream for an instant, unless the stream was taken there.
 pub fn take(
     places: &mut Vec<OpenRow>,
+    ages: &mut Vec<u64>,
     open: &mut Vec<u64>,
     window: u64,
     stream: usize,
@@ -166,6 +175,7 @@ pub fn take(
 ) -> PutOutcome
     requires least { 0 < window }
     requires size { length places.old.items ≡ window }
+    requires ages_size { length ages.old.items ≡ window }
     requires rising { Rises 0 open.old.items }
     requires placed { AllByRecursion (λ i. (row_in places.old.items window i).instant ≡ i) open.old.items }
     requires room { ((row_in places.old.items window instant).instant ≡ instant → ⊥) → vec_len open.old < vec_capacity open.old }
@@ -176,8 +186,11 @@ pub fn take(
         then slice_set places.old.items (instant % window)
         (with_frame stream lane (cells_of cells.now quality) (base_row instant (row_in places.old.items window instant)))
         else places.old.items) }
+    ensures ages { ages.new.items ≡ (if (row_in places.old.items window instant).instant == instant then ages.old.items
+        else slice_set ages.old.items (instant % window) 0) }
     ensures open { open.new.items ≡ (if (row_in places.old.items window instant).instant == instant then open.old.items
         else place instant open.old.items) }
+    ensures ages_capacity { vec_capacity ages.new ≡ vec_capacity ages.old }
     ensures capacity { vec_capacity places.new ≡ vec_capacity places.old }
     ensures open_capacity { vec_capacity open.new ≡ vec_capacity open.old }
 {
@@ -188,6 +201,7 @@ pub fn take(
     }
     row.begin(instant);
     row.take(stream, lane, cells, quality);
+    ages[place] = 0;
     open_instant(open, instant);
     PutOutcome::Taken
 }
@@ -195,6 +209,7 @@ pub fn take(
 /// How many open instants from the front on are due.
 fn count_due(
     places: &[OpenRow],
+    ages: &[u64],
     window: u64,
     open: &[u64],
     required: &[bool],
@@ -202,13 +217,14 @@ fn count_due(
 ) -> usize
     requires least { 0 < window }
     requires size { length places.now ≡ window }
-    ensures count { result ≡ prefix_len (is_due required.now rule) (rows_in places.now window open.now) }
+    requires ages_size { length ages.now ≡ window }
+    ensures count { result ≡ prefix_len (is_due required.now rule) (rows_in (with_ages places.now ages.now) window open.now) }
     ensures bound { result ≤ length open.now }
 {
     let mut count = 0;
     for instant in open {
         let place = place_of(window, *instant);
-        if !places[place].is_due(required, rule) {
+        if !places[place].is_due(ages[place], required, rule) {
             return count;
         }
         count += 1;
@@ -216,25 +232,57 @@ fn count_due(
     count
 }
 
-/// Closes the rows of these instants under a layout, in order.
+/// Closes these instants under a layout, in order: their rows stay at their places.
 fn close(
-    places: &[OpenRow],
+    layouts: &mut Vec<ClosingLayout>,
     window: u64,
     due: &[u64],
     layout: &RowLayout,
-    closed: &mut VecDeque<DueRow>,
+    closed: &mut VecDeque<u64>,
 )
     requires least { 0 < window }
-    requires size { length places.now ≡ window }
+    requires size { length layouts.old.items ≡ window }
     requires room { deque_len closed.old + length due.now ≤ deque_capacity closed.old }
-    ensures items { map row_view closed.new.items
-        ≡ map row_view closed.old.items ++ map (row_of (layout_view layout.now)) (rows_in places.now window due.now) }
+    ensures layouts { layouts.new.items ≡ laid (layout_view layout.now) window due.now layouts.old.items }
+    ensures items { closed.new.items ≡ closed.old.items ++ due.now }
+    ensures layouts_capacity { vec_capacity layouts.new ≡ vec_capacity layouts.old }
     ensures capacity { deque_capacity closed.new ≡ deque_capacity closed.old }
 {
     for instant in due {
         let place = place_of(window, *instant);
-        closed.push_back_reserved(places[place].close(layout));
+        layouts[place].set(layout);
+        closed.push_back_reserved(*instant);
     }
+}
+
+/// Takes the lowest closed instant out, and gives its row.
+#[inline(never)]
+pub fn pop(
+    places: &[OpenRow],
+    layouts: &[ClosingLayout],
+    window: u64,
+    closed: &mut VecDeque<u64>,
+) -> Option<DueRow>
+    requires least { 0 < window }
+    requires size { length places.now ≡ window }
+    requires layouts_size { length layouts.now ≡ window }
+    ensures row { option_map row_view result ≡ slice_get (closed_rows places.now layouts.now window closed.old.items) 0 }
+    ensures rest { closed.new.items ≡ drop 1 closed.old.items }
+    ensures capacity { deque_capacity closed.new ≡ deque_capacity closed.old }
+{
+    let instant = closed.pop_front()?;
+    let place = place_of(window, instant);
+    let open_row = &places[place];
+    let layout = layouts[place].layout();
+    let mut row = DueRow {
+        instant: open_row.instant(),
+        start: layout.start,
+        change: layout.change,
+        quality: 0,
+        blocks: ArrayVec::from_array_in((), Default::default()),
+    };
+    row.quality = open_row.fill(layout, &mut row.blocks);
+    Some(row)
 }
 
 /// The count of disagreements after the rows of these instants closed.
@@ -271,35 +319,41 @@ fn greatest(due: &[u64], last: u64) -> u64
 /// Closes the rows for which every row up to them is due, and answers how many.
 pub fn close_due(
     places: &[OpenRow],
+    ages: &[u64],
+    layouts: &mut Vec<ClosingLayout>,
     window: u64,
     open: &mut Vec<u64>,
     required: &[bool],
     rule: WaitRule,
     layout: &RowLayout,
-    closed: &mut VecDeque<DueRow>,
+    closed: &mut VecDeque<u64>,
     last: &mut u64,
     disagree: &mut u64,
 ) -> usize
     requires least { 0 < window }
     requires size { length places.now ≡ window }
+    requires ages_size { length ages.now ≡ window }
+    requires layouts_size { length layouts.old.items ≡ window }
     requires rising { Rises last.old open.old.items }
-    requires placed { AllByRecursion (λ i. (row_in places.now window i).instant ≡ i) open.old.items }
+    requires placed { AllByRecursion (λ i. (row_in (with_ages places.now ages.now) window i).instant ≡ i) open.old.items }
     requires room { deque_len closed.old + vec_len open.old ≤ deque_capacity closed.old }
-    ensures answer { result ≡ length (closing required.now rule (rows_in places.now window open.old.items)) }
+    ensures answer { result ≡ length (closing required.now rule (rows_in (with_ages places.now ages.now) window open.old.items)) }
     ensures open { open.new.items ≡ drop result open.old.items }
-    ensures rows { rows_in places.now window open.new.items ≡ staying required.now rule (rows_in places.now window open.old.items) }
-    ensures closed { map row_view closed.new.items ≡ map row_view closed.old.items
-        ++ map (row_of (layout_view layout.now)) (closing required.now rule (rows_in places.now window open.old.items)) }
+    ensures rows { rows_in (with_ages places.now ages.now) window open.new.items ≡ staying required.now rule (rows_in (with_ages places.now ages.now) window open.old.items) }
+    ensures layouts { layouts.new.items ≡ laid (layout_view layout.now) window (take result open.old.items) layouts.old.items }
+    ensures closed { closed.new.items ≡ closed.old.items ++ take result open.old.items }
+    ensures due_rows { rows_in (with_ages places.now ages.now) window (take result open.old.items) ≡ closing required.now rule (rows_in (with_ages places.now ages.now) window open.old.items) }
     ensures front { last.new ≡ greatest last.old (take result open.old.items) }
-    ensures last { last.new ≡ greatest last.old (instants_of (closing required.now rule (rows_in places.now window open.old.items))) }
+    ensures last { last.new ≡ greatest last.old (instants_of (closing required.now rule (rows_in (with_ages places.now ages.now) window open.old.items))) }
     ensures disagree { disagree.new ≡ counter (disagree.old
-        + disagreements_in (layout_view layout.now) (closing required.now rule (rows_in places.now window open.old.items))) }
+        + disagreements_in (layout_view layout.now) (closing required.now rule (rows_in (with_ages places.now ages.now) window open.old.items))) }
+    ensures layouts_capacity { vec_capacity layouts.new ≡ vec_capacity layouts.old }
     ensures capacity { vec_capacity open.new ≡ vec_capacity open.old }
     ensures closed_capacity { deque_capacity closed.new ≡ deque_capacity closed.old }
 {
-    let count = count_due(places, window, open, required, rule);
+    let count = count_due(places, ages, window, open, required, rule);
     let due = &open[..count];
-    close(places, window, due, layout, closed);
+    close(layouts, window, due, layout, closed);
     *last = greatest(due, *last);
     *disagree = count_disagreements(places, window, due, layout, *disagree);
     remove_front(open, count);

@@ -1,7 +1,7 @@
 //! A table kept as a ring.
 use crate::open_row::{OpenRow, Places, falses};
 use crate::sorted_table::{lane_of, stream_count};
-use crate::{MAX_COLUMNS, PutOutcome, RowLayout, Table, WaitRule, ring};
+use crate::{ClosingLayout, MAX_COLUMNS, PutOutcome, RowLayout, Table, WaitRule, ring};
 use arrayvec::ArrayVec;
 use pdc_block::Block;
 use pdc_row::{DueRow, numbers_rise};
@@ -17,11 +17,16 @@ pub struct RingTable {
     columns: usize,
     lanes: usize,
     required: ArrayVec<bool, MAX_COLUMNS>,
-    /// The row of an open instant stands at its remainder by the window.
+    /// The row of an instant that is held stands at its remainder by the window.
     places: Vec<OpenRow>,
+    /// At the same place stands the age of an open row, in ticks.
+    ages: Vec<u64>,
+    /// At the same place stands the layout that a closed row closed under.
+    layouts: Vec<ClosingLayout>,
     /// The open instants, in rising order.
     open: Vec<u64>,
-    closed: VecDeque<DueRow>,
+    /// The closed instants that were not popped, in rising order: their rows stay at their places.
+    closed: VecDeque<u64>,
     last: u64,
     disagree: u64,
 }
@@ -60,6 +65,8 @@ impl Table for RingTable {
             lanes,
             required: falses(streams),
             places: ring::new_places(alloc, room, Places { streams, columns })?,
+            ages: vec![in alloc; 0; room]?,
+            layouts: ring::new_layouts(alloc, room)?,
             open: Vec::with_capacity(alloc, room)?,
             closed: VecDeque::with_capacity(alloc, room)?,
             last: floor,
@@ -85,10 +92,13 @@ impl Table for RingTable {
         let RingTable {
             window,
             places,
+            ages,
             open,
             ..
         } = self;
-        ring::take(places, open, *window, stream, lane, instant, cells, quality)
+        ring::take(
+            places, ages, open, *window, stream, lane, instant, cells, quality,
+        )
     }
 
     fn require(&mut self, stream: usize, is_required: bool) {
@@ -97,11 +107,13 @@ impl Table for RingTable {
 
     fn tick(&mut self, rule: WaitRule, layout: &RowLayout) -> u32 {
         numbers_rise();
-        ring::grow_older(&mut self.places, self.window, &self.open);
+        ring::grow_older(&mut self.ages);
         let RingTable {
             window,
             required,
             places,
+            ages,
+            layouts,
             open,
             closed,
             last,
@@ -110,7 +122,7 @@ impl Table for RingTable {
         } = self;
         let required = required.as_slice();
         ring::close_due(
-            places, *window, open, required, rule, layout, closed, last, disagree,
+            places, ages, layouts, *window, open, required, rule, layout, closed, last, disagree,
         ) as u32
     }
 
@@ -132,7 +144,14 @@ impl Table for RingTable {
 
     fn pop_due(&mut self) -> Option<DueRow> {
         numbers_rise();
-        self.closed.pop_front()
+        let RingTable {
+            window,
+            places,
+            layouts,
+            closed,
+            ..
+        } = self;
+        ring::pop(places, layouts, *window, closed)
     }
 
     fn last(&self) -> u64 {

@@ -66,7 +66,7 @@ pub fn count_due(rows: &[OpenRow], required: &[bool], rule: WaitRule) -> usize
     ensures bound { result ≤ length rows.now }
 {
     rows.iter()
-        .take_while(|row| row.is_due(required, rule))
+        .take_while(|row| row.is_due(row.age(), required, rule))
         .count()
 }
 

@@ -1,14 +1,16 @@
-use Rattle.std.proofs.Common.{◌≡◌, ◌+◌, ◌++◌, map, take}
+use Rattle.std.proofs.Common.{◌≡◌, ◌+◌, ◌++◌, drop, length, take}
+use Rattle.std.specs.Vec.{vec_capacity}
 use Rattle.std.specs.VecDeque.{deque_capacity, deque_len}
-use Rattle.pdc_row.specs.RowView.{row_view}
 use Rattle.pdc_table.specs.Layout.{layout_view}
-use Rattle.pdc_table.specs.RingRows.{rows_in}
-use Rattle.pdc_table.specs.Row.{row_of}
+use Rattle.pdc_table.specs.RingRows.{laid}
 use Rattle.pdc_table.proofs.ring.close.Given as goal
 
 abbrev pub invariant-loop-instant : goal.invariant-loop-instant
 invariant-loop-instant l = record {
-  items : map row_view l.closed.items ≡ map row_view l.initial.closed.items ++ map (row_of (layout_view l.layout)) (rows_in l.places l.window (take l.instant-index l.due));
+  left : laid (layout_view l.layout) l.window (drop l.instant-index l.due) l.layouts.items ≡ laid (layout_view l.layout) l.window l.due l.initial.layouts.items;
+  size : length l.layouts.items ≡ l.window;
+  items : l.closed.items ≡ l.initial.closed.items ++ take l.instant-index l.due;
   len : deque_len l.closed ≡ deque_len l.initial.closed + l.instant-index;
+  layouts_capacity : vec_capacity l.layouts ≡ vec_capacity l.initial.layouts;
   capacity : deque_capacity l.closed ≡ deque_capacity l.initial.closed;
 }

@@ -1,11 +1,11 @@
 use Rattle.std.proofs.Common.{◌≡◌, ◌+◌, drop}
 use Rattle.std.specs.List.{prefix_len}
 use Rattle.pdc_table.specs.Closing.{is_due}
-use Rattle.pdc_table.specs.RingRows.{rows_in}
+use Rattle.pdc_table.specs.RingRows.{rows_in, with_ages}
 use Rattle.pdc_table.proofs.ring.count_due.Given as goal
 
 abbrev pub invariant-loop-instant : goal.invariant-loop-instant
 invariant-loop-instant l = record {
   counted : l.count ≡ l.instant-index;
-  left : l.count + prefix_len (is_due l.required l.rule) (rows_in l.places l.window (drop l.instant-index l.open)) ≡ prefix_len (is_due l.required l.rule) (rows_in l.places l.window l.open);
+  left : l.count + prefix_len (is_due l.required l.rule) (rows_in (with_ages l.places l.ages) l.window (drop l.instant-index l.open)) ≡ prefix_len (is_due l.required l.rule) (rows_in (with_ages l.places l.ages) l.window l.open);
 }

@@ -1,12 +1,6 @@
-use Rattle.std.proofs.Common.{◌≡◌, drop, length}
-use Rattle.std.specs.Vec.{vec_capacity}
-use Rattle.pdc_table.specs.Closing.{aged}
-use Rattle.pdc_table.specs.RingRows.{changed}
+use Rattle.std.proofs.Common.{◌≡◌, ◌++◌, drop, map, take}
+use Rattle.pdc_table.specs.RingRows.{older}
 use Rattle.pdc_table.proofs.ring.grow_older.Given as goal
 
-abbrev pub invariant-loop-instant : goal.invariant-loop-instant
-invariant-loop-instant l = record {
-  left : changed aged l.window (drop l.instant-index l.open) l.places.items ≡ changed aged l.window l.open l.initial.places.items;
-  size : length l.places.items ≡ l.window;
-  capacity : vec_capacity l.places ≡ vec_capacity l.initial.places;
-}
+abbrev pub invariant-loop-age : goal.invariant-loop-age
+invariant-loop-age l = l.age-items ≡ map older (take l.age-index l.fn.ages.items) ++ drop l.age-index l.fn.ages.items

@@ -1,31 +1,49 @@
-use Rattle.std.proofs.Common.{◌≡◌, ap, map, refl, ◌∙◌}
+use Rattle.std.proofs.Common.{arith, ◌≡◌, ap, map, refl, ◌∙◌}
 use Rattle.pdc_table.specs.Content.{streams_of}
 use Rattle.pdc_table.specs.Ring.{content_of}
-use Rattle.pdc_table.specs.RingRows.{rows_in}
+use Rattle.pdc_table.specs.RingRows.{changed, closed_rows, rows_in, with_ages}
 use Rattle.pdc_table.specs.Steps.{after_drop_column}
 use Rattle.pdc_table.specs.TableView.{TableView}
 use Rattle.pdc_table.specs.Taking.{without_column}
 use Rattle.pdc_table.proofs.Keeps.{keeps-drop_column, places-without_column}
-use Rattle.pdc_table.proofs.RingKept.{IsRing, changed_kept}
+use Rattle.pdc_table.proofs.RingAges.{aged_changed, aged_length, aged_placed, kept_by}
+use Rattle.pdc_table.proofs.RingClosed.{changed_stand, open_changed}
+use Rattle.pdc_table.proofs.RingKept.{IsRing}
 use Rattle.pdc_table.proofs.RingRows.{changed-open}
 use Rattle.pdc_table.proofs.ring_table.RingTableTable.drop_column.Goals as goal
 
-rows : (c : goal.After-drop_column) → rows_in c.drop_column.new.places.items c.self.inside.window c.self.inside.open.items ≡ map (without_column c.args.column) (rows_in c.self.inside.places.items c.self.inside.window c.self.inside.open.items)
+-- the rows with their ages
+now : (c : goal.After-drop_column) → (with_ages c.drop_column.new.places.items c.self.inside.ages.items) ≡ changed (without_column c.args.column) c.self.inside.window c.deref.result.now (with_ages c.self.inside.places.items c.self.inside.ages.items)
+now c =
+    ap (λ ps. with_ages ps c.self.inside.ages.items) c.drop_column.ensures.items
+    ∙ aged_changed (without_column c.args.column) (λ a r. refl) c.self.inside.window c.deref.result.now c.self.inside.places.items c.self.inside.ages.items (omega (arith, c.self.invariant.content.window_least)) c.self.invariant.size c.self.invariant.ages
+
+rows : (c : goal.After-drop_column) → rows_in (with_ages c.drop_column.new.places.items c.self.inside.ages.items) c.self.inside.window c.self.inside.open.items ≡ map (without_column c.args.column) (rows_in (with_ages c.self.inside.places.items c.self.inside.ages.items) c.self.inside.window c.self.inside.open.items)
 rows c =
-    changed-open c.numbers_rise.ensures (without_column c.args.column) (content_of c.self.inside) c.self.inside.places.items c.drop_column.new.places.items c.self.inside.open.items c.deref.result.now
-    c.deref.ensures.value c.drop_column.ensures.items c.self.invariant.size c.self.invariant.placed c.self.invariant.content
+    changed-open c.numbers_rise.ensures (without_column c.args.column) (content_of c.self.inside) (with_ages c.self.inside.places.items c.self.inside.ages.items) (with_ages c.drop_column.new.places.items c.self.inside.ages.items) c.self.inside.open.items c.deref.result.now
+    c.deref.ensures.value (now c) (aged_length c.self.inside.places.items c.self.inside.ages.items c.self.inside.window c.self.invariant.size c.self.invariant.ages) (aged_placed c.self.inside.places.items c.self.inside.ages.items c.self.inside.window c.self.inside.open.items (omega (arith, c.self.invariant.content.window_least)) c.self.invariant.size c.self.invariant.ages c.self.invariant.placed) c.self.invariant.content
+
+-- the closed rows stay
+closed : (c : goal.After-drop_column) → closed_rows (with_ages c.drop_column.new.places.items c.self.inside.ages.items) c.self.inside.layouts.items c.self.inside.window c.self.inside.closed.items ≡ closed_rows (with_ages c.self.inside.places.items c.self.inside.ages.items) c.self.inside.layouts.items c.self.inside.window c.self.inside.closed.items
+closed c =
+    open_changed c.numbers_rise.ensures (without_column c.args.column) (content_of c.self.inside) (with_ages c.self.inside.places.items c.self.inside.ages.items) (with_ages c.drop_column.new.places.items c.self.inside.ages.items) c.self.inside.layouts.items c.self.inside.closed.items c.self.inside.open.items c.deref.result.now
+    c.deref.ensures.value (now c) (aged_placed c.self.inside.places.items c.self.inside.ages.items c.self.inside.window c.self.inside.closed.items (omega (arith, c.self.invariant.content.window_least)) c.self.invariant.size c.self.invariant.ages c.self.invariant.closed_placed) (aged_placed c.self.inside.places.items c.self.inside.ages.items c.self.inside.window c.self.inside.open.items (omega (arith, c.self.invariant.content.window_least)) c.self.invariant.size c.self.invariant.ages c.self.invariant.placed) c.self.invariant.content
 
 pub invariant_of-self : goal.invariant_of-self
 invariant_of-self c =
     let ring : IsRing c.self.inside.window c.self.inside.last (streams_of (content_of c.self.inside)) c.self.inside.columns c.drop_column.new.places.items c.self.inside.open.items =
-    changed_kept (without_column c.args.column) (λ r. refl) (content_of c.self.inside) (λ r. places-without_column c.args.column (streams_of (content_of c.self.inside)) c.self.inside.columns r)
-    c.self.inside.places.items c.drop_column.new.places.items c.self.inside.open.items c.deref.result.now c.deref.ensures.value c.drop_column.ensures.items c.self.invariant.content
+    kept_by (without_column c.args.column) (λ r. refl) c.self.inside.window c.self.inside.last (streams_of (content_of c.self.inside)) c.self.inside.columns (λ r. places-without_column c.args.column (streams_of (content_of c.self.inside)) c.self.inside.columns r)
+    c.self.inside.places.items c.drop_column.new.places.items c.self.inside.open.items c.deref.result.now (omega (arith, c.self.invariant.content.window_least)) c.deref.ensures.value c.drop_column.ensures.items
     (record { size = c.self.invariant.size; each = c.self.invariant.each; placed = c.self.invariant.placed; known = c.self.invariant.known }) in
     record {
-      content = rw (rows c) (keeps-drop_column (content_of c.self.inside) c.args.column c.self.invariant.content);
+      content = rw (rows c, closed c) (keeps-drop_column (content_of c.self.inside) c.args.column c.self.invariant.content);
       size = ring.size;
       each = ring.each;
       placed = ring.placed;
+      ages = c.self.invariant.ages;
+      layouts = c.self.invariant.layouts;
+      closed_placed = changed_stand (without_column c.args.column) (λ r. refl) (content_of c.self.inside) c.self.inside.places.items c.drop_column.new.places.items c.self.inside.closed.items c.self.inside.open.items c.deref.result.now
+          c.deref.ensures.value c.drop_column.ensures.items c.self.invariant.size c.self.invariant.closed_placed c.self.invariant.content;
       known = ring.known;
       room = c.self.invariant.room;
       closed_room = c.self.invariant.closed_room;
@@ -33,7 +51,8 @@ invariant_of-self c =
 
 pub returns-clause-content : goal.returns-clause-content
 returns-clause-content c =
-    ap (λ rs. record (content_of c.self.inside) { open_rows = rs }) (rows c) ∙ ap (λ (t : TableView). after_drop_column t.content c.args.column) c.self.view_is
+    ap (λ rs. record (content_of c.self.inside) { open_rows = rows_in (with_ages c.drop_column.new.places.items c.self.inside.ages.items) c.self.inside.window c.self.inside.open.items; closed = rs }) (closed c)
+    ∙ ap (λ rs. record (content_of c.self.inside) { open_rows = rs }) (rows c) ∙ ap (λ (t : TableView). after_drop_column t.content c.args.column) c.self.view_is
 
 pub returns-clause-well_formed : goal.returns-clause-well_formed
-returns-clause-well_formed c = rw (rows c) (keeps-drop_column (content_of c.self.inside) c.args.column c.self.invariant.content)
+returns-clause-well_formed c = rw (rows c, closed c) (keeps-drop_column (content_of c.self.inside) c.args.column c.self.invariant.content)

@@ -1,32 +1,34 @@
-use Rattle.std.proofs.Common.{arith, ◌≡◌, ◌<◌, ◌++◌, ◌∙◌, ap, ℕ, ◌%◌, cond, if◌then◌else◌, map, set, subst, sym, true, false, refl, length, None, Some}
+use Rattle.std.proofs.Common.{arith, eqb, ◌≡◌, ◌<◌, ◌++◌, ◌∙◌, ap, ℕ, ◌%◌, cond, if◌then◌else◌, set, subst, sym, true, false, refl, length, None, Some}
 use Rattle.std.specs.List.{All, list_all}
 use Rattle.std.proofs.lemmas.Bool.{ne_eqb}
 use Rattle.std.proofs.lemmas.List.{length-map}
 use Rattle.pdc_block.specs.declared.block.Block.{Block}
-use Rattle.pdc_row.specs.Rising.{Rises, is_near}
-use Rattle.pdc_row.specs.RowView.{row_instants, row_view}
+use Rattle.pdc_row.specs.Rising.{Rises, is_near, place}
 use Rattle.pdc_table.specs.Content.{HasPlaces, lane_of, streams_of}
 use Rattle.pdc_table.specs.Placing.{row_at, with_row}
+use Rattle.pdc_table.specs.Views.{OpenRowView}
 use Rattle.pdc_table.specs.Ring.{content_of}
-use Rattle.pdc_table.specs.RingRows.{base_row, met_row, row_in, rows_in}
+use Rattle.pdc_table.specs.RingRows.{base_row, closed_rows, met_row, row_in, rows_in, with_ages}
 use Rattle.pdc_table.specs.Steps.{after_put, after_take, answer_at, fresh_row, is_near_all, is_taken, put_answer}
 use Rattle.pdc_table.specs.TableView.{TableView}
 use Rattle.pdc_table.specs.Taking.{cells_of, with_frame}
 use Rattle.pdc_table.proofs.Blank.{columns_exist}
 use Rattle.pdc_table.proofs.Keeps.{has_room, keeps-offered}
+use Rattle.pdc_table.proofs.RingAges.{aged_answer, aged_closed, aged_placed, aged_put, aged_ring, aged_row, ages_kept}
+use Rattle.pdc_table.proofs.RingClosed.{near_closed, ring_held, written_closed, written_placed}
 use Rattle.pdc_table.proofs.RingKept.{IsPutInto, IsRing, met_in, put_kept, put_rows, sized_in}
-use Rattle.pdc_table.proofs.RingPut.{far_content, held_same, put_content, put_far, put_near}
-use Rattle.pdc_table.proofs.RingRows.{near_apart, near_open}
+use Rattle.pdc_table.proofs.RingPut.{far_content, put_content, put_far, put_near}
+use Rattle.pdc_table.proofs.RingRows.{ArePlaced, IsApart, near_apart, near_open}
 use Rattle.pdc_table.proofs.ring_table.RingTableTable.put.Goals as goal
 
 pub are_near-requires : goal.are_near-requires
 are_near-requires c =
-    subst (λ ns. Rises 0 ns) (sym (held_same (content_of c.self.inside) c.self.inside.places.items c.self.inside.open.items c.deref.result.now c.deref.ensures.value c.self.invariant.placed refl))
+    subst (λ ns. Rises 0 ns) (sym (ring_held (content_of c.self.inside) (with_ages c.self.inside.places.items c.self.inside.ages.items) c.self.inside.layouts.items c.self.inside.closed.items c.self.inside.open.items c.deref.result.now c.deref.ensures.value (aged_placed c.self.inside.places.items c.self.inside.ages.items c.self.inside.window c.self.inside.closed.items (omega (arith, c.self.invariant.content.window_least)) c.self.invariant.size c.self.invariant.ages c.self.invariant.closed_placed) (aged_placed c.self.inside.places.items c.self.inside.ages.items c.self.inside.window c.self.inside.open.items (omega (arith, c.self.invariant.content.window_least)) c.self.invariant.size c.self.invariant.ages c.self.invariant.placed) refl refl))
     c.self.invariant.content.held_rise
 
 far : (c : goal.Then-not-are_near) → is_near_all (content_of c.self.inside) c.args.instant ≡ false
 far c =
-    ap (list_all (is_near c.self.inside.window c.args.instant)) (sym (held_same (content_of c.self.inside) c.self.inside.places.items c.self.inside.open.items c.deref.result.now c.deref.ensures.value c.self.invariant.placed refl))
+    ap (list_all (is_near c.self.inside.window c.args.instant)) (sym (ring_held (content_of c.self.inside) (with_ages c.self.inside.places.items c.self.inside.ages.items) c.self.inside.layouts.items c.self.inside.closed.items c.self.inside.open.items c.deref.result.now c.deref.ensures.value (aged_placed c.self.inside.places.items c.self.inside.ages.items c.self.inside.window c.self.inside.closed.items (omega (arith, c.self.invariant.content.window_least)) c.self.invariant.size c.self.invariant.ages c.self.invariant.closed_placed) (aged_placed c.self.inside.places.items c.self.inside.ages.items c.self.inside.window c.self.inside.open.items (omega (arith, c.self.invariant.content.window_least)) c.self.invariant.size c.self.invariant.ages c.self.invariant.placed) refl refl))
     ∙ sym c.are_near.ensures ∙ c.if-not-are_near.true
 
 pub returns-then-not-are_near-clause-answer : goal.returns-then-not-are_near-clause-answer
@@ -43,22 +45,23 @@ returns-then-not-are_near-clause-content c =
 pub take-requires-clause-rising : goal.take-requires-clause-rising
 take-requires-clause-rising c =
     c.numbers_rise.ensures.rises_above 0 c.self.inside.last c.self.inside.open.items (omega arith)
-    (near_open c.numbers_rise.ensures (content_of c.self.inside) c.self.inside.places.items c.self.inside.open.items c.self.invariant.placed c.self.invariant.content).0
+    (near_open c.numbers_rise.ensures (content_of c.self.inside) (with_ages c.self.inside.places.items c.self.inside.ages.items) c.self.inside.open.items (aged_placed c.self.inside.places.items c.self.inside.ages.items c.self.inside.window c.self.inside.open.items (omega (arith, c.self.invariant.content.window_least)) c.self.invariant.size c.self.invariant.ages c.self.invariant.placed) c.self.invariant.content).0
 
 pub take-requires-clause-room : goal.take-requires-clause-room
 take-requires-clause-room c n =
     let near : is_near_all (content_of c.self.inside) c.args.instant ≡ true =
-    ap (list_all (is_near c.self.inside.window c.args.instant)) (sym (held_same (content_of c.self.inside) c.self.inside.places.items c.self.inside.open.items c.deref.result.now c.deref.ensures.value c.self.invariant.placed refl))
+    ap (list_all (is_near c.self.inside.window c.args.instant)) (sym (ring_held (content_of c.self.inside) (with_ages c.self.inside.places.items c.self.inside.ages.items) c.self.inside.layouts.items c.self.inside.closed.items c.self.inside.open.items c.deref.result.now c.deref.ensures.value (aged_placed c.self.inside.places.items c.self.inside.ages.items c.self.inside.window c.self.inside.closed.items (omega (arith, c.self.invariant.content.window_least)) c.self.invariant.size c.self.invariant.ages c.self.invariant.closed_placed) (aged_placed c.self.inside.places.items c.self.inside.ages.items c.self.inside.window c.self.inside.open.items (omega (arith, c.self.invariant.content.window_least)) c.self.invariant.size c.self.invariant.ages c.self.invariant.placed) refl refl))
     ∙ sym c.if-not-are_near.ensures in
-    let ring : IsRing c.self.inside.window c.self.inside.last (streams_of (content_of c.self.inside)) c.self.inside.columns c.self.inside.places.items c.self.inside.open.items =
-    record { size = c.self.invariant.size; each = c.self.invariant.each; placed = c.self.invariant.placed; known = c.self.invariant.known } in
+    let ring : IsRing c.self.inside.window c.self.inside.last (streams_of (content_of c.self.inside)) c.self.inside.columns (with_ages c.self.inside.places.items c.self.inside.ages.items) c.self.inside.open.items =
+    aged_ring c.self.inside.window c.self.inside.last (streams_of (content_of c.self.inside)) c.self.inside.columns c.self.inside.places.items c.self.inside.ages.items c.self.inside.open.items (omega (arith, c.self.invariant.content.window_least)) c.self.invariant.ages
+    (record { size = c.self.invariant.size; each = c.self.invariant.each; placed = c.self.invariant.placed; known = c.self.invariant.known }) in
     let least : 0 < c.self.inside.window = omega (arith, c.self.invariant.content.window_least) in
-    let none : row_at c.args.instant (rows_in c.self.inside.places.items c.self.inside.window c.self.inside.open.items) ≡ None =
-    met_in c.self.inside.window c.self.inside.last (streams_of (content_of c.self.inside)) c.self.inside.columns c.args.instant c.self.inside.places.items c.self.inside.open.items least c.if-instant-self.false ring
-    ∙ ap (λ b. cond b (Some (row_in c.self.inside.places.items c.self.inside.window c.args.instant)) None) (ne_eqb (row_in c.self.inside.places.items c.self.inside.window c.args.instant).instant c.args.instant n) in
-    let room : length (rows_in c.self.inside.places.items c.self.inside.window c.self.inside.open.items) < c.self.inside.window =
+    let none : row_at c.args.instant (rows_in (with_ages c.self.inside.places.items c.self.inside.ages.items) c.self.inside.window c.self.inside.open.items) ≡ None =
+    met_in c.self.inside.window c.self.inside.last (streams_of (content_of c.self.inside)) c.self.inside.columns c.args.instant (with_ages c.self.inside.places.items c.self.inside.ages.items) c.self.inside.open.items least c.if-instant-self.false ring
+    ∙ ap (λ b. cond b (Some (row_in (with_ages c.self.inside.places.items c.self.inside.ages.items) c.self.inside.window c.args.instant)) None) (ne_eqb (row_in (with_ages c.self.inside.places.items c.self.inside.ages.items) c.self.inside.window c.args.instant).instant c.args.instant (λ e. n (sym (ap (λ (row : OpenRowView). row.instant) (aged_row c.self.inside.places.items c.self.inside.ages.items c.self.inside.window c.args.instant least c.self.invariant.size c.self.invariant.ages)) ∙ e))) in
+    let room : length (rows_in (with_ages c.self.inside.places.items c.self.inside.ages.items) c.self.inside.window c.self.inside.open.items) < c.self.inside.window =
     has_room c.numbers_rise.ensures (content_of c.self.inside) c.args.instant c.if-instant-self.false near none c.self.invariant.content in
-    omega (arith, c.self.invariant.room, length-map c.self.inside.open.items (row_in c.self.inside.places.items c.self.inside.window))
+    omega (arith, c.self.invariant.room, length-map c.self.inside.open.items (row_in (with_ages c.self.inside.places.items c.self.inside.ages.items) c.self.inside.window))
 
 pub take-requires-clause-columns : goal.take-requires-clause-columns
 take-requires-clause-columns c k d l =
@@ -76,7 +79,7 @@ take-requires-clause-columns c k d l =
 
 near : (c : goal.After-take) → is_near_all (content_of c.self.inside) c.args.instant ≡ true
 near c =
-    ap (list_all (is_near c.self.inside.window c.args.instant)) (sym (held_same (content_of c.self.inside) c.self.inside.places.items c.self.inside.open.items c.deref.result.now c.deref.ensures.value c.self.invariant.placed refl))
+    ap (list_all (is_near c.self.inside.window c.args.instant)) (sym (ring_held (content_of c.self.inside) (with_ages c.self.inside.places.items c.self.inside.ages.items) c.self.inside.layouts.items c.self.inside.closed.items c.self.inside.open.items c.deref.result.now c.deref.ensures.value (aged_placed c.self.inside.places.items c.self.inside.ages.items c.self.inside.window c.self.inside.closed.items (omega (arith, c.self.invariant.content.window_least)) c.self.invariant.size c.self.invariant.ages c.self.invariant.closed_placed) (aged_placed c.self.inside.places.items c.self.inside.ages.items c.self.inside.window c.self.inside.open.items (omega (arith, c.self.invariant.content.window_least)) c.self.invariant.size c.self.invariant.ages c.self.invariant.placed) refl refl))
     ∙ sym c.if-not-are_near.ensures
 
 into : (c : goal.After-take) → IsPutInto c.self.inside.window c.self.inside.last (streams_of (content_of c.self.inside)) c.self.inside.columns c.args.instant c.args.stream (lane_of (content_of c.self.inside) c.args.stream) (cells_of c.args.cells.now c.args.quality) c.self.inside.places.items c.self.inside.open.items c.take.result c.take.new.places.items c.take.new.open.items
@@ -84,52 +87,114 @@ into c = record {
   ring = record { size = c.self.invariant.size; each = c.self.invariant.each; placed = c.self.invariant.placed; known = c.self.invariant.known };
   least = omega (arith, c.self.invariant.content.window_least);
   above = c.if-instant-self.false;
-  rising = (near_open c.numbers_rise.ensures (content_of c.self.inside) c.self.inside.places.items c.self.inside.open.items c.self.invariant.placed c.self.invariant.content).0;
-  apart = near_apart c.numbers_rise.ensures c.self.inside.window c.args.instant (row_instants (map row_view c.self.inside.closed.items)) c.self.inside.open.items
-      (ap (λ ns. list_all (is_near c.self.inside.window c.args.instant) (row_instants (map row_view c.self.inside.closed.items) ++ ns)) (sym c.deref.ensures.value) ∙ sym c.if-not-are_near.ensures);
+  rising = (near_open c.numbers_rise.ensures (content_of c.self.inside) (with_ages c.self.inside.places.items c.self.inside.ages.items) c.self.inside.open.items (aged_placed c.self.inside.places.items c.self.inside.ages.items c.self.inside.window c.self.inside.open.items (omega (arith, c.self.invariant.content.window_least)) c.self.invariant.size c.self.invariant.ages c.self.invariant.placed) c.self.invariant.content).0;
+  apart = near_apart c.numbers_rise.ensures c.self.inside.window c.args.instant c.self.inside.closed.items c.self.inside.open.items
+      (ap (λ ns. list_all (is_near c.self.inside.window c.args.instant) (c.self.inside.closed.items ++ ns)) (sym c.deref.ensures.value) ∙ sym c.if-not-are_near.ensures);
   answered = c.take.ensures.answer ∙ ap (λ l. answer_at (met_row c.args.instant (row_in c.self.inside.places.items c.self.inside.window c.args.instant)) c.args.stream l (cells_of c.args.cells.now c.args.quality)) c.lane_of-lane.ensures;
   written = c.take.ensures.places
       ∙ ap (λ l. if is_taken c.take.result then set c.self.inside.places.items (c.args.instant % c.self.inside.window) (with_frame c.args.stream l (cells_of c.args.cells.now c.args.quality) (base_row c.args.instant (row_in c.self.inside.places.items c.self.inside.window c.args.instant))) else c.self.inside.places.items) c.lane_of-lane.ensures;
   opened = c.take.ensures.open;
 }
 
+-- the same of the rows with their ages
+aged_into : (c : goal.After-take) → IsPutInto c.self.inside.window c.self.inside.last (streams_of (content_of c.self.inside)) c.self.inside.columns c.args.instant c.args.stream (lane_of (content_of c.self.inside) c.args.stream) (cells_of c.args.cells.now c.args.quality) (with_ages c.self.inside.places.items c.self.inside.ages.items) c.self.inside.open.items c.take.result (with_ages c.take.new.places.items c.take.new.ages.items) c.take.new.open.items
+aged_into c =
+    let p : IsPutInto c.self.inside.window c.self.inside.last (streams_of (content_of c.self.inside)) c.self.inside.columns c.args.instant c.args.stream (lane_of (content_of c.self.inside) c.args.stream) (cells_of c.args.cells.now c.args.quality) c.self.inside.places.items c.self.inside.open.items c.take.result c.take.new.places.items c.take.new.open.items = into c in
+    record {
+      ring = aged_ring c.self.inside.window c.self.inside.last (streams_of (content_of c.self.inside)) c.self.inside.columns c.self.inside.places.items c.self.inside.ages.items c.self.inside.open.items p.least c.self.invariant.ages p.ring;
+      least = p.least;
+      above = p.above;
+      rising = p.rising;
+      apart = p.apart;
+      answered = p.answered ∙ aged_answer c.self.inside.places.items c.self.inside.ages.items c.self.inside.window c.args.instant c.args.stream (lane_of (content_of c.self.inside) c.args.stream) (cells_of c.args.cells.now c.args.quality) p.least c.self.invariant.size c.self.invariant.ages;
+      written = aged_put c.self.inside.window c.args.instant c.args.stream (lane_of (content_of c.self.inside) c.args.stream) (cells_of c.args.cells.now c.args.quality) c.self.inside.places.items c.take.new.places.items c.self.inside.ages.items c.take.new.ages.items c.take.result
+          p.least c.self.invariant.size c.self.invariant.ages p.answered p.written c.take.ensures.ages;
+      opened = p.opened ∙ ap (λ n. if eqb n c.args.instant then c.self.inside.open.items else place c.args.instant c.self.inside.open.items) (sym (ap (λ (row : OpenRowView). row.instant) (aged_row c.self.inside.places.items c.self.inside.ages.items c.self.inside.window c.args.instant p.least c.self.invariant.size c.self.invariant.ages)));
+    }
+
 answered : (c : goal.After-take) → c.take.result ≡ put_answer (content_of c.self.inside) c.args.stream c.args.instant (cells_of c.args.cells.now c.args.quality)
 answered c =
-    let p : IsPutInto c.self.inside.window c.self.inside.last (streams_of (content_of c.self.inside)) c.self.inside.columns c.args.instant c.args.stream (lane_of (content_of c.self.inside) c.args.stream) (cells_of c.args.cells.now c.args.quality) c.self.inside.places.items c.self.inside.open.items c.take.result c.take.new.places.items c.take.new.open.items = into c in
+    let p : IsPutInto c.self.inside.window c.self.inside.last (streams_of (content_of c.self.inside)) c.self.inside.columns c.args.instant c.args.stream (lane_of (content_of c.self.inside) c.args.stream) (cells_of c.args.cells.now c.args.quality) (with_ages c.self.inside.places.items c.self.inside.ages.items) c.self.inside.open.items c.take.result (with_ages c.take.new.places.items c.take.new.ages.items) c.take.new.open.items = aged_into c in
     p.answered
     ∙ ap (λ o. answer_at o c.args.stream (lane_of (content_of c.self.inside) c.args.stream) (cells_of c.args.cells.now c.args.quality))
-    (sym (met_in c.self.inside.window c.self.inside.last (streams_of (content_of c.self.inside)) c.self.inside.columns c.args.instant c.self.inside.places.items c.self.inside.open.items p.least p.above p.ring))
+    (sym (met_in c.self.inside.window c.self.inside.last (streams_of (content_of c.self.inside)) c.self.inside.columns c.args.instant (with_ages c.self.inside.places.items c.self.inside.ages.items) c.self.inside.open.items p.least p.above p.ring))
     ∙ sym (put_near (content_of c.self.inside) c.args.stream c.args.instant (cells_of c.args.cells.now c.args.quality) c.if-instant-self.false (near c))
 
-rows : (c : goal.After-take) → rows_in c.take.new.places.items c.self.inside.window c.take.new.open.items ≡ (if is_taken c.take.result
-    then with_row (with_frame c.args.stream (lane_of (content_of c.self.inside) c.args.stream) (cells_of c.args.cells.now c.args.quality)) (fresh_row (content_of c.self.inside) c.args.instant) (rows_in c.self.inside.places.items c.self.inside.window c.self.inside.open.items)
-    else rows_in c.self.inside.places.items c.self.inside.window c.self.inside.open.items)
+-- the place is that of no closed instant
+apart : (c : goal.After-take) → IsApart c.self.inside.window c.args.instant c.self.inside.closed.items
+apart c =
+    near_closed c.numbers_rise.ensures (content_of c.self.inside) (with_ages c.self.inside.places.items c.self.inside.ages.items) c.self.inside.layouts.items c.args.instant c.self.inside.closed.items c.self.inside.open.items c.if-instant-self.false (aged_placed c.self.inside.places.items c.self.inside.ages.items c.self.inside.window c.self.inside.closed.items (omega (arith, c.self.invariant.content.window_least)) c.self.invariant.size c.self.invariant.ages c.self.invariant.closed_placed)
+    (ap (λ ns. list_all (is_near c.self.inside.window c.args.instant) (c.self.inside.closed.items ++ ns)) (sym c.deref.ensures.value) ∙ sym c.if-not-are_near.ensures) c.self.invariant.content
+
+written : (c : goal.After-take) → c.take.new.places.items ≡ (if is_taken c.take.result
+    then set c.self.inside.places.items (c.args.instant % c.self.inside.window) (with_frame c.args.stream (lane_of (content_of c.self.inside) c.args.stream) (cells_of c.args.cells.now c.args.quality) (base_row c.args.instant (row_in c.self.inside.places.items c.self.inside.window c.args.instant)))
+    else c.self.inside.places.items)
+written c =
+    let p : IsPutInto c.self.inside.window c.self.inside.last (streams_of (content_of c.self.inside)) c.self.inside.columns c.args.instant c.args.stream (lane_of (content_of c.self.inside) c.args.stream) (cells_of c.args.cells.now c.args.quality) c.self.inside.places.items c.self.inside.open.items c.take.result c.take.new.places.items c.take.new.open.items = into c in
+    p.written
+
+ages_size : (c : goal.After-take) → length c.take.new.ages.items ≡ c.self.inside.window
+ages_size c =
+    ap length c.take.ensures.ages ∙ ages_kept (eqb (row_in c.self.inside.places.items c.self.inside.window c.args.instant).instant c.args.instant) c.self.inside.ages.items (c.args.instant % c.self.inside.window) ∙ c.self.invariant.ages
+
+kept : (c : goal.After-take) → IsRing c.self.inside.window c.self.inside.last (streams_of (content_of c.self.inside)) c.self.inside.columns c.take.new.places.items c.take.new.open.items
+kept c =
+    put_kept c.numbers_rise.ensures c.self.inside.window c.self.inside.last (streams_of (content_of c.self.inside)) c.self.inside.columns c.args.instant c.args.stream (lane_of (content_of c.self.inside) c.args.stream) (cells_of c.args.cells.now c.args.quality) c.self.inside.places.items c.self.inside.open.items c.take.result c.take.new.places.items c.take.new.open.items (into c)
+
+size : (c : goal.After-take) → length c.take.new.places.items ≡ c.self.inside.window
+size c =
+    let ring : IsRing c.self.inside.window c.self.inside.last (streams_of (content_of c.self.inside)) c.self.inside.columns c.take.new.places.items c.take.new.open.items = kept c in
+    ring.size
+
+closed : (c : goal.After-take) → closed_rows (with_ages c.take.new.places.items c.take.new.ages.items) c.self.inside.layouts.items c.self.inside.window c.self.inside.closed.items ≡ closed_rows (with_ages c.self.inside.places.items c.self.inside.ages.items) c.self.inside.layouts.items c.self.inside.window c.self.inside.closed.items
+closed c =
+    aged_closed c.take.new.places.items c.take.new.ages.items c.self.inside.layouts.items c.self.inside.window c.self.inside.closed.items (omega (arith, c.self.invariant.content.window_least)) (size c) (ages_size c)
+    ∙ ap (λ ps. closed_rows ps c.self.inside.layouts.items c.self.inside.window c.self.inside.closed.items) (written c)
+    ∙ written_closed c.self.inside.places.items c.self.inside.layouts.items c.self.inside.window c.args.instant
+    (with_frame c.args.stream (lane_of (content_of c.self.inside) c.args.stream) (cells_of c.args.cells.now c.args.quality) (base_row c.args.instant (row_in c.self.inside.places.items c.self.inside.window c.args.instant)))
+    c.self.inside.closed.items (is_taken c.take.result) (apart c)
+    ∙ sym (aged_closed c.self.inside.places.items c.self.inside.ages.items c.self.inside.layouts.items c.self.inside.window c.self.inside.closed.items (omega (arith, c.self.invariant.content.window_least)) c.self.invariant.size c.self.invariant.ages)
+
+stands : (c : goal.After-take) → ArePlaced c.take.new.places.items c.self.inside.window c.self.inside.closed.items
+stands c =
+    subst (λ ps. ArePlaced ps c.self.inside.window c.self.inside.closed.items) (sym (written c))
+    (written_placed c.self.inside.places.items c.self.inside.window c.args.instant
+    (with_frame c.args.stream (lane_of (content_of c.self.inside) c.args.stream) (cells_of c.args.cells.now c.args.quality) (base_row c.args.instant (row_in c.self.inside.places.items c.self.inside.window c.args.instant)))
+    c.self.inside.closed.items (is_taken c.take.result) (apart c) c.self.invariant.closed_placed)
+
+rows : (c : goal.After-take) → rows_in (with_ages c.take.new.places.items c.take.new.ages.items) c.self.inside.window c.take.new.open.items ≡ (if is_taken c.take.result
+    then with_row (with_frame c.args.stream (lane_of (content_of c.self.inside) c.args.stream) (cells_of c.args.cells.now c.args.quality)) (fresh_row (content_of c.self.inside) c.args.instant) (rows_in (with_ages c.self.inside.places.items c.self.inside.ages.items) c.self.inside.window c.self.inside.open.items)
+    else rows_in (with_ages c.self.inside.places.items c.self.inside.ages.items) c.self.inside.window c.self.inside.open.items)
 rows c =
-    put_rows c.numbers_rise.ensures c.self.inside.window c.self.inside.last (streams_of (content_of c.self.inside)) c.self.inside.columns c.args.instant c.args.stream (lane_of (content_of c.self.inside) c.args.stream) (cells_of c.args.cells.now c.args.quality) c.self.inside.places.items c.self.inside.open.items c.take.result c.take.new.places.items c.take.new.open.items (into c)
+    put_rows c.numbers_rise.ensures c.self.inside.window c.self.inside.last (streams_of (content_of c.self.inside)) c.self.inside.columns c.args.instant c.args.stream (lane_of (content_of c.self.inside) c.args.stream) (cells_of c.args.cells.now c.args.quality) (with_ages c.self.inside.places.items c.self.inside.ages.items) c.self.inside.open.items c.take.result (with_ages c.take.new.places.items c.take.new.ages.items) c.take.new.open.items (aged_into c)
 
 pub returns-clause-answer : goal.returns-clause-answer
 returns-clause-answer c = answered c ∙ ap (λ (t : TableView). put_answer t.content c.args.stream c.args.instant (cells_of c.args.cells.now c.args.quality)) c.self.view_is
 
 pub returns-clause-content : goal.returns-clause-content
 returns-clause-content c =
-    ap (λ rs. record (content_of c.self.inside) { open_rows = rs }) (rows c)
-    ∙ put_content (is_taken c.take.result) (content_of c.self.inside) (with_row (with_frame c.args.stream (lane_of (content_of c.self.inside) c.args.stream) (cells_of c.args.cells.now c.args.quality)) (fresh_row (content_of c.self.inside) c.args.instant) (rows_in c.self.inside.places.items c.self.inside.window c.self.inside.open.items))
+    ap (λ rs. record (content_of c.self.inside) { open_rows = rows_in (with_ages c.take.new.places.items c.take.new.ages.items) c.self.inside.window c.take.new.open.items; closed = rs }) (closed c)
+    ∙ ap (λ rs. record (content_of c.self.inside) { open_rows = rs }) (rows c)
+    ∙ put_content (is_taken c.take.result) (content_of c.self.inside) (with_row (with_frame c.args.stream (lane_of (content_of c.self.inside) c.args.stream) (cells_of c.args.cells.now c.args.quality)) (fresh_row (content_of c.self.inside) c.args.instant) (rows_in (with_ages c.self.inside.places.items c.self.inside.ages.items) c.self.inside.window c.self.inside.open.items))
     ∙ ap (λ a. if is_taken a then after_take (content_of c.self.inside) c.args.stream c.args.instant (cells_of c.args.cells.now c.args.quality) else content_of c.self.inside) (answered c)
     ∙ ap (λ (t : TableView). after_put t.content c.args.stream c.args.instant (cells_of c.args.cells.now c.args.quality)) c.self.view_is
 
 pub returns-clause-well_formed : goal.returns-clause-well_formed
 returns-clause-well_formed c =
-    rw (rows c) (keeps-offered c.numbers_rise.ensures (content_of c.self.inside) (is_taken c.take.result) c.args.stream (lane_of (content_of c.self.inside) c.args.stream) c.args.instant (cells_of c.args.cells.now c.args.quality) c.if-instant-self.false (near c) c.self.invariant.content)
+    rw (rows c, closed c) (keeps-offered c.numbers_rise.ensures (content_of c.self.inside) (is_taken c.take.result) c.args.stream (lane_of (content_of c.self.inside) c.args.stream) c.args.instant (cells_of c.args.cells.now c.args.quality) c.if-instant-self.false (near c) c.self.invariant.content)
 
 pub invariant_of-self : goal.invariant_of-self
 invariant_of-self c =
     let ring : IsRing c.self.inside.window c.self.inside.last (streams_of (content_of c.self.inside)) c.self.inside.columns c.take.new.places.items c.take.new.open.items =
     put_kept c.numbers_rise.ensures c.self.inside.window c.self.inside.last (streams_of (content_of c.self.inside)) c.self.inside.columns c.args.instant c.args.stream (lane_of (content_of c.self.inside) c.args.stream) (cells_of c.args.cells.now c.args.quality) c.self.inside.places.items c.self.inside.open.items c.take.result c.take.new.places.items c.take.new.open.items (into c) in
     record {
-      content = rw (rows c) (keeps-offered c.numbers_rise.ensures (content_of c.self.inside) (is_taken c.take.result) c.args.stream (lane_of (content_of c.self.inside) c.args.stream) c.args.instant (cells_of c.args.cells.now c.args.quality) c.if-instant-self.false (near c) c.self.invariant.content);
+      content = rw (rows c, closed c) (keeps-offered c.numbers_rise.ensures (content_of c.self.inside) (is_taken c.take.result) c.args.stream (lane_of (content_of c.self.inside) c.args.stream) c.args.instant (cells_of c.args.cells.now c.args.quality) c.if-instant-self.false (near c) c.self.invariant.content);
       size = ring.size;
       each = ring.each;
       placed = ring.placed;
+      ages = ages_size c;
+      layouts = c.self.invariant.layouts;
+      closed_placed = stands c;
       known = ring.known;
       room = rw c.take.ensures.open_capacity c.self.invariant.room;
       closed_room = c.self.invariant.closed_room;

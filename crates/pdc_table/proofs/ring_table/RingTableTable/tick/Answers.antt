@@ -1,67 +1,95 @@
-use Rattle.std.proofs.Common.{rules, arith, ◌≡◌, ◌≤◌, ◌+◌, ◌∙◌, ap, length, map, refl, subst, sym, vec_len}
+use Rattle.std.proofs.Common.{rules, arith, ◌≡◌, ◌≤◌, ◌+◌, ◌++◌, ◌∙◌, ap, length, map, refl, subst, sym, take, vec_len}
 use Rattle.std.proofs.lemmas.List.{length-map}
 use Rattle.std.specs.VecDeque.{deque_len}
-use Rattle.pdc_row.specs.RowView.{row_view}
 use Rattle.pdc_table.specs.Closing.{aged, closing, counter, staying}
 use Rattle.pdc_table.specs.Content.{IsContent, streams_of}
 use Rattle.pdc_table.specs.Layout.{layout_view}
 use Rattle.pdc_table.specs.Ring.{content_of}
-use Rattle.pdc_table.specs.RingRows.{row_in, rows_in}
+use Rattle.pdc_table.specs.RingRows.{closed_row, closed_rows, laid, row_in, rows_in, with_ages}
+use Rattle.pdc_table.specs.Row.{row_of}
 use Rattle.pdc_table.specs.Steps.{after_tick, closing_of, disagreements_after, disagreements_in, staying_of, tick_answer}
 use Rattle.pdc_table.specs.TableView.{TableView}
 use Rattle.pdc_table.proofs.Keeps.{closed_shapes, closing_few, held_fit, keeps-tick}
-use Rattle.pdc_table.proofs.RingKept.{IsRing, changed_kept, ring_closed}
-use Rattle.pdc_table.proofs.RingRows.{ArePlaced, changed-open, near_open}
+use Rattle.pdc_table.proofs.RingAges.{aged_closed, aged_length, aged_placed, mapped_rows, older_length, older_rows}
+use Rattle.pdc_table.proofs.RingClosed.{AreApart, are_apart_take, held_apart, laid-length, laid_closed, placed_more}
+use Rattle.pdc_table.proofs.RingKept.{IsRing, ring_closed}
+use Rattle.pdc_table.proofs.RingRows.{ArePlaced, near_open}
 use Rattle.pdc_table.proofs.ring_table.RingTableTable.tick.Goals as goal
 
-pub close_due-requires-clause-size : goal.close_due-requires-clause-size
-close_due-requires-clause-size c =
-    let ring : IsRing c.self.inside.window c.self.inside.last (streams_of (content_of c.self.inside)) c.self.inside.columns c.grow_older.new.places.items c.self.inside.open.items =
-    changed_kept aged (λ r. refl) (content_of c.self.inside) (λ r p. record { taken = p.taken; columns = p.columns }) c.self.inside.places.items c.grow_older.new.places.items c.self.inside.open.items c.deref.result.now c.deref.ensures.value c.grow_older.ensures.items c.self.invariant.content
-    (record { size = c.self.invariant.size; each = c.self.invariant.each; placed = c.self.invariant.placed; known = c.self.invariant.known }) in
-    ap length c.deref-2.ensures.value ∙ ring.size
+pub close_due-requires-clause-ages_size : goal.close_due-requires-clause-ages_size
+close_due-requires-clause-ages_size c = ap length c.deref-2.ensures.value ∙ older_length c.self.inside.ages.items c.grow_older.new.ages.items c.self.inside.window c.grow_older.ensures.items c.self.invariant.ages
 
 pub close_due-requires-clause-rising : goal.close_due-requires-clause-rising
-close_due-requires-clause-rising c = (near_open c.numbers_rise.ensures (content_of c.self.inside) c.self.inside.places.items c.self.inside.open.items c.self.invariant.placed c.self.invariant.content).0
+close_due-requires-clause-rising c =
+    (near_open c.numbers_rise.ensures (content_of c.self.inside) (with_ages c.self.inside.places.items c.self.inside.ages.items) c.self.inside.open.items (aged_placed c.self.inside.places.items c.self.inside.ages.items c.self.inside.window c.self.inside.open.items (omega (arith, c.self.invariant.content.window_least)) c.self.invariant.size c.self.invariant.ages c.self.invariant.placed) c.self.invariant.content).0
 
 pub close_due-requires-clause-placed : goal.close_due-requires-clause-placed
 close_due-requires-clause-placed c =
-    let ring : IsRing c.self.inside.window c.self.inside.last (streams_of (content_of c.self.inside)) c.self.inside.columns c.grow_older.new.places.items c.self.inside.open.items =
-    changed_kept aged (λ r. refl) (content_of c.self.inside) (λ r p. record { taken = p.taken; columns = p.columns }) c.self.inside.places.items c.grow_older.new.places.items c.self.inside.open.items c.deref.result.now c.deref.ensures.value c.grow_older.ensures.items c.self.invariant.content
-    (record { size = c.self.invariant.size; each = c.self.invariant.each; placed = c.self.invariant.placed; known = c.self.invariant.known }) in
-    subst (λ ps. ArePlaced ps c.self.inside.window c.self.inside.open.items) (sym c.deref-2.ensures.value) ring.placed
+    subst (λ ps. ArePlaced (with_ages ps c.deref-2.result.now) c.self.inside.window c.self.inside.open.items) (sym c.deref.ensures.value)
+    (subst (λ ns. ArePlaced (with_ages c.self.inside.places.items ns) c.self.inside.window c.self.inside.open.items) (sym c.deref-2.ensures.value)
+    (aged_placed c.self.inside.places.items c.grow_older.new.ages.items c.self.inside.window c.self.inside.open.items (omega (arith, c.self.invariant.content.window_least)) c.self.invariant.size (older_length c.self.inside.ages.items c.grow_older.new.ages.items c.self.inside.window c.grow_older.ensures.items c.self.invariant.ages) c.self.invariant.placed))
 
 pub close_due-requires-clause-room : goal.close_due-requires-clause-room
 close_due-requires-clause-room c =
-    let fit : length (map row_view c.self.inside.closed.items) + length (rows_in c.self.inside.places.items c.self.inside.window c.self.inside.open.items) ≤ c.self.inside.window = held_fit c.numbers_rise.ensures (content_of c.self.inside) c.self.invariant.content in
+    let fit : length (closed_rows (with_ages c.self.inside.places.items c.self.inside.ages.items) c.self.inside.layouts.items c.self.inside.window c.self.inside.closed.items) + length (rows_in (with_ages c.self.inside.places.items c.self.inside.ages.items) c.self.inside.window c.self.inside.open.items) ≤ c.self.inside.window = held_fit c.numbers_rise.ensures (content_of c.self.inside) c.self.invariant.content in
     let opened : vec_len c.self.inside.open ≡ length c.self.inside.open.items = search rules in
     let closed : deque_len c.self.inside.closed ≡ length c.self.inside.closed.items = search rules in
-    omega (arith, c.self.invariant.closed_room, length-map c.self.inside.closed.items row_view, length-map c.self.inside.open.items (row_in c.self.inside.places.items c.self.inside.window))
+    omega (arith, c.self.invariant.closed_room, length-map c.self.inside.closed.items (closed_row (with_ages c.self.inside.places.items c.self.inside.ages.items) c.self.inside.layouts.items c.self.inside.window), length-map c.self.inside.open.items (row_in (with_ages c.self.inside.places.items c.self.inside.ages.items) c.self.inside.window))
 
 -- the rows that the code looks at are those before, each a tick older
-rows : (c : goal.After-close_due) → rows_in c.deref-2.result.now c.self.inside.window c.self.inside.open.items ≡ map aged (rows_in c.self.inside.places.items c.self.inside.window c.self.inside.open.items)
-rows c =
-    ap (λ ps. rows_in ps c.self.inside.window c.self.inside.open.items) c.deref-2.ensures.value
-    ∙ changed-open c.numbers_rise.ensures aged (content_of c.self.inside) c.self.inside.places.items c.grow_older.new.places.items c.self.inside.open.items c.deref.result.now c.deref.ensures.value c.grow_older.ensures.items c.self.invariant.size c.self.invariant.placed c.self.invariant.content
+now : (c : goal.After-close_due) → (with_ages c.self.inside.places.items c.grow_older.new.ages.items) ≡ map aged (with_ages c.self.inside.places.items c.self.inside.ages.items)
+now c = ap (with_ages c.self.inside.places.items) c.grow_older.ensures.items ∙ older_rows c.self.inside.places.items c.self.inside.ages.items
 
-closes : (c : goal.After-close_due) → closing c.as_slice-required.result.now c.args.rule (rows_in c.deref-2.result.now c.self.inside.window c.self.inside.open.items) ≡ closing_of (content_of c.self.inside) c.args.rule
+seen : (c : goal.After-close_due) → with_ages c.deref.result.now c.deref-2.result.now ≡ (with_ages c.self.inside.places.items c.grow_older.new.ages.items)
+seen c = ap (λ ps. with_ages ps c.deref-2.result.now) c.deref.ensures.value ∙ ap (with_ages c.self.inside.places.items) c.deref-2.ensures.value
+
+rows : (c : goal.After-close_due) → rows_in (with_ages c.deref.result.now c.deref-2.result.now) c.self.inside.window c.self.inside.open.items ≡ map aged (rows_in (with_ages c.self.inside.places.items c.self.inside.ages.items) c.self.inside.window c.self.inside.open.items)
+rows c =
+    ap (λ ps. rows_in ps c.self.inside.window c.self.inside.open.items) (seen c ∙ now c)
+    ∙ mapped_rows aged (with_ages c.self.inside.places.items c.self.inside.ages.items) c.self.inside.window c.self.inside.open.items (omega (arith, c.self.invariant.content.window_least)) (aged_length c.self.inside.places.items c.self.inside.ages.items c.self.inside.window c.self.invariant.size c.self.invariant.ages)
+
+closes : (c : goal.After-close_due) → closing c.as_slice-required.result.now c.args.rule (rows_in (with_ages c.deref.result.now c.deref-2.result.now) c.self.inside.window c.self.inside.open.items) ≡ closing_of (content_of c.self.inside) c.args.rule
 closes c =
-    ap (λ rs. closing rs c.args.rule (rows_in c.deref-2.result.now c.self.inside.window c.self.inside.open.items)) c.as_slice-required.ensures.value
+    ap (λ rs. closing rs c.args.rule (rows_in (with_ages c.deref.result.now c.deref-2.result.now) c.self.inside.window c.self.inside.open.items)) c.as_slice-required.ensures.value
     ∙ ap (closing c.self.inside.required.items c.args.rule) (rows c)
 
-stays : (c : goal.After-close_due) → rows_in c.grow_older.new.places.items c.self.inside.window c.close_due.new.open.items ≡ staying_of (content_of c.self.inside) c.args.rule
+stays : (c : goal.After-close_due) → rows_in (with_ages c.self.inside.places.items c.grow_older.new.ages.items) c.self.inside.window c.close_due.new.open.items ≡ staying_of (content_of c.self.inside) c.args.rule
 stays c =
-    ap (λ ps. rows_in ps c.self.inside.window c.close_due.new.open.items) (sym c.deref-2.ensures.value) ∙ c.close_due.ensures.rows
-    ∙ ap (λ rs. staying rs c.args.rule (rows_in c.deref-2.result.now c.self.inside.window c.self.inside.open.items)) c.as_slice-required.ensures.value
+    ap (λ ps. rows_in ps c.self.inside.window c.close_due.new.open.items) (sym (seen c)) ∙ c.close_due.ensures.rows
+    ∙ ap (λ rs. staying rs c.args.rule (rows_in (with_ages c.deref.result.now c.deref-2.result.now) c.self.inside.window c.self.inside.open.items)) c.as_slice-required.ensures.value
     ∙ ap (staying c.self.inside.required.items c.args.rule) (rows c)
 
+-- the closed rows are those before, and those that close now
+older_closed : (c : goal.After-close_due) → closed_rows (with_ages c.self.inside.places.items c.grow_older.new.ages.items) c.self.inside.layouts.items c.self.inside.window c.self.inside.closed.items ≡ closed_rows (with_ages c.self.inside.places.items c.self.inside.ages.items) c.self.inside.layouts.items c.self.inside.window c.self.inside.closed.items
+older_closed c =
+    aged_closed c.self.inside.places.items c.grow_older.new.ages.items c.self.inside.layouts.items c.self.inside.window c.self.inside.closed.items (omega (arith, c.self.invariant.content.window_least)) c.self.invariant.size (older_length c.self.inside.ages.items c.grow_older.new.ages.items c.self.inside.window c.grow_older.ensures.items c.self.invariant.ages)
+    ∙ sym (aged_closed c.self.inside.places.items c.self.inside.ages.items c.self.inside.layouts.items c.self.inside.window c.self.inside.closed.items (omega (arith, c.self.invariant.content.window_least)) c.self.invariant.size c.self.invariant.ages)
+
+apart : (c : goal.After-close_due) → AreApart c.self.inside.window c.self.inside.closed.items (take c.close_due.result c.self.inside.open.items)
+apart c =
+    are_apart_take c.self.inside.window c.close_due.result c.self.inside.closed.items c.self.inside.open.items
+    (held_apart c.numbers_rise.ensures (content_of c.self.inside) (with_ages c.self.inside.places.items c.self.inside.ages.items) c.self.inside.layouts.items c.self.inside.closed.items c.self.inside.open.items (aged_placed c.self.inside.places.items c.self.inside.ages.items c.self.inside.window c.self.inside.closed.items (omega (arith, c.self.invariant.content.window_least)) c.self.invariant.size c.self.invariant.ages c.self.invariant.closed_placed) (aged_placed c.self.inside.places.items c.self.inside.ages.items c.self.inside.window c.self.inside.open.items (omega (arith, c.self.invariant.content.window_least)) c.self.invariant.size c.self.invariant.ages c.self.invariant.placed) c.self.invariant.content)
+
+due : (c : goal.After-close_due) → rows_in (with_ages c.self.inside.places.items c.grow_older.new.ages.items) c.self.inside.window (take c.close_due.result c.self.inside.open.items) ≡ closing_of (content_of c.self.inside) c.args.rule
+due c = ap (λ ps. rows_in ps c.self.inside.window (take c.close_due.result c.self.inside.open.items)) (sym (seen c)) ∙ c.close_due.ensures.due_rows ∙ closes c
+
+more : (c : goal.After-close_due) → closed_rows (with_ages c.self.inside.places.items c.grow_older.new.ages.items) c.close_due.new.layouts.items c.self.inside.window c.close_due.new.closed.items
+    ≡ closed_rows (with_ages c.self.inside.places.items c.self.inside.ages.items) c.self.inside.layouts.items c.self.inside.window c.self.inside.closed.items ++ map (row_of (layout_view c.args.layout.now)) (closing_of (content_of c.self.inside) c.args.rule)
+more c =
+    ap (λ ls. closed_rows (with_ages c.self.inside.places.items c.grow_older.new.ages.items) ls c.self.inside.window c.close_due.new.closed.items) c.close_due.ensures.layouts
+    ∙ ap (closed_rows (with_ages c.self.inside.places.items c.grow_older.new.ages.items) (laid (layout_view c.args.layout.now) c.self.inside.window (take c.close_due.result c.self.inside.open.items) c.self.inside.layouts.items) c.self.inside.window) c.close_due.ensures.closed
+    ∙ laid_closed (layout_view c.args.layout.now) c.self.inside.window (take c.close_due.result c.self.inside.open.items) (with_ages c.self.inside.places.items c.grow_older.new.ages.items) c.self.inside.layouts.items c.self.inside.closed.items
+    (omega (arith, c.self.invariant.content.window_least)) c.self.invariant.layouts (apart c)
+    ∙ ap (λ rs. rs ++ map (row_of (layout_view c.args.layout.now)) (rows_in (with_ages c.self.inside.places.items c.grow_older.new.ages.items) c.self.inside.window (take c.close_due.result c.self.inside.open.items))) (older_closed c)
+    ∙ ap (λ rs. closed_rows (with_ages c.self.inside.places.items c.self.inside.ages.items) c.self.inside.layouts.items c.self.inside.window c.self.inside.closed.items ++ map (row_of (layout_view c.args.layout.now)) rs) (due c)
+
 content : (c : goal.After-close_due) → record (content_of c.self.inside) {
-  open_rows = rows_in c.grow_older.new.places.items c.self.inside.window c.close_due.new.open.items;
-  closed = map row_view c.close_due.new.closed.items;
+  open_rows = rows_in (with_ages c.self.inside.places.items c.grow_older.new.ages.items) c.self.inside.window c.close_due.new.open.items;
+  closed = closed_rows (with_ages c.self.inside.places.items c.grow_older.new.ages.items) c.close_due.new.layouts.items c.self.inside.window c.close_due.new.closed.items;
   last = c.close_due.new.last;
 } ≡ after_tick (content_of c.self.inside) c.args.rule (layout_view c.args.layout.now)
 content c =
-    rw (stays c, c.close_due.ensures.closed, c.close_due.ensures.last, closes c) refl
+    rw (stays c, more c, c.close_due.ensures.last, closes c) refl
 
 pub overflow_cast-result : goal.overflow_cast-result
 overflow_cast-result c =
@@ -88,16 +116,17 @@ returns-clause-well_formed c = subst IsContent (sym (content c)) (keeps-tick c.n
 
 pub invariant_of-self : goal.invariant_of-self
 invariant_of-self c =
-    let older : IsRing c.self.inside.window c.self.inside.last (streams_of (content_of c.self.inside)) c.self.inside.columns c.grow_older.new.places.items c.self.inside.open.items =
-    changed_kept aged (λ r. refl) (content_of c.self.inside) (λ r p. record { taken = p.taken; columns = p.columns }) c.self.inside.places.items c.grow_older.new.places.items c.self.inside.open.items c.deref.result.now c.deref.ensures.value c.grow_older.ensures.items c.self.invariant.content
-    (record { size = c.self.invariant.size; each = c.self.invariant.each; placed = c.self.invariant.placed; known = c.self.invariant.known }) in
-    let ring : IsRing c.self.inside.window c.close_due.new.last (streams_of (content_of c.self.inside)) c.self.inside.columns c.grow_older.new.places.items c.close_due.new.open.items =
-    rw (c.close_due.ensures.front, c.close_due.ensures.open) (ring_closed c.numbers_rise.ensures c.self.inside.window c.self.inside.last (streams_of (content_of c.self.inside)) c.self.inside.columns c.close_due.result c.grow_older.new.places.items c.self.inside.open.items older) in
+    let ring : IsRing c.self.inside.window c.close_due.new.last (streams_of (content_of c.self.inside)) c.self.inside.columns c.self.inside.places.items c.close_due.new.open.items =
+    rw (c.close_due.ensures.front, c.close_due.ensures.open) (ring_closed c.numbers_rise.ensures c.self.inside.window c.self.inside.last (streams_of (content_of c.self.inside)) c.self.inside.columns c.close_due.result c.self.inside.places.items c.self.inside.open.items
+    (record { size = c.self.invariant.size; each = c.self.invariant.each; placed = c.self.invariant.placed; known = c.self.invariant.known })) in
     record {
       content = subst IsContent (sym (content c)) (keeps-tick c.numbers_rise.ensures (content_of c.self.inside) c.args.rule (layout_view c.args.layout.now) c.self.invariant.content);
       size = ring.size;
       each = ring.each;
       placed = ring.placed;
+      ages = older_length c.self.inside.ages.items c.grow_older.new.ages.items c.self.inside.window c.grow_older.ensures.items c.self.invariant.ages;
+      layouts = ap length c.close_due.ensures.layouts ∙ laid-length (layout_view c.args.layout.now) c.self.inside.window (take c.close_due.result c.self.inside.open.items) c.self.inside.layouts.items ∙ c.self.invariant.layouts;
+      closed_placed = rw c.close_due.ensures.closed (placed_more c.self.inside.places.items c.self.inside.window c.close_due.result c.self.inside.closed.items c.self.inside.open.items c.self.invariant.closed_placed c.self.invariant.placed);
       known = ring.known;
       room = rw c.close_due.ensures.capacity c.self.invariant.room;
       closed_room = rw c.close_due.ensures.closed_capacity c.self.invariant.closed_room;

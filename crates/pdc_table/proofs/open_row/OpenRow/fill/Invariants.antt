@@ -1,15 +1,16 @@
-use Rattle.std.proofs.Common.{◌≡◌, ◌≤◌, ◌++◌, length, map, drop}
+use Rattle.std.proofs.Common.{◌≡◌, ◌≤◌, ◌++◌, length, map, drop, take}
 use Rattle.std.specs.Option.{IfSome}
 use Rattle.pdc_row.specs.CellView.{block_view}
 use Rattle.pdc_table.specs.Row.{blocks_of, qualities_of}
 use Rattle.pdc_row.specs.Quality.{worst_of, quality_of}
-use Rattle.pdc_table.proofs.open_row.OpenRow.close.Given as goal
+use Rattle.pdc_table.proofs.open_row.OpenRow.fill.Given as goal
 
 -- the blocks so far, and those of the columns that are left; the worst quality so far, and those that are left
 abbrev pub invariant-loop-place : goal.invariant-loop-place
 invariant-loop-place l = record {
-  few : length l.blocks.items ≤ l.place;
-  blocks : map block_view l.blocks.items ++ blocks_of (drop l.place l.shape-items) (drop l.place l.self.columns) ≡ blocks_of l.shape-items l.self.columns;
+  few : l.count ≤ l.place;
+  len : length l.blocks.items ≡ 16;
+  blocks : map block_view (take l.count l.blocks.items) ++ blocks_of (drop l.place l.shape-items) (drop l.place l.self.columns) ≡ blocks_of l.shape-items l.self.columns;
   quality : worst_of l.quality (qualities_of (drop l.place l.shape-items) (drop l.place l.self.columns)) ≡ quality_of (qualities_of l.shape-items l.self.columns);
   fits : IfSome l.quality (λ n. n ≤ 15);
 }

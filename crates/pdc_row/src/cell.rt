@@ -1,0 +1,108 @@
+//! A block that was taken.
+ghost use Rattle.std.specs.Prelude.{◌≡◌, ◌%◌, length};
+ghost use Rattle.pdc_cfg.specs.Shape.{word_count_of};
+
+use crate::is_present;
+use pdc_block::Block;
+use pdc_cfg::{MAX_WORDS, Shape};
+use std::marker::Model;
+
+/// A block that was taken, and the time quality byte of its frame. Its words are kept in place: [`Cell::set`] copies as many
+/// as there are.
+#[derive(Drop)]
+pub struct Cell {
+    shape: Shape,
+    quality: u8,
+    /// Whether the block is any other than the absent block of its shape.
+    has_data: bool,
+    /// The words of the block stand in front.
+    words: [u16; MAX_WORDS],
+}
+
+impl Model for Cell {
+    ghost use Rattle.std.specs.Prelude.{◌≡◌, take};
+    ghost use Rattle.pdc_cfg.specs.Shape.{word_count_of};
+    ghost use Rattle.pdc_row.specs.CellView.{CellView, is_present};
+
+    ghost Value = { CellView };
+
+    ghost view = { λ cell. record {
+      block = record { shape = cell.shape; words = take (word_count_of cell.shape) cell.words };
+      quality = cell.quality;
+    } };
+
+    ghost invariant = { λ cell. cell.has_data
+        ≡ is_present (record { shape = cell.shape; words = take (word_count_of cell.shape) cell.words }) };
+}
+
+impl Cell {
+    ghost use Rattle.pdc_row.specs.CellView.{cell_view, is_present, same_block, block_view};
+
+    /// Some cell, to be set.
+    pub fn blank() -> Cell {
+        Cell {
+            shape: Shape {
+                phasors: 0,
+                analogs: 0,
+                digitals: 0,
+            },
+            quality: 0,
+            has_data: true,
+            words: [0; MAX_WORDS],
+        }
+    }
+
+    /// Makes this the block, copied, and the time quality byte of its frame.
+    pub fn set(&mut self, block: &Block, quality: u8)
+        ensures { self.new ≡ cell_view block.now quality }
+    {
+        let words = block.words();
+        self.shape = block.shape;
+        self.quality = quality;
+        self.has_data = is_present(block);
+        self.words[..words.len()].copy_from_slice(words);
+    }
+
+    /// The words, in wire order.
+    fn words(&self) -> &[u16]
+        ensures words { result.now ≡ self.now.block.words }
+        ensures count { length result.now ≡ word_count_of self.now.block.shape }
+    {
+        &self.words[..self.shape.word_count()]
+    }
+
+    /// Makes the block a copy of this one.
+    pub fn copy_to(&self, block: &mut Block)
+        ensures { block_view block.new ≡ self.now.block }
+    {
+        block.set(self.shape, self.words());
+    }
+
+    /// The time quality, the low nibble of the byte: greater is worse.
+    pub fn time_quality(&self) -> u8
+        ensures { result ≡ self.now.quality % 16 }
+    {
+        self.quality % 16
+    }
+
+    /// Whether the block is any other than the absent block of its shape.
+    pub fn is_present(&self) -> bool
+        ensures { result ≡ is_present self.now.block }
+    {
+        self.has_data
+    }
+
+    /// Whether the block has this shape and these words.
+    pub fn holds(&self, block: &Block) -> bool
+        ensures { result ≡ same_block self.now.block (block_view block.now) }
+    {
+        self.shape == block.shape && self.words() == block.words()
+    }
+
+    /// Whether both hold the same block.
+    pub fn agrees(&self, other: &Cell) -> bool
+        ensures { result ≡ same_block self.now.block other.now.block }
+    {
+        other.shape == self.shape && other.words() == self.words()
+    }
+}

@@ -1,0 +1,39 @@
+use Rattle.std.proofs.Common.{◌≡◌, ◌+◌, ◌++◌, ◌∙◌, List, ap, arith, drop, length, map, sym, take, get_or, refl, None}
+use Rattle.std.specs.List.{refill}
+use Rattle.std.proofs.lemmas.List.{get_or_default}
+use Rattle.pdc_row.specs.CellView.{block_view}
+use Rattle.pdc_row.specs.Quality.{worst_of}
+use Rattle.pdc_table.specs.Row.{blocks_at, blocks_of, qualities_at, qualities_of}
+use Rattle.pdc_table.specs.Views.{OpenRowView, empty_column}
+use Rattle.pdc_table.proofs.RowSteps.{blocks_more, qualities_step, refilled}
+use Rattle.pdc_table.proofs.open_row.OpenRow.fill.Goals as goal
+
+shape : (c : goal.After-blocks-1) → c.shape-item.result ≡ get_or c.as_slice-shape-items.result.now c.loop-place.place None
+shape c = c.shape-item.is ∙ get_or_default c.as_slice-shape-items.result.now c.loop-place.place c.shape-item.result None (omega arith)
+
+columns : (c : goal.After-blocks-1) → c.as_slice.result.now ≡ c.args.self.now.columns
+columns c = c.as_slice.ensures.value ∙ ap (λ (r : OpenRowView). r.columns) c.self.view_is
+
+same : (c : goal.After-blocks-1) → refill (length c.loop-place.blocks.items) c.loop-place.blocks.items c.give-count.new.blocks ≡ c.give-count.new.blocks
+same c =
+    refilled (length c.loop-place.blocks.items) c.loop-place.blocks.items c.give-count.new.blocks refl (c.give-count.ensures.len ∙ ap length c.as_mut_slice.ensures.value)
+
+pub loop-place-preserved : goal.loop-place-preserved
+loop-place-preserved c = record {
+  few = omega arith;
+  len = ap length (same c) ∙ c.give-count.ensures.len ∙ ap length c.as_mut_slice.ensures.value ∙ c.loop-place.invariant.len;
+  blocks = rw (same c) (blocks_more c.as_slice-shape-items.result.now c.args.self.now.columns c.loop-place.place (map block_view (take c.loop-place.count c.loop-place.blocks.items))
+      (map block_view (take c.give-count.result c.give-count.new.blocks)) (blocks_of c.as_slice-shape-items.result.now c.args.self.now.columns) (omega arith)
+      (c.give-count.ensures.blocks ∙ ap (λ bs. map block_view (take c.loop-place.count bs) ++ blocks_at c.shape-item.result (get_or c.as_slice.result.now c.loop-place.place empty_column)) c.as_mut_slice.ensures.value
+      ∙ ap (λ cs. map block_view (take c.loop-place.count c.loop-place.blocks.items) ++ blocks_at c.shape-item.result (get_or cs c.loop-place.place empty_column)) (columns c)
+      ∙ ap (λ o. map block_view (take c.loop-place.count c.loop-place.blocks.items) ++ blocks_at o (get_or c.args.self.now.columns c.loop-place.place empty_column)) (shape c))
+      c.loop-place.invariant.blocks);
+  quality =
+      let rest : List _ = qualities_of (drop (c.loop-place.place + 1) c.as_slice-shape-items.result.now) (drop (c.loop-place.place + 1) c.args.self.now.columns) in
+      c.give-count.ensures.quality rest
+      ∙ ap (λ cs. worst_of c.loop-place.quality (qualities_at c.shape-item.result (get_or cs c.loop-place.place empty_column) ++ rest)) (columns c)
+      ∙ ap (λ o. worst_of c.loop-place.quality (qualities_at o (get_or c.args.self.now.columns c.loop-place.place empty_column) ++ rest)) (shape c)
+      ∙ ap (worst_of c.loop-place.quality) (sym (qualities_step c.as_slice-shape-items.result.now c.args.self.now.columns c.loop-place.place (omega arith)))
+      ∙ c.loop-place.invariant.quality;
+  fits = c.give-count.ensures.quality_fits;
+}

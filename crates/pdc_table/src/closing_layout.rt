@@ -1,0 +1,58 @@
+//! The layout that a row closed under.
+ghost use Rattle.std.specs.Prelude.{◌≡◌};
+ghost use Rattle.pdc_table.specs.Layout.{layout_view};
+
+use crate::RowLayout;
+use arrayvec::ArrayVec;
+use std::marker::Model;
+
+/// A copy of the layout that a row closed under.
+#[derive(Drop)]
+pub struct ClosingLayout {
+    layout: RowLayout,
+}
+
+impl Model for ClosingLayout {
+    ghost use Rattle.pdc_table.specs.Layout.{LayoutView, layout_view};
+
+    ghost Value = { LayoutView };
+
+    ghost view = { λ closing. layout_view closing.layout };
+}
+
+impl ClosingLayout {
+    ghost use Rattle.pdc_table.specs.RingRows.{no_layout};
+
+    /// A layout without columns.
+    pub(crate) fn blank() -> ClosingLayout
+        ensures { result ≡ no_layout }
+    {
+        ClosingLayout {
+            layout: RowLayout {
+                start: 0,
+                change: 0,
+                shapes: ArrayVec::new(),
+            },
+        }
+    }
+
+    /// Makes this a copy of the layout.
+    pub(crate) fn set(&mut self, layout: &RowLayout)
+        ensures { self.new ≡ layout_view layout.now }
+    {
+        let shapes = &mut self.layout.shapes;
+        shapes.clear();
+        shapes
+            .try_extend_from_slice(layout.shapes.as_slice())
+            .unwrap();
+        self.layout.start = layout.start;
+        self.layout.change = layout.change;
+    }
+
+    /// The layout.
+    pub(crate) fn layout(&self) -> &RowLayout
+        ensures { layout_view result.now ≡ self.now }
+    {
+        &self.layout
+    }
+}
