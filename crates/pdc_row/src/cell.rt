@@ -38,8 +38,10 @@ impl Model for Cell {
 impl Cell {
     ghost use Rattle.pdc_row.specs.CellView.{cell_view, is_present, same_block, block_view};
 
-    /// Some cell, to be set.
-    pub fn blank() -> Cell {
+    /// Some cell of quality 0, to be set.
+    pub fn blank() -> Cell
+        ensures { result.quality ≡ 0 }
+    {
         Cell {
             shape: Shape {
                 phasors: 0,

@@ -1,5 +1,5 @@
 //! The block that stands for a PMU whose data did not come.
-ghost use Rattle.std.specs.Prelude.{◌≡◌, ◌↔◌, ◌<◌, ◌≤◌, ◌+◌, ◌++◌, replicate, IsTrue};
+ghost use Rattle.std.specs.Prelude.{◌≡◌, ◌↔◌, ◌<◌, ◌≤◌, ◌+◌, ◌++◌, length, replicate, IsTrue};
 ghost use Rattle.arrayvec.specs.ArrayVec.{array_vec_len};
 ghost use Rattle.pdc_block.specs.Block.{words_of};
 ghost use Rattle.pdc_stat.specs.AbsentBlock.{absent_of, IsAbsent};
@@ -34,15 +34,19 @@ pub fn absent(shape: Shape) -> Block
 pub fn is_absent(block: &Block) -> bool
     ensures { IsTrue result ↔ IsAbsent block.now }
 {
-    block.words()[0] == ABSENT_STAT && has_absent_words(block)
+    let words = block.words();
+    if words[0] != ABSENT_STAT {
+        return false;
+    }
+    let values = words.len() - usize::from(block.shape.digitals);
+    are_all(&words[1..values], NO_VALUE) && are_all(&words[values..], 0)
 }
 
-/// Whether the block has exactly the words of `absent` of its shape. Few blocks come here: those whose STAT is that word.
-#[inline(never)]
-fn has_absent_words(block: &Block) -> bool
-    ensures { IsTrue result ↔ IsAbsent block.now }
+/// Whether each of the words is this one.
+fn are_all(words: &[u16], word: u16) -> bool
+    ensures { IsTrue result ↔ (words.now ≡ replicate (length words.now) word) }
 {
-    block.words() == absent(block.shape).words()
+    words.iter().all(|each| *each == word)
 }
 
 /// Makes this the block that `absent` gives, in place.
