@@ -5,6 +5,7 @@
 #![tactic(auto)]
 
 mod node_player;
+mod widest;
 
 use node_player::NodePlayer;
 use pdc_script::{Frames, Played, play_script};

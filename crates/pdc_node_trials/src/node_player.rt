@@ -10,14 +10,18 @@
 //! | `pop` | the row's instant, quality and stamp, as `5/0 (1, 1)`, or `none`; the row is published |
 //! | `published` | the frames that are published, in hexadecimal |
 //! | `layout SOC` | the length of the layout's frame, its first 14 bytes and its last two |
+//! | `widest` | `ok`; a new node 201 with sixteen PMUs of 32 phasors, 32 analog values and 8 digital words |
+//! | `configs`, `data` | how many of their configurations are candidates, and of their data of the second instant taken |
+//! | `published_len` | how many bytes are published |
 //! | `counts` | how many arrivals were taken, candidates, known and refused |
 //!
 //! Counts that are not told are 0. What is none of these is answered `no such call`.
 ghost use Rattle.std.specs.Prelude.{◌≡◌, IfSome, length};
 ghost use Rattle.pdc_publisher.specs.Publisher.{output_in};
 
+use crate::widest;
 use pdc_align::Ticked;
-use pdc_life::{MAX_PMUS, Settings, WaitKind};
+use pdc_life::{MAX_PMUS, Outcome, Settings, WaitKind};
 use pdc_mark::ModelMark;
 use pdc_node::Node;
 use pdc_output::Output;
@@ -116,6 +120,40 @@ impl<'a, T: Table> NodePlayer<'a, T> {
         };
         *self = NodePlayer::opened(alloc, self.frames, settings, &counts)?;
         "ok".to_string(alloc)
+    }
+
+    /// Begins the life of the widest node.
+    fn begin_widest(&mut self, alloc: Global) -> Result<String, AllocError> {
+        let Some(settings) = widest::settings(alloc)? else {
+            return "no such life".to_string(alloc);
+        };
+        *self = NodePlayer::opened(alloc, self.frames, settings, &[0; MAX_PMUS])?;
+        "ok".to_string(alloc)
+    }
+
+    /// How many configurations, or data frames, of the widest node are answered so.
+    fn arrive_widest(
+        &mut self,
+        alloc: Global,
+        is_data: bool,
+        wanted: Outcome,
+    ) -> Result<String, AllocError> {
+        let mut answered: u32 = 0;
+        for id in 1..=widest::PMUS {
+            let stream = usize::from(id.saturating_sub(1));
+            if stream >= self.columns {
+                continue;
+            }
+            let frame = if is_data {
+                widest::data_frame(alloc, id)?
+            } else {
+                widest::config_frame(alloc, id)?
+            };
+            if self.node.put_datagram(stream, &frame) == wanted {
+                answered = answered.saturating_add(1);
+            }
+        }
+        answered.to_string(alloc)
     }
 
     /// Another publisher, with this lead.
@@ -248,6 +286,10 @@ impl<T: Table> Player for NodePlayer<'_, T> {
                 Ok(soc) => self.layout_text(alloc, soc),
                 Err(_) => "no such call".to_string(alloc),
             },
+            ["published_len"] => self.published.len().to_string(alloc),
+            ["widest"] => self.begin_widest(alloc),
+            ["configs"] => self.arrive_widest(alloc, false, Outcome::Candidate),
+            ["data"] => self.arrive_widest(alloc, true, Outcome::Taken),
             ["counts"] => self.counts_text(alloc),
             _ => "no such call".to_string(alloc),
         }

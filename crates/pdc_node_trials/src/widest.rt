@@ -1,0 +1,93 @@
+//! The widest node: sixteen PMUs with the most channels, and their frames.
+
+use pdc_frame::{Frame, Kind, write_frame};
+use pdc_life::Settings;
+use pdc_settings::NodeSettings;
+use std::alloc::{AllocError, Global};
+
+/// How many PMUs it has: their ids are 1 to 16.
+pub const PMUS: u16 = 16;
+
+/// The second of its first frames.
+const SOC: u32 = 1_149_577_200;
+
+/// What the node is told, but for its PMUs.
+const NODE_201: &str = "id = 201
+rate = 50
+nominal = 50
+time_base = 1000000
+wait = 2
+window = 64
+ahead = 32
+layout_every = 50
+out_port = 4713
+session_port = 4712
+";
+
+/// What precedes the section: TIME_BASE, and one PMU.
+const CONFIG_HEAD: [u8; 6] = [0x00, 0x0F, 0x42, 0x40, 0x00, 0x01];
+
+/// FORMAT, and 32 phasors, 32 analog values and 8 digital words.
+const MOST_CHANNELS: [u8; 8] = [0x00, 0x00, 0x00, 0x20, 0x00, 0x20, 0x00, 0x08];
+
+/// What follows the names and factors of the channels: FNOM, CFGCNT and DATA_RATE.
+const CONFIG_END: [u8; 6] = [0x00, 0x01, 0x00, 0x01, 0x00, 0x32];
+
+/// Its settings.
+pub fn settings(alloc: Global) -> Result<Option<Settings>, AllocError> {
+    let mut text = NODE_201.to_string(alloc)?;
+    for id in 1..=PMUS {
+        let pmu = format!(in alloc; "[[pmu]]\nstream = {id}\ntime_base = 1000000\nport = {id}\n")?;
+        text.push_str(&pmu)?;
+    }
+    match NodeSettings::from_toml(alloc, &text) {
+        Ok(settings) => Ok(Some(settings.life)),
+        Err(_) => Ok(None),
+    }
+}
+
+/// The frame of a PMU with this payload, of the first instant after the first of its second.
+fn frame_of(
+    alloc: Global,
+    kind: Kind,
+    id: u16,
+    frac: u32,
+    payload: &[u8],
+) -> Result<Vec<u8>, AllocError> {
+    let mut frame = Vec::new(alloc);
+    if id == 0 || id > PMUS || frac > 1_000_000 || payload.len() > 4096 {
+        return Ok(frame);
+    }
+    let fields = Frame {
+        kind,
+        version: 2,
+        id,
+        soc: SOC,
+        quality: 0,
+        frac,
+        payload,
+    };
+    write_frame(&fields, &mut frame)?;
+    Ok(frame)
+}
+
+/// The configuration of a PMU: all names and factors are zeros.
+pub fn config_frame(alloc: Global, id: u16) -> Result<Vec<u8>, AllocError> {
+    let mut payload = Vec::new(alloc);
+    payload.extend_from_slice(&CONFIG_HEAD)?;
+    payload.extend_from_slice(&[0; 16])?;
+    payload.extend_from_slice(&id.to_be_bytes())?;
+    payload.extend_from_slice(&MOST_CHANNELS)?;
+    payload.extend_from_slice(&[0; 3360])?;
+    payload.extend_from_slice(&CONFIG_END)?;
+    frame_of(alloc, Kind::Cfg2, id, 0, &payload)
+}
+
+/// Data of a PMU, each byte of whose words is its id.
+pub fn data_frame(alloc: Global, id: u16) -> Result<Vec<u8>, AllocError> {
+    let mut payload = Vec::new(alloc);
+    for _ in 0..214 {
+        payload.push((id & 0x3F) as u8)?;
+    }
+    frame_of(alloc, Kind::DataFrame, id, 20_000, &payload)
+}
