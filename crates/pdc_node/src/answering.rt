@@ -1,0 +1,170 @@
+//! What a node answers to what arrives, over its alignment.
+ghost use Rattle.std.specs.Prelude.{◌≡◌, ℕ, ◌*◌, ◌∷◌, ◌<◌, List, Option, length, map, option_map};
+ghost use Rattle.std.specs.List.{AllByRecursion};
+ghost use Rattle.pdc_align.specs.Align.{StandsFor};
+ghost use Rattle.pdc_block.specs.Block.{words_in, words_of};
+ghost use Rattle.pdc_cfg.specs.Section.{SectionFields, fields_of_view};
+ghost use Rattle.pdc_cfg.specs.Shape.{word_count_of};
+ghost use Rattle.pdc_life.specs.Answer.{answered, ToArrive};
+ghost use Rattle.pdc_life.specs.Arrival.{Data, Layout, Stamp};
+ghost use Rattle.pdc_life.specs.Given.{Given, count_for};
+ghost use Rattle.pdc_life.specs.Life.{Entry, is_candidate, section_in_force};
+ghost use Rattle.pdc_life.specs.Node.{node_answer, section_after, section_answer};
+ghost use Rattle.pdc_life.specs.Run.{IsRun};
+ghost use Rattle.pdc_node.specs.Node.{IsOwn, IsReady};
+ghost use Rattle.pdc_reading.specs.Views.{arrival_view, section_part};
+ghost use Rattle.pdc_state.specs.State.{shape_in};
+
+use pdc_align::{Alignment, others_are_left};
+use pdc_block::{Block, bodies_are_their_words, read_body};
+use pdc_cfg::{CfgFault, SectionView, Shape};
+use pdc_life::{MAX_PMUS, Outcome, Refusal};
+use pdc_reading::{Arrival, ColumnSection};
+use pdc_table::Table;
+
+/// The count of a column; past the last of 16 it is 0.
+fn count_for(column: usize, counts: &[u16; MAX_PMUS]) -> u16
+    ensures { result ≡ count_for column counts.now }
+{
+    if column < MAX_PMUS { counts[column] } else { 0 }
+}
+
+/// The block that the payload of a PMU's data is.
+fn body(shape: Shape, payload: &[u8]) -> Block
+    requires { length payload.now ≡ 2 * word_count_of shape }
+    ensures shape { result.shape ≡ shape }
+    ensures words { words_of result ≡ words_in payload.now }
+{
+    bodies_are_their_words();
+    read_body(shape, payload).unwrap()
+}
+
+/// A section below the opening count is stale, also where nothing is held.
+fn section_answer(opening: u16, held: Option<SectionView>, section: &SectionView) -> Outcome
+    ensures { result ≡ section_answer opening (option_map fields_of_view held.entry) (fields_of_view section.now) }
+{
+    if section.count < opening {
+        Outcome::Refused(Refusal::StaleCount)
+    } else {
+        section_after(held, section)
+    }
+}
+
+/// A section is stale below the held count, new above it, and at the same count known where it has the same bytes.
+fn section_after(held: Option<SectionView>, section: &SectionView) -> Outcome
+    ensures { result ≡ section_after (option_map fields_of_view held.entry) (fields_of_view section.now) }
+{
+    let Some(held) = held else {
+        return Outcome::Candidate;
+    };
+    if section.count < held.count {
+        Outcome::Refused(Refusal::StaleCount)
+    } else if held.count < section.count {
+        Outcome::Candidate
+    } else if held.bytes == section.bytes {
+        Outcome::Known
+    } else {
+        Outcome::Refused(Refusal::CountConflict)
+    }
+}
+
+/// Whether the outcome is that of a new configuration.
+fn is_candidate(outcome: Outcome) -> bool
+    ensures { result ≡ is_candidate outcome }
+{
+    match outcome {
+        Outcome::Candidate => true,
+        _ => false,
+    }
+}
+
+/// The shape in force for the column.
+fn shape_in_force<T: Table>(alignment: &Alignment<T>, column: usize) -> Option<Shape>
+    requires { column < length alignment.now.columns }
+    ensures { (g : Given) (E : List Entry) → StandsFor g E alignment.now → result ≡ shape_in (section_in_force g E column) }
+{
+    match alignment.in_force(column) {
+        Some(section) => Some(section.shape),
+        None => None,
+    }
+}
+
+/// Answers data of a PMU, and takes it where it comes in time.
+fn answer_data<T: Table>(
+    alignment: &mut Alignment<T>,
+    stream: usize,
+    instant: u64,
+    quality: u8,
+    payload: &[u8],
+) -> Outcome
+    requires { IsReady alignment.old stream }
+    ensures answer { (g : Given) (E : List Entry) → StandsFor g E alignment.old →
+        result ≡ (node_answer g E stream (Data instant quality payload.now)).outcome }
+    ensures stands { (g : Given) (E : List Entry) (bytes : List ℕ) → StandsFor g E alignment.old →
+        IsRun g (answered node_answer g E (ToArrive stream bytes (Data instant quality payload.now)) ∷ E) →
+        StandsFor g (answered node_answer g E (ToArrive stream bytes (Data instant quality payload.now)) ∷ E) alignment.new }
+{
+    others_are_left();
+    let Some(shape) = shape_in_force(alignment, stream) else {
+        return Outcome::Refused(Refusal::NoConfig);
+    };
+    if payload.len() != 2 * shape.word_count() {
+        return Outcome::Refused(Refusal::WrongLength);
+    }
+    alignment.put(stream, instant, &[(stream, body(shape, payload))], quality)
+}
+
+/// Answers a configuration of a PMU, and holds its section where it is new.
+fn answer_layout<T: Table>(
+    alignment: &mut Alignment<T>,
+    opening: u16,
+    stream: usize,
+    sections: &[ColumnSection<'_>],
+) -> Outcome
+    requires ready { IsReady alignment.old stream }
+    requires own { AllByRecursion (λ (part : ℕ × SectionFields). part.0 ≡ stream) (map section_part sections.now) }
+    ensures answer { (g : Given) (E : List Entry) (stamp : Option Stamp) → StandsFor g E alignment.old → opening ≡ count_for stream g.counts →
+        result ≡ (node_answer g E stream (Layout stamp (map section_part sections.now))).outcome }
+    ensures stands { (g : Given) (E : List Entry) (bytes : List ℕ) (stamp : Option Stamp) → StandsFor g E alignment.old → opening ≡ count_for stream g.counts →
+        IsRun g (answered node_answer g E (ToArrive stream bytes (Layout stamp (map section_part sections.now))) ∷ E) →
+        StandsFor g (answered node_answer g E (ToArrive stream bytes (Layout stamp (map section_part sections.now))) ∷ E) alignment.new }
+{
+    others_are_left();
+    let [only] = sections else {
+        return Outcome::Refused(Refusal::NoConfiguration(CfgFault::TooMany));
+    };
+    let outcome = section_answer(opening, alignment.held(stream), &only.section);
+    if is_candidate(outcome) {
+        alignment.hold(sections);
+    }
+    outcome
+}
+
+/// Answers what arrives for a PMU.
+pub fn answer<T: Table>(
+    alignment: &mut Alignment<T>,
+    opening: &[u16; MAX_PMUS],
+    stream: usize,
+    arrival: &Arrival<'_>,
+) -> Outcome
+    requires ready { IsReady alignment.old stream }
+    requires own { IsOwn stream (arrival_view arrival.now) }
+    ensures answer { (g : Given) (E : List Entry) → StandsFor g E alignment.old → opening.now ≡ g.counts →
+        result ≡ (node_answer g E stream (arrival_view arrival.now)).outcome }
+    ensures stands { (g : Given) (E : List Entry) (bytes : List ℕ) → StandsFor g E alignment.old → opening.now ≡ g.counts →
+        IsRun g (answered node_answer g E (ToArrive stream bytes (arrival_view arrival.now)) ∷ E) →
+        StandsFor g (answered node_answer g E (ToArrive stream bytes (arrival_view arrival.now)) ∷ E) alignment.new }
+{
+    others_are_left();
+    match arrival {
+        Arrival::BytesRefused(refusal) => Outcome::Refused(*refusal),
+        Arrival::Data {
+            instant,
+            quality,
+            payload,
+        } => answer_data(alignment, stream, *instant, *quality, payload),
+        Arrival::Layout { sections, .. } => {
+            answer_layout(alignment, count_for(stream, opening), stream, sections)
+        }
+    }
+}

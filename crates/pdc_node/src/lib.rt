@@ -1,0 +1,15 @@
+//! A node of a concentrator pair (this profile): it takes the streams of PMUs, aligns them by time tag and gives one row for each
+//! instant.
+//!
+//! The first type to look at is [`Node`]: settings, an alignment, and counts of how arrivals were answered.
+//!
+//! The promise to the layers above: for every life that a node stands for, each call answers as the life does, and the node then
+//! stands for the life with that step more. No call after [`Node::open`] takes memory, save a layout for which there is no room.
+#![tactic(auto)]
+
+mod answering;
+mod counts;
+mod node;
+
+pub use counts::Counts;
+pub use node::Node;
