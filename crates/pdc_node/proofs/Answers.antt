@@ -3,7 +3,7 @@ use Rattle.std.proofs.Common.{◌≡◌, ℕ, ◌≤◌, ◌<◌, Bool, true, fa
 use Rattle.std.specs.Prelude.{nat_eq}
 use Rattle.std.specs.Cmp.Lexicographic.{pointwise}
 use Rattle.std.proofs.lemmas.Bool.{false≢true}
-use Rattle.pdc_cfg.specs.Section.{SectionFields, fields_of_view}
+use Rattle.pdc_cfg.specs.Section.{SectionFields}
 use Rattle.pdc_life.specs.Answer.{bare}
 use Rattle.pdc_life.specs.Arrival.{Layout, Stamp}
 use Rattle.pdc_life.specs.Given.{Given, count_for}

@@ -1,5 +1,5 @@
 -- One answer more is counted.
-use Rattle.std.proofs.Common.{◌≡◌, ℕ, ◌+◌, ◌<◌, Bool, true, false, cond, eqb, List, [], ◌∷◌, filter, get_or, length, map, set, length-set, refl, sym, ◌∙◌, ap, subst, arith, suc}
+use Rattle.std.proofs.Common.{◌≡◌, ℕ, ◌<◌, Bool, true, false, cond, eqb, List, ◌∷◌, filter, get_or, length, map, set, length-set, refl, sym, ◌∙◌, ap, arith, suc}
 use Rattle.std.specs.List.{range_with_len}
 use Rattle.std.proofs.lemmas.Bool.{eqb-false, eqb-true}
 use Rattle.std.proofs.lemmas.List.{ext_get_or, get_or-set_other, get_or-set_same}
@@ -9,7 +9,7 @@ use Rattle.pdc_cfg.specs.declared.fault.CfgFault.TheVariants.{WrongKind, Cut, To
 use Rattle.pdc_row.specs.CellView.{CellView}
 use Rattle.pdc_life.specs.Arrival.{Arrival}
 use Rattle.pdc_life.specs.Counts.{count_answers, is_answered, is_refused_as, refused_as, shown}
-use Rattle.pdc_life.specs.Life.{Answer, Arrive, Entry}
+use Rattle.pdc_life.specs.Life.{Arrive, Entry}
 use Rattle.pdc_life.specs.declared.outcome.Outcome.{Outcome}
 use Rattle.pdc_life.specs.declared.outcome.Outcome.TheVariants.{Candidate, Known, Refused, Taken}
 use Rattle.pdc_life.specs.declared.outcome.Refusal.{Refusal}

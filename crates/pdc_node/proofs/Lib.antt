@@ -1,3 +1,4 @@
 mod Answers
 mod Counting
 mod Lives
+mod InOrder

@@ -1,16 +1,20 @@
 -- A node stands for the life with one step more.
-use Rattle.std.proofs.Common.{◌≡◌, ℕ, ◌<◌, List, [], ◌∷◌, length, refl, sym, ◌∙◌, ap, subst, arith}
-use Rattle.std.proofs.lemmas.List.FromFn.{length-map-range_with_len}
+use Rattle.std.proofs.Common.{◌≡◌, ℕ, List, [], ◌∷◌, length, refl, sym, ◌∙◌, ap, subst, arith}
+use Rattle.std.specs.List.{filter_map, range_with_len}
 use Rattle.std.proofs.lemmas.Option.{slice_get_within}
+use Rattle.pdc_cfg.specs.Section.{SectionFields}
+use Rattle.pdc_output.specs.declared.output.Output.{Output}
+use Rattle.pdc_output.specs.Layout.{layout_wire_of}
+use Rattle.pdc_life.specs.Published.{layout_wire}
 use Rattle.pdc_life.specs.declared.given.Settings.{Settings}
 use Rattle.pdc_life.specs.Arrival.{Arrival}
 use Rattle.pdc_life.specs.Given.{Given, given_of}
 use Rattle.pdc_life.specs.Laws.{NodeLivesAreRuns}
-use Rattle.pdc_life.specs.Life.{Arrive, Entry}
+use Rattle.pdc_life.specs.Life.{Arrive, Entry, changes, section_in_force}
 use Rattle.pdc_life.specs.Node.{IsNodeLife, ReadsFor, node_answer}
 use Rattle.pdc_life.specs.Run.{IsRun}
 use Rattle.pdc_life.specs.declared.outcome.Outcome.{Outcome}
-use Rattle.pdc_align.specs.Align.{AlignmentView, column_state_of}
+use Rattle.pdc_align.specs.Align.{HasSizes, KeepsSizes, State}
 use Rattle.pdc_align.specs.Align as align
 use Rattle.pdc_node.specs.declared.counts.Counts.{Counts}
 use Rattle.pdc_node.specs.Counts.{after_answer, counts_after}
@@ -19,10 +23,10 @@ use Rattle.pdc_node.proofs.Counting.{counted_more}
 
 -- ---- the start
 
-pub begins : (settings : Settings) (start floor : ℕ) (counts : List ℕ) (opening : ℕ) (g : Given) (a : AlignmentView) (k : Counts)
+pub begins : (settings : Settings) (start floor : ℕ) (counts : List ℕ) (opening : ℕ) (g : Given) (a : State) (k : Counts) (m : List ℕ)
     → g ≡ given_of settings start floor counts opening → align.StandsFor g [] a → k ≡ counts_after []
-    → StandsFor (given_of settings start floor counts opening) [] (record { settings = settings; start = start; opening = counts; alignment = a; counts = k })
-begins settings start floor counts opening g a k e aligned counted = record {
+    → StandsFor (given_of settings start floor counts opening) [] (record { settings = settings; start = start; opening = counts; state = a; counts = k; memory = m })
+begins settings start floor counts opening g a k m e aligned counted = record {
   life = record { given = refl; life = tt };
   same_start = refl;
   same_opening = refl;
@@ -32,20 +36,11 @@ begins settings start floor counts opening g a k e aligned counted = record {
 
 -- ---- arrivals
 
-pub columns_are : (n : NodeView) (g : Given) (E : List Entry) → StandsFor g E n → length n.alignment.columns ≡ length n.settings.pmus.items
-columns_are n g E stands =
-    ap (λ (a : AlignmentView). length a.columns) stands.aligned.same
-    ∙ length-map-range_with_len (column_state_of g E) 0 g.columns
-    ∙ ap (λ (h : Given). h.columns) stands.life.given
-
-pub is_ready : (n : NodeView) (g : Given) (E : List Entry) (s : ℕ) (bytes : List ℕ) (arrival : Arrival) → ReadsFor n.settings s bytes arrival → StandsFor g E n → IsReady n.alignment s
-is_ready n g E s bytes arrival reads stands = record {
-  each =
-      ap (λ (a : AlignmentView). length a.columns) stands.aligned.same
-      ∙ length-map-range_with_len (column_state_of g E) 0 g.columns
-      ∙ sym (ap (λ (a : AlignmentView). a.content.columns) stands.aligned.same);
-  lanes = ap (λ (a : AlignmentView). a.content.lanes) stands.aligned.same ∙ ap (λ (h : Given). h.lanes) stands.life.given;
-  exists = omega (arith, slice_get_within n.settings.pmus.items s reads.pmu reads.listed, columns_are n g E stands);
+pub is_ready : (n : NodeView) (s : ℕ) (bytes : List ℕ) (arrival : Arrival) → ReadsFor n.settings s bytes arrival → HasSizes (length n.settings.pmus.items) 1 n.state → IsReady n.state s
+is_ready n s bytes arrival reads sizes = record {
+  each = sizes.each_column ∙ sym sizes.column_count;
+  lanes = sizes.lane_count;
+  exists = omega (arith, slice_get_within n.settings.pmus.items s reads.pmu reads.listed, sizes.each_column);
 }
 
 module _ (runs : NodeLivesAreRuns) where
@@ -53,12 +48,12 @@ module _ (runs : NodeLivesAreRuns) where
       → IsNodeLife n.settings g (Arrive s bytes arrival (node_answer g E s arrival) ∷ E)
   life_more n g E s bytes arrival reads stands = record { given = stands.life.given; life = (reads, refl, stands.life.life) }
 
-  pub arrives : (n : NodeView) (g : Given) (E : List Entry) (s : ℕ) (bytes : List ℕ) (arrival : Arrival) (b : AlignmentView) (k : Counts) (o : Outcome)
+  pub arrives : (n : NodeView) (g : Given) (E : List Entry) (s : ℕ) (bytes : List ℕ) (arrival : Arrival) (b : State) (k : Counts) (m : List ℕ) (o : Outcome)
       → ReadsFor n.settings s bytes arrival → StandsFor g E n
       → (IsRun g (Arrive s bytes arrival (node_answer g E s arrival) ∷ E) → align.StandsFor g (Arrive s bytes arrival (node_answer g E s arrival) ∷ E) b)
       → k ≡ after_answer o n.counts → o ≡ (node_answer g E s arrival).outcome
-      → StandsFor g (Arrive s bytes arrival (node_answer g E s arrival) ∷ E) (record n { alignment = b; counts = k })
-  arrives n g E s bytes arrival b k o reads stands step e answer = record {
+      → StandsFor g (Arrive s bytes arrival (node_answer g E s arrival) ∷ E) (record n { state = b; counts = k; memory = m })
+  arrives n g E s bytes arrival b k m o reads stands step e answer = record {
     life = life_more n g E s bytes arrival reads stands;
     same_start = stands.same_start;
     same_opening = stands.same_opening;
@@ -67,3 +62,22 @@ module _ (runs : NodeLivesAreRuns) where
         e ∙ ap (after_answer o) stands.counted ∙ ap (λ p. after_answer p (counts_after E)) answer
         ∙ counted_more E s bytes arrival (node_answer g E s arrival).cells (node_answer g E s arrival).outcome;
   }
+
+pub same_sizes : (columns lanes : ℕ) (a b : State) → KeepsSizes a b → HasSizes columns lanes a → HasSizes columns lanes b
+same_sizes columns lanes a b keeps sizes = record {
+  column_count = keeps.columns ∙ sizes.column_count;
+  lane_count = keeps.lanes ∙ sizes.lane_count;
+  each_column = keeps.each ∙ sizes.each_column;
+}
+
+-- ---- layouts
+
+pub wire_is : (n : NodeView) (g : Given) (E : List Entry) (change soc : ℕ) (sections : List SectionFields) → StandsFor g E n → change ≡ changes E
+    → sections ≡ filter_map (section_in_force g E) (range_with_len 0 (length n.settings.pmus.items))
+    → layout_wire_of n.settings.output n.start change sections soc ≡ layout_wire g E soc
+wire_is n g E change soc sections stands c s =
+    ap (λ (output : Output). layout_wire_of output n.start change sections soc) (sym (ap (λ (h : Given). h.output) stands.life.given))
+    ∙ ap (λ start. layout_wire_of g.output start change sections soc) stands.same_start
+    ∙ ap (λ m. layout_wire_of g.output g.start m sections soc) c
+    ∙ ap (λ ss. layout_wire_of g.output g.start (changes E) ss soc)
+    (s ∙ ap (λ k. filter_map (section_in_force g E) (range_with_len 0 k)) (sym (ap (λ (h : Given). h.columns) stands.life.given)))

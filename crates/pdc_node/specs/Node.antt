@@ -1,14 +1,16 @@
 -- What contracts see of a node, and the lives that it stands for (this profile).
-use Rattle.std.specs.Prelude.{◌≡◌, ℕ, ◌<◌, List, length}
+use Rattle.std.specs.Prelude.{◌≡◌, ℕ, ◌<◌, List, ◌∷◌, length}
 use Rattle.std.specs.List.{AllByRecursion}
 use Rattle.pdc_cfg.specs.Section.{SectionFields}
 use Rattle.pdc_life.specs.declared.given.Settings.{Settings}
+use Rattle.pdc_life.specs.declared.outcome.Outcome.{Outcome}
+use Rattle.pdc_life.specs.Answer.{answered, ToArrive}
 use Rattle.pdc_life.specs.Arrival.{Arrival}
 use Rattle.pdc_life.specs.Given.{Given}
 use Rattle.pdc_life.specs.Life.{Entry}
-use Rattle.pdc_life.specs.Node.{IsNodeLife}
+use Rattle.pdc_life.specs.Node.{IsNodeLife, ReadsFor, node_answer}
 use Rattle.pdc_life.specs.Run.{sections_of}
-use Rattle.pdc_align.specs.Align.{AlignmentView}
+use Rattle.pdc_align.specs.Align.{State}
 use Rattle.pdc_align.specs.Align as align
 use Rattle.pdc_node.specs.declared.counts.Counts.{Counts}
 use Rattle.pdc_node.specs.Counts.{counts_after}
@@ -18,29 +20,33 @@ pub record NodeView : Type 0 where
   pub settings : Settings
   pub start : ℕ
   pub opening : List ℕ
-  -- what is kept: the alignment, and how arrivals were answered
-  pub alignment : AlignmentView
+  -- what is kept: the state of the alignment, and how arrivals were answered
+  pub state : State
   pub counts : Counts
+  -- for each buffer that it holds how many places it has
+  pub memory : List ℕ
 
 -- The node stands for this life, which is one of its settings.
 pub record StandsFor (g : Given) (E : List Entry) (n : NodeView) : Type 0 where
   pub life : IsNodeLife n.settings g E
   pub same_start : n.start ≡ g.start
   pub same_opening : n.opening ≡ g.counts
-  pub aligned : align.StandsFor g E n.alignment
+  pub aligned : align.StandsFor g E n.state
   pub counted : n.counts ≡ counts_after E
 
--- It stands for some life.
-pub record HasLife (n : NodeView) : Type 0 where
-  pub given : Given
-  pub life : List Entry
-  pub stands : StandsFor given life n
-
 -- An alignment of one lane that has a column for the stream.
-pub record IsReady (a : AlignmentView) (stream : ℕ) : Type 0 where
+pub record IsReady (a : State) (stream : ℕ) : Type 0 where
   pub each : length a.columns ≡ a.content.columns
   pub lanes : a.content.lanes ≡ 1
   pub exists : stream < length a.columns
+
+-- Bytes that came for the PMU say something, and the node answered it as each life does that it stood for: it stands for the life with
+-- that step more. What bytes say is one thing: `bytes_are_read_in_one_way`.
+pub record Hears (settings : Settings) (p : ℕ) (bytes : List ℕ) (outcome : Outcome) (old new : NodeView) : Type 0 where
+  pub arrival : Arrival
+  pub reads : ReadsFor settings p bytes arrival
+  pub answer : (g : Given) (E : List Entry) → StandsFor g E old → outcome ≡ (node_answer g E p arrival).outcome
+  pub stands : (g : Given) (E : List Entry) → StandsFor g E old → StandsFor g (answered node_answer g E (ToArrive p bytes arrival) ∷ E) new
 
 -- What arrives brings sections for the stream's own column alone.
 abbrev pub IsOwn : (stream : ℕ) → Arrival → Type 0

@@ -1,7 +1,7 @@
 //! What a node answers to what arrives, over its alignment.
 ghost use Rattle.std.specs.Prelude.{◌≡◌, ℕ, ◌*◌, ◌∷◌, ◌<◌, List, Option, length, map, option_map};
 ghost use Rattle.std.specs.List.{AllByRecursion};
-ghost use Rattle.pdc_align.specs.Align.{StandsFor};
+ghost use Rattle.pdc_align.specs.Align.{KeepsSizes, StandsFor};
 ghost use Rattle.pdc_block.specs.Block.{words_in, words_of};
 ghost use Rattle.pdc_cfg.specs.Section.{SectionFields, fields_of_view};
 ghost use Rattle.pdc_cfg.specs.Shape.{word_count_of};
@@ -80,8 +80,8 @@ fn is_candidate(outcome: Outcome) -> bool
 
 /// The shape in force for the column.
 fn shape_in_force<T: Table>(alignment: &Alignment<T>, column: usize) -> Option<Shape>
-    requires { column < length alignment.now.columns }
-    ensures { (g : Given) (E : List Entry) → StandsFor g E alignment.now → result ≡ shape_in (section_in_force g E column) }
+    requires { column < length alignment.now.state.columns }
+    ensures { (g : Given) (E : List Entry) → StandsFor g E alignment.now.state → result ≡ shape_in (section_in_force g E column) }
 {
     match alignment.in_force(column) {
         Some(section) => Some(section.shape),
@@ -97,12 +97,14 @@ fn answer_data<T: Table>(
     quality: u8,
     payload: &[u8],
 ) -> Outcome
-    requires { IsReady alignment.old stream }
-    ensures answer { (g : Given) (E : List Entry) → StandsFor g E alignment.old →
+    requires { IsReady alignment.old.state stream }
+    ensures answer { (g : Given) (E : List Entry) → StandsFor g E alignment.old.state →
         result ≡ (node_answer g E stream (Data instant quality payload.now)).outcome }
-    ensures stands { (g : Given) (E : List Entry) (bytes : List ℕ) → StandsFor g E alignment.old →
+    ensures stands { (g : Given) (E : List Entry) (bytes : List ℕ) → StandsFor g E alignment.old.state →
         IsRun g (answered node_answer g E (ToArrive stream bytes (Data instant quality payload.now)) ∷ E) →
-        StandsFor g (answered node_answer g E (ToArrive stream bytes (Data instant quality payload.now)) ∷ E) alignment.new }
+        StandsFor g (answered node_answer g E (ToArrive stream bytes (Data instant quality payload.now)) ∷ E) alignment.new.state }
+    ensures sizes { KeepsSizes alignment.old.state alignment.new.state }
+    ensures memory { alignment.new.memory ≡ alignment.old.memory }
 {
     others_are_left();
     let Some(shape) = shape_in_force(alignment, stream) else {
@@ -121,13 +123,15 @@ fn answer_layout<T: Table>(
     stream: usize,
     sections: &[ColumnSection<'_>],
 ) -> Outcome
-    requires ready { IsReady alignment.old stream }
+    requires ready { IsReady alignment.old.state stream }
     requires own { AllByRecursion (λ (part : ℕ × SectionFields). part.0 ≡ stream) (map section_part sections.now) }
-    ensures answer { (g : Given) (E : List Entry) (stamp : Option Stamp) → StandsFor g E alignment.old → opening ≡ count_for stream g.counts →
+    ensures answer { (g : Given) (E : List Entry) (stamp : Option Stamp) → StandsFor g E alignment.old.state → opening ≡ count_for stream g.counts →
         result ≡ (node_answer g E stream (Layout stamp (map section_part sections.now))).outcome }
-    ensures stands { (g : Given) (E : List Entry) (bytes : List ℕ) (stamp : Option Stamp) → StandsFor g E alignment.old → opening ≡ count_for stream g.counts →
+    ensures stands { (g : Given) (E : List Entry) (bytes : List ℕ) (stamp : Option Stamp) → StandsFor g E alignment.old.state → opening ≡ count_for stream g.counts →
         IsRun g (answered node_answer g E (ToArrive stream bytes (Layout stamp (map section_part sections.now))) ∷ E) →
-        StandsFor g (answered node_answer g E (ToArrive stream bytes (Layout stamp (map section_part sections.now))) ∷ E) alignment.new }
+        StandsFor g (answered node_answer g E (ToArrive stream bytes (Layout stamp (map section_part sections.now))) ∷ E) alignment.new.state }
+    ensures sizes { KeepsSizes alignment.old.state alignment.new.state }
+    ensures memory { alignment.new.memory ≡ alignment.old.memory }
 {
     others_are_left();
     let [only] = sections else {
@@ -147,13 +151,15 @@ pub fn answer<T: Table>(
     stream: usize,
     arrival: &Arrival<'_>,
 ) -> Outcome
-    requires ready { IsReady alignment.old stream }
+    requires ready { IsReady alignment.old.state stream }
     requires own { IsOwn stream (arrival_view arrival.now) }
-    ensures answer { (g : Given) (E : List Entry) → StandsFor g E alignment.old → opening.now ≡ g.counts →
+    ensures answer { (g : Given) (E : List Entry) → StandsFor g E alignment.old.state → opening.now ≡ g.counts →
         result ≡ (node_answer g E stream (arrival_view arrival.now)).outcome }
-    ensures stands { (g : Given) (E : List Entry) (bytes : List ℕ) → StandsFor g E alignment.old → opening.now ≡ g.counts →
+    ensures stands { (g : Given) (E : List Entry) (bytes : List ℕ) → StandsFor g E alignment.old.state → opening.now ≡ g.counts →
         IsRun g (answered node_answer g E (ToArrive stream bytes (arrival_view arrival.now)) ∷ E) →
-        StandsFor g (answered node_answer g E (ToArrive stream bytes (arrival_view arrival.now)) ∷ E) alignment.new }
+        StandsFor g (answered node_answer g E (ToArrive stream bytes (arrival_view arrival.now)) ∷ E) alignment.new.state }
+    ensures sizes { KeepsSizes alignment.old.state alignment.new.state }
+    ensures memory { alignment.new.memory ≡ alignment.old.memory }
 {
     others_are_left();
     match arrival {

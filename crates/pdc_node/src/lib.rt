@@ -10,6 +10,7 @@
 mod answering;
 mod counts;
 mod node;
+mod sections;
 
 pub use counts::Counts;
 pub use node::Node;

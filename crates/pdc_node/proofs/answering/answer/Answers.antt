@@ -1,9 +1,7 @@
-use Rattle.std.proofs.Common.{◌≡◌, ◌∷◌, ◌∙◌, List, ap, map, sym}
+use Rattle.std.proofs.Common.{◌∙◌, List, ap, map, sym}
 use Rattle.std.specs.Prelude.{option_map}
-use Rattle.pdc_life.specs.Answer.{bare}
 use Rattle.pdc_life.specs.Arrival.{Layout}
 use Rattle.pdc_life.specs.Given.{count_for}
-use Rattle.pdc_life.specs.Life.{Arrive}
 use Rattle.pdc_life.specs.Node.{node_answer}
 use Rattle.pdc_reading.specs.Views.{arrival_view, section_part, stamp_view}
 use Rattle.pdc_reading.specs.declared.arrival.Arrival.{Arrival}
@@ -13,7 +11,7 @@ use Rattle.pdc_node.proofs.answering.answer.Goals as goal
 
 pub returns-in-BytesRefused-clause-stands : goal.returns-in-BytesRefused-clause-stands
 returns-in-BytesRefused-clause-stands g c life E bytes stands opening run =
-    c.others_are_left.ensures life E c.args.alignment.now c.args.stream bytes (arrival_view c.args.arrival.now) (node_answer life E c.args.stream (arrival_view c.args.arrival.now)) stands
+    c.others_are_left.ensures life E c.args.alignment.now.state c.args.stream bytes (arrival_view c.args.arrival.now) (node_answer life E c.args.stream (arrival_view c.args.arrival.now)) stands
     (ap (λ (a : Arrival). is_left (node_answer life E c.args.stream (arrival_view a)).outcome) c.in-BytesRefused.is) run
 
 pub returns-in-Layout-clause-answer : goal.returns-in-Layout-clause-answer

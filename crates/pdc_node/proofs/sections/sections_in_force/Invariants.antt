@@ -1,0 +1,15 @@
+use Rattle.std.proofs.Common.{◌≡◌, ◌≤◌, ◌-◌, ◌++◌, List, length, map}
+use Rattle.std.specs.List.{filter_map, range_with_len}
+use Rattle.pdc_align.specs.Align.{StandsFor}
+use Rattle.pdc_cfg.specs.Section.{fields_of_view}
+use Rattle.pdc_life.specs.Given.{Given}
+use Rattle.pdc_life.specs.Life.{Entry, section_in_force}
+use Rattle.pdc_node.proofs.sections.sections_in_force.Given as goal
+
+-- the sections so far, and those of the columns that are left
+abbrev pub invariant-loop-column : goal.invariant-loop-column
+invariant-loop-column g l = record {
+  few : length l.sections.items ≤ l.column;
+  all : (h : Given) (E : List Entry) → StandsFor h E l.alignment.state →
+      map fields_of_view l.sections.items ++ filter_map (section_in_force h E) (range_with_len l.column (l.columns - l.column)) ≡ filter_map (section_in_force h E) (range_with_len 0 l.columns);
+}
