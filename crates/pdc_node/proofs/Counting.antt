@@ -14,6 +14,7 @@ use Rattle.pdc_life.specs.declared.outcome.Outcome.{Outcome}
 use Rattle.pdc_life.specs.declared.outcome.Outcome.TheVariants.{Candidate, Known, Refused, Taken}
 use Rattle.pdc_life.specs.declared.outcome.Refusal.{Refusal}
 use Rattle.pdc_life.specs.declared.outcome.Refusal.TheVariants.{NoFrame, WrongId, NoConfiguration, WrongTimeBase, WrongRate, WrongSource, BadOwnBlock, UnknownSource, OldStamp, StaleCount, CountConflict, BadTag, NoConfig, WrongLength, OtherStamp, Late, Ahead, OutOfWindow, Duplicate, Conflict}
+use Rattle.pdc_node.specs.declared.counts.Counts.{Counts}
 use Rattle.pdc_node.specs.Counts.{after_answer, counts_after, is_cause, next, number_of}
 
 next_shown : (n : ℕ) → next (shown n) ≡ shown (suc n)
@@ -94,3 +95,7 @@ counted_more E s bytes a cells Known = ap (λ n. record (counts_after E) { known
 counted_more E s bytes a cells (Refused r) =
     ap (λ n. record (counts_after E) { refused = n; causes = set (causes_of E) (number_of r) (next (get_or (causes_of E) (number_of r) 0)) }) (next_shown _)
     ∙ ap (λ xs. record (counts_after (Arrive s bytes a (record { outcome = Refused r; cells = cells }) ∷ E)) { causes = xs }) (causes_more E s bytes a cells r)
+
+-- what the counters show of a cause is how often the life refused by it
+pub shows_cause : (E : List Entry) (k : Counts) (r : Refusal) → k ≡ counts_after E → get_or k.causes (number_of r) 0 ≡ refused_as (is_cause (number_of r)) E
+shows_cause E k r e = ap (λ (x : Counts). get_or x.causes (number_of r) 0) e ∙ cause_at E (number_of r) (within r)

@@ -1,6 +1,8 @@
 //! How arrivals were answered, in numbers.
-ghost use Rattle.std.specs.Prelude.{◌≡◌, ◌<◌, [], slice_index_or};
-ghost use Rattle.pdc_node.specs.Counts.{after_answer, counts_after, next, number_of};
+ghost use Rattle.std.specs.Prelude.{◌≡◌, ◌<◌, [], List, slice_index_or};
+ghost use Rattle.pdc_life.specs.Counts.{refused_as};
+ghost use Rattle.pdc_life.specs.Life.{Entry};
+ghost use Rattle.pdc_node.specs.Counts.{after_answer, counts_after, is_cause, next, number_of};
 
 use pdc_cfg::CfgFault;
 use pdc_frame::FrameFault;
@@ -83,7 +85,8 @@ impl Counts {
 
     /// How many arrivals were refused by this cause.
     pub fn refused_as(&self, refusal: Refusal) -> u64
-        ensures { result ≡ slice_index_or self.now.causes (number_of refusal) 0 }
+        ensures value { result ≡ slice_index_or self.now.causes (number_of refusal) 0 }
+        ensures life { (E : List Entry) → self.now ≡ counts_after E → result ≡ refused_as (is_cause (number_of refusal)) E }
     {
         self.causes[number_of(refusal)]
     }

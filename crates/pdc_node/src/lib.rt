@@ -11,6 +11,8 @@ mod answering;
 mod counts;
 mod node;
 mod sections;
+mod taken;
 
 pub use counts::Counts;
 pub use node::Node;
+pub use taken::Taken;
