@@ -11,8 +11,10 @@ mod answering;
 mod counts;
 mod node;
 mod sections;
+mod step;
 mod taken;
 
-pub use counts::Counts;
+pub use counts::{CAUSES, Counts, causes_are_told_apart};
 pub use node::Node;
-pub use taken::Taken;
+pub use step::{CoreStep, Reply};
+pub use taken::{MAX_PAYLOAD, Taken};
