@@ -1,10 +1,9 @@
 -- The steps of a core and its replies, beside the steps of lives and their answers (this profile).
-use Rattle.std.specs.Prelude.{◌≡◌, Bool, true, false, List, option_map}
+use Rattle.std.specs.Prelude.{◌≡◌, ℕ, Bool, true, false, List, option_map}
 use Rattle.pdc_align.specs.Align.{ticked_of}
-use Rattle.pdc_life.specs.declared.given.Settings.{Settings}
 use Rattle.pdc_life.specs.Answer.{IsReadStep, ReadStep, ToArrive, ToPop, ToTick}
 use Rattle.pdc_life.specs.Life.{Arrive, Entry, Pop, Tick, changes}
-use Rattle.pdc_life.specs.Node.{ReadsFor}
+use Rattle.pdc_life.specs.Arrival.{Arrival}
 use Rattle.pdc_row.specs.RowView.{row_view}
 use Rattle.pdc_node.specs.Taken.{taken_view}
 use Rattle.pdc_node.specs.declared.step.CoreStep.{CoreStep}
@@ -19,10 +18,10 @@ IsOf (core.Tick now counts) (ToTick n cs) = (n ≡ now) × (cs ≡ counts)
 IsOf core.Pop ToPop = Unit {0}
 IsOf step read = ⊥
 
--- It is one that a node with these settings may make: what arrived is what some bytes say.
-pub record MayMake (settings : Settings) (step : CoreStep) : Type 0 where
+-- It may be made where bytes may say this: what arrived is what some bytes say.
+pub record MayMake (Says : ℕ → List ℕ → Arrival → Type 0) (step : CoreStep) : Type 0 where
   pub read : ReadStep
-  pub says : IsReadStep (ReadsFor settings) read
+  pub said : IsReadStep Says read
   pub same : IsOf step read
 
 -- The reply tells what a step after E was answered.

@@ -8,12 +8,14 @@
 #![tactic(auto)]
 
 mod answering;
+mod core_trait;
 mod counts;
 mod node;
 mod sections;
 mod step;
 mod taken;
 
+pub use core_trait::Core;
 pub use counts::{CAUSES, Counts, causes_are_told_apart};
 pub use node::Node;
 pub use step::{CoreStep, Reply};

@@ -154,7 +154,7 @@ impl<T: Table> Node<T> {
 
     /// Makes a step: what arrived is answered, a tick ticks, or a row is taken out.
     pub fn apply(&mut self, step: &CoreStep) -> Reply
-        requires { MayMake self.old.settings step.now }
+        requires { MayMake (ReadsFor self.old.settings) step.now }
         ensures answer { (g : Given) (E : List Entry) (read : ReadStep) → IsOf step.now read → StandsFor g E self.old →
             Tells E (answered node_answer g E read) result }
         ensures kind { answers step.now result ≡ true }
