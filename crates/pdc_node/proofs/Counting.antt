@@ -1,5 +1,5 @@
 -- One answer more is counted.
-use Rattle.std.proofs.Common.{◌≡◌, ℕ, ◌<◌, Bool, true, false, cond, eqb, List, ◌∷◌, filter, get_or, length, map, set, length-set, refl, sym, ◌∙◌, ap, arith, suc}
+use Rattle.std.proofs.Common.{[], ◌≡◌, ℕ, ◌<◌, Bool, true, false, cond, eqb, List, ◌∷◌, filter, get_or, length, map, set, length-set, refl, sym, ◌∙◌, ap, arith, suc}
 use Rattle.std.specs.List.{range_with_len}
 use Rattle.std.proofs.lemmas.Bool.{eqb-false, eqb-true}
 use Rattle.std.proofs.lemmas.List.{ext_get_or, get_or-set_other, get_or-set_same}
@@ -99,3 +99,40 @@ counted_more E s bytes a cells (Refused r) =
 -- what the counters show of a cause is how often the life refused by it
 pub shows_cause : (E : List Entry) (k : Counts) (r : Refusal) → k ≡ counts_after E → get_or k.causes (number_of r) 0 ≡ refused_as (is_cause (number_of r)) E
 shows_cause E k r e = ap (λ (x : Counts). get_or x.causes (number_of r) 0) e ∙ cause_at E (number_of r) (within r)
+
+-- ---- the causes
+
+abbrev causes : List Refusal
+causes = NoFrame Short ∷ NoFrame BadSync ∷ NoFrame SizeMismatch ∷ NoFrame BadCheck ∷ NoFrame BadId ∷ WrongId ∷ NoConfiguration WrongKind ∷ NoConfiguration Cut ∷ NoConfiguration TooMany ∷ NoConfiguration FloatFormat ∷ WrongTimeBase ∷ WrongRate ∷ WrongSource ∷ BadOwnBlock ∷ UnknownSource ∷ OldStamp ∷ StaleCount ∷ CountConflict ∷ BadTag ∷ NoConfig ∷ WrongLength ∷ OtherStamp ∷ Late ∷ Ahead ∷ OutOfWindow ∷ Duplicate ∷ Conflict ∷ []
+
+named : (r : Refusal) → get_or causes (number_of r) Conflict ≡ r
+named (NoFrame Short) = refl
+named (NoFrame BadSync) = refl
+named (NoFrame SizeMismatch) = refl
+named (NoFrame BadCheck) = refl
+named (NoFrame BadId) = refl
+named WrongId = refl
+named (NoConfiguration WrongKind) = refl
+named (NoConfiguration Cut) = refl
+named (NoConfiguration TooMany) = refl
+named (NoConfiguration FloatFormat) = refl
+named WrongTimeBase = refl
+named WrongRate = refl
+named WrongSource = refl
+named BadOwnBlock = refl
+named UnknownSource = refl
+named OldStamp = refl
+named StaleCount = refl
+named CountConflict = refl
+named BadTag = refl
+named NoConfig = refl
+named WrongLength = refl
+named OtherStamp = refl
+named Late = refl
+named Ahead = refl
+named OutOfWindow = refl
+named Duplicate = refl
+named Conflict = refl
+
+pub told_apart : (a b : Refusal) → number_of a ≡ number_of b → a ≡ b
+told_apart a b e = sym (named a) ∙ ap (λ n. get_or causes n Conflict) e ∙ named b

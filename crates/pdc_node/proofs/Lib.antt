@@ -2,3 +2,5 @@ mod Answers
 mod Counting
 mod Lives
 mod InOrder
+mod Steps
+mod Worked

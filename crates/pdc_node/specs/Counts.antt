@@ -1,5 +1,5 @@
 -- What a core keeps of the answers of a life (this profile).
-use Rattle.std.specs.Prelude.{ℕ, ◌+◌, ◌==◌, Bool, List, map, slice_index_or, slice_set}
+use Rattle.std.specs.Prelude.{◌≡◌, ℕ, ◌+◌, ◌==◌, Bool, List, map, slice_index_or, slice_set}
 use Rattle.std.specs.List.{range_with_len}
 use Rattle.pdc_cfg.specs.declared.fault.CfgFault.TheVariants.{WrongKind, Cut, TooMany, FloatFormat}
 use Rattle.pdc_frame.specs.declared.fault.FrameFault.TheVariants.{Short, BadSync, SizeMismatch, BadCheck, BadId}
@@ -40,6 +40,10 @@ number_of Ahead = 23
 number_of OutOfWindow = 24
 number_of Duplicate = 25
 number_of Conflict = 26
+
+-- each cause has a number of its own
+abbrev pub CausesAreToldApart : Type 0
+CausesAreToldApart = (a b : Refusal) → number_of a ≡ number_of b → a ≡ b
 
 -- the refusal has the cause of this number
 abbrev pub is_cause : ℕ → Refusal → Bool

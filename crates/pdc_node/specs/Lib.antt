@@ -1,3 +1,4 @@
 pub mod Counts
 pub mod Node
 pub mod Taken
+pub mod Step

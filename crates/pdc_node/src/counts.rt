@@ -2,7 +2,7 @@
 ghost use Rattle.std.specs.Prelude.{◌≡◌, ◌<◌, [], List, slice_index_or};
 ghost use Rattle.pdc_life.specs.Counts.{refused_as};
 ghost use Rattle.pdc_life.specs.Life.{Entry};
-ghost use Rattle.pdc_node.specs.Counts.{after_answer, counts_after, is_cause, next, number_of};
+ghost use Rattle.pdc_node.specs.Counts.{CausesAreToldApart, after_answer, counts_after, is_cause, next, number_of};
 
 use pdc_cfg::CfgFault;
 use pdc_frame::FrameFault;
@@ -61,6 +61,11 @@ fn number_of(refusal: Refusal) -> usize
         Refusal::Conflict => 26,
     }
 }
+
+/// Each cause has a number of its own: no counter counts two.
+pub fn causes_are_told_apart()
+    ensures { CausesAreToldApart }
+{}
 
 /// One more, up to the greatest value.
 fn next(count: u64) -> u64

@@ -1,20 +1,21 @@
 //! A node.
-ghost use Rattle.std.specs.Prelude.{◌≡◌, ℕ, ◌+◌, ◌*◌, ◌<◌, ◌≤◌, ◌∷◌, ◌++◌, [], IfOk, IfSome, IsOk, List, OnErr, OnOk, Option, length, map, option_map};
+ghost use Rattle.std.specs.Prelude.{◌≡◌, ℕ, ◌+◌, ◌*◌, ◌<◌, ◌≤◌, ◌∷◌, ◌++◌, [], IfOk, IfSome, IsOk, List, OnErr, OnOk, Option, length, map, option_map, true};
 ghost use Rattle.pdc_align.specs.Align.{given_by, ticked_of};
 ghost use Rattle.pdc_cfg.specs.Section.{fields_of_view};
-ghost use Rattle.pdc_life.specs.Answer.{answered, pop_answer, tick_answer, waiting_counts, ToArrive, ToPop, ToTick};
+ghost use Rattle.pdc_life.specs.Answer.{answered, pop_answer, tick_answer, waiting_counts, IsReadStep, ReadStep, ToArrive, ToPop, ToTick};
 ghost use Rattle.pdc_life.specs.Given.{Given, given_of};
 ghost use Rattle.pdc_life.specs.Life.{Entry, changes, popped};
 ghost use Rattle.pdc_life.specs.Node.{ReadsFor, node_answer};
 ghost use Rattle.pdc_life.specs.Published.{layout_wire};
 ghost use Rattle.pdc_node.specs.Counts.{counts_after};
 ghost use Rattle.pdc_node.specs.Node.{Hears, StandsFor};
+ghost use Rattle.pdc_node.specs.Step.{IsOf, MayMake, Tells, answers};
 ghost use Rattle.pdc_reading.specs.Views.{arrival_view};
 ghost use Rattle.pdc_row.specs.Rising.{AreBelow};
 ghost use Rattle.pdc_row.specs.RowView.{row_instants, row_view};
 
 use crate::sections::sections_in_force;
-use crate::{Counts, answering};
+use crate::{CoreStep, Counts, Reply, answering};
 use pdc_align::{Alignment, Plan, Ticked};
 use pdc_frame::Buffer;
 use pdc_life::{MAX_PMUS, Outcome, Settings, lives_are_runs, rows_have_tags};
@@ -149,6 +150,27 @@ impl<T: Table> Node<T> {
     {
         rows_have_tags();
         self.alignment.pop_due()
+    }
+
+    /// Makes a step: what arrived is answered, a tick ticks, or a row is taken out.
+    pub fn apply(&mut self, step: &CoreStep) -> Reply
+        requires { MayMake (ReadsFor self.old.settings) step.now }
+        ensures answer { (g : Given) (E : List Entry) (read : ReadStep) → IsOf step.now read → StandsFor g E self.old →
+            Tells E (answered node_answer g E read) result }
+        ensures kind { answers step.now result ≡ true }
+        ensures stands { (g : Given) (E : List Entry) (read : ReadStep) → IsOf step.now read → IsReadStep (ReadsFor self.old.settings) read →
+            StandsFor g E self.old → StandsFor g (answered node_answer g E read ∷ E) self.new }
+        ensures settings { self.new.settings ≡ self.old.settings }
+        ensures memory { self.new.memory ≡ self.old.memory }
+    {
+        match step {
+            CoreStep::Arrive { stream, taken } => {
+                let arrival = taken.view();
+                Reply::Arrived(self.arrive(*stream, &arrival))
+            }
+            CoreStep::Tick { now, counts } => Reply::Closed(self.tick(*now, counts)),
+            CoreStep::Pop => Reply::Popped(self.pop_due()),
+        }
     }
 
     /// Appends the frame of the layout in force: the node's own section, and those in force. `soc` is the second that it is dated

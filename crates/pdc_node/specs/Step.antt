@@ -1,0 +1,39 @@
+-- The steps of a core and its replies, beside the steps of lives and their answers (this profile).
+use Rattle.std.specs.Prelude.{◌≡◌, ℕ, Bool, true, false, List, option_map}
+use Rattle.pdc_align.specs.Align.{ticked_of}
+use Rattle.pdc_life.specs.Answer.{IsReadStep, ReadStep, ToArrive, ToPop, ToTick}
+use Rattle.pdc_life.specs.Life.{Arrive, Entry, Pop, Tick, changes}
+use Rattle.pdc_life.specs.Arrival.{Arrival}
+use Rattle.pdc_row.specs.RowView.{row_view}
+use Rattle.pdc_node.specs.Taken.{taken_view}
+use Rattle.pdc_node.specs.declared.step.CoreStep.{CoreStep}
+use Rattle.pdc_node.specs.declared.step.CoreStep.TheVariants as core
+use Rattle.pdc_node.specs.declared.step.Reply.{Reply}
+use Rattle.pdc_node.specs.declared.step.Reply.TheVariants as reply
+
+-- The step is this one of a life: what arrived is a copy of what its bytes say.
+abbrev pub IsOf : CoreStep → ReadStep → Type 0
+IsOf (core.Arrive stream taken) (ToArrive s bytes arrival) = (s ≡ stream) × (arrival ≡ taken_view taken)
+IsOf (core.Tick now counts) (ToTick n cs) = (n ≡ now) × (cs ≡ counts)
+IsOf core.Pop ToPop = Unit {0}
+IsOf step read = ⊥
+
+-- It may be made where bytes may say this: what arrived is what some bytes say.
+pub record MayMake (Says : ℕ → List ℕ → Arrival → Type 0) (step : CoreStep) : Type 0 where
+  pub read : ReadStep
+  pub said : IsReadStep Says read
+  pub same : IsOf step read
+
+-- The reply tells what a step after E was answered.
+abbrev pub Tells : List Entry → Entry → Reply → Type 0
+Tells E (Arrive s bytes arrival answer) (reply.Arrived outcome) = outcome ≡ answer.outcome
+Tells E (Tick now counts answer) (reply.Closed ticked) = ticked ≡ ticked_of (changes E) answer
+Tells E (Pop row) (reply.Popped due) = option_map row_view due ≡ row
+Tells E entry other = ⊥
+
+-- The reply is one to a step of this kind.
+abbrev pub answers : CoreStep → Reply → Bool
+answers (core.Arrive stream taken) (reply.Arrived outcome) = true
+answers (core.Tick now counts) (reply.Closed ticked) = true
+answers core.Pop (reply.Popped due) = true
+answers step other = false

@@ -1,0 +1,5 @@
+//! Tests of nodes, over both tables.
+#![tactic(auto)]
+
+#[cfg(test)]
+mod tests;
