@@ -5,11 +5,13 @@
 #![tactic(auto)]
 
 mod fault;
+mod recent;
 mod serving;
 mod session;
 mod told;
 
 pub use fault::SessionFault;
+pub use recent::Frames;
 pub use serving::Serving;
 pub use session::Session;
 pub use told::Told;
