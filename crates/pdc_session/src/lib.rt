@@ -8,6 +8,8 @@ mod fault;
 mod recent;
 mod serving;
 mod session;
+#[cfg(test)]
+mod tests;
 mod told;
 
 pub use fault::SessionFault;
