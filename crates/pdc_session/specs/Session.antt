@@ -1,0 +1,87 @@
+-- A session with a consumer: what the frames of a stream tell it, and what it answers (IEEE C37.118.2-2011, 6.6 and table 15; that
+-- a session ends at a fault of its stream is this profile's).
+use Rattle.std.specs.Prelude.{◌≡◌, ℕ, ◌+◌, ◌-◌, ◌^◌, ◌≤◌, length, min, true, false, List, [], ◌∷◌, ◌++◌, Option, Some, None}
+use Rattle.std.specs.List.{flat_map}
+use Rattle.pdc_frame.specs.Frame.{Fields, IsFrame, spelling_of}
+use Rattle.pdc_frame.specs.Stream.{Held, HasTaken}
+use Rattle.pdc_frame.specs.declared.frame.Kind.TheVariants.{Cfg1, Cfg2}
+use Rattle.pdc_cfg.specs.Config.{config_fields_of, config_frame_of}
+use Rattle.pdc_command.specs.Command.{IsCommand, header_fields}
+use Rattle.pdc_command.specs.declared.command.Command.{Command}
+use Rattle.pdc_command.specs.declared.command.Command.TheVariants.{DataOff, DataOn, SendHeader, SendCfg1, SendCfg2, SendCfg3}
+use Rattle.pdc_session.specs.declared.fault.SessionFault.{SessionFault}
+use Rattle.pdc_session.specs.declared.told.Told.{Told}
+use Rattle.pdc_session.specs.declared.serving.Serving.{Serving}
+
+-- what a session is: its stream id, the framer of its stream, what it was told so far, and the fault that ended it
+pub record SessionView : Type 0 where
+  pub id : ℕ
+  pub held : Held
+  pub told : Told
+  pub ended : Option SessionFault
+
+-- The frame tells the stream this command; none where it is of another stream, or says no command.
+abbrev pub Tells : (id : ℕ) → Fields → Option Command → Type 0
+Tells id f (Some command) = (f.id ≡ id) × IsCommand f command
+Tells id f None = (command : Command) → f.id ≡ id → IsCommand f command → ⊥
+
+-- these bytes are such a frame
+abbrev pub BytesTell : (id : ℕ) → List ℕ → Option Command → Type 0
+BytesTell id bytes command = (f : Fields) × IsFrame bytes f × Tells id f command
+
+-- frame by frame
+abbrev pub AreTold : (id : ℕ) → List (List ℕ) → List (Option Command) → Type 0
+AreTold id [] [] = Unit {0}
+AreTold id (frame ∷ frames) (command ∷ commands) = BytesTell id frame command × AreTold id frames commands
+AreTold id frames commands = ⊥
+
+-- a counter of 64 bits stays at its greatest value
+abbrev pub counted : ℕ → ℕ
+counted n = min (n + 1) (2 ^ 64 - 1)
+
+-- what a frame makes of what a session was told: data on or off, or one more frame without an effect
+abbrev pub told_after : Told → Option Command → Told
+told_after told (Some DataOff) = record told { on = false }
+told_after told (Some DataOn) = record told { on = true }
+told_after told (Some SendHeader) = told
+told_after told (Some SendCfg1) = told
+told_after told (Some SendCfg2) = told
+told_after told (Some SendCfg3) = record told { ignored = counted told.ignored }
+told_after told None = record told { ignored = counted told.ignored }
+
+abbrev pub told_after_all : Told → List (Option Command) → Told
+told_after_all told [] = told
+told_after_all told (command ∷ commands) = told_after_all (told_after told command) commands
+
+-- the reply to a frame: the header frame, the configuration as CFG-1 or CFG-2, or nothing
+abbrev pub reply_of : (id : ℕ) → Serving → Option Command → List ℕ
+reply_of id serving (Some SendHeader) = spelling_of (header_fields id serving.soc serving.header.now)
+reply_of id serving (Some SendCfg1) = spelling_of (config_frame_of Cfg1 id serving.soc (config_fields_of serving.layout))
+reply_of id serving (Some SendCfg2) = spelling_of (config_frame_of Cfg2 id serving.soc (config_fields_of serving.layout))
+reply_of id serving _ = []
+
+-- the replies, in order
+abbrev pub replies_of : (id : ℕ) → Serving → List (Option Command) → List ℕ
+replies_of id serving commands = flat_map (reply_of id serving) commands
+
+-- With these bytes a session goes on from one state to another: these frames end in them, and tell these commands.
+pub record Hears (id : ℕ) (piece : List ℕ) (frames : List (List ℕ)) (commands : List (Option Command)) (held : Held) (told : Told) (later : Held) (after : Told) : Type 0 where
+  pub stream : (stream : List ℕ) (before : List (List ℕ)) → HasTaken stream before held → HasTaken (stream ++ piece) (before ++ frames) later
+  pub tells : AreTold id frames commands
+  pub told_then : after ≡ told_after_all told commands
+
+-- With this piece a session goes on, and the replies to the frames that end in it were appended, in order.
+pub record HasAnswered (id : ℕ) (serving : Serving) (piece : List ℕ) (held : Held) (told : Told) (out : List ℕ) (later : Held) (after : Told) (grown : List ℕ) : Type 0 where
+  pub frames : List (List ℕ)
+  pub commands : List (Option Command)
+  pub hears : Hears id piece frames commands held told later after
+  pub replies : grown ≡ out ++ replies_of id serving commands
+
+-- The replies to all of them but the last were, and there is no room for that one.
+pub record LacksOne (id : ℕ) (serving : Serving) (piece : List ℕ) (held : Held) (told : Told) (out : List ℕ) (later : Held) (after : Told) (grown : List ℕ) (room : ℕ) : Type 0 where
+  pub frames : List (List ℕ)
+  pub commands : List (Option Command)
+  pub last : Option Command
+  pub hears : Hears id piece frames (commands ++ last ∷ []) held told later after
+  pub replies : grown ≡ out ++ replies_of id serving commands
+  pub full : length grown + length (reply_of id serving last) ≤ room → ⊥

@@ -1,0 +1,212 @@
+//! A session: the commands of a stream and their replies.
+ghost use Rattle.std.specs.Prelude.{◌≡◌, ◌+◌, ◌<◌, ◌≤◌, ◌++◌, ℕ, List, [], ◌∷◌, Option, Some, None, false, length, take, IfOk, OnOk, OnErr, IsErrOf, IsOk};
+ghost use Rattle.pdc_frame.specs.Frame.{fields_of};
+ghost use Rattle.pdc_frame.specs.Stream.{HasTaken, IsBad};
+ghost use Rattle.pdc_frame.specs.declared.step.Step.TheVariants.{More};
+ghost use Rattle.pdc_command.specs.declared.command.Command.{Command};
+ghost use Rattle.pdc_command.specs.declared.header.TheConstants.{MAX_TEXT};
+ghost use Rattle.pdc_session.specs.Session.{HasAnswered, LacksOne, Tells, told_after, reply_of};
+
+use crate::fault::SessionFault;
+use crate::serving::Serving;
+use crate::told::Told;
+use pdc_cfg::write_config;
+use pdc_command::{Command, read_command, write_header};
+use pdc_frame::{Buffer, Frame, Framer, Kind, MAX_ID, Step};
+use std::alloc::{AllocError, Global};
+use std::marker::Model;
+
+/// The command that the frame tells the stream `id`.
+fn command_to(id: u16, frame: &Frame) -> Option<Command>
+    ensures { Tells id (fields_of frame.now) result }
+{
+    if frame.id != id {
+        return None;
+    }
+    match read_command(frame) {
+        Ok(command) => Some(command),
+        Err(_) => None,
+    }
+}
+
+/// Keeps what the command tells, and appends the reply to it.
+fn obey<B: Buffer>(
+    id: u16,
+    command: Option<Command>,
+    serving: &Serving,
+    told: &mut Told,
+    out: &mut B,
+) -> Result<(), AllocError>
+    requires id_low { 0 < id }
+    requires id_high { id ≤ MAX_ID }
+    requires header { length serving.now.header.now ≤ MAX_TEXT }
+    ensures ok { OnOk result (B.content out.new ≡ B.content out.old ++ reply_of id serving.now command) }
+    ensures told { told.new ≡ told_after told.old command }
+    ensures err { OnErr result ((B.content out.new ≡ B.content out.old) × (B.capacity out.new ≡ B.capacity out.old)) }
+    ensures room { length (B.content out.old) + length (reply_of id serving.now command) ≤ B.capacity out.old → IsOk result }
+    ensures in_place { length (B.content out.old) + length (reply_of id serving.now command) ≤ B.capacity out.old → B.capacity out.new ≡ B.capacity out.old }
+{
+    match command {
+        Some(Command::DataOff) => told.on = false,
+        Some(Command::DataOn) => told.on = true,
+        Some(Command::SendHeader) => return write_header(id, serving.soc, serving.header, out),
+        Some(Command::SendCfg1) => {
+            return write_config(&serving.layout, Kind::Cfg1, id, serving.soc, out);
+        }
+        Some(Command::SendCfg2) => {
+            return write_config(&serving.layout, Kind::Cfg2, id, serving.soc, out);
+        }
+        Some(Command::SendCfg3) | None => told.ignored = told.ignored.saturating_add(1),
+    }
+    Ok(())
+}
+
+/// Takes in a piece of the stream, and appends the replies to the frames that end in it.
+fn hear<B: Buffer>(
+    id: u16,
+    framer: &mut Framer,
+    told: &mut Told,
+    piece: &[u8],
+    serving: &Serving,
+    out: &mut B,
+) -> Result<(), SessionFault>
+    requires id_low { 0 < id }
+    requires id_high { id ≤ MAX_ID }
+    requires header { length serving.now.header.now ≤ MAX_TEXT }
+    requires good { IsBad framer.old.step → ⊥ }
+    ensures good { OnOk result (IsBad framer.new.step → ⊥) }
+    ensures ok { OnOk result (HasAnswered id serving.now piece.now framer.old told.old (B.content out.old) framer.new told.new (B.content out.new)) }
+    ensures bad { IsErrOf result SessionFault.BadStream → IsBad framer.new.step
+        × (n : ℕ) × (n ≤ length piece.now) × HasAnswered id serving.now (take n piece.now) framer.old told.old (B.content out.old) framer.new told.new (B.content out.new) }
+    ensures memory { IsErrOf result SessionFault.NoMemory
+        → (n : ℕ) × (n ≤ length piece.now) × LacksOne id serving.now (take n piece.now) framer.old told.old (B.content out.old) framer.new told.new (B.content out.new) (B.capacity out.new) }
+{
+    let mut at = 0;
+    while at < piece.len() {
+        let (taken, step) = framer.feed(&piece[at..]);
+        at += taken;
+        match step {
+            Step::More => {}
+            Step::Whole => {
+                let command = command_to(id, &framer.fields());
+                match obey(id, command, serving, told, out) {
+                    Ok(()) => {}
+                    Err(_) => return Err(SessionFault::NoMemory),
+                }
+            }
+            Step::Bad(_) => return Err(SessionFault::BadStream),
+        }
+    }
+    Ok(())
+}
+
+/// A session with a consumer: it finds the command frames in what the consumer sends, and answers them.
+#[derive(Drop)]
+pub struct Session {
+    id: u16,
+    framer: Framer,
+    told: Told,
+    ended: Option<SessionFault>,
+}
+
+impl Model for Session {
+    ghost use Rattle.std.specs.Prelude.{◌≡◌, ◌<◌, ◌≤◌, None};
+    ghost use Rattle.pdc_frame.specs.declared.limits.TheConstants.{MAX_ID};
+    ghost use Rattle.pdc_frame.specs.Stream.{IsBad};
+    ghost use Rattle.pdc_session.specs.Session.{SessionView};
+
+    ghost Value = { SessionView };
+
+    ghost view = { λ s. record { id = s.id; held = s.framer; told = s.told; ended = s.ended } };
+
+    ghost invariant = { λ s. record {
+      id_low : 0 < s.id;
+      id_high : s.id ≤ MAX_ID;
+      good : s.ended ≡ None → IsBad s.framer.step → ⊥;
+    } };
+}
+
+impl Session {
+    /// A session of the stream `id`, 1 to 65534, to which no byte came yet.
+    ///
+    /// # Errors
+    ///
+    /// [`AllocError`] where there is no memory for the longest frame.
+    pub fn new(alloc: Global, id: u16) -> Result<Session, AllocError>
+        requires id_low { 0 < id }
+        requires id_high { id ≤ MAX_ID }
+        ensures id { IfOk result (λ session. session.id ≡ id) }
+        ensures told { IfOk result (λ session. (session.told.on ≡ false) × (session.told.ignored ≡ 0)) }
+        ensures ended { IfOk result (λ session. session.ended ≡ None) }
+        ensures stream { IfOk result (λ session. HasTaken [] [] session.held) }
+    {
+        Ok(Session {
+            id,
+            framer: Framer::new(alloc)?,
+            told: Told {
+                on: false,
+                ignored: 0,
+            },
+            ended: None,
+        })
+    }
+
+    /// Whether data was asked for: what the last DataOn or DataOff said, at first not.
+    pub fn on(&self) -> bool
+        ensures { result ≡ self.now.told.on }
+    {
+        self.told.on
+    }
+
+    /// How many frames had no effect: those of another id or kind, SendCfg3, and those that say no command. It stays at its greatest
+    /// value.
+    pub fn ignored(&self) -> u64
+        ensures { result ≡ self.now.told.ignored }
+    {
+        self.told.ignored
+    }
+
+    /// Takes in a piece of what the consumer sends, and appends to `out` the reply to each command frame that ends in it, in order.
+    /// The text of the header has at most 65519 bytes.
+    ///
+    /// # Errors
+    ///
+    /// `BadStream` where the stream shows a fault, `NoMemory` where `out` has no room for a reply and gets none. `out` has the replies
+    /// to the frames before. Either ends the session: each later call answers it again, and changes nothing.
+    pub fn feed<B: Buffer>(
+        &mut self,
+        piece: &[u8],
+        serving: &Serving,
+        out: &mut B,
+    ) -> Result<(), SessionFault>
+        requires { length serving.now.header.now ≤ MAX_TEXT }
+        ensures id { self.new.id ≡ self.old.id }
+        ensures ended { OnErr result ((fault : SessionFault) → IsErrOf result fault → self.new.ended ≡ Some fault) }
+        ensures goes_on { OnOk result ((self.old.ended ≡ None) × (self.new.ended ≡ None)) }
+        ensures stays { (fault : SessionFault) → self.old.ended ≡ Some fault
+            → IsErrOf result fault × (self.new ≡ self.old) × (out.new ≡ out.old) }
+        ensures ok { OnOk result (HasAnswered self.old.id serving.now piece.now self.old.held self.old.told (B.content out.old) self.new.held self.new.told (B.content out.new)) }
+        ensures bad { self.old.ended ≡ None → IsErrOf result SessionFault.BadStream → IsBad self.new.held.step
+            × (n : ℕ) × (n ≤ length piece.now)
+            × HasAnswered self.old.id serving.now (take n piece.now) self.old.held self.old.told (B.content out.old) self.new.held self.new.told (B.content out.new) }
+        ensures memory { self.old.ended ≡ None → IsErrOf result SessionFault.NoMemory
+            → (n : ℕ) × (n ≤ length piece.now)
+            × LacksOne self.old.id serving.now (take n piece.now) self.old.held self.old.told (B.content out.old) self.new.held self.new.told (B.content out.new) (B.capacity out.new) }
+    {
+        if let Some(fault) = self.ended {
+            return Err(fault);
+        }
+        let answer = hear(
+            self.id,
+            &mut self.framer,
+            &mut self.told,
+            piece,
+            serving,
+            out,
+        );
+        if let Err(fault) = answer {
+            self.ended = Some(fault);
+        }
+        answer
+    }
+}
