@@ -36,6 +36,10 @@ pub(crate) fn is_merger(table: &Table) -> bool
 }
 
 /// Whether a text is the settings of the merger, which it is by the key `node`. Any other document is a node's.
+///
+/// # Errors
+///
+/// `Toml` where the text is no TOML; `NoMemory` where memory was wanted.
 pub fn is_of_merger(alloc: Global, text: &str) -> Result<bool, SettingsFault>
     ensures value { IfOk result (λ answer. option_map is_merger (parse_document text.now) ≡ Some answer) }
     ensures fault { IfErr result (IsNoDocument text.now) }

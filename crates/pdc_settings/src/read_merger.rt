@@ -221,6 +221,11 @@ fn read_settings(table: &Table) -> Result<MergerSettings, SettingsFault>
 
 impl MergerSettings {
     /// Reads the settings of the merger out of a text of TOML.
+    ///
+    /// # Errors
+    ///
+    /// `Toml` where the text is no TOML; else `Range`, with the key, where one is missing, of another type or out of its range; else
+    /// `DoubledId` where two ids are the same that must differ; `NoMemory` where memory was wanted.
     pub fn from_toml(alloc: Global, text: &str) -> Result<MergerSettings, SettingsFault>
         ensures value { IfOk result (λ settings. IsSomeAnd (parse_document text.now) (λ members. IsMergerSettings members settings)) }
         ensures fault { IfErr result (IsFaultOf IsMergerFault text.now) }
