@@ -1,4 +1,4 @@
-use Rattle.std.proofs.Common.{◌≡◌, ℕ, ◌+◌, ◌*◌, ◌^◌, List, take, fold, bit_xor, arith, subst, sym}
+use Rattle.std.proofs.Common.{ℕ, ◌*◌, ◌^◌, take, fold, bit_xor, arith, subst, sym}
 use Rattle.pdc_frame.specs.CheckWord.{IsRemainder, check_after}
 use Rattle.pdc_frame.proofs.WordSteps.{first_state, step_at}
 use Rattle.pdc_frame.proofs.crc.first_step.Goals as goal
