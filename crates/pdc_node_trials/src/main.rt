@@ -8,49 +8,47 @@ mod node_player;
 mod widest;
 
 use node_player::NodePlayer;
-use pdc_script::{Frames, Played, play_script};
+use pdc_script::{Frames, Played, Stage, play_all, play_script};
 use pdc_table::{RingTable, SortedTable};
 use std::alloc::Global;
+use std::io;
 use std::process::ExitCode;
 use std::rt::Files;
-use std::{fs, io};
 
-/// Plays the script of this name.
-fn play(
-    rt: &(impl Files + AllocGlobal + Eprint),
-    alloc: Global,
-    frames: &mut Frames,
-    player: &str,
-    name: &str,
-) -> io::Result<Played> {
-    let text = fs::read_to_string(rt, name)?;
-    match player {
-        "names" => Ok(Played::of(frames.read(alloc, &text)?)),
-        "ring" => {
-            let mut node = NodePlayer::<RingTable>::new(alloc, frames)?;
-            play_script(rt, alloc, name, &text, &mut node)
+/// The players, and the frames that scripts call by name.
+#[derive(Drop)]
+struct Trials {
+    frames: Frames,
+}
+
+impl Stage for Trials {
+    fn play(
+        &mut self,
+        rt: &(impl Files + AllocGlobal + Eprint),
+        alloc: Global,
+        player: &str,
+        script: &str,
+    ) -> io::Result<Played> {
+        match player {
+            "names" => self.frames.read(rt, alloc, script),
+            "ring" => {
+                let mut node = NodePlayer::<RingTable>::new(alloc, &self.frames)?;
+                play_script(rt, alloc, script, &mut node)
+            }
+            "sorted" => {
+                let mut node = NodePlayer::<SortedTable>::new(alloc, &self.frames)?;
+                play_script(rt, alloc, script, &mut node)
+            }
+            _ => Ok(Played::of(false)),
         }
-        "sorted" => {
-            let mut node = NodePlayer::<SortedTable>::new(alloc, frames)?;
-            play_script(rt, alloc, name, &text, &mut node)
-        }
-        _ => Ok(Played::of(false)),
     }
 }
 
 fn main(rt: HostRuntime) -> io::Result<ExitCode> {
     let alloc = rt.alloc();
     let words: Vec<String> = std::env::args(&rt)?.collect(alloc)?;
-    let mut frames = Frames::new(alloc);
-    let mut status = ExitCode::SUCCESS;
-    for pair in words.as_slice().get(1..).unwrap_or(&[]).chunks(2) {
-        if let [player, name] = pair {
-            let played = play(&rt, alloc, &mut frames, player, name)?;
-            println!(rt; "{player} {name}: {} played", played.calls)?;
-            if !played.as_wanted {
-                status = ExitCode::FAILURE;
-            }
-        }
-    }
-    Ok(status)
+    let mut trials = Trials {
+        frames: Frames::new(alloc),
+    };
+    play_all(&rt, alloc, words.as_slice().get(1..).unwrap_or(&[]), &mut trials)
 }

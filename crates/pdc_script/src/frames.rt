@@ -1,6 +1,9 @@
 //! Frames that scripts call by name: a line is a name and the bytes in hexadecimal.
 
+use crate::Played;
 use std::alloc::{AllocError, Global};
+use std::rt::Files;
+use std::{fs, io};
 
 /// Frames, each with its name.
 #[derive(Drop)]
@@ -28,19 +31,26 @@ impl Frames {
         Ok(true)
     }
 
-    /// Adds the frames of these lines, and tells whether each line was one, but for empty lines and those that begin with `#`.
+    /// Adds the frames of the lines of this file, and tells whether each line was one, but for empty lines and those that begin
+    /// with `#`.
     ///
     /// # Errors
     ///
-    /// [`AllocError`] where there is no room and none is got.
-    pub fn read(&mut self, alloc: Global, text: &str) -> Result<bool, AllocError> {
+    /// A file that cannot be read, or want of memory.
+    pub fn read(
+        &mut self,
+        rt: &(impl Files + AllocGlobal),
+        alloc: Global,
+        file: &str,
+    ) -> io::Result<Played> {
+        let text = fs::read_to_string(rt, file)?;
         let mut all_read = true;
         for line in text.lines() {
             if !line.is_empty() && !line.starts_with('#') && !self.read_line(alloc, line)? {
                 all_read = false;
             }
         }
-        Ok(all_read)
+        Ok(Played::of(all_read))
     }
 
     /// The bytes of the frame of this name.

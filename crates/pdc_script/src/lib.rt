@@ -4,6 +4,8 @@
 
 mod frames;
 mod script;
+mod stage;
 
 pub use frames::Frames;
 pub use script::{Played, Player, play_script};
+pub use stage::{Stage, play_all};

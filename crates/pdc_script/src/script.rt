@@ -4,7 +4,8 @@
 //! passed over, and so are empty lines and lines that begin with `#`.
 
 use std::alloc::{AllocError, Global};
-use std::io;
+use std::rt::Files;
+use std::{fs, io};
 
 /// Who plays the calls of a script.
 pub trait Player {
@@ -53,18 +54,18 @@ fn play_line<P: Player>(
     Ok(false)
 }
 
-/// Plays the calls of a script, the first of them first, and complains of each answer that is not the wanted one.
+/// Plays the calls of the script in this file, the first of them first, and complains of each answer that is not the wanted one.
 ///
 /// # Errors
 ///
-/// Want of memory, or a standard error that cannot be written.
+/// A file that cannot be read, want of memory, or a standard error that cannot be written.
 pub fn play_script<P: Player>(
-    rt: &impl Eprint,
+    rt: &(impl Files + AllocGlobal + Eprint),
     alloc: Global,
     script: &str,
-    text: &str,
     player: &mut P,
 ) -> io::Result<Played> {
+    let text = fs::read_to_string(rt, script)?;
     let mut played = Played::of(true);
     for (index, line) in text.lines().enumerate() {
         if line.is_empty() || line.starts_with('#') || line.starts_with('[') {

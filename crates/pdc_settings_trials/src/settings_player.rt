@@ -9,8 +9,10 @@
 //!
 //! What is none of these, or where OLD is not found, is answered `no such call`.
 
+use pdc_life::WaitKind;
+use pdc_output::Output;
 use pdc_script::Player;
-use pdc_settings::{MergerSettings, NodeSettings, SettingsFault, is_of_merger};
+use pdc_settings::{MergerSettings, NodeSettings, Service, SettingsFault, is_of_merger};
 use std::alloc::{AllocError, Global};
 
 /// Who reads settings.
@@ -61,22 +63,31 @@ fn fault_text(alloc: Global, fault: SettingsFault) -> Result<String, AllocError>
     }
 }
 
-/// What a node is told.
-fn node_text(alloc: Global, settings: &NodeSettings) -> Result<String, AllocError> {
-    let (life, service) = (&settings.life, &settings.service);
-    let output = &life.output;
+/// What a node and the merger are both told: the output, how instants are aligned, and the service.
+fn common_text(
+    alloc: Global,
+    output: &Output,
+    timing: (u64, WaitKind, u64, u64),
+    service: &Service,
+) -> Result<String, AllocError> {
     let mut text = format!(in alloc;
         "{} {} {:?} {}",
         output.id, output.rate, output.nominal, output.time_base
     )?;
-    text.push_str(&format!(in alloc;
-        ", {} {:?} {} {}",
-        life.wait, life.wait_kind, life.window, life.ahead
-    )?)?;
+    let (wait, kind, window, ahead) = timing;
+    text.push_str(&format!(in alloc; ", {wait} {kind:?} {window} {ahead}")?)?;
     text.push_str(&format!(in alloc;
         ", {} {} {} {}",
         service.lead, service.layout_every, service.out_port, service.session_port
     )?)?;
+    Ok(text)
+}
+
+/// What a node is told.
+fn node_text(alloc: Global, settings: &NodeSettings) -> Result<String, AllocError> {
+    let life = &settings.life;
+    let timing = (life.wait, life.wait_kind, life.window, life.ahead);
+    let mut text = common_text(alloc, &life.output, timing, &settings.service)?;
     for (pmu, port) in life.pmus.iter().zip(settings.ports.iter()) {
         text.push_str(&format!(in alloc;
             ", {} {} {} {port}",
@@ -88,20 +99,9 @@ fn node_text(alloc: Global, settings: &NodeSettings) -> Result<String, AllocErro
 
 /// What the merger is told.
 fn merger_text(alloc: Global, settings: &MergerSettings) -> Result<String, AllocError> {
-    let (life, service) = (&settings.life, &settings.service);
-    let output = &life.output;
-    let mut text = format!(in alloc;
-        "{} {} {:?} {}",
-        output.id, output.rate, output.nominal, output.time_base
-    )?;
-    text.push_str(&format!(in alloc;
-        ", {} {:?} {} {}",
-        life.wait, life.wait_kind, life.window, life.ahead
-    )?)?;
-    text.push_str(&format!(in alloc;
-        ", {} {} {} {}",
-        service.lead, service.layout_every, service.out_port, service.session_port
-    )?)?;
+    let life = &settings.life;
+    let timing = (life.wait, life.wait_kind, life.window, life.ahead);
+    let mut text = common_text(alloc, &life.output, timing, &settings.service)?;
     text.push_str(&format!(in alloc;
         ", {} {} {}",
         life.first.id, life.first.time_base, settings.first_port

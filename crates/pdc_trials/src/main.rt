@@ -15,66 +15,62 @@ mod twins;
 
 use calls_player::CallsPlayer;
 use life_player::LifePlayer;
-use pdc_script::{Frames, Played, play_script};
+use pdc_script::{Frames, Played, Stage, play_all, play_script};
 use pdc_show::Shown;
 use pdc_table::{RingTable, SortedTable};
 use shown::play_shown;
 use std::alloc::Global;
+use std::io;
 use std::process::ExitCode;
 use std::rt::Files;
-use std::{fs, io};
 use table_player::TablePlayer;
 use twins::Twins;
 
-/// Plays the script of this name.
-fn play(
-    rt: &(impl Files + AllocGlobal + Eprint),
-    alloc: Global,
-    frames: &mut Frames,
-    player: &str,
-    name: &str,
-) -> io::Result<Played> {
-    match player {
-        "names" => Ok(Played::of(frames.read(alloc, &fs::read_to_string(rt, name)?)?)),
-        "shown" => play_shown(rt, alloc, name, Shown::All),
-        "refused" => play_shown(rt, alloc, name, Shown::SomeRefused),
-        "calls" => {
-            let text = fs::read_to_string(rt, name)?;
-            play_script(rt, alloc, name, &text, &mut CallsPlayer)
+/// The players, and the frames that scripts call by name.
+#[derive(Drop)]
+struct Trials {
+    frames: Frames,
+}
+
+impl Stage for Trials {
+    fn play(
+        &mut self,
+        rt: &(impl Files + AllocGlobal + Eprint),
+        alloc: Global,
+        player: &str,
+        script: &str,
+    ) -> io::Result<Played> {
+        match player {
+            "names" => self.frames.read(rt, alloc, script),
+            "shown" => play_shown(rt, alloc, script, Shown::All),
+            "refused" => play_shown(rt, alloc, script, Shown::SomeRefused),
+            "calls" => play_script(rt, alloc, script, &mut CallsPlayer),
+            "table" => {
+                let mut table = TablePlayer::<SortedTable>::new(alloc)?;
+                play_script(rt, alloc, script, &mut table)
+            }
+            "ring" => {
+                let mut table = TablePlayer::<RingTable>::new(alloc)?;
+                play_script(rt, alloc, script, &mut table)
+            }
+            "twins" => {
+                let mut twins = Twins::new(alloc)?;
+                play_script(rt, alloc, script, &mut twins)
+            }
+            "life" => {
+                let mut life = LifePlayer::new(alloc, &self.frames);
+                play_script(rt, alloc, script, &mut life)
+            }
+            _ => Ok(Played::of(false)),
         }
-        "table" => {
-            let mut table = TablePlayer::<SortedTable>::new(alloc)?;
-            play_script(rt, alloc, name, &fs::read_to_string(rt, name)?, &mut table)
-        }
-        "ring" => {
-            let mut table = TablePlayer::<RingTable>::new(alloc)?;
-            play_script(rt, alloc, name, &fs::read_to_string(rt, name)?, &mut table)
-        }
-        "twins" => {
-            let mut twins = Twins::new(alloc)?;
-            play_script(rt, alloc, name, &fs::read_to_string(rt, name)?, &mut twins)
-        }
-        "life" => {
-            let mut life = LifePlayer::new(alloc, frames);
-            play_script(rt, alloc, name, &fs::read_to_string(rt, name)?, &mut life)
-        }
-        _ => Ok(Played::of(false)),
     }
 }
 
 fn main(rt: HostRuntime) -> io::Result<ExitCode> {
     let alloc = rt.alloc();
     let words: Vec<String> = std::env::args(&rt)?.collect(alloc)?;
-    let mut frames = Frames::new(alloc);
-    let mut status = ExitCode::SUCCESS;
-    for pair in words.as_slice().get(1..).unwrap_or(&[]).chunks(2) {
-        if let [player, name] = pair {
-            let played = play(&rt, alloc, &mut frames, player, name)?;
-            println!(rt; "{name}: {} played", played.calls)?;
-            if !played.as_wanted {
-                status = ExitCode::FAILURE;
-            }
-        }
-    }
-    Ok(status)
+    let mut trials = Trials {
+        frames: Frames::new(alloc),
+    };
+    play_all(&rt, alloc, words.as_slice().get(1..).unwrap_or(&[]), &mut trials)
 }
