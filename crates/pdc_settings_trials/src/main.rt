@@ -12,6 +12,7 @@ use std::process::ExitCode;
 use std::rt::Files;
 
 /// The one player.
+#[derive(Drop)]
 struct Trials;
 
 impl Stage for Trials {
