@@ -35,10 +35,12 @@ pub record State : Type 0 where
   pub columns : List ColumnState
   pub content : Content
 
--- What contracts see of an alignment: its state, and for each buffer that it holds how many places it has.
+-- What contracts see of an alignment: its state, for each buffer that it holds how many places it has, and how often both lanes of a
+-- column differed at a closing, which no definition of a life speaks of.
 pub record AlignmentView : Type 0 where
   pub state : State
   pub memory : List ℕ
+  pub disagreements : ℕ
 
 -- It has so many columns and lanes,
 pub record HasSizes (columns lanes : ℕ) (a : State) : Type 0 where

@@ -1,5 +1,5 @@
 -- What each call of an alignment answers, and what it makes of what is kept (this profile).
-use Rattle.std.specs.Prelude.{ℕ, ◌+◌, ◌-◌, ◌^◌, ◌++◌, ◌==◌, Bool, ◌&&◌, false, true, not, if◌then◌else◌, List, [], ◌∷◌, length, map, max, nat_le, nat_lt, replicate, slice_set, slice_index_or, None}
+use Rattle.std.specs.Prelude.{◌≡◌, ◌<◌, ℕ, ◌+◌, ◌-◌, ◌^◌, ◌++◌, ◌==◌, Bool, ◌&&◌, false, true, not, if◌then◌else◌, List, [], ◌∷◌, length, map, max, nat_le, nat_lt, replicate, slice_set, slice_index_or, None}
 use Rattle.std.specs.List.{range_with_len}
 use Rattle.pdc_cfg.specs.Section.{SectionFields}
 use Rattle.pdc_row.specs.CellView.{CellView}
@@ -10,11 +10,11 @@ use Rattle.pdc_life.specs.declared.outcome.Outcome.{Outcome}
 use Rattle.pdc_life.specs.declared.outcome.Outcome.TheVariants.{Refused}
 use Rattle.pdc_life.specs.declared.outcome.Refusal.TheVariants.{Ahead, Late}
 use Rattle.pdc_life.specs.Answer.{greatest_count, is_ready}
-use Rattle.pdc_life.specs.Given.{count_for}
-use Rattle.pdc_life.specs.Life.{greater, is_taken}
+use Rattle.pdc_life.specs.Given.{Given, count_for}
+use Rattle.pdc_life.specs.Life.{Entry, greater, is_taken}
 use Rattle.pdc_state.specs.Follows.{told_by}
 use Rattle.pdc_state.specs.State.{after_adoptions, rule_of, shape_in}
-use Rattle.pdc_align.specs.Align.{State, ColumnState, new_change}
+use Rattle.pdc_align.specs.Align.{State, ColumnState, StandsFor, column_state_of, new_change}
 use Rattle.pdc_align.specs.declared.plan.Plan.{Plan}
 use Rattle.pdc_align.specs.declared.ticked.Ticked.{Ticked}
 
@@ -56,6 +56,14 @@ with_section s column = if nat_le column.opening s.count then record column { he
 -- the column that keeps nothing
 abbrev pub no_column : ColumnState
 no_column = record { opening = 0; cleared = 0; held = None; in_force = None }
+
+-- what is kept of the column with this number
+abbrev pub column_in : State → (c : ℕ) → ColumnState
+column_in a c = slice_index_or a.columns c no_column
+
+-- it is what the life says of the column
+abbrev pub ColumnsStand : Type 0
+ColumnsStand = (g : Given) (E : List Entry) (a : State) (c : ℕ) → StandsFor g E a → c < length a.columns → column_in a c ≡ column_state_of g E c
 
 -- the columns after such sections, each with its column, the first of them first
 abbrev pub with_sections : List (ℕ × SectionFields) → List ColumnState → List ColumnState

@@ -19,7 +19,7 @@ ghost use Rattle.pdc_life.specs.Run.{IsRun};
 ghost use Rattle.pdc_life.specs.declared.outcome.Outcome.TheVariants.{Candidate};
 ghost use Rattle.pdc_state.specs.State.{after_adoption, after_adoptions, row_layout_of, rule_of};
 ghost use Rattle.pdc_align.specs.Align.{HasSizes, KeepsSizes, StandsFor, given_by, new_change, ticked_of};
-ghost use Rattle.pdc_align.specs.Calls.{after_data, after_adopting, after_closing, after_tick_of, told_at, after_hold, after_pop_of, first_content, first_of_plan, put_outcome, row_layout_in, waiting_in};
+ghost use Rattle.pdc_align.specs.Calls.{after_data, after_adopting, after_closing, after_tick_of, column_in, told_at, after_hold, after_pop_of, first_content, first_of_plan, put_outcome, row_layout_in, waiting_in};
 
 use crate::{Column, Plan, Ticked, columns};
 use pdc_block::Block;
@@ -66,6 +66,7 @@ impl<T: Table> Model for Alignment<T> {
         content = T.content a.table;
       };
       memory = vec_capacity a.columns ∷ T.memory a.table;
+      disagreements = T.disagreements a.table;
     } };
 
     ghost invariant = { λ a. record {
@@ -245,7 +246,8 @@ impl<T: Table> Alignment<T> {
     /// The section that is held of the column.
     pub fn held(&self, column: usize) -> Option<SectionView<'_>>
         requires { column < length self.now.state.columns }
-        ensures { (g : Given) (E : List Entry) → StandsFor g E self.now.state → option_map fields_of_view result ≡ held_section g E column }
+        ensures state { option_map fields_of_view result ≡ (column_in self.now.state column).held }
+        ensures life { (g : Given) (E : List Entry) → StandsFor g E self.now.state → option_map fields_of_view result ≡ held_section g E column }
     {
         self.columns[column].held()
     }
@@ -253,7 +255,8 @@ impl<T: Table> Alignment<T> {
     /// The section in force for the column.
     pub fn in_force(&self, column: usize) -> Option<SectionView<'_>>
         requires { column < length self.now.state.columns }
-        ensures { (g : Given) (E : List Entry) → StandsFor g E self.now.state → option_map fields_of_view result ≡ section_in_force g E column }
+        ensures state { option_map fields_of_view result ≡ (column_in self.now.state column).in_force }
+        ensures life { (g : Given) (E : List Entry) → StandsFor g E self.now.state → option_map fields_of_view result ≡ section_in_force g E column }
     {
         self.columns[column].in_force()
     }
@@ -263,6 +266,13 @@ impl<T: Table> Alignment<T> {
         ensures { (g : Given) (E : List Entry) → StandsFor g E self.now.state → result ≡ changes E }
     {
         self.change
+    }
+
+    /// How often, at a closing, both lanes of a column had present blocks that differed.
+    pub fn disagree(&self) -> u64
+        ensures { result ≡ self.now.disagreements }
+    {
+        self.table.disagree()
     }
 
     /// What stands at the start of a life.

@@ -1,5 +1,6 @@
 //! A law of alignments: the contract of a function that does nothing.
 ghost use Rattle.pdc_align.specs.Align.{LeavesIt};
+ghost use Rattle.pdc_align.specs.Calls.{ColumnsStand};
 
 use pdc_state::others_leave_it;
 
@@ -9,3 +10,8 @@ pub fn others_are_left()
 {
     others_leave_it();
 }
+
+/// What an alignment keeps of a column is what the life says of it.
+pub fn columns_stand()
+    ensures { ColumnsStand }
+{}

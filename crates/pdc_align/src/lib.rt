@@ -11,12 +11,16 @@
 mod alignment;
 mod column;
 mod columns;
+mod in_force;
 mod laws;
+mod layout;
 mod plan;
 mod ticked;
 
 pub use alignment::Alignment;
 use column::Column;
-pub use laws::others_are_left;
+pub use in_force::sections_in_force;
+pub use laws::{columns_stand, others_are_left};
+pub use layout::append_layout_frame;
 pub use plan::Plan;
 pub use ticked::Ticked;

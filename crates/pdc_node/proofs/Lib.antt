@@ -1,6 +1,3 @@
 mod Answers
-mod Counting
 mod Lives
-mod InOrder
 mod Steps
-mod Worked

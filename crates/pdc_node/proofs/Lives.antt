@@ -13,13 +13,11 @@ use Rattle.pdc_life.specs.Laws.{NodeLivesAreRuns}
 use Rattle.pdc_life.specs.Life.{Arrive, Entry, changes, section_in_force}
 use Rattle.pdc_life.specs.Node.{IsNodeLife, ReadsFor, node_answer}
 use Rattle.pdc_life.specs.Run.{IsRun}
-use Rattle.pdc_life.specs.declared.outcome.Outcome.{Outcome}
 use Rattle.pdc_align.specs.Align.{HasSizes, KeepsSizes, State}
 use Rattle.pdc_align.specs.Align as align
-use Rattle.pdc_node.specs.declared.counts.Counts.{Counts}
-use Rattle.pdc_node.specs.Counts.{after_answer, counts_after}
+use Rattle.pdc_answering.specs.declared.counts.Counts.{Counts}
+use Rattle.pdc_answering.specs.Counts.{counts_after}
 use Rattle.pdc_node.specs.Node.{IsReady, NodeView, StandsFor}
-use Rattle.pdc_node.proofs.Counting.{counted_more}
 
 -- ---- the start
 
@@ -48,19 +46,17 @@ module _ (runs : NodeLivesAreRuns) where
       → IsNodeLife n.settings g (Arrive s bytes arrival (node_answer g E s arrival) ∷ E)
   life_more n g E s bytes arrival reads stands = record { given = stands.life.given; life = (reads, refl, stands.life.life) }
 
-  pub arrives : (n : NodeView) (g : Given) (E : List Entry) (s : ℕ) (bytes : List ℕ) (arrival : Arrival) (b : State) (k : Counts) (m : List ℕ) (o : Outcome)
+  pub arrives : (n : NodeView) (g : Given) (E : List Entry) (s : ℕ) (bytes : List ℕ) (arrival : Arrival) (b : State) (k : Counts) (m : List ℕ)
       → ReadsFor n.settings s bytes arrival → StandsFor g E n
       → (IsRun g (Arrive s bytes arrival (node_answer g E s arrival) ∷ E) → align.StandsFor g (Arrive s bytes arrival (node_answer g E s arrival) ∷ E) b)
-      → k ≡ after_answer o n.counts → o ≡ (node_answer g E s arrival).outcome
+      → (n.counts ≡ counts_after E → k ≡ counts_after (Arrive s bytes arrival (node_answer g E s arrival) ∷ E))
       → StandsFor g (Arrive s bytes arrival (node_answer g E s arrival) ∷ E) (record n { state = b; counts = k; memory = m })
-  arrives n g E s bytes arrival b k m o reads stands step e answer = record {
+  arrives n g E s bytes arrival b k m reads stands step counts = record {
     life = life_more n g E s bytes arrival reads stands;
     same_start = stands.same_start;
     same_opening = stands.same_opening;
     aligned = step (runs n.settings g (Arrive s bytes arrival (node_answer g E s arrival) ∷ E) (life_more n g E s bytes arrival reads stands));
-    counted =
-        e ∙ ap (after_answer o) stands.counted ∙ ap (λ p. after_answer p (counts_after E)) answer
-        ∙ counted_more E s bytes arrival (node_answer g E s arrival).cells (node_answer g E s arrival).outcome;
+    counted = counts stands.counted;
   }
 
 pub same_sizes : (columns lanes : ℕ) (a b : State) → KeepsSizes a b → HasSizes columns lanes a → HasSizes columns lanes b

@@ -1,4 +1,3 @@
-pub mod Counts
 pub mod Node
 pub mod Taken
 pub mod Step

@@ -1,82 +1,24 @@
 //! What a node answers to what arrives, over its alignment.
-ghost use Rattle.std.specs.Prelude.{◌≡◌, ℕ, ◌*◌, ◌∷◌, ◌<◌, List, Option, length, map, option_map};
+ghost use Rattle.std.specs.Prelude.{◌≡◌, ℕ, ◌∷◌, ◌<◌, List, Option, length, map};
 ghost use Rattle.std.specs.List.{AllByRecursion};
 ghost use Rattle.pdc_align.specs.Align.{KeepsSizes, StandsFor};
-ghost use Rattle.pdc_block.specs.Block.{words_in, words_of};
-ghost use Rattle.pdc_cfg.specs.Section.{SectionFields, fields_of_view};
-ghost use Rattle.pdc_cfg.specs.Shape.{word_count_of};
+ghost use Rattle.pdc_cfg.specs.Section.{SectionFields};
 ghost use Rattle.pdc_life.specs.Answer.{answered, ToArrive};
 ghost use Rattle.pdc_life.specs.Arrival.{Data, Layout, Stamp};
 ghost use Rattle.pdc_life.specs.Given.{Given, count_for};
-ghost use Rattle.pdc_life.specs.Life.{Entry, is_candidate, section_in_force};
-ghost use Rattle.pdc_life.specs.Node.{node_answer, section_after, section_answer};
+ghost use Rattle.pdc_life.specs.Life.{Entry, section_in_force};
+ghost use Rattle.pdc_life.specs.Node.{node_answer};
 ghost use Rattle.pdc_life.specs.Run.{IsRun};
 ghost use Rattle.pdc_node.specs.Node.{IsOwn, IsReady};
 ghost use Rattle.pdc_reading.specs.Views.{arrival_view, section_part};
 ghost use Rattle.pdc_state.specs.State.{shape_in};
 
 use pdc_align::{Alignment, others_are_left};
-use pdc_block::{Block, bodies_are_their_words, read_body};
-use pdc_cfg::{CfgFault, SectionView, Shape};
+use pdc_answering::{body, count_for, is_candidate, section_answer};
+use pdc_cfg::{CfgFault, Shape};
 use pdc_life::{MAX_PMUS, Outcome, Refusal};
 use pdc_reading::{Arrival, ColumnSection};
 use pdc_table::Table;
-
-/// The count of a column; past the last of 16 it is 0.
-fn count_for(column: usize, counts: &[u16; MAX_PMUS]) -> u16
-    ensures { result ≡ count_for column counts.now }
-{
-    if column < MAX_PMUS { counts[column] } else { 0 }
-}
-
-/// The block that the payload of a PMU's data is.
-fn body(shape: Shape, payload: &[u8]) -> Block
-    requires { length payload.now ≡ 2 * word_count_of shape }
-    ensures shape { result.shape ≡ shape }
-    ensures words { words_of result ≡ words_in payload.now }
-{
-    bodies_are_their_words();
-    read_body(shape, payload).unwrap()
-}
-
-/// A section below the opening count is stale, also where nothing is held.
-fn section_answer(opening: u16, held: Option<SectionView>, section: &SectionView) -> Outcome
-    ensures { result ≡ section_answer opening (option_map fields_of_view held.entry) (fields_of_view section.now) }
-{
-    if section.count < opening {
-        Outcome::Refused(Refusal::StaleCount)
-    } else {
-        section_after(held, section)
-    }
-}
-
-/// A section is stale below the held count, new above it, and at the same count known where it has the same bytes.
-fn section_after(held: Option<SectionView>, section: &SectionView) -> Outcome
-    ensures { result ≡ section_after (option_map fields_of_view held.entry) (fields_of_view section.now) }
-{
-    let Some(held) = held else {
-        return Outcome::Candidate;
-    };
-    if section.count < held.count {
-        Outcome::Refused(Refusal::StaleCount)
-    } else if held.count < section.count {
-        Outcome::Candidate
-    } else if held.bytes == section.bytes {
-        Outcome::Known
-    } else {
-        Outcome::Refused(Refusal::CountConflict)
-    }
-}
-
-/// Whether the outcome is that of a new configuration.
-fn is_candidate(outcome: Outcome) -> bool
-    ensures { result ≡ is_candidate outcome }
-{
-    match outcome {
-        Outcome::Candidate => true,
-        _ => false,
-    }
-}
 
 /// The shape in force for the column.
 fn shape_in_force<T: Table>(alignment: &Alignment<T>, column: usize) -> Option<Shape>

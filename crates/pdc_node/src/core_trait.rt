@@ -5,7 +5,7 @@ ghost use Rattle.pdc_life.specs.Arrival.{Arrival};
 ghost use Rattle.pdc_life.specs.Given.{Given};
 ghost use Rattle.pdc_life.specs.Life.{Entry};
 ghost use Rattle.pdc_life.specs.Node.{ReadsFor, node_answer};
-ghost use Rattle.pdc_node.specs.Counts.{counts_after};
+ghost use Rattle.pdc_answering.specs.Counts.{counts_after};
 ghost use Rattle.pdc_node.specs.Node.{StandsFor};
 ghost use Rattle.pdc_node.specs.Step.{IsOf, MayMake, Tells, answers};
 

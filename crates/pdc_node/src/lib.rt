@@ -9,14 +9,12 @@
 
 mod answering;
 mod core_trait;
-mod counts;
 mod node;
-mod sections;
 mod step;
 mod taken;
 
 pub use core_trait::Core;
-pub use counts::{CAUSES, Counts, causes_are_told_apart};
 pub use node::Node;
+pub use pdc_answering::{CAUSES, Counts, causes_are_told_apart};
 pub use step::{CoreStep, Reply};
 pub use taken::{MAX_PAYLOAD, Taken};

@@ -7,16 +7,15 @@ ghost use Rattle.pdc_life.specs.Given.{Given, given_of};
 ghost use Rattle.pdc_life.specs.Life.{Entry, changes, popped};
 ghost use Rattle.pdc_life.specs.Node.{ReadsFor, node_answer};
 ghost use Rattle.pdc_life.specs.Published.{layout_wire};
-ghost use Rattle.pdc_node.specs.Counts.{counts_after};
+ghost use Rattle.pdc_answering.specs.Counts.{counts_after};
 ghost use Rattle.pdc_node.specs.Node.{Hears, StandsFor};
 ghost use Rattle.pdc_node.specs.Step.{IsOf, MayMake, Tells, answers};
 ghost use Rattle.pdc_reading.specs.Views.{arrival_view};
 ghost use Rattle.pdc_row.specs.Rising.{AreBelow};
 ghost use Rattle.pdc_row.specs.RowView.{row_instants, row_view};
 
-use crate::sections::sections_in_force;
 use crate::{CoreStep, Counts, Reply, answering};
-use pdc_align::{Alignment, Plan, Ticked};
+use pdc_align::{Alignment, Plan, Ticked, sections_in_force};
 use pdc_frame::Buffer;
 use pdc_life::{MAX_PMUS, Outcome, Settings, lives_are_runs, rows_have_tags};
 use pdc_output::append_layout;

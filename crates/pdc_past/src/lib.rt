@@ -17,10 +17,11 @@ mod past;
 mod steps;
 mod taking;
 
-pub use blocks::{body, copy_of};
+pub use blocks::copy_of;
 pub use given::Given;
 pub use in_time::{answer_in_time, bare};
 pub use instants::{append, open_instants, waiting};
-pub use past::{change_number, changes, cleared_count, count_for, held_section, section_in_force};
+pub use past::{change_number, changes, cleared_count, held_section, section_in_force};
+pub use pdc_answering::count_for;
 pub use steps::{Answer, Answered, ColumnCell, LifeStep, TickAnswer, are_for_streams};
 pub use taking::{Take, age_of, cell_of, take_of};

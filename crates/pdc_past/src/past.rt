@@ -4,7 +4,6 @@ ghost use Rattle.std.specs.List.{list_any};
 ghost use Rattle.pdc_cfg.specs.Section.{SectionFields, fields_of_view};
 ghost use Rattle.pdc_row.specs.Quality.{greatest};
 ghost use Rattle.pdc_row.specs.RowView.{row_instants, row_view};
-ghost use Rattle.pdc_life.specs.Given.{count_for};
 ghost use Rattle.pdc_life.specs.Life.{changes, cleared_count, first_greatest, greater, held_section, is_adoption, is_adoption_of, is_of_column, last_of, now_of, section_in_force, sections_at};
 ghost use Rattle.pdc_life.specs.Run.{IsTicked};
 ghost use Rattle.pdc_reading.specs.Views.{section_part};
@@ -12,8 +11,9 @@ ghost use Rattle.pdc_past.specs.Views.{entry_view, given_view, life_view};
 
 use crate::given::Given;
 use crate::steps::{Answer, Answered};
+use pdc_answering::count_for;
 use pdc_cfg::SectionView;
-use pdc_life::{MAX_PMUS, Outcome};
+use pdc_life::Outcome;
 use pdc_reading::{Arrival, ColumnSection};
 use pdc_row::DueRow;
 
@@ -50,13 +50,6 @@ fn greatest(rows: &[DueRow], last: u64) -> u64
         greatest = greatest.max(row.instant);
     }
     greatest
-}
-
-/// The count of a column; past the last one it is 0.
-pub fn count_for(column: usize, counts: &[u16; MAX_PMUS]) -> u16
-    ensures { result ≡ count_for column counts.now }
-{
-    if column < MAX_PMUS { counts[column] } else { 0 }
 }
 
 /// Cleared of a column: the greatest of its opening count and those that the ticks handed in.

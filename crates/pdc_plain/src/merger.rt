@@ -1,34 +1,26 @@
 //! What the merger answers to an arrival, asked of the whole list. A life is kept newest first.
-ghost use Rattle.std.specs.Prelude.{◌≡◌, ◌≤◌, ◌*◌, ◌++◌, [], ◌∷◌, ℕ, IfOk, OnOk, drop, if◌then◌else◌, length, map, nat_eq, option_map, sum};
+ghost use Rattle.std.specs.Prelude.{◌≡◌, ◌≤◌, ◌*◌, ◌++◌, [], ◌∷◌, ℕ, IfOk, OnOk, if◌then◌else◌, length, map, option_map, sum};
 ghost use Rattle.std.specs.Option.{option_to_list};
-ghost use Rattle.std.specs.Cmp.Lexicographic.{pointwise};
 ghost use Rattle.pdc_block.specs.Block.{words_in};
 ghost use Rattle.pdc_cfg.specs.Section.{SectionFields, fields_of_view};
 ghost use Rattle.pdc_cfg.specs.Shape.{word_count_of};
 ghost use Rattle.pdc_cfg.specs.declared.shape.TheConstants.{MAX_WORDS};
-ghost use Rattle.pdc_output.specs.Layout.{stamp_words};
 ghost use Rattle.pdc_life.specs.declared.given.TheConstants.{MAX_PMUS};
-ghost use Rattle.pdc_life.specs.Merger.{held_layout, is_in_force, merged_answer, merged_cells, merged_data_answer};
+ghost use Rattle.pdc_life.specs.Merger.{has_count_conflict, held_layout, is_in_force, layout_answer, merged_answer, merged_cells, merged_data_answer};
 ghost use Rattle.pdc_life.specs.Node.{cell_under};
-ghost use Rattle.pdc_reading.specs.Views.{arrival_view, section_part};
+ghost use Rattle.pdc_reading.specs.Views.{arrival_view, section_part, stamp_view};
+ghost use Rattle.pdc_answering.specs.Stamps.{stamp_of};
 ghost use Rattle.pdc_past.specs.Views.{answer_view, given_view, life_view, part_view};
+ghost use Rattle.pdc_plain.specs.Views.{layout_view};
 
-use crate::layouts::{has_count_conflict, held_layout, layout_answer};
-use pdc_cfg::{SectionView, Shape};
+use crate::held_layout::HeldLayout;
+use crate::layouts::{has_count_conflict, held_layout};
+use pdc_answering::{OWN_BLOCK_LEN, bears, body, layout_answer, words_are_cut};
+use pdc_cfg::SectionView;
 use pdc_life::{Outcome, Refusal};
-use pdc_past::{Answer, Answered, ColumnCell, Given, answer_in_time, bare, body, section_in_force};
+use pdc_past::{Answer, Answered, ColumnCell, Given, answer_in_time, bare, section_in_force};
 use pdc_reading::{Arrival, ColumnSection, Stamp};
 use std::alloc::{AllocError, Global};
-
-/// The bytes of the own block, which stands first in data of a node.
-const OWN_BLOCK_LEN: usize = 14;
-
-/// The shape of the own block: the stamp is its digital words.
-const OWN_SHAPE: Shape = Shape {
-    phasors: 0,
-    analogs: 0,
-    digitals: 4,
-};
 
 /// The answer to an arrival from a node.
 ///
@@ -54,14 +46,35 @@ pub fn merged_answer(
         Arrival::Layout {
             stamp: Some(stamp),
             sections,
-        } => {
-            let conflicts = has_count_conflict(given, life, sections);
-            let outcome = layout_answer(held_layout(life, stream), *stamp, conflicts);
-            Ok(bare(alloc, outcome))
-        }
+        } => { Ok(bare(alloc, layout_outcome(given, life, stream, *stamp, sections))) }
         Arrival::Layout { stamp: None, .. } => {
             Ok(bare(alloc, Outcome::Refused(Refusal::BadOwnBlock)))
         }
+    }
+}
+
+/// The outcome of a layout of a node.
+fn layout_outcome(
+    given: &Given,
+    life: &[Answered],
+    stream: usize,
+    stamp: Stamp,
+    sections: &[ColumnSection],
+) -> Outcome
+    ensures { result ≡ layout_answer (held_layout (life_view life.now) stream) (stamp_view stamp)
+        (has_count_conflict (given_view given.now) (life_view life.now) (map section_part sections.now)) }
+{
+    let conflicts = has_count_conflict(given, life, sections);
+    layout_answer(stamp_of(held_layout(life, stream)), stamp, conflicts)
+}
+
+/// The stamp of the layout.
+fn stamp_of(layout: Option<HeldLayout>) -> Option<Stamp>
+    ensures { option_map stamp_view result ≡ option_map stamp_of (option_map layout_view layout.entry) }
+{
+    match layout {
+        Some(layout) => Some(layout.stamp),
+        None => None,
     }
 }
 
@@ -78,6 +91,7 @@ fn data_answer(
     ensures { IfOk result (λ answer. answer_view answer
         ≡ merged_data_answer (given_view given.now) (life_view life.now) stream instant quality payload.now (held_layout (life_view life.now) stream)) }
 {
+    words_are_cut();
     let Some(layout) = held_layout(life, stream) else {
         return Ok(bare(alloc, Outcome::Refused(Refusal::NoConfig)));
     };
@@ -93,16 +107,6 @@ fn data_answer(
     }
     let cells = cells_under(alloc, given, life, quality, layout.sections, blocks)?;
     answer_in_time(alloc, given, life, stream, instant, cells)
-}
-
-/// Whether the own block bears the stamp, behind STAT, FREQ and DFREQ.
-fn bears(own: &[u8], stamp: Stamp) -> bool
-    requires { length own.now ≡ OWN_BLOCK_LEN }
-    ensures { result ≡ pointwise nat_eq (drop 3 (words_in own.now)) (stamp_words stamp.start stamp.change) }
-{
-    let block = body(OWN_SHAPE, own);
-    let digitals = &block.words()[3..];
-    digitals == stamp.words().as_slice()
 }
 
 /// The bytes of the blocks of these sections.
@@ -140,6 +144,7 @@ fn cells_under(
     ensures { IfOk result (λ cells. map part_view cells.items
         ≡ merged_cells (given_view given.now) (life_view life.now) quality (map section_part sections.now) (words_in blocks.now)) }
 {
+    words_are_cut();
     let Some((first, later)) = sections.split_first() else {
         return Ok(Vec::new(alloc));
     };

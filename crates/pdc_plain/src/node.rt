@@ -1,18 +1,17 @@
 //! What a node answers to an arrival, asked of the whole list. A life is kept newest first.
-ghost use Rattle.std.specs.Prelude.{◌≡◌, ◌∷◌, [], IfOk, Option, map, option_map};
-ghost use Rattle.pdc_cfg.specs.Section.{fields_of_view};
+ghost use Rattle.std.specs.Prelude.{◌≡◌, ◌∷◌, [], IfOk, Option, map};
 ghost use Rattle.pdc_life.specs.Answer.{bare};
 ghost use Rattle.pdc_life.specs.Arrival.{Layout, Stamp};
 ghost use Rattle.pdc_life.specs.Life.{section_in_force};
-ghost use Rattle.pdc_life.specs.Node.{data_answer, node_answer, section_after, section_answer};
+ghost use Rattle.pdc_life.specs.Node.{data_answer, node_answer};
 ghost use Rattle.pdc_reading.specs.Views.{arrival_view, section_part};
 ghost use Rattle.pdc_past.specs.Views.{answer_view, given_view, life_view, part_view};
 
-use pdc_cfg::{CfgFault, SectionView};
+use pdc_answering::{body, count_for, section_answer};
+use pdc_cfg::CfgFault;
 use pdc_life::{Outcome, Refusal};
 use pdc_past::{
-    Answer, Answered, ColumnCell, Given, answer_in_time, bare, body, count_for, held_section,
-    section_in_force,
+    Answer, Answered, ColumnCell, Given, answer_in_time, bare, held_section, section_in_force,
 };
 use pdc_reading::{Arrival, ColumnSection};
 use std::alloc::{AllocError, Global};
@@ -97,33 +96,4 @@ fn one_cell(alloc: Global, cell: ColumnCell) -> Result<Vec<ColumnCell>, AllocErr
     let mut cells = Vec::new(alloc);
     cells.push(cell)?;
     Ok(cells)
-}
-
-/// A section below the opening count is stale, also where nothing is held.
-fn section_answer(opening: u16, held: Option<SectionView>, section: &SectionView) -> Outcome
-    ensures { result ≡ section_answer opening (option_map fields_of_view held.entry) (fields_of_view section.now) }
-{
-    if section.count < opening {
-        Outcome::Refused(Refusal::StaleCount)
-    } else {
-        section_after(held, section)
-    }
-}
-
-/// A section is stale below the held count, new above it, and at the same count known where it has the same bytes.
-fn section_after(held: Option<SectionView>, section: &SectionView) -> Outcome
-    ensures { result ≡ section_after (option_map fields_of_view held.entry) (fields_of_view section.now) }
-{
-    let Some(held) = held else {
-        return Outcome::Candidate;
-    };
-    if section.count < held.count {
-        Outcome::Refused(Refusal::StaleCount)
-    } else if held.count < section.count {
-        Outcome::Candidate
-    } else if held.bytes == section.bytes {
-        Outcome::Known
-    } else {
-        Outcome::Refused(Refusal::CountConflict)
-    }
 }

@@ -28,5 +28,5 @@ returns t c =
     (c.cell_in_force.ensures
     ∙ ap (λ (in_force : Option SectionFields). cond (is_in_force (fields_of_view first.section) in_force) ((first.column, cell_under (fields_of_view first.section) q (words_in front)) ∷ []) [])
     c.section_in_force-in_force.ensures)
-    ∙ merged_step g E q (section_part first) later c.word_count.result front back c.args.blocks.now c.word_count.ensures.value c.split_at.ensures.front c.split_at.ensures.back
+    ∙ merged_step c.words_are_cut.ensures g E q (section_part first) later c.word_count.result front back c.args.blocks.now c.word_count.ensures.value c.split_at.ensures.front c.split_at.ensures.back
     ∙ ap (λ (sections : List ColumnSection). merged_cells g E q (map section_part sections) (words_in c.args.blocks.now)) (sym c.in-Some.ensures.cases.0)

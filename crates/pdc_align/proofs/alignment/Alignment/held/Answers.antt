@@ -1,10 +1,19 @@
-use Rattle.std.proofs.Common.{ap, get_or, ◌∙◌}
+use Rattle.std.proofs.Common.{ap, arith, get_or, ◌∙◌}
+use Rattle.std.proofs.lemmas.List.{get_or_read}
 use Rattle.pdc_align.specs.Align.{AlignmentView, ColumnState}
+use Rattle.pdc_align.specs.Calls.{no_column}
 use Rattle.pdc_align.proofs.Follows.{column_at}
 use Rattle.pdc_align.proofs.alignment.Alignment.held.Goals as goal
 
-pub returns : goal.returns
-returns g c life E stands =
+pub returns-clause-state : goal.returns-clause-state
+returns-clause-state g c =
+    c.held.ensures
+    ∙ ap (λ (x : ColumnState). x.held)
+    (get_or_read c.args.self.now.state.columns c.args.column c.index.result.now c.requires
+    (c.index.ensures ∙ ap (λ (a : AlignmentView). get_or a.state.columns c.args.column c.index.result.now) c.self.view_is) no_column)
+
+pub returns-clause-life : goal.returns-clause-life
+returns-clause-life g c life E stands =
     c.held.ensures
     ∙ ap (λ (x : ColumnState). x.held)
     (c.index.ensures

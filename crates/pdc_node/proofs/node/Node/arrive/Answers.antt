@@ -1,5 +1,5 @@
 use Rattle.std.proofs.Common.{length, subst, sym}
-use Rattle.pdc_life.specs.Node.{ReadsFor}
+use Rattle.pdc_life.specs.Node.{ReadsFor, node_answer}
 use Rattle.pdc_reading.specs.Views.{arrival_view}
 use Rattle.pdc_node.specs.Node.{NodeView, StandsFor}
 use Rattle.pdc_node.proofs.Lives.{arrives, is_ready, same_sizes}
@@ -20,7 +20,7 @@ returns-clause-stands g c h E bytes reads before =
     let n : NodeView = record { settings = c.self.inside.settings; start = c.self.inside.start; opening = c.self.inside.opening; state = c.self.inside.alignment.state; counts = c.self.inside.counts; memory = c.self.inside.alignment.memory } in
     let arrival = arrival_view c.args.arrival.now in
     let stands : StandsFor h E n = subst (λ (m : NodeView). StandsFor h E m) (sym c.self.view_is) before in
-    arrives c.lives_are_runs.ensures.of_node n h E c.args.stream bytes arrival c.answer-outcome.new.alignment.state c.count.new.self c.answer-outcome.new.alignment.memory c.answer-outcome.result
+    arrives c.lives_are_runs.ensures.of_node n h E c.args.stream bytes arrival c.answer-outcome.new.alignment.state c.count.new.self c.answer-outcome.new.alignment.memory
     (subst (λ (m : NodeView). ReadsFor m.settings c.args.stream bytes arrival) (sym c.self.view_is) reads) stands
     (c.answer-outcome.ensures.stands h E bytes stands.aligned stands.same_opening)
-    c.count.ensures (c.answer-outcome.ensures.answer h E stands.aligned stands.same_opening)
+    (λ before. c.count.ensures.life E c.args.stream bytes arrival (node_answer h E c.args.stream arrival) before (c.answer-outcome.ensures.answer h E stands.aligned stands.same_opening))

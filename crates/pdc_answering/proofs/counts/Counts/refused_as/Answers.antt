@@ -1,6 +1,6 @@
 use Rattle.std.proofs.Common.{◌∙◌, ℕ, ap, slice_index_or}
-use Rattle.pdc_node.proofs.Counting.{shows_cause}
-use Rattle.pdc_node.proofs.counts.Counts.refused_as.Goals as goal
+use Rattle.pdc_answering.proofs.Counting.{shows_cause}
+use Rattle.pdc_answering.proofs.counts.Counts.refused_as.Goals as goal
 
 pub returns-clause-life : goal.returns-clause-life
 returns-clause-life c E e =

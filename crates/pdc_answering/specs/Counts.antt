@@ -9,7 +9,7 @@ use Rattle.pdc_life.specs.declared.outcome.Outcome.{Outcome}
 use Rattle.pdc_life.specs.declared.outcome.Outcome.TheVariants.{Taken, Candidate, Known, Refused}
 use Rattle.pdc_life.specs.declared.outcome.Refusal.{Refusal}
 use Rattle.pdc_life.specs.declared.outcome.Refusal.TheVariants.{NoFrame, WrongId, NoConfiguration, WrongTimeBase, WrongRate, WrongSource, BadOwnBlock, UnknownSource, OldStamp, StaleCount, CountConflict, BadTag, NoConfig, WrongLength, OtherStamp, Late, Ahead, OutOfWindow, Duplicate, Conflict}
-use Rattle.pdc_node.specs.declared.counts.Counts.{Counts}
+use Rattle.pdc_answering.specs.declared.counts.Counts.{Counts}
 
 -- The causes of refusal are numbered, from 0.
 abbrev pub number_of : Refusal → ℕ

@@ -8,7 +8,7 @@ use Rattle.pdc_life.specs.Answer.{bare}
 use Rattle.pdc_life.specs.Arrival.{BytesRefused}
 use Rattle.pdc_life.specs.Life.{Arrive, Entry, Pop}
 use Rattle.std.specs.Prelude.{None}
-use Rattle.pdc_node.specs.Counts.{counts_after}
+use Rattle.pdc_answering.specs.Counts.{counts_after}
 
 -- an arrival that is answered so; what arrived is no matter of counting
 abbrev answered_so : Outcome → Entry

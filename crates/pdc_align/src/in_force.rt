@@ -7,8 +7,8 @@ ghost use Rattle.pdc_cfg.specs.Section.{fields_of_view};
 ghost use Rattle.pdc_life.specs.Given.{Given};
 ghost use Rattle.pdc_life.specs.Life.{Entry, section_in_force};
 
+use crate::Alignment;
 use arrayvec::ArrayVec;
-use pdc_align::Alignment;
 use pdc_cfg::SectionView;
 use pdc_life::MAX_PMUS;
 use pdc_table::Table;

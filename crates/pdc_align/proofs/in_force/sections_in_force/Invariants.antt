@@ -4,7 +4,7 @@ use Rattle.pdc_align.specs.Align.{StandsFor}
 use Rattle.pdc_cfg.specs.Section.{fields_of_view}
 use Rattle.pdc_life.specs.Given.{Given}
 use Rattle.pdc_life.specs.Life.{Entry, section_in_force}
-use Rattle.pdc_node.proofs.sections.sections_in_force.Given as goal
+use Rattle.pdc_align.proofs.in_force.sections_in_force.Given as goal
 
 -- the sections so far, and those of the columns that are left
 abbrev pub invariant-loop-column : goal.invariant-loop-column

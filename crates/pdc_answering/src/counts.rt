@@ -1,8 +1,9 @@
 //! How arrivals were answered, in numbers.
-ghost use Rattle.std.specs.Prelude.{◌≡◌, ◌<◌, [], List, slice_index_or};
+ghost use Rattle.std.specs.Prelude.{◌≡◌, ◌∷◌, ◌<◌, ℕ, [], List, slice_index_or};
+ghost use Rattle.pdc_life.specs.Arrival.{Arrival};
 ghost use Rattle.pdc_life.specs.Counts.{refused_as};
-ghost use Rattle.pdc_life.specs.Life.{Entry};
-ghost use Rattle.pdc_node.specs.Counts.{CausesAreToldApart, after_answer, counts_after, is_cause, next, number_of};
+ghost use Rattle.pdc_life.specs.Life.{Answer, Arrive, Entry};
+ghost use Rattle.pdc_answering.specs.Counts.{CausesAreToldApart, after_answer, counts_after, is_cause, next, number_of};
 
 use pdc_cfg::CfgFault;
 use pdc_frame::FrameFault;
@@ -98,6 +99,16 @@ impl Counts {
 
     /// Counts one answer.
     pub fn count(&mut self, outcome: Outcome)
+        ensures after { self.new ≡ after_answer outcome self.old }
+        // The counters of a life become those of the life with an arrival more that was answered so.
+        ensures life { (E : List Entry) (s : ℕ) (bytes : List ℕ) (arrival : Arrival) (answer : Answer) → self.old ≡ counts_after E →
+            outcome ≡ answer.outcome → self.new ≡ counts_after (Arrive s bytes arrival answer ∷ E) }
+    {
+        self.add(outcome);
+    }
+
+    /// Adds one answer.
+    fn add(&mut self, outcome: Outcome)
         ensures { self.new ≡ after_answer outcome self.old }
     {
         match outcome {

@@ -5,7 +5,7 @@ use Rattle.pdc_frame.specs.Bytes.{AreBytes}
 use Rattle.pdc_block.specs.Block.{IsBody, words_in, words_of}
 use Rattle.pdc_block.specs.declared.block.Block.{Block}
 use Rattle.pdc_block.specs.declared.fault.BodyFault.{BodyFault}
-use Rattle.pdc_past.proofs.blocks.body.Goals as goal
+use Rattle.pdc_answering.proofs.own_block.body.Goals as goal
 
 is_ok : (P : Block → Type 0) (r : Result Block BodyFault) → IsOkAnd r P → IsOk r
 is_ok P (Ok block) h = refl

@@ -14,8 +14,8 @@ use Rattle.pdc_life.specs.declared.outcome.Outcome.{Outcome}
 use Rattle.pdc_life.specs.declared.outcome.Outcome.TheVariants.{Candidate, Known, Refused, Taken}
 use Rattle.pdc_life.specs.declared.outcome.Refusal.{Refusal}
 use Rattle.pdc_life.specs.declared.outcome.Refusal.TheVariants.{NoFrame, WrongId, NoConfiguration, WrongTimeBase, WrongRate, WrongSource, BadOwnBlock, UnknownSource, OldStamp, StaleCount, CountConflict, BadTag, NoConfig, WrongLength, OtherStamp, Late, Ahead, OutOfWindow, Duplicate, Conflict}
-use Rattle.pdc_node.specs.declared.counts.Counts.{Counts}
-use Rattle.pdc_node.specs.Counts.{after_answer, counts_after, is_cause, next, number_of}
+use Rattle.pdc_answering.specs.declared.counts.Counts.{Counts}
+use Rattle.pdc_answering.specs.Counts.{after_answer, counts_after, is_cause, next, number_of}
 
 next_shown : (n : ℕ) → next (shown n) ≡ shown (suc n)
 next_shown n = omega arith

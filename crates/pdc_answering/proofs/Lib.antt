@@ -1,0 +1,3 @@
+mod Counting
+mod Words
+mod Worked
