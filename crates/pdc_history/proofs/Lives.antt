@@ -53,7 +53,7 @@ come_of W H who v e same made life =
     subst (λ (x : Entry). IsLifeOf W who (given_in W H who) (x ∷ life_of H who)) (sym come.is)
     (heard W who (given_in W H who) (life_of H who) come.stream come.bytes come.arrival come.may.says life)
 
-tick_of : (W : World) (H : List Happened) (who v : Who) (e : Entry) → v ≡ who → IsMade W H (Ticks v e) → IsLifeOf W who (given_in W H who) (life_of H who) → IsLifeOf W who (given_in W H who) (e ∷ life_of H who)
+pub tick_of : (W : World) (H : List Happened) (who v : Who) (e : Entry) → v ≡ who → IsMade W H (Ticks v e) → IsLifeOf W who (given_in W H who) (life_of H who) → IsLifeOf W who (given_in W H who) (e ∷ life_of H who)
 tick_of W H who v e same made life =
     let t = ticks_is W H who e (subst (λ (w : Who). IsMade W H (Ticks w e)) same made) in
     subst (λ (x : Entry). IsLifeOf W who (given_in W H who) (x ∷ life_of H who)) (sym t.is)

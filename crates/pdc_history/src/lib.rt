@@ -15,4 +15,7 @@
 mod known;
 mod laws;
 
-pub use laws::{instants_rise, lives_are_lives, marks_bound_lives};
+pub use laws::{
+    instants_rise, lives_are_lives, marks_bound_lives, node_blocks_are_genuine,
+    stamps_have_one_layout,
+};
