@@ -1,0 +1,14 @@
+pub mod Blocks
+pub mod Cuts
+pub mod Layouts
+pub mod Lists
+pub mod Lives
+pub mod Made
+pub mod Marks
+pub mod Moments
+pub mod NodeFrames
+pub mod Nodes
+pub mod Order
+pub mod Rows
+pub mod Sent
+pub mod Stored

@@ -1,0 +1,29 @@
+-- Lists that other pages speak of: their elements, and their ends.
+use Rattle.std.proofs.Common.{◌≡◌, ℕ, zero, suc, ◌<◌, List, [], ◌∷◌, ◌++◌, length, get_or, refl, subst, arith}
+use Rattle.std.specs.List.{AllByRecursion, Contains}
+
+pub appended : {A : Type 0} (P : A → Type 0) (xs more : List A) → AllByRecursion P xs → AllByRecursion P more → AllByRecursion P (xs ++ more)
+appended P [] more a b = b
+appended P (x ∷ xs) more a b = (a.0, appended P xs more a.1 b)
+
+pub mapped : {A : Type 0} (P Q : A → Type 0) (xs : List A) → ((x : A) → P x → Q x) → AllByRecursion P xs → AllByRecursion Q xs
+mapped P Q [] f a = tt
+mapped P Q (x ∷ xs) f a = (f x a.0, mapped P Q xs f a.1)
+
+pub of_all : {A : Type 0} (P : A → Type 0) (xs : List A) (x : A) (k : ℕ) → AllByRecursion P xs → k < length xs → get_or xs k x ≡ x → P x
+of_all P [] x k a h e = absurd (omega (arith, h))
+of_all P (y ∷ ys) x zero a h e = subst P e a.0
+of_all P (y ∷ ys) x (suc k) a h e = of_all P ys x k a.1 (omega (arith, h)) e
+
+pub element : {A : Type 0} (P : A → Type 0) (xs : List A) (x : A) → AllByRecursion P xs → Contains xs x → P x
+element P xs x a k = of_all P xs x k.0 a k.1 k.2
+
+pub in_one : {A : Type 0} (x y : A) → Contains (x ∷ []) y → x ≡ y
+in_one x y k = element (λ z. x ≡ z) (x ∷ []) y (refl, tt) k
+
+pub not_in_none : {A : Type 0} (y : A) → Contains [] y → ⊥
+not_in_none y k = element (λ z. ⊥) [] y tt k
+
+pub not_empty : {A : Type 0} (xs ys : List A) (y : A) → [] ≡ xs ++ y ∷ ys → ⊥
+not_empty [] ys y h = cc
+not_empty (x ∷ xs) ys y h = cc

@@ -1,0 +1,122 @@
+-- Lives are lives, and what is published are their rows.
+use Rattle.std.proofs.Common.{◌≡◌, ℕ, Bool, true, false, List, [], ◌∷◌, ◌++◌, cond, map, filter, refl, sym, ap, subst, Option, Some, None}
+use Rattle.std.specs.List.{AllByRecursion}
+use Rattle.pdc_row.specs.RowView.{RowView}
+use Rattle.pdc_life.specs.Answer.{pop_answer, tick_answer}
+use Rattle.pdc_life.specs.Arrival.{Arrival}
+use Rattle.pdc_life.specs.Given.{Given}
+use Rattle.pdc_life.specs.Life.{Entry, Arrive, Tick, Pop}
+use Rattle.pdc_life.specs.Run.{IsRun}
+use Rattle.pdc_history.specs.History.{IsHistory, IsMade, Says}
+use Rattle.pdc_history.specs.Lives.{IsLifeOf, LivesAreLives, rows_of_one}
+use Rattle.pdc_history.specs.World.{A, B, M, Who, Mark, World, Happened, PastLife, Sends, Comes, PassesBy, Ticks, Publishes, Ends, begins_at, begun_with, ended, first_mark, given_by, given_in, is_same, life_of, opened_with, past_lives, raised, rules_of, since, with_entry}
+use Rattle.pdc_history.specs.Known.{LifeLaws}
+use Rattle.pdc_history.proofs.Lists.{appended}
+use Rattle.pdc_history.proofs.Made.{publishes_is, comes_is, ticks_is}
+use Rattle.pdc_history.proofs.Moments.{same_who}
+
+-- a new life, and one step more
+none_yet : (W : World) (who : Who) (mark : Mark) → IsLifeOf W who (given_by W who mark) []
+none_yet W A mark = record { given = refl; life = tt }
+none_yet W B mark = record { given = refl; life = tt }
+none_yet W M mark = record { given = refl; life = tt }
+
+heard : (W : World) (who : Who) (g : Given) (E : List Entry) (s : ℕ) (bytes : List ℕ) (arrival : Arrival) → Says W who s bytes arrival → IsLifeOf W who g E
+    → IsLifeOf W who g (Arrive s bytes arrival (rules_of who g E s arrival) ∷ E)
+heard W A g E s bytes arrival says life = record { given = life.given; life = (says, refl, life.life) }
+heard W B g E s bytes arrival says life = record { given = life.given; life = (says, refl, life.life) }
+heard W M g E s bytes arrival says life = record { given = life.given; life = (says, refl, life.life) }
+
+ticked : (W : World) (who : Who) (g : Given) (E : List Entry) (now : ℕ) (counts : List ℕ) → IsLifeOf W who g E → IsLifeOf W who g (Tick now counts (tick_answer g E now counts) ∷ E)
+ticked W A g E now counts life = record { given = life.given; life = (refl, life.life) }
+ticked W B g E now counts life = record { given = life.given; life = (refl, life.life) }
+ticked W M g E now counts life = record { given = life.given; life = (refl, life.life) }
+
+popped_one : (W : World) (who : Who) (g : Given) (E : List Entry) (row : Option RowView) → row ≡ pop_answer E → IsLifeOf W who g E → IsLifeOf W who g (Pop row ∷ E)
+popped_one W A g E row q life = record { given = life.given; life = (q, life.life) }
+popped_one W B g E row q life = record { given = life.given; life = (q, life.life) }
+popped_one W M g E row q life = record { given = life.given; life = (q, life.life) }
+
+-- the entry of one core leaves the lives of the others
+entry_of : (W : World) (who : Who) (g : Given) (E : List Entry) (b : Bool) (e : Entry) → (b ≡ true → IsLifeOf W who g (e ∷ E)) → IsLifeOf W who g E → IsLifeOf W who g (with_entry (cond b (Some e) None) E)
+entry_of W who g E true e k life = k refl
+entry_of W who g E false e k life = life
+
+begin_of : (W : World) (H : List Happened) (who : Who) (b : Bool) (mark : Mark) → IsLifeOf W who (given_in W H who) (life_of H who)
+    → IsLifeOf W who (given_by W who (begun_with (cond b (Some mark) None) (opened_with W H who))) (since (cond b (Some mark) None) (life_of H who))
+begin_of W H who true mark life = none_yet W who mark
+begin_of W H who false mark life = life
+
+come_of : (W : World) (H : List Happened) (who v : Who) (e : Entry) → v ≡ who → IsMade W H (Comes v e) → IsLifeOf W who (given_in W H who) (life_of H who) → IsLifeOf W who (given_in W H who) (e ∷ life_of H who)
+come_of W H who v e same made life =
+    let come = comes_is W H who e (subst (λ (w : Who). IsMade W H (Comes w e)) same made) in
+    subst (λ (x : Entry). IsLifeOf W who (given_in W H who) (x ∷ life_of H who)) (sym come.is)
+    (heard W who (given_in W H who) (life_of H who) come.stream come.bytes come.arrival come.may.says life)
+
+pub tick_of : (W : World) (H : List Happened) (who v : Who) (e : Entry) → v ≡ who → IsMade W H (Ticks v e) → IsLifeOf W who (given_in W H who) (life_of H who) → IsLifeOf W who (given_in W H who) (e ∷ life_of H who)
+tick_of W H who v e same made life =
+    let t = ticks_is W H who e (subst (λ (w : Who). IsMade W H (Ticks w e)) same made) in
+    subst (λ (x : Entry). IsLifeOf W who (given_in W H who) (x ∷ life_of H who)) (sym t.is)
+    (ticked W who (given_in W H who) (life_of H who) t.now (raised W H who).counts life)
+
+publish_of : (W : World) (H : List Happened) (who v : Who) (row : Option RowView) → v ≡ who → IsMade W H (Publishes v row) → IsLifeOf W who (given_in W H who) (life_of H who) → IsLifeOf W who (given_in W H who) (Pop row ∷ life_of H who)
+publish_of W H who v row same made life =
+    popped_one W who (given_in W H who) (life_of H who) row (publishes_is W H who row (subst (λ (w : Who). IsMade W H (Publishes w row)) same made)) life
+
+one_more : (W : World) (H : List Happened) (who : Who) (h : Happened) → IsMade W H h → IsLifeOf W who (given_in W H who) (life_of H who) → IsLifeOf W who (given_in W (h ∷ H) who) (life_of (h ∷ H) who)
+one_more W H who (Sends bytes) made life = life
+one_more W H who (Comes v e) made life =
+    entry_of W who (given_in W H who) (life_of H who) (is_same v who) e (λ same. come_of W H who v e (same_who v who same) made life) life
+one_more W H who (PassesBy v) made life = life
+one_more W H who (Ticks v e) made life =
+    entry_of W who (given_in W H who) (life_of H who) (is_same v who) e (λ same. tick_of W H who v e (same_who v who same) made life) life
+one_more W H who (Publishes v row) made life =
+    entry_of W who (given_in W H who) (life_of H who) (is_same v who) (Pop row) (λ same. publish_of W H who v row (same_who v who same) made life) life
+one_more W H who (Ends v mark) made life = begin_of W H who (is_same v who) mark life
+
+pub life_is_life : (W : World) (H : List Happened) (who : Who) → IsHistory W H → IsLifeOf W who (given_in W H who) (life_of H who)
+life_is_life W [] who is = none_yet W who (first_mark W who)
+life_is_life W (h ∷ H) who is = one_more W H who h is.0 (life_is_life W H who is.1)
+
+-- those that ended
+ended_is : (W : World) (who : Who) (b : Option Mark) (past : PastLife) → IsLifeOf W who past.given past.life → AllByRecursion (λ (p : PastLife). IsLifeOf W who p.given p.life) (ended b past)
+ended_is W who None past life = tt
+ended_is W who (Some mark) past life = (life, tt)
+
+past_are_lives : (W : World) (H : List Happened) (who : Who) → IsHistory W H → AllByRecursion (λ (p : PastLife). IsLifeOf W who p.given p.life) (past_lives W H who)
+past_are_lives W [] who is = tt
+past_are_lives W (h ∷ H) who is =
+    appended (λ (p : PastLife). IsLifeOf W who p.given p.life)
+    (ended (begins_at who h) (record { given = given_in W H who; life = life_of H who })) (past_lives W H who)
+    (ended_is W who (begins_at who h) (record { given = given_in W H who; life = life_of H who }) (life_is_life W H who is.1)) (past_are_lives W H who is.1)
+
+pub lives_are_lives : LivesAreLives
+lives_are_lives W H who is = record { present = life_is_life W H who is; past = past_are_lives W H who is }
+
+-- lives are runs
+pub run_of : LifeLaws → (W : World) (who : Who) (g : Given) (E : List Entry) → IsLifeOf W who g E → IsRun g E
+run_of L W A g E life = L.node_runs W.a.settings g E life
+run_of L W B g E life = L.node_runs W.b.settings g E life
+run_of L W M g E life = L.merger_runs W.m.settings g E life
+
+pub run_in : LifeLaws → (W : World) (H : List Happened) (who : Who) → IsHistory W H → IsRun (given_in W H who) (life_of H who)
+run_in L W H who is = run_of L W who (given_in W H who) (life_of H who) (life_is_life W H who is)
+
+-- a row that is published is popped in a run
+pub popped_run : LifeLaws → (W : World) (H : List Happened) (who : Who) (row : RowView) → IsHistory W H → IsMade W H (Publishes who (Some row)) → IsRun (given_in W H who) (Pop (Some row) ∷ life_of H who)
+popped_run L W H who row is made =
+    run_of L W who (given_in W H who) (Pop (Some row) ∷ life_of H who)
+    (popped_one W who (given_in W H who) (life_of H who) (Some row) (publishes_is W H who (Some row) made) (life_is_life W H who is))
+
+-- ---- what is published
+
+-- those of one core, of a row behind others
+pub of_one_append : (who : Who) (rows more : List (Who × RowView)) → rows_of_one who (rows ++ more) ≡ rows_of_one who rows ++ rows_of_one who more
+of_one_append who [] more = refl
+of_one_append who (r ∷ rows) more = this_one (is_same r.0 who) r (filter (λ (x : Who × RowView). is_same x.0 who) (rows ++ more)) (filter (λ (x : Who × RowView). is_same x.0 who) rows) (rows_of_one who more) (of_one_append who rows more)
+  where
+    this_one : (b : Bool) (r : Who × RowView) (all some : List (Who × RowView)) (more : List RowView)
+        → map (λ (x : Who × RowView). x.1) all ≡ map (λ (x : Who × RowView). x.1) some ++ more
+        → map (λ (x : Who × RowView). x.1) (cond b (r ∷ all) all) ≡ map (λ (x : Who × RowView). x.1) (cond b (r ∷ some) some) ++ more
+    this_one true r all some more e = ap (λ (rs : List RowView). r.1 ∷ rs) e
+    this_one false r all some more e = e

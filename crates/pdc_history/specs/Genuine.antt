@@ -1,0 +1,76 @@
+-- The blocks of frames that were sent are genuine, so frames agree (this profile).
+use Rattle.std.specs.Prelude.{◌≡◌, ◌≢◌, ℕ, List, Some}
+use Rattle.std.specs.List.{AllByRecursion, Contains, slice_get}
+use Rattle.pdc_cfg.specs.Section.{SectionFields}
+use Rattle.pdc_row.specs.RowView.{RowView}
+use Rattle.pdc_output.specs.Layout.{row_payload, wire_of}
+use Rattle.pdc_stat.specs.AbsentBlock.{absent_of}
+use Rattle.pdc_life.specs.Arrival.{Stamp}
+use Rattle.pdc_life.specs.Reading.{IsData}
+use Rattle.pdc_history.specs.Frames.{AreGenuineBlocks, IsCutOf, IsLayoutUnder, SectionWasSent, stream_from}
+use Rattle.pdc_history.specs.History.{IsHistory}
+use Rattle.pdc_history.specs.World.{A, B, M, Who, World, Happened, output_of, published, sent}
+
+-- Under a stamp there is one layout.
+abbrev pub LayoutsAreOne : Type 0
+LayoutsAreOne =
+    (W : World) (H : List Happened) (who : Who) (stamp : Stamp) (sections others : List SectionFields) → IsHistory W H →
+    IsLayoutUnder W H who stamp sections → IsLayoutUnder W H who stamp others → sections ≡ others
+
+-- A row that was published is among what was sent, as the owner's data for its instant.
+pub record IsPublishedData (W : World) (H : List Happened) (r : Who × RowView) : Type 0 where
+  pub among : Contains (sent W H) (wire_of (output_of W r.0) r.1)
+  pub is_data : IsData (stream_from W r.0) (wire_of (output_of W r.0) r.1) r.1.instant r.1.quality (row_payload r.1)
+
+abbrev pub PublishedWereSent : Type 0
+PublishedWereSent = (W : World) (H : List Happened) → IsHistory W H → AllByRecursion (IsPublishedData W H) (published H)
+
+-- Data of the owner that was sent is cut, under the layout of its stamp, into the own block and genuine blocks.
+pub record IsGenuineData (W : World) (H : List Happened) (who : Who) (i : ℕ) (payload : List ℕ) : Type 0 where
+  pub stamp : Stamp
+  pub sections : List SectionFields
+  pub blocks : List (List ℕ)
+  pub is_cut : IsCutOf W H who payload stamp sections blocks
+  pub genuine : AreGenuineBlocks W H i sections blocks
+
+-- Of an owner: each section of its layouts is that of a valid configuration of a PMU that was sent; each of its data frames that was
+-- ever sent, in whatever life, is cut so; and however it is cut under a layout of the owner, its blocks are genuine.
+pub record HasGenuineFrames (W : World) (H : List Happened) (who : Who) : Type 0 where
+  pub sections : (stamp : Stamp) (sections : List SectionFields) → IsLayoutUnder W H who stamp sections → AllByRecursion (SectionWasSent W H) sections
+  pub every_frame :
+      (bytes : List ℕ) (i quality : ℕ) (payload : List ℕ) → Contains (sent W H) bytes → IsData (stream_from W who) bytes i quality payload →
+      IsGenuineData W H who i payload
+  pub every_cut :
+      (bytes : List ℕ) (i quality : ℕ) (payload : List ℕ) (stamp : Stamp) (sections : List SectionFields) (blocks : List (List ℕ)) →
+      Contains (sent W H) bytes → IsData (stream_from W who) bytes i quality payload → IsCutOf W H who payload stamp sections blocks →
+      AreGenuineBlocks W H i sections blocks
+
+-- At both nodes, and at the merger.
+abbrev pub NodeBlocksAreGenuine : Type 0
+NodeBlocksAreGenuine = (W : World) (H : List Happened) → IsHistory W H → HasGenuineFrames W H A × HasGenuineFrames W H B
+
+abbrev pub MergedBlocksAreGenuine : Type 0
+MergedBlocksAreGenuine = (W : World) (H : List Happened) → IsHistory W H → HasGenuineFrames W H M
+
+-- Data of the owner that was sent shows for this instant these words at this section, and they are present.
+pub record Shows (W : World) (H : List Happened) (who : Who) (i : ℕ) (s : SectionFields) (words : List ℕ) : Type 0 where
+  pub bytes : List ℕ
+  pub quality : ℕ
+  pub payload : List ℕ
+  pub among : Contains (sent W H) bytes
+  pub is_data : IsData (stream_from W who) bytes i quality payload
+  pub stamp : Stamp
+  pub sections : List SectionFields
+  pub blocks : List (List ℕ)
+  pub is_cut : IsCutOf W H who payload stamp sections blocks
+  pub place : ℕ
+  pub section : slice_get sections place ≡ Some s
+  pub block : slice_get blocks place ≡ Some words
+  pub present : words ≢ absent_of s.shape
+
+-- Any two such frames for one instant, of nodes or merger and of whatever lives, agree on each PMU that both show under one count:
+-- the words are equal, and so are the sections, byte for byte.
+abbrev pub FramesAgree : Type 0
+FramesAgree =
+    (W : World) (H : List Happened) (v w : Who) (i : ℕ) (s t : SectionFields) (words others : List ℕ) → IsHistory W H →
+    Shows W H v i s words → Shows W H w i t others → s.source ≡ t.source → s.count ≡ t.count → (words ≡ others) × (s.bytes ≡ t.bytes)

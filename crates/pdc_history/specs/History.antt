@@ -1,0 +1,85 @@
+-- Which histories a world may have: each thing happened as an event that may happen makes it (this profile).
+use Rattle.std.specs.Prelude.{◌≡◌, ℕ, ◌^◌, ◌<◌, List, [], ◌∷◌, map, Some}
+use Rattle.std.specs.List.{Contains, slice_get}
+use Rattle.pdc_frame.specs.Frame.{Fields, IsFrame}
+use Rattle.pdc_cfg.specs.Section.{SectionFields}
+use Rattle.pdc_life.specs.declared.merging.MergedNode.{MergedNode}
+use Rattle.pdc_life.specs.declared.pmu.Pmu.{Pmu}
+use Rattle.pdc_life.specs.Arrival.{Arrival}
+use Rattle.pdc_life.specs.MergerReading.{ReadsForMerger, nodes_of}
+use Rattle.pdc_life.specs.Node.{ReadsFor}
+use Rattle.pdc_life.specs.NodeReading.{IsValid, stream_of}
+use Rattle.pdc_life.specs.Reading.{IsData, IsOfStream}
+use Rattle.pdc_history.specs.Agree.{MayBegin, ids_of}
+use Rattle.pdc_history.specs.Event.{Event, Send, Bring, happens}
+use Rattle.pdc_history.specs.World.{A, B, M, Who, World, Happened, Ends, sent}
+
+-- The bytes are a frame of this PMU; the PMUs are those of A's settings.
+pub record IsOfPmu (W : World) (p : ℕ) (pmu : Pmu) (bytes : List ℕ) : Type 0 where
+  pub listed : slice_get W.a.settings.pmus.items p ≡ Some pmu
+  pub fields : Fields
+  pub of_stream : IsOfStream (stream_of W.a.settings pmu) bytes fields
+
+-- A PMU sends one body for one instant: its data that was sent for the same instant has the same payload.
+abbrev pub IsOneBody : World → List Happened → Pmu → (bytes : List ℕ) → Type 0
+IsOneBody W H pmu bytes =
+    (other : List ℕ) (i q r : ℕ) (payload body : List ℕ) → Contains (sent W H) other → IsData (stream_of W.a.settings pmu) bytes i q payload →
+    IsData (stream_of W.a.settings pmu) other i r body → payload ≡ body
+
+-- It sends one section under one count: its valid configuration that was sent under the same count has the same section.
+abbrev pub IsOneSection : World → List Happened → Pmu → (bytes : List ℕ) → Type 0
+IsOneSection W H pmu bytes =
+    (other : List ℕ) (s t : SectionFields) → Contains (sent W H) other → IsValid W.a.settings pmu bytes s →
+    IsValid W.a.settings pmu other t → s.count ≡ t.count → s.bytes ≡ t.bytes
+
+-- The premises of a send: the bytes are a frame of a PMU, which sends one body for one instant, and one section under one count.
+pub record MaySend (W : World) (H : List Happened) (bytes : List ℕ) : Type 0 where
+  pub p : ℕ
+  pub pmu : Pmu
+  pub of_pmu : IsOfPmu W p pmu bytes
+  pub one_body : IsOneBody W H pmu bytes
+  pub one_section : IsOneSection W H pmu bytes
+
+-- the ids of the streams of a core
+abbrev pub stream_ids : World → Who → List ℕ
+stream_ids W A = ids_of W.a.settings.pmus.items
+stream_ids W B = ids_of W.b.settings.pmus.items
+stream_ids W M = map (λ (node : MergedNode). node.id) (nodes_of W.m.settings)
+
+-- the bytes read as a frame of a stream of the core
+pub record IsForOne (W : World) (who : Who) (bytes : List ℕ) : Type 0 where
+  pub fields : Fields
+  pub frame : IsFrame bytes fields
+  pub listed : Contains (stream_ids W who) fields.id
+
+-- what bytes say to a core
+abbrev pub Says : World → Who → ℕ → List ℕ → Arrival → Type 0
+Says W A s bytes arrival = ReadsFor W.a.settings s bytes arrival
+Says W B s bytes arrival = ReadsFor W.b.settings s bytes arrival
+Says W M s bytes arrival = ReadsForMerger W.m.settings s bytes arrival
+
+-- What comes was read for its stream; and what reads as a frame of a stream of its receiver was sent.
+pub record MayCome (W : World) (H : List Happened) (who : Who) (s : ℕ) (bytes : List ℕ) (arrival : Arrival) : Type 0 where
+  pub says : Says W who s bytes arrival
+  pub was_sent : IsForOne W who bytes → Contains (sent W H) bytes
+
+-- a start number is left
+abbrev pub HasStart : Happened → Type 0
+HasStart (Ends who mark) = mark.start < 2 ^ 32
+HasStart h = Unit {0}
+
+abbrev pub MayHappen : World → List Happened → Event → Type 0
+MayHappen W H (Send bytes) = MaySend W H bytes
+MayHappen W H (Bring who s bytes arrival) = MayCome W H who s bytes arrival
+MayHappen W H event = HasStart (happens W H event)
+
+-- An event that may happen makes this happen.
+pub record IsMade (W : World) (H : List Happened) (h : Happened) : Type 0 where
+  pub event : Event
+  pub may : MayHappen W H event
+  pub made : h ≡ happens W H event
+
+-- A history of the world.
+abbrev pub IsHistory : World → List Happened → Type 0
+IsHistory W [] = MayBegin W
+IsHistory W (h ∷ H) = IsMade W H h × IsHistory W H

@@ -1,0 +1,9 @@
+pub mod Agree
+pub mod Event
+pub mod Frames
+pub mod Genuine
+pub mod History
+pub mod Known
+pub mod Lives
+pub mod Marks
+pub mod World

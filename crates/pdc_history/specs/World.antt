@@ -1,0 +1,193 @@
+-- The world of two nodes, a merger and the network between them, as the list of what happened in it, the newest first, each with
+-- what followed from it (this profile). All else is recursion over that list: each definition speaks of what had happened before.
+use Rattle.std.specs.Prelude.{ℕ, ◌+◌, Bool, true, false, List, [], ◌∷◌, ◌++◌, max, nat_lt, if◌then◌else◌, Option, None, Some}
+use Rattle.pdc_row.specs.RowView.{RowView}
+use Rattle.pdc_output.specs.declared.output.Output.{Output}
+use Rattle.pdc_output.specs.Layout.{wire_of}
+use Rattle.pdc_life.specs.declared.given.Settings.{Settings}
+use Rattle.pdc_life.specs.declared.merging.MergerSettings.{MergerSettings}
+use Rattle.pdc_life.specs.Answer.{Rules, waiting_counts}
+use Rattle.pdc_life.specs.Given.{Given, given_of}
+use Rattle.pdc_life.specs.Life.{Entry, Tick, Pop, is_adoption}
+use Rattle.pdc_life.specs.Merger.{merged_answer}
+use Rattle.pdc_life.specs.MergerReading.{given_of_merger}
+use Rattle.pdc_life.specs.Node.{node_answer}
+use Rattle.pdc_life.specs.Published.{layout_wire}
+
+-- node A, node B and the merger
+pub data Who : Type 0 where
+  A : Who
+  B : Who
+  M : Who
+
+abbrev pub is_same : Who → Who → Bool
+is_same A A = true
+is_same B B = true
+is_same M M = true
+is_same v w = false
+
+-- what a mark stores: the number of starts, the instant up to which all is published, and for each column a count
+pub record Mark : Type 0 where
+  pub start : ℕ
+  pub floor : ℕ
+  pub counts : List ℕ
+
+-- what a core of the world is: its settings, how far ahead its mark is reserved, and the mark with which its first life begins
+pub record Owner (S : Type 0) : Type 0 where
+  pub settings : S
+  pub lead : ℕ
+  pub mark : Mark
+
+pub record World : Type 0 where
+  pub a : Owner Settings
+  pub b : Owner Settings
+  pub m : Owner MergerSettings
+
+-- one thing that happened
+pub data Happened : Type 0 where
+  -- a PMU sent this
+  Sends : (bytes : List ℕ) → Happened
+  -- bytes came to a core, and were answered
+  Comes : (who : Who) (entry : Entry) → Happened
+  -- bytes came to a core that has no such stream
+  PassesBy : (who : Who) → Happened
+  Ticks : (who : Who) (entry : Entry) → Happened
+  -- a row was popped and published, if one waited
+  Publishes : (who : Who) (row : Option RowView) → Happened
+  -- a life ended; the next begins with this mark
+  Ends : (who : Who) (mark : Mark) → Happened
+
+-- What is fixed.
+
+abbrev pub first_mark : World → Who → Mark
+first_mark W A = W.a.mark
+first_mark W B = W.b.mark
+first_mark W M = W.m.mark
+
+abbrev pub lead_of : World → Who → ℕ
+lead_of W A = W.a.lead
+lead_of W B = W.b.lead
+lead_of W M = W.m.lead
+
+abbrev pub rules_of : Who → Rules
+rules_of A = node_answer
+rules_of B = node_answer
+rules_of M = merged_answer
+
+-- what is given to a life that begins with this mark: its now is 0 until its first tick
+abbrev pub given_by : World → Who → Mark → Given
+given_by W A mark = given_of W.a.settings mark.start mark.floor mark.counts 0
+given_by W B mark = given_of W.b.settings mark.start mark.floor mark.counts 0
+given_by W M mark = given_of_merger W.m.settings mark.start mark.floor mark.counts 0
+
+abbrev pub output_of : World → Who → Output
+output_of W A = W.a.settings.output
+output_of W B = W.b.settings.output
+output_of W M = W.m.settings.output
+
+-- The present life of a core.
+
+-- the entry that this is in its life, and the mark with which a life of it begins here
+abbrev pub entry_at : Who → Happened → Option Entry
+entry_at who (Comes w entry) = if is_same w who then Some entry else None
+entry_at who (Ticks w entry) = if is_same w who then Some entry else None
+entry_at who (Publishes w row) = if is_same w who then Some (Pop row) else None
+entry_at who h = None
+
+abbrev pub begins_at : Who → Happened → Option Mark
+begins_at who (Ends w mark) = if is_same w who then Some mark else None
+begins_at who h = None
+
+abbrev pub with_entry : Option Entry → List Entry → List Entry
+with_entry None E = E
+with_entry (Some entry) E = entry ∷ E
+
+abbrev pub since : Option Mark → List Entry → List Entry
+since None E = E
+since (Some mark) E = []
+
+abbrev pub begun_with : Option Mark → Mark → Mark
+begun_with None mark = mark
+begun_with (Some begun) mark = begun
+
+-- The entries since its last end.
+abbrev pub life_of : List Happened → Who → List Entry
+life_of [] who = []
+life_of (h ∷ H) who = since (begins_at who h) (with_entry (entry_at who h) (life_of H who))
+
+-- The mark with which it began, and what that gives it.
+abbrev pub opened_with : World → List Happened → Who → Mark
+opened_with W [] who = first_mark W who
+opened_with W (h ∷ H) who = begun_with (begins_at who h) (opened_with W H who)
+
+abbrev pub given_in : World → List Happened → Who → Given
+given_in W H who = given_by W who (opened_with W H who)
+
+-- a life that ended, with what was given to it
+pub record PastLife : Type 0 where
+  pub given : Given
+  pub life : List Entry
+
+abbrev pub ended : Option Mark → PastLife → List PastLife
+ended None past = []
+ended (Some mark) past = past ∷ []
+
+-- The lives of a core that ended, the last one first.
+abbrev pub past_lives : World → List Happened → Who → List PastLife
+past_lives W [] who = []
+past_lives W (h ∷ H) who = ended (begins_at who h) (record { given = given_in W H who; life = life_of H who }) ++ past_lives W H who
+
+-- Marks.
+
+-- A publish stores the instant and the lead, where the instant is above the floor.
+abbrev pub reserved : (lead : ℕ) → Option RowView → Mark → Mark
+reserved lead None mark = mark
+reserved lead (Some row) mark = if nat_lt mark.floor row.instant then record mark { floor = row.instant + lead } else mark
+
+-- for each column the greater count
+abbrev pub raised_to : List ℕ → List ℕ → List ℕ
+raised_to [] counts = counts
+raised_to (n ∷ ns) [] = n ∷ ns
+raised_to (n ∷ ns) (m ∷ ms) = max n m ∷ raised_to ns ms
+
+-- a tick is handed the counts of the mark
+abbrev pub with_counts_of : Entry → Mark → Mark
+with_counts_of (Tick now counts answer) mark = record mark { counts = counts }
+with_counts_of e mark = mark
+
+abbrev pub mark_after : World → Who → Happened → Mark → Mark
+mark_after W who (Ticks w entry) mark = if is_same w who then with_counts_of entry mark else mark
+mark_after W who (Publishes w row) mark = if is_same w who then reserved (lead_of W who) row mark else mark
+mark_after W who h mark = begun_with (begins_at who h) mark
+
+-- The mark that a core has stored.
+abbrev pub mark_of : World → List Happened → Who → Mark
+mark_of W [] who = first_mark W who
+mark_of W (h ∷ H) who = mark_after W who h (mark_of W H who)
+
+-- Before a tick the mark is raised to the counts that wait.
+abbrev pub raised : World → List Happened → Who → Mark
+raised W H who = record (mark_of W H who) { counts = raised_to (mark_of W H who).counts (waiting_counts (given_in W H who) (life_of H who)) }
+
+-- What was sent, and what was published.
+
+abbrev pub sent_at : World → List Happened → Happened → List (List ℕ)
+sent_at W H (Sends bytes) = bytes ∷ []
+sent_at W H (Ticks who entry) = if is_adoption entry then layout_wire (given_in W H who) (entry ∷ life_of H who) 0 ∷ [] else []
+sent_at W H (Publishes who (Some row)) = wire_of (output_of W who) row ∷ []
+sent_at W H h = []
+
+-- Each frame that a PMU, a node or the merger ever sent, the first to be sent first. The layout of an adoption, of SOC 0, stands for
+-- all layouts that go out under its stamp: they differ from it in SOC and the check word alone.
+abbrev pub sent : World → List Happened → List (List ℕ)
+sent W [] = []
+sent W (h ∷ H) = sent W H ++ sent_at W H h
+
+abbrev pub published_at : Happened → List (Who × RowView)
+published_at (Publishes who (Some row)) = (who, row) ∷ []
+published_at h = []
+
+-- The rows that were published, the first to be published first.
+abbrev pub published : List Happened → List (Who × RowView)
+published [] = []
+published (h ∷ H) = published H ++ published_at h

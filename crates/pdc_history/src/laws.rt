@@ -1,0 +1,49 @@
+//! Laws of every history: each is the contract of a function that does nothing but call the laws that it stands on.
+ghost use Rattle.pdc_history.specs.Genuine.{LayoutsAreOne, NodeBlocksAreGenuine, PublishedWereSent};
+ghost use Rattle.pdc_history.specs.Lives.{LivesAreLives, RowsAreOfLives};
+ghost use Rattle.pdc_history.specs.Marks.{AdoptedCountsNeverFall, InstantsRise, MarksBound};
+
+use crate::known::{blocks_are_known, frames_are_known, lives_are_known};
+
+/// In every history lives are lives, the present ones and those that ended; and what a core published are the rows that its lives
+/// gave.
+pub fn lives_are_lives()
+    ensures lives { LivesAreLives }
+    ensures rows { RowsAreOfLives }
+{}
+
+/// Marks bound what was published and adopted. So no life adopts a count below one that an earlier life of the same owner adopted.
+pub fn marks_bound_lives()
+    ensures bound { MarksBound }
+    ensures counts { AdoptedCountsNeverFall }
+{
+    lives_are_known();
+}
+
+/// Over all lives of one owner the instants published strictly rise.
+pub fn instants_rise()
+    ensures { InstantsRise }
+{
+    lives_are_known();
+}
+
+/// What a reader of the streams may rest on: what was published was sent, as data of the row's instant, and under a stamp there is
+/// one layout, whatever restarts came between.
+pub fn stamps_have_one_layout()
+    ensures published { PublishedWereSent }
+    ensures layouts { LayoutsAreOne }
+{
+    lives_are_known();
+    frames_are_known();
+}
+
+/// Each section of a node's layouts is that of a valid configuration of its PMU that was sent; each data frame of a node that was
+/// ever sent is cut, under the layout of its stamp, into the own block and blocks that are absent or were sent by that PMU for that
+/// instant.
+pub fn node_blocks_are_genuine()
+    ensures { NodeBlocksAreGenuine }
+{
+    lives_are_known();
+    frames_are_known();
+    blocks_are_known();
+}
