@@ -1,2 +1,3 @@
 pub mod Hearing
+pub mod Kept
 pub mod Recents
