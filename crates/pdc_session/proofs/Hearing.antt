@@ -22,13 +22,13 @@ two_parts piece a b =
 pub within_piece : (piece : List ℕ) (at n : ℕ) → at ≤ length piece → n ≤ length (take (length piece - at) (drop at piece)) → at + n ≤ length piece
 within_piece piece at n lt le = omega (arith, length-take (length piece - at) (drop at piece), length-drop at piece)
 
-told-append : (id : ℕ) (frames more : List (List ℕ)) (commands others : List (Option Command)) → AreTold id frames commands → AreTold id more others → AreTold id (frames ++ more) (commands ++ others)
+pub told-append : (id : ℕ) (frames more : List (List ℕ)) (commands others : List (Option Command)) → AreTold id frames commands → AreTold id more others → AreTold id (frames ++ more) (commands ++ others)
 told-append id [] more [] others h k = k
 told-append id [] more (c ∷ cs) others h k = absurd h
 told-append id (f ∷ fs) more [] others h k = absurd h
 told-append id (f ∷ fs) more (c ∷ cs) others h k = (h.0, told-append id fs more cs others h.1 k)
 
-after-append : (told : Told) (commands others : List (Option Command)) → told_after_all told (commands ++ others) ≡ told_after_all (told_after_all told commands) others
+pub after-append : (told : Told) (commands others : List (Option Command)) → told_after_all told (commands ++ others) ≡ told_after_all (told_after_all told commands) others
 after-append told [] others = refl
 after-append told (c ∷ cs) others = after-append (told_after told c) cs others
 

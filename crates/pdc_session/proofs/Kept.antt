@@ -1,6 +1,6 @@
 -- What is kept, as instants that rise, and the frames above an instant.
 use Rattle.std.proofs.Common.{◌≡◌, ℕ, zero, suc, ◌+◌, ◌<◌, ◌≤◌, List, [], ◌∷◌, ◌++◌, length, drop, get_or, Option, None, refl, subst, sym, ap, ◌∙◌, arith, length-append}
-use Rattle.std.specs.Prelude.{map, Some, nat_lt, nat_le, cond, Bool, true, false, max}
+use Rattle.std.specs.Prelude.{map, Some, nat_lt, cond, Bool, true, false, max}
 use Rattle.std.proofs.lemmas.Bool.{lt-ltb, leb-false}
 use Rattle.std.proofs.lemmas.List.{map-append}
 use Rattle.std.proofs.lemmas.List.Elements.{filter-append}

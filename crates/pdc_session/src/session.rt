@@ -5,6 +5,7 @@ ghost use Rattle.pdc_frame.specs.Stream.{HasTaken, IsBad};
 ghost use Rattle.pdc_frame.specs.declared.step.Step.TheVariants.{More};
 ghost use Rattle.pdc_command.specs.declared.command.Command.{Command};
 ghost use Rattle.pdc_command.specs.declared.header.TheConstants.{MAX_TEXT};
+ghost use Rattle.pdc_session.specs.Served.{IsFed, IsNew};
 ghost use Rattle.pdc_session.specs.Session.{HasAnswered, LacksOne, Tells, told_after, reply_of};
 
 use crate::fault::SessionFault;
@@ -12,7 +13,7 @@ use crate::serving::Serving;
 use crate::told::Told;
 use pdc_cfg::write_config;
 use pdc_command::{Command, read_command, write_header};
-use pdc_frame::{Buffer, Frame, Framer, Kind, MAX_ID, Step};
+use pdc_frame::{Buffer, Frame, Framer, Kind, MAX_ID, Step, streams_split_in_one_way};
 use std::alloc::{AllocError, Global};
 use std::marker::Model;
 
@@ -136,9 +137,7 @@ impl Session {
         requires id_low { 0 < id }
         requires id_high { id ≤ MAX_ID }
         ensures id { IfOk result (λ session. session.id ≡ id) }
-        ensures told { IfOk result (λ session. (session.told.on ≡ false) × (session.told.ignored ≡ 0)) }
-        ensures ended { IfOk result (λ session. session.ended ≡ None) }
-        ensures stream { IfOk result (λ session. HasTaken [] [] session.held) }
+        ensures is_new { IfOk result (λ session. IsNew session) }
     {
         Ok(Session {
             id,
@@ -192,7 +191,10 @@ impl Session {
         ensures memory { self.old.ended ≡ None → IsErrOf result SessionFault.NoMemory
             → (n : ℕ) × (n ≤ length piece.now)
             × LacksOne self.old.id serving.now (take n piece.now) self.old.held self.old.told (B.content out.old) self.new.held self.new.told (B.content out.new) (B.capacity out.new) }
+        // So for every way to cut a stream into pieces it is answered alike.
+        ensures stream { IsFed serving.now piece.now self.old (B.content out.old) self.new (B.content out.new) }
     {
+        streams_split_in_one_way();
         if let Some(fault) = self.ended {
             return Err(fault);
         }

@@ -1,4 +1,4 @@
-use Rattle.std.proofs.Common.{◌≡◌, ◌+◌, ◌≤◌, List, ℕ, length, sym, subst}
+use Rattle.std.proofs.Common.{◌+◌, ◌≤◌, List, ℕ, length, sym, subst}
 use Rattle.pdc_session.proofs.Kept.{room_for_one}
 use Rattle.pdc_session.proofs.recent.append_above.Goals as goal
 

@@ -1,6 +1,6 @@
-use Rattle.std.proofs.Common.{◌≡◌, List, ap, sym, subst, ◌∙◌}
+use Rattle.std.proofs.Common.{ap, subst, ◌∙◌}
 use Rattle.std.specs.Prelude.{map}
-use Rattle.pdc_session.specs.Recent.{AreRising, Kept, RecentView, above, frame_of, greatest_of}
+use Rattle.pdc_session.specs.Recent.{AreRising, RecentView, above, frame_of, greatest_of}
 use Rattle.pdc_session.proofs.Kept.{above_rises, greatest_above}
 use Rattle.pdc_session.proofs.recent.Frames.after.Goals as goal
 

@@ -1,4 +1,4 @@
-use Rattle.std.proofs.Common.{◌≡◌, ℕ, List, Option, None, ap, refl, subst, sym, ◌∙◌}
+use Rattle.std.proofs.Common.{◌≡◌, ap, refl, sym, ◌∙◌}
 use Rattle.std.specs.Prelude.{map, false, ◌∷◌, ◌++◌, []}
 use Rattle.circular_buffer.specs.Buffer.{Buffer}
 use Rattle.pdc_session.specs.declared.recent.SentFrame.{SentFrame}
