@@ -6,7 +6,7 @@ ghost use Rattle.pdc_frame.specs.declared.step.Step.TheVariants.{More};
 ghost use Rattle.pdc_command.specs.declared.command.Command.{Command};
 ghost use Rattle.pdc_command.specs.declared.header.TheConstants.{MAX_TEXT};
 ghost use Rattle.pdc_session.specs.Served.{IsFed, IsNew};
-ghost use Rattle.pdc_session.specs.Session.{HasAnswered, LacksOne, Tells, told_after, reply_of};
+ghost use Rattle.pdc_session.specs.Session.{HasAnswered, HasRoom, LacksOne, Tells, told_after, reply_of};
 
 use crate::fault::SessionFault;
 use crate::serving::Serving;
@@ -81,6 +81,7 @@ fn hear<B: Buffer>(
         × (n : ℕ) × (n ≤ length piece.now) × HasAnswered id serving.now (take n piece.now) framer.old told.old (B.content out.old) framer.new told.new (B.content out.new) }
     ensures memory { IsErrOf result SessionFault.NoMemory
         → (n : ℕ) × (n ≤ length piece.now) × LacksOne id serving.now (take n piece.now) framer.old told.old (B.content out.old) framer.new told.new (B.content out.new) (B.capacity out.new) }
+    ensures in_place { length (B.content out.new) ≤ B.capacity out.old → B.capacity out.new ≡ B.capacity out.old }
 {
     let mut at = 0;
     while at < piece.len() {
@@ -191,6 +192,10 @@ impl Session {
         ensures memory { self.old.ended ≡ None → IsErrOf result SessionFault.NoMemory
             → (n : ℕ) × (n ≤ length piece.now)
             × LacksOne self.old.id serving.now (take n piece.now) self.old.held self.old.told (B.content out.old) self.new.held self.new.told (B.content out.new) (B.capacity out.new) }
+        // Where there was room for the replies, no memory is wanted,
+        ensures room { self.old.ended ≡ None → HasRoom self.old.id serving.now piece.now self.old.held self.old.told (B.content out.old) (B.capacity out.old)
+            → IsErrOf result SessionFault.NoMemory → ⊥ }
+        ensures in_place { length (B.content out.new) ≤ B.capacity out.old → B.capacity out.new ≡ B.capacity out.old }
         // So for every way to cut a stream into pieces it is answered alike.
         ensures stream { IsFed serving.now piece.now self.old (B.content out.old) self.new (B.content out.new) }
     {
