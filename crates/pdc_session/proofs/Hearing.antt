@@ -1,5 +1,5 @@
 -- What a session heard of a piece, one frame after the other.
-use Rattle.std.proofs.Common.{◌≡◌, ℕ, ◌+◌, ◌-◌, ◌≤◌, List, [], ◌∷◌, ◌++◌, length, take, drop, Option, refl, sym, ap, subst, ◌∙◌, arith, append_assoc, length-take, length-drop}
+use Rattle.std.proofs.Common.{◌≡◌, ℕ, ◌+◌, ◌-◌, ◌≤◌, List, [], ◌∷◌, ◌++◌, length, take, drop, Option, refl, sym, ap, subst, ◌∙◌, arith, append_assoc, length-append, length-take, length-drop}
 use Rattle.std.proofs.Math.Seq.{take-add}
 use Rattle.std.proofs.lemmas.List.{take_all, append-nil}
 use Rattle.std.proofs.lemmas.Grind.{flat_map-append}
@@ -11,7 +11,7 @@ use Rattle.pdc_frame.specs.Stream.{Held, HasTaken, IsBad, given_at}
 use Rattle.pdc_command.specs.declared.command.Command.{Command}
 use Rattle.pdc_session.specs.declared.told.Told.{Told}
 use Rattle.pdc_session.specs.declared.serving.Serving.{Serving}
-use Rattle.pdc_session.specs.Session.{AreTold, HasAnswered, Hears, LacksOne, Tells, replies_of, reply_of, told_after, told_after_all}
+use Rattle.pdc_session.specs.Session.{AreTold, HasAnswered, HasRoom, Hears, LacksOne, Tells, replies_of, reply_of, told_after, told_after_all}
 
 -- the first bytes of a piece, and then the first of its rest
 two_parts : (piece : List ℕ) (a b : ℕ) → take (a + b) piece ≡ take a piece ++ take b (take (length piece - a) (drop a piece))
@@ -22,13 +22,13 @@ two_parts piece a b =
 pub within_piece : (piece : List ℕ) (at n : ℕ) → at ≤ length piece → n ≤ length (take (length piece - at) (drop at piece)) → at + n ≤ length piece
 within_piece piece at n lt le = omega (arith, length-take (length piece - at) (drop at piece), length-drop at piece)
 
-told-append : (id : ℕ) (frames more : List (List ℕ)) (commands others : List (Option Command)) → AreTold id frames commands → AreTold id more others → AreTold id (frames ++ more) (commands ++ others)
+pub told-append : (id : ℕ) (frames more : List (List ℕ)) (commands others : List (Option Command)) → AreTold id frames commands → AreTold id more others → AreTold id (frames ++ more) (commands ++ others)
 told-append id [] more [] others h k = k
 told-append id [] more (c ∷ cs) others h k = absurd h
 told-append id (f ∷ fs) more [] others h k = absurd h
 told-append id (f ∷ fs) more (c ∷ cs) others h k = (h.0, told-append id fs more cs others h.1 k)
 
-after-append : (told : Told) (commands others : List (Option Command)) → told_after_all told (commands ++ others) ≡ told_after_all (told_after_all told commands) others
+pub after-append : (told : Told) (commands others : List (Option Command)) → told_after_all told (commands ++ others) ≡ told_after_all (told_after_all told commands) others
 after-append told [] others = refl
 after-append told (c ∷ cs) others = after-append (told_after told c) cs others
 
@@ -137,3 +137,23 @@ answered_all id serving piece at held told out later after grown le h = subst (�
 pub full_room : (old new more : List ℕ) (before room : ℕ) → new ≡ old → room ≡ before → (length old + length more ≤ before → ⊥) → length new + length more ≤ room → ⊥
 full_room old new more before room e same none fits =
     none (subst (λ (n : ℕ). length old + length more ≤ n) same (subst (λ (xs : List ℕ). length xs + length more ≤ room) e fits))
+
+-- room that a reply had stays as it was
+pub room_stays : (old new more : List ℕ) (first before room : ℕ) → new ≡ old ++ more → (length old ≤ first → before ≡ first) → (length old + length more ≤ before → room ≡ before) → length new ≤ first → room ≡ first
+room_stays old new more first before room e stays in_place fits =
+    let len : length new ≡ length old + length more = ap (λ (xs : List ℕ). length xs) e ∙ length-append old more in
+    let same : before ≡ first = stays (omega arith) in
+    in_place (omega arith) ∙ same
+
+-- where there was room for the replies, none is lacking
+pub lacks_none : (id : ℕ) (serving : Serving) (piece : List ℕ) (n : ℕ) (held later : Held) (told after : Told) (out grown : List ℕ) (before room : ℕ) → n ≤ length piece
+    → LacksOne id serving (take n piece) held told out later after grown room → (length grown ≤ before → room ≡ before) → HasRoom id serving piece held told out before → ⊥
+lacks_none id serving piece n held later told after out grown before room le h in_place has =
+    let all : length out + length (replies_of id serving (h.commands ++ h.last ∷ [])) ≤ before = has n h.frames (h.commands ++ h.last ∷ []) later after le h.hears in
+    let replies : replies_of id serving (h.commands ++ h.last ∷ []) ≡ replies_of id serving h.commands ++ reply_of id serving h.last =
+    flat_map-append (reply_of id serving) h.commands (h.last ∷ []) ∙ ap (λ (xs : List ℕ). replies_of id serving h.commands ++ xs) (append-nil (reply_of id serving h.last)) in
+    let lens : length (replies_of id serving (h.commands ++ h.last ∷ [])) ≡ length (replies_of id serving h.commands) + length (reply_of id serving h.last) =
+    ap (λ (xs : List ℕ). length xs) replies ∙ length-append (replies_of id serving h.commands) (reply_of id serving h.last) in
+    let len : length grown ≡ length out + length (replies_of id serving h.commands) = ap (λ (xs : List ℕ). length xs) h.replies ∙ length-append out (replies_of id serving h.commands) in
+    let same : room ≡ before = in_place (omega arith) in
+    h.full (omega arith)

@@ -1,2 +1,4 @@
 pub mod Hearing
+pub mod Kept
 pub mod Recents
+pub mod Served

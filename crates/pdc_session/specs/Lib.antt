@@ -1,2 +1,3 @@
 pub mod Recent
+pub mod Served
 pub mod Session

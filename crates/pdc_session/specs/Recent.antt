@@ -1,10 +1,16 @@
 -- The frames that were sent last, for those who ask later (this profile): at most 256, in the order of their instants.
-use Rattle.std.specs.Prelude.{ℕ, List, [], ◌∷◌, ◌++◌, length, drop, ◌-◌, Bool, false, nat_le, Option, Some, None}
+use Rattle.std.specs.Prelude.{ℕ, List, [], ◌∷◌, ◌++◌, length, drop, ◌-◌, ◌<◌, ◌≤◌, max, Bool, false, nat_le, nat_lt, flat_map, Option, Some, None}
+use Rattle.std.specs.List.{filter}
+use Rattle.pdc_session.specs.declared.recent.SentFrame.{SentFrame}
 
 -- a frame that was sent, and its instant
 pub record Kept : Type 0 where
   pub instant : ℕ
   pub bytes : List ℕ
+
+-- what is kept of a frame
+abbrev pub frame_of : SentFrame → Kept
+frame_of sent = record { instant = sent.instant; bytes = sent.bytes.items }
 
 -- the frames, the oldest first, and the greatest instant of all that were pushed
 pub record RecentView : Type 0 where
@@ -26,3 +32,32 @@ pushed recent instant bytes = record {
   frames = last_256 (recent.frames ++ record { instant = instant; bytes = bytes } ∷ []);
   greatest = Some instant;
 }
+
+-- those whose instant is above this one, in order
+abbrev pub above : (instant : ℕ) → List Kept → List Kept
+above instant frames = filter (λ frame. nat_lt instant frame.instant) frames
+
+-- their bytes, one frame behind another
+abbrev pub bytes_of : List Kept → List ℕ
+bytes_of frames = flat_map (λ frame. frame.bytes) frames
+
+-- the greatest of an instant and of theirs
+abbrev pub greatest_of : (instant : ℕ) → List Kept → ℕ
+greatest_of instant [] = instant
+greatest_of instant (frame ∷ frames) = greatest_of (max instant frame.instant) frames
+
+-- each has an instant above this one
+abbrev pub AreAbove : (instant : ℕ) → List Kept → Type 0
+AreAbove instant [] = Unit {0}
+AreAbove instant (frame ∷ frames) = (instant < frame.instant) × AreAbove instant frames
+
+-- their instants rise strictly
+abbrev pub AreRising : List Kept → Type 0
+AreRising [] = Unit {0}
+AreRising (frame ∷ frames) = AreAbove frame.instant frames × AreRising frames
+
+-- each has an instant of at most this one; where there is none, there is no frame
+abbrev pub AreCovered : Option ℕ → List Kept → Type 0
+AreCovered greatest [] = Unit {0}
+AreCovered None (frame ∷ frames) = ⊥
+AreCovered (Some greatest) (frame ∷ frames) = (frame.instant ≤ greatest) × AreCovered (Some greatest) frames

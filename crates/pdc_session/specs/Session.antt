@@ -1,6 +1,6 @@
 -- A session with a consumer: what the frames of a stream tell it, and what it answers (IEEE C37.118.2-2011, 6.6 and table 15; that
 -- a session ends at a fault of its stream is this profile's).
-use Rattle.std.specs.Prelude.{◌≡◌, ℕ, ◌+◌, ◌-◌, ◌^◌, ◌≤◌, length, min, true, false, List, [], ◌∷◌, ◌++◌, Option, Some, None}
+use Rattle.std.specs.Prelude.{◌≡◌, ℕ, ◌+◌, ◌-◌, ◌^◌, ◌≤◌, length, take, min, true, false, List, [], ◌∷◌, ◌++◌, Option, Some, None}
 use Rattle.std.specs.List.{flat_map}
 use Rattle.pdc_frame.specs.Frame.{Fields, IsFrame, spelling_of}
 use Rattle.pdc_frame.specs.Stream.{Held, HasTaken}
@@ -85,3 +85,8 @@ pub record LacksOne (id : ℕ) (serving : Serving) (piece : List ℕ) (held : He
   pub hears : Hears id piece frames (commands ++ last ∷ []) held told later after
   pub replies : grown ≡ out ++ replies_of id serving commands
   pub full : length grown + length (reply_of id serving last) ≤ room → ⊥
+
+-- There is room for the replies to whatever frames end in a beginning of this piece.
+abbrev pub HasRoom : (id : ℕ) → Serving → (piece : List ℕ) → Held → Told → (out : List ℕ) → (room : ℕ) → Type 0
+HasRoom id serving piece held told out room = (n : ℕ) (frames : List (List ℕ)) (commands : List (Option Command)) (later : Held) (after : Told) → n ≤ length piece
+    → Hears id (take n piece) frames commands held told later after → length out + length (replies_of id serving commands) ≤ room

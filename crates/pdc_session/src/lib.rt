@@ -5,6 +5,7 @@
 #![tactic(auto)]
 
 mod fault;
+mod laws;
 mod recent;
 mod serving;
 mod session;
@@ -13,6 +14,7 @@ mod tests;
 mod told;
 
 pub use fault::SessionFault;
+pub use laws::pieces_do_not_matter;
 pub use recent::Frames;
 pub use serving::Serving;
 pub use session::Session;

@@ -1,8 +1,9 @@
 //! The frames that were sent last.
-ghost use Rattle.std.specs.Prelude.{◌≡◌, [], true, false, None, IfOk, OnOk, OnErr};
-ghost use Rattle.pdc_session.specs.Recent.{is_old, pushed};
+ghost use Rattle.std.specs.Prelude.{◌≡◌, ◌+◌, ◌<◌, ◌≤◌, ◌++◌, ℕ, [], length, map, true, false, None, IfOk, IsOk, OnOk, OnErr};
+ghost use Rattle.pdc_session.specs.Recent.{AreRising, above, bytes_of, frame_of, greatest_of, is_old, pushed};
 
 use circular_buffer::HeapCircularBuffer;
+use pdc_frame::Buffer;
 use std::alloc::{AllocError, Global};
 use std::marker::Model;
 
@@ -25,14 +26,49 @@ pub struct Frames {
 
 impl Model for Frames {
     ghost use Rattle.std.specs.Prelude.{◌≡◌, map};
-    ghost use Rattle.pdc_session.specs.Recent.{RecentView};
+    ghost use Rattle.pdc_session.specs.Recent.{AreCovered, AreRising, RecentView, frame_of};
     ghost use Rattle.pdc_session.specs.declared.recent.TheConstants.{KEPT_FRAMES};
 
     ghost Value = { RecentView };
 
-    ghost view = { λ f. record { frames = map (λ sent. record { instant = sent.instant; bytes = sent.bytes.items }) f.ring.items; greatest = f.greatest } };
+    ghost view = { λ f. record { frames = map frame_of f.ring.items; greatest = f.greatest } };
 
-    ghost invariant = { λ f. f.ring.capacity ≡ KEPT_FRAMES };
+    ghost invariant = { λ f. record {
+      room : f.ring.capacity ≡ KEPT_FRAMES;
+      rising : AreRising (map frame_of f.ring.items);
+      covered : AreCovered f.greatest (map frame_of f.ring.items);
+    } };
+}
+
+/// How many bytes the frames above the instant have; none where a `usize` cannot tell.
+fn len_above(frames: &[SentFrame], instant: u64) -> Option<usize>
+    ensures some { (n : ℕ) → result ≡ Some n → n ≡ length (bytes_of (above instant (map frame_of frames.now))) }
+    ensures none { result ≡ None → usize.MAX < length (bytes_of (above instant (map frame_of frames.now))) }
+{
+    let mut wanted: usize = 0;
+    for frame in frames {
+        if instant < frame.instant {
+            wanted = wanted.checked_add(frame.bytes.len())?;
+        }
+    }
+    Some(wanted)
+}
+
+/// Appends the frames above the instant, for which there is room, and answers the greatest of their instants and this one.
+fn append_above<B: Buffer>(frames: &[SentFrame], instant: u64, so_far: u64, out: &mut B) -> u64
+    requires { length (B.content out.old) + length (bytes_of (above instant (map frame_of frames.now))) ≤ B.capacity out.old }
+    ensures bytes { B.content out.new ≡ B.content out.old ++ bytes_of (above instant (map frame_of frames.now)) }
+    ensures in_place { B.capacity out.new ≡ B.capacity out.old }
+    ensures greatest { result ≡ greatest_of so_far (above instant (map frame_of frames.now)) }
+{
+    let mut greatest = so_far;
+    for frame in frames {
+        if instant < frame.instant {
+            out.append_bytes(&frame.bytes);
+            greatest = greatest.max(frame.instant);
+        }
+    }
+    greatest
 }
 
 impl Frames {
@@ -62,14 +98,45 @@ impl Frames {
         ensures err { OnErr result (self.new ≡ self.old) }
         ensures refused { OnErr result (is_old self.old.greatest instant ≡ false) }
     {
-        if let Some(greatest) = self.greatest
-            && instant <= greatest
-        {
+        if self.is_old(instant) {
             return Ok(());
         }
         let bytes = Vec::from_slice(alloc, bytes)?;
         self.ring.push_back(SentFrame { instant, bytes });
         self.greatest = Some(instant);
         Ok(())
+    }
+    /// Appends, in order, the frames whose instant is above the given one, and answers the greatest of their instants; the given one
+    /// where there is none.
+    ///
+    /// # Errors
+    ///
+    /// [`AllocError`] where `out` has no room for them and gets none. `out` is unchanged then.
+    pub fn after<B: Buffer>(&self, instant: u64, out: &mut B) -> Result<u64, AllocError>
+        ensures bytes { OnOk result (B.content out.new ≡ B.content out.old ++ bytes_of (above instant self.now.frames)) }
+        ensures greatest { IfOk result (λ greatest. greatest ≡ greatest_of instant (above instant self.now.frames)) }
+        ensures rising { AreRising (above instant self.now.frames) }
+        ensures err { OnErr result (B.content out.new ≡ B.content out.old) }
+        ensures room { length (B.content out.old) + length (bytes_of (above instant self.now.frames)) ≤ B.capacity out.old
+            → length (bytes_of (above instant self.now.frames)) ≤ usize.MAX → IsOk result }
+        ensures in_place { length (B.content out.old) + length (bytes_of (above instant self.now.frames)) ≤ B.capacity out.old → B.capacity out.new ≡ B.capacity out.old }
+    {
+        let (older, newer) = self.ring.as_slices();
+        let wanted = len_above(older, instant)
+            .zip(len_above(newer, instant))
+            .and_then(|(first, second)| first.checked_add(second))
+            .ok_or(AllocError)?;
+        out.make_room(wanted)?;
+        let greatest = append_above(older, instant, instant, out);
+        Ok(append_above(newer, instant, greatest, out))
+    }
+    /// Whether the instant is not above the greatest one.
+    fn is_old(&self, instant: u64) -> bool
+        ensures { result ≡ is_old self.now.greatest instant }
+    {
+        match self.greatest {
+            Some(greatest) => instant <= greatest,
+            None => false,
+        }
     }
 }

@@ -5,14 +5,15 @@ ghost use Rattle.pdc_frame.specs.Stream.{HasTaken, IsBad};
 ghost use Rattle.pdc_frame.specs.declared.step.Step.TheVariants.{More};
 ghost use Rattle.pdc_command.specs.declared.command.Command.{Command};
 ghost use Rattle.pdc_command.specs.declared.header.TheConstants.{MAX_TEXT};
-ghost use Rattle.pdc_session.specs.Session.{HasAnswered, LacksOne, Tells, told_after, reply_of};
+ghost use Rattle.pdc_session.specs.Served.{IsFed, IsNew};
+ghost use Rattle.pdc_session.specs.Session.{HasAnswered, HasRoom, LacksOne, Tells, told_after, reply_of};
 
 use crate::fault::SessionFault;
 use crate::serving::Serving;
 use crate::told::Told;
 use pdc_cfg::write_config;
 use pdc_command::{Command, read_command, write_header};
-use pdc_frame::{Buffer, Frame, Framer, Kind, MAX_ID, Step};
+use pdc_frame::{Buffer, Frame, Framer, Kind, MAX_ID, Step, streams_split_in_one_way};
 use std::alloc::{AllocError, Global};
 use std::marker::Model;
 
@@ -80,6 +81,7 @@ fn hear<B: Buffer>(
         × (n : ℕ) × (n ≤ length piece.now) × HasAnswered id serving.now (take n piece.now) framer.old told.old (B.content out.old) framer.new told.new (B.content out.new) }
     ensures memory { IsErrOf result SessionFault.NoMemory
         → (n : ℕ) × (n ≤ length piece.now) × LacksOne id serving.now (take n piece.now) framer.old told.old (B.content out.old) framer.new told.new (B.content out.new) (B.capacity out.new) }
+    ensures in_place { length (B.content out.new) ≤ B.capacity out.old → B.capacity out.new ≡ B.capacity out.old }
 {
     let mut at = 0;
     while at < piece.len() {
@@ -136,9 +138,7 @@ impl Session {
         requires id_low { 0 < id }
         requires id_high { id ≤ MAX_ID }
         ensures id { IfOk result (λ session. session.id ≡ id) }
-        ensures told { IfOk result (λ session. (session.told.on ≡ false) × (session.told.ignored ≡ 0)) }
-        ensures ended { IfOk result (λ session. session.ended ≡ None) }
-        ensures stream { IfOk result (λ session. HasTaken [] [] session.held) }
+        ensures is_new { IfOk result (λ session. IsNew session) }
     {
         Ok(Session {
             id,
@@ -192,7 +192,14 @@ impl Session {
         ensures memory { self.old.ended ≡ None → IsErrOf result SessionFault.NoMemory
             → (n : ℕ) × (n ≤ length piece.now)
             × LacksOne self.old.id serving.now (take n piece.now) self.old.held self.old.told (B.content out.old) self.new.held self.new.told (B.content out.new) (B.capacity out.new) }
+        // Where there was room for the replies, no memory is wanted,
+        ensures room { self.old.ended ≡ None → HasRoom self.old.id serving.now piece.now self.old.held self.old.told (B.content out.old) (B.capacity out.old)
+            → IsErrOf result SessionFault.NoMemory → ⊥ }
+        ensures in_place { length (B.content out.new) ≤ B.capacity out.old → B.capacity out.new ≡ B.capacity out.old }
+        // So for every way to cut a stream into pieces it is answered alike.
+        ensures stream { IsFed serving.now piece.now self.old (B.content out.old) self.new (B.content out.new) }
     {
+        streams_split_in_one_way();
         if let Some(fault) = self.ended {
             return Err(fault);
         }

@@ -1,0 +1,207 @@
+//! The client.
+ghost use Rattle.std.specs.Prelude.{◌≡◌, ◌≤◌, ◌<◌, [], None, IfOk, IsErrOf, IsOkAnd, OnOk};
+ghost use Rattle.std.specs.Io.KnownBytes.{Appends};
+ghost use Rattle.pdc_frame.specs.Frame.{Fields, IsFrame, spelling_of};
+ghost use Rattle.pdc_frame.specs.Stream.{HasTaken};
+ghost use Rattle.pdc_frame.specs.declared.limits.TheConstants.{MAX_ID};
+ghost use Rattle.pdc_command.specs.Command.{command_fields};
+ghost use Rattle.pdc_client.specs.Search.{Finds};
+ghost use Rattle.pdc_client.specs.declared.telling.TheConstants.{COMMAND_SOC};
+ghost use Rattle.pdc_frame.specs.declared.frame.Kind.TheVariants.{Cfg2, DataFrame, HeaderFrame};
+ghost use Rattle.pdc_client.specs.declared.fault.ClientFault.{ClientFault};
+
+use crate::fault::ClientFault;
+use crate::search::find_frame;
+use crate::telling::tell;
+use crate::unread::Unread;
+use pdc_command::Command;
+use pdc_frame::{Framer, Kind, MAX_ID};
+use std::alloc::{AllocError, Global};
+use std::io::{Read, Write};
+
+/// A client of the sender of one stream, over a reader and writer. Frames of other streams and kinds are passed over.
+#[derive(Drop)]
+pub struct Pdc<S> {
+    id: u16,
+    stream: S,
+    framer: Framer,
+    unread: Unread,
+    ended: Option<ClientFault>,
+    pub ghost id_low: { 0 < id },
+    pub ghost id_high: { id ≤ MAX_ID },
+}
+
+impl<S: Read + Write> Pdc<S> {
+    ghost use Rattle.pdc_client.specs.Client.{KeepsFaults, ended_in, held_in, id_in, stream_in, unread_in};
+
+    /// A client of the stream `id`, 1 to 65534. It reads and writes nothing yet.
+    ///
+    /// # Errors
+    ///
+    /// [`AllocError`] where there is no memory for the longest frame and for a read.
+    pub fn new(alloc: Global, id: u16, stream: S) -> Result<Pdc<S>, AllocError>
+    where
+        S: Drop,
+        requires id_low { 0 < id }
+        requires id_high { id ≤ MAX_ID }
+        ensures id { IfOk result (λ pdc. id_in pdc ≡ id) }
+        ensures stream { IfOk result (λ pdc. stream_in pdc ≡ stream) }
+        ensures held { IfOk result (λ pdc. HasTaken [] [] (held_in pdc)) }
+        ensures unread { IfOk result (λ pdc. unread_in pdc ≡ []) }
+        ensures ended { IfOk result (λ pdc. ended_in pdc ≡ None) }
+    {
+        Ok(Pdc {
+            id,
+            stream,
+            framer: Framer::new(alloc)?,
+            unread: Unread::new(alloc)?,
+            ended: None,
+        })
+    }
+
+    /// Writes a command.
+    fn order(&mut self, command: Command) -> Result<(), ClientFault>
+        ensures keeps { KeepsFaults self.old self.new result }
+        ensures ok { OnOk result (Appends (S.contents (stream_in self.old)) (S.contents (stream_in self.new)) (spelling_of (command_fields (id_in self.old) COMMAND_SOC command))) }
+        ensures held { held_in self.new ≡ held_in self.old }
+        ensures unread { unread_in self.new ≡ unread_in self.old }
+    {
+        if let Some(fault) = self.ended {
+            return Err(fault);
+        }
+        let answer = tell(self.id, command, &mut self.stream);
+        if let Err(fault) = answer {
+            self.ended = Some(fault);
+        }
+        answer
+    }
+
+    /// Reads up to the end of the next frame of this kind.
+    fn find(&mut self, kind: Kind) -> Result<(), ClientFault>
+        ensures keeps { KeepsFaults self.old self.new result }
+        ensures ok { OnOk result (Finds (id_in self.old) kind (held_in self.old) (unread_in self.old) (S.remaining (stream_in self.old)) (held_in self.new) (unread_in self.new) (S.remaining (stream_in self.new))) }
+    {
+        if let Some(fault) = self.ended {
+            return Err(fault);
+        }
+        let answer = find_frame(
+            self.id,
+            kind,
+            &mut self.framer,
+            &mut self.unread,
+            &mut self.stream,
+        );
+        if let Err(fault) = answer {
+            self.ended = Some(fault);
+        }
+        answer
+    }
+    /// Ends the client for want of memory, where the copy of an answer wanted it.
+    fn keep_copy(&mut self, copy: Result<Vec<u8>, AllocError>) -> Result<Vec<u8>, ClientFault>
+        requires { ended_in self.old ≡ None }
+        ensures keeps { KeepsFaults self.old self.new result }
+        ensures ok { IfOk result (λ bytes. IsOkAnd copy (λ kept. bytes.items ≡ kept.items)) }
+        ensures held { held_in self.new ≡ held_in self.old }
+        ensures unread { unread_in self.new ≡ unread_in self.old }
+        ensures stream { stream_in self.new ≡ stream_in self.old }
+    {
+        match copy {
+            Ok(bytes) => Ok(bytes),
+            Err(_) => {
+                self.ended = Some(ClientFault::NoMemory);
+                Err(ClientFault::NoMemory)
+            }
+        }
+    }
+
+    /// The bytes of the next data frame.
+    ///
+    /// # Errors
+    ///
+    /// `NoAnswer` where none came within [`MAX_FRAMES`](crate::MAX_FRAMES) frames and [`MAX_READS`](crate::MAX_READS) reads, or before
+    /// the end of the input; `BadStream` where the stream shows a fault; `Device` where a read failed; `NoMemory` where there is none
+    /// for the answer. Each ends the client: every later call answers it again.
+    pub fn get(&mut self, alloc: Global) -> Result<Vec<u8>, ClientFault>
+        ensures keeps { KeepsFaults self.old self.new result }
+        ensures ok { OnOk result (Finds (id_in self.old) DataFrame (held_in self.old) (unread_in self.old) (S.remaining (stream_in self.old)) (held_in self.new) (unread_in self.new) (S.remaining (stream_in self.new))) }
+        ensures answer { IfOk result (λ bytes. bytes.items ≡ (held_in self.new).bytes) }
+    {
+        self.find(Kind::DataFrame)?;
+        let copy = Vec::from_slice(alloc, self.framer.frame());
+        self.keep_copy(copy)
+    }
+
+    /// Asks for the CFG-2 frame, and answers the bytes of the next one.
+    ///
+    /// # Errors
+    ///
+    /// Those of [`get`](Pdc::get), and `Device` where the command could not be written.
+    pub fn get_config(&mut self, alloc: Global) -> Result<Vec<u8>, ClientFault>
+        ensures keeps { KeepsFaults self.old self.new result }
+        ensures ok { OnOk result ((asked : S) × Appends (S.contents (stream_in self.old)) (S.contents asked) (spelling_of (command_fields (id_in self.old) COMMAND_SOC Command.SendCfg2))
+            × Finds (id_in self.old) Cfg2 (held_in self.old) (unread_in self.old) (S.remaining asked) (held_in self.new) (unread_in self.new) (S.remaining (stream_in self.new))) }
+        ensures answer { IfOk result (λ bytes. bytes.items ≡ (held_in self.new).bytes) }
+    {
+        self.order(Command::SendCfg2)?;
+        self.find(Kind::Cfg2)?;
+        let copy = Vec::from_slice(alloc, self.framer.frame());
+        self.keep_copy(copy)
+    }
+
+    /// Asks for the header frame, and answers the text of the next one.
+    ///
+    /// # Errors
+    ///
+    /// Those of [`get`](Pdc::get), and `Device` where the command could not be written.
+    pub fn get_header(&mut self, alloc: Global) -> Result<Vec<u8>, ClientFault>
+        ensures keeps { KeepsFaults self.old self.new result }
+        ensures ok { OnOk result ((asked : S) × Appends (S.contents (stream_in self.old)) (S.contents asked) (spelling_of (command_fields (id_in self.old) COMMAND_SOC Command.SendHeader))
+            × Finds (id_in self.old) HeaderFrame (held_in self.old) (unread_in self.old) (S.remaining asked) (held_in self.new) (unread_in self.new) (S.remaining (stream_in self.new))) }
+        ensures answer { IfOk result (λ text. (f : Fields) × IsFrame (held_in self.new).bytes f × (text.items ≡ f.payload)) }
+    {
+        self.order(Command::SendHeader)?;
+        self.find(Kind::HeaderFrame)?;
+        let copy = Vec::from_slice(alloc, self.framer.fields().payload);
+        self.keep_copy(copy)
+    }
+
+    /// Asks for data.
+    ///
+    /// # Errors
+    ///
+    /// `Device` where the command could not be written. It ends the client: every later call answers it again.
+    pub fn start(&mut self) -> Result<(), ClientFault>
+        ensures keeps { KeepsFaults self.old self.new result }
+        ensures ok { OnOk result (Appends (S.contents (stream_in self.old)) (S.contents (stream_in self.new)) (spelling_of (command_fields (id_in self.old) COMMAND_SOC Command.DataOn))) }
+        ensures held { held_in self.new ≡ held_in self.old }
+        ensures unread { unread_in self.new ≡ unread_in self.old }
+    {
+        self.order(Command::DataOn)
+    }
+
+    /// Asks for no more data.
+    ///
+    /// # Errors
+    ///
+    /// Those of [`start`](Pdc::start).
+    pub fn stop(&mut self) -> Result<(), ClientFault>
+        ensures keeps { KeepsFaults self.old self.new result }
+        ensures ok { OnOk result (Appends (S.contents (stream_in self.old)) (S.contents (stream_in self.new)) (spelling_of (command_fields (id_in self.old) COMMAND_SOC Command.DataOff))) }
+        ensures held { held_in self.new ≡ held_in self.old }
+        ensures unread { unread_in self.new ≡ unread_in self.old }
+    {
+        self.order(Command::DataOff)
+    }
+
+    /// Asks for no more data, and gives the reader and writer back, with the fault where it met one or had ended before. A client that
+    /// had ended writes nothing.
+    pub fn quit(self) -> (S, Result<(), ClientFault>)
+        ensures ok { OnOk result.1 (Appends (S.contents (stream_in self)) (S.contents result.0) (spelling_of (command_fields (id_in self) COMMAND_SOC Command.DataOff))) }
+        ensures goes_on { OnOk result.1 (ended_in self ≡ None) }
+        ensures stays { (fault : ClientFault) → ended_in self ≡ Some fault → IsErrOf result.1 fault × (result.0 ≡ stream_in self) }
+    {
+        let mut pdc = self;
+        let answer = pdc.order(Command::DataOff);
+        (pdc.stream, answer)
+    }
+}

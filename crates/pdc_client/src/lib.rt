@@ -1,0 +1,16 @@
+//! The client of a session: it asks a sender of IEEE C37.118.2-2011 frames for its configuration, its header and its data, over any
+//! reader and writer.
+//!
+//! To the layers above this crate promises that each call returns after at most [`MAX_FRAMES`] frames and [`MAX_READS`] reads, that
+//! what it answers is the next frame of its stream that was asked for, and that a fault stays. [`Pdc`] is the type to look at first.
+#![tactic(auto)]
+
+mod client;
+mod fault;
+mod search;
+mod telling;
+mod unread;
+
+pub use client::Pdc;
+pub use fault::ClientFault;
+pub use search::{MAX_FRAMES, MAX_READS};

@@ -1,0 +1,92 @@
+//! The next frame of a stream and a kind, in what a reader gives.
+ghost use Rattle.std.specs.Prelude.{◌≡◌, ◌≤◌, ◌∷◌, [], true, false, OnOk, IsErrOf};
+ghost use Rattle.std.specs.Io.KnownBytes.{Consumes, IsAtEnd};
+ghost use Rattle.pdc_frame.specs.declared.step.Step.TheVariants.{Whole};
+ghost use Rattle.pdc_client.specs.Search.{Finds, Follows, IsOther, IsWanted};
+
+use crate::fault::ClientFault;
+use crate::unread::Unread;
+use pdc_frame::{Framer, Kind, Step};
+use std::io::{ErrorKind, Read};
+
+/// The most frames that a call looks through.
+pub const MAX_FRAMES: u32 = 1000;
+
+/// The most reads of a call.
+pub const MAX_READS: u32 = 1_000_000;
+
+/// Reads once, where no byte is left. A read that was interrupted brings none.
+fn read_more<R: Read>(unread: &mut Unread, reader: &mut R) -> Result<(), ClientFault>
+    requires { unread.old ≡ [] }
+    ensures ok { OnOk result (Consumes (R.remaining reader.old) (R.remaining reader.new) unread.new) }
+    ensures end { IsErrOf result ClientFault.NoAnswer → IsAtEnd (R.remaining reader.new) }
+{
+    match unread.fill(reader) {
+        Ok(0) => Err(ClientFault::NoAnswer),
+        Ok(_) => Ok(()),
+        Err(error) if error.kind() == ErrorKind::Interrupted => Ok(()),
+        Err(_) => Err(ClientFault::Device),
+    }
+}
+
+/// Reads up to the end of a frame, with at most so many reads.
+fn next_frame<R: Read>(
+    framer: &mut Framer,
+    unread: &mut Unread,
+    reader: &mut R,
+    reads: &mut u32,
+) -> Result<(), ClientFault>
+    ensures ok { OnOk result (Follows framer.old unread.old (R.remaining reader.old) (framer.new.bytes ∷ []) framer.new unread.new (R.remaining reader.new)) }
+    ensures whole { OnOk result (framer.new.step ≡ Whole) }
+    ensures reads { reads.new ≤ reads.old }
+{
+    loop {
+        let (taken, step) = framer.feed(unread.bytes());
+        unread.skip(taken);
+        match step {
+            Step::Whole => return Ok(()),
+            Step::Bad(_) => return Err(ClientFault::BadStream),
+            Step::More => {}
+        }
+        if *reads == 0 {
+            return Err(ClientFault::NoAnswer);
+        }
+        *reads -= 1;
+        read_more(unread, reader)?;
+    }
+}
+
+/// Whether the frame is of this stream and kind.
+fn is_wanted(framer: &Framer, id: u16, kind: Kind) -> bool
+    requires { framer.now.step ≡ Whole }
+    ensures wanted { result ≡ true → IsWanted id kind framer.now.bytes }
+    ensures other { result ≡ false → IsOther id kind framer.now.bytes }
+{
+    let frame = framer.fields();
+    frame.id == id && frame.kind == kind
+}
+
+/// Reads up to the end of the next frame of this stream and kind, and passes the others over.
+///
+/// # Errors
+///
+/// `NoAnswer` where it did not come within the frames and reads of a call, or before the end of the input; `BadStream` where the
+/// stream shows a fault; `Device` where a read failed.
+pub fn find_frame<R: Read>(
+    id: u16,
+    kind: Kind,
+    framer: &mut Framer,
+    unread: &mut Unread,
+    reader: &mut R,
+) -> Result<(), ClientFault>
+    ensures { OnOk result (Finds id kind framer.old unread.old (R.remaining reader.old) framer.new unread.new (R.remaining reader.new)) }
+{
+    let mut reads = MAX_READS;
+    for _ in 0..MAX_FRAMES {
+        next_frame(framer, unread, reader, &mut reads)?;
+        if is_wanted(framer, id, kind) {
+            return Ok(());
+        }
+    }
+    Err(ClientFault::NoAnswer)
+}

@@ -1,0 +1,80 @@
+//! Bytes that were read ahead.
+ghost use Rattle.std.specs.Prelude.{◌≡◌, ◌≤◌, ◌<◌, [], length, drop, IfOk, OnErr};
+ghost use Rattle.std.specs.Io.KnownBytes.{Consumes, IsAtEnd, Keeps};
+
+use std::alloc::{AllocError, Global};
+use std::io;
+use std::io::Read;
+use std::marker::Model;
+
+/// The most bytes of one read.
+const PIECE_LEN: usize = 4096;
+
+/// The bytes that were read and not taken yet.
+#[derive(Drop)]
+pub struct Unread {
+    piece: Vec<u8>,
+    begin: usize,
+    end: usize,
+}
+
+impl Model for Unread {
+    ghost use Rattle.std.specs.Prelude.{◌≤◌, ◌-◌, ◌<◌, ℕ, List, length, take, drop};
+
+    ghost Value = { List ℕ };
+
+    ghost view = { λ u. take (u.end - u.begin) (drop u.begin u.piece.items) };
+
+    ghost invariant = { λ u. record { begin : u.begin ≤ u.end; end : u.end ≤ length u.piece.items; room : 0 < length u.piece.items } };
+}
+
+impl Unread {
+    /// None yet.
+    ///
+    /// # Errors
+    ///
+    /// [`AllocError`] where there is no memory for a read.
+    pub fn new(alloc: Global) -> Result<Unread, AllocError>
+        ensures { IfOk result (λ unread. unread ≡ []) }
+    {
+        Ok(Unread {
+            piece: vec![in alloc; 0u8; PIECE_LEN]?,
+            begin: 0,
+            end: 0,
+        })
+    }
+
+    /// The bytes, the first one first.
+    pub fn bytes(&self) -> &[u8]
+        ensures { result.now ≡ self.now }
+    {
+        &self.piece[self.begin..self.end]
+    }
+
+    /// Takes the first `count` bytes.
+    pub fn skip(&mut self, count: usize)
+        requires { count ≤ length self.old }
+        ensures { self.new ≡ drop count self.old }
+    {
+        self.begin += count;
+    }
+
+    /// Reads once, where no byte is left, and answers how many bytes came. None come at the end of the input alone.
+    ///
+    /// # Errors
+    ///
+    /// What the reader answers.
+    pub fn fill<R: Read>(&mut self, reader: &mut R) -> io::Result<usize>
+        requires { self.old ≡ [] }
+        ensures len { IfOk result (λ count. count ≡ length self.new) }
+        ensures bytes { IfOk result (λ count. Consumes (R.remaining reader.old) (R.remaining reader.new) self.new) }
+        ensures end { IfOk result (λ count. count ≡ 0 → IsAtEnd (R.remaining reader.new)) }
+        ensures err { OnErr result ((self.new ≡ []) × Keeps (R.remaining reader.old) (R.remaining reader.new)) }
+    {
+        self.begin = 0;
+        self.end = 0;
+        let count = reader.read(self.piece.as_mut_slice())?;
+        self.end = count;
+        Ok(count)
+    }
+}
