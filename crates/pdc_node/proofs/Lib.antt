@@ -1,3 +1,3 @@
 mod Answers
 mod Lives
-mod Steps
+mod Passed

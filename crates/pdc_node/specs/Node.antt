@@ -40,14 +40,6 @@ pub record IsReady (a : State) (stream : ℕ) : Type 0 where
   pub lanes : a.content.lanes ≡ 1
   pub exists : stream < length a.columns
 
--- Bytes that came for the PMU say something, and the node answered it as each life does that it stood for: it stands for the life with
--- that step more. What bytes say is one thing: `bytes_are_read_in_one_way`.
-pub record Hears (settings : Settings) (p : ℕ) (bytes : List ℕ) (outcome : Outcome) (old new : NodeView) : Type 0 where
-  pub arrival : Arrival
-  pub reads : ReadsFor settings p bytes arrival
-  pub answer : (g : Given) (E : List Entry) → StandsFor g E old → outcome ≡ (node_answer g E p arrival).outcome
-  pub stands : (g : Given) (E : List Entry) → StandsFor g E old → StandsFor g (answered node_answer g E (ToArrive p bytes arrival) ∷ E) new
-
 -- What arrives brings sections for the stream's own column alone.
 abbrev pub IsOwn : (stream : ℕ) → Arrival → Type 0
 IsOwn stream arrival = AllByRecursion (λ (part : ℕ × SectionFields). part.0 ≡ stream) (sections_of arrival)

@@ -1,20 +1,16 @@
 //! A node of a concentrator pair (this profile): it takes the streams of PMUs, aligns them by time tag and gives one row for each
 //! instant.
 //!
-//! The first type to look at is [`Node`]: settings, an alignment, and counts of how arrivals were answered.
+//! The first type to look at is [`Node`]: settings, an alignment, and counts of how arrivals were answered. Its calls are those of a
+//! [`Core`].
 //!
 //! The promise to the layers above: for every life that a node stands for, each call answers as the life does, and the node then
 //! stands for the life with that step more. No call after [`Node::open`] takes memory, save a layout for which there is no room.
 #![tactic(auto)]
 
 mod answering;
-mod core_trait;
 mod node;
-mod step;
-mod taken;
 
-pub use core_trait::Core;
 pub use node::Node;
 pub use pdc_answering::{CAUSES, Counts, causes_are_told_apart};
-pub use step::{CoreStep, Reply};
-pub use taken::{MAX_PAYLOAD, Taken};
+pub use pdc_core::{Core, CoreStep, Reads, Reply, Taken};

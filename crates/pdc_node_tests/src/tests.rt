@@ -4,7 +4,7 @@ ghost use Rattle.std.specs.Prelude.{◌≡◌, IfOk, length};
 use arrayvec::ArrayVec;
 use pdc_frame::FrameFault;
 use pdc_life::{MAX_PMUS, Outcome, Pmu, Refusal, Settings, WaitKind};
-use pdc_node::Node;
+use pdc_node::{Core, Node};
 use pdc_output::{Nominal, Output};
 use pdc_table::{RingTable, SortedTable, Table};
 use std::alloc::{AllocError, Global};

@@ -23,7 +23,7 @@ use crate::widest;
 use pdc_align::Ticked;
 use pdc_life::{MAX_PMUS, Outcome, Settings, WaitKind};
 use pdc_mark::ModelMark;
-use pdc_node::Node;
+use pdc_node::{Core, Node};
 use pdc_output::Output;
 use pdc_publisher::{MAX_LEAD, Publisher};
 use pdc_row::DueRow;

@@ -1,15 +1,20 @@
-use Rattle.std.proofs.Common.{length, subst, sym}
+use Rattle.std.proofs.Common.{◌≡◌, length, subst, sym, true}
+use Rattle.pdc_core.specs.Fits.{fits_node}
 use Rattle.pdc_life.specs.Node.{ReadsFor, node_answer}
 use Rattle.pdc_reading.specs.Views.{arrival_view}
 use Rattle.pdc_node.specs.Node.{NodeView, StandsFor}
-use Rattle.pdc_node.proofs.Lives.{arrives, is_ready, same_sizes}
-use Rattle.pdc_node.proofs.node.Node.arrive.Goals as goal
+use Rattle.pdc_node.proofs.Lives.{arrives, same_sizes}
+use Rattle.pdc_node.proofs.Passed.{passed_own, passed_ready}
+use Rattle.pdc_node.proofs.node.NodeCore.arrive.Goals as goal
 
 pub answer-outcome-requires-clause-ready : goal.answer-outcome-requires-clause-ready
 answer-outcome-requires-clause-ready g c =
     let n : NodeView = record { settings = c.self.inside.settings; start = c.self.inside.start; opening = c.self.inside.opening; state = c.self.inside.alignment.state; counts = c.self.inside.counts; memory = c.self.inside.alignment.memory } in
-    is_ready n c.args.stream c.requires.0 (arrival_view c.args.arrival.now)
-    (subst (λ (m : NodeView). ReadsFor m.settings c.args.stream c.requires.0 (arrival_view c.args.arrival.now)) (sym c.self.view_is) c.requires.1) c.self.invariant
+    passed_ready n c.args.stream (arrival_view c.args.arrival.now)
+    (subst (λ (m : NodeView). fits_node m.settings c.args.stream (arrival_view c.args.arrival.now) ≡ true) (sym c.self.view_is) c.requires) c.self.invariant
+
+pub answer-outcome-requires-clause-own : goal.answer-outcome-requires-clause-own
+answer-outcome-requires-clause-own g c = passed_own c.args.self.now.settings c.args.stream (arrival_view c.args.arrival.now) c.requires
 
 pub invariant_of-self : goal.invariant_of-self
 invariant_of-self g c =

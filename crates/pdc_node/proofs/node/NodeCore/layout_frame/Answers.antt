@@ -7,7 +7,7 @@ use Rattle.pdc_life.specs.Life.{section_in_force}
 use Rattle.pdc_life.specs.Published.{layout_wire}
 use Rattle.pdc_node.specs.Node.{NodeView, StandsFor}
 use Rattle.pdc_node.proofs.Lives.{wire_is}
-use Rattle.pdc_node.proofs.node.Node.layout_frame.Goals as goal
+use Rattle.pdc_node.proofs.node.NodeCore.layout_frame.Goals as goal
 
 pub returns-clause-ok : goal.returns-clause-ok
 returns-clause-ok g c h E before =

@@ -5,11 +5,13 @@ use Rattle.pdc_life.specs.Answer.{IsReadStep, ReadStep, ToArrive, ToPop, ToTick}
 use Rattle.pdc_life.specs.Life.{Arrive, Entry, Pop, Tick, changes}
 use Rattle.pdc_life.specs.Arrival.{Arrival}
 use Rattle.pdc_row.specs.RowView.{row_view}
-use Rattle.pdc_node.specs.Taken.{taken_view}
-use Rattle.pdc_node.specs.declared.step.CoreStep.{CoreStep}
-use Rattle.pdc_node.specs.declared.step.CoreStep.TheVariants as core
-use Rattle.pdc_node.specs.declared.step.Reply.{Reply}
-use Rattle.pdc_node.specs.declared.step.Reply.TheVariants as reply
+use Rattle.pdc_answering.specs.Counts.{after_answer}
+use Rattle.pdc_answering.specs.declared.counts.Counts.{Counts}
+use Rattle.pdc_core.specs.Taken.{taken_view}
+use Rattle.pdc_core.specs.declared.step.CoreStep.{CoreStep}
+use Rattle.pdc_core.specs.declared.step.CoreStep.TheVariants as core
+use Rattle.pdc_core.specs.declared.step.Reply.{Reply}
+use Rattle.pdc_core.specs.declared.step.Reply.TheVariants as reply
 
 -- The step is this one of a life: what arrived is a copy of what its bytes say.
 abbrev pub IsOf : CoreStep → ReadStep → Type 0
@@ -18,11 +20,10 @@ IsOf (core.Tick now counts) (ToTick n cs) = (n ≡ now) × (cs ≡ counts)
 IsOf core.Pop ToPop = Unit {0}
 IsOf step read = ⊥
 
--- It may be made where bytes may say this: what arrived is what some bytes say.
-pub record MayMake (Says : ℕ → List ℕ → Arrival → Type 0) (step : CoreStep) : Type 0 where
-  pub read : ReadStep
-  pub said : IsReadStep Says read
-  pub same : IsOf step read
+-- What arrives by it fits what a core is: the test that is given tells it.
+abbrev pub is_allowed : (fits : ℕ → Arrival → Bool) → CoreStep → Bool
+is_allowed fits (core.Arrive stream taken) = fits stream (taken_view taken)
+is_allowed fits step = true
 
 -- The reply tells what a step after E was answered.
 abbrev pub Tells : List Entry → Entry → Reply → Type 0
@@ -37,3 +38,8 @@ answers (core.Arrive stream taken) (reply.Arrived outcome) = true
 answers (core.Tick now counts) (reply.Closed ticked) = true
 answers core.Pop (reply.Popped due) = true
 answers step other = false
+
+-- The counters after a reply: an arrival is counted as it was answered.
+abbrev pub counted_by : Reply → Counts → Counts
+counted_by (reply.Arrived outcome) counts = after_answer outcome counts
+counted_by other counts = counts

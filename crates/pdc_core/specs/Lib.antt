@@ -1,0 +1,5 @@
+pub mod Core
+pub mod Fits
+pub mod Said
+pub mod Step
+pub mod Taken

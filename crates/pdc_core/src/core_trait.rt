@@ -1,0 +1,138 @@
+//! What a node and the merger are to the programs that run them.
+ghost use Rattle.std.specs.Prelude.{◌≡◌, ◌≤◌, ◌<◌, ◌+◌, ◌*◌, ◌++◌, ◌∷◌, ℕ, IfSome, IsOk, List, OnErr, OnOk, length, option_map, true};
+ghost use Rattle.pdc_align.specs.Align.{ticked_of};
+ghost use Rattle.pdc_answering.specs.Counts.{after_answer, counts_after};
+ghost use Rattle.pdc_answering.specs.declared.counts.Counts.{Counts as CountsData};
+ghost use Rattle.pdc_core.specs.Core.{Hears};
+ghost use Rattle.pdc_core.specs.Step.{IsOf, Tells, answers, counted_by, is_allowed};
+ghost use Rattle.pdc_life.specs.Answer.{IsReadStep, ReadStep, Rules, ToArrive, ToPop, ToTick, answered, pop_answer, tick_answer, waiting_counts};
+ghost use Rattle.pdc_life.specs.Given.{Given};
+ghost use Rattle.pdc_life.specs.Life.{Entry, changes, popped};
+ghost use Rattle.pdc_life.specs.Published.{layout_wire};
+ghost use Rattle.pdc_reading.specs.Views.{arrival_view};
+ghost use Rattle.pdc_row.specs.Rising.{AreBelow};
+ghost use Rattle.pdc_row.specs.RowView.{row_instants, row_view};
+ghost use Rattle.pdc_tag.specs.declared.limits.TheConstants.{SECONDS};
+
+use crate::{CoreStep, Reads, Reply};
+use pdc_align::Ticked;
+use pdc_answering::Counts;
+use pdc_frame::Buffer;
+use pdc_life::{MAX_PMUS, Outcome};
+use pdc_reading::Arrival;
+use pdc_row::DueRow;
+use std::alloc::AllocError;
+
+/// The core of a concentrator: for every life that it stands for, each call answers as the life does, and the core then stands for
+/// the life with that step more. No call takes memory, but `layout_frame` where `out` has no room.
+pub trait Core {
+    /// How it reads what arrives.
+    type Settings: Reads;
+
+    // It has these settings,
+    ghost settings_of: { Self → Self.Settings };
+
+    // and stands for a life that begins with what is given;
+    ghost stands_for: { Self → Given → List Entry → Type 0 };
+
+    // arrivals are answered by these rules,
+    ghost rules: { Rules };
+
+    // and counted so.
+    ghost counts_of: { Self → CountsData };
+
+    // It has so many places in each buffer that it holds.
+    ghost memory: { Self → List ℕ };
+
+    /// How it reads what arrives.
+    fn settings(&self) -> &Self::Settings
+        ensures { result.now ≡ settings_of self.now };
+
+    /// Answers what arrived for a stream, and takes it where it is to be taken.
+    fn arrive(&mut self, stream: usize, arrival: &Arrival<'_>) -> Outcome
+        requires { Self.Settings.fits (settings_of self.old) stream (arrival_view arrival.now) ≡ true }
+        ensures answer { (g : Given) (E : List Entry) → stands_for self.old g E →
+            result ≡ (rules g E stream (arrival_view arrival.now)).outcome }
+        ensures stands { (g : Given) (E : List Entry) (bytes : List ℕ) → Self.Settings.says (settings_of self.old) stream bytes (arrival_view arrival.now) →
+            stands_for self.old g E → stands_for self.new g (answered rules g E (ToArrive stream bytes (arrival_view arrival.now)) ∷ E) }
+        ensures counts { counts_of self.new ≡ after_answer result (counts_of self.old) }
+        ensures settings { settings_of self.new ≡ settings_of self.old }
+        ensures memory { memory self.new ≡ memory self.old };
+
+    /// A tick: the instant that is now, and for each column the count up to which a section may be adopted.
+    fn tick(&mut self, now: u64, counts: &[u16; MAX_PMUS]) -> Ticked
+        ensures answer { (g : Given) (E : List Entry) → stands_for self.old g E → result ≡ ticked_of (changes E) (tick_answer g E now counts.now) }
+        ensures stands { (g : Given) (E : List Entry) → stands_for self.old g E →
+            stands_for self.new g (answered rules g E (ToTick now counts.now) ∷ E) }
+        ensures counts { counts_of self.new ≡ counts_of self.old }
+        ensures settings { settings_of self.new ≡ settings_of self.old }
+        ensures memory { memory self.new ≡ memory self.old };
+
+    /// The lowest row that closed and was not popped.
+    fn pop_due(&mut self) -> Option<DueRow>
+        ensures answer { (g : Given) (E : List Entry) → stands_for self.old g E → option_map row_view result ≡ pop_answer E }
+        // Its instant is above the floor and above all that were popped before, and can be tagged.
+        ensures next { (g : Given) (E : List Entry) → stands_for self.old g E →
+            IfSome result (λ row. (g.floor < row.instant) × AreBelow row.instant (row_instants (popped E)) × (row.instant < SECONDS * g.output.rate)) }
+        ensures stands { (g : Given) (E : List Entry) → stands_for self.old g E → stands_for self.new g (answered rules g E ToPop ∷ E) }
+        ensures counts { counts_of self.new ≡ counts_of self.old }
+        ensures settings { settings_of self.new ≡ settings_of self.old }
+        ensures memory { memory self.new ≡ memory self.old };
+
+    /// Appends the frame of the layout in force, dated with this second.
+    ///
+    /// # Errors
+    ///
+    /// [`AllocError`] where `out` has no room and gets none.
+    fn layout_frame<B: Buffer>(&self, soc: u32, out: &mut B) -> Result<(), AllocError>
+        ensures ok { (g : Given) (E : List Entry) → stands_for self.now g E → OnOk result (B.content out.new ≡ B.content out.old ++ layout_wire g E soc) }
+        ensures err { OnErr result ((B.content out.new ≡ B.content out.old) × (B.capacity out.new ≡ B.capacity out.old)) }
+        ensures room { (g : Given) (E : List Entry) → stands_for self.now g E →
+            length (B.content out.old) + length (layout_wire g E soc) ≤ B.capacity out.old → IsOk result }
+        ensures in_place { (g : Given) (E : List Entry) → stands_for self.now g E →
+            length (B.content out.old) + length (layout_wire g E soc) ≤ B.capacity out.old → B.capacity out.new ≡ B.capacity out.old }
+        ensures capacity { B.capacity out.old ≤ B.capacity out.new };
+
+    /// How arrivals were answered.
+    fn counts(&self) -> Counts
+        ensures value { result ≡ counts_of self.now }
+        ensures life { (g : Given) (E : List Entry) → stands_for self.now g E → result ≡ counts_after E };
+
+    /// For each column the count that waits to be stored.
+    fn waiting(&self) -> [u16; MAX_PMUS]
+        ensures { (g : Given) (E : List Entry) → stands_for self.now g E → result ≡ waiting_counts g E };
+
+    /// Makes a step: what arrived is answered, a tick ticks, or a row is taken out.
+    fn apply(&mut self, step: &CoreStep) -> Reply
+        requires { is_allowed (Self.Settings.fits (settings_of self.old)) step.now ≡ true }
+        ensures answer { (g : Given) (E : List Entry) (read : ReadStep) → IsOf step.now read → stands_for self.old g E →
+            Tells E (answered rules g E read) result }
+        ensures kind { answers step.now result ≡ true }
+        ensures stands { (g : Given) (E : List Entry) (read : ReadStep) → IsOf step.now read → IsReadStep (Self.Settings.says (settings_of self.old)) read →
+            stands_for self.old g E → stands_for self.new g (answered rules g E read ∷ E) }
+        ensures counts { counts_of self.new ≡ counted_by result (counts_of self.old) }
+        ensures settings { settings_of self.new ≡ settings_of self.old }
+        ensures memory { memory self.new ≡ memory self.old }
+    {
+        match step {
+            CoreStep::Arrive { stream, taken } => {
+                let arrival = taken.view();
+                Reply::Arrived(self.arrive(*stream, &arrival))
+            }
+            CoreStep::Tick { now, counts } => Reply::Closed(self.tick(*now, counts)),
+            CoreStep::Pop => Reply::Popped(self.pop_due()),
+        }
+    }
+
+    /// Answers the bytes of a datagram that came for a stream: what they say is read, and arrives.
+    fn put_datagram(&mut self, stream: usize, bytes: &[u8]) -> Outcome
+        requires { stream < Self.Settings.streams (settings_of self.old) }
+        ensures hears { Hears (Self.Settings.says (settings_of self.old)) rules (stands_for self.old) (stands_for self.new) stream bytes.now result }
+        ensures counts { counts_of self.new ≡ after_answer result (counts_of self.old) }
+        ensures settings { settings_of self.new ≡ settings_of self.old }
+        ensures memory { memory self.new ≡ memory self.old }
+    {
+        let arrival = self.settings().read(stream, bytes);
+        self.arrive(stream, &arrival)
+    }
+}

@@ -1,0 +1,45 @@
+//! Settings by which bytes are read.
+ghost use Rattle.std.specs.Prelude.{◌≡◌, ◌<◌, ℕ, Bool, List, length, true};
+ghost use Rattle.pdc_core.specs.Fits.{fits_node};
+ghost use Rattle.pdc_life.specs.Arrival.{Arrival};
+ghost use Rattle.pdc_life.specs.Node.{ReadsFor};
+ghost use Rattle.pdc_reading.specs.Views.{arrival_view};
+
+use pdc_life::Settings;
+use pdc_reading::{Arrival, read_from_pmu};
+
+/// Settings by which the bytes of a datagram are read, whatever came before. It takes no memory.
+pub trait Reads {
+    // so many streams arrive;
+    ghost streams: { Self → ℕ };
+
+    // this is what bytes may say that come for a stream,
+    ghost says: { Self → ℕ → List ℕ → Arrival → Type 0 };
+
+    // and all that they say passes this test.
+    ghost fits: { Self → ℕ → Arrival → Bool };
+
+    ghost said_fits: { (settings : Self) (s : ℕ) (bytes : List ℕ) (arrival : Arrival) → says settings s bytes arrival → fits settings s arrival ≡ true };
+
+    /// What the bytes say that came for the stream with this number.
+    fn read<'a>(&self, stream: usize, bytes: &'a [u8]) -> Arrival<'a>
+        requires { stream < streams self.now }
+        ensures { says self.now stream bytes.now (arrival_view result) };
+}
+
+/// A node's: a stream comes from each PMU.
+impl Reads for Settings {
+    ghost use Rattle.pdc_core.specs.Said.{said_fits_node};
+
+    ghost streams = { λ settings. length settings.pmus.items };
+
+    ghost says = { ReadsFor };
+
+    ghost fits = { fits_node };
+
+    ghost said_fits = { said_fits_node };
+
+    fn read<'a>(&self, stream: usize, bytes: &'a [u8]) -> Arrival<'a> {
+        read_from_pmu(self, stream, bytes)
+    }
+}
