@@ -1,0 +1,3 @@
+mod Placed
+mod ByLayout
+mod Lives

@@ -1,0 +1,34 @@
+use Rattle.std.proofs.Common.{length, subst, sym}
+use Rattle.pdc_life.specs.Merger.{merged_answer}
+use Rattle.pdc_life.specs.MergerReading.{ReadsForMerger}
+use Rattle.pdc_reading.specs.Views.{arrival_view}
+use Rattle.pdc_merge.specs.Merger.{MergerView, StandsFor}
+use Rattle.pdc_merge.proofs.Lives.{arrives, is_placed, is_ready, is_whole, same_place}
+use Rattle.pdc_merge.proofs.merger.Merger.arrive.Goals as goal
+
+pub answer-outcome-requires-clause-placed : goal.answer-outcome-requires-clause-placed
+answer-outcome-requires-clause-placed g c =
+    let m : MergerView = record { settings = c.self.inside.settings; start = c.self.inside.start; state = c.self.inside.alignment.state; layouts = c.self.inside.layouts; counts = c.self.inside.counts; memory = c.self.inside.alignment.memory; disagreements = c.self.inside.alignment.disagreements } in
+    same_place (length c.self.inside.settings.sources.items) (length c.self.inside.alignment.state.columns) c.args.stream (arrival_view c.args.arrival.now) (sym c.self.invariant.sizes.each_column)
+    (is_placed c.self.inside.settings c.args.stream c.requires.0 (arrival_view c.args.arrival.now)
+    (subst (λ (n : MergerView). ReadsForMerger n.settings c.args.stream c.requires.0 (arrival_view c.args.arrival.now)) (sym c.self.view_is) c.requires.1))
+
+pub answer-outcome-requires-clause-ready : goal.answer-outcome-requires-clause-ready
+answer-outcome-requires-clause-ready g c = is_ready (length c.self.inside.settings.sources.items) c.self.inside.alignment.state c.self.inside.layouts c.self.invariant
+
+pub invariant_of-self : goal.invariant_of-self
+invariant_of-self g c =
+    is_whole (length c.self.inside.settings.sources.items) c.self.inside.alignment.state c.answer-outcome.new.alignment.state c.self.inside.layouts c.answer-outcome.new.layouts
+    c.answer-outcome.ensures.sizes c.answer-outcome.ensures.in_place c.self.invariant
+
+pub returns-clause-stands : goal.returns-clause-stands
+returns-clause-stands g c h E bytes reads before =
+    let m : MergerView = record { settings = c.self.inside.settings; start = c.self.inside.start; state = c.self.inside.alignment.state; layouts = c.self.inside.layouts; counts = c.self.inside.counts; memory = c.self.inside.alignment.memory; disagreements = c.self.inside.alignment.disagreements } in
+    let arrival = arrival_view c.args.arrival.now in
+    let stands : StandsFor h E m = subst (λ (n : MergerView). StandsFor h E n) (sym c.self.view_is) before in
+    arrives c.merger_lives_are_runs.ensures m h E c.args.stream bytes arrival c.answer-outcome.new.alignment.state c.answer-outcome.new.layouts c.count.new.self c.answer-outcome.new.alignment.memory
+    c.answer-outcome.new.alignment.disagreements
+    (subst (λ (n : MergerView). ReadsForMerger n.settings c.args.stream bytes arrival) (sym c.self.view_is) reads) stands
+    (c.answer-outcome.ensures.stands h E bytes stands.aligned stands.held)
+    (c.answer-outcome.ensures.held h E bytes stands.aligned stands.held)
+    (λ old. c.count.ensures.life E c.args.stream bytes arrival (merged_answer h E c.args.stream arrival) old (c.answer-outcome.ensures.answer h E stands.aligned stands.held))

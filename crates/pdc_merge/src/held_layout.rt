@@ -1,0 +1,95 @@
+//! The layout of a node, as far as its data is read by it.
+ghost use Rattle.std.specs.Prelude.{◌≡◌, ◌≤◌, length, map};
+ghost use Rattle.pdc_life.specs.declared.given.TheConstants.{MAX_PMUS};
+ghost use Rattle.pdc_reading.specs.Views.{section_part, stamp_view};
+ghost use Rattle.pdc_reading.specs.declared.arrival.ColumnSection.{ColumnSection as ColumnSectionData};
+ghost use Rattle.pdc_merge.specs.Cells.{blocks_len};
+ghost use Rattle.pdc_merge.specs.Held.{held_section_of};
+
+use arrayvec::ArrayVec;
+use pdc_cfg::Shape;
+use pdc_life::MAX_PMUS;
+use pdc_reading::{ColumnSection, Stamp};
+use std::marker::Model;
+
+/// What is kept of a section: where the words of its block go.
+#[derive(Clone, Copy, Debug, Default)]
+pub struct HeldSection {
+    /// The number of its column, from 0.
+    pub column: usize,
+    /// The shape of its data.
+    pub shape: Shape,
+    /// Its count.
+    pub count: u16,
+}
+
+/// What is kept of a layout: its stamp, and its sections in their order. The bytes of the sections are held beside their columns.
+#[derive(Drop)]
+pub struct HeldLayout {
+    stamp: Stamp,
+    sections: ArrayVec<HeldSection, MAX_PMUS>,
+}
+
+impl Model for HeldLayout {
+    ghost use Rattle.pdc_reading.specs.Views.{stamp_view};
+    ghost use Rattle.pdc_merge.specs.Held.{LayoutView};
+
+    ghost Value = { LayoutView };
+
+    ghost view = { λ l. record { stamp = stamp_view l.stamp; sections = l.sections.items } };
+}
+
+impl HeldLayout {
+    /// What is kept of a layout with this stamp and these sections.
+    pub(crate) fn new(stamp: Stamp, sections: &[ColumnSection<'_>]) -> HeldLayout
+        requires { length sections.now ≤ MAX_PMUS }
+        ensures { result ≡ record { stamp = stamp_view stamp; sections = map held_section_of (map section_part sections.now) } }
+    {
+        HeldLayout {
+            stamp,
+            sections: held_sections(sections),
+        }
+    }
+
+    /// Its stamp.
+    pub(crate) fn stamp(&self) -> Stamp
+        ensures { stamp_view result ≡ self.now.stamp }
+    {
+        self.stamp
+    }
+
+    /// Its sections.
+    pub(crate) fn sections(&self) -> &[HeldSection]
+        ensures sections { result.now ≡ self.now.sections }
+        ensures few { length result.now ≤ MAX_PMUS }
+    {
+        self.sections.as_slice()
+    }
+
+    /// The bytes of their blocks.
+    pub(crate) fn blocks_len(&self) -> usize
+        ensures { result ≡ blocks_len self.now.sections }
+    {
+        let mut len = 0;
+        for section in self.sections.as_slice() {
+            len += 2 * section.shape.word_count();
+        }
+        len
+    }
+}
+
+/// What is kept of these sections.
+fn held_sections(sections: &[ColumnSection<'_>]) -> ArrayVec<HeldSection, MAX_PMUS>
+    requires { length sections.now ≤ MAX_PMUS }
+    ensures { result.items ≡ map (λ (s : ColumnSectionData). held_section_of (section_part s)) sections.now }
+{
+    let mut held = ArrayVec::new();
+    for section in sections {
+        held.push(HeldSection {
+            column: section.column,
+            shape: section.section.shape,
+            count: section.section.count,
+        });
+    }
+    held
+}

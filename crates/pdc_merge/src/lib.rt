@@ -1,0 +1,17 @@
+//! The merger of a concentrator pair (this profile): it takes the published frames of both nodes and gives one row for each instant, so
+//! that one node may be lost and no reader downstream sees it.
+//!
+//! The first type to look at is [`Merger`]: settings, an alignment of two lanes, the layouts that are held of both nodes, and counts of
+//! how arrivals were answered.
+//!
+//! The promise to the layers above: for every life that a merger stands for, each call answers as the life does, and the merger then
+//! stands for the life with that step more. No call after [`Merger::open`] takes memory, save a layout for which there is no room.
+#![tactic(auto)]
+
+mod answering;
+mod cells;
+mod held_layout;
+mod layouts;
+mod merger;
+
+pub use merger::Merger;
