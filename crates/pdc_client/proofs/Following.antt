@@ -1,15 +1,15 @@
 -- What came, one step after the other.
-use Rattle.std.proofs.Common.{◌≡◌, ℕ, ◌+◌, ◌-◌, ◌<◌, ◌≤◌, List, [], ◌∷◌, ◌++◌, length, take, drop, Option, Some, None, refl, sym, ap, subst, ◌∙◌, arith, append_assoc, length-append, length-take}
+use Rattle.std.proofs.Common.{◌≡◌, ℕ, ◌+◌, ◌-◌, ◌<◌, ◌≤◌, List, [], ◌∷◌, ◌++◌, length, take, drop, Option, Some, None, Ok, Err, refl, sym, ap, subst, ◌∙◌, arith, append_assoc, length-append, length-take}
 use Rattle.std.proofs.lemmas.List.{append-nil, drop-drop, drop-take, take-append-drop}
 use Rattle.std.specs.Io.KnownBytes.{Consumes}
 use Rattle.pdc_frame.specs.declared.step.Step.{Step}
 use Rattle.pdc_frame.specs.declared.step.Step.TheVariants.{Whole}
 use Rattle.pdc_frame.specs.Stream.{Held, HasTaken, given_at}
-use Rattle.std.specs.List.{All}
 use Rattle.std.proofs.lemmas.List.Elements.{All-nil, All-push}
 use Rattle.std.proofs.Math.Seq.{drop-length}
 use Rattle.pdc_frame.specs.declared.frame.Kind.{Kind}
-use Rattle.pdc_client.specs.Search.{Finds, Follows, IsOther, IsWanted}
+use Rattle.pdc_client.specs.declared.fault.ClientFault.TheVariants.{BadStream, NoAnswer}
+use Rattle.pdc_client.specs.Search.{Finds, Follows, IsOther, IsWanted, PassesOver, Searches}
 use Rattle.pdc_client.specs.declared.search.TheConstants.{MAX_FRAMES}
 
 -- the rest of a part of a list is a part of its rest
@@ -78,18 +78,11 @@ follows_more held mid later unread between left remaining partly rest frames mor
 pub none_left : (unread piece : List ℕ) (n : ℕ) → piece ≡ unread → n ≡ length piece → drop n unread ≡ []
 none_left unread piece n same e = ap (λ (k : ℕ). drop k unread) (e ∙ ap (λ (xs : List ℕ). length xs) same) ∙ drop-length unread
 
--- the frames that were passed over so far
-pub record Passes (id : ℕ) (kind : Kind) (count : ℕ) (held : Held) (unread : List ℕ) (remaining : Option (List ℕ)) (later : Held) (left : List ℕ) (rest : Option (List ℕ)) : Type 0 where
-  pub others : List (List ℕ)
-  pub counted : length others ≡ count
-  pub passed : All (λ bytes. IsOther id kind bytes) others
-  pub follows : Follows held unread remaining others later left rest
-
-pub passes_start : (id : ℕ) (kind : Kind) (held : Held) (unread : List ℕ) (remaining : Option (List ℕ)) → Passes id kind 0 held unread remaining held unread remaining
+pub passes_start : (id : ℕ) (kind : Kind) (held : Held) (unread : List ℕ) (remaining : Option (List ℕ)) → PassesOver id kind 0 held unread remaining held unread remaining
 passes_start id kind held unread remaining = record { others = []; counted = refl; passed = All-nil (λ bytes. IsOther id kind bytes); follows = follows_start held unread remaining }
 
-pub passes_one : (id : ℕ) (kind : Kind) (count : ℕ) (held mid later : Held) (unread between left : List ℕ) (remaining partly rest : Option (List ℕ)) → Passes id kind count held unread remaining mid between partly
-    → Follows mid between partly (later.bytes ∷ []) later left rest → IsOther id kind later.bytes → Passes id kind (count + 1) held unread remaining later left rest
+pub passes_one : (id : ℕ) (kind : Kind) (count : ℕ) (held mid later : Held) (unread between left : List ℕ) (remaining partly rest : Option (List ℕ)) → PassesOver id kind count held unread remaining mid between partly
+    → Follows mid between partly (later.bytes ∷ []) later left rest → IsOther id kind later.bytes → PassesOver id kind (count + 1) held unread remaining later left rest
 passes_one id kind count held mid later unread between left remaining partly rest h k other = record {
   others = h.others ++ later.bytes ∷ [];
   counted = length-append h.others (later.bytes ∷ []) ∙ ap (λ (n : ℕ). n + 1) h.counted;
@@ -97,7 +90,7 @@ passes_one id kind count held mid later unread between left remaining partly res
   follows = follows_more held mid later unread between left remaining partly rest h.others (later.bytes ∷ []) h.follows k;
 }
 
-pub finds_one : (id : ℕ) (kind : Kind) (count : ℕ) (held mid later : Held) (unread between left : List ℕ) (remaining partly rest : Option (List ℕ)) → Passes id kind count held unread remaining mid between partly
+pub finds_one : (id : ℕ) (kind : Kind) (count : ℕ) (held mid later : Held) (unread between left : List ℕ) (remaining partly rest : Option (List ℕ)) → PassesOver id kind count held unread remaining mid between partly
     → Follows mid between partly (later.bytes ∷ []) later left rest → count < MAX_FRAMES → IsWanted id kind later.bytes → later.step ≡ Whole → Finds id kind held unread remaining later left rest
 finds_one id kind count held mid later unread between left remaining partly rest h k few wanted whole = record {
   others = h.others;
@@ -106,4 +99,15 @@ finds_one id kind count held mid later unread between left remaining partly rest
   wanted = wanted;
   whole = whole;
   follows = follows_more held mid later unread between left remaining partly rest h.others (later.bytes ∷ []) h.follows k;
+}
+
+-- ---- what a search answers
+
+pub searches_found : {T : Type 0} (id : ℕ) (kind : Kind) (held : Held) (unread : List ℕ) (remaining : Option (List ℕ)) (later : Held) (left : List ℕ) (rest : Option (List ℕ)) (reads_left : ℕ) (done : T)
+    → Finds id kind held unread remaining later left rest → Searches id kind held unread remaining later left rest reads_left (Ok done)
+searches_found id kind held unread remaining later left rest reads_left done finds = record {
+  found = finds;
+  memory = λ e. finds;
+  bad = λ e. let no : Ok done ≡ Err BadStream = e in cc;
+  no_answer = λ e. let no : Ok done ≡ Err NoAnswer = e in cc;
 }

@@ -20,6 +20,10 @@ held_in pdc = pdc.framer
 abbrev pub unread_in : {S : Type 0} → Pdc S → List ℕ
 unread_in pdc = pdc.unread
 
+-- how many reads the last search had left
+abbrev pub reads_left_in : {S : Type 0} → Pdc S → ℕ
+reads_left_in pdc = pdc.reads_left
+
 -- the fault that ended it
 abbrev pub ended_in : {S : Type 0} → Pdc S → Option ClientFault
 ended_in pdc = pdc.ended

@@ -1,17 +1,17 @@
 //! The client.
-ghost use Rattle.std.specs.Prelude.{◌≡◌, ◌≤◌, ◌<◌, [], None, IfOk, IsErrOf, IsOkAnd, OnOk};
+ghost use Rattle.std.specs.Prelude.{◌≡◌, ◌⊎◌, ◌≤◌, ◌<◌, [], None, IfOk, IsErrOf, IsOkAnd, OnErr, OnOk};
 ghost use Rattle.std.specs.Io.KnownBytes.{Appends};
 ghost use Rattle.pdc_frame.specs.Frame.{Fields, IsFrame, spelling_of};
 ghost use Rattle.pdc_frame.specs.Stream.{HasTaken};
 ghost use Rattle.pdc_frame.specs.declared.limits.TheConstants.{MAX_ID};
 ghost use Rattle.pdc_command.specs.Command.{command_fields};
-ghost use Rattle.pdc_client.specs.Search.{Finds};
+ghost use Rattle.pdc_client.specs.Search.{Searches};
 ghost use Rattle.pdc_client.specs.declared.telling.TheConstants.{COMMAND_SOC};
 ghost use Rattle.pdc_frame.specs.declared.frame.Kind.TheVariants.{Cfg2, DataFrame, HeaderFrame};
 ghost use Rattle.pdc_client.specs.declared.fault.ClientFault.{ClientFault};
 
 use crate::fault::ClientFault;
-use crate::search::find_frame;
+use crate::search::{MAX_READS, find_frame};
 use crate::telling::tell;
 use crate::unread::Unread;
 use pdc_command::Command;
@@ -26,13 +26,14 @@ pub struct Pdc<S> {
     stream: S,
     framer: Framer,
     unread: Unread,
+    reads_left: u32,
     ended: Option<ClientFault>,
     pub ghost id_low: { 0 < id },
     pub ghost id_high: { id ≤ MAX_ID },
 }
 
 impl<S: Read + Write> Pdc<S> {
-    ghost use Rattle.pdc_client.specs.Client.{KeepsFaults, ended_in, held_in, id_in, stream_in, unread_in};
+    ghost use Rattle.pdc_client.specs.Client.{KeepsFaults, ended_in, held_in, id_in, reads_left_in, stream_in, unread_in};
 
     /// A client of the stream `id`, 1 to 65534. It reads and writes nothing yet.
     ///
@@ -55,14 +56,23 @@ impl<S: Read + Write> Pdc<S> {
             stream,
             framer: Framer::new(alloc)?,
             unread: Unread::new(alloc)?,
+            reads_left: MAX_READS,
             ended: None,
         })
+    }
+
+    /// How many reads the last search for a frame had left of [`MAX_READS`].
+    pub fn reads_left(&self) -> u32
+        ensures { result ≡ reads_left_in self.now }
+    {
+        self.reads_left
     }
 
     /// Writes a command.
     fn order(&mut self, command: Command) -> Result<(), ClientFault>
         ensures keeps { KeepsFaults self.old self.new result }
         ensures ok { OnOk result (Appends (S.contents (stream_in self.old)) (S.contents (stream_in self.new)) (spelling_of (command_fields (id_in self.old) COMMAND_SOC command))) }
+        ensures fault { ended_in self.old ≡ None → OnErr result (IsErrOf result ClientFault.Device) }
         ensures held { held_in self.new ≡ held_in self.old }
         ensures unread { unread_in self.new ≡ unread_in self.old }
     {
@@ -79,17 +89,20 @@ impl<S: Read + Write> Pdc<S> {
     /// Reads up to the end of the next frame of this kind.
     fn find(&mut self, kind: Kind) -> Result<(), ClientFault>
         ensures keeps { KeepsFaults self.old self.new result }
-        ensures ok { OnOk result (Finds (id_in self.old) kind (held_in self.old) (unread_in self.old) (S.remaining (stream_in self.old)) (held_in self.new) (unread_in self.new) (S.remaining (stream_in self.new))) }
+        ensures searches { ended_in self.old ≡ None → Searches (id_in self.old) kind (held_in self.old) (unread_in self.old) (S.remaining (stream_in self.old)) (held_in self.new) (unread_in self.new) (S.remaining (stream_in self.new)) (reads_left_in self.new) result }
+        ensures memory { ended_in self.old ≡ None → IsErrOf result ClientFault.NoMemory → ⊥ }
     {
         if let Some(fault) = self.ended {
             return Err(fault);
         }
+        self.reads_left = MAX_READS;
         let answer = find_frame(
             self.id,
             kind,
             &mut self.framer,
             &mut self.unread,
             &mut self.stream,
+            &mut self.reads_left,
         );
         if let Err(fault) = answer {
             self.ended = Some(fault);
@@ -104,6 +117,8 @@ impl<S: Read + Write> Pdc<S> {
         ensures held { held_in self.new ≡ held_in self.old }
         ensures unread { unread_in self.new ≡ unread_in self.old }
         ensures stream { stream_in self.new ≡ stream_in self.old }
+        ensures reads_left { reads_left_in self.new ≡ reads_left_in self.old }
+        ensures fault { OnErr result (IsErrOf result ClientFault.NoMemory) }
     {
         match copy {
             Ok(bytes) => Ok(bytes),
@@ -118,12 +133,12 @@ impl<S: Read + Write> Pdc<S> {
     ///
     /// # Errors
     ///
-    /// `NoAnswer` where none came within [`MAX_FRAMES`](crate::MAX_FRAMES) frames and [`MAX_READS`](crate::MAX_READS) reads, or before
+    /// `NoAnswer` where none came within [`MAX_FRAMES`](crate::MAX_FRAMES) frames and [`MAX_READS`] reads, or before
     /// the end of the input; `BadStream` where the stream shows a fault; `Device` where a read failed; `NoMemory` where there is none
     /// for the answer. Each ends the client: every later call answers it again.
     pub fn get(&mut self, alloc: Global) -> Result<Vec<u8>, ClientFault>
         ensures keeps { KeepsFaults self.old self.new result }
-        ensures ok { OnOk result (Finds (id_in self.old) DataFrame (held_in self.old) (unread_in self.old) (S.remaining (stream_in self.old)) (held_in self.new) (unread_in self.new) (S.remaining (stream_in self.new))) }
+        ensures searches { ended_in self.old ≡ None → Searches (id_in self.old) DataFrame (held_in self.old) (unread_in self.old) (S.remaining (stream_in self.old)) (held_in self.new) (unread_in self.new) (S.remaining (stream_in self.new)) (reads_left_in self.new) result }
         ensures answer { IfOk result (λ bytes. bytes.items ≡ (held_in self.new).bytes) }
     {
         self.find(Kind::DataFrame)?;
@@ -138,8 +153,9 @@ impl<S: Read + Write> Pdc<S> {
     /// Those of [`get`](Pdc::get), and `Device` where the command could not be written.
     pub fn get_config(&mut self, alloc: Global) -> Result<Vec<u8>, ClientFault>
         ensures keeps { KeepsFaults self.old self.new result }
-        ensures ok { OnOk result ((asked : S) × Appends (S.contents (stream_in self.old)) (S.contents asked) (spelling_of (command_fields (id_in self.old) COMMAND_SOC Command.SendCfg2))
-            × Finds (id_in self.old) Cfg2 (held_in self.old) (unread_in self.old) (S.remaining asked) (held_in self.new) (unread_in self.new) (S.remaining (stream_in self.new))) }
+        ensures searches { ended_in self.old ≡ None → IsErrOf result ClientFault.Device
+            ⊎ ((asked : S) × Appends (S.contents (stream_in self.old)) (S.contents asked) (spelling_of (command_fields (id_in self.old) COMMAND_SOC Command.SendCfg2))
+            × Searches (id_in self.old) Cfg2 (held_in self.old) (unread_in self.old) (S.remaining asked) (held_in self.new) (unread_in self.new) (S.remaining (stream_in self.new)) (reads_left_in self.new) result) }
         ensures answer { IfOk result (λ bytes. bytes.items ≡ (held_in self.new).bytes) }
     {
         self.order(Command::SendCfg2)?;
@@ -155,8 +171,9 @@ impl<S: Read + Write> Pdc<S> {
     /// Those of [`get`](Pdc::get), and `Device` where the command could not be written.
     pub fn get_header(&mut self, alloc: Global) -> Result<Vec<u8>, ClientFault>
         ensures keeps { KeepsFaults self.old self.new result }
-        ensures ok { OnOk result ((asked : S) × Appends (S.contents (stream_in self.old)) (S.contents asked) (spelling_of (command_fields (id_in self.old) COMMAND_SOC Command.SendHeader))
-            × Finds (id_in self.old) HeaderFrame (held_in self.old) (unread_in self.old) (S.remaining asked) (held_in self.new) (unread_in self.new) (S.remaining (stream_in self.new))) }
+        ensures searches { ended_in self.old ≡ None → IsErrOf result ClientFault.Device
+            ⊎ ((asked : S) × Appends (S.contents (stream_in self.old)) (S.contents asked) (spelling_of (command_fields (id_in self.old) COMMAND_SOC Command.SendHeader))
+            × Searches (id_in self.old) HeaderFrame (held_in self.old) (unread_in self.old) (S.remaining asked) (held_in self.new) (unread_in self.new) (S.remaining (stream_in self.new)) (reads_left_in self.new) result) }
         ensures answer { IfOk result (λ text. (f : Fields) × IsFrame (held_in self.new).bytes f × (text.items ≡ f.payload)) }
     {
         self.order(Command::SendHeader)?;
@@ -173,6 +190,7 @@ impl<S: Read + Write> Pdc<S> {
     pub fn start(&mut self) -> Result<(), ClientFault>
         ensures keeps { KeepsFaults self.old self.new result }
         ensures ok { OnOk result (Appends (S.contents (stream_in self.old)) (S.contents (stream_in self.new)) (spelling_of (command_fields (id_in self.old) COMMAND_SOC Command.DataOn))) }
+        ensures fault { ended_in self.old ≡ None → OnErr result (IsErrOf result ClientFault.Device) }
         ensures held { held_in self.new ≡ held_in self.old }
         ensures unread { unread_in self.new ≡ unread_in self.old }
     {
@@ -187,6 +205,7 @@ impl<S: Read + Write> Pdc<S> {
     pub fn stop(&mut self) -> Result<(), ClientFault>
         ensures keeps { KeepsFaults self.old self.new result }
         ensures ok { OnOk result (Appends (S.contents (stream_in self.old)) (S.contents (stream_in self.new)) (spelling_of (command_fields (id_in self.old) COMMAND_SOC Command.DataOff))) }
+        ensures fault { ended_in self.old ≡ None → OnErr result (IsErrOf result ClientFault.Device) }
         ensures held { held_in self.new ≡ held_in self.old }
         ensures unread { unread_in self.new ≡ unread_in self.old }
     {
@@ -197,6 +216,7 @@ impl<S: Read + Write> Pdc<S> {
     /// had ended writes nothing.
     pub fn quit(self) -> (S, Result<(), ClientFault>)
         ensures ok { OnOk result.1 (Appends (S.contents (stream_in self)) (S.contents result.0) (spelling_of (command_fields (id_in self) COMMAND_SOC Command.DataOff))) }
+        ensures fault { ended_in self ≡ None → OnErr result.1 (IsErrOf result.1 ClientFault.Device) }
         ensures goes_on { OnOk result.1 (ended_in self ≡ None) }
         ensures stays { (fault : ClientFault) → ended_in self ≡ Some fault → IsErrOf result.1 fault × (result.0 ≡ stream_in self) }
     {

@@ -1,8 +1,9 @@
 //! The next frame of a stream and a kind, in what a reader gives.
-ghost use Rattle.std.specs.Prelude.{◌≡◌, ◌≤◌, ◌∷◌, [], true, false, OnOk, IsErrOf};
+ghost use Rattle.std.specs.Prelude.{◌≡◌, ◌⊎◌, ◌∷◌, [], true, false, OnOk, IsErrOf};
 ghost use Rattle.std.specs.Io.KnownBytes.{Consumes, IsAtEnd};
 ghost use Rattle.pdc_frame.specs.declared.step.Step.TheVariants.{Whole};
-ghost use Rattle.pdc_client.specs.Search.{Finds, Follows, IsOther, IsWanted};
+ghost use Rattle.pdc_frame.specs.Stream.{IsBad};
+ghost use Rattle.pdc_client.specs.Search.{Follows, IsOther, IsWanted, Searches};
 
 use crate::fault::ClientFault;
 use crate::unread::Unread;
@@ -20,6 +21,8 @@ fn read_more<R: Read>(unread: &mut Unread, reader: &mut R) -> Result<(), ClientF
     requires { unread.old ≡ [] }
     ensures ok { OnOk result (Consumes (R.remaining reader.old) (R.remaining reader.new) unread.new) }
     ensures end { IsErrOf result ClientFault.NoAnswer → IsAtEnd (R.remaining reader.new) }
+    ensures bad { IsErrOf result ClientFault.BadStream → ⊥ }
+    ensures memory { IsErrOf result ClientFault.NoMemory → ⊥ }
 {
     match unread.fill(reader) {
         Ok(0) => Err(ClientFault::NoAnswer),
@@ -38,7 +41,9 @@ fn next_frame<R: Read>(
 ) -> Result<(), ClientFault>
     ensures ok { OnOk result (Follows framer.old unread.old (R.remaining reader.old) (framer.new.bytes ∷ []) framer.new unread.new (R.remaining reader.new)) }
     ensures whole { OnOk result (framer.new.step ≡ Whole) }
-    ensures reads { reads.new ≤ reads.old }
+    ensures bad { IsErrOf result ClientFault.BadStream → IsBad framer.new.step }
+    ensures no_answer { IsErrOf result ClientFault.NoAnswer → (reads.new ≡ 0) ⊎ IsAtEnd (R.remaining reader.new) }
+    ensures memory { IsErrOf result ClientFault.NoMemory → ⊥ }
 {
     loop {
         let (taken, step) = framer.feed(unread.bytes());
@@ -66,7 +71,7 @@ fn is_wanted(framer: &Framer, id: u16, kind: Kind) -> bool
     frame.id == id && frame.kind == kind
 }
 
-/// Reads up to the end of the next frame of this stream and kind, and passes the others over.
+/// Reads up to the end of the next frame of this stream and kind, and passes the others over. `reads` is how many reads are left.
 ///
 /// # Errors
 ///
@@ -78,12 +83,13 @@ pub fn find_frame<R: Read>(
     framer: &mut Framer,
     unread: &mut Unread,
     reader: &mut R,
+    reads: &mut u32,
 ) -> Result<(), ClientFault>
-    ensures { OnOk result (Finds id kind framer.old unread.old (R.remaining reader.old) framer.new unread.new (R.remaining reader.new)) }
+    ensures searches { Searches id kind framer.old unread.old (R.remaining reader.old) framer.new unread.new (R.remaining reader.new) reads.new result }
+    ensures memory { IsErrOf result ClientFault.NoMemory → ⊥ }
 {
-    let mut reads = MAX_READS;
     for _ in 0..MAX_FRAMES {
-        next_frame(framer, unread, reader, &mut reads)?;
+        next_frame(framer, unread, reader, reads)?;
         if is_wanted(framer, id, kind) {
             return Ok(());
         }

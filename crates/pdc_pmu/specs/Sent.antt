@@ -1,6 +1,7 @@
 -- The frames that a PMU sent, over every list of them (this profile).
 use Rattle.std.specs.Prelude.{◌≡◌, ℕ, ◌+◌, ◌<◌, true, List, [], ◌∷◌}
 use Rattle.pdc_cfg.specs.Section.{SectionFields}
+use Rattle.pdc_pmu.specs.declared.pmu.TheConstants.{MAX_COUNT}
 use Rattle.pdc_pmu.specs.Pmu.{PmuView, after_config, after_data, after_header, is_later, new_pmu}
 
 -- one frame that was sent
@@ -14,7 +15,7 @@ pub data Sent : Type 0 where
 abbrev pub HasSent : PmuView → List Sent → PmuView → Type 0
 HasSent p [] q = p ≡ q
 HasSent p (HeaderSent ∷ frames) q = (r : PmuView) × HasSent p frames r × (q ≡ after_header r)
-HasSent p (ConfigSent section ∷ frames) q = (r : PmuView) × HasSent p frames r × (r.count < 65535) × (q ≡ after_config r section)
+HasSent p (ConfigSent section ∷ frames) q = (r : PmuView) × HasSent p frames r × (r.count < MAX_COUNT) × (q ≡ after_config r section)
 HasSent p (DataSent instant ∷ frames) q = (r : PmuView) × HasSent p frames r × (is_later r.last instant ≡ true) × (q ≡ after_data r instant)
 
 -- the instants of the data frames, the newest first

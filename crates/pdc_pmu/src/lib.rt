@@ -12,4 +12,4 @@ mod renamed;
 
 pub use fault::PmuFault;
 pub use laws::what_is_sent_rises;
-pub use pmu::Pmu;
+pub use pmu::{MAX_COUNT, Pmu};

@@ -23,6 +23,9 @@ use pdc_tag::tag_of;
 use std::alloc::AllocError;
 use std::marker::Model;
 
+/// The greatest CFGCNT, a word (C37.118.2-2011, table 9): how many configurations a PMU sends at most.
+pub const MAX_COUNT: u16 = 65535;
+
 /// The most bytes of a block.
 const MAX_BLOCK_LEN: usize = 214;
 
@@ -152,7 +155,7 @@ impl Pmu {
     ///
     /// # Errors
     ///
-    /// `CountsUsedUp` after 65535 configurations; `NoMemory` where `out` has no room and gets none.
+    /// `CountsUsedUp` after [`MAX_COUNT`] configurations; `NoMemory` where `out` has no room and gets none.
     pub fn set_configuration<B: Buffer>(
         &mut self,
         soc: u32,
@@ -163,11 +166,11 @@ impl Pmu {
         ensures frame { OnOk result (IsFrame (config_of self.old soc (fields_of_view section.now)) (config_frame_of Cfg2 self.old.id soc (next_config self.old (fields_of_view section.now)))) }
         ensures sent { OnOk result (self.new ≡ after_config self.old (fields_of_view section.now)) }
         ensures err { OnErr result ((B.content out.new ≡ B.content out.old) × (self.new ≡ self.old)) }
-        ensures used_up { self.old.count ≡ 65535 → IsErrOf result PmuFault.CountsUsedUp }
-        ensures fault { self.old.count < 65535 → OnErr result (IsErrOf result PmuFault.NoMemory) }
-        ensures room { self.old.count < 65535 → length (B.content out.old) + length (config_of self.old soc (fields_of_view section.now)) ≤ B.capacity out.old → IsOk result }
+        ensures used_up { self.old.count ≡ MAX_COUNT → IsErrOf result PmuFault.CountsUsedUp }
+        ensures fault { self.old.count < MAX_COUNT → OnErr result (IsErrOf result PmuFault.NoMemory) }
+        ensures room { self.old.count < MAX_COUNT → length (B.content out.old) + length (config_of self.old soc (fields_of_view section.now)) ≤ B.capacity out.old → IsOk result }
     {
-        if self.count == u16::MAX {
+        if self.count == MAX_COUNT {
             return Err(PmuFault::CountsUsedUp);
         }
         match self.append_config(soc, section, out) {
@@ -240,7 +243,7 @@ impl Pmu {
         section: &SectionView,
         out: &mut B,
     ) -> Result<(), AllocError>
-        requires { self.now.count < 65535 }
+        requires { self.now.count < MAX_COUNT }
         ensures ok { OnOk result (B.content out.new ≡ B.content out.old ++ config_of self.now soc (fields_of_view section.now)) }
         ensures frame { IsFrame (config_of self.now soc (fields_of_view section.now)) (config_frame_of Cfg2 self.now.id soc (next_config self.now (fields_of_view section.now))) }
         ensures err { OnErr result (B.content out.new ≡ B.content out.old) }

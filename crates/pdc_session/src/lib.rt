@@ -9,8 +9,6 @@ mod laws;
 mod recent;
 mod serving;
 mod session;
-#[cfg(test)]
-mod tests;
 mod told;
 
 pub use fault::SessionFault;

@@ -1,13 +1,14 @@
-use Rattle.pdc_client.proofs.Following.{finds_one, passes_one, passes_start}
+use Rattle.pdc_client.proofs.Following.{finds_one, passes_one, passes_start, searches_found}
 use Rattle.pdc_client.proofs.search.find_frame.Goals as goal
 
 pub loop-init : goal.loop-init
 loop-init g c = passes_start c.args.id c.args.kind c.args.framer.now c.args.unread.now (g.R.Read.remaining c.args.reader.now)
 
-pub returns-then-is_wanted : goal.returns-then-is_wanted
-returns-then-is_wanted g c =
-    finds_one c.args.id c.args.kind c.loop.counter c.args.framer.now c.loop.framer c.next_frame.new.framer c.args.unread.now c.loop.unread c.next_frame.new.unread (g.R.Read.remaining c.args.reader.now) (g.R.Read.remaining c.loop.reader) (g.R.Read.remaining c.next_frame.new.reader)
-    c.loop.invariant c.in_ok-next_frame.ensures.ok c.loop-test.true (c.is_wanted.ensures.wanted c.if-is_wanted.true) c.in_ok-next_frame.ensures.whole
+pub returns-then-is_wanted-clause-searches : goal.returns-then-is_wanted-clause-searches
+returns-then-is_wanted-clause-searches g c =
+    searches_found c.args.id c.args.kind c.args.framer.now c.args.unread.now (g.R.Read.remaining c.args.reader.now) c.next_frame.new.framer c.next_frame.new.unread (g.R.Read.remaining c.next_frame.new.reader) c.next_frame.new.reads _
+    (finds_one c.args.id c.args.kind c.loop.counter c.args.framer.now c.loop.framer c.next_frame.new.framer c.args.unread.now c.loop.unread c.next_frame.new.unread (g.R.Read.remaining c.args.reader.now) (g.R.Read.remaining c.loop.reader) (g.R.Read.remaining c.next_frame.new.reader)
+    c.loop.invariant c.in_ok-next_frame.ensures.ok c.loop-test.true (c.is_wanted.ensures.wanted c.if-is_wanted.true) c.in_ok-next_frame.ensures.whole)
 
 pub loop-preserved : goal.loop-preserved
 loop-preserved g c =
