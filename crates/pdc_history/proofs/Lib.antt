@@ -1,13 +1,17 @@
 pub mod Blocks
 pub mod Cuts
+pub mod FramesAgree
 pub mod Layouts
 pub mod Lists
 pub mod Lives
 pub mod Made
 pub mod Marks
+pub mod Merged
+pub mod MergedBlocks
 pub mod Moments
 pub mod NodeFrames
 pub mod Nodes
+pub mod One
 pub mod Order
 pub mod Rows
 pub mod Sent

@@ -1,5 +1,5 @@
 //! Laws of every history: each is the contract of a function that does nothing but call the laws that it stands on.
-ghost use Rattle.pdc_history.specs.Genuine.{LayoutsAreOne, NodeBlocksAreGenuine, PublishedWereSent};
+ghost use Rattle.pdc_history.specs.Genuine.{FramesAgree, LayoutsAreOne, MergedBlocksAreGenuine, NodeBlocksAreGenuine, PublishedWereSent};
 ghost use Rattle.pdc_history.specs.Lives.{LivesAreLives, RowsAreOfLives};
 ghost use Rattle.pdc_history.specs.Marks.{AdoptedCountsNeverFall, InstantsRise, MarksBound};
 
@@ -42,6 +42,25 @@ pub fn stamps_have_one_layout()
 /// instant.
 pub fn node_blocks_are_genuine()
     ensures { NodeBlocksAreGenuine }
+{
+    lives_are_known();
+    frames_are_known();
+    blocks_are_known();
+}
+
+/// The same of the merger, whatever its restarts and those of the nodes forgot.
+pub fn merged_blocks_are_genuine()
+    ensures { MergedBlocksAreGenuine }
+{
+    lives_are_known();
+    frames_are_known();
+    blocks_are_known();
+}
+
+/// Any two frames for one instant that were sent, of a node or the merger and of whatever lives, agree on each PMU that is present in
+/// both under one configuration count: the words are equal, and so are the sections, byte for byte.
+pub fn frames_agree()
+    ensures { FramesAgree }
 {
     lives_are_known();
     frames_are_known();
