@@ -1,3 +1,4 @@
+pub mod Asked
 pub mod Blocks
 pub mod Cuts
 pub mod FramesAgree
@@ -16,3 +17,5 @@ pub mod Order
 pub mod Rows
 pub mod Sent
 pub mod Stored
+pub mod Vectors
+pub mod Worked

@@ -36,11 +36,11 @@ none_same x (y ∷ xs) zero h k =
     false≢true (sym (either_false (y == x) (list_any (λ other. other == x) xs) h).0 ∙ same)
 none_same x (y ∷ xs) (suc q) h k = none_same x xs q (either_false (y == x) (list_any (λ other. other == x) xs) h).1 k
 
-not_and : (a b : Bool) → (not a && b) ≡ true → (a ≡ false) × (b ≡ true)
+pub not_and : (a b : Bool) → (not a && b) ≡ true → (a ≡ false) × (b ≡ true)
 not_and false b h = (refl, h)
 not_and true b h = absurd (false≢true h)
 
-one_place : (xs : List ℕ) (p q n : ℕ) → are_distinct xs ≡ true → slice_get xs p ≡ Some n → slice_get xs q ≡ Some n → p ≡ q
+pub one_place : (xs : List ℕ) (p q n : ℕ) → are_distinct xs ≡ true → slice_get xs p ≡ Some n → slice_get xs q ≡ Some n → p ≡ q
 one_place [] zero q n d a b = absurd (none-some n a)
 one_place [] (suc p) q n d a b = absurd (none-some n a)
 one_place (x ∷ xs) zero zero n d a b = refl
@@ -58,7 +58,7 @@ one_pmu f pmus p q x y d a b same =
     let place : p ≡ q = one_place (map f pmus) p q (f x) d first second in
     same_Some x y (sym a ∙ ap (slice_get pmus) place ∙ b)
 
-distinct_rest : (x : ℕ) (xs : List ℕ) → are_distinct (x ∷ xs) ≡ true → are_distinct xs ≡ true
+pub distinct_rest : (x : ℕ) (xs : List ℕ) → are_distinct (x ∷ xs) ≡ true → are_distinct xs ≡ true
 distinct_rest x xs d = (not_and (list_any (λ other. other == x) xs) (are_distinct xs) d).1
 
 pub pmu_of_stream : (W : World) (p q : ℕ) (x y : Pmu) → slice_get W.a.settings.pmus.items p ≡ Some x → slice_get W.a.settings.pmus.items q ≡ Some y → x.stream ≡ y.stream → x ≡ y

@@ -1,9 +1,24 @@
 //! Laws of every history: each is the contract of a function that does nothing but call the laws that it stands on.
+ghost use Rattle.pdc_history.specs.Asked.{AskedIsReadOnce, CausesAreOne, FaultsMayNotHappen, SentMayCome};
 ghost use Rattle.pdc_history.specs.Genuine.{FramesAgree, LayoutsAreOne, MergedBlocksAreGenuine, NodeBlocksAreGenuine, PublishedWereSent};
 ghost use Rattle.pdc_history.specs.Lives.{LivesAreLives, RowsAreOfLives};
 ghost use Rattle.pdc_history.specs.Marks.{AdoptedCountsNeverFall, InstantsRise, MarksBound};
 
 use crate::known::{blocks_are_known, frames_are_known, lives_are_known};
+use pdc_life::{bytes_are_read_in_one_way, merger_steps_have_one_life};
+
+/// What a world is asked reads as one event, or is a fault for one cause; never both, where the event may happen. A frame that was
+/// sent may always come.
+pub fn asked_is_event_or_fault()
+    ensures one_event { AskedIsReadOnce }
+    ensures one_cause { CausesAreOne }
+    ensures apart { FaultsMayNotHappen }
+    ensures sent { SentMayCome }
+{
+    frames_are_known();
+    bytes_are_read_in_one_way();
+    merger_steps_have_one_life();
+}
 
 /// In every history lives are lives, the present ones and those that ended; and what a core published are the rows that its lives
 /// gave.
