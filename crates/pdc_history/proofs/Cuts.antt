@@ -160,7 +160,7 @@ every_frame L F B W H who bytes i quality payload S is k d = elim (owned L F W H
 
 -- ---- there is no other cut
 
-block_rests : (x y : List ℕ) (xs ys : List (List ℕ)) → x ∷ xs ≡ y ∷ ys → xs ≡ ys
+pub block_rests : (x y : List ℕ) (xs ys : List (List ℕ)) → x ∷ xs ≡ y ∷ ys → xs ≡ ys
 block_rests x y xs ys h = cc
 
 -- two cuts of one payload, under layouts of its stamps, are one

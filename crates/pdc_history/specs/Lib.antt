@@ -1,4 +1,5 @@
 pub mod Agree
+pub mod Asked
 pub mod Event
 pub mod Frames
 pub mod Genuine

@@ -1,9 +1,24 @@
 //! Laws of every history: each is the contract of a function that does nothing but call the laws that it stands on.
-ghost use Rattle.pdc_history.specs.Genuine.{LayoutsAreOne, NodeBlocksAreGenuine, PublishedWereSent};
+ghost use Rattle.pdc_history.specs.Asked.{AskedIsReadOnce, CausesAreOne, FaultsMayNotHappen, SentMayCome};
+ghost use Rattle.pdc_history.specs.Genuine.{FramesAgree, LayoutsAreOne, MergedBlocksAreGenuine, NodeBlocksAreGenuine, PublishedWereSent};
 ghost use Rattle.pdc_history.specs.Lives.{LivesAreLives, RowsAreOfLives};
 ghost use Rattle.pdc_history.specs.Marks.{AdoptedCountsNeverFall, InstantsRise, MarksBound};
 
 use crate::known::{blocks_are_known, frames_are_known, lives_are_known};
+use pdc_life::{bytes_are_read_in_one_way, merger_steps_have_one_life};
+
+/// What a world is asked reads as one event, or is a fault for one cause; never both, where the event may happen. A frame that was
+/// sent may always come.
+pub fn asked_is_event_or_fault()
+    ensures one_event { AskedIsReadOnce }
+    ensures one_cause { CausesAreOne }
+    ensures apart { FaultsMayNotHappen }
+    ensures sent { SentMayCome }
+{
+    frames_are_known();
+    bytes_are_read_in_one_way();
+    merger_steps_have_one_life();
+}
 
 /// In every history lives are lives, the present ones and those that ended; and what a core published are the rows that its lives
 /// gave.
@@ -42,6 +57,25 @@ pub fn stamps_have_one_layout()
 /// instant.
 pub fn node_blocks_are_genuine()
     ensures { NodeBlocksAreGenuine }
+{
+    lives_are_known();
+    frames_are_known();
+    blocks_are_known();
+}
+
+/// The same of the merger, whatever its restarts and those of the nodes forgot.
+pub fn merged_blocks_are_genuine()
+    ensures { MergedBlocksAreGenuine }
+{
+    lives_are_known();
+    frames_are_known();
+    blocks_are_known();
+}
+
+/// Any two frames for one instant that were sent, of a node or the merger and of whatever lives, agree on each PMU that is present in
+/// both under one configuration count: the words are equal, and so are the sections, byte for byte.
+pub fn frames_agree()
+    ensures { FramesAgree }
 {
     lives_are_known();
     frames_are_known();

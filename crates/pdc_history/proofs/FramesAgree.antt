@@ -1,0 +1,66 @@
+-- Any two frames for one instant agree.
+use Rattle.std.proofs.Common.{◌≡◌, ℕ, zero, suc, List, [], ◌∷◌, ◌++◌, refl, sym, ap, subst, ◌∙◌, arith, rules, Option, Some, None, inl, inr}
+use Rattle.std.specs.Prelude.{◌≢◌, ◌⊎◌}
+use Rattle.std.specs.List.{AllByRecursion, Contains, slice_get}
+use Rattle.pdc_frame.specs.Frame.{Fields}
+use Rattle.pdc_frame.specs.Bytes.{AreBytes}
+use Rattle.pdc_block.specs.Block.{words_in}
+use Rattle.pdc_cfg.specs.Section.{SectionFields}
+use Rattle.pdc_stat.specs.AbsentBlock.{absent_of}
+use Rattle.pdc_life.specs.declared.pmu.Pmu.{Pmu}
+use Rattle.pdc_life.specs.NodeReading.{IsValid, stream_of}
+use Rattle.pdc_life.specs.Reading.{IsData}
+use Rattle.pdc_history.specs.Frames.{AreGenuineBlocks, IsGenuineBlock, SectionWasSent, WasSent}
+use Rattle.pdc_history.specs.Genuine.{FramesAgree, HasGenuineFrames, Shows}
+use Rattle.pdc_history.specs.History.{IsHistory}
+use Rattle.pdc_history.specs.Known.{BlockLaws, FrameLaws, LifeLaws}
+use Rattle.pdc_history.specs.World.{A, B, M, Who, World, Happened, sent}
+use Rattle.pdc_history.proofs.Lists.{element}
+use Rattle.pdc_history.proofs.Merged.{genuine_place}
+use Rattle.pdc_history.proofs.MergedBlocks.{merged_blocks_are_genuine}
+use Rattle.pdc_history.proofs.NodeFrames.{frames_of_a, frames_of_b}
+use Rattle.pdc_history.proofs.One.{one_body, one_section, pmu_of_source}
+use Rattle.pdc_history.proofs.Sent.{place_there}
+
+frames_of : LifeLaws → FrameLaws → BlockLaws → (W : World) (H : List Happened) (who : Who) → IsHistory W H → HasGenuineFrames W H who
+frames_of L F K W H A is = frames_of_a L F K W H is
+frames_of L F K W H B is = frames_of_b L F K W H is
+frames_of L F K W H M is = merged_blocks_are_genuine L F K W H is
+
+present_was_sent : (W : World) (H : List Happened) (i : ℕ) (s : SectionFields) (words : List ℕ) → words ≢ absent_of s.shape → IsGenuineBlock W H i s words → WasSent W H i s words
+present_was_sent W H i s words present (inl absent) = absurd (present absent)
+present_was_sent W H i s words present (inr k) = k
+
+shown_was_sent : LifeLaws → FrameLaws → BlockLaws → (W : World) (H : List Happened) (who : Who) (i : ℕ) (s : SectionFields) (words : List ℕ) → IsHistory W H → Shows W H who i s words → WasSent W H i s words
+shown_was_sent L F K W H who i s words is k =
+    let all : AreGenuineBlocks W H i k.sections k.blocks = (frames_of L F K W H who is).every_cut k.bytes i k.quality k.payload k.stamp k.sections k.blocks k.among k.is_data k.is_cut in
+    present_was_sent W H i s words k.present (genuine_place W H i k.place k.sections k.blocks s words all k.section k.block)
+
+section_of : LifeLaws → FrameLaws → BlockLaws → (W : World) (H : List Happened) (who : Who) (i : ℕ) (s : SectionFields) (words : List ℕ) → IsHistory W H → Shows W H who i s words → SectionWasSent W H s
+section_of L F K W H who i s words is k =
+    element (SectionWasSent W H) k.sections s ((frames_of L F K W H who is).sections k.stamp k.sections k.is_cut.under) (place_there k.sections k.place s k.section)
+
+-- the words are those of the body
+words_are : FrameLaws → (W : World) (H : List Happened) (i : ℕ) (s : SectionFields) (words : List ℕ) → (k : WasSent W H i s words) → words ≡ words_in k.payload
+words_are F W H i s words k =
+    let fits : AreBytes k.payload = subst AreBytes k.is_data.same_payload k.is_data.of_stream.frame.fits.bytes in
+    F.one_body s.shape k.payload words fits k.body
+
+same_words : LifeLaws → FrameLaws → (W : World) (H : List Happened) (i : ℕ) (s t : SectionFields) (words others : List ℕ) → IsHistory W H → WasSent W H i s words → WasSent W H i t others → s.source ≡ t.source → words ≡ others
+same_words L F W H i s t words others is a b same =
+    let one : a.pmu ≡ b.pmu = pmu_of_source W a.p b.p a.pmu b.pmu a.listed b.listed (a.source ∙ same ∙ sym b.source) in
+    let body : a.payload ≡ b.payload =
+    one_body L F W H b.p b.pmu a.bytes b.bytes i a.quality b.quality a.payload b.payload is b.listed a.among b.among
+    (subst (λ (x : Pmu). IsData (stream_of W.a.settings x) a.bytes i a.quality a.payload) one a.is_data) b.is_data in
+    words_are F W H i s words a ∙ ap words_in body ∙ sym (words_are F W H i t others b)
+
+same_section : LifeLaws → FrameLaws → (W : World) (H : List Happened) (s t : SectionFields) → IsHistory W H → SectionWasSent W H s → SectionWasSent W H t → s.source ≡ t.source → s.count ≡ t.count → s.bytes ≡ t.bytes
+same_section L F W H s t is a b source count =
+    let one : a.pmu ≡ b.pmu = pmu_of_source W a.p b.p a.pmu b.pmu a.listed b.listed (sym a.valid.source ∙ source ∙ b.valid.source) in
+    one_section L F W H b.p b.pmu a.bytes b.bytes s t is b.listed a.among b.among (subst (λ (x : Pmu). IsValid W.a.settings x a.bytes s) one a.valid) b.valid count
+
+pub frames_agree : LifeLaws → FrameLaws → BlockLaws → FramesAgree
+frames_agree L F K W H v w i s t words others is a b source count = (
+  same_words L F W H i s t words others is (shown_was_sent L F K W H v i s words is a) (shown_was_sent L F K W H w i t others is b) source,
+  same_section L F W H s t is (section_of L F K W H v i s words is a) (section_of L F K W H w i t others is b) source count,
+)

@@ -1,0 +1,97 @@
+-- The blocks of the merger's frames are genuine.
+use Rattle.std.proofs.Common.{◌≡◌, ℕ, zero, suc, ◌+◌, ◌<◌, ◌≤◌, List, [], ◌∷◌, ◌++◌, drop, map, refl, sym, ap, subst, ◌∙◌, arith, rules, Option, Some, None, option_map, inl, inr}
+use Rattle.std.specs.List.{Contains, slice_get}
+use Rattle.std.proofs.lemmas.Option.{none-some, same_Some, slice_get-map}
+use Rattle.pdc_block.specs.Block.{IsCut}
+use Rattle.pdc_cfg.specs.Section.{SectionFields}
+use Rattle.pdc_cfg.specs.declared.shape.Shape.{Shape}
+use Rattle.pdc_row.specs.CellView.{BlockView}
+use Rattle.pdc_output.specs.Layout.{own_block, stamp_words}
+use Rattle.pdc_life.specs.Arrival.{Data, Stamp}
+use Rattle.pdc_life.specs.Genuine.{HasBrought}
+use Rattle.pdc_life.specs.Life.{Entry}
+use Rattle.pdc_life.specs.Merger.{HeldLayout, held_layout}
+use Rattle.pdc_life.specs.MergerData.{IsMergedData, shapes_of}
+use Rattle.pdc_life.specs.MergerReading.{nodes_of}
+use Rattle.pdc_life.specs.MergerReading as reading
+use Rattle.pdc_life.specs.Reading.{IsData, Stream}
+use Rattle.pdc_history.specs.Frames.{AreGenuineBlocks, IsGenuineBlock, IsLayoutUnder, stream_from}
+use Rattle.pdc_history.specs.Genuine.{IsGenuineData, MergedBlocksAreGenuine}
+use Rattle.pdc_history.specs.History.{IsForOne, IsHistory, stream_ids}
+use Rattle.pdc_history.specs.Known.{BlockLaws, FrameLaws, LifeLaws}
+use Rattle.pdc_history.specs.World.{M, Who, World, Happened, given_in, life_of, sent}
+use Rattle.pdc_history.proofs.Blocks.{IsSourced, block_stays}
+use Rattle.pdc_history.proofs.Cuts.{block_rests, genuine_frames, own_shape, same_own, stamps_of_words}
+use Rattle.pdc_history.proofs.Layouts.{layouts_are_one}
+use Rattle.pdc_history.proofs.Lives.{life_is_life}
+use Rattle.pdc_history.proofs.Merged.{FromNode, IsFrom, LayoutCame, from_node, genuine_place, held_under, merged_column}
+use Rattle.pdc_history.proofs.Moments.{before, began}
+use Rattle.pdc_history.proofs.Nodes.{HasArrived, has_arrived}
+
+shapes_same : (parts : List (ℕ × SectionFields)) → map (λ (s : SectionFields). s.shape) (map (λ (part : ℕ × SectionFields). part.1) parts) ≡ map (λ (part : ℕ × SectionFields). part.1.shape) parts
+shapes_same [] = refl
+shapes_same (part ∷ parts) = ap (λ (ss : List Shape). part.1.shape ∷ ss) (shapes_same parts)
+
+-- the section at the place of a part
+at_part : (parts : List (ℕ × SectionFields)) (others : List SectionFields) (place c : ℕ) (s : SectionFields) → map (λ (part : ℕ × SectionFields). part.1) parts ≡ others → slice_get parts place ≡ Some (c, s) → slice_get others place ≡ Some s
+at_part parts others place c s q h =
+    sym (ap (λ (ss : List SectionFields). slice_get ss place) q) ∙ slice_get-map (λ (part : ℕ × SectionFields). part.1) parts place ∙ ap (option_map (λ (part : ℕ × SectionFields). part.1)) h
+
+data_for_one : (W : World) (stream : Stream) (bytes : List ℕ) (i quality : ℕ) (payload : List ℕ) → Contains (stream_ids W M) stream.id → IsData stream bytes i quality payload → IsForOne W M bytes
+data_for_one W stream bytes i quality payload listed d = record {
+  fields = d.fields;
+  frame = d.of_stream.frame;
+  listed = subst (Contains (stream_ids W M)) (sym d.of_stream.id) listed;
+}
+
+-- the frame of the node from which a block was taken, in the history in which it came: cut under the layout that was held then, and
+-- in no other way
+cut_alike : LifeLaws → FrameLaws → (W : World) (X : List Happened) (v : Who) (i : ℕ) (payload own : List ℕ) (layout : HeldLayout) (others : List SectionFields) (blocks : List (List ℕ)) → IsHistory W X
+    → IsGenuineData W X v i payload → IsLayoutUnder W X v layout.stamp others → map (λ (part : ℕ × SectionFields). part.1) layout.sections ≡ others → IsCut (own_shape ∷ shapes_of layout) payload (own ∷ blocks)
+    → drop 3 own ≡ stamp_words layout.stamp.start layout.stamp.change → AreGenuineBlocks W X i others blocks
+cut_alike L F W X v i payload own layout others blocks is n under same cut stamp =
+    let shapes : List Shape = map (λ (s : SectionFields). s.shape) n.sections in
+    let first : IsCut (own_shape ∷ shapes) payload (own_block n.stamp.start n.stamp.change ∷ n.blocks) = n.is_cut.cut.cut own_shape refl refl refl in
+    let alike : own_block n.stamp.start n.stamp.change ≡ own = same_own shapes (shapes_of layout) payload (own_block n.stamp.start n.stamp.change) own n.blocks blocks first cut in
+    let stamps = stamps_of_words n.stamp.start n.stamp.change layout.stamp.start layout.stamp.change [] [] (ap (drop 3) alike ∙ stamp) in
+    let one : n.stamp ≡ layout.stamp = λ j. record { start = stamps.0 j; change = stamps.1 j } in
+    let sections : n.sections ≡ others = layouts_are_one L F W X v layout.stamp n.sections others is (subst (λ (x : Stamp). IsLayoutUnder W X v x n.sections) one n.is_cut.under) under in
+    let same_shapes : shapes ≡ shapes_of layout = ap (map (λ (s : SectionFields). s.shape)) (sections ∙ sym same) ∙ shapes_same layout.sections in
+    let split : n.blocks ≡ blocks =
+    block_rests (own_block n.stamp.start n.stamp.change) own n.blocks blocks
+    (F.one_cut (own_shape ∷ shapes_of layout) payload (own_block n.stamp.start n.stamp.change ∷ n.blocks) (own ∷ blocks)
+    (subst (λ (ss : List Shape). IsCut (own_shape ∷ ss) payload (own_block n.stamp.start n.stamp.change ∷ n.blocks)) same_shapes first) cut) in
+    subst (λ (ss : List SectionFields). AreGenuineBlocks W X i ss blocks) sections (subst (AreGenuineBlocks W X i n.sections) split n.genuine)
+
+-- the block at the section of the column, in that history
+then_genuine : LifeLaws → FrameLaws → BlockLaws → (W : World) (X : List Happened) (E : List Entry) (stream c i : ℕ) (s : SectionFields) (b : BlockView) (quality : ℕ) → IsHistory W X → (d : IsMergedData W.m.settings E stream c i s (record { block = b; quality = quality }))
+    → life_of X M ≡ d.earlier → (IsForOne W M d.bytes → Contains (sent W X) d.bytes) → IsGenuineBlock W X i s b.words
+then_genuine L F K W X E stream c i s b quality is d life was =
+    let from : FromNode W d.reads.node = from_node W stream d.reads.node (began W X is).settings d.reads.listed in
+    let of_node : IsData (stream_from W from.0) d.bytes i d.quality d.payload = subst (λ (x : Stream). IsData x d.bytes i d.quality d.payload) from.1.stream d.reads.reads in
+    let among : Contains (sent W X) d.bytes = was (data_for_one W (reading.stream_from W.m.settings d.reads.node) d.bytes i d.quality d.payload from.1.listed d.reads.reads) in
+    let n : IsGenuineData W X from.0 i d.payload = (from.1.genuine L F K X is).every_frame d.bytes i d.quality d.payload among of_node in
+    let came : LayoutCame W X d.reads.node d.layout.stamp d.layout.sections =
+    held_under W X stream d.reads.node d.layout is d.reads.listed (subst (λ (F : List Entry). held_layout F stream ≡ Some d.layout) (sym life) d.held) in
+    let all : AreGenuineBlocks W X i came.others d.blocks =
+    cut_alike L F W X from.0 i d.payload d.own d.layout came.others d.blocks is n (inr (came.sent from.0 from.1)) came.same (d.cut.cut own_shape refl refl refl) d.cut.stamp in
+    genuine_place W X i d.place came.others d.blocks s b.words all (at_part d.layout.sections came.others d.place c s came.same d.section) d.block
+
+merged_block : LifeLaws → FrameLaws → BlockLaws → (W : World) (H : List Happened) (c i : ℕ) (s : SectionFields) (b : BlockView) → IsHistory W H → HasBrought (given_in W H M) (life_of H M) c i s b → IsGenuineBlock W H i s b.words
+merged_block L F K W H c i s b is k =
+    let d : IsMergedData W.m.settings (life_of H M) k.stream c i s k.cell = K.merger_cells W.m.settings (given_in W H M) (life_of H M) k.stream c i s k.cell (life_is_life W H M is) k.in_force k.given in
+    let a : HasArrived W H M k.stream d.bytes (Data i d.quality d.payload) d.earlier = has_arrived W H M d.later k.stream d.bytes (Data i d.quality d.payload) d.answer d.earlier is d.stands in
+    let then : IsHistory W a.then = before W a.later a.then (subst (IsHistory W) a.stands is) in
+    let there : IsGenuineBlock W a.then i s k.cell.block.words = then_genuine L F K W a.then (life_of H M) k.stream c i s k.cell.block k.cell.quality then d a.life a.was_sent in
+    let here : IsGenuineBlock W H i s k.cell.block.words =
+    subst (λ (X : List Happened). IsGenuineBlock W X i s k.cell.block.words) (sym a.stands) (block_stays W a.later a.then i s k.cell.block.words there) in
+    subst (λ (x : BlockView). IsGenuineBlock W H i s x.words) k.block here
+
+pub merger_is_sourced : LifeLaws → FrameLaws → BlockLaws → (W : World) → IsSourced W M
+merger_is_sourced L F K W = record {
+  columns = λ H c s is q. merged_column L F K W H c s is q;
+  blocks = λ H c i s b is k. merged_block L F K W H c i s b is k;
+}
+
+pub merged_blocks_are_genuine : LifeLaws → FrameLaws → BlockLaws → MergedBlocksAreGenuine
+merged_blocks_are_genuine L F K W H is = genuine_frames L F K W H M (merger_is_sourced L F K W) is
