@@ -1,8 +1,9 @@
 -- What can arrive at all, whatever the bytes were: a test of the stream and of the columns (this profile).
-use Rattle.std.specs.Prelude.{ℕ, ◌+◌, ◌==◌, Bool, true, false, List, length, nat_lt, if◌then◌else◌}
+use Rattle.std.specs.Prelude.{ℕ, ◌+◌, ◌==◌, ◌&&◌, Bool, true, false, List, [], ◌∷◌, length, nat_lt, if◌then◌else◌}
 use Rattle.std.specs.List.{list_all}
 use Rattle.pdc_cfg.specs.Section.{SectionFields}
-use Rattle.pdc_life.specs.Arrival.{Arrival, BytesRefused, Data, Layout}
+use Rattle.pdc_life.specs.Arrival.{Arrival}
+use Rattle.pdc_life.specs.Run.{sections_of}
 use Rattle.pdc_life.specs.declared.given.Settings.{Settings}
 use Rattle.pdc_life.specs.declared.merging.MergerSettings.{MergerSettings}
 
@@ -12,6 +13,13 @@ is_of column part = part.0 == column
 
 -- For a PMU arrive refused bytes, data, and sections of its own column.
 abbrev pub fits_node : Settings → ℕ → Arrival → Bool
-fits_node settings p (BytesRefused refusal) = nat_lt p (length settings.pmus.items)
-fits_node settings p (Data instant quality payload) = nat_lt p (length settings.pmus.items)
-fits_node settings p (Layout stamp sections) = if nat_lt p (length settings.pmus.items) then list_all (is_of p) sections else false
+fits_node settings p arrival = nat_lt p (length settings.pmus.items) && list_all (is_of p) (sections_of arrival)
+
+-- The parts are of rising columns, of which there are so many: the first has its number, and 1, above this.
+abbrev pub are_placed : (columns low : ℕ) → List (ℕ × SectionFields) → Bool
+are_placed columns low [] = true
+are_placed columns low (part ∷ parts) = nat_lt low (part.0 + 1) && (nat_lt part.0 columns && are_placed columns (part.0 + 1) parts)
+
+-- From one of the two nodes arrive refused bytes, data, and sections of rising columns.
+abbrev pub fits_merger : MergerSettings → ℕ → Arrival → Bool
+fits_merger settings s arrival = nat_lt s 2 && are_placed (length settings.sources.items) 0 (sections_of arrival)

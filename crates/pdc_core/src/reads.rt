@@ -1,12 +1,13 @@
 //! Settings by which bytes are read.
 ghost use Rattle.std.specs.Prelude.{◌≡◌, ◌<◌, ℕ, Bool, List, length, true};
-ghost use Rattle.pdc_core.specs.Fits.{fits_node};
+ghost use Rattle.pdc_core.specs.Fits.{fits_merger, fits_node};
 ghost use Rattle.pdc_life.specs.Arrival.{Arrival};
+ghost use Rattle.pdc_life.specs.MergerReading.{ReadsForMerger};
 ghost use Rattle.pdc_life.specs.Node.{ReadsFor};
 ghost use Rattle.pdc_reading.specs.Views.{arrival_view};
 
-use pdc_life::Settings;
-use pdc_reading::{Arrival, read_from_pmu};
+use pdc_life::{MergerSettings, Settings};
+use pdc_reading::{Arrival, read_from_node, read_from_pmu};
 
 /// Settings by which the bytes of a datagram are read, whatever came before. It takes no memory.
 pub trait Reads {
@@ -41,5 +42,23 @@ impl Reads for Settings {
 
     fn read<'a>(&self, stream: usize, bytes: &'a [u8]) -> Arrival<'a> {
         read_from_pmu(self, stream, bytes)
+    }
+}
+
+/// The merger's: a stream comes from each of two nodes.
+impl Reads for MergerSettings {
+    ghost use Rattle.pdc_core.specs.Said.{said_fits_merger};
+    ghost use Rattle.pdc_reading.specs.declared.from_node.TheConstants.{NODES};
+
+    ghost streams = { λ _. NODES };
+
+    ghost says = { ReadsForMerger };
+
+    ghost fits = { fits_merger };
+
+    ghost said_fits = { said_fits_merger };
+
+    fn read<'a>(&self, stream: usize, bytes: &'a [u8]) -> Arrival<'a> {
+        read_from_node(self, stream, bytes)
     }
 }

@@ -55,11 +55,3 @@ pub record IsPlaced (columns stream : ℕ) (arrival : Arrival) : Type 0 where
   pub of_two : stream < 2
   pub rise : Rises 0 (map (λ (part : ℕ × SectionFields). part.0 + 1) (sections_of arrival))
   pub exist : AllByRecursion (λ (part : ℕ × SectionFields). part.0 < columns) (sections_of arrival)
-
--- Bytes that came from a node say something, and the merger answered it as each life does that it stood for: it stands for the life
--- with that step more. What bytes say is one thing: `merger_steps_have_one_life`.
-pub record Hears (settings : MergerSettings) (s : ℕ) (bytes : List ℕ) (outcome : Outcome) (old new : MergerView) : Type 0 where
-  pub arrival : Arrival
-  pub reads : ReadsForMerger settings s bytes arrival
-  pub answer : (g : Given) (E : List Entry) → StandsFor g E old → outcome ≡ (merged_answer g E s arrival).outcome
-  pub stands : (g : Given) (E : List Entry) → StandsFor g E old → StandsFor g (answered merged_answer g E (ToArrive s bytes arrival) ∷ E) new

@@ -2,7 +2,7 @@
 //! that one node may be lost and no reader downstream sees it.
 //!
 //! The first type to look at is [`Merger`]: settings, an alignment of two lanes, the layouts that are held of both nodes, and counts of
-//! how arrivals were answered.
+//! how arrivals were answered. Its calls are those of a [`Core`].
 //!
 //! The promise to the layers above: for every life that a merger stands for, each call answers as the life does, and the merger then
 //! stands for the life with that step more. No call after [`Merger::open`] takes memory, save a layout for which there is no room.
@@ -15,3 +15,4 @@ mod layouts;
 mod merger;
 
 pub use merger::Merger;
+pub use pdc_core::{Core, CoreStep, Reads, Reply, Taken};

@@ -1,28 +1,18 @@
 //! The merger.
-ghost use Rattle.std.specs.Prelude.{◌≡◌, ℕ, ◌+◌, ◌*◌, ◌<◌, ◌≤◌, ◌∷◌, ◌++◌, [], IfOk, IfSome, IsOk, List, OnErr, OnOk, length, option_map};
-ghost use Rattle.pdc_align.specs.Align.{given_by, ticked_of};
-ghost use Rattle.pdc_life.specs.Answer.{answered, pop_answer, tick_answer, waiting_counts, ToArrive, ToPop, ToTick};
-ghost use Rattle.pdc_life.specs.Given.{Given};
-ghost use Rattle.pdc_life.specs.Life.{Entry, changes, popped};
+ghost use Rattle.std.specs.Prelude.{◌≡◌, ℕ, [], IfOk, List, length};
+ghost use Rattle.pdc_align.specs.Align.{given_by};
 ghost use Rattle.pdc_life.specs.Merger.{merged_answer};
-ghost use Rattle.pdc_life.specs.MergerReading.{ReadsForMerger, given_of_merger};
-ghost use Rattle.pdc_life.specs.Published.{layout_wire};
-ghost use Rattle.pdc_answering.specs.Counts.{counts_after};
-ghost use Rattle.pdc_merge.specs.Merger.{Hears, StandsFor};
-ghost use Rattle.pdc_reading.specs.Views.{arrival_view};
-ghost use Rattle.pdc_reading.specs.declared.from_node.TheConstants.{NODES};
-ghost use Rattle.pdc_row.specs.Rising.{AreBelow};
-ghost use Rattle.pdc_row.specs.RowView.{row_instants, row_view};
+ghost use Rattle.pdc_life.specs.MergerReading.{given_of_merger};
+ghost use Rattle.pdc_merge.specs.Merger.{StandsFor};
 
 use crate::answering;
 use crate::layouts::HeldLayouts;
 use pdc_align::{Alignment, Plan, Ticked, append_layout_frame};
 use pdc_answering::Counts;
+use pdc_core::Core;
 use pdc_frame::Buffer;
-use pdc_life::{
-    MAX_PMUS, MergerSettings, Outcome, lives_are_runs, merger_lives_are_runs, rows_have_tags,
-};
-use pdc_reading::{Arrival, read_from_node};
+use pdc_life::{MAX_PMUS, MergerSettings, Outcome, merger_lives_are_runs, rows_have_tags};
+use pdc_reading::Arrival;
 use pdc_table::{DueRow, Table};
 use std::alloc::{AllocError, Global};
 use std::marker::Model;
@@ -104,105 +94,67 @@ impl<T: Table> Merger<T> {
         })
     }
 
-    /// Answers what arrived from the node of this stream, and takes it where it is to be taken.
-    pub fn arrive(&mut self, stream: usize, arrival: &Arrival<'_>) -> Outcome
-        requires { (bytes : List ℕ) × ReadsForMerger self.old.settings stream bytes (arrival_view arrival.now) }
-        ensures answer { (g : Given) (E : List Entry) → StandsFor g E self.old →
-            result ≡ (merged_answer g E stream (arrival_view arrival.now)).outcome }
-        ensures stands { (g : Given) (E : List Entry) (bytes : List ℕ) → ReadsForMerger self.old.settings stream bytes (arrival_view arrival.now) →
-            StandsFor g E self.old → StandsFor g (answered merged_answer g E (ToArrive stream bytes (arrival_view arrival.now)) ∷ E) self.new }
-        ensures settings { self.new.settings ≡ self.old.settings }
-        ensures memory { self.new.memory ≡ self.old.memory }
+    /// How often, at a closing, both nodes had present blocks of a column that differed. Those of node A stay.
+    pub fn disagree(&self) -> u64
+        ensures { result ≡ self.now.disagreements }
     {
+        self.alignment.disagree()
+    }
+}
+
+/// A stream comes from each node, and brings cells for all columns.
+impl<T: Table> Core for Merger<T> {
+    type Settings = MergerSettings;
+
+    ghost settings_of = { λ m. m.settings };
+
+    ghost stands_for = { λ m g E. StandsFor g E m };
+
+    ghost rules = { merged_answer };
+
+    ghost counts_of = { λ m. m.counts };
+
+    ghost memory = { λ m. m.memory };
+
+    fn settings(&self) -> &MergerSettings {
+        &self.settings
+    }
+
+    fn arrive(&mut self, stream: usize, arrival: &Arrival<'_>) -> Outcome {
         merger_lives_are_runs();
         let outcome = answering::answer(&mut self.alignment, &mut self.layouts, stream, arrival);
         self.counts.count(outcome);
         outcome
     }
 
-    /// Answers the bytes of a datagram that came from the node of this stream: what they say is read, and arrives.
-    pub fn put_datagram(&mut self, stream: usize, bytes: &[u8]) -> Outcome
-        requires { stream < NODES }
-        ensures hears { Hears self.old.settings stream bytes.now result self.old self.new }
-        ensures settings { self.new.settings ≡ self.old.settings }
-        ensures memory { self.new.memory ≡ self.old.memory }
-    {
-        let arrival = read_from_node(&self.settings, stream, bytes);
-        self.arrive(stream, &arrival)
-    }
-
-    /// A tick: the instant that is now, and for each column the count up to which a section may be adopted. Rows close under the
-    /// layout before it, and then what is held comes into force.
-    pub fn tick(&mut self, now: u64, counts: &[u16; MAX_PMUS]) -> Ticked
-        ensures answer { (g : Given) (E : List Entry) → StandsFor g E self.old → result ≡ ticked_of (changes E) (tick_answer g E now counts.now) }
-        ensures stands { (g : Given) (E : List Entry) → StandsFor g E self.old →
-            StandsFor g (answered merged_answer g E (ToTick now counts.now) ∷ E) self.new }
-        ensures settings { self.new.settings ≡ self.old.settings }
-        ensures memory { self.new.memory ≡ self.old.memory }
-    {
+    /// A tick. Rows close under the layout before it, and then what is held comes into force.
+    fn tick(&mut self, now: u64, counts: &[u16; MAX_PMUS]) -> Ticked {
         self.alignment.tick(now, counts)
     }
 
-    /// The lowest row that closed and was not popped.
-    pub fn pop_due(&mut self) -> Option<DueRow>
-        ensures answer { (g : Given) (E : List Entry) → StandsFor g E self.old → option_map row_view result ≡ pop_answer E }
-        // Its instant is above the floor and above all that were popped before, and can be tagged.
-        ensures next { (g : Given) (E : List Entry) → StandsFor g E self.old →
-            IfSome result (λ row. (g.floor < row.instant) × AreBelow row.instant (row_instants (popped E)) × (row.instant < 4294967296 * g.output.rate)) }
-        ensures stands { (g : Given) (E : List Entry) → StandsFor g E self.old → StandsFor g (answered merged_answer g E ToPop ∷ E) self.new }
-        ensures settings { self.new.settings ≡ self.old.settings }
-        ensures memory { self.new.memory ≡ self.old.memory }
-    {
+    fn pop_due(&mut self) -> Option<DueRow> {
         rows_have_tags();
         self.alignment.pop_due()
     }
 
-    /// Appends the frame of the layout in force: the merger's own section, and those in force. `soc` is the second that it is dated
-    /// with.
-    ///
-    /// # Errors
-    ///
-    /// [`AllocError`] where `out` has no room and gets none.
-    pub fn layout_frame<B: Buffer>(&self, soc: u32, out: &mut B) -> Result<(), AllocError>
-        ensures ok { (g : Given) (E : List Entry) → StandsFor g E self.now → OnOk result (B.content out.new ≡ B.content out.old ++ layout_wire g E soc) }
-        // It fails only where there was no room, and then nothing is appended.
-        ensures err { OnErr result ((B.content out.new ≡ B.content out.old) × (B.capacity out.new ≡ B.capacity out.old)) }
-        ensures room { (g : Given) (E : List Entry) → StandsFor g E self.now →
-            length (B.content out.old) + length (layout_wire g E soc) ≤ B.capacity out.old → IsOk result }
-        // Where there was room, it takes no memory.
-        ensures in_place { (g : Given) (E : List Entry) → StandsFor g E self.now →
-            length (B.content out.old) + length (layout_wire g E soc) ≤ B.capacity out.old → B.capacity out.new ≡ B.capacity out.old }
-        ensures capacity { B.capacity out.old ≤ B.capacity out.new }
-    {
-        let columns = self.settings.sources.len();
+    /// Appends the frame of the layout in force: the merger's own section, and those in force.
+    fn layout_frame<B: Buffer>(&self, soc: u32, out: &mut B) -> Result<(), AllocError> {
         append_layout_frame(
             &self.alignment,
             &self.settings.output,
             self.start,
-            columns,
+            self.settings.sources.len(),
             soc,
             out,
         )
     }
 
-    /// How arrivals were answered.
-    pub fn counts(&self) -> Counts
-        ensures { (g : Given) (E : List Entry) → StandsFor g E self.now → result ≡ counts_after E }
-    {
+    fn counts(&self) -> Counts {
         self.counts
     }
 
     /// For each column the count that waits to be stored: the greater of the cleared and the held one; 0 past the last.
-    pub fn waiting(&self) -> [u16; MAX_PMUS]
-        ensures { (g : Given) (E : List Entry) → StandsFor g E self.now → result ≡ waiting_counts g E }
-    {
+    fn waiting(&self) -> [u16; MAX_PMUS] {
         self.alignment.waiting()
-    }
-
-    /// How often, at a closing, both nodes had present blocks of a column that differed. Those of node A stay.
-    pub fn disagree(&self) -> u64
-        ensures { result ≡ self.now.disagreements }
-    {
-        self.alignment.disagree()
     }
 }

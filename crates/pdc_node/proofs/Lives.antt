@@ -34,13 +34,6 @@ begins settings start floor counts opening g a k m e aligned counted = record {
 
 -- ---- arrivals
 
-pub is_ready : (n : NodeView) (s : ℕ) (bytes : List ℕ) (arrival : Arrival) → ReadsFor n.settings s bytes arrival → HasSizes (length n.settings.pmus.items) 1 n.state → IsReady n.state s
-is_ready n s bytes arrival reads sizes = record {
-  each = sizes.each_column ∙ sym sizes.column_count;
-  lanes = sizes.lane_count;
-  exists = omega (arith, slice_get_within n.settings.pmus.items s reads.pmu reads.listed, sizes.each_column);
-}
-
 module _ (runs : NodeLivesAreRuns) where
   pub life_more : (n : NodeView) (g : Given) (E : List Entry) (s : ℕ) (bytes : List ℕ) (arrival : Arrival) → ReadsFor n.settings s bytes arrival → StandsFor g E n
       → IsNodeLife n.settings g (Arrive s bytes arrival (node_answer g E s arrival) ∷ E)
@@ -65,15 +58,3 @@ same_sizes columns lanes a b keeps sizes = record {
   lane_count = keeps.lanes ∙ sizes.lane_count;
   each_column = keeps.each ∙ sizes.each_column;
 }
-
--- ---- layouts
-
-pub wire_is : (n : NodeView) (g : Given) (E : List Entry) (change soc : ℕ) (sections : List SectionFields) → StandsFor g E n → change ≡ changes E
-    → sections ≡ filter_map (section_in_force g E) (range_with_len 0 (length n.settings.pmus.items))
-    → layout_wire_of n.settings.output n.start change sections soc ≡ layout_wire g E soc
-wire_is n g E change soc sections stands c s =
-    ap (λ (output : Output). layout_wire_of output n.start change sections soc) (sym (ap (λ (h : Given). h.output) stands.life.given))
-    ∙ ap (λ start. layout_wire_of g.output start change sections soc) stands.same_start
-    ∙ ap (λ m. layout_wire_of g.output g.start m sections soc) c
-    ∙ ap (λ ss. layout_wire_of g.output g.start (changes E) ss soc)
-    (s ∙ ap (λ k. filter_map (section_in_force g E) (range_with_len 0 k)) (sym (ap (λ (h : Given). h.columns) stands.life.given)))

@@ -1,10 +1,11 @@
 -- What passes the test of a node's settings is of a PMU, and of its own column.
-use Rattle.std.proofs.Common.{◌≡◌, ◌&&◌, ℕ, ◌<◌, ◌+◌, Bool, true, false, cond, List, [], ◌∷◌, length, nat_lt, ap, sym, ◌∙◌, arith}
+use Rattle.std.proofs.Common.{◌≡◌, ◌&&◌, ℕ, ◌<◌, Bool, true, false, List, [], ◌∷◌, length, nat_lt, sym, ◌∙◌, arith}
 use Rattle.std.specs.List.{AllByRecursion, list_all}
 use Rattle.std.proofs.lemmas.Bool.{eqb-true, false≢true, ltb-true}
 use Rattle.pdc_cfg.specs.Section.{SectionFields}
 use Rattle.pdc_core.specs.Fits.{fits_node, is_of}
-use Rattle.pdc_life.specs.Arrival.{Arrival, BytesRefused, Data, Layout}
+use Rattle.pdc_life.specs.Arrival.{Arrival}
+use Rattle.pdc_life.specs.Run.{sections_of}
 use Rattle.pdc_life.specs.declared.given.Settings.{Settings}
 use Rattle.pdc_align.specs.Align.{HasSizes}
 use Rattle.pdc_node.specs.Node.{IsOwn, IsReady, NodeView}
@@ -14,19 +15,6 @@ both : (a b : Bool) → a && b ≡ true → (a ≡ true) × (b ≡ true)
 both true b h = (λ i. true, h)
 both false b h = absurd (false≢true h)
 
-first : (a b : Bool) → cond a b false ≡ true → a ≡ true
-first true b h = λ i. true
-first false b h = absurd (false≢true h)
-
-second : (a b : Bool) → cond a b false ≡ true → b ≡ true
-second true b h = h
-second false b h = absurd (false≢true h)
-
-exists : (settings : Settings) (p : ℕ) (arrival : Arrival) → fits_node settings p arrival ≡ true → nat_lt p (length settings.pmus.items) ≡ true
-exists settings p (BytesRefused refusal) h = h
-exists settings p (Data instant quality payload) h = h
-exists settings p (Layout stamp sections) h = first (nat_lt p (length settings.pmus.items)) (list_all (is_of p) sections) h
-
 each : (p : ℕ) (sections : List (ℕ × SectionFields)) → list_all (is_of p) sections ≡ true → AllByRecursion (λ (part : ℕ × SectionFields). part.0 ≡ p) sections
 each p [] h = tt
 each p (part ∷ sections) h =
@@ -34,13 +22,11 @@ each p (part ∷ sections) h =
     (eqb-true part.0 p two.0, each p sections two.1)
 
 pub passed_own : (settings : Settings) (p : ℕ) (arrival : Arrival) → fits_node settings p arrival ≡ true → IsOwn p arrival
-passed_own settings p (BytesRefused refusal) h = tt
-passed_own settings p (Data instant quality payload) h = tt
-passed_own settings p (Layout stamp sections) h = each p sections (second (nat_lt p (length settings.pmus.items)) (list_all (is_of p) sections) h)
+passed_own settings p arrival h = each p (sections_of arrival) (both (nat_lt p (length settings.pmus.items)) (list_all (is_of p) (sections_of arrival)) h).1
 
 pub passed_ready : (n : NodeView) (p : ℕ) (arrival : Arrival) → fits_node n.settings p arrival ≡ true → HasSizes (length n.settings.pmus.items) 1 n.state → IsReady n.state p
 passed_ready n p arrival h sizes = record {
   each = sizes.each_column ∙ sym sizes.column_count;
   lanes = sizes.lane_count;
-  exists = omega (arith, ltb-true p (length n.settings.pmus.items) (exists n.settings p arrival h), sizes.each_column);
+  exists = omega (arith, ltb-true p (length n.settings.pmus.items) (both (nat_lt p (length n.settings.pmus.items)) (list_all (is_of p) (sections_of arrival)) h).0, sizes.each_column);
 }

@@ -6,12 +6,11 @@ ghost use Rattle.pdc_life.specs.Node.{node_answer};
 ghost use Rattle.pdc_node.specs.Node.{StandsFor};
 
 use crate::answering;
-use pdc_align::{Alignment, Plan, Ticked, sections_in_force};
+use pdc_align::{Alignment, Plan, Ticked, append_layout_frame};
 use pdc_answering::Counts;
 use pdc_core::Core;
 use pdc_frame::Buffer;
 use pdc_life::{MAX_PMUS, Outcome, Settings, lives_are_runs, rows_have_tags};
-use pdc_output::append_layout;
 use pdc_reading::Arrival;
 use pdc_table::{DueRow, Table};
 use std::alloc::{AllocError, Global};
@@ -129,13 +128,11 @@ impl<T: Table> Core for Node<T> {
 
     /// Appends the frame of the layout in force: the node's own section, and those in force.
     fn layout_frame<B: Buffer>(&self, soc: u32, out: &mut B) -> Result<(), AllocError> {
-        let columns = self.settings.pmus.len();
-        let sections = sections_in_force(&self.alignment, columns);
-        append_layout(
+        append_layout_frame(
+            &self.alignment,
             &self.settings.output,
             self.start,
-            self.alignment.change(),
-            sections.as_slice(),
+            self.settings.pmus.len(),
             soc,
             out,
         )
