@@ -1,6 +1,7 @@
 //! Laws of every history: each is the contract of a function that does nothing but call the laws that it stands on.
 ghost use Rattle.pdc_history.specs.Asked.{AskedIsReadOnce, CausesAreOne, FaultsMayNotHappen, SentMayCome};
 ghost use Rattle.pdc_history.specs.Genuine.{FramesAgree, LayoutsAreOne, MergedBlocksAreGenuine, NodeBlocksAreGenuine, PublishedWereSent};
+ghost use Rattle.pdc_history.specs.History.{EventsMakeHistories};
 ghost use Rattle.pdc_history.specs.Lives.{LivesAreLives, RowsAreOfLives};
 ghost use Rattle.pdc_history.specs.Marks.{AdoptedCountsNeverFall, InstantsRise, MarksBound};
 
@@ -19,6 +20,11 @@ pub fn asked_is_event_or_fault()
     bytes_are_read_in_one_way();
     merger_steps_have_one_life();
 }
+
+/// Events that may happen, each after those before it, make a history.
+pub fn events_make_histories()
+    ensures { EventsMakeHistories }
+{}
 
 /// In every history lives are lives, the present ones and those that ended; and what a core published are the rows that its lives
 /// gave.
