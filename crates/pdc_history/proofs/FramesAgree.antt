@@ -1,8 +1,6 @@
 -- Any two frames for one instant agree.
-use Rattle.std.proofs.Common.{◌≡◌, ℕ, zero, suc, List, [], ◌∷◌, ◌++◌, refl, sym, ap, subst, ◌∙◌, arith, rules, Option, Some, None, inl, inr}
-use Rattle.std.specs.Prelude.{◌≢◌, ◌⊎◌}
-use Rattle.std.specs.List.{AllByRecursion, Contains, slice_get}
-use Rattle.pdc_frame.specs.Frame.{Fields}
+use Rattle.std.proofs.Common.{◌≡◌, ℕ, List, sym, ap, subst, ◌∙◌, inl, inr}
+use Rattle.std.specs.Prelude.{◌≢◌}
 use Rattle.pdc_frame.specs.Bytes.{AreBytes}
 use Rattle.pdc_block.specs.Block.{words_in}
 use Rattle.pdc_cfg.specs.Section.{SectionFields}
@@ -16,7 +14,7 @@ use Rattle.pdc_history.specs.Frames.{AreGenuineBlocks, IsGenuineBlock, SectionWa
 use Rattle.pdc_history.specs.Genuine.{FramesAgree, HasGenuineFrames, IsPublishedData, PublishedAgree, Shows, ShowsPublished}
 use Rattle.pdc_history.specs.History.{IsHistory}
 use Rattle.pdc_history.specs.Known.{BlockLaws, FrameLaws, LifeLaws}
-use Rattle.pdc_history.specs.World.{A, B, M, Who, World, Happened, output_of, published, sent}
+use Rattle.pdc_history.specs.World.{A, B, M, Who, World, Happened, output_of, published}
 use Rattle.pdc_history.proofs.Cuts.{published_were_sent}
 use Rattle.pdc_history.proofs.Lists.{element}
 use Rattle.pdc_history.proofs.Merged.{genuine_place}

@@ -5,7 +5,7 @@ use Rattle.std.proofs.lemmas.Bool.{false≢true}
 use Rattle.std.proofs.lemmas.List.Elements.{Contains-append_cases, Contains-append_left, Contains-append_right}
 use Rattle.pdc_life.specs.Life.{Entry}
 use Rattle.pdc_history.specs.Agree.{MayBegin}
-use Rattle.pdc_history.specs.Event.{Event, happens}
+use Rattle.pdc_history.specs.Event.{happens}
 use Rattle.pdc_history.specs.History.{EventsMakeHistories, IsHistory}
 use Rattle.pdc_history.specs.World.{A, B, M, Who, Mark, World, Happened, begins_at, begun_with, entry_at, given_by, given_in, is_same, life_of, opened_with, sent, sent_at, since, with_entry}
 use Rattle.pdc_history.proofs.Lists.{not_empty}

@@ -1,5 +1,5 @@
 -- A PMU sent one body for one instant, and one section under one count; and PMUs are told by their streams and sources.
-use Rattle.std.proofs.Common.{◌≡◌, ℕ, zero, suc, ◌+◌, ◌<◌, Bool, true, false, ◌&&◌, not, List, [], ◌∷◌, ◌++◌, map, refl, sym, ap, subst, ◌∙◌, arith, rules, Option, Some, None, option_map, inl, inr}
+use Rattle.std.proofs.Common.{◌≡◌, ℕ, zero, suc, Bool, true, false, ◌&&◌, not, List, [], ◌∷◌, map, refl, sym, ap, subst, ◌∙◌, arith, rules, Some, option_map, inl, inr}
 use Rattle.std.specs.Prelude.{◌⊎◌, ◌==◌, ◌||◌}
 use Rattle.std.specs.List.{Contains, list_any, slice_get}
 use Rattle.std.proofs.lemmas.Bool.{false≢true}
@@ -14,10 +14,10 @@ use Rattle.pdc_life.specs.declared.pmu.Pmu.{Pmu}
 use Rattle.pdc_life.specs.Distinct.{are_distinct}
 use Rattle.pdc_life.specs.NodeReading.{IsValid, stream_of}
 use Rattle.pdc_life.specs.Reading.{IsData}
-use Rattle.pdc_history.specs.History.{IsHistory, IsOneBody, IsOneSection, MaySend}
+use Rattle.pdc_history.specs.History.{IsHistory, IsOneBody, IsOneSection}
 use Rattle.pdc_history.specs.Pmus.{PmusSendTheirOwn}
 use Rattle.pdc_history.specs.Known.{FrameLaws, LifeLaws}
-use Rattle.pdc_history.specs.World.{Who, World, Happened, Sends, given_in, life_of, opened_with, output_of, sent, sent_at}
+use Rattle.pdc_history.specs.World.{World, Happened, Sends, given_in, life_of, opened_with, output_of, sent, sent_at}
 use Rattle.pdc_history.proofs.Sent.{BySend, ByTick, ByPublish, SentAs, given_output, layout_fields, no_pmu_is_own, sent_as}
 
 -- ---- distinct numbers stand at one place each

@@ -1,8 +1,8 @@
 -- The worked script is a history: its premises hold, so what is proved of all histories is proved of something.
-use Rattle.std.proofs.Common.{◌≡◌, ℕ, ℤ, zero, suc, ◌+◌, ◌<◌, ◌≤◌, ◌^◌, Bool, true, false, ◌&&◌, List, [], ◌∷◌, ◌++◌, length, get_or, take, drop, refl, sym, ap, subst, ◌∙◌, arith, rules, Option, Some, None, inl, inr}
+use Rattle.std.proofs.Common.{◌≡◌, ℕ, zero, suc, ◌+◌, ◌<◌, ◌^◌, Bool, true, false, ◌&&◌, List, [], ◌∷◌, ◌++◌, length, get_or, take, drop, refl, sym, ap, ◌∙◌, arith, rules, Some, None, inr}
 use Rattle.std.specs.Prelude.{◌≢◌, ◌-◌, nat_lt}
 use Rattle.std.specs.Int.{cast_signed, w16}
-use Rattle.std.specs.List.{AllByRecursion, Contains, list_all, slice_get}
+use Rattle.std.specs.List.{AllByRecursion, list_all}
 use Rattle.std.proofs.lemmas.Bool.{false≢true}
 use Rattle.pdc_frame.specs.Bytes.{AreBytes}
 use Rattle.pdc_frame.specs.CheckWord.{check_word_of}
@@ -11,19 +11,18 @@ use Rattle.pdc_frame.specs.declared.frame.Kind.{Kind}
 use Rattle.pdc_frame.specs.declared.frame.Kind.TheVariants.{DataFrame, Cfg2}
 use Rattle.pdc_cfg.specs.Config.{ConfigFields, IsConfig}
 use Rattle.pdc_cfg.specs.Section.{SectionFields, IsSection}
-use Rattle.pdc_tag.specs.Instant.{IsInstant, instant_of}
+use Rattle.pdc_tag.specs.Instant.{instant_of}
 use Rattle.pdc_tag.specs.Nearest.{nearest_of}
 use Rattle.pdc_tag.specs.Slot.{slot_of}
 use Rattle.pdc_life.specs.declared.pmu.Pmu.{Pmu}
 use Rattle.pdc_life.specs.Arrival.{Data, Layout}
-use Rattle.pdc_life.specs.Node.{ReadsFor}
 use Rattle.pdc_life.specs.NodeReading.{IsValid, stream_of}
-use Rattle.pdc_life.specs.Reading.{HasBase, HasConfig, IsData, IsOfStream, Stream}
-use Rattle.pdc_history.specs.Agree.{MayBegin, SettingsAgree}
-use Rattle.pdc_history.specs.Event.{Event, Send, Bring, TickAt, Publish, Stop, StopIn, StopInTick, StopAtStart, happens, history_from}
+use Rattle.pdc_life.specs.Reading.{IsData, Stream}
+use Rattle.pdc_history.specs.Agree.{MayBegin}
+use Rattle.pdc_history.specs.Event.{Event, Publish, Stop, history_from}
 use Rattle.pdc_history.specs.History.{EventsMakeHistories, IsHistory, MayAllHappen, MayCome, MaySend}
 use Rattle.pdc_history.specs.Known.{FrameLaws}
-use Rattle.pdc_history.specs.World.{A, B, M, Who, World, Happened, Sends, first_mark, is_same, output_of, sent}
+use Rattle.pdc_history.specs.World.{A, B, M, Who, Happened, Sends, first_mark, is_same, output_of}
 use Rattle.pdc_history.proofs.Lists.{element, not_in_none}
 use Rattle.pdc_history.proofs.Vectors.{body_3, body_4, e1, e2, e3, e4, fields_11, fields_12, pmu_11, pmu_12, section_11, section_12}
 use Rattle.pdc_history.proofs.Worked.{W, data_11, sends, tick, to_11, to_12, to_the_tick}
