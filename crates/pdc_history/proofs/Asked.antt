@@ -1,26 +1,25 @@
 -- What is asked reads as one event, or is a fault, for one cause.
-use Rattle.std.proofs.Common.{◌≡◌, ℕ, zero, suc, ◌+◌, ◌<◌, ◌≤◌, ◌^◌, Bool, true, false, ◌&&◌, not, List, [], ◌∷◌, ◌++◌, length, map, refl, sym, ap, subst, ◌∙◌, arith, rules, Option, Some, None, inl, inr}
+use Rattle.std.proofs.Common.{◌≡◌, ℕ, ◌<◌, ◌≤◌, ◌^◌, Bool, true, false, ◌&&◌, not, List, [], ◌∷◌, map, refl, sym, ap, subst, ◌∙◌, arith, Some, inl, inr}
 use Rattle.std.specs.Prelude.{◌⊎◌, ◌==◌, ◌||◌}
-use Rattle.std.specs.List.{Contains, list_any, slice_get}
+use Rattle.std.specs.List.{list_any, slice_get}
 use Rattle.std.proofs.lemmas.Bool.{false≢true}
-use Rattle.std.proofs.lemmas.Option.{none-some, same_Some, slice_get_within}
-use Rattle.pdc_frame.specs.Frame.{Fields, IsFrame}
+use Rattle.std.proofs.lemmas.Option.{same_Some, slice_get_within}
+use Rattle.pdc_frame.specs.Frame.{Fields}
 use Rattle.pdc_frame.specs.declared.frame.Kind.TheVariants.{DataFrame, Cfg2}
 use Rattle.pdc_life.specs.declared.merging.MergedNode.{MergedNode}
 use Rattle.pdc_life.specs.declared.pmu.Pmu.{Pmu}
 use Rattle.pdc_life.specs.Arrival.{Arrival}
 use Rattle.pdc_life.specs.Distinct.{are_distinct}
 use Rattle.pdc_life.specs.MergerLaws.{MergerReadsOnce}
-use Rattle.pdc_life.specs.MergerReading.{ReadsForMerger, ReadsFrom}
-use Rattle.pdc_life.specs.Node.{ReadsFor}
+use Rattle.pdc_life.specs.MergerReading.{ReadsFrom}
 use Rattle.pdc_life.specs.NodeReading.{Reads}
 use Rattle.pdc_life.specs.OneLife.{NodeReadsOnce}
-use Rattle.pdc_history.specs.Asked.{Asked, AskedIsReadOnce, Brings, BringsSent, BringsToNamed, Cause, CausesAreOne, FaultsMayNotHappen, Foreign, HasNoStart, HasOtherBody, HasOtherSection, IsFault, IsReadOf, Junk, Names, NamesNone, NoSuchFrame, OtherBody, OtherSection, Publish, Send, SentMayCome, StartsUsedUp, Stop, StopAtStart, StopIn, StopInTick, TickAt, To}
+use Rattle.pdc_history.specs.Asked.{Asked, AskedIsReadOnce, Brings, BringsSent, BringsToNamed, Cause, CausesAreOne, FaultsMayNotHappen, Foreign, HasOtherBody, HasOtherSection, IsFault, IsReadOf, Junk, Names, NamesNone, NoSuchFrame, OtherBody, OtherSection, Publish, Send, SentMayCome, StartsUsedUp, Stop, StopAtStart, StopIn, StopInTick, TickAt, To}
 use Rattle.pdc_history.specs.Event as events
 use Rattle.pdc_history.specs.Event.{Event, Bring, Miss, happens}
-use Rattle.pdc_history.specs.History.{HasStart, IsOfPmu, IsOneBody, IsOneSection, MayCome, MayHappen, MaySend, Says, stream_ids}
+use Rattle.pdc_history.specs.History.{IsOfPmu, IsOneBody, IsOneSection, MayCome, MayHappen, MaySend, Says, stream_ids}
 use Rattle.pdc_history.specs.Known.{FrameLaws}
-use Rattle.pdc_history.specs.World.{A, B, M, Who, World, Happened, Ends, Mark, sent}
+use Rattle.pdc_history.specs.World.{A, B, M, Who, World, Happened, Mark, sent}
 use Rattle.pdc_history.proofs.One.{distinct_rest, not_and, one_place, pmu_of_stream}
 use Rattle.pdc_history.proofs.Sent.{place_there}
 

@@ -1,41 +1,27 @@
 -- The blocks of frames that were sent are genuine, where the sections and blocks of the owner's lives are.
-use Rattle.std.proofs.Common.{◌≡◌, ℕ, zero, suc, ◌+◌, ◌*◌, ◌/◌, ◌%◌, ◌<◌, ◌≤◌, ◌^◌, Bool, true, false, List, [], ◌∷◌, ◌++◌, cond, length, map, take, drop, refl, sym, ap, subst, ◌∙◌, arith, rules, Option, Some, None, option_map, inl, inr}
-use Rattle.std.specs.Prelude.{◌⊎◌, ◌≢◌}
-use Rattle.std.specs.Int.{w16, to_be_bytes}
-use Rattle.std.specs.List.{AllByRecursion, Contains, cons_option, filter_map, slice_get}
+use Rattle.std.proofs.Common.{◌≡◌, ℕ, ◌<◌, ◌^◌, List, [], ◌∷◌, ◌++◌, map, refl, sym, ap, subst, ◌∙◌, Option, Some, None, option_map, inl, inr}
+use Rattle.std.specs.List.{AllByRecursion, cons_option, filter_map}
 use Rattle.std.proofs.lemmas.List.{append_assoc}
-use Rattle.std.proofs.lemmas.Option.{none-some, same_Some}
-use Rattle.std.proofs.lemmas.List.Elements.{Contains-append_left}
-use Rattle.pdc_frame.specs.Frame.{Fields, IsFrame}
-use Rattle.pdc_frame.specs.declared.frame.Kind.TheVariants.{DataFrame, Cfg2}
-use Rattle.pdc_block.specs.Block.{AreOfShapes, AreWords, IsCut, bytes_of_blocks, bytes_of_words, words_in}
+use Rattle.pdc_block.specs.Block.{IsCut}
 use Rattle.pdc_cfg.specs.Section.{SectionFields}
-use Rattle.pdc_cfg.specs.declared.shape.Shape.{Shape}
-use Rattle.pdc_row.specs.CellView.{BlockView, absent_view}
+use Rattle.pdc_row.specs.CellView.{BlockView}
 use Rattle.pdc_row.specs.RowView.{RowView}
-use Rattle.pdc_stat.specs.AbsentBlock.{absent_of}
-use Rattle.pdc_tag.specs.Instant.{IsInstant}
 use Rattle.pdc_output.specs.Laws.{words_of_row}
-use Rattle.pdc_output.specs.Layout.{own_block, row_fields, row_payload, stamp_words, wire_of}
+use Rattle.pdc_output.specs.Layout.{own_block, row_payload}
 use Rattle.pdc_life.specs.Arrival.{Stamp}
 use Rattle.pdc_life.specs.Frames.{IsFramedRow, shapes_in_force}
-use Rattle.pdc_life.specs.Genuine.{AreGenuine, HasBrought, IsGenuine, IsGenuineRow, columns_in_force, with_section}
+use Rattle.pdc_life.specs.Genuine.{AreGenuine, HasBrought, IsGenuine, IsGenuineRow, columns_in_force}
 use Rattle.pdc_life.specs.Given.{Given, columns_of}
 use Rattle.pdc_life.specs.Laws.{IsRowOfTick}
-use Rattle.pdc_life.specs.Life.{Entry, Tick, changes, closed, section_in_force}
-use Rattle.pdc_life.specs.Published.{sections_in_force}
-use Rattle.pdc_life.specs.Reading.{IsData}
-use Rattle.pdc_life.specs.Row.{row_of}
-use Rattle.pdc_history.specs.Frames.{AreGenuineBlocks, IsCutOf, IsCutUnder, IsGenuineBlock, IsLayoutSent, IsLayoutUnder, SectionWasSent, WasSent, stream_from}
-use Rattle.pdc_history.specs.Genuine.{HasGenuineFrames, IsGenuineData, IsPublishedData, PublishedWereSent}
-use Rattle.pdc_history.specs.History.{IsHistory, IsMade}
-use Rattle.pdc_history.specs.Known.{BlockLaws, FrameLaws, LifeLaws}
-use Rattle.pdc_history.specs.World.{Who, Mark, World, Happened, Ticks, Publishes, given_in, life_of, output_of, published, published_at, sent}
-use Rattle.pdc_history.proofs.Layouts.{IsOfTick, at_sections, layout_at, layout_is_of_tick, layouts_are_one, same_stamp, sections_at, stamp_at}
-use Rattle.pdc_history.proofs.Lists.{appended, element, mapped}
+use Rattle.pdc_life.specs.Life.{Entry, Tick, changes, section_in_force}
+use Rattle.pdc_history.specs.Frames.{AreGenuineBlocks, IsCutUnder, IsGenuineBlock, IsLayoutUnder, SectionWasSent, WasSent}
+use Rattle.pdc_history.specs.History.{IsHistory}
+use Rattle.pdc_history.specs.Known.{FrameLaws, LifeLaws}
+use Rattle.pdc_history.specs.World.{Who, World, Happened, Ticks, given_in, life_of}
+use Rattle.pdc_history.proofs.Layouts.{IsOfTick, at_sections, layout_is_of_tick, sections_at, stamp_at}
+use Rattle.pdc_history.proofs.Lists.{mapped}
 use Rattle.pdc_history.proofs.Lives.{run_in}
-use Rattle.pdc_history.proofs.Moments.{Moment, before, given_then, moment, sent_now, stays_sent, then}
-use Rattle.pdc_history.proofs.Sent.{AsLayout, AsRow, framed_row, layout_fields, owned, published_closed, row_frame}
+use Rattle.pdc_history.proofs.Moments.{Moment, before, given_then, moment, stays_sent}
 
 -- ---- what was sent stays sent
 

@@ -1,20 +1,21 @@
 -- Any two frames for one instant agree.
-use Rattle.std.proofs.Common.{◌≡◌, ℕ, zero, suc, List, [], ◌∷◌, ◌++◌, refl, sym, ap, subst, ◌∙◌, arith, rules, Option, Some, None, inl, inr}
-use Rattle.std.specs.Prelude.{◌≢◌, ◌⊎◌}
-use Rattle.std.specs.List.{AllByRecursion, Contains, slice_get}
-use Rattle.pdc_frame.specs.Frame.{Fields}
+use Rattle.std.proofs.Common.{◌≡◌, ℕ, List, sym, ap, subst, ◌∙◌, inl, inr}
+use Rattle.std.specs.Prelude.{◌≢◌}
 use Rattle.pdc_frame.specs.Bytes.{AreBytes}
 use Rattle.pdc_block.specs.Block.{words_in}
 use Rattle.pdc_cfg.specs.Section.{SectionFields}
+use Rattle.pdc_row.specs.RowView.{RowView}
+use Rattle.pdc_output.specs.Layout.{row_payload, wire_of}
 use Rattle.pdc_stat.specs.AbsentBlock.{absent_of}
 use Rattle.pdc_life.specs.declared.pmu.Pmu.{Pmu}
 use Rattle.pdc_life.specs.NodeReading.{IsValid, stream_of}
 use Rattle.pdc_life.specs.Reading.{IsData}
 use Rattle.pdc_history.specs.Frames.{AreGenuineBlocks, IsGenuineBlock, SectionWasSent, WasSent}
-use Rattle.pdc_history.specs.Genuine.{FramesAgree, HasGenuineFrames, Shows}
+use Rattle.pdc_history.specs.Genuine.{FramesAgree, HasGenuineFrames, IsPublishedData, PublishedAgree, Shows, ShowsPublished}
 use Rattle.pdc_history.specs.History.{IsHistory}
 use Rattle.pdc_history.specs.Known.{BlockLaws, FrameLaws, LifeLaws}
-use Rattle.pdc_history.specs.World.{A, B, M, Who, World, Happened, sent}
+use Rattle.pdc_history.specs.World.{A, B, M, Who, World, Happened, output_of, published}
+use Rattle.pdc_history.proofs.Cuts.{published_were_sent}
 use Rattle.pdc_history.proofs.Lists.{element}
 use Rattle.pdc_history.proofs.Merged.{genuine_place}
 use Rattle.pdc_history.proofs.MergedBlocks.{merged_blocks_are_genuine}
@@ -64,3 +65,29 @@ frames_agree L F K W H v w i s t words others is a b source count = (
   same_words L F W H i s t words others is (shown_was_sent L F K W H v i s words is a) (shown_was_sent L F K W H w i t others is b) source,
   same_section L F W H s t is (section_of L F K W H v i s words is a) (section_of L F K W H w i t others is b) source count,
 )
+
+-- ---- published frames are among those sent
+
+published_shows : LifeLaws → FrameLaws → (W : World) (H : List Happened) (who : Who) (r : RowView) (s : SectionFields) (words : List ℕ) → IsHistory W H → ShowsPublished W H who r s words → Shows W H who r.instant s words
+published_shows L F W H who r s words is k =
+    let one : IsPublishedData W H (who, r) = element (IsPublishedData W H) (published H) (who, r) (published_were_sent L F W H is) k.published in
+    record {
+      bytes = wire_of (output_of W who) r;
+      quality = r.quality;
+      payload = row_payload r;
+      among = one.among;
+      is_data = one.is_data;
+      stamp = k.stamp;
+      sections = k.sections;
+      blocks = k.blocks;
+      is_cut = k.is_cut;
+      place = k.place;
+      section = k.section;
+      block = k.block;
+      present = k.present;
+    }
+
+pub published_agree : LifeLaws → FrameLaws → BlockLaws → PublishedAgree
+published_agree L F K W H v w q r s t words others is a b instant source count =
+    frames_agree L F K W H v w r.instant s t words others is
+    (subst (λ (i : ℕ). Shows W H v i s words) instant (published_shows L F W H v q s words is a)) (published_shows L F W H w r t others is b) source count

@@ -1,7 +1,7 @@
 -- Under a stamp there is one layout, that of each life and moment with this stamp.
-use Rattle.std.proofs.Common.{◌≡◌, ℕ, zero, suc, ◌+◌, ◌<◌, ◌≤◌, ◌^◌, Bool, true, false, List, [], ◌∷◌, ◌++◌, cond, length, filter, refl, sym, ap, subst, ◌∙◌, arith, rules, Option, Some, None, inl, inr}
+use Rattle.std.proofs.Common.{◌≡◌, ℕ, ◌<◌, ◌^◌, Bool, true, false, List, [], ◌∷◌, ◌++◌, cond, length, filter, refl, sym, ap, subst, ◌∙◌, arith, Option, Some, None, inl, inr}
 use Rattle.std.specs.Prelude.{◌⊎◌}
-use Rattle.std.specs.List.{AllByRecursion, Contains, filter_map}
+use Rattle.std.specs.List.{Contains, filter_map}
 use Rattle.std.proofs.lemmas.Bool.{false≢true}
 use Rattle.std.proofs.lemmas.List.{append_assoc, append-nil}
 use Rattle.pdc_frame.specs.Frame.{Fields, IsFrame}
@@ -12,26 +12,23 @@ use Rattle.pdc_row.specs.RowView.{RowView}
 use Rattle.pdc_output.specs.declared.output.Nominal.{Nominal}
 use Rattle.pdc_output.specs.declared.output.Nominal.TheVariants.{Hz50, Hz60}
 use Rattle.pdc_output.specs.declared.output.Output.{Output}
-use Rattle.pdc_output.specs.Layout.{IsLayout, layout_payload_of, own_bytes, row_fields}
-use Rattle.pdc_life.specs.declared.outcome.Outcome.{Outcome}
+use Rattle.pdc_output.specs.Layout.{layout_payload_of, own_bytes, row_fields}
 use Rattle.pdc_life.specs.Arrival.{Stamp}
 use Rattle.pdc_life.specs.Given.{Given, columns_of}
-use Rattle.pdc_life.specs.Life.{Answer, Entry, Arrive, Tick, TickAnswer, Pop, changes, is_adoption, section_in_force}
+use Rattle.pdc_life.specs.Life.{Entry, Arrive, Tick, Pop, changes, is_adoption}
 use Rattle.pdc_life.specs.MergerReading.{IsOwn}
 use Rattle.pdc_life.specs.Published.{layout_wire, sections_in_force}
-use Rattle.pdc_life.specs.Reading.{HasConfig}
 use Rattle.pdc_life.specs.Run.{IsRun}
-use Rattle.pdc_history.specs.Frames.{IsLayoutSent, IsLayoutUnder, stream_from}
+use Rattle.pdc_history.specs.Frames.{IsLayoutSent, IsLayoutUnder}
 use Rattle.pdc_history.specs.Genuine.{LayoutsAreOne}
 use Rattle.pdc_history.specs.History.{IsHistory, IsMade}
 use Rattle.pdc_history.specs.Known.{FrameLaws, LifeLaws}
-use Rattle.pdc_history.specs.World.{Who, Mark, World, Happened, Ticks, entry_at, given_by, given_in, is_same, life_of, opened_with, output_of, sent, sent_at, with_entry}
-use Rattle.pdc_history.proofs.Lives.{run_in}
-use Rattle.pdc_history.proofs.Made.{TicksHere, tick_ticks}
+use Rattle.pdc_history.specs.World.{Who, Mark, World, Happened, Ticks, entry_at, given_by, given_in, life_of, opened_with, output_of, with_entry}
+use Rattle.pdc_history.proofs.Made.{tick_ticks}
 use Rattle.pdc_history.proofs.Marks.{given_start}
 use Rattle.pdc_history.proofs.Moments.{Moment, before, given_then, is_itself, moment, sent_now, stays_sent, then}
-use Rattle.pdc_history.proofs.Order.{NextLife, SameLife, after, same_given}
-use Rattle.pdc_history.proofs.Sent.{AsLayout, AsRow, IsOwned, few_columns, given_output, layout_fields, owned, start_fits, tick_run}
+use Rattle.pdc_history.proofs.Order.{after, same_given}
+use Rattle.pdc_history.proofs.Sent.{AsLayout, AsRow, few_columns, given_output, layout_fields, owned, start_fits, tick_run}
 
 -- ---- two moments of a history
 

@@ -19,3 +19,4 @@ pub mod Sent
 pub mod Stored
 pub mod Vectors
 pub mod Worked
+pub mod WorkedHistory

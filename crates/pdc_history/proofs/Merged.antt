@@ -1,41 +1,25 @@
 -- The sections and blocks of the merger's lives come from the frames of the nodes.
-use Rattle.std.proofs.Common.{◌≡◌, ℕ, zero, suc, ◌+◌, ◌<◌, ◌≤◌, ◌^◌, Bool, true, false, ◌&&◌, List, [], ◌∷◌, ◌++◌, cond, drop, length, map, refl, sym, ap, subst, ◌∙◌, arith, rules, Option, Some, None, option_map, inl, inr}
-use Rattle.std.specs.Prelude.{◌⊎◌, ◌==◌}
+use Rattle.std.proofs.Common.{◌≡◌, ℕ, zero, suc, Bool, true, false, ◌&&◌, List, [], ◌∷◌, ◌++◌, cond, map, refl, sym, ap, subst, ◌∙◌, arith, rules, Option, Some, None, inr}
+use Rattle.std.specs.Prelude.{◌==◌}
 use Rattle.std.specs.List.{AllByRecursion, Contains, slice_get}
 use Rattle.std.proofs.lemmas.Bool.{false≢true}
 use Rattle.std.proofs.lemmas.Option.{none-some, same_Some}
-use Rattle.pdc_cfg.specs.Config.{ConfigFields}
 use Rattle.pdc_cfg.specs.Section.{SectionFields}
-use Rattle.pdc_cfg.specs.declared.shape.Shape.{Shape}
-use Rattle.pdc_block.specs.Block.{IsCut}
-use Rattle.pdc_row.specs.CellView.{BlockView}
-use Rattle.pdc_stat.specs.AbsentBlock.{absent_of}
-use Rattle.pdc_output.specs.Layout.{own_block, stamp_words}
 use Rattle.pdc_life.specs.declared.merging.MergedNode.{MergedNode}
-use Rattle.pdc_life.specs.declared.merging.MergerSettings.{MergerSettings}
-use Rattle.pdc_life.specs.declared.outcome.Outcome.{Outcome}
-use Rattle.pdc_life.specs.Arrival.{Arrival, BytesRefused, Data, Layout, Stamp}
-use Rattle.pdc_life.specs.Genuine.{HasBrought}
-use Rattle.pdc_life.specs.Given.{Given}
+use Rattle.pdc_life.specs.Arrival.{BytesRefused, Data, Layout, Stamp}
 use Rattle.pdc_life.specs.Life.{Answer, Entry, Arrive, Tick, Pop, is_candidate, section_in_force}
 use Rattle.pdc_life.specs.Merger.{HeldLayout, held_layout}
-use Rattle.pdc_life.specs.MergerData.{IsMergedData, shapes_of}
-use Rattle.pdc_life.specs.MergerData as life
 use Rattle.pdc_life.specs.MergerReading.{IsLayoutOf, IsOwn, ReadsForMerger, ReadsFrom, nodes_of}
 use Rattle.pdc_life.specs.MergerReading as reading
-use Rattle.pdc_life.specs.Reading.{HasConfig, IsData, Stream}
+use Rattle.pdc_life.specs.Reading.{HasConfig, Stream}
 use Rattle.pdc_history.specs.Agree.{SettingsAgree}
-use Rattle.pdc_history.specs.Frames.{AreGenuineBlocks, IsCutUnder, IsGenuineBlock, IsLayoutSent, IsLayoutUnder, SectionWasSent, stream_from}
-use Rattle.pdc_history.specs.Genuine.{HasGenuineFrames, IsGenuineData, MergedBlocksAreGenuine}
+use Rattle.pdc_history.specs.Frames.{AreGenuineBlocks, IsGenuineBlock, IsLayoutSent, SectionWasSent, stream_from}
+use Rattle.pdc_history.specs.Genuine.{HasGenuineFrames}
 use Rattle.pdc_history.specs.History.{IsForOne, IsHistory, stream_ids}
 use Rattle.pdc_history.specs.Known.{BlockLaws, FrameLaws, LifeLaws}
 use Rattle.pdc_history.specs.World.{A, B, M, Who, World, Happened, given_in, life_of, sent}
-use Rattle.pdc_history.proofs.Blocks.{IsSourced, block_stays, section_stays}
-use Rattle.pdc_history.proofs.Cuts.{genuine_frames, own_shape, same_own, stamps_of_words}
-use Rattle.pdc_history.proofs.Layouts.{layouts_are_one}
 use Rattle.pdc_history.proofs.Lists.{element}
-use Rattle.pdc_history.proofs.Lives.{life_is_life}
-use Rattle.pdc_history.proofs.Moments.{before, began, stays_sent}
+use Rattle.pdc_history.proofs.Moments.{began}
 use Rattle.pdc_history.proofs.NodeFrames.{frames_of_a, frames_of_b}
 use Rattle.pdc_history.proofs.Nodes.{HasArrived, has_arrived, sent_since}
 

@@ -1,7 +1,7 @@
 -- The blocks of the merger's frames are genuine.
-use Rattle.std.proofs.Common.{◌≡◌, ℕ, zero, suc, ◌+◌, ◌<◌, ◌≤◌, List, [], ◌∷◌, ◌++◌, drop, map, refl, sym, ap, subst, ◌∙◌, arith, rules, Option, Some, None, option_map, inl, inr}
+use Rattle.std.proofs.Common.{◌≡◌, ℕ, List, [], ◌∷◌, drop, map, refl, sym, ap, subst, ◌∙◌, Some, option_map, inr}
 use Rattle.std.specs.List.{Contains, slice_get}
-use Rattle.std.proofs.lemmas.Option.{none-some, same_Some, slice_get-map}
+use Rattle.std.proofs.lemmas.Option.{slice_get-map}
 use Rattle.pdc_block.specs.Block.{IsCut}
 use Rattle.pdc_cfg.specs.Section.{SectionFields}
 use Rattle.pdc_cfg.specs.declared.shape.Shape.{Shape}
@@ -24,7 +24,7 @@ use Rattle.pdc_history.proofs.Blocks.{IsSourced, block_stays}
 use Rattle.pdc_history.proofs.Cuts.{block_rests, genuine_frames, own_shape, same_own, stamps_of_words}
 use Rattle.pdc_history.proofs.Layouts.{layouts_are_one}
 use Rattle.pdc_history.proofs.Lives.{life_is_life}
-use Rattle.pdc_history.proofs.Merged.{FromNode, IsFrom, LayoutCame, from_node, genuine_place, held_under, merged_column}
+use Rattle.pdc_history.proofs.Merged.{FromNode, LayoutCame, from_node, genuine_place, held_under, merged_column}
 use Rattle.pdc_history.proofs.Moments.{before, began}
 use Rattle.pdc_history.proofs.Nodes.{HasArrived, has_arrived}
 

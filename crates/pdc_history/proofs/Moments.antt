@@ -5,7 +5,8 @@ use Rattle.std.proofs.lemmas.Bool.{false≢true}
 use Rattle.std.proofs.lemmas.List.Elements.{Contains-append_cases, Contains-append_left, Contains-append_right}
 use Rattle.pdc_life.specs.Life.{Entry}
 use Rattle.pdc_history.specs.Agree.{MayBegin}
-use Rattle.pdc_history.specs.History.{IsHistory}
+use Rattle.pdc_history.specs.Event.{happens}
+use Rattle.pdc_history.specs.History.{EventsMakeHistories, IsHistory}
 use Rattle.pdc_history.specs.World.{A, B, M, Who, Mark, World, Happened, begins_at, begun_with, entry_at, given_by, given_in, is_same, life_of, opened_with, sent, sent_at, since, with_entry}
 use Rattle.pdc_history.proofs.Lists.{not_empty}
 
@@ -34,6 +35,11 @@ before W (h ∷ later) H is = before W later H is.1
 pub began : (W : World) (H : List Happened) → IsHistory W H → MayBegin W
 began W [] is = is
 began W (h ∷ H) is = began W H is.1
+
+pub events_make_histories : EventsMakeHistories
+events_make_histories W H [] is may = is
+events_make_histories W H (event ∷ events) is may =
+    events_make_histories W (happens W H event ∷ H) events (record { event = event; may = may.0; made = refl }, is) may.1
 
 -- ---- a step of the present life
 

@@ -1,30 +1,30 @@
 -- The sections and blocks of a node's lives come from its PMUs.
-use Rattle.std.proofs.Common.{◌≡◌, ℕ, zero, suc, ◌+◌, ◌<◌, ◌≤◌, List, [], ◌∷◌, ◌++◌, map, refl, sym, ap, subst, ◌∙◌, arith, rules, Option, Some, None, option_map, inl, inr}
+use Rattle.std.proofs.Common.{◌≡◌, ℕ, zero, suc, List, [], ◌∷◌, ◌++◌, map, refl, sym, ap, subst, ◌∙◌, arith, Option, Some, None, option_map, inr}
 use Rattle.std.specs.List.{Contains, slice_get}
 use Rattle.std.proofs.lemmas.Option.{none-some, same_Some, slice_get-map}
+use Rattle.pdc_frame.specs.Frame.{Fields}
 use Rattle.pdc_block.specs.Block.{IsBody}
 use Rattle.pdc_cfg.specs.Section.{SectionFields}
 use Rattle.pdc_row.specs.CellView.{BlockView}
 use Rattle.pdc_life.specs.declared.given.Settings.{Settings}
 use Rattle.pdc_life.specs.declared.pmu.Pmu.{Pmu}
-use Rattle.pdc_life.specs.Arrival.{Arrival, BytesRefused, Data, Layout, Stamp}
+use Rattle.pdc_life.specs.Arrival.{Arrival, Data, Layout, Stamp}
 use Rattle.pdc_life.specs.Genuine.{HasBrought, IsNodeData}
 use Rattle.pdc_life.specs.Given.{Given}
 use Rattle.pdc_life.specs.Life.{Answer, Entry, Arrive, section_in_force}
 use Rattle.pdc_life.specs.Node.{IsNodeLife, ReadsFor}
 use Rattle.pdc_life.specs.NodeReading.{IsValid, Reads, stream_of}
-use Rattle.pdc_life.specs.Reading.{HasBase, IsData, Stream}
-use Rattle.pdc_life.specs.Sections as life
+use Rattle.pdc_life.specs.Reading.{HasBase, IsData, IsOfStream, Stream}
 use Rattle.pdc_history.specs.Agree.{SettingsAgree, ids_of, sources_of, time_bases_of}
-use Rattle.pdc_history.specs.Frames.{IsGenuineBlock, SectionWasSent, WasSent}
+use Rattle.pdc_history.specs.Frames.{WasSent}
 use Rattle.pdc_history.specs.History.{IsForOne, IsHistory, IsMade, MayCome, Says, stream_ids}
-use Rattle.pdc_history.specs.Known.{BlockLaws, FrameLaws, LifeLaws}
+use Rattle.pdc_history.specs.Known.{BlockLaws, LifeLaws}
 use Rattle.pdc_history.specs.Lives.{IsLifeOf}
-use Rattle.pdc_history.specs.World.{A, B, M, Who, World, Happened, given_in, life_of, output_of, rules_of, sent}
+use Rattle.pdc_history.specs.World.{A, B, Who, World, Happened, given_in, life_of, rules_of, sent}
 use Rattle.pdc_history.proofs.Blocks.{IsSourced}
 use Rattle.pdc_history.proofs.Lives.{life_is_life}
 use Rattle.pdc_history.proofs.Made.{ComesHere, HasCome, arrival_comes}
-use Rattle.pdc_history.proofs.Moments.{Moment, before, began, moment, stays_sent, then}
+use Rattle.pdc_history.proofs.Moments.{Moment, moment, stays_sent, then}
 use Rattle.pdc_history.proofs.Sent.{place_there}
 
 -- ---- what came, was sent
@@ -183,28 +183,40 @@ valid_at_a W who settings p pmu bytes s n k v = record {
   source = v.source ∙ k.source;
 }
 
+-- bytes that read as a frame of a PMU are for the node
+frame_for_one : (W : World) (who : Who) (settings : Settings) (p : ℕ) (pmu : Pmu) (bytes : List ℕ) (f : Fields) → IsNode W who settings → slice_get settings.pmus.items p ≡ Some pmu → IsOfStream (stream_of settings pmu) bytes f → IsForOne W who bytes
+frame_for_one W who settings p pmu bytes f n listed of_stream = record {
+  fields = f;
+  frame = of_stream.frame;
+  listed = subst (λ (ids : List ℕ). Contains ids f.id) (sym n.ids) (subst (Contains (ids_of settings.pmus.items)) (sym of_stream.id) (has_id settings.pmus.items p pmu listed));
+}
+
+-- what came for the PMU of a stream is of its column
+came_for : (W : World) (who : Who) (settings : Settings) (H later then : List Happened) (p c : ℕ) (pmu : Pmu) (bytes : List ℕ) (s : SectionFields) → IsNode W who settings → slice_get settings.pmus.items p ≡ Some pmu → H ≡ later ++ then
+    → (IsForOne W who bytes → Contains (sent W then) bytes) → SaysOne settings p c pmu bytes s → IsOfColumn W H c s
+came_for W who settings H later then p c pmu bytes s n listed stands was one =
+    let k : SamePmu W p pmu = same_pmu W who settings p pmu n listed in
+    record {
+      pmu = k.other;
+      listed = subst (λ (x : ℕ). slice_get W.a.settings.pmus.items x ≡ Some k.other) (sym one.column) k.listed;
+      bytes = bytes;
+      among = sent_since W H later then bytes stands (was (frame_for_one W who settings p pmu bytes one.valid.base.has.fields n listed one.valid.base.has.of_stream));
+      valid = valid_at_a W who settings p pmu bytes s n k one.valid;
+    }
+
+came_in : (W : World) (who : Who) (settings : Settings) (H later then : List Happened) (p c : ℕ) (bytes : List ℕ) (stamp : Option Stamp) (sections : List (ℕ × SectionFields)) (s : SectionFields) → IsNode W who settings → H ≡ later ++ then
+    → (IsForOne W who bytes → Contains (sent W then) bytes) → Contains sections (c, s) → ReadsFor settings p bytes (Layout stamp sections) → IsOfColumn W H c s
+came_in W who settings H later then p c bytes stamp sections s n stands was among reads =
+    came_for W who settings H later then p c reads.pmu bytes s n reads.listed stands was (says_one settings p c reads.pmu bytes stamp sections s reads.reads among)
+
 node_column : LifeLaws → (W : World) (who : Who) (settings : Settings) (H : List Happened) (c : ℕ) (s : SectionFields) → IsNode W who settings → IsHistory W H → section_in_force (given_in W H who) (life_of H who) c ≡ Some s
     → IsOfColumn W H c s
 node_column L W who settings H c s n is q =
     let come = L.come (given_in W H who) (life_of H who) c s q in
     let a : HasArrived W H who come.stream come.bytes (Layout come.stamp come.sections) come.earlier =
     has_arrived W H who come.later come.stream come.bytes (Layout come.stamp come.sections) come.answer come.earlier is come.stands in
-    let reads : ReadsFor settings come.stream come.bytes (Layout come.stamp come.sections) = n.says come.stream come.bytes (Layout come.stamp come.sections) a.says in
-    let one : SaysOne settings come.stream c reads.pmu come.bytes s = says_one settings come.stream c reads.pmu come.bytes come.stamp come.sections s reads.reads come.among in
-    let k : SamePmu W come.stream reads.pmu = same_pmu W who settings come.stream reads.pmu n reads.listed in
-    let for_one : IsForOne W who come.bytes = record {
-      fields = one.valid.base.has.fields;
-      frame = one.valid.base.has.of_stream.frame;
-      listed = subst (λ (ids : List ℕ). Contains ids one.valid.base.has.fields.id) (sym n.ids)
-          (subst (Contains (ids_of settings.pmus.items)) (sym one.valid.base.has.of_stream.id) (has_id settings.pmus.items come.stream reads.pmu reads.listed));
-    } in
-    record {
-      pmu = k.other;
-      listed = subst (λ (x : ℕ). slice_get W.a.settings.pmus.items x ≡ Some k.other) (sym one.column) k.listed;
-      bytes = come.bytes;
-      among = sent_since W H a.later a.then come.bytes a.stands (a.was_sent for_one);
-      valid = valid_at_a W who settings come.stream reads.pmu come.bytes s n k one.valid;
-    }
+    came_in W who settings H a.later a.then come.stream c come.bytes come.stamp come.sections s n a.stands a.was_sent come.among
+    (n.says come.stream come.bytes (Layout come.stamp come.sections) a.says)
 
 -- ---- its blocks
 
@@ -218,12 +230,6 @@ block_was_sent L K W who settings H c i s b n is k =
     let same : SamePmu W c d.reads.pmu = same_pmu W who settings c d.reads.pmu n d.reads.listed in
     let column : IsOfColumn W H c s = node_column L W who settings H c s n is k.in_force in
     let one : column.pmu ≡ same.other = same_Some column.pmu same.other (sym column.listed ∙ same.listed) in
-    let for_one : IsForOne W who d.bytes = record {
-      fields = of_pmu.fields;
-      frame = of_pmu.of_stream.frame;
-      listed = subst (λ (ids : List ℕ). Contains ids of_pmu.fields.id) (sym n.ids)
-          (subst (Contains (ids_of settings.pmus.items)) (sym of_pmu.of_stream.id) (has_id settings.pmus.items c d.reads.pmu d.reads.listed));
-    } in
     record {
       p = c;
       pmu = same.other;
@@ -232,7 +238,7 @@ block_was_sent L K W who settings H c i s b n is k =
       bytes = d.bytes;
       quality = d.quality;
       payload = d.payload;
-      among = sent_since W H a.later a.then d.bytes a.stands (a.was_sent for_one);
+      among = sent_since W H a.later a.then d.bytes a.stands (a.was_sent (frame_for_one W who settings c d.reads.pmu d.bytes of_pmu.fields n d.reads.listed of_pmu.of_stream));
       is_data = subst (λ (x : Stream). IsData x d.bytes i d.quality d.payload) (same_stream W who settings c d.reads.pmu n same) of_pmu;
       body = subst (λ (x : BlockView). IsBody s.shape d.payload x.words) k.block d.body;
     }

@@ -1,5 +1,5 @@
 -- A PMU sent one body for one instant, and one section under one count; and PMUs are told by their streams and sources.
-use Rattle.std.proofs.Common.{◌≡◌, ℕ, zero, suc, ◌+◌, ◌<◌, Bool, true, false, ◌&&◌, not, List, [], ◌∷◌, ◌++◌, map, refl, sym, ap, subst, ◌∙◌, arith, rules, Option, Some, None, option_map, inl, inr}
+use Rattle.std.proofs.Common.{◌≡◌, ℕ, zero, suc, Bool, true, false, ◌&&◌, not, List, [], ◌∷◌, map, refl, sym, ap, subst, ◌∙◌, arith, rules, Some, option_map, inl, inr}
 use Rattle.std.specs.Prelude.{◌⊎◌, ◌==◌, ◌||◌}
 use Rattle.std.specs.List.{Contains, list_any, slice_get}
 use Rattle.std.proofs.lemmas.Bool.{false≢true}
@@ -14,9 +14,10 @@ use Rattle.pdc_life.specs.declared.pmu.Pmu.{Pmu}
 use Rattle.pdc_life.specs.Distinct.{are_distinct}
 use Rattle.pdc_life.specs.NodeReading.{IsValid, stream_of}
 use Rattle.pdc_life.specs.Reading.{IsData}
-use Rattle.pdc_history.specs.History.{IsHistory, IsOneBody, IsOneSection, MaySend}
+use Rattle.pdc_history.specs.History.{IsHistory, IsOneBody, IsOneSection}
+use Rattle.pdc_history.specs.Pmus.{PmusSendTheirOwn}
 use Rattle.pdc_history.specs.Known.{FrameLaws, LifeLaws}
-use Rattle.pdc_history.specs.World.{Who, World, Happened, Sends, given_in, life_of, opened_with, output_of, sent, sent_at}
+use Rattle.pdc_history.specs.World.{World, Happened, Sends, given_in, life_of, opened_with, output_of, sent, sent_at}
 use Rattle.pdc_history.proofs.Sent.{BySend, ByTick, ByPublish, SentAs, given_output, layout_fields, no_pmu_is_own, sent_as}
 
 -- ---- distinct numbers stand at one place each
@@ -151,3 +152,9 @@ one_section L F W (h ∷ H) p pmu bytes other s t is listed a b d e same =
     both k (inr x) (inr y) =
         let one : bytes ≡ other = same_bytes h bytes other (send bytes s d x).is (send other t e y).is in
         ap (λ (z : SectionFields). z.bytes) (one_valid F W pmu other s t (subst (λ (z : List ℕ). IsValid W.a.settings pmu z s) one d) e)
+
+-- ---- no frame of a PMU is sent by another
+
+pub pmus_send_their_own : LifeLaws → FrameLaws → PmusSendTheirOwn
+pmus_send_their_own L F W H h p pmu bytes fields is listed among of_stream =
+    (new_send L F W H h p pmu bytes fields is listed of_stream.frame of_stream.id (sent_as L F W H h bytes is among)).is

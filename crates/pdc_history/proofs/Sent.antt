@@ -1,7 +1,7 @@
 -- What was sent, and by whom: by a PMU, or as the layout or a row of one of the three lives.
-use Rattle.std.proofs.Common.{◌≡◌, ℕ, zero, suc, ◌+◌, ◌<◌, ◌≤◌, ◌^◌, Bool, true, false, List, [], ◌∷◌, ◌++◌, cond, length, refl, sym, ap, subst, ◌∙◌, arith, rules, Option, Some, None, inl, inr}
+use Rattle.std.proofs.Common.{◌≡◌, ℕ, zero, suc, ◌<◌, ◌≤◌, ◌^◌, Bool, true, false, List, [], ◌∷◌, ◌++◌, cond, refl, sym, ap, subst, ◌∙◌, arith, Some, None}
 use Rattle.std.specs.Prelude.{◌≢◌}
-use Rattle.std.specs.List.{AllByRecursion, Contains, slice_get}
+use Rattle.std.specs.List.{Contains, slice_get}
 use Rattle.std.proofs.lemmas.List.Elements.{Contains-append_right}
 use Rattle.std.proofs.lemmas.Option.{none-some, same_Some}
 use Rattle.pdc_frame.specs.Frame.{Fields, IsFrame}
@@ -9,25 +9,20 @@ use Rattle.pdc_row.specs.RowView.{RowView}
 use Rattle.pdc_output.specs.declared.output.Output.{Output}
 use Rattle.pdc_output.specs.Layout.{layout_fields_of, row_fields, wire_of}
 use Rattle.pdc_life.specs.declared.pmu.Pmu.{Pmu}
-use Rattle.pdc_life.specs.Answer.{pop_answer}
 use Rattle.pdc_life.specs.Frames.{IsFramedRow}
 use Rattle.pdc_life.specs.Given.{Given}
 use Rattle.pdc_life.specs.Life.{Entry, changes, closed, is_adoption, popped, waiting}
-use Rattle.pdc_life.specs.NodeReading.{stream_of}
 use Rattle.pdc_life.specs.Published.{layout_wire, sections_in_force}
-use Rattle.pdc_life.specs.Reading.{IsOfStream}
 use Rattle.pdc_life.specs.Run.{IsRun}
-use Rattle.pdc_history.specs.Agree.{MayBegin}
 use Rattle.pdc_history.specs.History.{IsHistory, IsMade, MaySend}
 use Rattle.pdc_history.specs.Known.{FrameLaws, LifeLaws}
-use Rattle.pdc_history.specs.Lives.{IsLifeOf}
 use Rattle.pdc_history.specs.Marks.{MarkBounds}
-use Rattle.pdc_history.specs.World.{A, B, M, Who, Mark, World, Happened, Sends, Comes, PassesBy, Ticks, Publishes, Ends, given_by, given_in, is_same, life_of, mark_of, opened_with, output_of, sent, sent_at}
+use Rattle.pdc_history.specs.World.{A, B, M, Who, Mark, World, Happened, Sends, Comes, PassesBy, Ticks, Publishes, Ends, given_by, given_in, life_of, opened_with, output_of, sent, sent_at}
 use Rattle.pdc_history.proofs.Lists.{element, in_one, not_in_none}
 use Rattle.pdc_history.proofs.Lives.{life_is_life, run_in, run_of, tick_of}
 use Rattle.pdc_history.proofs.Made.{publishes_is, sends_is}
 use Rattle.pdc_history.proofs.Marks.{given_start, marks_bound}
-use Rattle.pdc_history.proofs.Moments.{WasSentAt, before, began, is_itself, same_who, was_sent_at}
+use Rattle.pdc_history.proofs.Moments.{WasSentAt, before, began, same_who, was_sent_at}
 
 -- ---- what a mark gives
 

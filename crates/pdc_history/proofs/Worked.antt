@@ -11,7 +11,7 @@ use Rattle.pdc_life.specs.declared.given.WaitKind.{WaitKind}
 use Rattle.pdc_life.specs.declared.given.WaitKind.TheVariants.{Relative, Absolute}
 use Rattle.pdc_life.specs.declared.outcome.Outcome.{Outcome}
 use Rattle.pdc_life.specs.declared.outcome.Outcome.TheVariants.{Taken, Candidate, Refused}
-use Rattle.pdc_life.specs.declared.outcome.Refusal.TheVariants.{StaleCount, Late, NoConfig, OtherStamp}
+use Rattle.pdc_life.specs.declared.outcome.Refusal.TheVariants.{StaleCount, Late}
 use Rattle.pdc_life.specs.Arrival.{Data, Layout}
 use Rattle.pdc_life.specs.Life.{Entry, Arrive}
 use Rattle.pdc_output.specs.Layout.{own_block}

@@ -9,7 +9,7 @@ use Rattle.pdc_life.specs.NodeReading.{IsValid, stream_of}
 use Rattle.pdc_life.specs.Reading.{IsData}
 use Rattle.pdc_history.specs.Event as events
 use Rattle.pdc_history.specs.Event.{Event, Bring, Miss, happens}
-use Rattle.pdc_history.specs.History.{IsForOne, IsHistory, IsOfPmu, MayHappen, Says, stream_ids}
+use Rattle.pdc_history.specs.History.{IsForOne, IsOfPmu, MayHappen, Says, stream_ids}
 use Rattle.pdc_history.specs.World.{Who, World, Happened, Ends, sent}
 
 pub data Asked : Type 0 where

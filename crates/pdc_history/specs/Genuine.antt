@@ -74,3 +74,22 @@ abbrev pub FramesAgree : Type 0
 FramesAgree =
     (W : World) (H : List Happened) (v w : Who) (i : ℕ) (s t : SectionFields) (words others : List ℕ) → IsHistory W H →
     Shows W H v i s words → Shows W H w i t others → s.source ≡ t.source → s.count ≡ t.count → (words ≡ others) × (s.bytes ≡ t.bytes)
+
+-- A published row shows these words at this section, and they are present: its frame is cut under the layout of its stamp.
+pub record ShowsPublished (W : World) (H : List Happened) (who : Who) (r : RowView) (s : SectionFields) (words : List ℕ) : Type 0 where
+  pub published : Contains (published H) (who, r)
+  pub stamp : Stamp
+  pub sections : List SectionFields
+  pub blocks : List (List ℕ)
+  pub is_cut : IsCutOf W H who (row_payload r) stamp sections blocks
+  pub place : ℕ
+  pub section : slice_get sections place ≡ Some s
+  pub block : slice_get blocks place ≡ Some words
+  pub present : words ≢ absent_of s.shape
+
+-- Any two published frames for one instant agree on every block that is present in both under one configuration count.
+abbrev pub PublishedAgree : Type 0
+PublishedAgree =
+    (W : World) (H : List Happened) (v w : Who) (q r : RowView) (s t : SectionFields) (words others : List ℕ) → IsHistory W H →
+    ShowsPublished W H v q s words → ShowsPublished W H w r t others → q.instant ≡ r.instant → s.source ≡ t.source → s.count ≡ t.count →
+    (words ≡ others) × (s.bytes ≡ t.bytes)

@@ -11,7 +11,7 @@ use Rattle.pdc_life.specs.Node.{ReadsFor}
 use Rattle.pdc_life.specs.NodeReading.{IsValid, stream_of}
 use Rattle.pdc_life.specs.Reading.{IsData, IsOfStream}
 use Rattle.pdc_history.specs.Agree.{MayBegin, ids_of}
-use Rattle.pdc_history.specs.Event.{Event, Send, Bring, happens}
+use Rattle.pdc_history.specs.Event.{Event, Send, Bring, happens, history_from}
 use Rattle.pdc_history.specs.World.{A, B, M, Who, World, Happened, Ends, sent}
 
 -- The bytes are a frame of this PMU; the PMUs are those of A's settings.
@@ -83,3 +83,12 @@ pub record IsMade (W : World) (H : List Happened) (h : Happened) : Type 0 where
 abbrev pub IsHistory : World → List Happened → Type 0
 IsHistory W [] = MayBegin W
 IsHistory W (h ∷ H) = IsMade W H h × IsHistory W H
+
+-- Each of these events may happen after those before it, the first of them first.
+abbrev pub MayAllHappen : World → List Happened → List Event → Type 0
+MayAllHappen W H [] = Unit {0}
+MayAllHappen W H (event ∷ events) = MayHappen W H event × MayAllHappen W (happens W H event ∷ H) events
+
+-- Events that may happen make a history.
+abbrev pub EventsMakeHistories : Type 0
+EventsMakeHistories = (W : World) (H : List Happened) (events : List Event) → IsHistory W H → MayAllHappen W H events → IsHistory W (history_from W H events)

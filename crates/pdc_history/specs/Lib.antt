@@ -7,4 +7,5 @@ pub mod History
 pub mod Known
 pub mod Lives
 pub mod Marks
+pub mod Pmus
 pub mod World

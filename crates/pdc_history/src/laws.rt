@@ -1,8 +1,10 @@
 //! Laws of every history: each is the contract of a function that does nothing but call the laws that it stands on.
 ghost use Rattle.pdc_history.specs.Asked.{AskedIsReadOnce, CausesAreOne, FaultsMayNotHappen, SentMayCome};
-ghost use Rattle.pdc_history.specs.Genuine.{FramesAgree, LayoutsAreOne, MergedBlocksAreGenuine, NodeBlocksAreGenuine, PublishedWereSent};
+ghost use Rattle.pdc_history.specs.Genuine.{FramesAgree, LayoutsAreOne, MergedBlocksAreGenuine, NodeBlocksAreGenuine, PublishedAgree, PublishedWereSent};
+ghost use Rattle.pdc_history.specs.History.{EventsMakeHistories};
 ghost use Rattle.pdc_history.specs.Lives.{LivesAreLives, RowsAreOfLives};
 ghost use Rattle.pdc_history.specs.Marks.{AdoptedCountsNeverFall, InstantsRise, MarksBound};
+ghost use Rattle.pdc_history.specs.Pmus.{PmusSendOneBody, PmusSendOneSection, PmusSendTheirOwn};
 
 use crate::known::{blocks_are_known, frames_are_known, lives_are_known};
 use pdc_life::{bytes_are_read_in_one_way, merger_steps_have_one_life};
@@ -19,6 +21,11 @@ pub fn asked_is_event_or_fault()
     bytes_are_read_in_one_way();
     merger_steps_have_one_life();
 }
+
+/// Events that may happen, each after those before it, make a history.
+pub fn events_make_histories()
+    ensures { EventsMakeHistories }
+{}
 
 /// In every history lives are lives, the present ones and those that ended; and what a core published are the rows that its lives
 /// gave.
@@ -40,6 +47,16 @@ pub fn instants_rise()
     ensures { InstantsRise }
 {
     lives_are_known();
+}
+
+/// Frames of a PMU are sent by it alone; it sent one body for one instant, and one section under one count.
+pub fn pmus_send_one()
+    ensures own { PmusSendTheirOwn }
+    ensures body { PmusSendOneBody }
+    ensures section { PmusSendOneSection }
+{
+    lives_are_known();
+    frames_are_known();
 }
 
 /// What a reader of the streams may rest on: what was published was sent, as data of the row's instant, and under a stamp there is
@@ -73,9 +90,10 @@ pub fn merged_blocks_are_genuine()
 }
 
 /// Any two frames for one instant that were sent, of a node or the merger and of whatever lives, agree on each PMU that is present in
-/// both under one configuration count: the words are equal, and so are the sections, byte for byte.
+/// both under one configuration count: the words are equal, and so are the sections, byte for byte. So do published frames.
 pub fn frames_agree()
-    ensures { FramesAgree }
+    ensures sent { FramesAgree }
+    ensures published { PublishedAgree }
 {
     lives_are_known();
     frames_are_known();
