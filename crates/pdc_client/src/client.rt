@@ -19,7 +19,8 @@ use pdc_frame::{Framer, Kind, MAX_ID};
 use std::alloc::{AllocError, Global};
 use std::io::{Read, Write};
 
-/// A client of the sender of one stream, over a reader and writer. Frames of other streams and kinds are passed over.
+/// A client of the sender of one stream, over a reader and writer. Frames of other streams and kinds are passed over, and commands are
+/// dated with second 0. What was read behind an answer is kept for the next one.
 #[derive(Drop)]
 pub struct Pdc<S> {
     id: u16,
@@ -39,7 +40,7 @@ impl<S: Read + Write> Pdc<S> {
     ///
     /// # Errors
     ///
-    /// [`AllocError`] where there is no memory for the longest frame and for a read.
+    /// [`AllocError`] where there is no memory for the longest frame and for a read. The reader and writer is let go then.
     pub fn new(alloc: Global, id: u16, stream: S) -> Result<Pdc<S>, AllocError>
     where
         S: Drop,
@@ -109,6 +110,7 @@ impl<S: Read + Write> Pdc<S> {
         }
         answer
     }
+
     /// Ends the client for want of memory, where the copy of an answer wanted it.
     fn keep_copy(&mut self, copy: Result<Vec<u8>, AllocError>) -> Result<Vec<u8>, ClientFault>
         requires { ended_in self.old ≡ None }

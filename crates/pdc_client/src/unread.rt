@@ -7,7 +7,7 @@ use std::io;
 use std::io::Read;
 use std::marker::Model;
 
-/// The most bytes of one read.
+/// The most bytes of one read: a page.
 const PIECE_LEN: usize = 4096;
 
 /// The bytes that were read and not taken yet.

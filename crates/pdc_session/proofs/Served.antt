@@ -1,13 +1,17 @@
 -- A session over a whole stream: one piece more, and that two ways to cut a stream are answered alike.
-use Rattle.std.proofs.Common.{◌≡◌, ℕ, ◌≤◌, List, [], ◌∷◌, ◌++◌, length, take, drop, Option, Some, None, Result, Ok, Err, refl, sym, ap, subst, ◌∙◌, append_assoc}
-use Rattle.std.specs.Prelude.{flat_map, IsErrOf, OnOk}
+use Rattle.std.specs.List.{All}
+use Rattle.std.proofs.lemmas.List.{get_or-append-add}
+use Rattle.std.proofs.Common.{◌≡◌, ℕ, ◌+◌, ◌<◌, ◌≤◌, List, [], ◌∷◌, ◌++◌, length, take, drop, Option, Some, None, Result, Ok, Err, refl, sym, ap, subst, ◌∙◌, append_assoc}
+use Rattle.std.specs.Prelude.{slice_index, flat_map, IsErrOf, OnOk}
 use Rattle.std.proofs.lemmas.List.{append-nil, take-append-drop}
+use Rattle.std.proofs.lemmas.List.Elements.{All-append}
 use Rattle.std.proofs.lemmas.Grind.{flat_map-append}
+use Rattle.pdc_frame.specs.Bytes.{AreBytes}
 use Rattle.pdc_frame.specs.declared.fault.FrameFault.{FrameFault}
 use Rattle.pdc_frame.specs.declared.step.Step.{Step}
 use Rattle.pdc_frame.specs.declared.step.Step.TheVariants.{More, Whole, Bad}
 use Rattle.pdc_frame.specs.Frame.{Fields, IsFrame}
-use Rattle.pdc_frame.specs.Stream.{Held, HasTaken, IsBad, Splits, fault_of, pending_of}
+use Rattle.pdc_frame.specs.Stream.{Held, HasTaken, IsBad, IsWhole, Splits, fault_of, pending_of}
 use Rattle.pdc_command.specs.Command.{IsCommand}
 use Rattle.pdc_command.specs.declared.command.Command.{Command}
 use Rattle.pdc_session.specs.declared.fault.SessionFault.{SessionFault}
@@ -258,3 +262,71 @@ one_answer framer split frame command serving stream base s t out grown same eno
       a.ended_so ∙ ap ended_by one.2 ∙ sym b.ended_so,
       h.replies ∙ ap (λ (cs : List (Option Command)). base ++ replies_of s.id serving cs) answered ∙ ap (λ (id : ℕ). base ++ replies_of id serving k.answered) same ∙ sym k.replies,
     )
+
+-- ---- a session that wanted memory beside one that did not
+
+abbrev pub SomeSplit : Type 0
+SomeSplit = (stream : List ℕ) → AreBytes stream → (frames : List (List ℕ)) × (rest : List ℕ) × (fault : Option FrameFault) × Splits stream frames rest fault
+
+-- what the first frames tell is told first
+told_first : OneFrame → OneCommand → (id : ℕ) (frames more : List (List ℕ)) (commands all : List (Option Command)) → AreTold id frames commands → AreTold id (frames ++ more) all
+    → (others : List (Option Command)) × (all ≡ commands ++ others)
+told_first frame law id [] more [] all h k = (all, refl)
+told_first frame law id [] more (c ∷ cs) all h k = absurd h
+told_first frame law id (bytes ∷ frames) more [] all h k = absurd h
+told_first frame law id (bytes ∷ frames) more (c ∷ cs) [] h k = absurd k
+told_first frame law id (bytes ∷ frames) more (c ∷ cs) (d ∷ ds) h k =
+    let rest : (others : List (Option Command)) × (ds ≡ cs ++ others) = told_first frame law id frames more cs ds h.1 k.1 in
+    let fields : h.0.0 ≡ k.0.0 = frame bytes h.0.0 k.0.0 h.0.1 k.0.1 in
+    let first : c ≡ d = one_told law id k.0.0 c d (subst (λ (f : Fields). Tells id f c) fields h.0.2) k.0.2 in (
+      rest.0,
+      ap (λ (x : Option Command). x ∷ ds) (sym first) ∙ ap (λ (xs : List (Option Command)). c ∷ xs) rest.1,
+    )
+
+rest_bytes : (front rest stream : List ℕ) → stream ≡ front ++ rest → AreBytes stream → AreBytes rest
+rest_bytes front rest stream e bytes i = let at : slice_index (front ++ rest) (length front + i) ≡ slice_index rest i = get_or-append-add front rest i 0 in let there : slice_index (front ++ rest) (length front + i) < 256 = subst AreBytes e bytes (length front + i) in subst (λ (n : ℕ). n < 256) at there
+
+joined_split : (stream rest behind : List ℕ) (frames more : List (List ℕ)) (fault : Option FrameFault) → stream ≡ flat_map (λ (frame : List ℕ). frame) frames ++ rest → All IsWhole frames → Splits rest more behind fault
+    → Splits stream (frames ++ more) behind fault
+joined_split stream rest behind frames more fault e each split = record {
+  whole = e ∙ ap (λ (xs : List ℕ). flat_map (λ (frame : List ℕ). frame) frames ++ xs) split.whole ∙ sym (append_assoc (flat_map (λ (frame : List ℕ). frame) frames) (flat_map (λ (frame : List ℕ). frame) more) behind)
+      ∙ ap (λ (xs : List ℕ). xs ++ behind) (sym (flat_map-append (λ (frame : List ℕ). frame) frames more));
+  each = All-append IsWhole frames more each split.each;
+  end = split.end;
+}
+
+longer_replies : (id : ℕ) (serving : Serving) (base out grown : List ℕ) (answered all more : List (Option Command)) → out ≡ base ++ replies_of id serving answered → grown ≡ base ++ replies_of id serving all → all ≡ answered ++ more
+    → grown ≡ out ++ replies_of id serving more
+longer_replies id serving base out grown answered all more e h is =
+    h ∙ ap (λ (cs : List (Option Command)). base ++ replies_of id serving cs) is ∙ ap (λ (xs : List ℕ). base ++ xs) (flat_map-append (reply_of id serving) answered more)
+    ∙ sym (append_assoc base (replies_of id serving answered) (replies_of id serving more)) ∙ ap (λ (xs : List ℕ). xs ++ replies_of id serving more) (sym e)
+
+cut_short : FramerLaw → OneSplit → SomeSplit → OneFrame → OneCommand → (serving : Serving) (stream base : List ℕ) (id : ℕ) (t : SessionView) (out grown : List ℕ) (frames : List (List ℕ)) (commands answered : List (Option Command)) (held : Held)
+    → AreBytes stream → id ≡ t.id → (t.ended ≡ Some NoMemory → ⊥) → AreTold id frames commands → out ≡ base ++ replies_of id serving answered → Stands (Some NoMemory) stream frames commands answered held → HasServed serving stream base t grown
+    → (more : List ℕ) × (grown ≡ out ++ more)
+cut_short framer only some frame command serving stream base id t out grown frames commands answered held bytes same enough tells replies stands k =
+    let b : IsSplit t.ended stream k.frames k.commands k.answered = split_of framer t.ended stream k.frames k.commands k.answered t.held enough k.stands in
+    let found = some stands.2 (rest_bytes (flat_map (λ (f : List ℕ). f) frames) stands.2 stream stands.3 bytes) in
+    let one : (frames ++ found.0 ≡ k.frames) × (found.1 ≡ b.rest) × (found.2 ≡ b.fault) =
+    only stream (frames ++ found.0) k.frames found.1 b.rest found.2 b.fault (joined_split stream stands.2 found.1 frames found.0 found.2 stands.3 stands.4 found.3) b.split in
+    let told : AreTold id (frames ++ found.0) k.commands = subst (λ (fs : List (List ℕ)). AreTold id fs k.commands) (sym one.0) (subst (λ (n : ℕ). AreTold n k.frames k.commands) (sym same) k.tells) in
+    let first : (others : List (Option Command)) × (k.commands ≡ commands ++ others) = told_first frame command id frames found.0 commands k.commands tells told in
+    let all : k.answered ≡ answered ++ (stands.0 ∷ first.0) =
+    sym b.all ∙ first.1 ∙ ap (λ (cs : List (Option Command)). cs ++ first.0) stands.1 ∙ append_assoc answered (stands.0 ∷ []) first.0 in (
+      replies_of id serving (stands.0 ∷ first.0),
+      longer_replies id serving base out grown answered k.answered (stands.0 ∷ first.0) replies (subst (λ (n : ℕ). grown ≡ base ++ replies_of n serving k.answered) (sym same) k.replies) all,
+    )
+
+cut_by : FramerLaw → OneSplit → SomeSplit → OneFrame → OneCommand → (serving : Serving) (stream base : List ℕ) (s t : SessionView) (out grown : List ℕ) (ended : Option SessionFault) → s.ended ≡ ended → AreBytes stream → s.id ≡ t.id
+    → (t.ended ≡ Some NoMemory → ⊥) → HasServed serving stream base s out → HasServed serving stream base t grown → (more : List ℕ) × (grown ≡ out ++ more)
+cut_by framer only some frame command serving stream base s t out grown None e bytes same enough h k =
+    ([], sym (one_answer framer only frame command serving stream base s t out grown same (λ no. let other : None ≡ Some NoMemory = sym e ∙ no in cc) enough h k).2 ∙ sym (append-nil out))
+cut_by framer only some frame command serving stream base s t out grown (Some BadStream) e bytes same enough h k =
+    ([], sym (one_answer framer only frame command serving stream base s t out grown same (λ no. let other : Some BadStream ≡ Some NoMemory = sym e ∙ no in cc) enough h k).2 ∙ sym (append-nil out))
+cut_by framer only some frame command serving stream base s t out grown (Some NoMemory) e bytes same enough h k =
+    cut_short framer only some frame command serving stream base s.id t out grown h.frames h.commands h.answered s.held bytes same enough h.tells h.replies
+    (subst (λ (ended : Option SessionFault). Stands ended stream h.frames h.commands h.answered s.held) e h.stands) k
+
+pub memory_cuts_short : FramerLaw → OneSplit → SomeSplit → OneFrame → OneCommand → (serving : Serving) (stream base : List ℕ) (s t : SessionView) (out grown : List ℕ) → AreBytes stream → s.id ≡ t.id
+    → (t.ended ≡ Some NoMemory → ⊥) → HasServed serving stream base s out → HasServed serving stream base t grown → (more : List ℕ) × (grown ≡ out ++ more)
+memory_cuts_short framer only some frame command serving stream base s t out grown bytes same enough h k = cut_by framer only some frame command serving stream base s t out grown s.ended refl bytes same enough h k

@@ -1,5 +1,5 @@
 -- The frames that were sent last, for those who ask later (this profile): at most 256, in the order of their instants.
-use Rattle.std.specs.Prelude.{ℕ, List, [], ◌∷◌, ◌++◌, length, drop, ◌-◌, ◌<◌, ◌≤◌, max, Bool, false, nat_le, nat_lt, flat_map, Option, Some, None}
+use Rattle.std.specs.Prelude.{◌≡◌, refl, ℕ, List, [], ◌∷◌, ◌++◌, length, drop, ◌-◌, ◌<◌, ◌≤◌, max, Bool, true, false, nat_le, nat_lt, flat_map, Option, Some, None}
 use Rattle.std.specs.List.{filter}
 use Rattle.pdc_session.specs.declared.recent.SentFrame.{SentFrame}
 
@@ -61,3 +61,19 @@ abbrev pub AreCovered : Option ℕ → List Kept → Type 0
 AreCovered greatest [] = Unit {0}
 AreCovered None (frame ∷ frames) = ⊥
 AreCovered (Some greatest) (frame ∷ frames) = (frame.instant ≤ greatest) × AreCovered (Some greatest) frames
+
+-- Worked: of frames of the instants 1, 2 and 4, those above 1 are the last two, and 4 is the greatest; 4 again is old.
+abbrev pub three_frames : List Kept
+three_frames = record { instant = 1; bytes = 10 ∷ [] } ∷ record { instant = 2; bytes = 20 ∷ 21 ∷ [] } ∷ record { instant = 4; bytes = 40 ∷ [] } ∷ []
+
+pub two_above_1 : bytes_of (above 1 three_frames) ≡ 20 ∷ 21 ∷ 40 ∷ []
+two_above_1 = refl
+
+pub greatest_is_4 : greatest_of 1 (above 1 three_frames) ≡ 4
+greatest_is_4 = refl
+
+pub none_above_4 : (above 4 three_frames ≡ []) × (greatest_of 4 (above 4 three_frames) ≡ 4)
+none_above_4 = (refl, refl)
+
+pub four_is_old : is_old (Some 4) 4 ≡ true
+four_is_old = refl

@@ -2,6 +2,7 @@
 -- frames of the stream tell, and answered them in order, up to the first fault of the stream or the first want of memory.
 use Rattle.std.specs.Prelude.{◌≡◌, ℕ, List, [], ◌∷◌, ◌++◌, false, flat_map, Option, Some, None}
 use Rattle.std.specs.List.{All}
+use Rattle.pdc_frame.specs.Bytes.{AreBytes}
 use Rattle.pdc_frame.specs.declared.fault.FrameFault.{FrameFault}
 use Rattle.pdc_frame.specs.declared.step.Step.TheVariants.{More}
 use Rattle.pdc_frame.specs.Stream.{Held, HasTaken, IsBad, IsWhole, Splits}
@@ -63,3 +64,9 @@ abbrev pub StreamsAreAnsweredInOneWay : Type 0
 StreamsAreAnsweredInOneWay = (serving : Serving) (stream base : List ℕ) (s t : SessionView) (out grown : List ℕ) → s.id ≡ t.id
     → (s.ended ≡ Some NoMemory → ⊥) → (t.ended ≡ Some NoMemory → ⊥) → HasServed serving stream base s out → HasServed serving stream base t grown
     → (s.told ≡ t.told) × (s.ended ≡ t.ended) × (out ≡ grown)
+
+-- Want of memory only cuts the replies short: what was appended before it begins what a session with memory enough appends.
+abbrev pub MemoryCutsShort : Type 0
+MemoryCutsShort = (serving : Serving) (stream base : List ℕ) (s t : SessionView) (out grown : List ℕ) → AreBytes stream → s.id ≡ t.id
+    → (t.ended ≡ Some NoMemory → ⊥) → HasServed serving stream base s out → HasServed serving stream base t grown
+    → (more : List ℕ) × (grown ≡ out ++ more)

@@ -1,5 +1,5 @@
 //! Laws of sessions: each is the contract of a function that does nothing but call the laws that it stands on.
-ghost use Rattle.pdc_session.specs.Served.{PiecesAreTheStream, StreamsAreAnsweredInOneWay};
+ghost use Rattle.pdc_session.specs.Served.{MemoryCutsShort, PiecesAreTheStream, StreamsAreAnsweredInOneWay};
 
 use pdc_command::commands_are_read_in_one_way;
 use pdc_frame::{frames_are_read_in_one_way, streams_split_in_one_way};
@@ -10,6 +10,7 @@ use pdc_frame::{frames_are_read_in_one_way, streams_split_in_one_way};
 pub fn pieces_do_not_matter()
     ensures stream { PiecesAreTheStream }
     ensures same { StreamsAreAnsweredInOneWay }
+    ensures memory { MemoryCutsShort }
 {
     commands_are_read_in_one_way();
     frames_are_read_in_one_way();
