@@ -1,3 +1,4 @@
 mod Placed
 mod ByLayout
+mod Fitting
 mod Lives

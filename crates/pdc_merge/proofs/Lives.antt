@@ -1,20 +1,18 @@
 -- The merger stands for the life with one step more.
-use Rattle.std.proofs.Common.{◌≡◌, ℕ, zero, suc, ◌+◌, ◌<◌, Bool, true, false, ◌&&◌, cond, eqb, List, [], ◌∷◌, length, map, refl, sym, ◌∙◌, ap, subst, arith, Option, None, Some}
+use Rattle.std.proofs.Common.{◌≡◌, ℕ, zero, suc, ◌+◌, ◌<◌, Bool, true, false, cond, eqb, List, [], ◌∷◌, length, map, refl, sym, ◌∙◌, ap, subst, arith, None, Some}
 use Rattle.std.specs.Prelude.{option_map}
 use Rattle.std.specs.List.{AllByRecursion, slice_get}
 use Rattle.std.proofs.lemmas.Option.{slice_get_within}
 use Rattle.pdc_cfg.specs.Section.{SectionFields}
 use Rattle.pdc_row.specs.Rising.{Rises}
 use Rattle.pdc_life.specs.declared.merging.MergerSettings.{MergerSettings}
-use Rattle.pdc_life.specs.declared.outcome.Outcome.{Outcome}
-use Rattle.pdc_life.specs.declared.outcome.Outcome.TheVariants.{Candidate, Known, Refused, Taken}
 use Rattle.pdc_life.specs.Arrival.{Arrival, BytesRefused, Data, Layout, Stamp}
 use Rattle.pdc_life.specs.Given.{Given}
 use Rattle.pdc_life.specs.Life.{Answer, Arrive, Entry, is_candidate}
 use Rattle.pdc_life.specs.Merger.{HeldLayout, held_layout, merged_answer}
 use Rattle.pdc_life.specs.MergerLaws.{MergerLivesAreRuns}
 use Rattle.pdc_life.specs.MergerReading.{IsMergerLife, ReadsForMerger, given_of_merger, nodes_of}
-use Rattle.pdc_life.specs.Run.{IsRun, sections_of}
+use Rattle.pdc_life.specs.Run.{IsRun}
 use Rattle.pdc_align.specs.Align.{HasSizes, KeepsSizes, State}
 use Rattle.pdc_align.specs.Align as align
 use Rattle.pdc_answering.specs.declared.counts.Counts.{Counts}
@@ -40,21 +38,6 @@ begins settings start floor counts opening g a l k m d e aligned held counted = 
 }
 
 -- ---- what arrives
-
-each_exists : (settings : MergerSettings) (parts : Parts) → AllByRecursion (λ (part : ℕ × SectionFields). slice_get settings.sources.items part.0 ≡ Some part.1.source) parts
-    → AllByRecursion (λ (part : ℕ × SectionFields). part.0 < length settings.sources.items) parts
-each_exists settings [] a = tt
-each_exists settings (part ∷ parts) a = (slice_get_within settings.sources.items part.0 part.1.source a.0, each_exists settings parts a.1)
-
-pub is_placed : (settings : MergerSettings) (s : ℕ) (bytes : List ℕ) (arrival : Arrival) → ReadsForMerger settings s bytes arrival → IsPlaced (length settings.sources.items) s arrival
-is_placed settings s bytes (BytesRefused refusal) r = record { of_two = slice_get_within (nodes_of settings) s r.node r.listed; rise = tt; exist = tt }
-is_placed settings s bytes (Data i quality payload) r = record { of_two = slice_get_within (nodes_of settings) s r.node r.listed; rise = tt; exist = tt }
-is_placed settings s bytes (Layout (Some stamp) parts) r = record {
-  of_two = slice_get_within (nodes_of settings) s r.node r.listed;
-  rise = r.reads.of_table.rise;
-  exist = each_exists settings parts r.reads.of_table.listed;
-}
-is_placed settings s bytes (Layout None parts) r = absurd r.reads
 
 pub same_place : (columns more : ℕ) (s : ℕ) (arrival : Arrival) → columns ≡ more → IsPlaced columns s arrival → IsPlaced more s arrival
 same_place columns more s arrival e h = subst (λ n. IsPlaced n s arrival) e h

@@ -1,3 +1,4 @@
 pub mod Held
 pub mod Cells
+pub mod Fits
 pub mod Merger

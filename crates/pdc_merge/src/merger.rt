@@ -1,13 +1,15 @@
 //! The merger.
-ghost use Rattle.std.specs.Prelude.{◌≡◌, ℕ, ◌+◌, ◌*◌, ◌<◌, ◌≤◌, ◌∷◌, ◌++◌, [], IfOk, IfSome, IsOk, List, OnErr, OnOk, length, option_map};
+ghost use Rattle.std.specs.Prelude.{◌≡◌, ℕ, ◌+◌, ◌*◌, ◌<◌, ◌≤◌, ◌∷◌, ◌++◌, [], IfOk, IfSome, IsOk, List, OnErr, OnOk, length, option_map, true};
 ghost use Rattle.pdc_align.specs.Align.{given_by, ticked_of};
+ghost use Rattle.pdc_align.specs.Calls.{disagreements_at};
 ghost use Rattle.pdc_life.specs.Answer.{answered, pop_answer, tick_answer, waiting_counts, ToArrive, ToPop, ToTick};
 ghost use Rattle.pdc_life.specs.Given.{Given};
 ghost use Rattle.pdc_life.specs.Life.{Entry, changes, popped};
 ghost use Rattle.pdc_life.specs.Merger.{merged_answer};
 ghost use Rattle.pdc_life.specs.MergerReading.{ReadsForMerger, given_of_merger};
 ghost use Rattle.pdc_life.specs.Published.{layout_wire};
-ghost use Rattle.pdc_answering.specs.Counts.{counts_after};
+ghost use Rattle.pdc_answering.specs.Counts.{after_answer, counts_after};
+ghost use Rattle.pdc_merge.specs.Fits.{fits_merger};
 ghost use Rattle.pdc_merge.specs.Merger.{Hears, StandsFor};
 ghost use Rattle.pdc_reading.specs.Views.{arrival_view};
 ghost use Rattle.pdc_reading.specs.declared.from_node.TheConstants.{NODES};
@@ -93,6 +95,7 @@ impl<T: Table> Merger<T> {
     ) -> Result<Merger<T>, AllocError>
         ensures stands { IfOk result (λ m. StandsFor (given_of_merger settings start floor counts.now now) [] m) }
         ensures settings { IfOk result (λ m. m.settings ≡ settings) }
+        ensures disagreements { IfOk result (λ m. m.disagreements ≡ 0) }
     {
         let alignment = Alignment::new(alloc, plan_of(&settings), start, floor, counts, now)?;
         Ok(Merger {
@@ -106,13 +109,15 @@ impl<T: Table> Merger<T> {
 
     /// Answers what arrived from the node of this stream, and takes it where it is to be taken.
     pub fn arrive(&mut self, stream: usize, arrival: &Arrival<'_>) -> Outcome
-        requires { (bytes : List ℕ) × ReadsForMerger self.old.settings stream bytes (arrival_view arrival.now) }
+        requires { fits_merger self.old.settings stream (arrival_view arrival.now) ≡ true }
         ensures answer { (g : Given) (E : List Entry) → StandsFor g E self.old →
             result ≡ (merged_answer g E stream (arrival_view arrival.now)).outcome }
         ensures stands { (g : Given) (E : List Entry) (bytes : List ℕ) → ReadsForMerger self.old.settings stream bytes (arrival_view arrival.now) →
             StandsFor g E self.old → StandsFor g (answered merged_answer g E (ToArrive stream bytes (arrival_view arrival.now)) ∷ E) self.new }
+        ensures counts { self.new.counts ≡ after_answer result self.old.counts }
         ensures settings { self.new.settings ≡ self.old.settings }
         ensures memory { self.new.memory ≡ self.old.memory }
+        ensures disagreements { self.new.disagreements ≡ self.old.disagreements }
     {
         merger_lives_are_runs();
         let outcome = answering::answer(&mut self.alignment, &mut self.layouts, stream, arrival);
@@ -124,8 +129,10 @@ impl<T: Table> Merger<T> {
     pub fn put_datagram(&mut self, stream: usize, bytes: &[u8]) -> Outcome
         requires { stream < NODES }
         ensures hears { Hears self.old.settings stream bytes.now result self.old self.new }
+        ensures counts { self.new.counts ≡ after_answer result self.old.counts }
         ensures settings { self.new.settings ≡ self.old.settings }
         ensures memory { self.new.memory ≡ self.old.memory }
+        ensures disagreements { self.new.disagreements ≡ self.old.disagreements }
     {
         let arrival = read_from_node(&self.settings, stream, bytes);
         self.arrive(stream, &arrival)
@@ -137,8 +144,10 @@ impl<T: Table> Merger<T> {
         ensures answer { (g : Given) (E : List Entry) → StandsFor g E self.old → result ≡ ticked_of (changes E) (tick_answer g E now counts.now) }
         ensures stands { (g : Given) (E : List Entry) → StandsFor g E self.old →
             StandsFor g (answered merged_answer g E (ToTick now counts.now) ∷ E) self.new }
+        ensures counts { self.new.counts ≡ self.old.counts }
         ensures settings { self.new.settings ≡ self.old.settings }
         ensures memory { self.new.memory ≡ self.old.memory }
+        ensures disagreements { self.new.disagreements ≡ disagreements_at self.old.disagreements self.old.state now }
     {
         self.alignment.tick(now, counts)
     }
@@ -150,8 +159,10 @@ impl<T: Table> Merger<T> {
         ensures next { (g : Given) (E : List Entry) → StandsFor g E self.old →
             IfSome result (λ row. (g.floor < row.instant) × AreBelow row.instant (row_instants (popped E)) × (row.instant < 4294967296 * g.output.rate)) }
         ensures stands { (g : Given) (E : List Entry) → StandsFor g E self.old → StandsFor g (answered merged_answer g E ToPop ∷ E) self.new }
+        ensures counts { self.new.counts ≡ self.old.counts }
         ensures settings { self.new.settings ≡ self.old.settings }
         ensures memory { self.new.memory ≡ self.old.memory }
+        ensures disagreements { self.new.disagreements ≡ self.old.disagreements }
     {
         rows_have_tags();
         self.alignment.pop_due()
@@ -187,7 +198,8 @@ impl<T: Table> Merger<T> {
 
     /// How arrivals were answered.
     pub fn counts(&self) -> Counts
-        ensures { (g : Given) (E : List Entry) → StandsFor g E self.now → result ≡ counts_after E }
+        ensures value { result ≡ self.now.counts }
+        ensures life { (g : Given) (E : List Entry) → StandsFor g E self.now → result ≡ counts_after E }
     {
         self.counts
     }

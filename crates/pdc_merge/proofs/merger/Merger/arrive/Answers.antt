@@ -1,17 +1,18 @@
-use Rattle.std.proofs.Common.{length, subst, sym}
+use Rattle.std.proofs.Common.{◌≡◌, length, subst, sym, true}
 use Rattle.pdc_life.specs.Merger.{merged_answer}
 use Rattle.pdc_life.specs.MergerReading.{ReadsForMerger}
 use Rattle.pdc_reading.specs.Views.{arrival_view}
 use Rattle.pdc_merge.specs.Merger.{MergerView, StandsFor}
-use Rattle.pdc_merge.proofs.Lives.{arrives, is_placed, is_ready, is_whole, same_place}
+use Rattle.pdc_merge.specs.Fits.{fits_merger}
+use Rattle.pdc_merge.proofs.Fitting.{fits_placed}
+use Rattle.pdc_merge.proofs.Lives.{arrives, is_ready, is_whole, same_place}
 use Rattle.pdc_merge.proofs.merger.Merger.arrive.Goals as goal
 
 pub answer-outcome-requires-clause-placed : goal.answer-outcome-requires-clause-placed
 answer-outcome-requires-clause-placed g c =
-    let m : MergerView = record { settings = c.self.inside.settings; start = c.self.inside.start; state = c.self.inside.alignment.state; layouts = c.self.inside.layouts; counts = c.self.inside.counts; memory = c.self.inside.alignment.memory; disagreements = c.self.inside.alignment.disagreements } in
     same_place (length c.self.inside.settings.sources.items) (length c.self.inside.alignment.state.columns) c.args.stream (arrival_view c.args.arrival.now) (sym c.self.invariant.sizes.each_column)
-    (is_placed c.self.inside.settings c.args.stream c.requires.0 (arrival_view c.args.arrival.now)
-    (subst (λ (n : MergerView). ReadsForMerger n.settings c.args.stream c.requires.0 (arrival_view c.args.arrival.now)) (sym c.self.view_is) c.requires.1))
+    (fits_placed c.self.inside.settings c.args.stream (arrival_view c.args.arrival.now)
+    (subst (λ (n : MergerView). fits_merger n.settings c.args.stream (arrival_view c.args.arrival.now) ≡ true) (sym c.self.view_is) c.requires))
 
 pub answer-outcome-requires-clause-ready : goal.answer-outcome-requires-clause-ready
 answer-outcome-requires-clause-ready g c = is_ready (length c.self.inside.settings.sources.items) c.self.inside.alignment.state c.self.inside.layouts c.self.invariant
