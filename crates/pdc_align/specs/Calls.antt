@@ -5,7 +5,7 @@ use Rattle.pdc_cfg.specs.Section.{SectionFields}
 use Rattle.pdc_row.specs.CellView.{CellView}
 use Rattle.pdc_table.specs.Content.{Content, new_content}
 use Rattle.pdc_table.specs.Layout.{LayoutView}
-use Rattle.pdc_table.specs.Steps.{after_pop, after_take, after_tick, put_answer, tick_answer}
+use Rattle.pdc_table.specs.Steps.{after_pop, after_take, after_tick, disagreements_after, put_answer, tick_answer}
 use Rattle.pdc_life.specs.declared.outcome.Outcome.{Outcome}
 use Rattle.pdc_life.specs.declared.outcome.Outcome.TheVariants.{Refused}
 use Rattle.pdc_life.specs.declared.outcome.Refusal.TheVariants.{Ahead, Late}
@@ -147,3 +147,7 @@ told_at a now counts = record {
   change = if has_change_in a then new_change a.change (ready_at a counts) else None;
   used_up = not (has_change_in a) && nat_lt 0 (length (ready_at a counts));
 }
+
+-- how often both lanes of a column differed at a closing, once the rows closed that are due
+abbrev pub disagreements_at : (so_far : ℕ) → State → (now : ℕ) → ℕ
+disagreements_at so_far a now = disagreements_after so_far a.content (rule_of a.wait_kind a.wait now) (row_layout_in a)

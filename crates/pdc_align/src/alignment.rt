@@ -19,7 +19,7 @@ ghost use Rattle.pdc_life.specs.Run.{IsRun};
 ghost use Rattle.pdc_life.specs.declared.outcome.Outcome.TheVariants.{Candidate};
 ghost use Rattle.pdc_state.specs.State.{after_adoption, after_adoptions, row_layout_of, rule_of};
 ghost use Rattle.pdc_align.specs.Align.{HasSizes, KeepsSizes, StandsFor, given_by, new_change, ticked_of};
-ghost use Rattle.pdc_align.specs.Calls.{after_data, after_adopting, after_closing, after_tick_of, column_in, told_at, after_hold, after_pop_of, first_content, first_of_plan, put_outcome, row_layout_in, waiting_in};
+ghost use Rattle.pdc_align.specs.Calls.{after_data, after_adopting, disagreements_at, after_closing, after_tick_of, column_in, told_at, after_hold, after_pop_of, first_content, first_of_plan, put_outcome, row_layout_in, waiting_in};
 
 use crate::{Column, Plan, Ticked, columns};
 use pdc_block::Block;
@@ -80,6 +80,7 @@ impl<T: Table> Model for Alignment<T> {
 fn new_table<T: Table>(alloc: Global, plan: Plan, floor: u64) -> Result<T, AllocError>
     ensures content { IfOk result (λ t. T.content t ≡ first_content plan.window plan.columns plan.lanes floor) }
     ensures well_formed { IfOk result (λ t. IsContent (T.content t)) }
+    ensures disagreements { IfOk result (λ t. T.disagreements t ≡ 0) }
 {
     let mut table = T::new(alloc, plan.window, plan.columns, plan.lanes, floor)?;
     if plan.lanes != 1 {
@@ -122,6 +123,7 @@ fn adopt_in<T: Table>(table: &mut T, lanes: usize, columns: &[usize])
     ensures content { T.content table.new ≡ after_adoptions (T.content table.old) columns.now }
     ensures sizes { HasSizesOf (T.content table.old) (T.content table.new) }
     ensures memory { T.memory table.new ≡ T.memory table.old }
+    ensures disagreements { T.disagreements table.new ≡ T.disagreements table.old }
     ensures well_formed { IsContent (T.content table.new) }
 {
     for column in columns {
@@ -137,6 +139,7 @@ fn adopt_one<T: Table>(table: &mut T, lanes: usize, column: usize)
     ensures content { T.content table.new ≡ after_adoption (T.content table.old) column }
     ensures sizes { HasSizesOf (T.content table.old) (T.content table.new) }
     ensures memory { T.memory table.new ≡ T.memory table.old }
+    ensures disagreements { T.disagreements table.new ≡ T.disagreements table.old }
     ensures well_formed { IsContent (T.content table.new) }
 {
     if lanes == 1 {
@@ -164,6 +167,7 @@ impl<T: Table> Alignment<T> {
     ) -> Result<Alignment<T>, AllocError>
         ensures stands { IfOk result (λ a. (output : Output) → StandsFor (given_by plan output start floor counts.now now) [] a.state) }
         ensures sizes { IfOk result (λ a. HasSizes plan.columns plan.lanes a.state) }
+        ensures disagreements { IfOk result (λ a. a.disagreements ≡ 0) }
     {
         Alignment::first(alloc, plan, start, floor, counts, now)
     }
@@ -185,6 +189,7 @@ impl<T: Table> Alignment<T> {
             StandsFor g (Arrive stream bytes (Data instant quality payload) (with_cells result (cells_of cells.now quality)) ∷ E) self.new.state }
         ensures sizes { KeepsSizes self.old.state self.new.state }
         ensures memory { self.new.memory ≡ self.old.memory }
+        ensures disagreements { self.new.disagreements ≡ self.old.disagreements }
     {
         answers_agree();
         take_is_take();
@@ -200,6 +205,7 @@ impl<T: Table> Alignment<T> {
             StandsFor g (Arrive stream bytes (Layout stamp (map section_part sections.now)) (bare Candidate) ∷ E) self.new.state }
         ensures sizes { KeepsSizes self.old.state self.new.state }
         ensures memory { self.new.memory ≡ self.old.memory }
+        ensures disagreements { self.new.disagreements ≡ self.old.disagreements }
     {
         others_leave_it();
         self.keep(sections);
@@ -213,6 +219,7 @@ impl<T: Table> Alignment<T> {
             StandsFor g (Tick now counts.now (tick_answer g E now counts.now) ∷ E) self.new.state }
         ensures sizes { KeepsSizes self.old.state self.new.state }
         ensures memory { self.new.memory ≡ self.old.memory }
+        ensures disagreements { self.new.disagreements ≡ disagreements_at self.old.disagreements self.old.state now }
     {
         rows_are_those();
         tick_is_tick();
@@ -225,6 +232,7 @@ impl<T: Table> Alignment<T> {
         ensures stands { (g : Given) (E : List Entry) → StandsFor g E self.old.state → StandsFor g (Pop (pop_answer E) ∷ E) self.new.state }
         ensures sizes { KeepsSizes self.old.state self.new.state }
         ensures memory { self.new.memory ≡ self.old.memory }
+        ensures disagreements { self.new.disagreements ≡ self.old.disagreements }
     {
         self.take_due()
     }
@@ -284,7 +292,8 @@ impl<T: Table> Alignment<T> {
         counts: &[u16; MAX_PMUS],
         now: u64,
     ) -> Result<Alignment<T>, AllocError>
-        ensures { IfOk result (λ a. a.state ≡ first_of_plan plan start floor counts.now now) }
+        ensures state { IfOk result (λ a. a.state ≡ first_of_plan plan start floor counts.now now) }
+        ensures disagreements { IfOk result (λ a. a.disagreements ≡ 0) }
     {
         Ok(Alignment {
             wait: plan.wait,
@@ -312,6 +321,7 @@ impl<T: Table> Alignment<T> {
         ensures state { self.new.state ≡ after_data self.old.state stream instant (cells_of cells.now quality) }
         ensures sizes { KeepsSizes self.old.state self.new.state }
         ensures memory { self.new.memory ≡ self.old.memory }
+        ensures disagreements { self.new.disagreements ≡ self.old.disagreements }
     {
         if instant <= self.table.last() {
             return Outcome::Refused(Refusal::Late);
@@ -328,6 +338,7 @@ impl<T: Table> Alignment<T> {
         ensures state { self.new.state ≡ after_hold self.old.state (map section_part sections.now) }
         ensures sizes { KeepsSizes self.old.state self.new.state }
         ensures memory { self.new.memory ≡ self.old.memory }
+        ensures disagreements { self.new.disagreements ≡ self.old.disagreements }
     {
         columns::hold(&mut self.columns, sections);
     }
@@ -339,6 +350,7 @@ impl<T: Table> Alignment<T> {
         ensures wait { self.old.state.wait < 2 ^ 64 }
         ensures sizes { KeepsSizes self.old.state self.new.state }
         ensures memory { self.new.memory ≡ self.old.memory }
+        ensures disagreements { self.new.disagreements ≡ disagreements_at self.old.disagreements self.old.state now }
     {
         let closed = self.close(now, counts);
         let ready = columns::ready(&self.columns);
@@ -362,6 +374,7 @@ impl<T: Table> Alignment<T> {
         ensures state { self.new.state ≡ after_closing self.old.state now counts.now }
         ensures sizes { KeepsSizes self.old.state self.new.state }
         ensures memory { self.new.memory ≡ self.old.memory }
+        ensures disagreements { self.new.disagreements ≡ disagreements_at self.old.disagreements self.old.state now }
     {
         let layout = self.layout();
         let rule = rule_of(self.wait_kind, self.wait, now);
@@ -379,6 +392,7 @@ impl<T: Table> Alignment<T> {
         ensures state { self.new.state ≡ after_adopting self.old.state adopted.now }
         ensures sizes { KeepsSizes self.old.state self.new.state }
         ensures memory { self.new.memory ≡ self.old.memory }
+        ensures disagreements { self.new.disagreements ≡ self.old.disagreements }
     {
         columns::adopt(&mut self.columns);
         adopt_in(&mut self.table, self.lanes, adopted);
@@ -395,6 +409,7 @@ impl<T: Table> Alignment<T> {
         ensures state { self.new.state ≡ after_pop_of self.old.state }
         ensures sizes { KeepsSizes self.old.state self.new.state }
         ensures memory { self.new.memory ≡ self.old.memory }
+        ensures disagreements { self.new.disagreements ≡ self.old.disagreements }
     {
         self.table.pop_due()
     }

@@ -1,8 +1,8 @@
 -- What data and layouts of a node are answered, by what is kept.
-use Rattle.std.proofs.Common.{◌≡◌, ℕ, zero, suc, ◌+◌, ◌*◌, ◌<◌, Bool, true, false, ◌||◌, cond, eqb, ltb, not, List, [], ◌∷◌, ◌++◌, drop, length, map, take, refl, sym, ◌∙◌, ap, subst, arith, rules, Option, None, Some, append_assoc}
+use Rattle.std.proofs.Common.{◌≡◌, ℕ, zero, suc, ◌+◌, ◌*◌, ◌<◌, Bool, true, false, ◌||◌, cond, eqb, ltb, not, List, [], ◌∷◌, ◌++◌, drop, length, map, take, refl, sym, ◌∙◌, ap, subst, arith, rules, Option, None, Some}
 use Rattle.std.specs.Prelude.{nat_eq, option_map, sum}
 use Rattle.std.specs.Cmp.Lexicographic.{pointwise}
-use Rattle.std.specs.List.{All, AllByRecursion, list_any}
+use Rattle.std.specs.List.{All, AllByRecursion}
 use Rattle.std.proofs.lemmas.Bool.{false≢true}
 use Rattle.std.proofs.lemmas.List.Sums.{sum_by-cons}
 use Rattle.pdc_block.specs.Block.{words_in}
@@ -24,8 +24,8 @@ use Rattle.pdc_life.specs.declared.outcome.Refusal.TheVariants.{CountConflict, O
 use Rattle.pdc_reading.specs.Views.{section_part}
 use Rattle.pdc_reading.specs.declared.arrival.ColumnSection.{ColumnSection}
 use Rattle.pdc_align.specs.Align.{ColumnState, State, StandsFor, is_left}
-use Rattle.pdc_align.specs.Calls.{ColumnsStand, column_in}
-use Rattle.pdc_merge.specs.Cells.{blocks_len, cell_in, cells_in, conflicts_in, data_refusal, has_count}
+use Rattle.pdc_align.specs.Calls.{ColumnsStand}
+use Rattle.pdc_merge.specs.Cells.{blocks_len, cells_in, conflicts_in, data_refusal, has_count}
 use Rattle.pdc_merge.specs.Held.{AreInPlace, LayoutView, held_section_of, layout_at, layout_of, layouts_of}
 use Rattle.pdc_merge.specs.declared.held_layout.HeldSection.{HeldSection}
 

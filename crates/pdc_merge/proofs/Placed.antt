@@ -1,11 +1,11 @@
 -- The cells of held sections stand in columns of their own.
-use Rattle.std.proofs.Common.{◌≡◌, ◌≢◌, ℕ, zero, suc, ◌+◌, ◌<◌, Bool, true, false, cond, List, [], ◌∷◌, ◌++◌, drop, length, map, refl, sym, ◌∙◌, ap, subst, arith, take}
+use Rattle.std.proofs.Common.{◌≡◌, ◌≢◌, ℕ, zero, suc, ◌+◌, ◌<◌, Bool, true, false, cond, List, [], ◌∷◌, ◌++◌, drop, length, map, sym, subst, arith, take}
 use Rattle.std.specs.Prelude.{◌==◌, if◌then◌else◌}
 use Rattle.std.specs.List.{All, AllByRecursion}
 use Rattle.pdc_cfg.specs.Shape.{word_count_of}
 use Rattle.pdc_row.specs.CellView.{CellView}
 use Rattle.pdc_row.specs.Rising.{Rises}
-use Rattle.pdc_table.specs.Content.{HaveOwnColumns, IsPut, NoneIsOf, streams_of}
+use Rattle.pdc_table.specs.Content.{HaveOwnColumns, IsPut, NoneIsOf}
 use Rattle.pdc_align.specs.Align.{State}
 use Rattle.pdc_align.specs.Calls.{column_in}
 use Rattle.pdc_merge.specs.Cells.{cells_in, has_count}

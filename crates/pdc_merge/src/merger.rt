@@ -83,6 +83,7 @@ impl<T: Table> Merger<T> {
     ) -> Result<Merger<T>, AllocError>
         ensures stands { IfOk result (λ m. StandsFor (given_of_merger settings start floor counts.now now) [] m) }
         ensures settings { IfOk result (λ m. m.settings ≡ settings) }
+        ensures disagreements { IfOk result (λ m. m.disagreements ≡ 0) }
     {
         let alignment = Alignment::new(alloc, plan_of(&settings), start, floor, counts, now)?;
         Ok(Merger {

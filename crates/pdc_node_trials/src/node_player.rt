@@ -26,9 +26,8 @@ use pdc_mark::ModelMark;
 use pdc_node::{Core, Node};
 use pdc_output::Output;
 use pdc_publisher::{MAX_LEAD, Publisher};
-use pdc_row::DueRow;
 use pdc_script::{Frames, Player};
-use pdc_script_lives::{counts_of, node, opening_counts, wait_kind};
+use pdc_script_lives::{bytes_of, counts_of, node, opening_counts, row_text, tick_text, wait_kind};
 use pdc_table::Table;
 use pdc_tag::SECONDS;
 use std::alloc::{AllocError, Global};
@@ -54,20 +53,6 @@ fn publisher(output: Output, lead: u16) -> Option<Publisher<ModelMark>>
         return None;
     }
     Some(Publisher::new(ModelMark::new(1, 0), output, lead))
-}
-
-/// How many rows closed, and the change number.
-fn tick_text(alloc: Global, ticked: Ticked) -> Result<String, AllocError> {
-    match ticked.change {
-        Some(change) => format!(in alloc; "{} change {change}", ticked.closed),
-        None => ticked.closed.to_string(alloc),
-    }
-}
-
-/// Its instant, quality and stamp.
-fn row_text(alloc: Global, row: &DueRow) -> Result<String, AllocError> {
-    let (instant, quality) = (row.instant, row.quality);
-    format!(in alloc; "{instant}/{quality} ({}, {})", row.start, row.change)
 }
 
 impl<'a, T: Table> NodePlayer<'a, T> {
@@ -253,15 +238,6 @@ fn settings_of(sizes: [&str; 3], wait_kind: WaitKind) -> Option<Settings> {
     Some(node(window, wait, wait_kind, pmus == "3"))
 }
 
-/// The bytes of the frame of this name, or the first of them.
-fn bytes_of<'a>(frames: &'a Frames, name: &str, len: Option<&str>) -> Option<&'a [u8]> {
-    let bytes = frames.named(name)?;
-    match len {
-        Some(len) => bytes.get(..len.parse().ok()?),
-        None => Some(bytes),
-    }
-}
-
 impl<T: Table> Player for NodePlayer<'_, T> {
     fn play(&mut self, alloc: Global, call: &str) -> Result<String, AllocError> {
         let words: Vec<&str> = call.split_whitespace().collect(alloc)?;
@@ -276,7 +252,7 @@ impl<T: Table> Player for NodePlayer<'_, T> {
             ["arrive", stream, frame] => self.arrive(alloc, stream, frame, None),
             ["arrive", stream, frame, len] => self.arrive(alloc, stream, frame, Some(len)),
             ["tick", now, counts @ ..] => match self.tick(now, counts) {
-                Some(ticked) => tick_text(alloc, ticked),
+                Some(ticked) => tick_text(alloc, ticked.closed, ticked.change),
                 None => "no such tick".to_string(alloc),
             },
             ["waiting"] => self.waiting_text(alloc),

@@ -9,5 +9,6 @@ invariant-loop-column g l = record {
   content : after_adoptions (g.T.Table.content l.table) (drop l.column-index l.columns) ≡ after_adoptions (g.T.Table.content l.initial.table) l.columns;
   sizes : HasSizesOf (g.T.Table.content l.initial.table) (g.T.Table.content l.table);
   memory : g.T.Table.memory l.table ≡ g.T.Table.memory l.initial.table;
+  disagreements : g.T.Table.disagreements l.table ≡ g.T.Table.disagreements l.initial.table;
   well_formed : IsContent (g.T.Table.content l.table);
 }

@@ -1,11 +1,11 @@
-use Rattle.std.proofs.Common.{◌≡◌, ◌∙◌, List, Option, Some, ap, length, map, subst, sym}
+use Rattle.std.proofs.Common.{List, Option, ap, length, map, subst, sym}
 use Rattle.std.specs.Prelude.{option_map}
 use Rattle.pdc_life.specs.Arrival.{Layout}
 use Rattle.pdc_life.specs.Merger.{merged_answer}
 use Rattle.pdc_reading.specs.Views.{section_part, stamp_view}
 use Rattle.pdc_reading.specs.declared.arrival.Stamp.{Stamp}
 use Rattle.pdc_align.specs.Align.{is_left}
-use Rattle.pdc_merge.specs.Held.{AreAllInPlace, AreInPlace, LayoutView, LayoutsView, held_section_of}
+use Rattle.pdc_merge.specs.Held.{AreAllInPlace, AreInPlace, LayoutView, LayoutsView}
 use Rattle.pdc_merge.specs.declared.held_layout.HeldSection.{HeldSection}
 use Rattle.pdc_merge.proofs.Lives.{held_in_place, kept_in_place}
 use Rattle.pdc_merge.proofs.answering.answer_configuration.Goals as goal

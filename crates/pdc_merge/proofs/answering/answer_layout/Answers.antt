@@ -1,9 +1,8 @@
-use Rattle.std.proofs.Common.{◌≡◌, ◌∷◌, ◌∙◌, List, ap, map, subst, sym, length, Some}
+use Rattle.std.proofs.Common.{◌≡◌, ◌∷◌, ◌∙◌, ap, map, subst, sym, length, Some}
 use Rattle.std.specs.Prelude.{option_map}
 use Rattle.pdc_life.specs.Answer.{bare}
 use Rattle.pdc_life.specs.Arrival.{Arrival, Layout}
-use Rattle.pdc_life.specs.Life.{Answer, Arrive, Entry}
-use Rattle.pdc_life.specs.Given.{Given}
+use Rattle.pdc_life.specs.Life.{Answer, Arrive}
 use Rattle.pdc_life.specs.Merger.{has_count_conflict, held_layout, layout_answer}
 use Rattle.pdc_life.specs.Run.{IsRun}
 use Rattle.pdc_life.specs.declared.outcome.Outcome.{Outcome}

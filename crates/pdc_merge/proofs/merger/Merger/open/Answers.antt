@@ -1,4 +1,3 @@
-use Rattle.std.proofs.Common.{◌∙◌}
 use Rattle.pdc_align.specs.Align.{given_by}
 use Rattle.pdc_merge.proofs.Lives.{begins}
 use Rattle.pdc_merge.proofs.merger.Merger.open.Goals as goal
