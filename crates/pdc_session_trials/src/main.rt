@@ -11,42 +11,37 @@ mod session_player;
 mod told;
 
 use client_player::ClientPlayer;
-use pdc_script::{Played, play_script};
+use pdc_script::{Played, Stage, play_all, play_script};
 use recent_player::RecentPlayer;
 use session_player::SessionPlayer;
 use std::alloc::Global;
+use std::io;
 use std::process::ExitCode;
-use std::{fs, io};
+use std::rt::Files;
 
-/// Plays a script.
-fn play(
-    rt: &(impl AllocGlobal + Eprint),
-    alloc: Global,
-    player: &str,
-    name: &str,
-    text: &str,
-) -> io::Result<Played> {
-    match player {
-        "session" => play_script(rt, alloc, name, text, &mut SessionPlayer::new(alloc)),
-        "recent" => play_script(rt, alloc, name, text, &mut RecentPlayer::new(alloc)?),
-        "client" => play_script(rt, alloc, name, text, &mut ClientPlayer::new(alloc)),
-        _ => Ok(Played::of(false)),
+/// The players.
+#[derive(Drop)]
+struct Trials;
+
+impl Stage for Trials {
+    fn play(
+        &mut self,
+        rt: &(impl Files + AllocGlobal + Eprint),
+        alloc: Global,
+        player: &str,
+        script: &str,
+    ) -> io::Result<Played> {
+        match player {
+            "session" => play_script(rt, alloc, script, &mut SessionPlayer::new(alloc)),
+            "recent" => play_script(rt, alloc, script, &mut RecentPlayer::new(alloc)?),
+            "client" => play_script(rt, alloc, script, &mut ClientPlayer::new(alloc)),
+            _ => Ok(Played::of(false)),
+        }
     }
 }
 
 fn main(rt: HostRuntime) -> io::Result<ExitCode> {
     let alloc = rt.alloc();
     let words: Vec<String> = std::env::args(&rt)?.collect(alloc)?;
-    let mut status = ExitCode::SUCCESS;
-    for pair in words.as_slice().get(1..).unwrap_or(&[]).chunks(2) {
-        if let [player, name] = pair {
-            let text = fs::read_to_string(&rt, name)?;
-            let played = play(&rt, alloc, player, name, &text)?;
-            println!(rt; "{name}: {} played", played.calls)?;
-            if !played.as_wanted {
-                status = ExitCode::FAILURE;
-            }
-        }
-    }
-    Ok(status)
+    play_all(&rt, alloc, words.as_slice().get(1..).unwrap_or(&[]), &mut Trials)
 }
