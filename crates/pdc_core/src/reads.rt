@@ -1,13 +1,16 @@
 //! Settings by which bytes are read.
-ghost use Rattle.std.specs.Prelude.{◌≡◌, ◌<◌, ℕ, Bool, List, length, true};
+ghost use Rattle.std.specs.Prelude.{◌≡◌, ◌<◌, ℕ, Bool, IfOk, List, length, true};
 ghost use Rattle.pdc_core.specs.Fits.{fits_merger, fits_node};
+ghost use Rattle.pdc_core.specs.Taken.{taken_view};
 ghost use Rattle.pdc_life.specs.Arrival.{Arrival};
 ghost use Rattle.pdc_life.specs.MergerReading.{ReadsForMerger};
 ghost use Rattle.pdc_life.specs.Node.{ReadsFor};
 ghost use Rattle.pdc_reading.specs.Views.{arrival_view};
 
+use crate::Taken;
 use pdc_life::{MergerSettings, Settings};
 use pdc_reading::{Arrival, read_from_node, read_from_pmu};
+use std::alloc::{AllocError, Global};
 
 /// Settings by which the bytes of a datagram are read, whatever came before. It takes no memory.
 pub trait Reads {
@@ -26,6 +29,20 @@ pub trait Reads {
     fn read<'a>(&self, stream: usize, bytes: &'a [u8]) -> Arrival<'a>
         requires { stream < streams self.now }
         ensures { says self.now stream bytes.now (arrival_view result) };
+
+    /// What the bytes say that came for the stream with this number, with what it needs of them kept.
+    ///
+    /// # Errors
+    ///
+    /// [`AllocError`] where there is no memory; [`Taken::keep`] tells what takes none.
+    fn read_kept(&self, alloc: Global, stream: usize, bytes: &[u8]) -> Result<Taken, AllocError>
+        requires { stream < streams self.now }
+        ensures says { IfOk result (λ taken. says self.now stream bytes.now (taken_view taken)) }
+        ensures fits { IfOk result (λ taken. fits self.now stream (taken_view taken) ≡ true) }
+    {
+        let arrival = self.read(stream, bytes);
+        Taken::keep(alloc, &arrival)
+    }
 }
 
 /// A node's: a stream comes from each PMU.
