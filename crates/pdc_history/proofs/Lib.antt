@@ -14,6 +14,7 @@ pub mod NodeFrames
 pub mod Nodes
 pub mod One
 pub mod Order
+pub mod Play
 pub mod Rows
 pub mod Sent
 pub mod Stored

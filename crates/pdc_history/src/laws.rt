@@ -4,6 +4,7 @@ ghost use Rattle.pdc_history.specs.Genuine.{FramesAgree, LayoutsAreOne, MergedBl
 ghost use Rattle.pdc_history.specs.History.{EventsMakeHistories};
 ghost use Rattle.pdc_history.specs.Lives.{LivesAreLives, RowsAreOfLives};
 ghost use Rattle.pdc_history.specs.Marks.{AdoptedCountsNeverFall, InstantsRise, MarksBound};
+ghost use Rattle.pdc_history.specs.Play.{PlaysAreHistories, PlaysAreOne, StepsAreOne};
 ghost use Rattle.pdc_history.specs.Pmus.{PmusSendOneBody, PmusSendOneSection, PmusSendTheirOwn};
 
 use crate::known::{blocks_are_known, frames_are_known, lives_are_known};
@@ -22,10 +23,18 @@ pub fn asked_is_event_or_fault()
     merger_steps_have_one_life();
 }
 
-/// Events that may happen, each after those before it, make a history.
+/// Events that may happen, each after those before it, make a history. So does what is asked, and there is one such history: what a
+/// world is asked determines all that happens in it.
 pub fn events_make_histories()
-    ensures { EventsMakeHistories }
-{}
+    ensures events { EventsMakeHistories }
+    ensures asked { PlaysAreHistories }
+    ensures one_step { StepsAreOne }
+    ensures one_history { PlaysAreOne }
+{
+    frames_are_known();
+    bytes_are_read_in_one_way();
+    merger_steps_have_one_life();
+}
 
 /// In every history lives are lives, the present ones and those that ended; and what a core published are the rows that its lives
 /// gave.
