@@ -1,6 +1,6 @@
 //! Laws of every history: each is the contract of a function that does nothing but call the laws that it stands on.
 ghost use Rattle.pdc_history.specs.Asked.{AskedIsReadOnce, CausesAreOne, FaultsMayNotHappen, SentMayCome};
-ghost use Rattle.pdc_history.specs.Genuine.{FramesAgree, LayoutsAreOne, MergedBlocksAreGenuine, NodeBlocksAreGenuine, PublishedAgree, PublishedWereSent};
+ghost use Rattle.pdc_history.specs.Genuine.{FramesAgree, HeldLayoutsWereSent, LayoutsAreOne, MergedBlocksAreGenuine, NodeBlocksAreGenuine, PublishedAgree, PublishedWereSent};
 ghost use Rattle.pdc_history.specs.History.{EventsMakeHistories};
 ghost use Rattle.pdc_history.specs.Lives.{LivesAreLives, RowsAreOfLives};
 ghost use Rattle.pdc_history.specs.Marks.{AdoptedCountsNeverFall, InstantsRise, MarksBound};
@@ -89,9 +89,11 @@ pub fn node_blocks_are_genuine()
     blocks_are_known();
 }
 
-/// The same of the merger, whatever its restarts and those of the nodes forgot.
+/// The same of the merger, whatever its restarts and those of the nodes forgot: the layouts that it holds of the nodes are those under
+/// their stamps.
 pub fn merged_blocks_are_genuine()
-    ensures { MergedBlocksAreGenuine }
+    ensures held { HeldLayoutsWereSent }
+    ensures genuine { MergedBlocksAreGenuine }
 {
     lives_are_known();
     frames_are_known();
