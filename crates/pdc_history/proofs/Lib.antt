@@ -16,6 +16,7 @@ pub mod One
 pub mod Order
 pub mod Play
 pub mod Rows
+pub mod RowsAt
 pub mod Sent
 pub mod Stored
 pub mod Vectors

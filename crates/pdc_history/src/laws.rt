@@ -2,7 +2,7 @@
 ghost use Rattle.pdc_history.specs.Asked.{AskedIsReadOnce, CausesAreOne, FaultsMayNotHappen, SentMayCome};
 ghost use Rattle.pdc_history.specs.Genuine.{FramesAgree, HeldLayoutsWereSent, LayoutsAreOne, MergedBlocksAreGenuine, NodeBlocksAreGenuine, PublishedAgree, PublishedWereSent};
 ghost use Rattle.pdc_history.specs.History.{EventsMakeHistories};
-ghost use Rattle.pdc_history.specs.Lives.{LivesAreLives, RowsAreOfLives};
+ghost use Rattle.pdc_history.specs.Lives.{LivesAreLives, PublishedRowsAreThose, RowsAreOfLives};
 ghost use Rattle.pdc_history.specs.Marks.{AdoptedCountsNeverFall, InstantsRise, MarksBound};
 ghost use Rattle.pdc_history.specs.Play.{PlaysAreHistories, PlaysAreOne, StepsAreOne};
 ghost use Rattle.pdc_history.specs.Pmus.{PmusSendOneBody, PmusSendOneSection, PmusSendTheirOwn};
@@ -37,11 +37,14 @@ pub fn events_make_histories()
 }
 
 /// In every history lives are lives, the present ones and those that ended; and what a core published are the rows that its lives
-/// gave.
+/// gave, each the row of its instant in the life of an earlier moment.
 pub fn lives_are_lives()
     ensures lives { LivesAreLives }
     ensures rows { RowsAreOfLives }
-{}
+    ensures moments { PublishedRowsAreThose }
+{
+    lives_are_known();
+}
 
 /// Marks bound what was published and adopted. So no life adopts a count below one that an earlier life of the same owner adopted.
 pub fn marks_bound_lives()
