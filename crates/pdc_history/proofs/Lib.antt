@@ -15,6 +15,7 @@ pub mod Nodes
 pub mod One
 pub mod Order
 pub mod Play
+pub mod Raised
 pub mod Rows
 pub mod RowsAt
 pub mod Sent
