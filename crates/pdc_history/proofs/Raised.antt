@@ -1,13 +1,13 @@
 -- The greater of two rows of counts are those that a mark is raised to.
-use Rattle.std.proofs.Common.{◌≡◌, ℕ, zero, suc, ◌+◌, ◌-◌, ◌≤◌, List, [], ◌∷◌, ◌++◌, length, get_or, map, max, replicate, refl, sym, ap, ◌∙◌, arith, length-append}
+use Rattle.std.proofs.Common.{◌≡◌, ℕ, zero, suc, ◌-◌, ◌≤◌, List, [], ◌∷◌, ◌++◌, length, get_or, map, max, replicate, refl, sym, ap, ◌∙◌, arith, length-append}
 use Rattle.std.specs.List.{range_with_len}
 use Rattle.std.proofs.lemmas.List.{length-map, length-replicate}
 use Rattle.std.proofs.lemmas.List.FromFn.{length-range_with_len}
 use Rattle.pdc_life.specs.Answer.{greatest_count}
-use Rattle.pdc_life.specs.Given.{Given, columns_of}
+use Rattle.pdc_life.specs.Given.{Given}
 use Rattle.pdc_life.specs.Life.{Entry, cleared_count, held_section}
 use Rattle.pdc_history.specs.Marks.{GreaterIsRaised, WaitingIsWhole}
-use Rattle.pdc_history.specs.World.{Who, World, Happened, given_in, life_of, opened_with, raised_to}
+use Rattle.pdc_history.specs.World.{given_in, life_of, opened_with, raised_to}
 use Rattle.pdc_history.proofs.Sent.{few_columns}
 
 same_lists : (xs ys : List ℕ) → length xs ≡ length ys → ((i : ℕ) → get_or xs i 0 ≡ get_or ys i 0) → xs ≡ ys

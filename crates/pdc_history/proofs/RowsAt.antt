@@ -1,7 +1,6 @@
 -- Each row that was published is the row of its instant at an earlier moment.
-use Rattle.std.proofs.Common.{◌≡◌, ℕ, List, [], ◌∷◌, ◌++◌, refl, sym, ap, subst, ◌∙◌, Option, Some, None}
+use Rattle.std.proofs.Common.{List, [], ◌∷◌, sym, ap, ◌∙◌, Some, None}
 use Rattle.std.specs.List.{AllByRecursion}
-use Rattle.std.proofs.lemmas.List.{append_assoc}
 use Rattle.pdc_row.specs.RowView.{RowView}
 use Rattle.pdc_life.specs.Given.{Given}
 use Rattle.pdc_life.specs.Laws.{IsRowOfTick}

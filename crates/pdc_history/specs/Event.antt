@@ -1,5 +1,5 @@
 -- Events, with their bytes read, and what they make happen (this profile).
-use Rattle.std.specs.Prelude.{ℕ, ◌+◌, Bool, List, [], ◌∷◌, if◌then◌else◌}
+use Rattle.std.specs.Prelude.{ℕ, Bool, List, [], ◌∷◌, if◌then◌else◌}
 use Rattle.pdc_mark.specs.declared.stored.Stored.{Stored}
 use Rattle.pdc_mark.specs.Stored.{with_next_start}
 use Rattle.pdc_life.specs.Answer.{ToArrive, ToTick, answered, pop_answer}

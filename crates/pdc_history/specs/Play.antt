@@ -6,7 +6,7 @@ use Rattle.pdc_life.specs.Life.{Entry, Arrive, Tick, changes, is_adoption}
 use Rattle.pdc_history.specs.Asked.{Asked, IsReadOf}
 use Rattle.pdc_history.specs.Event.{Event, happens}
 use Rattle.pdc_history.specs.History.{IsHistory, MayHappen}
-use Rattle.pdc_history.specs.World.{Who, World, Happened, Sends, Comes, PassesBy, Ticks, Publishes, Ends, life_of, sent}
+use Rattle.pdc_history.specs.World.{World, Happened, Sends, Comes, PassesBy, Ticks, Publishes, Ends, life_of, sent}
 
 -- What was asked reads as an event that may happen, and this is what it made happen.
 pub record IsStepOf (W : World) (H : List Happened) (asked : Asked) (h : Happened) : Type 0 where
