@@ -22,4 +22,5 @@ pub mod Sent
 pub mod Stored
 pub mod Vectors
 pub mod Worked
+pub mod WorkedFaults
 pub mod WorkedHistory
