@@ -14,7 +14,7 @@ use pdc_output::own_sections_tell_stamps;
 use pdc_tag::{instant_is_nearest, tag_comes_back};
 
 /// What holds of every life, node's or merger's.
-pub fn lives_are_known()
+pub(crate) fn lives_are_known()
     ensures { LifeLaws }
 {
     lives_are_runs();
@@ -30,7 +30,7 @@ pub fn lives_are_known()
 }
 
 /// What holds of the frames that go out, and in how many ways bytes are read.
-pub fn frames_are_known()
+pub(crate) fn frames_are_known()
     ensures { FrameLaws }
 {
     frames_are_read_in_one_way();
@@ -45,7 +45,7 @@ pub fn frames_are_known()
 }
 
 /// Where the blocks of rows come from.
-pub fn blocks_are_known()
+pub(crate) fn blocks_are_known()
     ensures { BlockLaws }
 {
     rows_are_genuine();
