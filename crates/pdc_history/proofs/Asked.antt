@@ -6,6 +6,7 @@ use Rattle.std.proofs.lemmas.Bool.{false≢true}
 use Rattle.std.proofs.lemmas.Option.{same_Some, slice_get_within}
 use Rattle.pdc_frame.specs.Frame.{Fields}
 use Rattle.pdc_frame.specs.declared.frame.Kind.TheVariants.{DataFrame, Cfg2}
+use Rattle.pdc_mark.specs.declared.stored.Stored.{Stored}
 use Rattle.pdc_life.specs.declared.merging.MergedNode.{MergedNode}
 use Rattle.pdc_life.specs.declared.pmu.Pmu.{Pmu}
 use Rattle.pdc_life.specs.Arrival.{Arrival}
@@ -19,7 +20,7 @@ use Rattle.pdc_history.specs.Event as events
 use Rattle.pdc_history.specs.Event.{Event, Bring, Miss, happens}
 use Rattle.pdc_history.specs.History.{IsOfPmu, IsOneBody, IsOneSection, MayCome, MayHappen, MaySend, Says, stream_ids}
 use Rattle.pdc_history.specs.Known.{FrameLaws}
-use Rattle.pdc_history.specs.World.{A, B, M, Who, World, Happened, Mark, sent}
+use Rattle.pdc_history.specs.World.{A, B, M, Who, World, Happened, sent}
 use Rattle.pdc_history.proofs.One.{distinct_rest, not_and, one_place, pmu_of_stream}
 use Rattle.pdc_history.proofs.Sent.{place_there}
 
@@ -224,7 +225,7 @@ no_junk W H who bytes OtherSection event x k may = x
 no_junk W H who bytes NoSuchFrame event x k may = x
 no_junk W H who bytes StartsUsedUp event x k may = x
 
-no_start : (mark : Mark) → 2 ^ 32 ≤ mark.start → mark.start < 2 ^ 32 → ⊥
+no_start : (mark : Stored) → 2 ^ 32 ≤ mark.start → mark.start < 2 ^ 32 → ⊥
 no_start mark a b = omega (arith, a, b)
 
 stop_may_not : (W : World) (H : List Happened) (asked : Asked) (cause : Cause) (event : Event) → IsStop asked → IsFault W H asked cause → IsReadOf W H asked event → MayHappen W H event → ⊥

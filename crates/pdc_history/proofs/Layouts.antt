@@ -13,6 +13,7 @@ use Rattle.pdc_output.specs.declared.output.Nominal.{Nominal}
 use Rattle.pdc_output.specs.declared.output.Nominal.TheVariants.{Hz50, Hz60}
 use Rattle.pdc_output.specs.declared.output.Output.{Output}
 use Rattle.pdc_output.specs.Layout.{layout_payload_of, own_bytes, row_fields}
+use Rattle.pdc_mark.specs.declared.stored.Stored.{Stored}
 use Rattle.pdc_life.specs.Arrival.{Stamp}
 use Rattle.pdc_life.specs.Given.{Given, columns_of}
 use Rattle.pdc_life.specs.Life.{Entry, Arrive, Tick, Pop, changes, is_adoption}
@@ -23,7 +24,7 @@ use Rattle.pdc_history.specs.Frames.{IsLayoutSent, IsLayoutUnder}
 use Rattle.pdc_history.specs.Genuine.{LayoutsAreOne}
 use Rattle.pdc_history.specs.History.{IsHistory, IsMade}
 use Rattle.pdc_history.specs.Known.{FrameLaws, LifeLaws}
-use Rattle.pdc_history.specs.World.{Who, Mark, World, Happened, Ticks, entry_at, given_by, given_in, life_of, opened_with, output_of, with_entry}
+use Rattle.pdc_history.specs.World.{Who, World, Happened, Ticks, entry_at, given_by, given_in, life_of, opened_with, output_of, with_entry}
 use Rattle.pdc_history.proofs.Made.{tick_ticks}
 use Rattle.pdc_history.proofs.Marks.{given_start}
 use Rattle.pdc_history.proofs.Moments.{Moment, before, given_then, is_itself, moment, sent_now, stays_sent, then}
@@ -223,7 +224,7 @@ adoption_ticks W H h who (Tick now counts answer) made q a = (tick_ticks W H h w
 adoption_ticks W H h who (Arrive s bytes arrival answer) made q a = absurd (false≢true a)
 adoption_ticks W H h who (Pop row) made q a = absurd (false≢true a)
 
-own_of : (W : World) (who : Who) (mark : Mark) (bytes : List ℕ) (start change : ℕ) → start < 2 ^ 32 → change < 2 ^ 32
+own_of : (W : World) (who : Who) (mark : Stored) (bytes : List ℕ) (start change : ℕ) → start < 2 ^ 32 → change < 2 ^ 32
     → bytes ≡ own_bytes (given_by W who mark).output.id (given_by W who mark).output.nominal start change → IsOwn (output_of W who).id bytes (record { start = start; change = change })
 own_of W who mark bytes start change s c q = record {
   start_fits = s;

@@ -14,9 +14,13 @@ pub mod NodeFrames
 pub mod Nodes
 pub mod One
 pub mod Order
+pub mod Play
+pub mod Raised
 pub mod Rows
+pub mod RowsAt
 pub mod Sent
 pub mod Stored
 pub mod Vectors
 pub mod Worked
+pub mod WorkedFaults
 pub mod WorkedHistory

@@ -2,6 +2,7 @@
 use Rattle.std.proofs.Common.{◌≡◌, ℕ, Bool, true, false, List, [], ◌∷◌, ◌++◌, cond, map, filter, refl, sym, ap, subst, Option, Some, None}
 use Rattle.std.specs.List.{AllByRecursion}
 use Rattle.pdc_row.specs.RowView.{RowView}
+use Rattle.pdc_mark.specs.declared.stored.Stored.{Stored}
 use Rattle.pdc_life.specs.Answer.{pop_answer, tick_answer}
 use Rattle.pdc_life.specs.Arrival.{Arrival}
 use Rattle.pdc_life.specs.Given.{Given}
@@ -9,14 +10,14 @@ use Rattle.pdc_life.specs.Life.{Entry, Arrive, Tick, Pop}
 use Rattle.pdc_life.specs.Run.{IsRun}
 use Rattle.pdc_history.specs.History.{IsHistory, IsMade, Says}
 use Rattle.pdc_history.specs.Lives.{IsLifeOf, LivesAreLives, rows_of_one}
-use Rattle.pdc_history.specs.World.{A, B, M, Who, Mark, World, Happened, PastLife, Sends, Comes, PassesBy, Ticks, Publishes, Ends, begins_at, begun_with, ended, first_mark, given_by, given_in, is_same, life_of, opened_with, past_lives, raised, rules_of, since, with_entry}
+use Rattle.pdc_history.specs.World.{A, B, M, Who, World, Happened, PastLife, Sends, Comes, PassesBy, Ticks, Publishes, Ends, begins_at, begun_with, ended, first_mark, given_by, given_in, is_same, life_of, opened_with, past_lives, raised, rules_of, since, with_entry}
 use Rattle.pdc_history.specs.Known.{LifeLaws}
 use Rattle.pdc_history.proofs.Lists.{appended}
 use Rattle.pdc_history.proofs.Made.{publishes_is, comes_is, ticks_is}
 use Rattle.pdc_history.proofs.Moments.{same_who}
 
 -- a new life, and one step more
-none_yet : (W : World) (who : Who) (mark : Mark) → IsLifeOf W who (given_by W who mark) []
+none_yet : (W : World) (who : Who) (mark : Stored) → IsLifeOf W who (given_by W who mark) []
 none_yet W A mark = record { given = refl; life = tt }
 none_yet W B mark = record { given = refl; life = tt }
 none_yet W M mark = record { given = refl; life = tt }
@@ -42,7 +43,7 @@ entry_of : (W : World) (who : Who) (g : Given) (E : List Entry) (b : Bool) (e : 
 entry_of W who g E true e k life = k refl
 entry_of W who g E false e k life = life
 
-begin_of : (W : World) (H : List Happened) (who : Who) (b : Bool) (mark : Mark) → IsLifeOf W who (given_in W H who) (life_of H who)
+begin_of : (W : World) (H : List Happened) (who : Who) (b : Bool) (mark : Stored) → IsLifeOf W who (given_in W H who) (life_of H who)
     → IsLifeOf W who (given_by W who (begun_with (cond b (Some mark) None) (opened_with W H who))) (since (cond b (Some mark) None) (life_of H who))
 begin_of W H who true mark life = none_yet W who mark
 begin_of W H who false mark life = life
@@ -79,7 +80,7 @@ life_is_life W [] who is = none_yet W who (first_mark W who)
 life_is_life W (h ∷ H) who is = one_more W H who h is.0 (life_is_life W H who is.1)
 
 -- those that ended
-ended_is : (W : World) (who : Who) (b : Option Mark) (past : PastLife) → IsLifeOf W who past.given past.life → AllByRecursion (λ (p : PastLife). IsLifeOf W who p.given p.life) (ended b past)
+ended_is : (W : World) (who : Who) (b : Option Stored) (past : PastLife) → IsLifeOf W who past.given past.life → AllByRecursion (λ (p : PastLife). IsLifeOf W who p.given p.life) (ended b past)
 ended_is W who None past life = tt
 ended_is W who (Some mark) past life = (life, tt)
 

@@ -5,13 +5,14 @@ use Rattle.std.proofs.lemmas.List.{append-nil}
 use Rattle.pdc_cfg.specs.Section.{SectionFields}
 use Rattle.pdc_row.specs.Rising.{AreBelow, Rises}
 use Rattle.pdc_row.specs.RowView.{RowView, row_instants}
+use Rattle.pdc_mark.specs.declared.stored.Stored.{Stored}
 use Rattle.pdc_life.specs.Given.{Given, count_for}
 use Rattle.pdc_life.specs.Life.{Entry, Pop, cleared_count, popped, section_in_force}
 use Rattle.pdc_life.specs.Run.{IsRun}
 use Rattle.pdc_history.specs.History.{IsHistory, IsMade}
 use Rattle.pdc_history.specs.Lives.{rows_of_lives, rows_of_one}
 use Rattle.pdc_history.specs.Marks.{InstantsRise, MarksBound}
-use Rattle.pdc_history.specs.World.{A, B, M, Who, Mark, World, Happened, PastLife, Sends, Comes, PassesBy, Ticks, Publishes, Ends, begun_with, ended, first_mark, given_by, given_in, is_same, lead_of, life_of, mark_of, opened_with, past_lives, published, published_at, raised, reserved, since, with_counts_of, with_entry}
+use Rattle.pdc_history.specs.World.{A, B, M, Who, World, Happened, PastLife, Sends, Comes, PassesBy, Ticks, Publishes, Ends, begun_with, ended, first_mark, given_by, given_in, is_same, lead_of, life_of, mark_of, opened_with, past_lives, published, published_at, raised, reserved, since, with_counts_of, with_entry}
 use Rattle.pdc_history.specs.Known.{LifeLaws}
 use Rattle.pdc_history.proofs.Lists.{appended, mapped}
 use Rattle.pdc_history.proofs.Lives.{of_one_append, popped_run, run_in}
@@ -22,17 +23,17 @@ use Rattle.pdc_history.proofs.Stored.{AtLeast, IsNext, ends_is, itself, raised_k
 
 -- ---- what a mark gives to a life
 
-pub given_start : (W : World) (who : Who) (mark : Mark) → (given_by W who mark).start ≡ mark.start
+pub given_start : (W : World) (who : Who) (mark : Stored) → (given_by W who mark).start ≡ mark.start
 given_start W A mark = refl
 given_start W B mark = refl
 given_start W M mark = refl
 
-pub given_floor : (W : World) (who : Who) (mark : Mark) → (given_by W who mark).floor ≡ mark.floor
+pub given_floor : (W : World) (who : Who) (mark : Stored) → (given_by W who mark).floor ≡ mark.floor
 given_floor W A mark = refl
 given_floor W B mark = refl
 given_floor W M mark = refl
 
-pub given_counts : (W : World) (who : Who) (mark : Mark) → (given_by W who mark).counts ≡ mark.counts
+pub given_counts : (W : World) (who : Who) (mark : Stored) → (given_by W who mark).counts ≡ mark.counts
 given_counts W A mark = refl
 given_counts W B mark = refl
 given_counts W M mark = refl
@@ -42,7 +43,7 @@ given_counts W M mark = refl
 abbrev InForceBelow : List ℕ → ℕ → PastLife → Type 0
 InForceBelow counts c past = (s : SectionFields) → section_in_force past.given past.life c ≡ Some s → s.count ≤ count_for c counts
 
-record Bounded (first mark opened : Mark) (g : Given) (E : List Entry) (past : List PastLife) (rows : List RowView) : Type 0 where
+record Bounded (first mark opened : Stored) (g : Given) (E : List Entry) (past : List PastLife) (rows : List RowView) : Type 0 where
   start : mark.start ≡ opened.start
   fits : mark.start < 2 ^ 32
   low : first.floor ≤ opened.floor
@@ -75,7 +76,7 @@ at_begin W who fits = record {
 }
 
 -- the mark is raised, rows are added that it covers, and an entry that clears no more than it
-grown : (first mark next opened : Mark) (g : Given) (E F : List Entry) (past : List PastLife) (rows more : List RowView) → AtLeast mark next
+grown : (first mark next opened : Stored) (g : Given) (E F : List Entry) (past : List PastLife) (rows more : List RowView) → AtLeast mark next
     → ((c : ℕ) → cleared_count g F c ≤ count_for c next.counts) → AllByRecursion (λ (r : RowView). r.instant ≤ next.floor) more
     → Bounded first mark opened g E past rows → Bounded first next opened g F past (rows ++ more)
 grown first mark next opened g E F past rows more k clears covered b = record {
@@ -92,11 +93,11 @@ grown first mark next opened g E F past rows more k clears covered b = record {
 }
 
 -- nothing happened to the core
-same_rows : (first mark opened : Mark) (g : Given) (E : List Entry) (past : List PastLife) (rows : List RowView) → Bounded first mark opened g E past rows → Bounded first mark opened g E past (rows ++ [])
+same_rows : (first mark opened : Stored) (g : Given) (E : List Entry) (past : List PastLife) (rows : List RowView) → Bounded first mark opened g E past rows → Bounded first mark opened g E past (rows ++ [])
 same_rows first mark opened g E past rows b = subst (Bounded first mark opened g E past) (sym (append-nil rows)) b
 
 -- an arrival
-came : (first mark opened : Mark) (g : Given) (E : List Entry) (past : List PastLife) (rows : List RowView) (o : Bool) (e : Entry) → ((c : ℕ) → cleared_count g (e ∷ E) c ≡ cleared_count g E c)
+came : (first mark opened : Stored) (g : Given) (E : List Entry) (past : List PastLife) (rows : List RowView) (o : Bool) (e : Entry) → ((c : ℕ) → cleared_count g (e ∷ E) c ≡ cleared_count g E c)
     → Bounded first mark opened g E past rows → Bounded first mark opened g (with_entry (cond o (Some e) None) E) past (rows ++ [])
 came first mark opened g E past rows true e same b =
     grown first mark mark opened g E (e ∷ E) past rows [] (itself mark) (λ c. subst (λ n. n ≤ count_for c mark.counts) (sym (same c)) (b.cleared c)) tt b
@@ -120,7 +121,7 @@ ticked W H who v e true same made b =
 ticked W H who v e false same made b = same_rows (first_mark W who) (mark_of W H who) (opened_with W H who) (given_in W H who) (life_of H who) (past_lives W H who) (rows_of_one who (published H)) b
 
 -- a publish
-covered : (lead : ℕ) (row : Option RowView) (mark : Mark) (who v : Who) (o : Bool) → is_same v who ≡ o → o ≡ true → AllByRecursion (λ (r : RowView). r.instant ≤ (reserved lead row mark).floor) (rows_of_one who (published_at (Publishes v row)))
+covered : (lead : ℕ) (row : Option RowView) (mark : Stored) (who v : Who) (o : Bool) → is_same v who ≡ o → o ≡ true → AllByRecursion (λ (r : RowView). r.instant ≤ (reserved lead row mark).floor) (rows_of_one who (published_at (Publishes v row)))
 covered lead None mark who v o e h = tt
 covered lead (Some r) mark who v o e h =
     subst (λ (x : Bool). AllByRecursion (λ (s : RowView). s.instant ≤ (reserved lead (Some r) mark).floor) (map (λ (y : Who × RowView). y.1) (cond x ((v, r) ∷ []) []))) (sym (e ∙ h))
@@ -141,7 +142,7 @@ publishes W H who v row false e b =
     (same_rows (first_mark W who) (mark_of W H who) (opened_with W H who) (given_in W H who) (life_of H who) (past_lives W H who) (rows_of_one who (published H)) b)
 
 -- an end
-ends : LifeLaws → (W : World) (H : List Happened) (who v : Who) (mark : Mark) (o : Bool) → (o ≡ true → v ≡ who) → IsHistory W H → IsMade W H (Ends v mark) → BoundedIn W H who
+ends : LifeLaws → (W : World) (H : List Happened) (who v : Who) (mark : Stored) (o : Bool) → (o ≡ true → v ≡ who) → IsHistory W H → IsMade W H (Ends v mark) → BoundedIn W H who
     → Bounded (first_mark W who) (begun_with (cond o (Some mark) None) (mark_of W H who)) (begun_with (cond o (Some mark) None) (opened_with W H who)) (given_by W who (begun_with (cond o (Some mark) None) (opened_with W H who)))
     (since (cond o (Some mark) None) (life_of H who)) (ended (cond o (Some mark) None) (record { given = given_in W H who; life = life_of H who }) ++ past_lives W H who) (rows_of_one who (published H) ++ [])
 ends L W H who v mark true same is made b =

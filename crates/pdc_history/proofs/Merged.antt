@@ -35,14 +35,14 @@ pub record IsFrom (W : World) (node : MergedNode) (v : Who) : Type 0 where
 abbrev pub FromNode : World → MergedNode → Type 0
 FromNode W node = (v : Who) × IsFrom W node v
 
-is_first : (W : World) → SettingsAgree W → IsFrom W W.m.settings.first A
+pub is_first : (W : World) → SettingsAgree W → IsFrom W W.m.settings.first A
 is_first W k = record {
   stream = λ i. record { id = k.first_id i; time_base = k.first_time_base i; rate = k.rate M i };
   listed = (0, omega arith, refl);
   genuine = λ L F K H is. frames_of_a L F K W H is;
 }
 
-is_second : (W : World) → SettingsAgree W → IsFrom W W.m.settings.second B
+pub is_second : (W : World) → SettingsAgree W → IsFrom W W.m.settings.second B
 is_second W k = record {
   stream = λ i. record { id = k.second_id i; time_base = k.second_time_base i; rate = (k.rate M ∙ sym (k.rate B)) i };
   listed = (1, omega arith, refl);

@@ -7,6 +7,7 @@ use Rattle.pdc_cfg.specs.Section.{SectionFields}
 use Rattle.pdc_cfg.specs.declared.shape.Shape.{Shape}
 use Rattle.pdc_row.specs.CellView.{BlockView}
 use Rattle.pdc_output.specs.Layout.{own_block, stamp_words}
+use Rattle.pdc_life.specs.declared.merging.MergedNode.{MergedNode}
 use Rattle.pdc_life.specs.Arrival.{Data, Stamp}
 use Rattle.pdc_life.specs.Genuine.{HasBrought}
 use Rattle.pdc_life.specs.Life.{Entry}
@@ -15,16 +16,16 @@ use Rattle.pdc_life.specs.MergerData.{IsMergedData, shapes_of}
 use Rattle.pdc_life.specs.MergerReading.{nodes_of}
 use Rattle.pdc_life.specs.MergerReading as reading
 use Rattle.pdc_life.specs.Reading.{IsData, Stream}
-use Rattle.pdc_history.specs.Frames.{AreGenuineBlocks, IsGenuineBlock, IsLayoutUnder, stream_from}
-use Rattle.pdc_history.specs.Genuine.{IsGenuineData, MergedBlocksAreGenuine}
+use Rattle.pdc_history.specs.Frames.{AreGenuineBlocks, IsGenuineBlock, IsLayoutSent, IsLayoutUnder, stream_from}
+use Rattle.pdc_history.specs.Genuine.{HeldLayoutsWereSent, IsGenuineData, MergedBlocksAreGenuine}
 use Rattle.pdc_history.specs.History.{IsForOne, IsHistory, stream_ids}
 use Rattle.pdc_history.specs.Known.{BlockLaws, FrameLaws, LifeLaws}
-use Rattle.pdc_history.specs.World.{M, Who, World, Happened, given_in, life_of, sent}
+use Rattle.pdc_history.specs.World.{A, B, M, Who, World, Happened, given_in, life_of, sent}
 use Rattle.pdc_history.proofs.Blocks.{IsSourced, block_stays}
 use Rattle.pdc_history.proofs.Cuts.{block_rests, genuine_frames, own_shape, same_own, stamps_of_words}
 use Rattle.pdc_history.proofs.Layouts.{layouts_are_one}
 use Rattle.pdc_history.proofs.Lives.{life_is_life}
-use Rattle.pdc_history.proofs.Merged.{FromNode, LayoutCame, from_node, genuine_place, held_under, merged_column}
+use Rattle.pdc_history.proofs.Merged.{FromNode, IsFrom, LayoutCame, from_node, genuine_place, held_under, is_first, is_second, merged_column}
 use Rattle.pdc_history.proofs.Moments.{before, began}
 use Rattle.pdc_history.proofs.Nodes.{HasArrived, has_arrived}
 
@@ -95,3 +96,17 @@ merger_is_sourced L F K W = record {
 
 pub merged_blocks_are_genuine : LifeLaws → FrameLaws → BlockLaws → MergedBlocksAreGenuine
 merged_blocks_are_genuine L F K W H is = genuine_frames L F K W H M (merger_is_sourced L F K W) is
+
+-- ---- the layouts that the merger holds
+
+held_of : LifeLaws → (W : World) (H : List Happened) (s : ℕ) (node : MergedNode) (v : Who) (layout : HeldLayout) → IsHistory W H → IsFrom W node v → slice_get (nodes_of W.m.settings) s ≡ Some node → held_layout (life_of H M) s ≡ Some layout
+    → IsLayoutUnder W H v layout.stamp (map (λ (part : ℕ × SectionFields). part.1) layout.sections)
+held_of L W H s node v layout is from listed q =
+    let came : LayoutCame W H node layout.stamp layout.sections = held_under W H s node layout is listed q in
+    inr (subst (IsLayoutSent W H v layout.stamp) (sym came.same) (came.sent v from))
+
+pub held_layouts_were_sent : LifeLaws → HeldLayoutsWereSent
+held_layouts_were_sent L W H is = record {
+  first = λ layout q. held_of L W H 0 W.m.settings.first A layout is (is_first W (began W H is).settings) refl q;
+  second = λ layout q. held_of L W H 1 W.m.settings.second B layout is (is_second W (began W H is).settings) refl q;
+}

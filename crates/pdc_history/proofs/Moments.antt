@@ -3,11 +3,12 @@ use Rattle.std.proofs.Common.{◌≡◌, ℕ, true, List, [], ◌∷◌, ◌++�
 use Rattle.std.specs.List.{Contains}
 use Rattle.std.proofs.lemmas.Bool.{false≢true}
 use Rattle.std.proofs.lemmas.List.Elements.{Contains-append_cases, Contains-append_left, Contains-append_right}
+use Rattle.pdc_mark.specs.declared.stored.Stored.{Stored}
 use Rattle.pdc_life.specs.Life.{Entry}
 use Rattle.pdc_history.specs.Agree.{MayBegin}
 use Rattle.pdc_history.specs.Event.{happens}
 use Rattle.pdc_history.specs.History.{EventsMakeHistories, IsHistory}
-use Rattle.pdc_history.specs.World.{A, B, M, Who, Mark, World, Happened, begins_at, begun_with, entry_at, given_by, given_in, is_same, life_of, opened_with, sent, sent_at, since, with_entry}
+use Rattle.pdc_history.specs.World.{A, B, M, Who, World, Happened, begins_at, begun_with, entry_at, given_by, given_in, is_same, life_of, opened_with, sent, sent_at, since, with_entry}
 use Rattle.pdc_history.proofs.Lists.{not_empty}
 
 pub same_who : (v w : Who) → is_same v w ≡ true → v ≡ w
@@ -54,8 +55,8 @@ pub record Moment (W : World) (H : List Happened) (who : Who) (e : Entry) (E : L
   pub life : life_of earlier who ≡ E
   pub opened : opened_with W earlier who ≡ opened_with W H who
 
-pub none_begun : (b : Option Mark) (mark : Mark) → b ≡ None → mark ≡ begun_with b mark
-none_begun b mark e = ap (λ (o : Option Mark). begun_with o mark) (sym e)
+pub none_begun : (b : Option Stored) (mark : Stored) → b ≡ None → mark ≡ begun_with b mark
+none_begun b mark e = ap (λ (o : Option Stored). begun_with o mark) (sym e)
 
 later_moment : (W : World) (H : List Happened) (h : Happened) (who : Who) (e : Entry) (E : List Entry) → begins_at who h ≡ None → Moment W H who e E → Moment W (h ∷ H) who e E
 later_moment W H h who e E quiet m = record {
@@ -87,7 +88,7 @@ same_head x y xs ys h = cc
 same_tail : (x y : Entry) (xs ys : List Entry) → x ∷ xs ≡ y ∷ ys → xs ≡ ys
 same_tail x y xs ys h = cc
 
-moment_at : (W : World) (H : List Happened) (h : Happened) (who : Who) (later : List Entry) (e : Entry) (E : List Entry) (b : Option Mark) (o : Option Entry)
+moment_at : (W : World) (H : List Happened) (h : Happened) (who : Who) (later : List Entry) (e : Entry) (E : List Entry) (b : Option Stored) (o : Option Entry)
     → begins_at who h ≡ b → entry_at who h ≡ o → since b (with_entry o (life_of H who)) ≡ later ++ e ∷ E
     → ((more : List Entry) → life_of H who ≡ more ++ e ∷ E → Moment W H who e E) → Moment W (h ∷ H) who e E
 moment_at W H h who later e E (Some mark) o begins entry q k = absurd (not_empty later E e q)
@@ -107,7 +108,7 @@ pub then : (W : World) (H : List Happened) (who : Who) (e : Entry) (E : List Ent
 then W H who e E is m = before W m.later (m.h ∷ m.earlier) (subst (IsHistory W) m.stands is)
 
 pub given_then : (W : World) (H : List Happened) (who : Who) (e : Entry) (E : List Entry) → (m : Moment W H who e E) → given_in W m.earlier who ≡ given_in W H who
-given_then W H who e E m = ap (λ (mark : Mark). given_by W who mark) m.opened
+given_then W H who e E m = ap (λ (mark : Stored). given_by W who mark) m.opened
 
 -- ---- what was sent
 

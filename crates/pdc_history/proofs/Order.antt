@@ -4,12 +4,13 @@ use Rattle.std.specs.Prelude.{◌⊎◌}
 use Rattle.std.proofs.lemmas.Option.{none-some, same_Some}
 use Rattle.pdc_cfg.specs.Section.{SectionFields}
 use Rattle.pdc_row.specs.RowView.{RowView}
+use Rattle.pdc_mark.specs.declared.stored.Stored.{Stored}
 use Rattle.pdc_life.specs.Given.{Given, count_for}
 use Rattle.pdc_life.specs.Life.{Entry, section_in_force}
 use Rattle.pdc_life.specs.Run.{IsRun}
 use Rattle.pdc_history.specs.History.{IsHistory, IsMade}
 use Rattle.pdc_history.specs.Marks.{AdoptedCountsNeverFall, MarkBounds}
-use Rattle.pdc_history.specs.World.{Who, Mark, World, Happened, Sends, Comes, PassesBy, Ticks, Publishes, Ends, begins_at, begun_with, entry_at, given_by, given_in, is_same, lead_of, life_of, mark_of, opened_with, reserved, since, with_counts_of, with_entry}
+use Rattle.pdc_history.specs.World.{Who, World, Happened, Sends, Comes, PassesBy, Ticks, Publishes, Ends, begins_at, begun_with, entry_at, given_by, given_in, is_same, lead_of, life_of, mark_of, opened_with, reserved, since, with_counts_of, with_entry}
 use Rattle.pdc_history.specs.Known.{LifeLaws}
 use Rattle.pdc_history.proofs.Lives.{run_in}
 use Rattle.pdc_history.proofs.Made.{cond_none, ticks_is}
@@ -18,7 +19,7 @@ use Rattle.pdc_history.proofs.Moments.{before, none_begun, same_who}
 use Rattle.pdc_history.proofs.Stored.{IsNext, ends_is, raised_keeps, reserved_keeps}
 
 -- a life begins with a mark above the stored one
-pub begins_next : (W : World) (H : List Happened) (who : Who) (h : Happened) (mark : Mark) → IsMade W H h → begins_at who h ≡ Some mark → IsNext (mark_of W H who) mark
+pub begins_next : (W : World) (H : List Happened) (who : Who) (h : Happened) (mark : Stored) → IsMade W H h → begins_at who h ≡ Some mark → IsNext (mark_of W H who) mark
 begins_next W H who (Ends v m) mark made q =
     let r = cond_none (is_same v who) m mark q in
     let is : Ends v m ≡ Ends who mark = λ i. Ends (same_who v who r.0 i) (r.1 i) in
@@ -30,10 +31,10 @@ begins_next W H who (Ticks v e) mark made q = absurd (none-some mark q)
 begins_next W H who (Publishes v row) mark made q = absurd (none-some mark q)
 
 -- counts of marks never fall
-abbrev pub Grows : Mark → Mark → Type 0
+abbrev pub Grows : Stored → Stored → Type 0
 Grows m n = (c : ℕ) → count_for c m.counts ≤ count_for c n.counts
 
-stays : (m : Mark) → Grows m m
+stays : (m : Stored) → Grows m m
 stays m c = omega arith
 
 by_tick : (W : World) (H : List Happened) (who v : Who) (e : Entry) (o : Bool) → (o ≡ true → v ≡ who) → IsMade W H (Ticks v e) → Grows (mark_of W H who) (cond o (with_counts_of e (mark_of W H who)) (mark_of W H who))
@@ -46,7 +47,7 @@ by_publish : (W : World) (H : List Happened) (who : Who) (row : Option RowView) 
 by_publish W H who row true = (reserved_keeps (lead_of W who) row (mark_of W H who)).counts
 by_publish W H who row false = stays (mark_of W H who)
 
-by_end : (W : World) (H : List Happened) (who v : Who) (mark : Mark) (o : Bool) → (o ≡ true → v ≡ who) → IsMade W H (Ends v mark) → Grows (mark_of W H who) (begun_with (cond o (Some mark) None) (mark_of W H who))
+by_end : (W : World) (H : List Happened) (who v : Who) (mark : Stored) (o : Bool) → (o ≡ true → v ≡ who) → IsMade W H (Ends v mark) → Grows (mark_of W H who) (begun_with (cond o (Some mark) None) (mark_of W H who))
 by_end W H who v mark true same made = (ends_is W H who mark (subst (λ (w : Who). IsMade W H (Ends w mark)) (same refl) made)).counts
 by_end W H who v mark false same made = stays (mark_of W H who)
 
@@ -77,8 +78,8 @@ with_more : (o : Option Entry) (more E : List Entry) → with_entry o (more ++ E
 with_more None more E = refl
 with_more (Some e) more E = refl
 
-none_since : (b : Option Mark) (E : List Entry) → b ≡ None → since b E ≡ E
-none_since b E q = ap (λ (o : Option Mark). since o E) q
+none_since : (b : Option Stored) (E : List Entry) → b ≡ None → since b E ≡ E
+none_since b E q = ap (λ (o : Option Stored). since o E) q
 
 same_on : (W : World) (h : Happened) (later H : List Happened) (who : Who) → begins_at who h ≡ None → SameLife W later H who → SameLife W (h ∷ later) H who
 same_on W h later H who q s = record {
@@ -91,25 +92,25 @@ next_on : (W : World) (h : Happened) (later H : List Happened) (who : Who) → b
 next_on W h later H who q n =
     let same : opened_with W (later ++ H) who ≡ begun_with (begins_at who h) (opened_with W (later ++ H) who) = none_begun (begins_at who h) (opened_with W (later ++ H) who) q in
     record {
-      start = subst (λ (m : Mark). (opened_with W H who).start < m.start) same n.start;
-      counts = subst (λ (m : Mark). Grows (mark_of W H who) m) same n.counts;
+      start = subst (λ (m : Stored). (opened_with W H who).start < m.start) same n.start;
+      counts = subst (λ (m : Stored). Grows (mark_of W H who) m) same n.counts;
     }
 
-begins_on : LifeLaws → (W : World) (h : Happened) (later H : List Happened) (who : Who) (mark : Mark) → IsHistory W (h ∷ later ++ H) → begins_at who h ≡ Some mark
+begins_on : LifeLaws → (W : World) (h : Happened) (later H : List Happened) (who : Who) (mark : Stored) → IsHistory W (h ∷ later ++ H) → begins_at who h ≡ Some mark
     → (opened_with W H who).start ≤ (opened_with W (later ++ H) who).start → NextLife W (h ∷ later) H who
 begins_on L W h later H who mark is q low =
     let n : IsNext (mark_of W (later ++ H) who) mark = begins_next W (later ++ H) who h mark is.0 q in
     let b : MarkBounds W (later ++ H) who = marks_bound L W (later ++ H) who is.1 in
     let up : Grows (mark_of W H who) (mark_of W (later ++ H) who) = marks_grow W later H who is.1 in
-    subst (λ (o : Option Mark). ((opened_with W H who).start < (begun_with o (opened_with W (later ++ H) who)).start) × Grows (mark_of W H who) (begun_with o (opened_with W (later ++ H) who)) → NextLife W (h ∷ later) H who) q
+    subst (λ (o : Option Stored). ((opened_with W H who).start < (begun_with o (opened_with W (later ++ H) who)).start) × Grows (mark_of W H who) (begun_with o (opened_with W (later ++ H) who)) → NextLife W (h ∷ later) H who) q
     (λ p. record { start = p.0; counts = p.1 })
     (omega (arith, low, b.start, n.start), λ c. omega (arith, up c, n.counts c))
 
 lows : (W : World) (later H : List Happened) (who : Who) → SameLife W later H who ⊎ NextLife W later H who → (opened_with W H who).start ≤ (opened_with W (later ++ H) who).start
-lows W later H who (inl s) = omega (arith, ap (λ (m : Mark). m.start) s.opened)
+lows W later H who (inl s) = omega (arith, ap (λ (m : Stored). m.start) s.opened)
 lows W later H who (inr n) = omega (arith, n.start)
 
-after_one : LifeLaws → (W : World) (h : Happened) (later H : List Happened) (who : Who) (b : Option Mark) → begins_at who h ≡ b → IsHistory W (h ∷ later ++ H)
+after_one : LifeLaws → (W : World) (h : Happened) (later H : List Happened) (who : Who) (b : Option Stored) → begins_at who h ≡ b → IsHistory W (h ∷ later ++ H)
     → SameLife W later H who ⊎ NextLife W later H who → SameLife W (h ∷ later) H who ⊎ NextLife W (h ∷ later) H who
 after_one L W h later H who None q is (inl s) = inl (same_on W h later H who q s)
 after_one L W h later H who None q is (inr n) = inr (next_on W h later H who q n)

@@ -2,11 +2,12 @@
 use Rattle.std.proofs.Common.{◌≡◌, Bool, true, false, List, [], ◌∷◌, ◌++◌, cond, map, refl, sym, ap, ◌∙◌, Option, Some, None}
 use Rattle.std.proofs.lemmas.List.{append_assoc, append-nil}
 use Rattle.pdc_row.specs.RowView.{RowView}
+use Rattle.pdc_mark.specs.declared.stored.Stored.{Stored}
 use Rattle.pdc_life.specs.Given.{Given}
 use Rattle.pdc_life.specs.Life.{Entry, Pop, popped}
 use Rattle.pdc_history.specs.History.{IsMade}
 use Rattle.pdc_history.specs.Lives.{RowsAreOfLives, rows_of_lives, rows_of_one}
-use Rattle.pdc_history.specs.World.{Who, Mark, World, Happened, PastLife, Sends, Comes, PassesBy, Ticks, Publishes, Ends, ended, given_in, is_same, life_of, past_lives, published, published_at, since, with_entry}
+use Rattle.pdc_history.specs.World.{Who, World, Happened, PastLife, Sends, Comes, PassesBy, Ticks, Publishes, Ends, ended, given_in, is_same, life_of, past_lives, published, published_at, since, with_entry}
 use Rattle.pdc_history.proofs.Lives.{of_one_append}
 use Rattle.pdc_history.proofs.Made.{comes_is, ticks_is}
 
@@ -38,7 +39,7 @@ row_of_one who v (Some r) past E rows false e k =
     ap (λ (b : Bool). rows ++ map (λ (x : Who × RowView). x.1) (cond b ((v, r) ∷ []) [])) e
     ∙ append-nil rows ∙ k
 
-end_of_one : (g : Given) (E : List Entry) (mark : Mark) (past : List PastLife) (rows : List RowView) (b : Bool) → Gives past E rows
+end_of_one : (g : Given) (E : List Entry) (mark : Stored) (past : List PastLife) (rows : List RowView) (b : Bool) → Gives past E rows
     → Gives (ended (cond b (Some mark) None) (record { given = g; life = E }) ++ past) (since (cond b (Some mark) None) E) (rows ++ [])
 end_of_one g E mark past rows true k = ap (λ (rs : List RowView). rs ++ []) k
 end_of_one g E mark past rows false k = append-nil rows ∙ k

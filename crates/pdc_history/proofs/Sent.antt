@@ -8,6 +8,7 @@ use Rattle.pdc_frame.specs.Frame.{Fields, IsFrame}
 use Rattle.pdc_row.specs.RowView.{RowView}
 use Rattle.pdc_output.specs.declared.output.Output.{Output}
 use Rattle.pdc_output.specs.Layout.{layout_fields_of, row_fields, wire_of}
+use Rattle.pdc_mark.specs.declared.stored.Stored.{Stored}
 use Rattle.pdc_life.specs.declared.pmu.Pmu.{Pmu}
 use Rattle.pdc_life.specs.Frames.{IsFramedRow}
 use Rattle.pdc_life.specs.Given.{Given}
@@ -17,7 +18,7 @@ use Rattle.pdc_life.specs.Run.{IsRun}
 use Rattle.pdc_history.specs.History.{IsHistory, IsMade, MaySend}
 use Rattle.pdc_history.specs.Known.{FrameLaws, LifeLaws}
 use Rattle.pdc_history.specs.Marks.{MarkBounds}
-use Rattle.pdc_history.specs.World.{A, B, M, Who, Mark, World, Happened, Sends, Comes, PassesBy, Ticks, Publishes, Ends, given_by, given_in, life_of, opened_with, output_of, sent, sent_at}
+use Rattle.pdc_history.specs.World.{A, B, M, Who, World, Happened, Sends, Comes, PassesBy, Ticks, Publishes, Ends, given_by, given_in, life_of, opened_with, output_of, sent, sent_at}
 use Rattle.pdc_history.proofs.Lists.{element, in_one, not_in_none}
 use Rattle.pdc_history.proofs.Lives.{life_is_life, run_in, run_of, tick_of}
 use Rattle.pdc_history.proofs.Made.{publishes_is, sends_is}
@@ -26,12 +27,12 @@ use Rattle.pdc_history.proofs.Moments.{WasSentAt, before, began, same_who, was_s
 
 -- ---- what a mark gives
 
-pub given_output : (W : World) (who : Who) (mark : Mark) → (given_by W who mark).output ≡ output_of W who
+pub given_output : (W : World) (who : Who) (mark : Stored) → (given_by W who mark).output ≡ output_of W who
 given_output W A mark = refl
 given_output W B mark = refl
 given_output W M mark = refl
 
-pub few_columns : (W : World) (who : Who) (mark : Mark) → (given_by W who mark).columns ≤ 16
+pub few_columns : (W : World) (who : Who) (mark : Stored) → (given_by W who mark).columns ≤ 16
 few_columns W A mark = W.a.settings.few
 few_columns W B mark = W.b.settings.few
 few_columns W M mark = W.m.settings.few

@@ -1,20 +1,22 @@
 -- What marks store never falls.
 use Rattle.std.proofs.Common.{◌≡◌, ℕ, zero, suc, ◌+◌, ◌<◌, ◌≤◌, ◌^◌, Bool, true, false, List, [], ◌∷◌, cond, ltb, refl, sym, subst, arith, rules, Option, Some, None}
 use Rattle.pdc_row.specs.RowView.{RowView}
+use Rattle.pdc_mark.specs.declared.stored.Stored.{Stored}
+use Rattle.pdc_mark.specs.Stored.{with_next_start}
 use Rattle.pdc_life.specs.Answer.{pop_answer, waiting_counts}
 use Rattle.pdc_life.specs.Given.{count_for}
-use Rattle.pdc_history.specs.Event.{Event, Send, Bring, Miss, TickAt, Publish, Stop, StopIn, StopInTick, StopAtStart, happens, started, stored}
+use Rattle.pdc_history.specs.Event.{Event, Send, Bring, Miss, TickAt, Publish, Stop, StopIn, StopInTick, StopAtStart, happens, stored}
 use Rattle.pdc_history.specs.History.{IsMade, MayHappen}
-use Rattle.pdc_history.specs.World.{Who, Mark, World, Happened, Ends, given_in, lead_of, life_of, mark_of, raised, raised_to, reserved}
+use Rattle.pdc_history.specs.World.{Who, World, Happened, Ends, given_in, lead_of, life_of, mark_of, raised, raised_to, reserved}
 
 -- the same start, and nothing lower
-pub record AtLeast (m n : Mark) : Type 0 where
+pub record AtLeast (m n : Stored) : Type 0 where
   pub start : n.start ≡ m.start
   pub floor : m.floor ≤ n.floor
   pub counts : (c : ℕ) → count_for c m.counts ≤ count_for c n.counts
 
 -- a greater start that fits, and nothing lower
-pub record IsNext (m n : Mark) : Type 0 where
+pub record IsNext (m n : Stored) : Type 0 where
   pub start : m.start < n.start
   pub fits : n.start < 2 ^ 32
   pub floor : m.floor ≤ n.floor
@@ -23,25 +25,25 @@ pub record IsNext (m n : Mark) : Type 0 where
 no_less : (n : ℕ) → n ≤ n
 no_less n = omega arith
 
-pub itself : (m : Mark) → AtLeast m m
+pub itself : (m : Stored) → AtLeast m m
 itself m = record { start = refl; floor = no_less m.floor; counts = λ c. no_less (count_for c m.counts) }
 
 -- a publish
-reserves : (lead : ℕ) (r : RowView) (mark : Mark) (b : Bool) → ltb mark.floor r.instant ≡ b → AtLeast mark (cond b (record mark { floor = r.instant + lead }) mark)
+reserves : (lead : ℕ) (r : RowView) (mark : Stored) (b : Bool) → ltb mark.floor r.instant ≡ b → AtLeast mark (cond b (record mark { floor = r.instant + lead }) mark)
 reserves lead r mark true e =
     let above : mark.floor < r.instant = search rules in
     record { start = refl; floor = omega arith; counts = λ c. no_less (count_for c mark.counts) }
 reserves lead r mark false e = itself mark
 
-pub reserved_keeps : (lead : ℕ) (row : Option RowView) (mark : Mark) → AtLeast mark (reserved lead row mark)
+pub reserved_keeps : (lead : ℕ) (row : Option RowView) (mark : Stored) → AtLeast mark (reserved lead row mark)
 reserved_keeps lead None mark = itself mark
 reserved_keeps lead (Some r) mark = reserves lead r mark (ltb mark.floor r.instant) refl
 
-covers : (lead : ℕ) (r : RowView) (mark : Mark) (b : Bool) → ltb mark.floor r.instant ≡ b → r.instant ≤ (cond b (record mark { floor = r.instant + lead }) mark).floor
+covers : (lead : ℕ) (r : RowView) (mark : Stored) (b : Bool) → ltb mark.floor r.instant ≡ b → r.instant ≤ (cond b (record mark { floor = r.instant + lead }) mark).floor
 covers lead r mark true e = omega arith
 covers lead r mark false e = search rules
 
-pub reserved_covers : (lead : ℕ) (r : RowView) (mark : Mark) → r.instant ≤ (reserved lead (Some r) mark).floor
+pub reserved_covers : (lead : ℕ) (r : RowView) (mark : Stored) → r.instant ≤ (reserved lead (Some r) mark).floor
 reserved_covers lead r mark = covers lead r mark (ltb mark.floor r.instant) refl
 
 -- a raise
@@ -59,24 +61,24 @@ raised_keeps W H who = record {
 }
 
 -- a start
-starts : (m n : Mark) → AtLeast m n → n.start + 1 < 2 ^ 32 → IsNext m (started n)
+starts : (m n : Stored) → AtLeast m n → n.start + 1 < 2 ^ 32 → IsNext m (with_next_start n)
 starts m n k fits = record { start = omega (arith, k.start); fits = fits; floor = k.floor; counts = k.counts }
 
-starts_twice : (m : Mark) → m.start + 1 + 1 < 2 ^ 32 → IsNext m (started (started m))
+starts_twice : (m : Stored) → m.start + 1 + 1 < 2 ^ 32 → IsNext m (with_next_start (with_next_start m))
 starts_twice m fits = record { start = omega arith; fits = fits; floor = no_less m.floor; counts = λ c. no_less (count_for c m.counts) }
 
-landed_or_lost : (m n : Mark) (landed : Bool) → AtLeast m n → AtLeast m (cond landed n m)
+landed_or_lost : (m n : Stored) (landed : Bool) → AtLeast m n → AtLeast m (cond landed n m)
 landed_or_lost m n true k = k
 landed_or_lost m n false k = itself m
 
-once_or_twice : (m : Mark) (landed : Bool) → (cond landed (started (started m)) (started m)).start < 2 ^ 32 → IsNext m (cond landed (started (started m)) (started m))
+once_or_twice : (m : Stored) (landed : Bool) → (cond landed (with_next_start (with_next_start m)) (with_next_start m)).start < 2 ^ 32 → IsNext m (cond landed (with_next_start (with_next_start m)) (with_next_start m))
 once_or_twice m true fits = starts_twice m fits
 once_or_twice m false fits = starts m m (itself m) fits
 
-next_here : (W : World) (H : List Happened) (who v : Who) (mark n : Mark) → v ≡ who → mark ≡ n → IsNext (mark_of W H v) n → IsNext (mark_of W H who) mark
+next_here : (W : World) (H : List Happened) (who v : Who) (mark n : Stored) → v ≡ who → mark ≡ n → IsNext (mark_of W H v) n → IsNext (mark_of W H who) mark
 next_here W H who v mark n same is k = subst (λ (w : Who). IsNext (mark_of W H w) mark) same (subst (IsNext (mark_of W H v)) (sym is) k)
 
-ends_of : (W : World) (H : List Happened) (who : Who) (mark : Mark) (event : Event) → MayHappen W H event → Ends who mark ≡ happens W H event → IsNext (mark_of W H who) mark
+ends_of : (W : World) (H : List Happened) (who : Who) (mark : Stored) (event : Event) → MayHappen W H event → Ends who mark ≡ happens W H event → IsNext (mark_of W H who) mark
 ends_of W H who mark (Send other) may q = cc
 ends_of W H who mark (Bring v s bytes arrival) may q = cc
 ends_of W H who mark (Miss v) may q = cc
@@ -84,23 +86,23 @@ ends_of W H who mark (TickAt v now) may q = cc
 ends_of W H who mark (Publish v) may q = cc
 ends_of W H who mark (Stop v) may q =
     let same : v ≡ who = cc in
-    let is : mark ≡ started (mark_of W H v) = cc in
-    next_here W H who v mark (started (mark_of W H v)) same is (starts (mark_of W H v) (mark_of W H v) (itself (mark_of W H v)) may)
+    let is : mark ≡ with_next_start (mark_of W H v) = cc in
+    next_here W H who v mark (with_next_start (mark_of W H v)) same is (starts (mark_of W H v) (mark_of W H v) (itself (mark_of W H v)) may)
 ends_of W H who mark (StopIn v landed) may q =
     let same : v ≡ who = cc in
-    let is : mark ≡ started (cond landed (stored W H v) (mark_of W H v)) = cc in
-    next_here W H who v mark (started (cond landed (stored W H v) (mark_of W H v))) same is
+    let is : mark ≡ with_next_start (cond landed (stored W H v) (mark_of W H v)) = cc in
+    next_here W H who v mark (with_next_start (cond landed (stored W H v) (mark_of W H v))) same is
     (starts (mark_of W H v) (cond landed (stored W H v) (mark_of W H v))
     (landed_or_lost (mark_of W H v) (stored W H v) landed (reserved_keeps (lead_of W v) (pop_answer (life_of H v)) (mark_of W H v))) may)
 ends_of W H who mark (StopInTick v landed) may q =
     let same : v ≡ who = cc in
-    let is : mark ≡ started (cond landed (raised W H v) (mark_of W H v)) = cc in
-    next_here W H who v mark (started (cond landed (raised W H v) (mark_of W H v))) same is
+    let is : mark ≡ with_next_start (cond landed (raised W H v) (mark_of W H v)) = cc in
+    next_here W H who v mark (with_next_start (cond landed (raised W H v) (mark_of W H v))) same is
     (starts (mark_of W H v) (cond landed (raised W H v) (mark_of W H v)) (landed_or_lost (mark_of W H v) (raised W H v) landed (raised_keeps W H v)) may)
 ends_of W H who mark (StopAtStart v landed) may q =
     let same : v ≡ who = cc in
-    let is : mark ≡ cond landed (started (started (mark_of W H v))) (started (mark_of W H v)) = cc in
-    next_here W H who v mark (cond landed (started (started (mark_of W H v))) (started (mark_of W H v))) same is (once_or_twice (mark_of W H v) landed may)
+    let is : mark ≡ cond landed (with_next_start (with_next_start (mark_of W H v))) (with_next_start (mark_of W H v)) = cc in
+    next_here W H who v mark (cond landed (with_next_start (with_next_start (mark_of W H v))) (with_next_start (mark_of W H v))) same is (once_or_twice (mark_of W H v) landed may)
 
-pub ends_is : (W : World) (H : List Happened) (who : Who) (mark : Mark) → IsMade W H (Ends who mark) → IsNext (mark_of W H who) mark
+pub ends_is : (W : World) (H : List Happened) (who : Who) (mark : Stored) → IsMade W H (Ends who mark) → IsNext (mark_of W H who) mark
 ends_is W H who mark made = ends_of W H who mark made.event made.may made.made

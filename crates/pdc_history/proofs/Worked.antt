@@ -7,6 +7,7 @@ use Rattle.pdc_frame.specs.CheckWord.{check_word_of}
 use Rattle.pdc_tag.specs.Nearest.{nearest_of}
 use Rattle.pdc_tag.specs.Tag.{tag_of}
 use Rattle.pdc_row.specs.RowView.{RowView}
+use Rattle.pdc_mark.specs.declared.stored.Stored.{Stored}
 use Rattle.pdc_life.specs.declared.given.WaitKind.{WaitKind}
 use Rattle.pdc_life.specs.declared.given.WaitKind.TheVariants.{Relative, Absolute}
 use Rattle.pdc_life.specs.declared.outcome.Outcome.{Outcome}
@@ -15,16 +16,17 @@ use Rattle.pdc_life.specs.declared.outcome.Refusal.TheVariants.{StaleCount, Late
 use Rattle.pdc_life.specs.Arrival.{Data, Layout}
 use Rattle.pdc_life.specs.Life.{Entry, Arrive}
 use Rattle.pdc_output.specs.Layout.{own_block}
-use Rattle.pdc_block.specs.Block.{bytes_of_words}
+use Rattle.pdc_block.specs.Block.{bytes_of_words, words_in}
 use Rattle.pdc_cfg.specs.Section.{SectionFields}
 use Rattle.pdc_history.specs.Event.{Event, Send, Bring, TickAt, Publish, Stop, StopIn, StopInTick, StopAtStart, history_from}
-use Rattle.pdc_history.specs.World.{A, B, M, Who, World, Mark, Happened, life_of, mark_of, past_lives, published, sent}
-use Rattle.pdc_history.proofs.Vectors.{body_3, body_4, e1, e2, e3, e4, fields_11, fields_12, merger, node, o1, o3, section_11, section_11_two}
+use Rattle.pdc_history.specs.Play.{Answered, Began, Closed, Gave, SentAs, Told, told_of}
+use Rattle.pdc_history.specs.World.{A, B, M, Who, World, Happened, life_of, mark_of, past_lives, published, sent, Sends}
+use Rattle.pdc_history.proofs.Vectors.{body_3, body_4, e1, e2, e3, e4, fields_11, fields_12, merger, node, o1, o3, one_phasor, section_11, section_11_two}
 
 abbrev pub zeros : List ℕ
 zeros = replicate 16 0
 
-abbrev pub new_mark : Mark
+abbrev pub new_mark : Stored
 new_mark = record { start = 1; floor = 0; counts = zeros }
 
 abbrev pub world_of : WaitKind → (lead : ℕ) → World
@@ -85,7 +87,7 @@ one_row = refl
 abbrev pub stopped : List Happened
 stopped = history_from W script (Stop A ∷ [])
 
-abbrev pub mark : (start floor : ℕ) → Mark
+abbrev pub mark : (start floor : ℕ) → Stored
 mark start floor = record { start = start; floor = floor; counts = 1 ∷ 1 ∷ replicate 14 0 }
 
 the_mark : (mark_of W script A ≡ mark 1 57478860001) × (mark_of W stopped A ≡ mark 2 57478860001) × (mark_of W stopped B ≡ new_mark)
@@ -95,7 +97,7 @@ a_new_life : (life_of stopped A ≡ []) × (length (past_lives W stopped A) ≡ 
 a_new_life = (refl, refl)
 
 -- The stop falls into the publish, or into the next start.
-abbrev pub after : List Event → Mark
+abbrev pub after : List Event → Stored
 after events = mark_of W (play W (to_the_tick ++ events)) A
 
 stops : (after (StopIn A true ∷ []) ≡ mark 2 57478860001) × (after (StopIn A false ∷ []) ≡ mark 2 0)
@@ -153,7 +155,7 @@ lower_is_stale = refl
 abbrev pub ahead : World
 ahead = world_of Relative 10
 
-abbrev pub leading : List Event → Mark
+abbrev pub leading : List Event → Stored
 leading events = mark_of ahead (play ahead (to_the_tick ++ Publish A ∷ events)) A
 
 reserves_ahead : leading (Stop A ∷ []) ≡ mark 2 57478860011
@@ -198,3 +200,26 @@ merged_from_both = refl
 
 merged_mark : mark_of W merged M ≡ mark 1 57478860001
 merged_mark = refl
+
+-- What is told of the script, the first first: six frames are sent, 4 and 5 by A itself.
+abbrev pub told : World → List Happened → List Told
+told V [] = []
+told V (h ∷ H) = told V H ++ told_of V H h ∷ []
+
+abbrev pub row_1 : RowView
+row_1 = record {
+  instant = 57478860001;
+  start = 1;
+  change = 1;
+  quality = 0;
+  blocks = record { shape = one_phasor; words = words_in body_3 } ∷ record { shape = one_phasor; words = words_in body_4 } ∷ [];
+}
+
+told_of_the_script : told W stopped
+    ≡ SentAs 0 ∷ SentAs 1 ∷ SentAs 2 ∷ SentAs 3 ∷ Answered Candidate ∷ Answered Candidate ∷ Closed 0 (Some 1) false ∷ Answered Taken ∷ Answered Taken
+    ∷ Closed 1 None false ∷ Gave (Some row_1) ∷ Gave None ∷ Began 2 57478860001 ∷ []
+told_of_the_script = refl
+
+-- The next send is number 6.
+the_next_is_6 : told_of W stopped (Sends e1) ≡ SentAs 6
+the_next_is_6 = refl

@@ -82,7 +82,7 @@ both false b h = absurd (false≢true h)
 is_below : (a b : ℕ) → nat_lt a b ≡ true → a < b
 is_below a b h = search rules
 
-bytes_by_test : (xs : List ℕ) → list_all (λ byte. nat_lt byte 256) xs ≡ true → AreBytes xs
+pub bytes_by_test : (xs : List ℕ) → list_all (λ byte. nat_lt byte 256) xs ≡ true → AreBytes xs
 bytes_by_test [] h i = nothing_there i
   where
     nothing_there : (i : ℕ) → get_or [] i 0 < 256
@@ -91,10 +91,10 @@ bytes_by_test [] h i = nothing_there i
 bytes_by_test (x ∷ xs) h zero = is_below x 256 (both (nat_lt x 256) (list_all (λ byte. nat_lt byte 256) xs) h).0
 bytes_by_test (x ∷ xs) h (suc i) = bytes_by_test xs (both (nat_lt x 256) (list_all (λ byte. nat_lt byte 256) xs) h).1 i
 
-abbrev frame_of : Kind → (id frac : ℕ) → (bytes : List ℕ) → Fields
+abbrev pub frame_of : Kind → (id frac : ℕ) → (bytes : List ℕ) → Fields
 frame_of kind id frac bytes = record { kind = kind; version = 1 + 1; id = id; soc = 1149577200; quality = 0; frac = frac; payload = take (length bytes - 16) (drop 14 bytes) }
 
-fits_of : (kind : Kind) (id frac : ℕ) (bytes : List ℕ) → 0 < id → id < 65535 → frac < 2 ^ 24 → length (take (length bytes - 16) (drop 14 bytes)) + 16 < 2 ^ 16 → list_all (λ byte. nat_lt byte 256) (take (length bytes - 16) (drop 14 bytes)) ≡ true
+pub fits_of : (kind : Kind) (id frac : ℕ) (bytes : List ℕ) → 0 < id → id < 65535 → frac < 2 ^ 24 → length (take (length bytes - 16) (drop 14 bytes)) + 16 < 2 ^ 16 → list_all (λ byte. nat_lt byte 256) (take (length bytes - 16) (drop 14 bytes)) ≡ true
     → Fits (frame_of kind id frac bytes)
 fits_of kind id frac bytes low high few size test = record {
   version = inr refl;
@@ -115,7 +115,7 @@ frame_2 : IsFrame e2 (frame_of Cfg2 12 0 e2)
 unfolding check_word_of
 frame_2 = record { fits = fits_of Cfg2 12 0 e2 (omega arith) (omega arith) (omega arith) (omega arith) refl; spelled = refl }
 
-frame_3 : IsFrame e3 (frame_of DataFrame 11 20000 e3)
+pub frame_3 : IsFrame e3 (frame_of DataFrame 11 20000 e3)
 unfolding check_word_of
 frame_3 = record { fits = fits_of DataFrame 11 20000 e3 (omega arith) (omega arith) (omega arith) (omega arith) refl; spelled = refl }
 
@@ -154,11 +154,11 @@ valid_2 = record {
   source = refl;
 }
 
-the_slot : instant_of 1149577200 20000 1000000 50 ≡ Some 57478860001
+pub the_slot : instant_of 1149577200 20000 1000000 50 ≡ Some 57478860001
 unfolding instant_of slot_of nearest_of
 the_slot = refl
 
-data_3 : FrameLaws → IsData (stream_of W.a.settings pmu_11) e3 57478860001 0 body_3
+pub data_3 : FrameLaws → IsData (stream_of W.a.settings pmu_11) e3 57478860001 0 body_3
 data_3 F = record {
   fields = frame_of DataFrame 11 20000 e3;
   of_stream = record { frame = frame_3; id = refl };

@@ -1,15 +1,16 @@
 -- The blocks of frames that were sent are genuine, so frames agree (this profile).
-use Rattle.std.specs.Prelude.{◌≡◌, ◌≢◌, ℕ, List, Some}
+use Rattle.std.specs.Prelude.{◌≡◌, ◌≢◌, ℕ, List, map, Some}
 use Rattle.std.specs.List.{AllByRecursion, Contains, slice_get}
 use Rattle.pdc_cfg.specs.Section.{SectionFields}
 use Rattle.pdc_row.specs.RowView.{RowView}
 use Rattle.pdc_output.specs.Layout.{row_payload, wire_of}
 use Rattle.pdc_stat.specs.AbsentBlock.{absent_of}
 use Rattle.pdc_life.specs.Arrival.{Stamp}
+use Rattle.pdc_life.specs.Merger.{HeldLayout, held_layout}
 use Rattle.pdc_life.specs.Reading.{IsData}
 use Rattle.pdc_history.specs.Frames.{AreGenuineBlocks, IsCutOf, IsLayoutUnder, SectionWasSent, stream_from}
 use Rattle.pdc_history.specs.History.{IsHistory}
-use Rattle.pdc_history.specs.World.{A, B, M, Who, World, Happened, output_of, published, sent}
+use Rattle.pdc_history.specs.World.{A, B, M, Who, World, Happened, life_of, output_of, published, sent}
 
 -- Under a stamp there is one layout.
 abbrev pub LayoutsAreOne : Type 0
@@ -51,6 +52,16 @@ NodeBlocksAreGenuine = (W : World) (H : List Happened) → IsHistory W H → Has
 
 abbrev pub MergedBlocksAreGenuine : Type 0
 MergedBlocksAreGenuine = (W : World) (H : List Happened) → IsHistory W H → HasGenuineFrames W H M
+
+-- Each layout that the merger holds of a node is the one under its stamp.
+pub record HoldsThoseSent (W : World) (H : List Happened) : Type 0 where
+  pub first :
+      (layout : HeldLayout) → held_layout (life_of H M) 0 ≡ Some layout → IsLayoutUnder W H A layout.stamp (map (λ (part : ℕ × SectionFields). part.1) layout.sections)
+  pub second :
+      (layout : HeldLayout) → held_layout (life_of H M) 1 ≡ Some layout → IsLayoutUnder W H B layout.stamp (map (λ (part : ℕ × SectionFields). part.1) layout.sections)
+
+abbrev pub HeldLayoutsWereSent : Type 0
+HeldLayoutsWereSent = (W : World) (H : List Happened) → IsHistory W H → HoldsThoseSent W H
 
 -- Data of the owner that was sent shows for this instant these words at this section, and they are present.
 pub record Shows (W : World) (H : List Happened) (who : Who) (i : ℕ) (s : SectionFields) (words : List ℕ) : Type 0 where

@@ -10,7 +10,7 @@ use Rattle.pdc_tag.specs.Tag.{tag_of}
 use Rattle.pdc_output.specs.Laws.{OwnSectionsTellStamps}
 use Rattle.pdc_life.specs.Frames.{ChangesFit, ClosedRowsAreFrames, LayoutsOfLivesAreFrames}
 use Rattle.pdc_life.specs.Genuine.{NodeCellsAreData, RowsAreGenuine}
-use Rattle.pdc_life.specs.Laws.{ChangesNeverFall, ChangesRiseByOne, InForceIsCleared, NodeLivesAreRuns, RowsComeOutOnce, RowsRise, SameChangeSameSections}
+use Rattle.pdc_life.specs.Laws.{ChangesNeverFall, ChangesRiseByOne, InForceIsCleared, NodeLivesAreRuns, RowsAreOfTheirTicks, RowsComeOutOnce, RowsRise, SameChangeSameSections}
 use Rattle.pdc_life.specs.MergerData.{MergerCellsAreData}
 use Rattle.pdc_life.specs.MergerLaws.{MergerLivesAreRuns}
 use Rattle.pdc_life.specs.Sections.{CountsNeverFall, InForceHasCome}
@@ -22,6 +22,7 @@ pub record LifeLaws : Type 0 where
   pub merger_runs : MergerLivesAreRuns
   pub rise : RowsRise
   pub out : RowsComeOutOnce
+  pub of_ticks : RowsAreOfTheirTicks
   pub next : NextIsAbove
   pub tags : RowsHaveTags
   pub cleared : InForceIsCleared

@@ -7,5 +7,6 @@ pub mod History
 pub mod Known
 pub mod Lives
 pub mod Marks
+pub mod Play
 pub mod Pmus
 pub mod World

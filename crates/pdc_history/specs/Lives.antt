@@ -6,6 +6,7 @@ use Rattle.pdc_life.specs.Given.{Given}
 use Rattle.pdc_life.specs.Life.{Entry, popped}
 use Rattle.pdc_life.specs.MergerReading.{IsMergerLife}
 use Rattle.pdc_life.specs.Node.{IsNodeLife}
+use Rattle.pdc_life.specs.Row.{row_of}
 use Rattle.pdc_history.specs.History.{IsHistory}
 use Rattle.pdc_history.specs.World.{A, B, M, Who, World, Happened, PastLife, given_in, is_same, life_of, past_lives, published}
 
@@ -36,3 +37,14 @@ abbrev pub RowsAreOfLives : Type 0
 RowsAreOfLives =
     (W : World) (H : List Happened) (who : Who) → IsHistory W H →
     rows_of_one who (published H) ≡ rows_of_lives (past_lives W H who) ++ popped (life_of H who)
+
+-- The row is that of its instant in the life of the core at an earlier moment of this history, before the tick that closed it: so a block
+-- is present in it exactly where data that is present had been taken for its column by then, and was not dropped by an adoption.
+pub record IsRowAt (W : World) (H : List Happened) (r : Who × RowView) : Type 0 where
+  pub later : List Happened
+  pub before : List Happened
+  pub stands : H ≡ later ++ before
+  pub same : r.1 ≡ row_of (given_in W before r.0) (life_of before r.0) r.1.instant
+
+abbrev pub PublishedRowsAreThose : Type 0
+PublishedRowsAreThose = (W : World) (H : List Happened) → IsHistory W H → AllByRecursion (IsRowAt W H) (published H)

@@ -1,6 +1,8 @@
 -- The world of two nodes, a merger and the network between them, as the list of what happened in it, the newest first, each with
 -- what followed from it (this profile). All else is recursion over that list: each definition speaks of what had happened before.
 use Rattle.std.specs.Prelude.{ℕ, ◌+◌, Bool, true, false, List, [], ◌∷◌, ◌++◌, max, nat_lt, if◌then◌else◌, Option, None, Some}
+use Rattle.pdc_mark.specs.declared.stored.Stored.{Stored}
+use Rattle.pdc_mark.specs.Stored.{with_counts, with_floor}
 use Rattle.pdc_row.specs.RowView.{RowView}
 use Rattle.pdc_output.specs.declared.output.Output.{Output}
 use Rattle.pdc_output.specs.Layout.{wire_of}
@@ -26,17 +28,11 @@ is_same B B = true
 is_same M M = true
 is_same v w = false
 
--- what a mark stores: the number of starts, the instant up to which all is published, and for each column a count
-pub record Mark : Type 0 where
-  pub start : ℕ
-  pub floor : ℕ
-  pub counts : List ℕ
-
 -- what a core of the world is: its settings, how far ahead its mark is reserved, and the mark with which its first life begins
 pub record Owner (S : Type 0) : Type 0 where
   pub settings : S
   pub lead : ℕ
-  pub mark : Mark
+  pub mark : Stored
 
 pub record World : Type 0 where
   pub a : Owner Settings
@@ -55,11 +51,11 @@ pub data Happened : Type 0 where
   -- a row was popped and published, if one waited
   Publishes : (who : Who) (row : Option RowView) → Happened
   -- a life ended; the next begins with this mark
-  Ends : (who : Who) (mark : Mark) → Happened
+  Ends : (who : Who) (mark : Stored) → Happened
 
 -- What is fixed.
 
-abbrev pub first_mark : World → Who → Mark
+abbrev pub first_mark : World → Who → Stored
 first_mark W A = W.a.mark
 first_mark W B = W.b.mark
 first_mark W M = W.m.mark
@@ -75,7 +71,7 @@ rules_of B = node_answer
 rules_of M = merged_answer
 
 -- what is given to a life that begins with this mark: its now is 0 until its first tick
-abbrev pub given_by : World → Who → Mark → Given
+abbrev pub given_by : World → Who → Stored → Given
 given_by W A mark = given_of W.a.settings mark.start mark.floor mark.counts 0
 given_by W B mark = given_of W.b.settings mark.start mark.floor mark.counts 0
 given_by W M mark = given_of_merger W.m.settings mark.start mark.floor mark.counts 0
@@ -94,7 +90,7 @@ entry_at who (Ticks w entry) = if is_same w who then Some entry else None
 entry_at who (Publishes w row) = if is_same w who then Some (Pop row) else None
 entry_at who h = None
 
-abbrev pub begins_at : Who → Happened → Option Mark
+abbrev pub begins_at : Who → Happened → Option Stored
 begins_at who (Ends w mark) = if is_same w who then Some mark else None
 begins_at who h = None
 
@@ -102,11 +98,11 @@ abbrev pub with_entry : Option Entry → List Entry → List Entry
 with_entry None E = E
 with_entry (Some entry) E = entry ∷ E
 
-abbrev pub since : Option Mark → List Entry → List Entry
+abbrev pub since : Option Stored → List Entry → List Entry
 since None E = E
 since (Some mark) E = []
 
-abbrev pub begun_with : Option Mark → Mark → Mark
+abbrev pub begun_with : Option Stored → Stored → Stored
 begun_with None mark = mark
 begun_with (Some begun) mark = begun
 
@@ -116,7 +112,7 @@ life_of [] who = []
 life_of (h ∷ H) who = since (begins_at who h) (with_entry (entry_at who h) (life_of H who))
 
 -- The mark with which it began, and what that gives it.
-abbrev pub opened_with : World → List Happened → Who → Mark
+abbrev pub opened_with : World → List Happened → Who → Stored
 opened_with W [] who = first_mark W who
 opened_with W (h ∷ H) who = begun_with (begins_at who h) (opened_with W H who)
 
@@ -128,7 +124,7 @@ pub record PastLife : Type 0 where
   pub given : Given
   pub life : List Entry
 
-abbrev pub ended : Option Mark → PastLife → List PastLife
+abbrev pub ended : Option Stored → PastLife → List PastLife
 ended None past = []
 ended (Some mark) past = past ∷ []
 
@@ -140,9 +136,9 @@ past_lives W (h ∷ H) who = ended (begins_at who h) (record { given = given_in 
 -- Marks.
 
 -- A publish stores the instant and the lead, where the instant is above the floor.
-abbrev pub reserved : (lead : ℕ) → Option RowView → Mark → Mark
+abbrev pub reserved : (lead : ℕ) → Option RowView → Stored → Stored
 reserved lead None mark = mark
-reserved lead (Some row) mark = if nat_lt mark.floor row.instant then record mark { floor = row.instant + lead } else mark
+reserved lead (Some row) mark = if nat_lt mark.floor row.instant then with_floor mark (row.instant + lead) else mark
 
 -- for each column the greater count
 abbrev pub raised_to : List ℕ → List ℕ → List ℕ
@@ -151,23 +147,23 @@ raised_to (n ∷ ns) [] = n ∷ ns
 raised_to (n ∷ ns) (m ∷ ms) = max n m ∷ raised_to ns ms
 
 -- a tick is handed the counts of the mark
-abbrev pub with_counts_of : Entry → Mark → Mark
-with_counts_of (Tick now counts answer) mark = record mark { counts = counts }
+abbrev pub with_counts_of : Entry → Stored → Stored
+with_counts_of (Tick now counts answer) mark = with_counts mark counts
 with_counts_of e mark = mark
 
-abbrev pub mark_after : World → Who → Happened → Mark → Mark
+abbrev pub mark_after : World → Who → Happened → Stored → Stored
 mark_after W who (Ticks w entry) mark = if is_same w who then with_counts_of entry mark else mark
 mark_after W who (Publishes w row) mark = if is_same w who then reserved (lead_of W who) row mark else mark
 mark_after W who h mark = begun_with (begins_at who h) mark
 
 -- The mark that a core has stored.
-abbrev pub mark_of : World → List Happened → Who → Mark
+abbrev pub mark_of : World → List Happened → Who → Stored
 mark_of W [] who = first_mark W who
 mark_of W (h ∷ H) who = mark_after W who h (mark_of W H who)
 
 -- Before a tick the mark is raised to the counts that wait.
-abbrev pub raised : World → List Happened → Who → Mark
-raised W H who = record (mark_of W H who) { counts = raised_to (mark_of W H who).counts (waiting_counts (given_in W H who) (life_of H who)) }
+abbrev pub raised : World → List Happened → Who → Stored
+raised W H who = with_counts (mark_of W H who) (raised_to (mark_of W H who).counts (waiting_counts (given_in W H who) (life_of H who)))
 
 -- What was sent, and what was published.
 

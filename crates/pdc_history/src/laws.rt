@@ -1,9 +1,10 @@
 //! Laws of every history: each is the contract of a function that does nothing but call the laws that it stands on.
 ghost use Rattle.pdc_history.specs.Asked.{AskedIsReadOnce, CausesAreOne, FaultsMayNotHappen, SentMayCome};
-ghost use Rattle.pdc_history.specs.Genuine.{FramesAgree, LayoutsAreOne, MergedBlocksAreGenuine, NodeBlocksAreGenuine, PublishedAgree, PublishedWereSent};
+ghost use Rattle.pdc_history.specs.Genuine.{FramesAgree, HeldLayoutsWereSent, LayoutsAreOne, MergedBlocksAreGenuine, NodeBlocksAreGenuine, PublishedAgree, PublishedWereSent};
 ghost use Rattle.pdc_history.specs.History.{EventsMakeHistories};
-ghost use Rattle.pdc_history.specs.Lives.{LivesAreLives, RowsAreOfLives};
-ghost use Rattle.pdc_history.specs.Marks.{AdoptedCountsNeverFall, InstantsRise, MarksBound};
+ghost use Rattle.pdc_history.specs.Lives.{LivesAreLives, PublishedRowsAreThose, RowsAreOfLives};
+ghost use Rattle.pdc_history.specs.Marks.{AdoptedCountsNeverFall, GreaterIsRaised, InstantsRise, MarksBound, WaitingIsWhole};
+ghost use Rattle.pdc_history.specs.Play.{PlaysAreHistories, PlaysAreOne, StepsAreOne};
 ghost use Rattle.pdc_history.specs.Pmus.{PmusSendOneBody, PmusSendOneSection, PmusSendTheirOwn};
 
 use crate::known::{blocks_are_known, frames_are_known, lives_are_known};
@@ -22,17 +23,28 @@ pub fn asked_is_event_or_fault()
     merger_steps_have_one_life();
 }
 
-/// Events that may happen, each after those before it, make a history.
+/// Events that may happen, each after those before it, make a history. So does what is asked, and there is one such history: what a
+/// world is asked determines all that happens in it.
 pub fn events_make_histories()
-    ensures { EventsMakeHistories }
-{}
+    ensures events { EventsMakeHistories }
+    ensures asked { PlaysAreHistories }
+    ensures one_step { StepsAreOne }
+    ensures one_history { PlaysAreOne }
+{
+    frames_are_known();
+    bytes_are_read_in_one_way();
+    merger_steps_have_one_life();
+}
 
 /// In every history lives are lives, the present ones and those that ended; and what a core published are the rows that its lives
-/// gave.
+/// gave, each the row of its instant in the life of an earlier moment.
 pub fn lives_are_lives()
     ensures lives { LivesAreLives }
     ensures rows { RowsAreOfLives }
-{}
+    ensures moments { PublishedRowsAreThose }
+{
+    lives_are_known();
+}
 
 /// Marks bound what was published and adopted. So no life adopts a count below one that an earlier life of the same owner adopted.
 pub fn marks_bound_lives()
@@ -41,6 +53,12 @@ pub fn marks_bound_lives()
 {
     lives_are_known();
 }
+
+/// A mark is raised before a tick to the greater of its counts and of those that wait, of which there are 16.
+pub fn greater_is_raised()
+    ensures raised { GreaterIsRaised }
+    ensures waiting { WaitingIsWhole }
+{}
 
 /// Over all lives of one owner the instants published strictly rise.
 pub fn instants_rise()
@@ -80,9 +98,11 @@ pub fn node_blocks_are_genuine()
     blocks_are_known();
 }
 
-/// The same of the merger, whatever its restarts and those of the nodes forgot.
+/// The same of the merger, whatever its restarts and those of the nodes forgot: the layouts that it holds of the nodes are those under
+/// their stamps.
 pub fn merged_blocks_are_genuine()
-    ensures { MergedBlocksAreGenuine }
+    ensures held { HeldLayoutsWereSent }
+    ensures genuine { MergedBlocksAreGenuine }
 {
     lives_are_known();
     frames_are_known();

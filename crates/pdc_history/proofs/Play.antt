@@ -1,0 +1,24 @@
+-- What is asked of a world determines its history.
+use Rattle.std.proofs.Common.{◌≡◌, [], ◌∷◌, sym, ap, subst, ◌∙◌}
+use Rattle.pdc_life.specs.MergerLaws.{MergerReadsOnce}
+use Rattle.pdc_life.specs.OneLife.{NodeReadsOnce}
+use Rattle.pdc_history.specs.Event.{happens}
+use Rattle.pdc_history.specs.History.{IsHistory}
+use Rattle.pdc_history.specs.Known.{FrameLaws}
+use Rattle.pdc_history.specs.Play.{IsPlayOf, PlaysAreHistories, PlaysAreOne, StepsAreOne}
+use Rattle.pdc_history.specs.World.{Happened}
+use Rattle.pdc_history.proofs.Asked.{asked_is_read_once}
+
+pub steps_are_one : FrameLaws → NodeReadsOnce → MergerReadsOnce → StepsAreOne
+steps_are_one F N R W H asked a b x y = x.made ∙ ap (happens W H) (asked_is_read_once F N R W H asked x.event y.event x.read y.read) ∙ sym y.made
+
+pub plays_are_one : FrameLaws → NodeReadsOnce → MergerReadsOnce → PlaysAreOne
+plays_are_one F N R W H [] a b x y = x ∙ sym y
+plays_are_one F N R W H (asked ∷ more) a b x y =
+    let same : x.0 ≡ y.0 = steps_are_one F N R W H asked x.0 y.0 x.1 y.1 in
+    plays_are_one F N R W (y.0 ∷ H) more a b (subst (λ (h : Happened). IsPlayOf W (h ∷ H) more a) same x.2) y.2
+
+pub plays_are_histories : PlaysAreHistories
+plays_are_histories W H [] after is x = subst (IsHistory W) (sym x) is
+plays_are_histories W H (asked ∷ more) after is x =
+    plays_are_histories W (x.0 ∷ H) more after (record { event = x.1.event; may = x.1.may; made = x.1.made }, is) x.2
