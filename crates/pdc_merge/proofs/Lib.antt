@@ -2,3 +2,4 @@ mod Placed
 mod ByLayout
 mod Fitting
 mod Lives
+mod Worked
