@@ -2,3 +2,4 @@ mod Placed
 mod ByLayout
 mod Lives
 mod Passed
+mod Worked

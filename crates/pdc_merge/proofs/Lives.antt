@@ -1,17 +1,16 @@
 -- The merger stands for the life with one step more.
-use Rattle.std.proofs.Common.{◌≡◌, ℕ, zero, suc, ◌+◌, ◌<◌, Bool, true, false, cond, eqb, List, [], ◌∷◌, length, map, refl, sym, ◌∙◌, ap, subst, arith, None, Some}
+use Rattle.std.proofs.Common.{◌≡◌, ℕ, zero, suc, ◌+◌, ◌<◌, Bool, true, false, cond, eqb, List, [], ◌∷◌, length, map, refl, sym, ◌∙◌, ap, subst, arith, Some}
 use Rattle.std.specs.Prelude.{option_map}
-use Rattle.std.specs.List.{AllByRecursion, slice_get}
-use Rattle.std.proofs.lemmas.Option.{slice_get_within}
+use Rattle.std.specs.List.{AllByRecursion}
 use Rattle.pdc_cfg.specs.Section.{SectionFields}
 use Rattle.pdc_row.specs.Rising.{Rises}
 use Rattle.pdc_life.specs.declared.merging.MergerSettings.{MergerSettings}
-use Rattle.pdc_life.specs.Arrival.{Arrival, BytesRefused, Data, Layout, Stamp}
+use Rattle.pdc_life.specs.Arrival.{Arrival, Layout, Stamp}
 use Rattle.pdc_life.specs.Given.{Given}
 use Rattle.pdc_life.specs.Life.{Answer, Arrive, Entry, is_candidate}
 use Rattle.pdc_life.specs.Merger.{HeldLayout, held_layout, merged_answer}
 use Rattle.pdc_life.specs.MergerLaws.{MergerLivesAreRuns}
-use Rattle.pdc_life.specs.MergerReading.{IsMergerLife, ReadsForMerger, given_of_merger, nodes_of}
+use Rattle.pdc_life.specs.MergerReading.{IsMergerLife, ReadsForMerger, given_of_merger}
 use Rattle.pdc_life.specs.Run.{IsRun}
 use Rattle.pdc_align.specs.Align.{HasSizes, KeepsSizes, State}
 use Rattle.pdc_align.specs.Align as align
