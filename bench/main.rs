@@ -2,6 +2,7 @@
 //!
 //! Each line is the median of several turns that take the two in alternation; both must give the same answer.
 
+mod cores;
 mod plain;
 mod tables;
 
@@ -19,6 +20,7 @@ mod ours {
         pub fn dagluwis_table_fill(window: u64, rounds: u32) -> u64;
         pub fn dagluwis_ring_steady(window: u64, behind: u64, instants: u32) -> u64;
         pub fn dagluwis_ring_fill(window: u64, rounds: u32) -> u64;
+        pub fn dagluwis_node(text: *const u8, text_len: usize, configs: *const u8, configs_len: usize, data: *const u8, data_len: usize, floor: u64) -> u64;
         pub fn dagluwis_write_data(bytes: *const u8, len: usize, phasors: u8, analogs: u8, digitals: u8, rounds: u32) -> u64;
     }
 }
@@ -91,10 +93,18 @@ fn plain_write_data(bytes: &[u8], shape: plain::Shape, rounds: u32) -> u64 {
 }
 
 /// A frame of this kind, version 2, of stream 11.
+const SOC: u32 = 0x4485_27F0;
+
 fn frame(kind: u8, payload: &[u8]) -> Vec<u8> {
+    frame_of(kind, 11, SOC, 0x4E20, payload)
+}
+
+fn frame_of(kind: u8, id: u16, soc: u32, frac: u32, payload: &[u8]) -> Vec<u8> {
     let mut bytes = vec![0xAA, 16 * kind + 2];
     bytes.extend_from_slice(&((payload.len() + 16) as u16).to_be_bytes());
-    bytes.extend_from_slice(&[0, 11, 0x44, 0x85, 0x27, 0xF0, 0, 0, 0x4E, 0x20]);
+    bytes.extend_from_slice(&id.to_be_bytes());
+    bytes.extend_from_slice(&soc.to_be_bytes());
+    bytes.extend_from_slice(&frac.to_be_bytes());
     bytes.extend_from_slice(payload);
     let check = plain::check_word(&bytes);
     bytes.extend_from_slice(&check.to_be_bytes());
@@ -102,15 +112,19 @@ fn frame(kind: u8, payload: &[u8]) -> Vec<u8> {
 }
 
 fn config_frame(shape: plain::Shape) -> Vec<u8> {
+    frame(3, &config_payload(shape, 11))
+}
+
+fn config_payload(shape: plain::Shape, source: u8) -> Vec<u8> {
     let (p, a, d) = (usize::from(shape.phasors), usize::from(shape.analogs), usize::from(shape.digitals));
     let mut payload = TIME_BASE.to_be_bytes().to_vec();
     payload.extend_from_slice(&[0, 1]);
     payload.extend_from_slice(b"PMU 11          ");
-    payload.extend_from_slice(&[0, 11, 0, 0, 0, shape.phasors, 0, shape.analogs, 0, shape.digitals]);
+    payload.extend_from_slice(&[0, source, 0, 0, 0, shape.phasors, 0, shape.analogs, 0, shape.digitals]);
     payload.extend(std::iter::repeat(b' ').take(16 * (p + a + 16 * d)));
     payload.extend(std::iter::repeat(1).take(4 * (p + a + d)));
     payload.extend_from_slice(&[0, 1, 0, 1, 0, RATE as u8]);
-    frame(3, &payload)
+    payload
 }
 
 fn data_frame(shape: plain::Shape) -> Vec<u8> {
@@ -217,6 +231,59 @@ fn tables() {
     }
 }
 
+/// What a node of 16 PMUs is told.
+fn settings_text(window: u64) -> String {
+    let mut text = format!(
+        "id = 201\nrate = {RATE}\nnominal = 50\ntime_base = {TIME_BASE}\nwait = 2\nwindow = {window}\nahead = 32\nlayout_every = 50\nout_port = 4713\nsession_port = 4712\n"
+    );
+    for id in 1..=16 {
+        text += &format!("[[pmu]]\nstream = {id}\ntime_base = {TIME_BASE}\nport = {}\n", 5000 + id);
+    }
+    text
+}
+
+/// The datagrams of so many instants behind the first of a second: for each one of each of 16 PMUs.
+fn datagrams(shape: plain::Shape, instants: u32) -> Vec<u8> {
+    let words = shape.word_count();
+    let mut data = Vec::new();
+    for instant in 1..=instants {
+        for id in 1..=16u16 {
+            let payload: Vec<u8> = (0..2 * words).map(|i| (i as u32 * 37 + instant * 11 + u32::from(id)) as u8).collect();
+            data.extend(frame_of(0, id, SOC + instant / RATE, instant % RATE * (TIME_BASE / RATE), &payload));
+        }
+    }
+    data
+}
+
+/// A node of 16 PMUs, from datagrams to published frames.
+fn nodes() {
+    println!("\n| a node of 16 PMUs, from datagram to published frame | window | ours, ns a datagram | plain Rust, ns | ours, thousand datagrams/s | plain, thousand/s | ratio ours / plain |");
+    println!("|---|---:|---:|---:|---:|---:|---:|");
+    for (phasors, analogs, digitals) in [(1, 0, 0), (8, 4, 1)] {
+        let shape = plain::Shape { phasors, analogs, digitals };
+        let instants = 2_048;
+        let configs: Vec<u8> = (1..=16).flat_map(|id| frame_of(3, u16::from(id), SOC, 0, &config_payload(shape, id))).collect();
+        let data = datagrams(shape, instants);
+        let len = 16 + 2 * shape.word_count();
+        let floor = u64::from(SOC) * u64::from(RATE);
+        for window in [8u64, 64, 256] {
+            let text = settings_text(window);
+            let turn = 4 * 16 * instants;
+            let (ours, plain) = measure(
+                turn,
+                &mut |_| each(4, || unsafe { ours::dagluwis_node(text.as_ptr(), text.len(), configs.as_ptr(), configs.len(), black_box(data.as_ptr()), data.len(), floor) }),
+                &mut |_| each(4, || cores::run(RATE, TIME_BASE, window, &configs, black_box(&data), len, floor)),
+            );
+            println!(
+                "| {phasors}/{analogs}/{digitals} | {window} | {ours:.1} | {plain:.1} | {:.0} | {:.0} | {:.2} |",
+                1e6 / ours,
+                1e6 / plain,
+                plain / ours
+            );
+        }
+    }
+}
+
 fn main() {
     println!("| path | shape | ours, ns a frame | plain Rust, ns | ours, million frames/s | plain, million/s | ratio ours / plain |");
     println!("|---|---|---:|---:|---:|---:|---:|");
@@ -265,4 +332,5 @@ fn main() {
         ));
     }
     tables();
+    nodes();
 }

@@ -257,6 +257,15 @@ impl Block {
         Block { shape, words, len: from.len() }
     }
 
+    /// The words of a body, read once.
+    pub fn from_body(body: &Body) -> Block {
+        let mut words = [0; 107];
+        for (word, pair) in words.iter_mut().zip(body.bytes.chunks_exact(2)) {
+            *word = u16::from_be_bytes([pair[0], pair[1]]);
+        }
+        Block { shape: body.shape, words, len: body.bytes.len() / 2 }
+    }
+
     pub fn words(&self) -> &[u16] {
         &self.words[..self.len]
     }
@@ -311,7 +320,7 @@ pub fn read_body(shape: Shape, payload: &[u8]) -> Result<Body<'_>, Fault> {
     Ok(Body { shape, bytes: payload })
 }
 
-fn begin(kind: u8, id: u16, soc: u32, fracsec: u32, payload_len: usize, out: &mut Vec<u8>) {
+pub fn begin(kind: u8, id: u16, soc: u32, fracsec: u32, payload_len: usize, out: &mut Vec<u8>) {
     out.reserve(payload_len + 16);
     out.extend_from_slice(&[0xAA, 16 * kind + 2]);
     out.extend_from_slice(&((payload_len + 16) as u16).to_be_bytes());
@@ -320,7 +329,7 @@ fn begin(kind: u8, id: u16, soc: u32, fracsec: u32, payload_len: usize, out: &mu
     out.extend_from_slice(&fracsec.to_be_bytes());
 }
 
-fn end(start: usize, out: &mut Vec<u8>) {
+pub fn end(start: usize, out: &mut Vec<u8>) {
     let check = check_word(&out[start..]);
     out.extend_from_slice(&check.to_be_bytes());
 }

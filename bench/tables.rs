@@ -167,6 +167,17 @@ pub struct RingTable {
     last: u64,
 }
 
+impl RingTable {
+    /// All up to this instant is closed.
+    pub fn begin_above(&mut self, floor: u64) {
+        self.last = floor;
+    }
+
+    pub fn last(&self) -> u64 {
+        self.last
+    }
+}
+
 impl Table for RingTable {
     fn new(window: u64) -> Self {
         RingTable {

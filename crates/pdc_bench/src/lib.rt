@@ -3,6 +3,7 @@
 //! Each call does the work and gives a number that depends on all of it, so that no compiler leaves any out.
 #![tactic(auto)]
 
+mod cores;
 mod reading;
 mod table;
 mod writing;

@@ -74,8 +74,7 @@ impl Block {
         ensures words { words_of self.new ≡ words.now }
     {
         self.shape = shape;
-        self.words = ArrayVec::new();
-        self.words.try_extend_from_slice(words).unwrap();
+        set_words(&mut self.words, words);
     }
 
     /// The words in wire order.
@@ -85,5 +84,18 @@ impl Block {
         ensures count { length result.now ≡ word_count_of self.now.shape }
     {
         self.words.as_slice()
+    }
+}
+
+/// Makes these the words of a block. Where there were as many before, they are written over.
+fn set_words(kept: &mut ArrayVec<u16, MAX_WORDS>, words: &[u16])
+    requires { length words.now ≤ MAX_WORDS }
+    ensures { kept.new.items ≡ words.now }
+{
+    if kept.len() == words.len() {
+        kept.as_mut_slice().copy_from_slice(words);
+    } else {
+        *kept = ArrayVec::new();
+        kept.try_extend_from_slice(words).unwrap();
     }
 }
