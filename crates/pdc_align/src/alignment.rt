@@ -4,7 +4,7 @@ ghost use Rattle.std.specs.List.{All};
 ghost use Rattle.pdc_cfg.specs.Section.{fields_of_view};
 ghost use Rattle.pdc_output.specs.declared.output.Output.{Output};
 ghost use Rattle.pdc_row.specs.RowView.{row_view};
-ghost use Rattle.pdc_table.specs.Content.{HasSizesOf, IsContent, IsPut};
+ghost use Rattle.pdc_table.specs.Content.{IsContent, IsPut};
 ghost use Rattle.pdc_table.specs.Layout.{layout_view};
 ghost use Rattle.pdc_table.specs.Steps as table;
 ghost use Rattle.pdc_table.specs.Taking.{cells_of};
@@ -17,10 +17,11 @@ ghost use Rattle.pdc_life.specs.Given.{Given};
 ghost use Rattle.pdc_life.specs.Life.{Arrive, Entry, Pop, Tick, changes, held_section, section_in_force};
 ghost use Rattle.pdc_life.specs.Run.{IsRun};
 ghost use Rattle.pdc_life.specs.declared.outcome.Outcome.TheVariants.{Candidate};
-ghost use Rattle.pdc_state.specs.State.{after_adoption, after_adoptions, row_layout_of, rule_of};
+ghost use Rattle.pdc_state.specs.State.{row_layout_of, rule_of};
 ghost use Rattle.pdc_align.specs.Align.{HasSizes, KeepsSizes, StandsFor, given_by, new_change, ticked_of};
 ghost use Rattle.pdc_align.specs.Calls.{after_data, after_adopting, disagreements_at, after_closing, after_tick_of, column_in, told_at, after_hold, after_pop_of, first_content, first_of_plan, put_outcome, row_layout_in, waiting_in};
 
+use crate::adopting::adopt_in;
 use crate::{Column, Plan, Ticked, columns};
 use pdc_block::Block;
 use pdc_cfg::SectionView;
@@ -111,42 +112,6 @@ fn rule_of(kind: WaitKind, wait: u64, now: u64) -> WaitRule
         WaitKind::Relative => WaitRule::Ticks(wait),
         WaitKind::Absolute if wait <= now => WaitRule::Until(Some(now - wait)),
         WaitKind::Absolute => WaitRule::Until(None),
-    }
-}
-
-/// Adopts the columns in the table, one after the other: with one lane the column's stream is waited for, and what was taken of it
-/// is dropped; with two the cells of the column are.
-fn adopt_in<T: Table>(table: &mut T, lanes: usize, columns: &[usize])
-    requires lanes { lanes ≡ (T.content table.old).lanes }
-    requires columns { All (λ (column : ℕ). column < (T.content table.old).columns) columns.now }
-    requires well_formed { IsContent (T.content table.old) }
-    ensures content { T.content table.new ≡ after_adoptions (T.content table.old) columns.now }
-    ensures sizes { HasSizesOf (T.content table.old) (T.content table.new) }
-    ensures memory { T.memory table.new ≡ T.memory table.old }
-    ensures disagreements { T.disagreements table.new ≡ T.disagreements table.old }
-    ensures well_formed { IsContent (T.content table.new) }
-{
-    for column in columns {
-        adopt_one(table, lanes, *column);
-    }
-}
-
-/// Adopts one column in the table.
-fn adopt_one<T: Table>(table: &mut T, lanes: usize, column: usize)
-    requires lanes { lanes ≡ (T.content table.old).lanes }
-    requires column { column < (T.content table.old).columns }
-    requires well_formed { IsContent (T.content table.old) }
-    ensures content { T.content table.new ≡ after_adoption (T.content table.old) column }
-    ensures sizes { HasSizesOf (T.content table.old) (T.content table.new) }
-    ensures memory { T.memory table.new ≡ T.memory table.old }
-    ensures disagreements { T.disagreements table.new ≡ T.disagreements table.old }
-    ensures well_formed { IsContent (T.content table.new) }
-{
-    if lanes == 1 {
-        table.require(column, true);
-        table.drop_stream(column);
-    } else {
-        table.drop_column(column);
     }
 }
 

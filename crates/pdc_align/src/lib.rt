@@ -8,6 +8,7 @@
 //! then stands for the run with that step more.
 #![tactic(auto)]
 
+mod adopting;
 mod alignment;
 mod column;
 mod columns;
