@@ -2,8 +2,8 @@
 
 use crate::Played;
 use std::alloc::Global;
-use std::process::ExitCode;
 use std::io;
+use std::process::ExitCode;
 use std::rt::Files;
 
 /// Who plays scripts, by the name of the player.

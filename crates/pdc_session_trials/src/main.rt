@@ -43,5 +43,10 @@ impl Stage for Trials {
 fn main(rt: HostRuntime) -> io::Result<ExitCode> {
     let alloc = rt.alloc();
     let words: Vec<String> = std::env::args(&rt)?.collect(alloc)?;
-    play_all(&rt, alloc, words.as_slice().get(1..).unwrap_or(&[]), &mut Trials)
+    play_all(
+        &rt,
+        alloc,
+        words.as_slice().get(1..).unwrap_or(&[]),
+        &mut Trials,
+    )
 }

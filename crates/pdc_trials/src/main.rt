@@ -72,5 +72,10 @@ fn main(rt: HostRuntime) -> io::Result<ExitCode> {
     let mut trials = Trials {
         frames: Frames::new(alloc),
     };
-    play_all(&rt, alloc, words.as_slice().get(1..).unwrap_or(&[]), &mut trials)
+    play_all(
+        &rt,
+        alloc,
+        words.as_slice().get(1..).unwrap_or(&[]),
+        &mut trials,
+    )
 }
