@@ -1,0 +1,21 @@
+//! A station of the world: a core with its mark, over all its lives (this profile).
+//!
+//! The first type to look at is [`Station`]: it hears, ticks and publishes as the present life of its core does, and raises its mark
+//! before each tick and each publish that needs it. A stop ends the life, and the station goes on with the next one, which begins
+//! with what the mark then stores ([`Opens`]).
+//!
+//! To the layers above this crate promises that each call leaves the life and the mark that the definitions of the world have: a
+//! tick is handed the counts of the raised mark, and a row goes out only once its instant is stored.
+#![tactic(auto)]
+
+mod copies;
+mod fault;
+mod next_row;
+mod opens;
+mod station;
+mod stops;
+mod stores;
+
+pub use fault::StopFault;
+pub use opens::Opens;
+pub use station::Station;

@@ -1,0 +1,90 @@
+//! The stores of a station's mark, whose device never fails.
+ghost use Rattle.std.specs.Prelude.{◌≡◌, ◌+◌, ◌*◌, ◌<◌, ◌≤◌, IfNone, IfSome, if◌then◌else◌};
+ghost use Rattle.pdc_history.specs.World.{raised_to};
+ghost use Rattle.pdc_mark.specs.Counts.{IsRaise};
+ghost use Rattle.pdc_mark.specs.Stored.{with_counts, with_next_start};
+ghost use Rattle.pdc_station.specs.Station.{with_instant, with_waiting};
+ghost use Rattle.pdc_tag.specs.declared.limits.TheConstants.{MAX_RATE, SECONDS};
+
+use pdc_life::MAX_PMUS;
+use pdc_mark::{Store, raised};
+
+/// The greater of each two counts, where that differs from the first ones.
+pub(crate) fn raised_counts(
+    counts: &[u16; MAX_PMUS],
+    waiting: &[u16; MAX_PMUS],
+) -> Option<[u16; MAX_PMUS]>
+    ensures raise { IfSome result (IsRaise counts.now) }
+    ensures greater { IfSome result (λ greater. greater ≡ raised_to counts.now waiting.now) }
+    ensures same { IfNone result (counts.now ≡ raised_to counts.now waiting.now) }
+{
+    raised(counts, waiting)
+}
+
+/// Stores counts that were raised.
+fn store_counts<M: Store>(mark: &mut M, counts: &[u16; MAX_PMUS])
+    requires { IsRaise (M.stored mark.old).counts counts.now }
+    ensures { M.stored mark.new ≡ with_counts (M.stored mark.old) counts.now }
+{
+    mark.raise(counts).unwrap();
+}
+
+/// Raises the mark to the counts that wait, where one of them is greater.
+pub(crate) fn raise_to<M: Store>(mark: &mut M, waiting: &[u16; MAX_PMUS])
+    ensures { M.stored mark.new ≡ with_waiting waiting.now (M.stored mark.old) }
+{
+    if let Some(counts) = raised_counts(&mark.counts(), waiting) {
+        store_counts(mark, &counts);
+    }
+}
+
+/// Stores the floor that the instant needs: itself and the instants reserved behind it, where it is above the floor.
+pub(crate) fn reserve_for<M: Store>(mark: &mut M, instant: u64, lead: u16)
+    requires { instant < SECONDS * MAX_RATE }
+    ensures stored { M.stored mark.new ≡ with_instant lead instant (M.stored mark.old) }
+    ensures covered { instant ≤ (M.stored mark.new).floor }
+{
+    let (_, floor) = mark.stored();
+    if floor < instant {
+        mark.reserve(instant + u64::from(lead)).unwrap();
+    }
+}
+
+/// Stores the next start number, of which one is left.
+pub(crate) fn begin_next<M: Store>(mark: &mut M)
+    requires { (M.stored mark.old).start < u32.MAX }
+    ensures { M.stored mark.new ≡ with_next_start (M.stored mark.old) }
+{
+    let _start = mark.begin().unwrap();
+}
+
+/// The counts after a stop in the raise to the counts that wait, which landed or not.
+pub(crate) fn counts_after<M: Store>(
+    mark: &M,
+    waiting: &[u16; MAX_PMUS],
+    landed: bool,
+) -> [u16; MAX_PMUS]
+    ensures { result ≡ (if landed then raised_to (M.stored mark.now).counts waiting.now else (M.stored mark.now).counts) }
+{
+    let counts = mark.counts();
+    if !landed {
+        return counts;
+    }
+    match raised_counts(&counts, waiting) {
+        Some(greater) => greater,
+        None => counts,
+    }
+}
+
+/// A stop in the raise to the counts that wait, which landed or not; where nothing is to be raised, a stop between stores.
+pub(crate) fn stop_in_raise<M: Store>(mark: &mut M, waiting: &[u16; MAX_PMUS], landed: bool)
+    ensures start { (M.stored mark.new).start ≡ (M.stored mark.old).start }
+    ensures floor { (M.stored mark.new).floor ≡ (M.stored mark.old).floor }
+    ensures counts { (M.stored mark.new).counts
+        ≡ (if landed then raised_to (M.stored mark.old).counts waiting.now else (M.stored mark.old).counts) }
+{
+    match raised_counts(&mark.counts(), waiting) {
+        Some(greater) => mark.raise_stopped(&greater, landed),
+        None => mark.stopped(),
+    }
+}
