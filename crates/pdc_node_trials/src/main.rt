@@ -1,10 +1,11 @@
 //! Plays scripts of lives on nodes with a publisher, and complains of each line whose answer is not the wanted one.
 //!
 //! The arguments are pairs: who plays, and the script. `names` reads the frames that scripts call by name; `ring` and `sorted` play
-//! on a node over either table. `pdc_script` tells how a script is written.
+//! on a node over either table, `steps` on one that is handed arrivals, ticks and pops as steps. `pdc_script` tells how a script is written.
 #![tactic(auto)]
 
 mod node_player;
+mod steps;
 mod widest;
 
 use node_player::NodePlayer;
@@ -34,6 +35,10 @@ impl Stage for Trials {
             "ring" => {
                 let mut node = NodePlayer::<RingTable>::new(alloc, &self.frames)?;
                 play_script(rt, alloc, script, &mut node)
+            }
+            "steps" => {
+                let node = NodePlayer::<RingTable>::new(alloc, &self.frames)?;
+                play_script(rt, alloc, script, &mut node.by_steps())
             }
             "sorted" => {
                 let mut node = NodePlayer::<SortedTable>::new(alloc, &self.frames)?;

@@ -19,7 +19,7 @@
 ghost use Rattle.std.specs.Prelude.{◌≡◌, IfSome, length};
 ghost use Rattle.pdc_publisher.specs.Publisher.{output_in};
 
-use crate::widest;
+use crate::{steps, widest};
 use pdc_align::Ticked;
 use pdc_life::{MAX_PMUS, Outcome, Settings, WaitKind};
 use pdc_mark::ModelMark;
@@ -36,6 +36,8 @@ use std::alloc::{AllocError, Global};
 #[derive(Drop)]
 pub struct NodePlayer<'a, T: Table> {
     node: Node<T>,
+    /// Arrivals, ticks and pops are handed to it as steps.
+    by_steps: bool,
     columns: usize,
     output: Output,
     publisher: Publisher<ModelMark>,
@@ -70,6 +72,13 @@ impl<'a, T: Table> NodePlayer<'a, T> {
         )
     }
 
+    /// The same, which hands each arrival, tick and pop to the node as a step.
+    pub fn by_steps(self) -> NodePlayer<'a, T> {
+        let mut player = self;
+        player.by_steps = true;
+        player
+    }
+
     /// With a node of these settings and opening counts.
     fn opened(
         alloc: Global,
@@ -81,6 +90,7 @@ impl<'a, T: Table> NodePlayer<'a, T> {
         let node = Node::open(alloc, settings, 1, 0, counts, 0)?;
         Ok(NodePlayer {
             node,
+            by_steps: false,
             columns,
             output,
             publisher: Publisher::new(ModelMark::new(1, 0), output, 0),
@@ -103,7 +113,9 @@ impl<'a, T: Table> NodePlayer<'a, T> {
         let Some(counts) = opening_counts(more) else {
             return "no such life".to_string(alloc);
         };
+        let by_steps = self.by_steps;
         *self = NodePlayer::opened(alloc, self.frames, settings, &counts)?;
+        self.by_steps = by_steps;
         "ok".to_string(alloc)
     }
 
@@ -112,7 +124,9 @@ impl<'a, T: Table> NodePlayer<'a, T> {
         let Some(settings) = widest::settings(alloc)? else {
             return "no such life".to_string(alloc);
         };
+        let by_steps = self.by_steps;
         *self = NodePlayer::opened(alloc, self.frames, settings, &[0; MAX_PMUS])?;
+        self.by_steps = by_steps;
         "ok".to_string(alloc)
     }
 
@@ -165,7 +179,12 @@ impl<'a, T: Table> NodePlayer<'a, T> {
         if stream >= self.columns {
             return "no such stream".to_string(alloc);
         }
-        format!(in alloc; "{:?}", self.node.put_datagram(stream, bytes))
+        let outcome = if self.by_steps {
+            steps::arrive(alloc, &mut self.node, stream, bytes)?
+        } else {
+            self.node.put_datagram(stream, bytes)
+        };
+        format!(in alloc; "{outcome:?}")
     }
 
     /// A tick that hands in these counts, or those that wait.
@@ -176,7 +195,11 @@ impl<'a, T: Table> NodePlayer<'a, T> {
         } else {
             counts_of(counts)?
         };
-        Some(self.node.tick(now, &counts))
+        Some(if self.by_steps {
+            steps::tick(&mut self.node, now, counts)
+        } else {
+            self.node.tick(now, &counts)
+        })
     }
 
     /// The counts that wait, one for each PMU.
@@ -192,7 +215,12 @@ impl<'a, T: Table> NodePlayer<'a, T> {
 
     /// Takes the row out that waits, and publishes it.
     fn pop(&mut self, alloc: Global) -> Result<String, AllocError> {
-        let Some(row) = self.node.pop_due() else {
+        let due = if self.by_steps {
+            steps::pop(&mut self.node)
+        } else {
+            self.node.pop_due()
+        };
+        let Some(row) = due else {
             return "none".to_string(alloc);
         };
         let end = SECONDS * u64::from(self.output.rate);

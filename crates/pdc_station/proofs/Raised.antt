@@ -1,5 +1,5 @@
 -- The greater of each two counts.
-use Rattle.std.proofs.Common.{◌≡◌, ℕ, zero, suc, ◌≤◌, List, [], ◌∷◌, length, max, slice_index, Option, None, Some, IfSome, IfNone, refl, sym, ap, ◌∙◌, arith}
+use Rattle.std.proofs.Common.{◌≡◌, ℕ, suc, ◌≤◌, List, [], ◌∷◌, length, max, slice_index, Option, None, Some, IfSome, IfNone, refl, sym, ap, ◌∙◌, arith}
 use Rattle.std.proofs.Math.Nat.{max-eq_left}
 use Rattle.pdc_history.specs.World.{raised_to}
 use Rattle.pdc_mark.specs.Counts.{IsGreater}

@@ -26,3 +26,8 @@ wire_of_some output (Some row) = wire_of output row
 -- of its own, so it is said in this way.
 abbrev pub IsOfSomeLife : (Given → List Entry → Type 0) → Type 0
 IsOfSomeLife Stands = ((g : Given) (E : List Entry) → Stands g E → ⊥) → ⊥
+
+-- the floor after a reservation for the row, if there is one
+abbrev pub floor_with : (lead : ℕ) → Option RowView → (floor : ℕ) → ℕ
+floor_with lead None floor = floor
+floor_with lead (Some row) floor = if nat_lt floor row.instant then row.instant + lead else floor

@@ -6,7 +6,7 @@ ghost use Rattle.pdc_life.specs.Life.{Entry};
 ghost use Rattle.pdc_output.specs.declared.row_frame.TheConstants.{MAX_ROW_LEN};
 ghost use Rattle.pdc_row.specs.RowView.{row_view};
 ghost use Rattle.pdc_station.specs.Station.{IsOfSomeLife, wire_of_some};
-ghost use Rattle.pdc_tag.specs.declared.limits.TheConstants.{SECONDS};
+ghost use Rattle.pdc_tag.specs.declared.limits.TheConstants.{MAX_RATE, SECONDS};
 
 use crate::opens::Opens;
 use pdc_frame::Buffer;
@@ -19,6 +19,7 @@ pub(crate) fn next_row<C: Opens>(core: &mut C) -> (Output, Option<DueRow>)
     ensures output { (g : Given) (E : List Entry) → C.stands_for core.old g E → result.0 ≡ g.output }
     ensures answer { (g : Given) (E : List Entry) → C.stands_for core.old g E → option_map row_view result.1 ≡ pop_answer E }
     ensures tagged { IfSome result.1 (λ row. row.instant < SECONDS * result.0.rate) }
+    ensures below { IfSome result.1 (λ row. row.instant < SECONDS * MAX_RATE) }
     ensures stands { (g : Given) (E : List Entry) → C.stands_for core.old g E → C.stands_for core.new g (answered C.rules g E ToPop ∷ E) }
     ensures settings { C.settings_of core.new ≡ C.settings_of core.old }
 {
