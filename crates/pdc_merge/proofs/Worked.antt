@@ -7,7 +7,7 @@ use Rattle.pdc_life.specs.Life.{Arrive, Entry, Pop}
 use Rattle.pdc_life.specs.declared.outcome.Outcome.TheVariants.{Candidate, Refused}
 use Rattle.pdc_life.specs.declared.outcome.Refusal.TheVariants.{OldStamp, OtherStamp, WrongLength}
 use Rattle.pdc_merge.specs.Cells.{data_refusal}
-use Rattle.pdc_merge.specs.Fits.{rise_within}
+use Rattle.pdc_core.specs.Fits.{are_placed}
 use Rattle.pdc_merge.specs.Held.{LayoutView, held_section_of, layouts_of}
 
 -- the layout of a node that adopted nothing: its stamp is (1, 1)
@@ -41,8 +41,8 @@ held : (s : SectionFields)
 held s = refl
 
 -- the columns 0 and 1 rise within 2, and 1 and 0 do not
-rising : (s : SectionFields) → rise_within 0 2 ((0, s) ∷ (1, s) ∷ []) ≡ true
+rising : (s : SectionFields) → are_placed 2 0 ((0, s) ∷ (1, s) ∷ []) ≡ true
 rising s = refl
 
-falling : (s : SectionFields) → rise_within 0 2 ((1, s) ∷ (0, s) ∷ []) ≡ false
+falling : (s : SectionFields) → are_placed 2 0 ((1, s) ∷ (0, s) ∷ []) ≡ false
 falling s = refl

@@ -1,1 +1,2 @@
+mod Published
 mod Raised

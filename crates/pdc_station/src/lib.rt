@@ -10,6 +10,7 @@
 
 mod copies;
 mod fault;
+mod laws;
 mod next_row;
 mod opens;
 mod station;
@@ -17,5 +18,6 @@ mod stops;
 mod stores;
 
 pub use fault::StopFault;
+pub use laws::rows_are_published;
 pub use opens::Opens;
 pub use station::Station;

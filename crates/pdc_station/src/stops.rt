@@ -1,7 +1,6 @@
 //! Stops of a station: its life ends, and the next one begins with what the mark then stores. It is opened before anything is stored,
 //! so a stop that is refused changes nothing.
 ghost use Rattle.std.specs.Prelude.{◌≡◌, ◌+◌, ◌<◌, ◌↔◌, [], ◌∷◌, IfOk, IsErrOf, List, OnErr, OnOk, false, if◌then◌else◌, true};
-
 ghost use Rattle.pdc_history.specs.World.{reserved};
 ghost use Rattle.pdc_life.specs.Answer.{ToPop, answered, pop_answer, waiting_counts};
 ghost use Rattle.pdc_life.specs.Given.{Given};
