@@ -59,9 +59,9 @@ pub rest_later : (last : ℕ) (closed : List RowView) (ms : List ℕ) (row : Row
 rest_later last [] ms row e r b = absurd (none-some row (sym e))
 rest_later last (first ∷ rows) ms row e r b =
     subst (λ (n : RowView). (n.instant ≤ last) × AreLater n.instant rows) (sym (same_Some row first e)) (omega (arith, b.0), rows_later first.instant rows (front first.instant rows ms r.1)) where
-  front : (low : ℕ) (rows : List RowView) (ms : List ℕ) → Rises low (row_instants rows ++ ms) → Rises low (row_instants rows)
-  front low [] ms r = tt
-  front low (row ∷ rows) ms r = (r.0, front row.instant rows ms r.1)
+      front : (low : ℕ) (rows : List RowView) (ms : List ℕ) → Rises low (row_instants rows ++ ms) → Rises low (row_instants rows)
+      front low [] ms r = tt
+      front low (row ∷ rows) ms r = (r.0, front row.instant rows ms r.1)
 
 pub popped_rest : (c new : Content) (row : RowView) → Some row ≡ pop_answer c → new ≡ after_pop c → IsContent c → IsPoppedTo row.instant new
 popped_rest c new row a e h =
