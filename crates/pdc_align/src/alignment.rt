@@ -417,9 +417,11 @@ impl<T: Table> Alignment<T> {
         ensures rises { IfSome result (λ row. self.old.popped < row.instant) }
         ensures popped { self.new.popped ≡ popped_after (option_map row_view result) self.old.popped }
     {
-        let row = self.table.pop_due()?;
-        self.popped = row.instant;
-        Some(row)
+        let row = self.table.pop_due();
+        if let Some(row) = &row {
+            self.popped = row.instant;
+        }
+        row
     }
 
     /// The instant of the first row that waits.
