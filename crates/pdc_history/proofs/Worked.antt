@@ -21,7 +21,8 @@ use Rattle.pdc_cfg.specs.Section.{SectionFields}
 use Rattle.pdc_history.specs.Event.{Event, Send, Bring, TickAt, Publish, Stop, StopIn, StopInTick, StopAtStart, history_from}
 use Rattle.pdc_history.specs.Play.{Answered, Began, Closed, Gave, SentAs, Told, told_of}
 use Rattle.pdc_history.specs.World.{A, B, M, Who, World, Happened, life_of, mark_of, past_lives, published, sent, Sends}
-use Rattle.pdc_history.proofs.Vectors.{body_3, body_4, e1, e2, e3, e4, fields_11, fields_12, merger, node, o1, o3, one_phasor, section_11, section_11_two}
+use Rattle.pdc_life.specs.Vectors.{body_3, body_4, e1, e2, e3, e4, o1, o3, section_11, section_11_two}
+use Rattle.pdc_history.proofs.Vectors.{fields_11, fields_12, merger, node, one_phasor}
 
 abbrev pub zeros : List ℕ
 zeros = replicate 16 0

@@ -10,7 +10,8 @@ use Rattle.pdc_history.specs.Event as events
 use Rattle.pdc_history.specs.History.{MayHappen}
 use Rattle.pdc_history.specs.World.{A, Sends, World}
 use Rattle.pdc_history.specs.Known.{FrameLaws}
-use Rattle.pdc_history.proofs.Vectors.{body_3, e3, merger, node, pmu_11}
+use Rattle.pdc_life.specs.Vectors.{body_3, e3}
+use Rattle.pdc_history.proofs.Vectors.{merger, node, pmu_11}
 use Rattle.pdc_history.proofs.Worked.{W, new_mark, script, zeros}
 use Rattle.pdc_history.proofs.WorkedHistory.{bytes_by_test, data_3, the_slot}
 

@@ -24,7 +24,8 @@ use Rattle.pdc_history.specs.History.{EventsMakeHistories, IsHistory, MayAllHapp
 use Rattle.pdc_history.specs.Known.{FrameLaws}
 use Rattle.pdc_history.specs.World.{A, B, M, Who, Happened, Sends, first_mark, is_same, output_of}
 use Rattle.pdc_history.proofs.Lists.{element, not_in_none}
-use Rattle.pdc_history.proofs.Vectors.{body_3, body_4, e1, e2, e3, e4, fields_11, fields_12, pmu_11, pmu_12, section_11, section_12}
+use Rattle.pdc_life.specs.Vectors.{body_3, body_4, e1, e2, e3, e4, section_11, section_12}
+use Rattle.pdc_history.proofs.Vectors.{fields_11, fields_12, pmu_11, pmu_12}
 use Rattle.pdc_history.proofs.Worked.{W, data_11, sends, tick, to_11, to_12, to_the_tick}
 
 -- ---- the settings agree

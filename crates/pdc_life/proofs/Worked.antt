@@ -17,7 +17,8 @@ use Rattle.pdc_life.specs.Life.{Entry, Arrive, Tick, changes, open_instants, pop
 use Rattle.pdc_life.specs.Answer.{ReadStep, ToArrive, ToTick, ToPop, life_from, waiting_counts}
 use Rattle.pdc_life.specs.Published.{layout_wire, published}
 use Rattle.pdc_life.specs.Node.{node_answer}
-use Rattle.pdc_life.proofs.Vectors.{body_3, body_4, body_absent, body_other, e1, e2, e3, e4, fields_11, fields_12, o1, o2, output, section_11, section_11_other, section_11_two}
+use Rattle.pdc_life.specs.Vectors.{body_3, body_4, body_absent, body_other, e1, e2, e3, e4, o1, o2, section_11, section_11_other, section_11_two}
+use Rattle.pdc_life.proofs.Vectors.{fields_11, fields_12, output}
 
 -- node 201 with the PMUs 11 and 12: wait 2, ahead 32
 abbrev pub given : (kind : WaitKind) → (window : ℕ) → (counts : List ℕ) → Given

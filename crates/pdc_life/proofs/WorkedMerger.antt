@@ -20,7 +20,8 @@ use Rattle.pdc_life.specs.Answer.{ReadStep, ToArrive, ToPop, ToTick, life_from, 
 use Rattle.pdc_output.specs.Layout.{own_block}
 use Rattle.pdc_life.specs.Published.{published}
 use Rattle.pdc_life.specs.Merger.{merged_answer}
-use Rattle.pdc_life.proofs.Vectors.{body_3, body_4, body_absent, body_other, e1, e3, fields_11, fields_12, o3, output, section_11, section_11_two}
+use Rattle.pdc_life.specs.Vectors.{body_3, body_4, body_absent, body_other, e1, e3, o3, section_11, section_11_two}
+use Rattle.pdc_life.proofs.Vectors.{fields_11, fields_12, output}
 use Rattle.pdc_life.proofs.Worked.{adoptions, answers, tick_at, zeros}
 
 -- merger 301 with the sources 11 and 12: wait 2, ahead 32, window 64

@@ -11,7 +11,8 @@ use Rattle.pdc_life.specs.Given.{Given}
 use Rattle.pdc_life.specs.Arrival.{Layout}
 use Rattle.pdc_life.specs.Life.{Entry, popped}
 use Rattle.pdc_life.specs.Answer.{ReadStep, ToArrive, ToPop}
-use Rattle.pdc_life.proofs.Vectors.{body_3, body_4, body_absent, e13, fields_13, output, section_11}
+use Rattle.pdc_life.specs.Vectors.{body_3, body_4, body_absent, e13, section_11}
+use Rattle.pdc_life.proofs.Vectors.{fields_13, output}
 use Rattle.pdc_life.proofs.Worked.{after, answers, begun, data_of, instants, layout_11, layout_12, tick_at, wide, zeros}
 
 -- Data of both for 57478860002 and then for 57478860001: one tick closes both, and the lower comes out first. What comes

@@ -23,4 +23,5 @@ pub mod Row
 pub mod Run
 pub mod Sections
 pub mod Tagged
+pub mod Vectors
 pub mod Views
