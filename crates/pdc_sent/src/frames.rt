@@ -20,7 +20,7 @@ pub(crate) struct Frames {
 }
 
 impl Model for Frames {
-    ghost use Rattle.std.specs.Prelude.{◌-◌, vec_capacity, vec_len};
+    ghost use Rattle.std.specs.Prelude.{◌-◌, length, vec_capacity, vec_len};
     ghost use Rattle.std.specs.List.{All};
     ghost use Rattle.pdc_sent.specs.Frames.{FramesView, IsWithin, frames_in};
 
@@ -32,7 +32,7 @@ impl Model for Frames {
       room = vec_capacity f.bytes - vec_len f.bytes;
     } };
 
-    ghost invariant = { λ f. All (IsWithin (vec_len f.bytes)) f.places.items };
+    ghost invariant = { λ f. All (IsWithin (length f.bytes.items)) f.places.items };
 }
 
 impl Frames {

@@ -92,6 +92,7 @@ impl Sent {
         ensures ok { OnOk result (self.new ≡ record self.old { has_room = true }) }
         ensures err { OnErr result (self.new ≡ self.old) }
         ensures room { IsTrue self.old.has_room → IsOk result }
+        ensures full { OnErr result (self.old.has_room ≡ false) }
     {
         if self.has_room {
             return Ok(());

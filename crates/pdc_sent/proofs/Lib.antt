@@ -1,0 +1,6 @@
+pub mod Descent
+pub mod Keeping
+pub mod Pieces
+pub mod Streams
+pub mod Tellings
+pub mod Worlds
