@@ -1,5 +1,5 @@
 -- One number more in a bucket, and the way down a bucket.
-use Rattle.std.proofs.Common.{◌≡◌, ℕ, rules, suc, ◌+◌, ◌<◌, ◌≤◌, List, [], ◌∷◌, ◌++◌, length, get_or, arith, refl, sym, ap, subst, ◌∙◌, inl, inr, Some, None, Option}
+use Rattle.std.proofs.Common.{◌≡◌, ℕ, suc, ◌+◌, ◌<◌, ◌≤◌, List, [], ◌∷◌, ◌++◌, length, length-append, get_or, arith, refl, sym, ap, subst, ◌∙◌, inl, inr, Some, None, Option}
 use Rattle.std.specs.Prelude.{◌≢◌, ◌⊎◌, slice_set, slice_index_or}
 use Rattle.std.proofs.Math.ListN.{get_or-append}
 use Rattle.std.proofs.Math.Seq.{get_or-append_seam}
@@ -133,7 +133,7 @@ chains_push lasts entries e low before are = record {
 }
   where
     one_more : (entries : List Entry) (e : Entry) → length (entries ++ e ∷ []) ≡ length entries + 1
-    one_more entries e = search rules
+    one_more entries e = length-append entries (e ∷ [])
 
 pub no_chains : (lasts : List (Option ℕ)) → ((b : ℕ) → b < length lasts → get_or lasts b None ≡ None) → AreChains lasts []
 no_chains lasts none = record {

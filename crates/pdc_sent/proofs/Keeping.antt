@@ -1,5 +1,5 @@
 -- A frame that a PMU may send fits into the index, and so does a frame of none.
-use Rattle.std.proofs.Common.{◌≡◌, ℕ, suc, ◌+◌, ◌<◌, ◌≤◌, List, [], ◌∷◌, ◌++◌, length, get_or, arith, rules, refl, sym, ap, subst, ◌∙◌, inl, inr, Option, Some, None, map}
+use Rattle.std.proofs.Common.{◌≡◌, ℕ, suc, ◌+◌, ◌<◌, ◌≤◌, List, [], ◌∷◌, ◌++◌, length, length-append, get_or, arith, refl, sym, ap, subst, ◌∙◌, inl, inr, Option, Some, None, map}
 use Rattle.std.specs.Prelude.{◌≢◌, ◌⊎◌}
 use Rattle.std.specs.List.{Contains, slice_get}
 use Rattle.std.proofs.Math.ListN.{get_or-append}
@@ -131,7 +131,7 @@ here_or_below : (n m : ℕ) → n < m + 1 → (n ≡ m) ⊎ (n < m)
 here_or_below n m h = elim (cases_order n m) [ inl e ↦ inl e | inr (inl l) ↦ inr l | inr (inr g) ↦ absurd (omega (arith, h, g)) ]
 
 one_longer : {X : Type 0} → (xs : List X) (x : X) → length (xs ++ x ∷ []) ≡ length xs + 1
-one_longer xs x = search rules
+one_longer xs x = length-append xs (x ∷ [])
 
 pub indexed_push : (settings : Settings) (F : List (List ℕ)) (K : List ℕ) (bytes : List ℕ) (bucket : ℕ) → IsIndexed settings F K → Fits settings F bytes bucket → IsIndexed settings (F ++ bytes ∷ []) (K ++ bucket ∷ [])
 indexed_push settings F K bytes bucket is fits = record {

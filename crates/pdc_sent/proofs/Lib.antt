@@ -1,5 +1,6 @@
 pub mod Descent
 pub mod Keeping
+pub mod Lookups
 pub mod Pieces
 pub mod Streams
 pub mod Tellings

@@ -1,7 +1,7 @@
 -- One frame more behind the others.
-use Rattle.std.proofs.Common.{◌≡◌, ℕ, ◌+◌, ◌-◌, ◌<◌, ◌≤◌, List, [], ◌∷◌, ◌++◌, length, take, drop, get_or, arith, rules, refl, sym, ap, ap₂, subst, ◌∙◌, length-drop}
+use Rattle.std.proofs.Common.{◌≡◌, ℕ, ◌+◌, ◌-◌, ◌<◌, ◌≤◌, List, [], ◌∷◌, ◌++◌, length, take, drop, get_or, arith, refl, sym, ap, ap₂, subst, ◌∙◌, length-drop}
 use Rattle.std.specs.List.{All, slice_range}
-use Rattle.std.proofs.Math.Seq.{drop-append_seam}
+use Rattle.std.proofs.Math.Seq.{drop-append_seam, take-length}
 use Rattle.std.proofs.lemmas.List.{drop-append-le, take-append-le, map-append}
 use Rattle.std.proofs.lemmas.List.Elements.{All-head, All-push, All-tail, All-weaker}
 use Rattle.pdc_sent.specs.declared.frames.Place.{Place}
@@ -20,13 +20,10 @@ frames_kept B bytes (place ∷ places) all =
     ap₂ (λ (x : List ℕ) (xs : List (List ℕ)). x ∷ xs) (frame_kept B bytes place (All-head (IsWithin (length B)) place places all))
     (frames_kept B bytes places (All-tail (IsWithin (length B)) place places all))
 
-take_all : (xs : List ℕ) → take (length xs) xs ≡ xs
-take_all xs = search rules
-
 frame_new : (B bytes : List ℕ) (place : Place) → place.start ≡ length B → place.end ≡ length B + length bytes → frame_at (B ++ bytes) place ≡ bytes
 frame_new B bytes place s e =
     let len : place.end - place.start ≡ length bytes = omega (arith, s, e) in
-    ap₂ (λ (n : ℕ) (m : ℕ). take n (drop m (B ++ bytes))) len s ∙ ap (take (length bytes)) (drop-append_seam B bytes) ∙ take_all bytes
+    ap₂ (λ (n : ℕ) (m : ℕ). take n (drop m (B ++ bytes))) len s ∙ ap (take (length bytes)) (drop-append_seam B bytes) ∙ take-length bytes
 
 pub frames_push : (B bytes : List ℕ) (places : List Place) (place : Place) → All (IsWithin (length B)) places → place.start ≡ length B → place.end ≡ length B + length bytes
     → frames_in (B ++ bytes) (places ++ place ∷ []) ≡ frames_in B places ++ bytes ∷ []

@@ -60,7 +60,7 @@ pmu_of_stream settings p q x y a b same =
 
 -- what tells something of a PMU is a frame of it
 pub told_of_stream : (settings : Settings) (pmu : Pmu) (bytes : List ℕ) (key : Key) (x : List ℕ) → Tells settings pmu bytes key x → (f : Fields) × IsOfStream (stream_of settings pmu) bytes f
-told_of_stream settings pmu bytes (Instant i) x tells = (tells.data.fields, tells.data.of_stream)
+told_of_stream settings pmu bytes (Instant i) x tells = (tells.is_data.fields, tells.is_data.of_stream)
 told_of_stream settings pmu bytes (Count n) x tells = (tells.valid.base.has.fields, tells.valid.base.has.of_stream)
 
 -- bytes are a frame in one way

@@ -26,7 +26,7 @@ may_send W H bytes may = record {
   pmu = may.pmu;
   of_pmu = of_pmu W may.p may.pmu bytes may.of_pmu;
   one_body = λ other i q r payload body among a b.
-    may.one other (Instant i) payload body among (record { quality = q; data = a }) (record { quality = r; data = b });
+    may.one other (Instant i) payload body among (record { quality = q; is_data = a }) (record { quality = r; is_data = b });
   one_section = λ other s t among a b same.
     may.one other (Count t.count) s.bytes t.bytes among (record { section = s; valid = a; same_count = same; same_bytes = refl })
     (record { section = t; valid = b; same_count = refl; same_bytes = refl });
@@ -43,12 +43,12 @@ other_body W H bytes i has = record {
   instant = i;
   quality = has.tells.quality;
   payload = has.content;
-  is_data = has.tells.data;
+  is_data = has.tells.is_data;
   other = has.other;
   among = has.among;
   its_quality = has.was.quality;
   its_payload = has.its_content;
-  was = has.was.data;
+  was = has.was.is_data;
   differs = has.differs;
 }
 

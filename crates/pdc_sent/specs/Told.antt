@@ -13,7 +13,7 @@ use Rattle.pdc_sent.specs.declared.told.Told.{Told as ToldData}
 -- the bytes are data of the PMU for this instant, with this body
 pub record TellsBody (settings : Settings) (pmu : Pmu) (bytes : List ℕ) (instant : ℕ) (content : List ℕ) : Type 0 where
   pub quality : ℕ
-  pub data : IsData (stream_of settings pmu) bytes instant quality content
+  pub is_data : IsData (stream_of settings pmu) bytes instant quality content
 
 -- the bytes are a valid configuration of the PMU with this count, whose section has these bytes
 pub record TellsSection (settings : Settings) (pmu : Pmu) (bytes : List ℕ) (count : ℕ) (content : List ℕ) : Type 0 where

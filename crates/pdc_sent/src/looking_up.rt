@@ -18,7 +18,8 @@ pub(crate) fn has_frame(frames: &Frames, by_check: &Chains, bytes: &[u8]) -> boo
     requires buckets { by_check.now.buckets ≡ BUCKETS }
     ensures { IsTrue result ↔ Contains frames.now.frames bytes.now }
 {
-    let mut next = by_check.last(bucket_of(bytes));
+    let bucket = bucket_of(bytes);
+    let mut next = by_check.last(bucket);
     while let Some(number) = next {
         if frames.at(number) == bytes {
             return true;
@@ -35,7 +36,8 @@ pub(crate) fn content_told<'a>(settings: &Settings, pmu: &Pmu, frames: &'a Frame
     ensures { (p : ℕ) → slice_get settings.now.pmus.items p ≡ Some pmu.now →
         MatchOption result (HasToldNothing settings.now frames.now.frames pmu.now key) (λ content. HasTold settings.now frames.now.frames pmu.now key content.now) }
 {
-    let mut next = by_key.last(bucket_under(pmu.stream, key));
+    let bucket = bucket_under(pmu.stream, key);
+    let mut next = by_key.last(bucket);
     while let Some(number) = next {
         let content = content_under(settings, pmu, key, frames.at(number));
         if content.is_some() {
