@@ -1,4 +1,4 @@
-use Rattle.std.proofs.Common.{◌≡◌, ℕ, List, [], get_or, sym, subst, ap, ◌∙◌, Option, Some, None, true, false}
+use Rattle.std.proofs.Common.{◌≡◌, ℕ, List, [], get_or, sym, subst, ap, ◌∙◌, Option, Some, None, true, false, refl}
 use Rattle.std.specs.Prelude.{◌≢◌}
 use Rattle.std.specs.Cmp.Lexicographic.{other_text, same_text}
 use Rattle.std.proofs.lemmas.Bool.{false≢true}
@@ -10,17 +10,19 @@ use Rattle.pdc_sent.proofs.looking_up.has_frame.Goals as goal
 
 pub returns-then-eq : goal.returns-then-eq
 returns-then-eq c =
-    let a = c.if-eq.ensures in
-    let b = c.if-eq.true in
-    let d = c.eq.ensures in ?
+    (λ yes. is_among c.args.frames.now.frames c.in-Some.number c.at.result.now c.args.bytes.now c.at.ensures (same_text c.at.result.now c.args.bytes.now c.if-eq.ensures), λ among. refl)
 
 pub loop-next-preserved : goal.loop-next-preserved
 loop-next-preserved c =
-    let a = c.if-eq.ensures in
-    let b = c.if-eq.false in
-    let is = c.in-Some.is in ?
+    let P : ℕ → Type 0 = λ n. get_or c.args.frames.now.frames n [] ≢ c.args.bytes.now in
+    let here : P c.in-Some.number = λ e.
+    other_text c.at.result.now c.args.bytes.now c.if-eq.ensures (sym (get_or_from_slice_get c.args.frames.now.frames c.in-Some.number c.at.result.now [] c.at.ensures) ∙ e) in
+    pass_on c.args.by_check.now.keys c.bucket_of-bucket.result c.in-Some.number P c.before-next.result
+    (subst (HavePassed c.args.by_check.now.keys c.bucket_of-bucket.result P) c.in-Some.is c.loop-next.invariant) here c.before-next.ensures
 
 pub returns : goal.returns
 returns c =
-    let d = c.in_default.is in
-    let e = c.in_default.not-Some in ?
+    let P : ℕ → Type 0 = λ n. get_or c.args.frames.now.frames n [] ≢ c.args.bytes.now in
+    (λ no. absurd (false≢true no),
+    λ among. absurd (is_not_among c.args.frames.now.frames c.args.by_check.now.keys c.bucket_of-bucket.result c.args.bytes.now c.requires.keys c.bucket_of-bucket.ensures.bucket
+    (subst (HavePassed c.args.by_check.now.keys c.bucket_of-bucket.result P) c.in_default.is c.loop-next.invariant) among))
