@@ -1,10 +1,10 @@
 -- One number more in a bucket, and the way down a bucket.
-use Rattle.std.proofs.Common.{◌≡◌, ℕ, suc, ◌+◌, ◌<◌, ◌≤◌, List, [], ◌∷◌, ◌++◌, length, length-append, get_or, arith, refl, sym, ap, subst, ◌∙◌, inl, inr, Some, None, Option}
-use Rattle.std.specs.Prelude.{◌≢◌, ◌⊎◌, slice_set, slice_index_or}
+use Rattle.std.proofs.Common.{◌≡◌, ℕ, suc, ◌+◌, ◌<◌, ◌≤◌, List, [], ◌∷◌, ◌++◌, length, length-append, get_or, arith, sym, ap, subst, ◌∙◌, inl, inr, Some, None, Option}
+use Rattle.std.specs.Prelude.{◌≢◌, ◌⊎◌, slice_set}
 use Rattle.std.proofs.Math.ListN.{get_or-append}
 use Rattle.std.proofs.Math.Seq.{get_or-append_seam}
 use Rattle.std.proofs.lemmas.Bool.{cases_order}
-use Rattle.std.proofs.lemmas.List.{get_or-map, get_or-set_other, get_or-set_same, length-set, map-append, length-map}
+use Rattle.std.proofs.lemmas.List.{get_or-set_other, get_or-set_same, length-set, map-append, length-map}
 use Rattle.pdc_sent.specs.declared.chains.Entry.{Entry}
 use Rattle.pdc_sent.specs.Chains.{AreChains, HavePassed, IsLastBelow, keys_of}
 
@@ -28,9 +28,11 @@ last_of_other : (K : List ℕ) (k b : ℕ) (o : Option ℕ) → k ≢ b → IsLa
 last_of_other K k b None ne none = λ n l e.
     elim (below_or_here n (length K) l) [ inl at ↦ not_at_end K k b n ne at e | inr u ↦ none n u (sym (kept K k n u) ∙ e) ]
 last_of_other K k b (Some m) ne is =
-    let lt : m < length K = is.0 in
-    (omega (arith, lt), kept K k m lt ∙ is.1,
-    λ n v l e. elim (below_or_here n (length K) l) [ inl at ↦ not_at_end K k b n ne at e | inr u ↦ is.2 n v u (sym (kept K k n u) ∙ e) ])
+    let lt : m < length K = is.0 in (
+      omega (arith, lt),
+      kept K k m lt ∙ is.1,
+      λ n v l e. elim (below_or_here n (length K) l) [ inl at ↦ not_at_end K k b n ne at e | inr u ↦ is.2 n v u (sym (kept K k n u) ∙ e) ],
+    )
 
 last_of_same : (K : List ℕ) (k : ℕ) → IsLastBelow (K ++ k ∷ []) k (length K + 1) (Some (length K))
 last_of_same K k = (omega arith, get_or-append_seam K k [] 0, λ n v l e. absurd (omega (arith, v, l)))
@@ -44,19 +46,21 @@ pass_first K b P (Some m) is = (is.0, is.1, λ n v l e. absurd (is.2 n v l e))
 pub pass_on : (K : List ℕ) (b m : ℕ) (P : ℕ → Type 0) (o : Option ℕ) → HavePassed K b P (Some m) → P m → IsLastBelow K (get_or K m 0) m o → HavePassed K b P o
 pass_on K b m P None passed here none = λ n l e.
     elim (cases_order n m) [
-      inl at ↦ subst P (sym at) here
-    | inr (inl u) ↦ absurd (none n u (e ∙ sym passed.1))
-    | inr (inr v) ↦ passed.2 n v l e
+      | inl at ↦ subst P (sym at) here
+      | inr (inl u) ↦ absurd (none n u (e ∙ sym passed.1))
+      | inr (inr v) ↦ passed.2 n v l e
     ]
 pass_on K b m P (Some k) passed here is =
     let low : k < m = is.0 in
-    let high : m < length K = passed.0 in
-    (omega (arith, low, high), is.1 ∙ passed.1,
-    λ n v l e. elim (cases_order n m) [
-      inl at ↦ subst P (sym at) here
-    | inr (inl u) ↦ absurd (is.2 n v u (e ∙ sym passed.1))
-    | inr (inr w) ↦ passed.2 n w l e
-    ])
+    let high : m < length K = passed.0 in (
+      omega (arith, low, high),
+      is.1 ∙ passed.1,
+      λ n v l e. elim (cases_order n m) [
+        | inl at ↦ subst P (sym at) here
+        | inr (inl u) ↦ absurd (is.2 n v u (e ∙ sym passed.1))
+        | inr (inr w) ↦ passed.2 n w l e
+      ],
+    )
 
 -- how far it is to the end
 abbrev pub left : Option ℕ → ℕ
@@ -80,9 +84,9 @@ last_after : (lasts : List (Option ℕ)) (K : List ℕ) (k b n : ℕ) → n ≡ 
     → IsLastBelow (K ++ k ∷ []) b (n + 1) (get_or (slice_set lasts k (Some n)) b None)
 last_after lasts K k b n len low bound all =
     elim (cases_order b k) [
-      inl same ↦ at_same same
-    | inr (inl l) ↦ at_other (omega (arith, l))
-    | inr (inr g) ↦ at_other (omega (arith, g))
+      | inl same ↦ at_same same
+      | inr (inl l) ↦ at_other (omega (arith, l))
+      | inr (inr g) ↦ at_other (omega (arith, g))
     ]
   where
     at_other : k ≢ b → IsLastBelow (K ++ k ∷ []) b (n + 1) (get_or (slice_set lasts k (Some n)) b None)
@@ -124,12 +128,12 @@ pub chains_push : (lasts : List (Option ℕ)) (entries : List Entry) (e : Entry)
     → AreChains (slice_set lasts e.bucket (Some (length entries))) (entries ++ e ∷ [])
 chains_push lasts entries e low before are = record {
   last = λ b bound.
-    subst (λ (keys : List ℕ). IsLastBelow keys b (length (entries ++ e ∷ [])) (get_or (slice_set lasts e.bucket (Some (length entries))) b None)) (sym (keys_push entries e))
-    (subst (λ (m : ℕ). IsLastBelow (keys_of entries ++ e.bucket ∷ []) b m (get_or (slice_set lasts e.bucket (Some (length entries))) b None)) (sym (one_more entries e))
-    (last_after lasts (keys_of entries) e.bucket b (length entries) (sym (length-keys entries)) low (subst (λ (m : ℕ). b < m) (length-set lasts e.bucket (Some (length entries))) bound) are.last));
+      subst (λ (keys : List ℕ). IsLastBelow keys b (length (entries ++ e ∷ [])) (get_or (slice_set lasts e.bucket (Some (length entries))) b None)) (sym (keys_push entries e))
+      (subst (λ (m : ℕ). IsLastBelow (keys_of entries ++ e.bucket ∷ []) b m (get_or (slice_set lasts e.bucket (Some (length entries))) b None)) (sym (one_more entries e))
+      (last_after lasts (keys_of entries) e.bucket b (length entries) (sym (length-keys entries)) low (subst (λ (m : ℕ). b < m) (length-set lasts e.bucket (Some (length entries))) bound) are.last));
   before = λ n d h.
-    before_after entries e (subst (λ (o : Option ℕ). IsLastBelow (keys_of entries) e.bucket (length entries) o) (sym before) (are.last e.bucket low)) are.before n d
-    (subst (λ (m : ℕ). n < m) (one_more entries e) h);
+      before_after entries e (subst (λ (o : Option ℕ). IsLastBelow (keys_of entries) e.bucket (length entries) o) (sym before) (are.last e.bucket low)) are.before n d
+      (subst (λ (m : ℕ). n < m) (one_more entries e) h);
 }
   where
     one_more : (entries : List Entry) (e : Entry) → length (entries ++ e ∷ []) ≡ length entries + 1

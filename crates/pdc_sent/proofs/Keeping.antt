@@ -1,6 +1,6 @@
 -- A frame that a PMU may send fits into the index, and so does a frame of none.
-use Rattle.std.proofs.Common.{◌≡◌, ℕ, suc, ◌+◌, ◌<◌, ◌≤◌, List, [], ◌∷◌, ◌++◌, length, length-append, get_or, arith, refl, sym, ap, subst, ◌∙◌, inl, inr, Option, Some, None, map}
-use Rattle.std.specs.Prelude.{◌≢◌, ◌⊎◌}
+use Rattle.std.proofs.Common.{◌≡◌, ℕ, ◌+◌, ◌<◌, List, [], ◌∷◌, ◌++◌, length, length-append, get_or, arith, refl, sym, ap, subst, ◌∙◌, inl, inr, Some}
+use Rattle.std.specs.Prelude.{◌⊎◌}
 use Rattle.std.specs.List.{Contains, slice_get}
 use Rattle.std.proofs.Math.ListN.{get_or-append}
 use Rattle.std.proofs.Math.Seq.{get_or-append_seam}
@@ -58,18 +58,18 @@ pub fits_told : OneFrame → (settings : Settings) (frames : List (List ℕ)) (p
     → HasToldAtMost settings frames pmu t.key t.content → bucket ≡ bucket_under pmu.stream t.key → Fits settings frames bytes bucket
 fits_told one settings frames p pmu bytes bucket t is only most at = record {
   keyed = λ q other key x listed tells.
-    let same : other ≡ pmu = told_of_pmu one settings p q pmu other bytes key x is listed tells in
-    let told : t ≡ view key x = key_is settings pmu bytes t key x only (same_pmu one settings p q pmu other bytes key x is listed tells) in
-    at ∙ ap (λ (v : ToldView). bucket_under pmu.stream v.key) told ∙ ap (λ (y : Pmu). bucket_under y.stream key) (sym same);
+      let same : other ≡ pmu = told_of_pmu one settings p q pmu other bytes key x is listed tells in
+      let told : t ≡ view key x = key_is settings pmu bytes t key x only (same_pmu one settings p q pmu other bytes key x is listed tells) in
+      at ∙ ap (λ (v : ToldView). bucket_under pmu.stream v.key) told ∙ ap (λ (y : Pmu). bucket_under y.stream key) (sym same);
   alone = λ q other key x y listed tells again.
-    let told : t ≡ view key x = key_is settings pmu bytes t key x only (same_pmu one settings p q pmu other bytes key x is listed tells) in
-    let twice : t ≡ view key y = key_is settings pmu bytes t key y only (same_pmu one settings p q pmu other bytes key y is listed again) in
-    ap (λ (v : ToldView). v.content) (sym told ∙ twice);
+      let told : t ≡ view key x = key_is settings pmu bytes t key x only (same_pmu one settings p q pmu other bytes key x is listed tells) in
+      let twice : t ≡ view key y = key_is settings pmu bytes t key y only (same_pmu one settings p q pmu other bytes key y is listed again) in
+      ap (λ (v : ToldView). v.content) (sym told ∙ twice);
   one = λ q other frame key x y listed among tells again.
-    let same : other ≡ pmu = told_of_pmu one settings p q pmu other bytes key x is listed tells in
-    let told : t ≡ view key x = key_is settings pmu bytes t key x only (same_pmu one settings p q pmu other bytes key x is listed tells) in
-    sym (ap (λ (v : ToldView). v.content) told) ∙ most frame y among
-    (subst (λ (v : ToldView). Tells settings pmu frame v.key y) (sym told) (subst (λ (z : Pmu). Tells settings z frame key y) same again));
+      let same : other ≡ pmu = told_of_pmu one settings p q pmu other bytes key x is listed tells in
+      let told : t ≡ view key x = key_is settings pmu bytes t key x only (same_pmu one settings p q pmu other bytes key x is listed tells) in
+      sym (ap (λ (v : ToldView). v.content) told) ∙ most frame y among
+      (subst (λ (v : ToldView). Tells settings pmu frame v.key y) (sym told) (subst (λ (z : Pmu). Tells settings z frame key y) same again));
 }
 
 -- ---- what a PMU may send
@@ -89,8 +89,8 @@ may_told settings frames p pmu bytes t is only most = record {
   pmu = pmu;
   of_pmu = is;
   one = λ other key x y among tells again.
-    let told : t ≡ view key x = key_is settings pmu bytes t key x only tells in
-    sym (ap (λ (v : ToldView). v.content) told) ∙ most other y among (subst (λ (v : ToldView). Tells settings pmu other v.key y) (sym told) again);
+      let told : t ≡ view key x = key_is settings pmu bytes t key x only tells in
+      sym (ap (λ (v : ToldView). v.content) told) ∙ most other y among (subst (λ (v : ToldView). Tells settings pmu other v.key y) (sym told) again);
 }
 
 -- ---- and why it may not
@@ -137,12 +137,12 @@ pub indexed_push : (settings : Settings) (F : List (List ℕ)) (K : List ℕ) (b
 indexed_push settings F K bytes bucket is fits = record {
   len = one_longer K bucket ∙ ap (λ (n : ℕ). n + 1) is.len ∙ sym (one_longer F bytes);
   keyed = λ n p pmu key x h listed tells.
-    elim (here_or_below n (length F) (subst (λ (m : ℕ). n < m) (one_longer F bytes) h)) [
-      inl at ↦ at_end n p pmu key x at listed tells
-    | inr l ↦ at_place n p pmu key x l listed tells
-    ];
+      elim (here_or_below n (length F) (subst (λ (m : ℕ). n < m) (one_longer F bytes) h)) [
+        | inl at ↦ at_end n p pmu key x at listed tells
+        | inr l ↦ at_place n p pmu key x l listed tells
+      ];
   one = λ p pmu a b key x y listed u v tells again.
-    both p pmu a b key x y listed tells again (Contains-push_cases F bytes a u) (Contains-push_cases F bytes b v);
+      both p pmu a b key x y listed tells again (Contains-push_cases F bytes a u) (Contains-push_cases F bytes b v);
 }
   where
     at_end : (n p : ℕ) (pmu : Pmu) (key : Key) (x : List ℕ) → n ≡ length F → slice_get settings.pmus.items p ≡ Some pmu → Tells settings pmu (get_or (F ++ bytes ∷ []) n []) key x

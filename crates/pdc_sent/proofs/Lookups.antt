@@ -1,5 +1,5 @@
 -- What a bucket tells once one went down it.
-use Rattle.std.proofs.Common.{◌≡◌, ℕ, ◌<◌, List, [], ◌∷◌, ◌++◌, length, get_or, arith, Bool, true, false, refl, sym, ap, subst, ◌∙◌, Option, Some, None, map, option_map}
+use Rattle.std.proofs.Common.{◌≡◌, ℕ, ◌<◌, List, [], ◌∷◌, ◌++◌, length, get_or, true, false, refl, sym, ap, subst, ◌∙◌, Option, Some, None, map, option_map}
 use Rattle.std.specs.Prelude.{◌≢◌, Err, IfErr, IfOk, MatchOption, Ok, OnErr, OnOk, Result}
 use Rattle.std.specs.List.{Contains, slice_get}
 use Rattle.std.specs.Option.{is_some}

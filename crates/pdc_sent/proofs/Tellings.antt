@@ -1,11 +1,10 @@
 -- What bytes tell of a PMU is what is read of them.
-use Rattle.std.proofs.Common.{◌≡◌, ℕ, List, [], ◌∷◌, refl, sym, ap, subst, ◌∙◌, Option, Some, None}
+use Rattle.std.proofs.Common.{◌≡◌, ℕ, List, [], ◌∷◌, refl, ap, subst, ◌∙◌, Some, None}
 use Rattle.std.proofs.lemmas.Option.{none-some, same_Some}
-use Rattle.pdc_cfg.specs.Section.{SectionFields}
 use Rattle.pdc_life.specs.declared.given.Settings.{Settings}
 use Rattle.pdc_life.specs.declared.pmu.Pmu.{Pmu}
-use Rattle.pdc_life.specs.Arrival.{Arrival, BytesRefused, Data, Layout, Stamp}
-use Rattle.pdc_life.specs.NodeReading.{Reads, stream_of}
+use Rattle.pdc_life.specs.Arrival.{Arrival, BytesRefused, Data, Layout}
+use Rattle.pdc_life.specs.NodeReading.{Reads}
 use Rattle.pdc_life.specs.OneLife.{NodeReadsOnce}
 use Rattle.pdc_sent.specs.declared.key.Key.{Key}
 use Rattle.pdc_sent.specs.declared.key.Key.TheVariants.{Count, Instant}

@@ -1,6 +1,5 @@
 -- What may be sent after these frames may happen in each history that has them, and a refusal has the cause of a fault there.
-use Rattle.std.proofs.Common.{◌≡◌, ℕ, List, refl, sym, subst, ◌∙◌}
-use Rattle.std.specs.List.{Contains}
+use Rattle.std.proofs.Common.{ℕ, List, refl, sym, subst, ◌∙◌}
 use Rattle.pdc_life.specs.declared.given.Settings.{Settings}
 use Rattle.pdc_life.specs.declared.pmu.Pmu.{Pmu}
 use Rattle.pdc_history.specs.Asked as asked
@@ -8,10 +7,9 @@ use Rattle.pdc_history.specs.History as history
 use Rattle.pdc_history.specs.World.{Happened, World, sent}
 use Rattle.pdc_sent.specs.declared.fault.SendFault.{SendFault}
 use Rattle.pdc_sent.specs.declared.fault.SendFault.TheVariants.{Foreign, NoMemory, OtherBody, OtherSection}
-use Rattle.pdc_sent.specs.declared.key.Key.{Key}
 use Rattle.pdc_sent.specs.declared.key.Key.TheVariants.{Count, Instant}
 use Rattle.pdc_sent.specs.Histories.{HasCause, IsSentIn, MayBeSent}
-use Rattle.pdc_sent.specs.Sent.{HasOther, IsOfPmu, IsOfNone, IsRefused, IsSendFault, MaySendAfter, SentView}
+use Rattle.pdc_sent.specs.Sent.{HasOther, IsOfPmu, IsOfNone, IsSendFault, MaySendAfter, SentView}
 
 -- what holds of the frames and the settings holds of those of the world
 in_world : (P : Settings → List (List ℕ) → Type 0) (W : World) (H : List Happened) (v : SentView) → IsSentIn W H v → P v.settings v.frames → P W.a.settings (sent W H)
@@ -26,10 +24,10 @@ may_send W H bytes may = record {
   pmu = may.pmu;
   of_pmu = of_pmu W may.p may.pmu bytes may.of_pmu;
   one_body = λ other i q r payload body among a b.
-    may.one other (Instant i) payload body among (record { quality = q; is_data = a }) (record { quality = r; is_data = b });
+      may.one other (Instant i) payload body among (record { quality = q; is_data = a }) (record { quality = r; is_data = b });
   one_section = λ other s t among a b same.
-    may.one other (Count t.count) s.bytes t.bytes among (record { section = s; valid = a; same_count = same; same_bytes = refl })
-    (record { section = t; valid = b; same_count = refl; same_bytes = refl });
+      may.one other (Count t.count) s.bytes t.bytes among (record { section = s; valid = a; same_count = same; same_bytes = refl })
+      (record { section = t; valid = b; same_count = refl; same_bytes = refl });
 }
 
 pub may_be_sent : (v : SentView) (bytes : List ℕ) → MaySendAfter v.settings v.frames bytes → MayBeSent v bytes

@@ -21,7 +21,7 @@ IsLastBelow keys bucket below (Some m) =
 pub record AreChains (lasts : List (Option ℕ)) (entries : List Entry) : Type 0 where
   pub last : (b : ℕ) → b < length lasts → IsLastBelow (keys_of entries) b (length entries) (slice_index_or lasts b None)
   pub before :
-    (n : ℕ) (d : Entry) → n < length entries → IsLastBelow (keys_of entries) (slice_index_or entries n d).bucket n (slice_index_or entries n d).before
+      (n : ℕ) (d : Entry) → n < length entries → IsLastBelow (keys_of entries) (slice_index_or entries n d).bucket n (slice_index_or entries n d).before
 
 -- Going down a bucket, all numbers above this one are passed; at the end, all are.
 abbrev pub HavePassed : (keys : List ℕ) (bucket : ℕ) (P : ℕ → Type 0) → Option ℕ → Type 0

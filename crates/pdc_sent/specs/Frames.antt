@@ -1,6 +1,6 @@
 -- Frames one behind another in one list of bytes.
-use Rattle.std.specs.Prelude.{ℕ, ◌≤◌, List, length, map}
-use Rattle.std.specs.List.{All, slice_range}
+use Rattle.std.specs.Prelude.{ℕ, ◌≤◌, List, map}
+use Rattle.std.specs.List.{slice_range}
 use Rattle.pdc_sent.specs.declared.frames.Place.{Place}
 
 -- the frames, for how many more there is a place, and for how many bytes there is room

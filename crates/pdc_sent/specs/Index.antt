@@ -28,23 +28,23 @@ bucket_under stream key = (number_of key + stream * SPREAD) % BUCKETS
 pub record IsIndexed (settings : Settings) (frames : List (List ℕ)) (keys : List ℕ) : Type 0 where
   pub len : length keys ≡ length frames
   pub keyed :
-    (n p : ℕ) (pmu : Pmu) (key : Key) (x : List ℕ) → n < length frames → slice_get settings.pmus.items p ≡ Some pmu →
-    Tells settings pmu (slice_index_or frames n []) key x → slice_index keys n ≡ bucket_under pmu.stream key
+      (n p : ℕ) (pmu : Pmu) (key : Key) (x : List ℕ) → n < length frames → slice_get settings.pmus.items p ≡ Some pmu →
+      Tells settings pmu (slice_index_or frames n []) key x → slice_index keys n ≡ bucket_under pmu.stream key
   pub one :
-    (p : ℕ) (pmu : Pmu) (a b : List ℕ) (key : Key) (x y : List ℕ) → slice_get settings.pmus.items p ≡ Some pmu → Contains frames a →
-    Contains frames b → Tells settings pmu a key x → Tells settings pmu b key y → x ≡ y
+      (p : ℕ) (pmu : Pmu) (a b : List ℕ) (key : Key) (x y : List ℕ) → slice_get settings.pmus.items p ≡ Some pmu → Contains frames a →
+      Contains frames b → Tells settings pmu a key x → Tells settings pmu b key y → x ≡ y
 
 -- The same of one frame more, in this bucket.
 pub record Fits (settings : Settings) (frames : List (List ℕ)) (bytes : List ℕ) (bucket : ℕ) : Type 0 where
   pub keyed :
-    (p : ℕ) (pmu : Pmu) (key : Key) (x : List ℕ) → slice_get settings.pmus.items p ≡ Some pmu → Tells settings pmu bytes key x →
-    bucket ≡ bucket_under pmu.stream key
+      (p : ℕ) (pmu : Pmu) (key : Key) (x : List ℕ) → slice_get settings.pmus.items p ≡ Some pmu → Tells settings pmu bytes key x →
+      bucket ≡ bucket_under pmu.stream key
   pub alone :
-    (p : ℕ) (pmu : Pmu) (key : Key) (x y : List ℕ) → slice_get settings.pmus.items p ≡ Some pmu → Tells settings pmu bytes key x →
-    Tells settings pmu bytes key y → x ≡ y
+      (p : ℕ) (pmu : Pmu) (key : Key) (x y : List ℕ) → slice_get settings.pmus.items p ≡ Some pmu → Tells settings pmu bytes key x →
+      Tells settings pmu bytes key y → x ≡ y
   pub one :
-    (p : ℕ) (pmu : Pmu) (other : List ℕ) (key : Key) (x y : List ℕ) → slice_get settings.pmus.items p ≡ Some pmu → Contains frames other →
-    Tells settings pmu bytes key x → Tells settings pmu other key y → x ≡ y
+      (p : ℕ) (pmu : Pmu) (other : List ℕ) (key : Key) (x y : List ℕ) → slice_get settings.pmus.items p ≡ Some pmu → Contains frames other →
+      Tells settings pmu bytes key x → Tells settings pmu other key y → x ≡ y
 
 -- There is room for one frame more of the most bytes.
 pub record HaveRoom (frames : FramesView) (by_bytes by_key : ChainsView) : Type 0 where

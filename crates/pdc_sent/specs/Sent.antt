@@ -68,7 +68,7 @@ pub record MaySendAfter (settings : Settings) (frames : List (List ℕ)) (bytes 
   pub pmu : Pmu
   pub of_pmu : IsOfPmu settings p pmu bytes
   pub one :
-    (other : List ℕ) (key : Key) (x y : List ℕ) → Contains frames other → Tells settings pmu bytes key x → Tells settings pmu other key y → x ≡ y
+      (other : List ℕ) (key : Key) (x y : List ℕ) → Contains frames other → Tells settings pmu bytes key x → Tells settings pmu other key y → x ≡ y
 
 -- Its PMU told something else under this key.
 pub record HasOther (settings : Settings) (frames : List (List ℕ)) (bytes : List ℕ) (key : Key) : Type 0 where

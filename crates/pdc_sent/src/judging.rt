@@ -50,7 +50,13 @@ fn fault_of(key: Key) -> SendFault
 }
 
 /// The bucket for what is told of a PMU, where it told nothing else under that key.
-fn bucket_of_told(settings: &Settings, pmu: &Pmu, frames: &Frames, by_key: &Chains, told: Told<'_>) -> Result<usize, SendFault>
+fn bucket_of_told(
+    settings: &Settings,
+    pmu: &Pmu,
+    frames: &Frames,
+    by_key: &Chains,
+    told: Told<'_>,
+) -> Result<usize, SendFault>
     requires index { IsIndexed settings.now frames.now.frames by_key.now.keys }
     requires buckets { by_key.now.buckets ≡ BUCKETS + 1 }
     ensures bucket { IfOk result (λ bucket. bucket ≡ bucket_under pmu.now.stream told.entry.key) }
@@ -68,7 +74,12 @@ fn bucket_of_told(settings: &Settings, pmu: &Pmu, frames: &Frames, by_key: &Chai
 }
 
 /// The bucket in which the frame is found by what it tells, where a PMU may send it.
-pub(crate) fn bucket_for(settings: &Settings, frames: &Frames, by_key: &Chains, bytes: &[u8]) -> Result<usize, SendFault>
+pub(crate) fn bucket_for(
+    settings: &Settings,
+    frames: &Frames,
+    by_key: &Chains,
+    bytes: &[u8],
+) -> Result<usize, SendFault>
     requires index { IsIndexed settings.now frames.now.frames by_key.now.keys }
     requires buckets { by_key.now.buckets ≡ BUCKETS + 1 }
     ensures bound { IfOk result (λ bucket. bucket < BUCKETS + 1) }

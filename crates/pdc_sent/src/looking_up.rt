@@ -30,7 +30,13 @@ pub(crate) fn has_frame(frames: &Frames, by_check: &Chains, bytes: &[u8]) -> boo
 }
 
 /// What a PMU told under this key, which is one thing.
-pub(crate) fn content_told<'a>(settings: &Settings, pmu: &Pmu, frames: &'a Frames, by_key: &Chains, key: Key) -> Option<&'a [u8]>
+pub(crate) fn content_told<'a>(
+    settings: &Settings,
+    pmu: &Pmu,
+    frames: &'a Frames,
+    by_key: &Chains,
+    key: Key,
+) -> Option<&'a [u8]>
     requires index { IsIndexed settings.now frames.now.frames by_key.now.keys }
     requires buckets { by_key.now.buckets ≡ BUCKETS + 1 }
     ensures { (p : ℕ) → slice_get settings.now.pmus.items p ≡ Some pmu.now →

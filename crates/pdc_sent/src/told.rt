@@ -23,7 +23,9 @@ fn told_of<'a>(reading: Reading<'a>) -> Option<Told<'a>>
     match reading {
         Reading::BytesRefused(_) => None,
         Reading::Data {
-            instant, payload, ..
+            instant,
+            payload,
+            ..
         } => Some(Told {
             key: Key::Instant(instant),
             content: payload,
@@ -45,7 +47,12 @@ pub(crate) fn told_by<'a>(settings: &Settings, pmu: &Pmu, bytes: &'a [u8]) -> Op
 }
 
 /// What the bytes tell of this PMU under this key.
-pub(crate) fn content_under<'a>(settings: &Settings, pmu: &Pmu, key: Key, bytes: &'a [u8]) -> Option<&'a [u8]>
+pub(crate) fn content_under<'a>(
+    settings: &Settings,
+    pmu: &Pmu,
+    key: Key,
+    bytes: &'a [u8],
+) -> Option<&'a [u8]>
     ensures found { (x : List ℕ) → option_map (λ content. content.now) result ≡ Some x → Tells settings.now pmu.now bytes.now key x }
     ensures only { (x : List ℕ) → Tells settings.now pmu.now bytes.now key x → option_map (λ content. content.now) result ≡ Some x }
 {

@@ -1,10 +1,10 @@
-use Rattle.std.proofs.Common.{◌≡◌, ℕ, List, refl, Some}
+use Rattle.std.proofs.Common.{◌≡◌, ℕ, refl}
 use Rattle.std.proofs.lemmas.Option.{none-some}
 use Rattle.std.proofs.lemmas.Result.{on_ok_weaker}
 use Rattle.pdc_sent.specs.Index.{Fits, bucket_under}
 use Rattle.pdc_sent.specs.Sent.{HasToldAtMost, HasToldOther, IsOfPmu, IsRefused, fault_of}
 use Rattle.pdc_sent.specs.Told.{Tells, ToldView, told_view}
-use Rattle.pdc_sent.proofs.Keeping.{TellsNothing, TellsOnly, fits_silent, fits_told, may_silent, may_told, refused}
+use Rattle.pdc_sent.proofs.Keeping.{fits_silent, fits_told, may_silent, may_told, refused}
 use Rattle.pdc_sent.proofs.Lookups.{both_err, both_ok}
 use Rattle.pdc_sent.proofs.Tellings.{view}
 use Rattle.pdc_sent.proofs.judging.bucket_for.Goals as goal

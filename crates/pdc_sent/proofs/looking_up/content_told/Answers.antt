@@ -1,4 +1,4 @@
-use Rattle.std.proofs.Common.{◌≡◌, ℕ, List, [], get_or, sym, subst, ap, ◌∙◌, Some, refl}
+use Rattle.std.proofs.Common.{ℕ, List, [], get_or, sym, subst, ap}
 use Rattle.std.specs.Option.{option_map}
 use Rattle.std.proofs.lemmas.Option.{get_or_from_slice_get}
 use Rattle.pdc_sent.specs.Chains.{HavePassed}

@@ -1,4 +1,4 @@
-use Rattle.std.proofs.Common.{◌≡◌, ℕ, List, ◌<◌, ◌+◌, [], length, get_or}
+use Rattle.std.proofs.Common.{ℕ, List, [], get_or}
 use Rattle.pdc_sent.specs.Chains.{HavePassed}
 use Rattle.pdc_sent.specs.Told.{Tells}
 use Rattle.pdc_sent.proofs.Descent.{left}

@@ -1,4 +1,4 @@
-use Rattle.std.proofs.Common.{◌≡◌, ℕ, List, [], get_or, sym, subst, ap, ◌∙◌, Option, Some, None, true, false, refl}
+use Rattle.std.proofs.Common.{ℕ, [], get_or, sym, subst, ◌∙◌, refl}
 use Rattle.std.specs.Prelude.{◌≢◌}
 use Rattle.std.specs.Cmp.Lexicographic.{other_text, same_text}
 use Rattle.std.proofs.lemmas.Bool.{false≢true}
@@ -22,7 +22,8 @@ loop-next-preserved c =
 
 pub returns : goal.returns
 returns c =
-    let P : ℕ → Type 0 = λ n. get_or c.args.frames.now.frames n [] ≢ c.args.bytes.now in
-    (λ no. absurd (false≢true no),
-    λ among. absurd (is_not_among c.args.frames.now.frames c.args.by_check.now.keys c.bucket_of-bucket.result c.args.bytes.now c.requires.keys c.bucket_of-bucket.ensures.bucket
-    (subst (HavePassed c.args.by_check.now.keys c.bucket_of-bucket.result P) c.in_default.is c.loop-next.invariant) among))
+    let P : ℕ → Type 0 = λ n. get_or c.args.frames.now.frames n [] ≢ c.args.bytes.now in (
+      λ no. absurd (false≢true no),
+      λ among. absurd (is_not_among c.args.frames.now.frames c.args.by_check.now.keys c.bucket_of-bucket.result c.args.bytes.now c.requires.keys c.bucket_of-bucket.ensures.bucket
+          (subst (HavePassed c.args.by_check.now.keys c.bucket_of-bucket.result P) c.in_default.is c.loop-next.invariant) among),
+    )

@@ -1,7 +1,6 @@
-use Rattle.std.proofs.Common.{◌≡◌, ℕ, ◌<◌, ◌+◌, [], length, get_or}
-use Rattle.std.specs.Prelude.{◌≢◌, map}
+use Rattle.std.proofs.Common.{[], get_or}
+use Rattle.std.specs.Prelude.{◌≢◌}
 use Rattle.pdc_sent.specs.Chains.{HavePassed}
-use Rattle.pdc_sent.specs.Index.{bucket_of}
 use Rattle.pdc_sent.proofs.Descent.{left}
 use Rattle.pdc_sent.proofs.looking_up.has_frame.Given as goal
 

@@ -1,4 +1,4 @@
-use Rattle.std.proofs.Common.{◌≡◌, ◌+◌, ◌++◌, ◌∷◌, [], ℕ, List, length, length-append, cond, ap, ap₂, subst, ◌∙◌}
+use Rattle.std.proofs.Common.{◌≡◌, ◌++◌, ◌∷◌, [], ℕ, List, length, length-append, cond, ap, ap₂, subst, ◌∙◌}
 use Rattle.std.specs.Result.{is_ok}
 use Rattle.pdc_sent.specs.declared.frames.Place.{Place}
 use Rattle.pdc_sent.specs.Frames.{FramesView, frames_in}

@@ -1,4 +1,4 @@
-use Rattle.std.proofs.Common.{◌≡◌, ℕ, List, subst}
+use Rattle.std.proofs.Common.{subst}
 use Rattle.std.proofs.lemmas.Result.{err_from_is_err_and}
 use Rattle.pdc_sent.specs.Sent.{IsSendFault, MaySendAfter, SentView}
 use Rattle.pdc_sent.proofs.Keeping.{refused_is_fault}
