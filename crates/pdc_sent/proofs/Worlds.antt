@@ -1,14 +1,15 @@
 -- What may be sent after these frames may happen in each history that has them, and a refusal has the cause of a fault there.
-use Rattle.std.proofs.Common.{ℕ, List, refl, sym, subst, ◌∙◌}
+use Rattle.std.proofs.Common.{ℕ, List, refl, sym, subst, ◌∙◌, ◌++◌, ap₂, append-nil}
 use Rattle.pdc_life.specs.declared.given.Settings.{Settings}
 use Rattle.pdc_life.specs.declared.pmu.Pmu.{Pmu}
 use Rattle.pdc_history.specs.Asked as asked
 use Rattle.pdc_history.specs.History as history
+use Rattle.pdc_history.specs.Pmus.{PmusSendTheirOwn}
 use Rattle.pdc_history.specs.World.{Happened, World, sent}
 use Rattle.pdc_sent.specs.declared.fault.SendFault.{SendFault}
 use Rattle.pdc_sent.specs.declared.fault.SendFault.TheVariants.{Foreign, NoMemory, OtherBody, OtherSection}
 use Rattle.pdc_sent.specs.declared.key.Key.TheVariants.{Count, Instant}
-use Rattle.pdc_sent.specs.Histories.{HasCause, IsSentIn, MayBeSent}
+use Rattle.pdc_sent.specs.Histories.{HasCause, IsSentIn, MayBeSent, NoneIsAdded, OneIsAdded, OthersSendNone}
 use Rattle.pdc_sent.specs.Sent.{HasOther, IsOfPmu, IsOfNone, IsSendFault, MaySendAfter, SentView}
 
 -- what holds of the frames and the settings holds of those of the world
@@ -73,3 +74,22 @@ has_cause v bytes Foreign none = λ W H is. foreign W bytes (in_world (λ s F. I
 has_cause v bytes OtherBody (i, has) = λ W H is. other_body W H bytes i (in_world (λ s F. HasOther s F bytes (Instant i)) W H v is has)
 has_cause v bytes OtherSection (n, has) = λ W H is. other_section W H bytes n (in_world (λ s F. HasOther s F bytes (Count n)) W H v is has)
 has_cause v bytes NoMemory e = e
+
+-- ---- what others send, and what the next thing adds
+
+pub others_send_none : PmusSendTheirOwn → OthersSendNone
+others_send_none own W H h v bytes is has among apart = λ p pmu of.
+    let its : IsOfPmu W.a.settings p pmu bytes = subst (λ (s : Settings). IsOfPmu s p pmu bytes) (sym has.settings) of in
+    apart (own W H h p pmu bytes its.fields is its.listed among its.of_stream)
+
+pub one_is_added : OneIsAdded
+one_is_added W H h v bytes has sends = record {
+  frames = ap₂ (λ (F G : List (List ℕ)). F ++ G) has.frames sends;
+  settings = has.settings;
+}
+
+pub none_is_added : NoneIsAdded
+none_is_added W H h v has sends = record {
+  frames = ap₂ (λ (F G : List (List ℕ)). F ++ G) has.frames sends ∙ append-nil v.frames;
+  settings = has.settings;
+}

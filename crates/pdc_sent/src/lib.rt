@@ -15,9 +15,11 @@ mod fault;
 mod frames;
 mod judging;
 mod key;
+mod laws;
 mod looking_up;
 mod sent;
 mod told;
 
 pub use fault::SendFault;
+pub use laws::{frames_follow_histories, others_send_frames_of_none};
 pub use sent::Sent;
