@@ -1,6 +1,6 @@
 -- What a bucket tells once one went down it.
-use Rattle.std.proofs.Common.{◌≡◌, ℕ, ◌<◌, List, [], ◌∷◌, ◌++◌, length, get_or, true, false, refl, sym, ap, subst, ◌∙◌, Option, Some, None, map, option_map}
-use Rattle.std.specs.Prelude.{◌≢◌, Err, IfErr, IfOk, MatchOption, Ok, OnErr, OnOk, Result}
+use Rattle.std.proofs.Common.{◌≡◌, Bool, ℕ, ◌<◌, List, [], ◌∷◌, ◌++◌, length, get_or, true, false, refl, sym, ap, subst, ◌∙◌, Option, Some, None, map, option_map}
+use Rattle.std.specs.Prelude.{◌≢◌, Err, IfErr, IfOk, MatchOption, Ok, OnErr, OnOk, Result, ◌↔◌, IsTrue, not}
 use Rattle.std.specs.List.{Contains, slice_get}
 use Rattle.std.specs.Option.{is_some}
 use Rattle.std.proofs.lemmas.Bool.{false≢true}
@@ -73,3 +73,9 @@ pub keys_push : (F G : List (List ℕ)) (K L : List ℕ) (bytes : List ℕ) (b :
 keys_push F G K L bytes b keys more longer bucket =
     longer ∙ ap (λ (n : ℕ). K ++ n ∷ []) bucket ∙ ap (λ (xs : List ℕ). xs ++ bucket_of bytes ∷ []) keys
     ∙ sym (map-append bucket_of F (bytes ∷ [])) ∙ ap (map bucket_of) (sym more)
+
+pub none_is : {X : Type 0} → (r : Option X) (N : Type 0) (P : X → Type 0) → MatchOption r N P → ((x : X) → P x → N → ⊥) → (b : Bool) → is_some r ≡ not b → IsTrue b ↔ N
+none_is None N P m f true e = (λ yes. m, λ n. refl)
+none_is None N P m f false e = absurd (false≢true e)
+none_is (Some x) N P m f true e = absurd (false≢true (sym e))
+none_is (Some x) N P m f false e = (λ yes. absurd (false≢true yes), λ n. absurd (f x m n))

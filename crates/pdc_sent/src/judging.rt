@@ -29,7 +29,7 @@ fn pmu_of_stream(pmus: &[Pmu], id: u16) -> Option<&Pmu>
 }
 
 /// The PMU of the table whose frame this is.
-fn pmu_of<'a>(settings: &'a Settings, bytes: &[u8]) -> Option<&'a Pmu>
+pub(crate) fn pmu_of<'a>(settings: &'a Settings, bytes: &[u8]) -> Option<&'a Pmu>
     ensures pmu { MatchOption result (IsOfNone settings.now bytes.now) (λ pmu. IsOfSome settings.now bytes.now pmu.now) }
     ensures most { OnSome result (length bytes.now ≤ MAX_SIZE) }
 {

@@ -11,7 +11,7 @@ use crate::buckets::{BUCKETS, bucket_of};
 use crate::chains::Chains;
 use crate::fault::SendFault;
 use crate::frames::Frames;
-use crate::judging::bucket_for;
+use crate::judging::{bucket_for, pmu_of};
 use crate::looking_up::has_frame;
 use pdc_frame::MAX_SIZE;
 use pdc_life::Settings;
@@ -81,6 +81,13 @@ impl Sent {
         ensures { IsTrue result ↔ Contains self.now.frames bytes.now }
     {
         has_frame(&self.frames, &self.by_check, bytes)
+    }
+
+    /// Whether the bytes are a frame of no PMU of the table, which [`Sent::push_reserved`] takes.
+    pub fn is_of_no_pmu(&self, bytes: &[u8]) -> bool
+        ensures { IsTrue result ↔ IsOfNone self.now.settings bytes.now }
+    {
+        pmu_of(&self.settings, bytes).is_none()
     }
 
     /// Makes room for one frame more, of at most 65535 bytes.
