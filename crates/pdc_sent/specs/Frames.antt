@@ -1,5 +1,5 @@
 -- Frames one behind another in one list of bytes.
-use Rattle.std.specs.Prelude.{ℕ, ◌≤◌, List, map}
+use Rattle.std.specs.Prelude.{ℕ, ◌≤◌, List, map, ◌≡◌, refl, [], ◌∷◌}
 use Rattle.std.specs.List.{slice_range}
 use Rattle.pdc_sent.specs.declared.frames.Place.{Place}
 
@@ -19,3 +19,10 @@ frames_in bytes places = map (frame_at bytes) places
 pub record IsWithin (len : ℕ) (place : Place) : Type 0 where
   pub order : place.start ≤ place.end
   pub bound : place.end ≤ len
+
+-- Worked: five bytes hold a frame of two and one of three.
+abbrev two_places : List Place
+two_places = record { start = 0; end = 2 } ∷ record { start = 2; end = 5 } ∷ []
+
+pub two_frames : frames_in (170 ∷ 2 ∷ 170 ∷ 50 ∷ 7 ∷ []) two_places ≡ (170 ∷ 2 ∷ []) ∷ (170 ∷ 50 ∷ 7 ∷ []) ∷ []
+two_frames = refl

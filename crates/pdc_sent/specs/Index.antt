@@ -1,5 +1,5 @@
 -- The index: under which bucket a frame is found again, and what holds of all that were sent.
-use Rattle.std.specs.Prelude.{◌≡◌, ℕ, ◌+◌, ◌-◌, ◌*◌, ◌%◌, ◌<◌, Bool, true, List, [], length, map, nat_lt, if◌then◌else◌, slice_index, slice_index_or, Some}
+use Rattle.std.specs.Prelude.{◌≡◌, ℕ, ◌+◌, ◌-◌, ◌*◌, ◌%◌, ◌<◌, Bool, true, List, [], length, map, nat_lt, if◌then◌else◌, slice_index, slice_index_or, Some, refl, ◌∷◌}
 use Rattle.std.specs.List.{Contains, slice_get}
 use Rattle.pdc_frame.specs.declared.limits.TheConstants.{MAX_SIZE}
 use Rattle.pdc_life.specs.declared.given.Settings.{Settings}
@@ -23,6 +23,20 @@ number_of (Count n) = n
 -- the bucket of a frame by what it tells of the PMU with this stream
 abbrev pub bucket_under : (stream : ℕ) → Key → ℕ
 bucket_under stream key = (number_of key + stream * SPREAD) % BUCKETS
+
+-- Worked: a frame whose check word is 2623 is in bucket 9763. What PMU 11 tells under count 1 is 16 buckets from what it tells under
+-- count 17, and 4099 from what PMU 12 tells under count 1.
+pub check_word_2623 : bucket_of (170 ∷ 2 ∷ 38 ∷ 35 ∷ []) ≡ 9763
+check_word_2623 = refl
+
+pub count_1_of_11 : bucket_under 11 (Count 1) ≡ 45090
+count_1_of_11 = refl
+
+pub count_17_of_11 : bucket_under 11 (Count 17) ≡ 45106
+count_17_of_11 = refl
+
+pub count_1_of_12 : bucket_under 12 (Count 1) ≡ 49189
+count_1_of_12 = refl
 
 -- Each frame that tells something of a PMU is in the bucket of that; and under one key a PMU told one thing.
 pub record IsIndexed (settings : Settings) (frames : List (List ℕ)) (keys : List ℕ) : Type 0 where
