@@ -102,9 +102,7 @@ fn answer_data<T: Table>(
     columns_stand();
     match data_refusal(layout, payload) {
         Some(refusal) => Outcome::Refused(refusal),
-        None => put_data(
-            alignment, cells, layout, stream, instant, quality, payload,
-        ),
+        None => put_data(alignment, cells, layout, stream, instant, quality, payload),
     }
 }
 
