@@ -3,6 +3,7 @@
 //! Each line is the median of several turns that take the two in alternation; both must give the same answer.
 
 mod cores;
+mod merging;
 mod plain;
 mod tables;
 
@@ -21,6 +22,7 @@ mod ours {
         pub fn dagluwis_ring_steady(window: u64, behind: u64, instants: u32) -> u64;
         pub fn dagluwis_ring_fill(window: u64, rounds: u32) -> u64;
         pub fn dagluwis_node(text: *const u8, text_len: usize, configs: *const u8, configs_len: usize, data: *const u8, data_len: usize, floor: u64) -> u64;
+        pub fn dagluwis_merger(text: *const u8, text_len: usize, configs: *const u8, configs_len: usize, data: *const u8, data_len: usize, floor: u64) -> u64;
         pub fn dagluwis_write_data(bytes: *const u8, len: usize, phasors: u8, analogs: u8, digitals: u8, rounds: u32) -> u64;
     }
 }
@@ -116,15 +118,22 @@ fn config_frame(shape: plain::Shape) -> Vec<u8> {
 }
 
 fn config_payload(shape: plain::Shape, source: u8) -> Vec<u8> {
-    let (p, a, d) = (usize::from(shape.phasors), usize::from(shape.analogs), usize::from(shape.digitals));
     let mut payload = TIME_BASE.to_be_bytes().to_vec();
     payload.extend_from_slice(&[0, 1]);
-    payload.extend_from_slice(b"PMU 11          ");
-    payload.extend_from_slice(&[0, source, 0, 0, 0, shape.phasors, 0, shape.analogs, 0, shape.digitals]);
-    payload.extend(std::iter::repeat(b' ').take(16 * (p + a + 16 * d)));
-    payload.extend(std::iter::repeat(1).take(4 * (p + a + d)));
-    payload.extend_from_slice(&[0, 1, 0, 1, 0, RATE as u8]);
+    payload.extend(section(shape, source));
+    payload.extend_from_slice(&[0, RATE as u8]);
     payload
+}
+
+/// The section of a PMU, with count 1.
+fn section(shape: plain::Shape, source: u8) -> Vec<u8> {
+    let (p, a, d) = (usize::from(shape.phasors), usize::from(shape.analogs), usize::from(shape.digitals));
+    let mut section = b"PMU 11          ".to_vec();
+    section.extend_from_slice(&[0, source, 0, 0, 0, shape.phasors, 0, shape.analogs, 0, shape.digitals]);
+    section.extend(std::iter::repeat(b' ').take(16 * (p + a + 16 * d)));
+    section.extend(std::iter::repeat(1).take(4 * (p + a + d)));
+    section.extend_from_slice(&[0, 1, 0, 1]);
+    section
 }
 
 fn data_frame(shape: plain::Shape) -> Vec<u8> {
@@ -284,6 +293,79 @@ fn nodes() {
     }
 }
 
+/// The nodes that the merger takes.
+const NODES: [u16; 2] = [201, 202];
+
+/// What the merger of two nodes and 16 PMUs is told.
+fn merger_text(window: u64) -> String {
+    let mut text = format!(
+        "id = 301\nrate = {RATE}\nnominal = 50\ntime_base = {TIME_BASE}\nwait = 2\nwindow = {window}\nahead = 32\nlayout_every = 50\nout_port = 4723\nsession_port = 4722\n"
+    );
+    for id in NODES {
+        text += &format!("[[node]]\nid = {id}\ntime_base = {TIME_BASE}\nport = {}\n", 4500 + id);
+    }
+    for source in 1..=16 {
+        text += &format!("[[pmu]]\nsource = {source}\n");
+    }
+    text
+}
+
+/// The layouts of both nodes, with the stamp (1, 1).
+fn layouts(shape: plain::Shape) -> Vec<u8> {
+    let layout = |id| {
+        let mut payload = TIME_BASE.to_be_bytes().to_vec();
+        payload.extend_from_slice(&[0, 17]);
+        payload.extend(merging::own_section(id, 1, (1, 1)));
+        payload.extend((1..=16).flat_map(|source| section(shape, source)));
+        payload.extend_from_slice(&[0, RATE as u8]);
+        frame_of(3, id, SOC, 0, &payload)
+    };
+    NODES.into_iter().flat_map(layout).collect()
+}
+
+/// The data frames of both nodes for so many instants behind the first of a second, with the same blocks.
+fn merged_datagrams(shape: plain::Shape, instants: u32) -> Vec<u8> {
+    let words = 16 * shape.word_count();
+    let mut data = Vec::new();
+    for instant in 1..=instants {
+        for id in NODES {
+            let mut payload = vec![0, 0, 0, 0, 0, 0, 0, 0, 0, 1, 0, 0, 0, 1];
+            payload.extend((0..2 * words).map(|i| (i as u32 * 37 + instant * 11) as u8));
+            data.extend(frame_of(0, id, SOC + instant / RATE, instant % RATE * (TIME_BASE / RATE), &payload));
+        }
+    }
+    data
+}
+
+/// The merger of two nodes and 16 PMUs, from datagrams to published frames.
+fn mergers() {
+    println!("\n| the merger of two nodes, from datagram to published frame | plain check word | window | ours, ns a datagram | plain Rust, ns | ours, thousand datagrams/s | plain, thousand/s | ratio ours / plain |");
+    println!("|---|---|---:|---:|---:|---:|---:|---:|");
+    for (phasors, analogs, digitals) in [(1, 0, 0), (8, 4, 1), (32, 32, 8)] {
+        let shape = plain::Shape { phasors, analogs, digitals };
+        let instants = 2_048;
+        let (configs, data) = (layouts(shape), merged_datagrams(shape, instants));
+        let len = 16 + 14 + 16 * 2 * shape.word_count();
+        let floor = u64::from(SOC) * u64::from(RATE);
+        for window in [8u64, 64, 256] {
+            let text = merger_text(window);
+            for (name, plain) in [("by tables", merging::run_by_tables as fn(u32, u32, u64, &[u8], &[u8], usize, u64) -> u64), ("as ours", merging::run_by_shifts)] {
+                let (ours, plain) = measure(
+                    4 * 2 * instants,
+                    &mut |_| each(4, || unsafe { ours::dagluwis_merger(text.as_ptr(), text.len(), configs.as_ptr(), configs.len(), black_box(data.as_ptr()), data.len(), floor) }),
+                    &mut |_| each(4, || plain(RATE, TIME_BASE, window, &configs, black_box(&data), len, floor)),
+                );
+                println!(
+                    "| {phasors}/{analogs}/{digitals} | {name} | {window} | {ours:.1} | {plain:.1} | {:.0} | {:.0} | {:.2} |",
+                    1e6 / ours,
+                    1e6 / plain,
+                    plain / ours
+                );
+            }
+        }
+    }
+}
+
 fn main() {
     println!("| path | shape | ours, ns a frame | plain Rust, ns | ours, million frames/s | plain, million/s | ratio ours / plain |");
     println!("|---|---|---:|---:|---:|---:|---:|");
@@ -333,4 +415,5 @@ fn main() {
     }
     tables();
     nodes();
+    mergers();
 }

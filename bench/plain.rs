@@ -50,6 +50,37 @@ pub fn check_word(bytes: &[u8]) -> u16 {
     })
 }
 
+/// The check word, sixteen bytes a step without tables, as ours: the state stands for state * x^16, and is moved up by 128 bits
+/// behind the generator's eighth power, x^128 + x^96 + x^40 + 1.
+pub fn check_word_by_shifts(bytes: &[u8]) -> u16 {
+    fn quotient(state: u64) -> u64 {
+        let half = state ^ (state >> 32);
+        half ^ (half >> 16) ^ (half >> 44)
+    }
+    fn moved_up(state: u64) -> u64 {
+        let quotient = quotient(state);
+        (quotient << 48) ^ (quotient << 20) ^ quotient
+    }
+    fn wide_moved_up(state: u128) -> u128 {
+        let half = state ^ (state >> 64);
+        let quotient = half ^ (half >> 32) ^ (half >> 88);
+        (quotient << 96) ^ (quotient << 40) ^ quotient
+    }
+    let (steps, rest) = bytes.as_chunks::<16>();
+    let state = steps.iter().fold(0x84CF, |state, step| wide_moved_up(state) ^ u128::from_be_bytes(*step));
+    let state = moved_up((state >> 64) as u64) ^ state as u64;
+    let (steps, rest) = rest.as_chunks::<8>();
+    let state = steps.iter().fold(state, |state, step| moved_up(state) ^ u64::from_be_bytes(*step));
+    let state = match rest.len() as u32 * 8 {
+        0 => state,
+        bits => moved_up(state >> (64 - bits)) ^ (state << bits) ^ rest.iter().fold(0, |number, &byte| (number << 8) | u64::from(byte)),
+    };
+    let half = quotient(state);
+    let quarter = half ^ (half >> 8) ^ (half >> 22) ^ (half >> 32);
+    let last = quarter ^ (quarter >> 4) ^ (quarter >> 11) ^ (quarter >> 16);
+    ((last << 12) ^ (last << 5) ^ last) as u16
+}
+
 #[derive(Clone, Copy, Debug, PartialEq, Eq)]
 pub enum Kind {
     Data,
@@ -94,6 +125,12 @@ fn long(bytes: &[u8], place: usize) -> u32 {
 }
 
 pub fn read_frame(bytes: &[u8]) -> Result<Frame<'_>, Fault> {
+    read_frame_by(check_word, bytes)
+}
+
+/// Reads a frame, with its check word computed so.
+#[inline]
+pub fn read_frame_by(check_word: impl Fn(&[u8]) -> u16, bytes: &[u8]) -> Result<Frame<'_>, Fault> {
     if bytes.len() < 16 {
         return Err(Fault::Short);
     }

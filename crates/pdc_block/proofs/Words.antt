@@ -1,8 +1,8 @@
 -- Words and their bytes: as many words as bytes have room for are told by their bytes.
-use Rattle.std.proofs.Common.{◌≡◌, ℕ, zero, suc, ◌+◌, ◌*◌, ◌^◌, ◌<◌, ◌≤◌, List, [], ◌∷◌, ◌++◌, length, take, drop, refl, sym, ap, ◌∙◌, arith, length-append}
+use Rattle.std.proofs.Common.{◌≡◌, ℕ, zero, suc, ◌+◌, ◌*◌, ◌^◌, ◌<◌, ◌≤◌, List, [], ◌∷◌, ◌++◌, get_or, length, take, drop, refl, sym, ap, ◌∙◌, arith, length-append}
 use Rattle.std.specs.Prelude.{sum_by}
 use Rattle.std.specs.Int.{w16, to_be_bytes}
-use Rattle.std.proofs.lemmas.List.{append-nil}
+use Rattle.std.proofs.lemmas.List.{append-nil, append_assoc, drop_more, take-append-drop}
 use Rattle.std.proofs.lemmas.Grind.{flat_map-append}
 use Rattle.std.proofs.Math.Seq.{take-add}
 use Rattle.std.proofs.lemmas.List.Sums.{sum_by-cons}
@@ -41,6 +41,51 @@ AreOfShapes-push [] [] s x h count fits = (count, fits, tt)
 AreOfShapes-push [] (y ∷ xs) s x h count fits = absurd h
 AreOfShapes-push (t ∷ shapes) [] s x h count fits = absurd h
 AreOfShapes-push (t ∷ shapes) (y ∷ xs) s x h count fits = (h.0, h.1, AreOfShapes-push shapes xs s x h.2 count fits)
+
+-- ---- eight words at once
+
+next_word : (words : List ℕ) (at next n : ℕ) → next ≡ at + 1 → at + suc n ≤ length words → take (suc n) (drop at words) ≡ get_or words at 0 ∷ take n (drop next words)
+next_word words at next n e l =
+    ap (take (suc n)) (drop_more words at 0 (omega (arith, l))) ∙ ap (λ (m : ℕ). get_or words at 0 ∷ take n (drop m words)) (sym e)
+
+pub eight_from : (words : List ℕ) (at : ℕ) → at + 8 ≤ length words
+    → take 8 (drop at words) ≡ get_or words at 0 ∷ get_or words (at + 1) 0 ∷ get_or words (at + 2) 0 ∷ get_or words (at + 3) 0
+    ∷ get_or words (at + 4) 0 ∷ get_or words (at + 5) 0 ∷ get_or words (at + 6) 0 ∷ get_or words (at + 7) 0 ∷ []
+eight_from words at l =
+    next_word words at (at + 1) 7 (omega arith) (omega (arith, l)) ∙ ap (λ (r : List ℕ). get_or words at 0 ∷ r) (
+    next_word words (at + 1) (at + 2) 6 (omega arith) (omega (arith, l)) ∙ ap (λ (r : List ℕ). get_or words (at + 1) 0 ∷ r) (
+    next_word words (at + 2) (at + 3) 5 (omega arith) (omega (arith, l)) ∙ ap (λ (r : List ℕ). get_or words (at + 2) 0 ∷ r) (
+    next_word words (at + 3) (at + 4) 4 (omega arith) (omega (arith, l)) ∙ ap (λ (r : List ℕ). get_or words (at + 3) 0 ∷ r) (
+    next_word words (at + 4) (at + 5) 3 (omega arith) (omega (arith, l)) ∙ ap (λ (r : List ℕ). get_or words (at + 4) 0 ∷ r) (
+    next_word words (at + 5) (at + 6) 2 (omega arith) (omega (arith, l)) ∙ ap (λ (r : List ℕ). get_or words (at + 5) 0 ∷ r) (
+    next_word words (at + 6) (at + 7) 1 (omega arith) (omega (arith, l)) ∙ ap (λ (r : List ℕ). get_or words (at + 6) 0 ∷ r) (
+    next_word words (at + 7) (at + 8) 0 (omega arith) (omega (arith, l)))))))))
+
+-- the bytes of eight words, each by its place
+abbrev pub joined : (a b c d e f g h : List ℕ) → List ℕ
+joined a b c d e f g h =
+    get_or a 0 0 ∷ get_or a 1 0 ∷ get_or b 0 0 ∷ get_or b 1 0 ∷ get_or c 0 0 ∷ get_or c 1 0 ∷ get_or d 0 0 ∷ get_or d 1 0
+    ∷ get_or e 0 0 ∷ get_or e 1 0 ∷ get_or f 0 0 ∷ get_or f 1 0 ∷ get_or g 0 0 ∷ get_or g 1 0 ∷ get_or h 0 0 ∷ get_or h 1 0 ∷ []
+
+-- words behind words
+words_behind : (old content front back : List ℕ) → content ≡ old ++ bytes_of_words front → content ++ bytes_of_words back ≡ old ++ bytes_of_words (front ++ back)
+words_behind old content front back e =
+    ap (λ (bytes : List ℕ). bytes ++ bytes_of_words back) e
+    ∙ append_assoc old (bytes_of_words front) (bytes_of_words back)
+    ∙ ap (λ (bytes : List ℕ). old ++ bytes) (sym (flat_map-append (to_be_bytes w16) front back))
+
+-- eight words more,
+pub more_words : (words old content : List ℕ) (at : ℕ) → content ≡ old ++ bytes_of_words (take at words)
+    → content ++ bytes_of_words (take 8 (drop at words)) ≡ old ++ bytes_of_words (take (at + 8) words)
+more_words words old content at e =
+    words_behind old content (take at words) (take 8 (drop at words)) e ∙ ap (λ (front : List ℕ). old ++ bytes_of_words front) (sym (take-add at 8 words))
+
+-- and the last
+pub last_words : (words rest old content : List ℕ) (at : ℕ) → content ≡ old ++ bytes_of_words (take at words) → rest ≡ drop at words
+    → content ++ bytes_of_words rest ≡ old ++ bytes_of_words words
+last_words words rest old content at e is =
+    words_behind old content (take at words) rest e
+    ∙ ap (λ (front : List ℕ). old ++ bytes_of_words front) (ap (λ (back : List ℕ). take at words ++ back) is ∙ take-append-drop at words)
 
 -- ---- what follows from the laws of words and of parts
 

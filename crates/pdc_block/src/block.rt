@@ -3,6 +3,7 @@ ghost use Rattle.std.specs.Prelude.{◌≡◌, ◌<◌, ◌≤◌, ◌^◌, ℕ,
 ghost use Rattle.arrayvec.specs.ArrayVec.{array_vec_len};
 ghost use Rattle.pdc_cfg.specs.Shape.{word_count_of};
 
+use crate::in_place::{read_words, set_words};
 use arrayvec::ArrayVec;
 use pdc_cfg::{MAX_WORDS, Shape};
 use std::alloc::AllocError;
@@ -51,7 +52,7 @@ impl Clone for Block {
 }
 
 impl Block {
-    ghost use Rattle.pdc_block.specs.Block.{words_of};
+    ghost use Rattle.pdc_block.specs.Block.{body_len_of, words_in, words_of};
 
     /// The block of this shape and these words.
     pub fn from_words(shape: Shape, words: &[u16]) -> Block
@@ -77,6 +78,16 @@ impl Block {
         set_words(&mut self.words, words);
     }
 
+    /// Makes this the block of this shape that the bytes are, in place: each word is read where it lies, and written once.
+    pub fn read(&mut self, shape: Shape, bytes: &[u8])
+        requires { length bytes.now ≡ body_len_of shape }
+        ensures shape { self.new.shape ≡ shape }
+        ensures words { words_of self.new ≡ words_in bytes.now }
+    {
+        self.shape = shape;
+        read_words(&mut self.words, shape.word_count(), bytes);
+    }
+
     /// The words in wire order.
     #[inline]
     pub fn words(&self) -> &[u16]
@@ -84,18 +95,5 @@ impl Block {
         ensures count { length result.now ≡ word_count_of self.now.shape }
     {
         self.words.as_slice()
-    }
-}
-
-/// Makes these the words of a block. Where there were as many before, they are written over.
-fn set_words(kept: &mut ArrayVec<u16, MAX_WORDS>, words: &[u16])
-    requires { length words.now ≤ MAX_WORDS }
-    ensures { kept.new.items ≡ words.now }
-{
-    if kept.len() == words.len() {
-        kept.as_mut_slice().copy_from_slice(words);
-    } else {
-        *kept = ArrayVec::new();
-        kept.try_extend_from_slice(words).unwrap();
     }
 }

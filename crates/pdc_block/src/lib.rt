@@ -9,6 +9,7 @@
 mod block;
 mod body;
 mod fault;
+mod in_place;
 mod laws;
 mod reading;
 mod writing;

@@ -4,9 +4,10 @@ ghost use Rattle.pdc_block.specs.Block.{IsBody, IsCut, words_of, shape_of, body_
 
 use crate::block::Block;
 use crate::fault::BodyFault;
+use crate::in_place::new_words;
 use arrayvec::ArrayVec;
 use pdc_cfg::{MAX_SECTIONS, Shape};
-use pdc_frame::{parts_keep_their_words, read_word, words_are_their_bytes};
+use pdc_frame::{parts_keep_their_words, words_are_their_bytes};
 
 /// The block that the bytes are, where there are as many as the shape takes.
 fn body_of(shape: Shape, bytes: &[u8]) -> Block
@@ -15,10 +16,7 @@ fn body_of(shape: Shape, bytes: &[u8]) -> Block
     ensures found { IsBody shape bytes.now (words_of result) }
 {
     words_are_their_bytes();
-    let mut words = ArrayVec::new();
-    for i in 0..shape.word_count() {
-        words.push(read_word(bytes, 2 * i));
-    }
+    let words = new_words(shape.word_count(), bytes);
     Block { shape, words }
 }
 

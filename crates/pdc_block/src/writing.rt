@@ -1,5 +1,5 @@
 //! Blocks, written as the payload of a data frame.
-ghost use Rattle.std.specs.Prelude.{◌≡◌, ◌+◌, ◌*◌, ◌≤◌, ◌++◌, map, length, sum_by, IsOk, OnOk, OnErr};
+ghost use Rattle.std.specs.Prelude.{◌≡◌, ◌+◌, ◌*◌, ◌≤◌, ◌++◌, drop, map, take, length, sum_by, IsOk, OnOk, OnErr};
 ghost use Rattle.pdc_block.specs.Block.{IsCut, words_of, shape_of, body_len_of, bytes_of_words, bytes_of_blocks};
 
 use crate::block::Block;
@@ -7,8 +7,31 @@ use pdc_cfg::MAX_WORDS;
 use pdc_frame::Buffer;
 use std::alloc::AllocError;
 
-/// Appends the words, each with its high byte first. It takes no memory: there is room for them.
-pub fn append_words<B: Buffer>(words: &[u16], out: &mut B)
+/// How many words are written at once.
+const WORDS_AT_ONCE: usize = 8;
+
+/// The bytes of the eight words from this place on, each with its high byte first.
+#[inline]
+fn eight_words(words: &[u16], at: usize) -> [u8; 16]
+    requires { at + WORDS_AT_ONCE ≤ length words.now }
+    ensures { result ≡ bytes_of_words (take 8 (drop at words.now)) }
+{
+    let a = words[at].to_be_bytes();
+    let b = words[at + 1].to_be_bytes();
+    let c = words[at + 2].to_be_bytes();
+    let d = words[at + 3].to_be_bytes();
+    let e = words[at + 4].to_be_bytes();
+    let f = words[at + 5].to_be_bytes();
+    let g = words[at + 6].to_be_bytes();
+    let h = words[at + 7].to_be_bytes();
+    [
+        a[0], a[1], b[0], b[1], c[0], c[1], d[0], d[1], e[0], e[1], f[0], f[1], g[0], g[1], h[0],
+        h[1],
+    ]
+}
+
+/// Appends the words one by one.
+fn append_each<B: Buffer>(words: &[u16], out: &mut B)
     requires { length (B.content out.old) + 2 * length words.now ≤ B.capacity out.old }
     ensures content { B.content out.new ≡ B.content out.old ++ bytes_of_words words.now }
     ensures len { length (B.content out.new) ≡ length (B.content out.old) + 2 * length words.now }
@@ -17,6 +40,21 @@ pub fn append_words<B: Buffer>(words: &[u16], out: &mut B)
     for word in words {
         out.append_bytes(&word.to_be_bytes());
     }
+}
+
+/// Appends the words, each with its high byte first. It takes no memory: there is room for them.
+pub fn append_words<B: Buffer>(words: &[u16], out: &mut B)
+    requires { length (B.content out.old) + 2 * length words.now ≤ B.capacity out.old }
+    ensures content { B.content out.new ≡ B.content out.old ++ bytes_of_words words.now }
+    ensures len { length (B.content out.new) ≡ length (B.content out.old) + 2 * length words.now }
+    ensures in_place { B.capacity out.new ≡ B.capacity out.old }
+{
+    let mut at = 0;
+    while words.len() - at >= WORDS_AT_ONCE {
+        out.append_bytes(&eight_words(words, at));
+        at += WORDS_AT_ONCE;
+    }
+    append_each(&words[at..], out);
 }
 
 /// The bytes that the blocks take, one after the other: 6 to 214 each.

@@ -16,10 +16,9 @@ ghost use Rattle.pdc_merge.specs.Cells.{blocks_len, cells_in, conflicts_in, data
 ghost use Rattle.pdc_merge.specs.Held.{AreAllInPlace, AreInPlace, LayoutView, layout_at, layouts_of};
 ghost use Rattle.pdc_merge.specs.Merger.{IsPlaced, IsReady};
 
-use crate::cells::push_cells;
+use crate::cells::{CellRoom, write_cells};
 use crate::held_layout::HeldLayout;
 use crate::layouts::HeldLayouts;
-use arrayvec::ArrayVec;
 use pdc_align::{Alignment, columns_stand, others_are_left};
 use pdc_answering::{OWN_BLOCK_LEN, bears, differs, is_candidate, layout_answer, words_are_cut};
 use pdc_life::{Outcome, Refusal};
@@ -47,6 +46,7 @@ fn data_refusal(layout: &HeldLayout, payload: &[u8]) -> Option<Refusal>
 /// Offers the cells of data that a layout reads.
 fn put_data<T: Table>(
     alignment: &mut Alignment<T>,
+    cells: &mut CellRoom,
     layout: &HeldLayout,
     stream: usize,
     instant: u64,
@@ -71,19 +71,15 @@ fn put_data<T: Table>(
     ensures disagreements { alignment.new.disagreements ≡ alignment.old.disagreements }
 {
     words_are_cut();
-    let mut cells = ArrayVec::new();
-    push_cells(
-        alignment,
-        layout.sections(),
-        &payload[OWN_BLOCK_LEN..],
-        &mut cells,
-    );
-    alignment.put(stream, instant, cells.as_slice(), quality)
+    let blocks = &payload[OWN_BLOCK_LEN..];
+    let count = write_cells(alignment, layout.sections(), blocks, cells, 0);
+    alignment.put(stream, instant, &cells[..count], quality)
 }
 
 /// Answers data of a node under its layout, and takes it where it comes in time.
 fn answer_data<T: Table>(
     alignment: &mut Alignment<T>,
+    cells: &mut CellRoom,
     layout: &HeldLayout,
     stream: usize,
     instant: u64,
@@ -108,7 +104,7 @@ fn answer_data<T: Table>(
     columns_stand();
     match data_refusal(layout, payload) {
         Some(refusal) => Outcome::Refused(refusal),
-        None => put_data(alignment, layout, stream, instant, quality, payload),
+        None => put_data(alignment, cells, layout, stream, instant, quality, payload),
     }
 }
 
@@ -204,10 +200,11 @@ fn answer_configuration<T: Table>(
     outcome
 }
 
-/// Answers what arrives from a node.
+/// Answers what arrives from a node; the cells of data are written into the room for them.
 pub fn answer<T: Table>(
     alignment: &mut Alignment<T>,
     layouts: &mut HeldLayouts,
+    cells: &mut CellRoom,
     stream: usize,
     arrival: &Arrival<'_>,
 ) -> Outcome
@@ -234,7 +231,9 @@ pub fn answer<T: Table>(
             quality,
             payload,
         } => match layouts.of(stream) {
-            Some(layout) => answer_data(alignment, layout, stream, *instant, *quality, payload),
+            Some(layout) => answer_data(
+                alignment, cells, layout, stream, *instant, *quality, payload,
+            ),
             None => Outcome::Refused(Refusal::NoConfig),
         },
         Arrival::Layout { stamp, sections } => {

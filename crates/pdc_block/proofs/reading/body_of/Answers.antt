@@ -1,17 +1,17 @@
-use Rattle.std.proofs.Common.{◌+◌, ℕ, List, ap, subst, sym, ◌∙◌, arith}
-use Rattle.pdc_block.specs.Block.{AreWords, bytes_of_words}
-use Rattle.pdc_block.proofs.Words.{AreWords-push, bytes_of_words-push}
+use Rattle.std.proofs.Common.{◌∙◌, List, arith, subst, sym, ℕ}
+use Rattle.pdc_frame.specs.Bytes.{AreBytes}
+use Rattle.pdc_block.specs.Block.{AreWords, IsBody}
+use Rattle.pdc_block.proofs.Bodies.{body_of_bytes, words_fit}
 use Rattle.pdc_block.proofs.reading.body_of.Goals as goal
 
-pub loop-i-preserved : goal.loop-i-preserved
-loop-i-preserved c =
-    let xs : List ℕ = c.loop-i.words.items in
-    let i : ℕ = c.loop-i.i in
-    let w : ℕ = c.read_word.result in
-    let pushed = c.push.ensures.items in
-    record {
-      count = c.push.ensures.len ∙ ap (λ (n : ℕ). n + 1) c.loop-i.invariant.count;
-      fits = subst AreWords (sym pushed) (AreWords-push xs w c.loop-i.invariant.fits c.read_word.type_inv);
-      spelled = ap bytes_of_words pushed
-          ∙ bytes_of_words-push c.words_are_their_bytes.ensures c.args.bytes.now xs i w (λ k. omega (arith, c.type_inv.bytes k)) (omega (arith, c.requires, c.loop-i-test.true, c.word_count-i-end.ensures.value)) c.loop-i.invariant.spelled c.read_word.ensures;
-    }
+pub invariant_of-result : goal.invariant_of-result
+invariant_of-result c = record {
+  counted = c.new_words-words.ensures.count ∙ c.word_count.ensures.value;
+  words_fit = subst AreWords (sym c.new_words-words.ensures.words) (words_fit c.args.bytes.now (λ i. omega (arith, c.type_inv.bytes i)));
+}
+
+pub returns-clause-found : goal.returns-clause-found
+returns-clause-found c =
+    let fits : AreBytes c.args.bytes.now = λ i. omega (arith, c.type_inv.bytes i) in
+    subst (λ (words : List ℕ). IsBody c.args.shape c.args.bytes.now words) (sym c.new_words-words.ensures.words)
+    (body_of_bytes c.words_are_their_bytes.ensures c.args.shape c.args.bytes.now fits c.requires)

@@ -1,7 +1,6 @@
 use Rattle.std.proofs.Common.{◌≡◌, ◌++◌, ◌∙◌, ◌-◌, ℕ, List, ap, arith, drop, length, subst, sym, take}
 use Rattle.std.proofs.lemmas.List.{length-drop, take_all}
 use Rattle.pdc_block.specs.Block.{words_in}
-use Rattle.pdc_block.specs.declared.block.Block.{Block}
 use Rattle.pdc_row.specs.CellView.{CellView}
 use Rattle.pdc_table.specs.Content.{IsPut}
 use Rattle.pdc_table.specs.Taking.{cells_of}
@@ -19,10 +18,8 @@ put-requires g c =
     let q = c.args.quality in
     let payload = c.args.payload.now in
     let rest : List ℕ = take (length payload - 14) (drop 14 payload) in
-    let cells : cells_of c.as_slice.result.now q ≡ cells_in a q c.args.layout.now.sections (drop 7 (words_in payload)) =
-    ap (λ (blocks : List (ℕ × Block)). cells_of blocks q) c.as_slice.ensures.value
-    ∙ c.push_cells.ensures q
-    ∙ ap (λ (blocks : List (ℕ × Block)). cells_of blocks q ++ cells_in a q c.sections.result.now (words_in rest)) c.new-cells.ensures
+    let cells : cells_of (take c.write_cells-count.result c.write_cells-count.new.cells) q ≡ cells_in a q c.args.layout.now.sections (drop 7 (words_in payload)) =
+    c.write_cells-count.ensures.cells q
     ∙ ap (λ (sections : List HeldSection). cells_in a q sections (words_in rest)) c.sections.ensures.sections
     ∙ ap (cells_in a q c.args.layout.now.sections) (ap words_in (behind_own payload) ∙ c.words_are_cut.ensures.behind 7 payload) in
     subst (λ (cs : List (ℕ × CellView)). IsPut a.content c.args.stream cs) (sym cells)

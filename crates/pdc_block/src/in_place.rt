@@ -1,0 +1,66 @@
+//! The words of a block, written over in place.
+ghost use Rattle.std.specs.Prelude.{◌≡◌, ◌*◌, ◌≤◌, length};
+ghost use Rattle.pdc_block.specs.Block.{words_in};
+
+use arrayvec::ArrayVec;
+use pdc_cfg::MAX_WORDS;
+use pdc_frame::read_word;
+
+/// Makes these the words of a block. Where there were as many before, they are written over.
+pub fn set_words(kept: &mut ArrayVec<u16, MAX_WORDS>, words: &[u16])
+    requires { length words.now ≤ MAX_WORDS }
+    ensures { kept.new.items ≡ words.now }
+{
+    if kept.len() == words.len() {
+        kept.as_mut_slice().copy_from_slice(words);
+    } else {
+        *kept = ArrayVec::new();
+        kept.try_extend_from_slice(words).unwrap();
+    }
+}
+
+/// Makes these the words of a block: as many as this, and those that the bytes write. Where there were as many before, they are written
+/// over.
+pub fn read_words(kept: &mut ArrayVec<u16, MAX_WORDS>, count: usize, bytes: &[u8])
+    requires most { count ≤ MAX_WORDS }
+    requires size { length bytes.now ≡ 2 * count }
+    ensures words { kept.new.items ≡ words_in bytes.now }
+    ensures count { length kept.new.items ≡ count }
+{
+    if kept.len() != count {
+        *kept = zeros(count);
+    }
+    read_into(kept.as_mut_slice(), bytes);
+}
+
+/// So many words, to be written over.
+fn zeros(count: usize) -> ArrayVec<u16, MAX_WORDS>
+    requires { count ≤ MAX_WORDS }
+    ensures { length result.items ≡ count }
+{
+    let mut zeros = ArrayVec::from_array_in((), [0; MAX_WORDS]);
+    zeros.truncate(count);
+    zeros
+}
+
+/// So many words, which the bytes write.
+pub fn new_words(count: usize, bytes: &[u8]) -> ArrayVec<u16, MAX_WORDS>
+    requires most { count ≤ MAX_WORDS }
+    requires size { length bytes.now ≡ 2 * count }
+    ensures words { result.items ≡ words_in bytes.now }
+    ensures count { length result.items ≡ count }
+{
+    let mut words = zeros(count);
+    read_into(words.as_mut_slice(), bytes);
+    words
+}
+
+/// Writes the words that the bytes write over these.
+fn read_into(words: &mut [u16], bytes: &[u8])
+    requires { length bytes.now ≡ 2 * length words.old }
+    ensures { words.new ≡ words_in bytes.now }
+{
+    for place in 0..words.len() {
+        words[place] = read_word(bytes, 2 * place);
+    }
+}
