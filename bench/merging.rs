@@ -2,7 +2,7 @@
 //! the layout whose stamp it bears, keeps two lanes of words in a ring, stores the floor in a mark in memory, and writes the data
 //! frames. The words of a frame are read where they lie, straight into their places in the ring; a row is written from there.
 
-use crate::plain::{self, Config, Fault, Few, Frame, Kind, Section, Shape};
+use crate::plain::{self, Config, Few, Frame, Kind, Section, Shape};
 
 const COLUMNS: usize = 16;
 const LANES: usize = 2;
@@ -35,8 +35,6 @@ enum Answer {
 }
 
 const ANSWERS: usize = 21;
-
-type Stamp = (u32, u32);
 
 /// What is kept of a section in a layout of a node.
 #[derive(Clone, Copy, Default)]
@@ -394,10 +392,10 @@ impl Merger {
             return Answer::WrongRate;
         }
         let [own, others @ ..] = config.sections.as_slice() else { return Answer::NoConfiguration };
-        let Ok((stamp, bytes)) = own_stamp(self.nodes[stream], own.bytes) else { return Answer::BadOwnBlock };
+        let Some(stamp) = own_stamp(self.nodes[stream], own.bytes) else { return Answer::BadOwnBlock };
         let Some(placed) = self.place(others) else { return Answer::UnknownSource };
         if let Some(held) = &self.layouts[stream] {
-            match bytes.cmp(&held.stamp) {
+            match stamp.cmp(&held.stamp) {
                 std::cmp::Ordering::Less => return Answer::OldStamp,
                 std::cmp::Ordering::Equal => return Answer::Known,
                 std::cmp::Ordering::Greater => {}
@@ -420,8 +418,7 @@ impl Merger {
                 *held = Some(Held::of(section));
             }
         }
-        debug_assert!(stamp.0 != 0);
-        self.layouts[stream] = Some(Layout { stamp: bytes, parts, len });
+        self.layouts[stream] = Some(Layout { stamp, parts, len });
         Answer::Candidate
     }
 
@@ -462,26 +459,22 @@ impl Merger {
     }
 }
 
-/// The stamp that the masks of an own section of this id say, where all else in it is as it must be.
-fn own_stamp(id: u16, bytes: &[u8]) -> Result<(Stamp, [u8; 8]), Fault> {
+/// The bytes of the stamp that the masks of an own section of this id say, where all else in it is as it must be.
+fn own_stamp(id: u16, bytes: &[u8]) -> Option<[u8; 8]> {
     if bytes.len() != OWN_SECTION_LEN {
-        return Err(Fault::WrongLength);
+        return None;
     }
-    let mut words = [0; 8];
-    for (pair, mask) in words.chunks_exact_mut(2).zip(bytes[1050..1066].chunks_exact(4)) {
+    let mut stamp = [0; 8];
+    for (pair, mask) in stamp.chunks_exact_mut(2).zip(bytes[1050..1066].chunks_exact(4)) {
         pair.copy_from_slice(&mask[..2]);
     }
-    let [a, b, c, d, e, f, g, h] = words;
-    let stamp = (u32::from_be_bytes([a, b, c, d]), u32::from_be_bytes([e, f, g, h]));
-    if bytes == own_section(id, 1, stamp) || bytes == own_section(id, 0, stamp) {
-        Ok((stamp, words))
-    } else {
-        Err(Fault::WrongKind)
-    }
+    let [a, b, c, d, e, f, g, h] = stamp;
+    let numbers = (u32::from_be_bytes([a, b, c, d]), u32::from_be_bytes([e, f, g, h]));
+    (bytes == own_section(id, 1, numbers) || bytes == own_section(id, 0, numbers)).then_some(stamp)
 }
 
 /// The own section of a node: its name and id, no values but four digital words, whose masks say the stamp.
-pub fn own_section(id: u16, nominal: u16, (start, change): Stamp) -> Vec<u8> {
+pub fn own_section(id: u16, nominal: u16, (start, change): (u32, u32)) -> Vec<u8> {
     let mut bytes = format!("PDC {id:05}       ").into_bytes();
     for word in [id, 0, 0, 0, 4] {
         bytes.extend_from_slice(&word.to_be_bytes());
