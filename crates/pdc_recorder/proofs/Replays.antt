@@ -44,9 +44,9 @@ replays_nothing rules Says Before g E [] read b = b
 replays_nothing rules Says Before g E (r ∷ reads) read b = absurd read
 
 -- at the start nothing is replayed
-pub opened : (rules : Rules) (Says : Sayings) (named : Option Given) (Base State : Lives) (g : Given) → named ≡ Some g → Base g [] → State g []
-    → Replays rules Says named Base State []
-opened rules Says named Base State g is b s = record { given = g; is_named = is; life = []; based = b; reads = []; read = tt; reached = s }
+pub opened : (rules : Rules) (Says : Sayings) (named : Option Given) (Base State : Lives) (steps : List CoreStep) → steps ≡ [] → (g : Given) → named ≡ Some g → Base g [] → State g []
+    → Replays rules Says named Base State steps
+opened rules Says named Base State steps e g is b s = record { given = g; is_named = is; life = []; based = b; reads = []; read = subst (λ (l : List CoreStep). AreRead Says l []) (sym e) tt; reached = s }
 
 -- a step that the state follows is replayed too
 pub grown : (rules : Rules) (Says : Sayings) (named : Option Given) (Base State After : Lives) (steps more : List CoreStep) (step : CoreStep) (read : ReadStep)
@@ -63,15 +63,15 @@ grown rules Says named Base State After steps more step read e is says follows r
 }
 
 -- the base is brought up by all steps
-pub rebased : (rules : Rules) (Says : Sayings) (named : Option Given) (Base State After : Lives) (steps none : List CoreStep)
-    → none ≡ [] → Replaying rules Says Base After steps → Replays rules Says named Base State steps → Replays rules Says named After State none
-rebased rules Says named Base State After steps none e replaying r = record {
+pub rebased : (rules : Rules) (Says Now : Sayings) (named : Option Given) (Base State After : Lives) (steps none : List CoreStep)
+    → none ≡ [] → Replaying rules Says Base After steps → Replays rules Says named Base State steps → Replays rules Now named After State none
+rebased rules Says Now named Base State After steps none e replaying r = record {
   given = r.given;
   is_named = r.is_named;
   life = life_from rules r.given r.life r.reads;
   based = replaying r.given r.life r.reads r.read r.based;
   reads = [];
-  read = subst (λ (l : List CoreStep). AreRead Says l []) (sym e) tt;
+  read = subst (λ (l : List CoreStep). AreRead Now l []) (sym e) tt;
   reached = r.reached;
 }
 

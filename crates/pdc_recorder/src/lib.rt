@@ -11,7 +11,7 @@
 mod fault;
 mod hub;
 mod naming;
-mod receive;
+mod receiver;
 mod recorder;
 mod replayed;
 mod shares;
@@ -19,7 +19,7 @@ mod shares;
 pub use fault::HubFault;
 pub use hub::Hub;
 pub use naming::Naming;
-pub use receive::{Next, Received, Source, receive};
+pub use receiver::{Next, Received, Source, receive};
 pub use recorder::Recorder;
 pub use replayed::Replayed;
 pub use shares::{Blanks, Books, Shares};
