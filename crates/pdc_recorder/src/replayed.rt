@@ -3,7 +3,8 @@ ghost use Rattle.std.specs.Prelude.{◌≡◌, ◌≤◌, ◌<◌, ◌*◌, ◌+
 ghost use Rattle.std.specs.List.{list_all};
 ghost use Rattle.pdc_align.specs.Align.{ticked_of};
 ghost use Rattle.pdc_answering.specs.Counts.{after_answer};
-ghost use Rattle.pdc_core.specs.Step.{is_allowed, popped_after};
+ghost use Rattle.pdc_align.specs.Popped.{popped_after};
+ghost use Rattle.pdc_core.specs.Step.{is_allowed};
 ghost use Rattle.pdc_core.specs.Taken.{taken_view};
 ghost use Rattle.pdc_core.specs.declared.step.CoreStep.TheVariants as step;
 ghost use Rattle.pdc_life.specs.Answer.{ToArrive, ToPop, ToTick, pop_answer, tick_answer};
