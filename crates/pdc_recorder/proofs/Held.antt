@@ -35,15 +35,15 @@ pub arrived : {S : Type 0} (Says : S → Sayings) (fits : S → ℕ → Arrival 
     → ∥ Replays rules (Says a) named Base State steps ∥₁ → ∥ Replays rules (Says a) named Base After more ∥₁
 arrived Says fits settings rules named Base State After a b steps more stream taken r p q e follows h =
     ∥∥₁_elim p ∥∥₁_prop (λ (x : settings ≡ Some a). ∥∥₁_elim q ∥∥₁_prop (λ (y : settings ≡ Some b). ∥∥₁_map h
-        (grown rules (Says a) named Base State After steps more (step.Arrive stream taken) (ToArrive stream r.bytes (taken_view taken)) e (refl, refl)
-            (subst (λ s. Says s stream r.bytes (taken_view taken)) (here settings r.settings a r.are_named x) r.says)
-            (follows r.bytes (subst (λ s. Says s stream r.bytes (taken_view taken)) (here settings r.settings b r.are_named y) r.says)))))
+    (grown rules (Says a) named Base State After steps more (step.Arrive stream taken) (ToArrive stream r.bytes (taken_view taken)) e (refl, refl)
+    (subst (λ s. Says s stream r.bytes (taken_view taken)) (here settings r.settings a r.are_named x) r.says)
+    (follows r.bytes (subst (λ s. Says s stream r.bytes (taken_view taken)) (here settings r.settings b r.are_named y) r.says)))))
 
 -- a row that is popped can be tagged at the rate that is named
 pub tagged : (rules : Rules) (Says : Sayings) (named : Option Given) (Base State : Lives) (steps : List CoreStep) (r : Option DueRow)
     → ∥ Replays rules Says named Base State steps ∥₁
     → ((g : Given) (E : List Entry) → State g E →
-        IfSome r (λ row. (g.floor < row.instant) × AreBelow row.instant (row_instants (popped E)) × (row.instant < SECONDS * g.output.rate)))
+    IfSome r (λ row. (g.floor < row.instant) × AreBelow row.instant (row_instants (popped E)) × (row.instant < SECONDS * g.output.rate)))
     → IfSome r (λ row. (g : Given) → named ≡ Some g → row.instant < SECONDS * g.output.rate)
 tagged rules Says named Base State steps None h next = tt
 tagged rules Says named Base State steps (Some row) h next = λ g is. ∥∥₁_elim h (search props)

@@ -36,8 +36,8 @@ extended rules Says Before Middle After [] step before makes g E (r ∷ s ∷ re
 extended rules Says Before Middle After (x ∷ steps) step before makes g E [] read b = absurd read
 extended rules Says Before Middle After (x ∷ steps) step before makes g E (r ∷ reads) read b =
     extended rules Says (λ h F. (h ≡ g) × (F ≡ answered rules g E r ∷ E)) Middle After steps step
-        (λ h F rs are at. subst (λ (y : Given × List Entry). Middle y.0 (life_from rules y.0 y.1 rs)) (λ i. (sym at.0 i, sym at.1 i))
-            (before g E (r ∷ rs) (read.0, read.1, are) b)) makes g (answered rules g E r ∷ E) reads read.2 (refl, refl)
+    (λ h F rs are at. subst (λ (y : Given × List Entry). Middle y.0 (life_from rules y.0 y.1 rs)) (λ i. (sym at.0 i, sym at.1 i))
+    (before g E (r ∷ rs) (read.0, read.1, are) b)) makes g (answered rules g E r ∷ E) reads read.2 (refl, refl)
 
 pub replays_nothing : (rules : Rules) (Says : Sayings) (Before : Lives) → Replaying rules Says Before Before []
 replays_nothing rules Says Before g E [] read b = b

@@ -32,7 +32,14 @@ pub struct Hub<C: Core + Drop, N: Naming<C::Settings>, T: Ledger, F: Ledger, G: 
     table: Mutex<Recorder<C, N, T, F, G, P>>,
 }
 
-impl<C: Core + Drop, N: Naming<C::Settings>, T: Ledger, F: Ledger, G: Ledger, P: Ledger> Hub<C, N, T, F, G, P> {
+impl<C: Core + Drop, N: Naming<C::Settings>, T: Ledger, F: Ledger, G: Ledger, P: Ledger> Hub<
+    C,
+    N,
+    T,
+    F,
+    G,
+    P,
+> {
     /// A hub over two cores that were opened alike with this floor, with no step taken since; the shares with all parts; and the
     /// aligner's share. The base is brought up each time that so many steps are kept.
     pub fn new(

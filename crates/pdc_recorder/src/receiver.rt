@@ -62,7 +62,15 @@ pub struct Received<T: Ledger, F: Ledger, G: Ledger> {
 }
 
 /// Reads a datagram, outside the lock, and delivers it.
-fn hand_in<C: Core + Drop, N: Naming<C::Settings>, T: Ledger, F: Ledger, G: Ledger, P: Ledger, R: Wait>(
+fn hand_in<
+    C: Core + Drop,
+    N: Naming<C::Settings>,
+    T: Ledger,
+    F: Ledger,
+    G: Ledger,
+    P: Ledger,
+    R: Wait,
+>(
     rt: &R,
     alloc: Global,
     settings: &C::Settings,
@@ -88,7 +96,16 @@ fn hand_in<C: Core + Drop, N: Naming<C::Settings>, T: Ledger, F: Ledger, G: Ledg
 }
 
 /// Reads a source to its end, or to the first idle turn after the close. What is read is read, checked and kept outside the lock.
-pub fn receive<C: Core + Drop, N: Naming<C::Settings>, T: Ledger, F: Ledger, G: Ledger, P: Ledger, S: Source, R: Wait>(
+pub fn receive<
+    C: Core + Drop,
+    N: Naming<C::Settings>,
+    T: Ledger,
+    F: Ledger,
+    G: Ledger,
+    P: Ledger,
+    S: Source,
+    R: Wait,
+>(
     rt: &R,
     alloc: Global,
     settings: &C::Settings,
@@ -111,7 +128,15 @@ pub fn receive<C: Core + Drop, N: Naming<C::Settings>, T: Ledger, F: Ledger, G: 
     for _ in rt.forever() {
         match source.next(buffer.as_mut_slice()) {
             Next::Datagram(len) => {
-                match hand_in(rt, alloc, settings, stream, &buffer[..len], hub, &mut shares) {
+                match hand_in(
+                    rt,
+                    alloc,
+                    settings,
+                    stream,
+                    &buffer[..len],
+                    hub,
+                    &mut shares,
+                ) {
                     Ok(Outcome::Taken) => taken += 1,
                     Ok(Outcome::Refused(_)) => refused += 1,
                     Ok(_) => {}

@@ -28,7 +28,14 @@ use std::sync::ledger::{Book, Ledger, Share};
 
 /// The value under the lock: a core beside its base and the steps since, and the books of what it counted.
 #[derive(Drop)]
-pub struct Recorder<C: Core + Drop, N: Naming<C::Settings>, T: Ledger, F: Ledger, G: Ledger, P: Ledger> {
+pub struct Recorder<
+    C: Core + Drop,
+    N: Naming<C::Settings>,
+    T: Ledger,
+    F: Ledger,
+    G: Ledger,
+    P: Ledger,
+> {
     /// The core, with its base and the steps since.
     pub core: Replayed<C, N>,
     /// The book of data that was taken.
@@ -50,7 +57,14 @@ pub struct Recorder<C: Core + Drop, N: Naming<C::Settings>, T: Ledger, F: Ledger
     pub ghost popped_is: { top.total ≡ popped },
 }
 
-impl<C: Core + Drop, N: Naming<C::Settings>, T: Ledger, F: Ledger, G: Ledger, P: Ledger> Recorder<C, N, T, F, G, P> {
+impl<C: Core + Drop, N: Naming<C::Settings>, T: Ledger, F: Ledger, G: Ledger, P: Ledger> Recorder<
+    C,
+    N,
+    T,
+    F,
+    G,
+    P,
+> {
     /// A recorder over two cores that were opened alike, with no step taken since, and with its books. Its base is brought up each time
     /// that so many steps are kept.
     pub fn new(
@@ -249,7 +263,10 @@ impl<C: Core + Drop, N: Naming<C::Settings>, T: Ledger, F: Ledger, G: Ledger, P:
         ensures goes { self.new.closed ≡ self.old.closed }
     {
         let Recorder {
-            core, top, popped, ..
+            core,
+            top,
+            popped,
+            ..
         } = self;
         top.audit(all);
         match core.pop() {
