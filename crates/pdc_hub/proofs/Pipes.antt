@@ -39,38 +39,38 @@ begins = (0, 0, false, [], [], refl, refl, all_set (Fits 0 0 false [] []) (log t
 pub puts : (n port : ℕ) (v : Log) (x : Message) → is_end x ≡ false → v.puts ≡ true → v.closed ≡ false → Pushes Piped n port v x (λ w. w ≡ log v.puts v.takes v.closed (v.put ++ x ∷ []) v.taken)
 puts n port v x goes may unshut items views _ h at = let w : Log = log v.puts v.takes v.closed (v.put ++ x ∷ []) v.taken in let mine = h.7 port v at in let put = h.3 ++ x ∷ [] in
     let shut : h.2 ≡ false = sym (mine.0 may).2 ∙ unshut in (
-  w,
-  (
-    h.0,
-    h.1,
-    h.2,
-    put,
-    h.4,
-    ap (λ l. l ++ x ∷ []) h.5 ∙ append_assoc h.4 items (x ∷ []),
-    subst (λ b. IsClosedBy b put) (sym shut) (no_end-more h.3 x goes (subst (λ b. IsClosedBy b h.3) shut h.6)),
-    all_set (Fits h.0 h.1 h.2 put h.4) views port w ((λ _. ((mine.0 may).0, ap (λ l. l ++ x ∷ []) (mine.0 may).1, (mine.0 may).2)), mine.1)
-        (λ j u other e. ((λ p. absurd (other (((h.7 j u e).0 p).0 ∙ sym (mine.0 may).0))), (h.7 j u e).1)),
-  ),
-  refl,
-)
+      w,
+      (
+        h.0,
+        h.1,
+        h.2,
+        put,
+        h.4,
+        ap (λ l. l ++ x ∷ []) h.5 ∙ append_assoc h.4 items (x ∷ []),
+        subst (λ b. IsClosedBy b put) (sym shut) (no_end-more h.3 x goes (subst (λ b. IsClosedBy b h.3) shut h.6)),
+        all_set (Fits h.0 h.1 h.2 put h.4) views port w ((λ _. ((mine.0 may).0, ap (λ l. l ++ x ∷ []) (mine.0 may).1, (mine.0 may).2)), mine.1)
+            (λ j u other e. ((λ p. absurd (other (((h.7 j u e).0 p).0 ∙ sym (mine.0 may).0))), (h.7 j u e).1)),
+      ),
+      refl,
+    )
 
 pub closes : (n port : ℕ) (v : Log) → v.puts ≡ true → v.closed ≡ false → Pushes Piped n port v End (λ w. w ≡ log v.puts v.takes true (v.put ++ End ∷ []) v.taken)
 closes n port v may unshut items views _ h at = let w : Log = log v.puts v.takes true (v.put ++ End ∷ []) v.taken in let mine = h.7 port v at in let put = h.3 ++ End ∷ [] in
     let shut : h.2 ≡ false = sym (mine.0 may).2 ∙ unshut in (
-  w,
-  (
-    h.0,
-    h.1,
-    true,
-    put,
-    h.4,
-    ap (λ l. l ++ End ∷ []) h.5 ∙ append_assoc h.4 items (End ∷ []),
-    (h.3, refl, subst (λ b. IsClosedBy b h.3) shut h.6),
-    all_set (Fits h.0 h.1 true put h.4) views port w ((λ _. ((mine.0 may).0, ap (λ l. l ++ End ∷ []) (mine.0 may).1, refl)), mine.1)
-        (λ j u other e. ((λ p. absurd (other (((h.7 j u e).0 p).0 ∙ sym (mine.0 may).0))), (h.7 j u e).1)),
-  ),
-  refl,
-)
+      w,
+      (
+        h.0,
+        h.1,
+        true,
+        put,
+        h.4,
+        ap (λ l. l ++ End ∷ []) h.5 ∙ append_assoc h.4 items (End ∷ []),
+        (h.3, refl, subst (λ b. IsClosedBy b h.3) shut h.6),
+        all_set (Fits h.0 h.1 true put h.4) views port w ((λ _. ((mine.0 may).0, ap (λ l. l ++ End ∷ []) (mine.0 may).1, refl)), mine.1)
+            (λ j u other e. ((λ p. absurd (other (((h.7 j u e).0 p).0 ∙ sym (mine.0 may).0))), (h.7 j u e).1)),
+      ),
+      refl,
+    )
 
 pub takes : (port : ℕ) (v : Log) → v.takes ≡ true → Pops Piped port v (λ x w. w ≡ log v.puts v.takes v.closed v.put (v.taken ++ x ∷ []))
 takes port v may x items views h at = let w : Log = log v.puts v.takes v.closed v.put (v.taken ++ x ∷ []) in let mine = h.7 port v at in let taken = h.4 ++ x ∷ [] in (

@@ -22,7 +22,7 @@ use pdc_align::Ticked;
 use pdc_core::Core;
 use pdc_mark::{COUNTS, Mark, raised};
 use pdc_output::MAX_ROW_LEN;
-use pdc_publisher::{PublishFault, Published, Publisher};
+use pdc_publisher::{PublishFault, Publisher};
 use pdc_recorder::{Hub, HubFault, Naming};
 use pdc_row::DueRow;
 use std::alloc::Global;
@@ -97,7 +97,16 @@ fn publish_one<M: Mark, R: Wait>(
 }
 
 /// The lowest row that closed and was not popped. It lies above all that were popped, and can be tagged at the publisher's rate.
-fn next_row<C: Core + Drop, N: Naming<C::Settings>, T: Ledger, F: Ledger, G: Ledger, P: Ledger, M: Mark, R: Wait>(
+fn next_row<
+    C: Core + Drop,
+    N: Naming<C::Settings>,
+    T: Ledger,
+    F: Ledger,
+    G: Ledger,
+    P: Ledger,
+    M: Mark,
+    R: Wait,
+>(
     rt: &R,
     hub: &Hub<C, N, T, F, G, P>,
     top: &mut Share<P>,
@@ -115,7 +124,16 @@ fn next_row<C: Core + Drop, N: Naming<C::Settings>, T: Ledger, F: Ledger, G: Led
 }
 
 /// Pops and publishes all due rows, and puts each on the channel.
-fn publish_due<C: Core + Drop, N: Naming<C::Settings>, T: Ledger, F: Ledger, G: Ledger, P: Ledger, M: Mark, R: Wait>(
+fn publish_due<
+    C: Core + Drop,
+    N: Naming<C::Settings>,
+    T: Ledger,
+    F: Ledger,
+    G: Ledger,
+    P: Ledger,
+    M: Mark,
+    R: Wait,
+>(
     rt: &R,
     hub: &Hub<C, N, T, F, G, P>,
     top: &mut Share<P>,
@@ -152,12 +170,15 @@ fn second_of(pace: &Pace, now: u64) -> u32 {
 }
 
 /// The frame of the layout in force, dated with this second.
-fn layout_of<C: Core + Drop, N: Naming<C::Settings>, T: Ledger, F: Ledger, G: Ledger, P: Ledger, R: Wait>(
-    rt: &R,
-    alloc: Global,
-    hub: &Hub<C, N, T, F, G, P>,
-    soc: u32,
-) -> Result<LayoutFrame, HubFault> {
+fn layout_of<
+    C: Core + Drop,
+    N: Naming<C::Settings>,
+    T: Ledger,
+    F: Ledger,
+    G: Ledger,
+    P: Ledger,
+    R: Wait,
+>(rt: &R, alloc: Global, hub: &Hub<C, N, T, F, G, P>, soc: u32) -> Result<LayoutFrame, HubFault> {
     let mut bytes = Vec::new(alloc);
     if let Err(fault) = hub.layout(rt, soc, &mut bytes) {
         return Err(fault);
@@ -166,7 +187,15 @@ fn layout_of<C: Core + Drop, N: Naming<C::Settings>, T: Ledger, F: Ledger, G: Le
 }
 
 /// Puts the frame of the layout in force on the channel.
-fn put_layout<C: Core + Drop, N: Naming<C::Settings>, T: Ledger, F: Ledger, G: Ledger, P: Ledger, R: Wait>(
+fn put_layout<
+    C: Core + Drop,
+    N: Naming<C::Settings>,
+    T: Ledger,
+    F: Ledger,
+    G: Ledger,
+    P: Ledger,
+    R: Wait,
+>(
     rt: &R,
     alloc: Global,
     hub: &Hub<C, N, T, F, G, P>,
@@ -189,7 +218,15 @@ fn put_layout<C: Core + Drop, N: Naming<C::Settings>, T: Ledger, F: Ledger, G: L
 }
 
 /// Puts the frame of the layout in force on the channel, where it is wanted.
-fn put_layout_where<C: Core + Drop, N: Naming<C::Settings>, T: Ledger, F: Ledger, G: Ledger, P: Ledger, R: Wait>(
+fn put_layout_where<
+    C: Core + Drop,
+    N: Naming<C::Settings>,
+    T: Ledger,
+    F: Ledger,
+    G: Ledger,
+    P: Ledger,
+    R: Wait,
+>(
     rt: &R,
     alloc: Global,
     hub: &Hub<C, N, T, F, G, P>,
@@ -209,7 +246,16 @@ fn put_layout_where<C: Core + Drop, N: Naming<C::Settings>, T: Ledger, F: Ledger
 }
 
 /// Raises the mark to the counts that wait, outside the lock, and then ticks with the stored ones.
-fn tick_cleared<C: Core + Drop, N: Naming<C::Settings>, T: Ledger, F: Ledger, G: Ledger, P: Ledger, M: Mark, R: Wait>(
+fn tick_cleared<
+    C: Core + Drop,
+    N: Naming<C::Settings>,
+    T: Ledger,
+    F: Ledger,
+    G: Ledger,
+    P: Ledger,
+    M: Mark,
+    R: Wait,
+>(
     rt: &R,
     hub: &Hub<C, N, T, F, G, P>,
     publisher: &mut Publisher<M>,
@@ -231,7 +277,16 @@ fn tick_cleared<C: Core + Drop, N: Naming<C::Settings>, T: Ledger, F: Ledger, G:
 
 /// One tick: first the mark is raised, and after it all due rows go out, and then the layout, where the tick adopted or it is to be
 /// repeated. Whether the tick adopted.
-fn turn<C: Core + Drop, N: Naming<C::Settings>, T: Ledger, F: Ledger, G: Ledger, P: Ledger, M: Mark, R: Wait>(
+fn turn<
+    C: Core + Drop,
+    N: Naming<C::Settings>,
+    T: Ledger,
+    F: Ledger,
+    G: Ledger,
+    P: Ledger,
+    M: Mark,
+    R: Wait,
+>(
     rt: &R,
     alloc: Global,
     hub: &Hub<C, N, T, F, G, P>,
@@ -269,7 +324,17 @@ fn turn<C: Core + Drop, N: Naming<C::Settings>, T: Ledger, F: Ledger, G: Ledger,
 }
 
 /// Ticks until the ticker ends or a call fails.
-fn turns<C: Core + Drop, N: Naming<C::Settings>, T: Ledger, F: Ledger, G: Ledger, P: Ledger, M: Mark, K: Ticker, R: Wait>(
+fn turns<
+    C: Core + Drop,
+    N: Naming<C::Settings>,
+    T: Ledger,
+    F: Ledger,
+    G: Ledger,
+    P: Ledger,
+    M: Mark,
+    K: Ticker,
+    R: Wait,
+>(
     rt: &R,
     alloc: Global,
     hub: &Hub<C, N, T, F, G, P>,
@@ -316,7 +381,17 @@ fn turns<C: Core + Drop, N: Naming<C::Settings>, T: Ledger, F: Ledger, G: Ledger
 ///
 /// `Device` where the mark's device failed; `NoMemory` where memory was wanted, and a row that was popped is then lost; `Stuck` where the
 /// channel's other end is gone.
-pub fn align<C: Core + Drop, N: Naming<C::Settings>, T: Ledger, F: Ledger, G: Ledger, P: Ledger, M: Mark, K: Ticker, R: Wait>(
+pub fn align<
+    C: Core + Drop,
+    N: Naming<C::Settings>,
+    T: Ledger,
+    F: Ledger,
+    G: Ledger,
+    P: Ledger,
+    M: Mark,
+    K: Ticker,
+    R: Wait,
+>(
     rt: &R,
     alloc: Global,
     hub: &Hub<C, N, T, F, G, P>,
@@ -338,9 +413,7 @@ pub fn align<C: Core + Drop, N: Naming<C::Settings>, T: Ledger, F: Ledger, G: Le
     ensures closed { OnOk result ((body : List Message) × ((view pass.new).put ≡ body ++ End ∷ [])) }
     ensures output { output_in publisher.new ≡ output_in publisher.old }
 {
-    let done = turns(
-        rt, alloc, hub, top, publisher, ticker, pace, sender, pass,
-    );
+    let done = turns(rt, alloc, hub, top, publisher, ticker, pace, sender, pass);
     hub.close(rt);
     if !close(rt, sender, pass) {
         return Err(HubFault::Stuck);

@@ -123,9 +123,7 @@ pub fn close<R: Wait>(rt: &R, sender: &Sender, pass: &mut Pass<Message, Log>) ->
     ensures put { result ≡ true → (view pass.new).put ≡ (view pass.old).put ++ End ∷ [] }
     ensures not { result ≡ false → (view pass.new).put ≡ (view pass.old).put }
 {
-    sender
-        .send_as::<Closes, R>(rt, pass, Message::End)
-        .is_ok()
+    sender.send_as::<Closes, R>(rt, pass, Message::End).is_ok()
 }
 
 /// Takes the next message. None where the channel's other end is gone.

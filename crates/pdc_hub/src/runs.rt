@@ -57,7 +57,18 @@ pub struct Started<T: Ledger, F: Ledger, G: Ledger> {
 }
 
 /// Starts a receiver for each source, in a thread of its own.
-fn start_all<'s, E: 's, C: Core + Drop + Send + 's, N: Naming<C::Settings> + Send + 's, T: Ledger + Send + Sync + 's, F: Ledger + Send + Sync + 's, G: Ledger + Send + Sync + 's, P: Ledger + Send + Sync + 's, S: Source + Send + Drop + 's, R: Wait + Sync>(
+fn start_all<
+    's,
+    E: 's,
+    C: Core + Drop + Send + 's,
+    N: Naming<C::Settings> + Send + 's,
+    T: Ledger + Send + Sync + 's,
+    F: Ledger + Send + Sync + 's,
+    G: Ledger + Send + Sync + 's,
+    P: Ledger + Send + Sync + 's,
+    S: Source + Send + Drop + 's,
+    R: Wait + Sync,
+>(
     scope: &'s Scope<'s, E>,
     rt: &'s R,
     alloc: Global,
@@ -85,9 +96,11 @@ where
         }
         let Input { source, buffer } = input;
         let mine = split_one(&mut left);
-        match scope.spawn(move || -> Received<T, F, G>
-            requires { (N.settings ≡ Some settings.now) × (stream < C.Settings.streams settings.now) × ((mine.taken.parts ≡ 1) × (mine.refused.parts ≡ 1) × (mine.configured.parts ≡ 1)) × ((mine.taken.amount ≡ 0) × (mine.refused.amount ≡ 0)) }
-        { receive_owned(rt, alloc, hub, settings, stream, source, buffer, mine) }) {
+        match scope.spawn(
+            move || -> Received<T, F, G>
+                requires { (N.settings ≡ Some settings.now) × (stream < C.Settings.streams settings.now) × ((mine.taken.parts ≡ 1) × (mine.refused.parts ≡ 1) × (mine.configured.parts ≡ 1)) × ((mine.taken.amount ≡ 0) × (mine.refused.amount ≡ 0)) }
+            { receive_owned(rt, alloc, hub, settings, stream, source, buffer, mine) },
+        ) {
             Ok(handle) => complete = running.push(handle).is_ok(),
             Err(_) => complete = false,
         }
@@ -118,7 +131,16 @@ fn split_one<T: Ledger, F: Ledger, G: Ledger>(left: &mut Shares<T, F, G>) -> Sha
 }
 
 /// As `receive`, of a source that is its own.
-fn receive_owned<C: Core + Drop, N: Naming<C::Settings>, T: Ledger, F: Ledger, G: Ledger, P: Ledger, S: Source + Drop, R: Wait>(
+fn receive_owned<
+    C: Core + Drop,
+    N: Naming<C::Settings>,
+    T: Ledger,
+    F: Ledger,
+    G: Ledger,
+    P: Ledger,
+    S: Source + Drop,
+    R: Wait,
+>(
     rt: &R,
     alloc: Global,
     hub: &Hub<C, N, T, F, G, P>,
@@ -135,7 +157,14 @@ fn receive_owned<C: Core + Drop, N: Naming<C::Settings>, T: Ledger, F: Ledger, G
 {
     let mut source = source;
     receive(
-        rt, alloc, settings, stream, &mut source, buffer, hub, shares,
+        rt,
+        alloc,
+        settings,
+        stream,
+        &mut source,
+        buffer,
+        hub,
+        shares,
     )
 }
 
@@ -259,7 +288,15 @@ fn settle(to: &Sender, writer: Pass<Message, Log>, reader: Pass<Message, Log>)
 }
 
 /// The first fault in the order receivers, aligner, sender, or the totals.
-fn outcome<C: Core + Drop, N: Naming<C::Settings>, T: Ledger, F: Ledger, G: Ledger, P: Ledger, R: Wait>(
+fn outcome<
+    C: Core + Drop,
+    N: Naming<C::Settings>,
+    T: Ledger,
+    F: Ledger,
+    G: Ledger,
+    P: Ledger,
+    R: Wait,
+>(
     rt: &R,
     hub: &Hub<C, N, T, F, G, P>,
     joined: Joined<T, F, G>,
@@ -312,7 +349,21 @@ pub struct Ran<M: Mark, K> {
 }
 
 /// Starts the sender and the receivers, aligns, and joins all.
-fn conduct<'s, E: 's, C: Core + Drop + Send + 's, N: Naming<C::Settings> + Send + 's, T: Ledger + Send + Sync + 's, F: Ledger + Send + Sync + 's, G: Ledger + Send + Sync + 's, P: Ledger + Send + Sync + 's, S: Source + Send + Drop + 's, M: Mark, I: Ticker + Drop, K: Sink + Send + Drop + 's, R: Threads + Wait + Sync>(
+fn conduct<
+    's,
+    E: 's,
+    C: Core + Drop + Send + 's,
+    N: Naming<C::Settings> + Send + 's,
+    T: Ledger + Send + Sync + 's,
+    F: Ledger + Send + Sync + 's,
+    G: Ledger + Send + Sync + 's,
+    P: Ledger + Send + Sync + 's,
+    S: Source + Send + Drop + 's,
+    M: Mark,
+    I: Ticker + Drop,
+    K: Sink + Send + Drop + 's,
+    R: Threads + Wait + Sync,
+>(
     scope: &'s Scope<'s, E>,
     rt: &'s R,
     alloc: Global,
@@ -348,10 +399,13 @@ where
     let mut writer = writer;
     let mut publisher = publisher;
     let was = Snapshot::of(&sink);
-    let child = match scope.spawn_with(HandsOn { sink: was, from }, move || -> Sent<K>
-        requires { IsSeatAt (receives_on from.now) reader × (view reader ≡ log false true false [] []) }
-        ensures { IsSeatAt (receives_on from.entry.now) result.pass × (view result.pass ≡ log false true false [] (view result.pass).taken) × ((given : List (List ℕ)) × (rest : List (List ℕ)) × K.took sink result.sink given × (bytes_of (view result.pass).taken ≡ given ++ rest)) }
-    { send_owned(rt, from, reader, sink) }) {
+    let child = match scope.spawn_with(
+        HandsOn { sink: was, from },
+        move || -> Sent<K>
+            requires { IsSeatAt (receives_on from.now) reader × (view reader ≡ log false true false [] []) }
+            ensures { IsSeatAt (receives_on from.entry.now) result.pass × (view result.pass ≡ log false true false [] (view result.pass).taken) × ((given : List (List ℕ)) × (rest : List (List ℕ)) × K.took sink result.sink given × (bytes_of (view result.pass).taken ≡ given ++ rest)) }
+        { send_owned(rt, from, reader, sink) },
+    ) {
         Ok(child) => child,
         Err(refused) => {
             hub.close(rt);
@@ -389,7 +443,17 @@ where
 }
 
 /// Aligns. Where not all receivers were started, closes the hub and puts the end mark in its place.
-fn align_or_close<C: Core + Drop, N: Naming<C::Settings>, T: Ledger, F: Ledger, G: Ledger, P: Ledger, M: Mark, I: Ticker + Drop, R: Wait>(
+fn align_or_close<
+    C: Core + Drop,
+    N: Naming<C::Settings>,
+    T: Ledger,
+    F: Ledger,
+    G: Ledger,
+    P: Ledger,
+    M: Mark,
+    I: Ticker + Drop,
+    R: Wait,
+>(
     rt: &R,
     alloc: Global,
     hub: &Hub<C, N, T, F, G, P>,
@@ -416,12 +480,33 @@ fn align_or_close<C: Core + Drop, N: Naming<C::Settings>, T: Ledger, F: Ledger, 
         return Err(HubFault::NoMemory);
     }
     align(
-        rt, alloc, hub, &mut top, publisher, &mut ticker, &pace, to, writer,
+        rt,
+        alloc,
+        hub,
+        &mut top,
+        publisher,
+        &mut ticker,
+        &pace,
+        to,
+        writer,
     )
 }
 
 /// As `run`, over a channel that is there.
-fn run_over<'x, C: Core + Drop + Send + 'x, N: Naming<C::Settings> + Send + 'x, T: Ledger + Send + Sync + 'x, F: Ledger + Send + Sync + 'x, G: Ledger + Send + Sync + 'x, P: Ledger + Send + Sync + 'x, S: Source + Send + Drop + 'x, M: Mark + Drop + 'x, I: Ticker + Drop + 'x, K: Sink + Send + Drop + 'x, R: Threads + Wait + Sync>(
+fn run_over<
+    'x,
+    C: Core + Drop + Send + 'x,
+    N: Naming<C::Settings> + Send + 'x,
+    T: Ledger + Send + Sync + 'x,
+    F: Ledger + Send + Sync + 'x,
+    G: Ledger + Send + Sync + 'x,
+    P: Ledger + Send + Sync + 'x,
+    S: Source + Send + Drop + 'x,
+    M: Mark + Drop + 'x,
+    I: Ticker + Drop + 'x,
+    K: Sink + Send + Drop + 'x,
+    R: Threads + Wait + Sync,
+>(
     rt: &'x R,
     alloc: Global,
     hub: &'x Hub<C, N, T, F, G, P>,
@@ -471,8 +556,8 @@ where
             ensures sent { (put : List Message) × (given : List (List ℕ)) × (rest : List (List ℕ)) × K.took sink result.sink given × (bytes_of put ≡ given ++ rest) × Rises (last_in publisher) (instants_of put) ((M.stored (mark_in result.publisher)).floor) }
         {
             conduct(
-                scope, rt, alloc, hub, settings, to, from, writer, reader, shares, top, inputs, publisher,
-                ticker, pace, sink,
+                scope, rt, alloc, hub, settings, to, from, writer, reader, shares, top, inputs,
+                publisher, ticker, pace, sink,
             )
         },
     )
@@ -500,7 +585,19 @@ fn buffered<S: Source + Drop>(alloc: Global, sources: Vec<S>) -> Option<Vec<Inpu
 }
 
 /// As `run`, of sources that have their buffers.
-fn run_buffered<C: Core + Drop + Send, N: Naming<C::Settings> + Send, T: Ledger + Send + Sync, F: Ledger + Send + Sync, G: Ledger + Send + Sync, P: Ledger + Send + Sync, S: Source + Send + Drop, M: Mark + Drop, I: Ticker + Drop, K: Sink + Send + Drop, R: Threads + Wait + Sync>(
+fn run_buffered<
+    C: Core + Drop + Send,
+    N: Naming<C::Settings> + Send,
+    T: Ledger + Send + Sync,
+    F: Ledger + Send + Sync,
+    G: Ledger + Send + Sync,
+    P: Ledger + Send + Sync,
+    S: Source + Send + Drop,
+    M: Mark + Drop,
+    I: Ticker + Drop,
+    K: Sink + Send + Drop,
+    R: Threads + Wait + Sync,
+>(
     rt: &R,
     alloc: Global,
     hub: &Hub<C, N, T, F, G, P>,
@@ -525,9 +622,9 @@ where
     ensures totals { IfOk result.outcome (λ t. (t.taken ≡ sum (map (λ c. c.taken) t.receivers.items)) × (t.refused ≡ sum (map (λ c. c.refused) t.receivers.items))) }
     ensures sent { (put : List Message) × (given : List (List ℕ)) × (rest : List (List ℕ)) × K.took sink result.sink given × (bytes_of put ≡ given ++ rest) × Rises (last_in publisher) (instants_of put) ((M.stored (mark_in result.publisher)).floor) }
 {
-    let Ok((sender, receiver, mut writer)) =
-        bounded_with::<Message, Log, InOrder, Global>(alloc, CAPACITY)
-    else {
+    let Ok((sender, receiver, mut writer)) = bounded_with::<Message, Log, InOrder, Global>(
+        alloc, CAPACITY,
+    ) else {
         return Ran {
             publisher,
             sink,
@@ -537,8 +634,8 @@ where
     let to = &sender;
     let reader = to.another::<Roles>(&mut writer);
     run_over(
-        rt, alloc, hub, settings, to, &receiver, writer, reader, shares, top, inputs, publisher, ticker,
-        pace, sink,
+        rt, alloc, hub, settings, to, &receiver, writer, reader, shares, top, inputs, publisher,
+        ticker, pace, sink,
     )
 }
 
@@ -550,7 +647,19 @@ where
 /// The first fault in the order receivers, aligner, sender: `SourceFault`, `SinkFault` or `Device` where a device failed; `NoMemory` where
 /// memory or a thread was wanted; `CountsUsedUp` where a total was at its greatest value; `Stuck` where a source gave up, or an end of the
 /// channel found the other one gone. What was received, published and sent before stays.
-pub fn run<C: Core + Drop + Send, N: Naming<C::Settings> + Send, T: Ledger + Send + Sync, F: Ledger + Send + Sync, G: Ledger + Send + Sync, P: Ledger + Send + Sync, S: Source + Send + Drop, M: Mark + Drop, I: Ticker + Drop, K: Sink + Send + Drop, R: Threads + Wait + Sync>(
+pub fn run<
+    C: Core + Drop + Send,
+    N: Naming<C::Settings> + Send,
+    T: Ledger + Send + Sync,
+    F: Ledger + Send + Sync,
+    G: Ledger + Send + Sync,
+    P: Ledger + Send + Sync,
+    S: Source + Send + Drop,
+    M: Mark + Drop,
+    I: Ticker + Drop,
+    K: Sink + Send + Drop,
+    R: Threads + Wait + Sync,
+>(
     rt: &R,
     alloc: Global,
     hub: &Hub<C, N, T, F, G, P>,
@@ -563,8 +672,8 @@ pub fn run<C: Core + Drop + Send, N: Naming<C::Settings> + Send, T: Ledger + Sen
     pace: Pace,
     sink: K,
 ) -> Ran<M, K>
-    // Each stream has a source, in order; the shares are whole and have counted nothing; and the core was opened with what the publisher's
-    // mark stores, at its rate.
+// Each stream has a source, in order; the shares are whole and have counted nothing; and the core was opened with what the publisher's
+// mark stores, at its rate.
 where
     C::Settings: Sync,
     requires settings { N.settings ≡ Some settings.now }

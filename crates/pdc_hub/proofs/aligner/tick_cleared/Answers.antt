@@ -8,4 +8,4 @@ use Rattle.pdc_hub.proofs.aligner.tick_cleared.Goals as goal
 pub returns-in-Ok-clause-stored : goal.returns-in-Ok-clause-stored
 returns-in-Ok-clause-stored g c =
     subst (λ (counts : List ℕ). IfOk c.tick.result (λ ticked. ∥ InSomeLife {C = g.row.C.Denot} g.C.Core.stands_for g.N.Naming.given (λ state h E. ticked ≡ ticked_of (changes E) (tick_answer h E c.args.now counts)) ∥₁))
-        c.in-Ok.ensures.stored c.tick.ensures.some
+    c.in-Ok.ensures.stored c.tick.ensures.some
