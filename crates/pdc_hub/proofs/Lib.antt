@@ -1,0 +1,2 @@
+mod Pipes
+mod Rates

@@ -1,0 +1,176 @@
+-- Each step keeps the rule of the pipe.
+use Rattle.std.proofs.Common.{arith, ◌<◌, ◌≤◌, ◌≡◌, ◌≢◌, ℕ, zero, suc, Bool, true, false, true≢false, List, [], ◌∷◌, ◌++◌, length, set, sym, refl, ap, ◌∙◌, subst, ⊎_elim, append_assoc, append-nil}
+use mathlib.Core.Option.{some, some-ne-none}
+use lib.ListN.{get_elem?}
+use Rattle.crossbeam_channel.specs.Fifo.{Pushes, Pops, Forks, Merges, Learns}
+use Rattle.atomic_table.proofs.Lists.{at_set, at_snoc}
+use Rattle.pdc_hub.specs.declared.message.Message.{Message}
+use Rattle.pdc_publisher.specs.declared.published.Published.{Published}
+use Rattle.pdc_hub.specs.declared.message.LayoutFrame.{LayoutFrame}
+use Rattle.pdc_hub.specs.declared.message.Message.TheVariants.{Data, Layout, End}
+use Rattle.pdc_hub.specs.declared.pipe.Log.{Log}
+use Rattle.pdc_hub.specs.Pipe.{log, Fits, Piped}
+use Rattle.pdc_hub.specs.Sequence.{IsClosedBy, has_end, is_end, bytes_of, instants_of, Rises}
+
+at_end : (l : List Log) (a b : Log) (j : ℕ) → get_elem? l j ≢ some b → get_elem? (l ++ a ∷ []) j ≡ some b → j ≡ length l
+at_end [] a b zero n e = refl
+at_end [] a b (suc j) n e = absurd (some-ne-none b (sym e))
+at_end (x ∷ xs) a b zero n e = absurd (n e)
+at_end (x ∷ xs) a b (suc j) n e = ap suc (at_end xs a b j n e)
+
+abbrev All : (ℕ → Log → Type 0) → List Log → Type 0
+All F views = (port : ℕ) (v : Log) → get_elem? views port ≡ some v → F port v
+
+all_set : (F : ℕ → Log → Type 0) (views : List Log) (port : ℕ) (w : Log) → F port w → ((j : ℕ) (u : Log) → j ≢ port → get_elem? views j ≡ some u → F j u) → All F (set views port w)
+all_set F views port w mine others j u e = ⊎_elim (λ (x : (j ≡ port) × (w ≡ u)). subst (λ (y : ℕ × Log). F y.0 y.1) (λ i. (sym x.0 i, x.1 i)) mine)
+    (λ (x : (j ≢ port) × (get_elem? views j ≡ some u)). others j u x.0 x.1) (at_set views port j w u e)
+
+no_end-more : (ms : List Message) (x : Message) → is_end x ≡ false → has_end ms ≡ false → has_end (ms ++ x ∷ []) ≡ false
+no_end-more [] (Data _) i e = refl
+no_end-more [] (Layout _) i e = refl
+no_end-more [] End i e = i
+no_end-more (Data _ ∷ ms) x i e = no_end-more ms x i e
+no_end-more (Layout _ ∷ ms) x i e = no_end-more ms x i e
+no_end-more (End ∷ ms) x i e = e
+
+pub begins : Piped [] (log true true false [] [] ∷ [])
+begins = (0, 0, false, [], [], refl, refl, all_set (Fits 0 0 false [] []) (log true true false [] [] ∷ []) 0 (log true true false [] []) ((λ _. (refl, refl, refl)), λ _. (refl, refl)) (λ j u other e. absurd (other (at_end [] _ u j (λ x. some-ne-none u (sym x)) e))))
+
+pub puts : (n port : ℕ) (v : Log) (x : Message) → is_end x ≡ false → v.puts ≡ true → v.closed ≡ false → Pushes Piped n port v x (λ w. w ≡ log v.puts v.takes v.closed (v.put ++ x ∷ []) v.taken)
+puts n port v x goes may unshut items views _ h at = let w : Log = log v.puts v.takes v.closed (v.put ++ x ∷ []) v.taken in let mine = h.7 port v at in let put = h.3 ++ x ∷ [] in
+    let shut : h.2 ≡ false = sym (mine.0 may).2 ∙ unshut in (
+      w,
+      (
+        h.0,
+        h.1,
+        h.2,
+        put,
+        h.4,
+        ap (λ l. l ++ x ∷ []) h.5 ∙ append_assoc h.4 items (x ∷ []),
+        subst (λ b. IsClosedBy b put) (sym shut) (no_end-more h.3 x goes (subst (λ b. IsClosedBy b h.3) shut h.6)),
+        all_set (Fits h.0 h.1 h.2 put h.4) views port w ((λ _. ((mine.0 may).0, ap (λ l. l ++ x ∷ []) (mine.0 may).1, (mine.0 may).2)), mine.1)
+            (λ j u other e. ((λ p. absurd (other (((h.7 j u e).0 p).0 ∙ sym (mine.0 may).0))), (h.7 j u e).1)),
+      ),
+      refl,
+    )
+
+pub closes : (n port : ℕ) (v : Log) → v.puts ≡ true → v.closed ≡ false → Pushes Piped n port v End (λ w. w ≡ log v.puts v.takes true (v.put ++ End ∷ []) v.taken)
+closes n port v may unshut items views _ h at = let w : Log = log v.puts v.takes true (v.put ++ End ∷ []) v.taken in let mine = h.7 port v at in let put = h.3 ++ End ∷ [] in
+    let shut : h.2 ≡ false = sym (mine.0 may).2 ∙ unshut in (
+      w,
+      (
+        h.0,
+        h.1,
+        true,
+        put,
+        h.4,
+        ap (λ l. l ++ End ∷ []) h.5 ∙ append_assoc h.4 items (End ∷ []),
+        (h.3, refl, subst (λ b. IsClosedBy b h.3) shut h.6),
+        all_set (Fits h.0 h.1 true put h.4) views port w ((λ _. ((mine.0 may).0, ap (λ l. l ++ End ∷ []) (mine.0 may).1, refl)), mine.1)
+            (λ j u other e. ((λ p. absurd (other (((h.7 j u e).0 p).0 ∙ sym (mine.0 may).0))), (h.7 j u e).1)),
+      ),
+      refl,
+    )
+
+pub takes : (port : ℕ) (v : Log) → v.takes ≡ true → Pops Piped port v (λ x w. w ≡ log v.puts v.takes v.closed v.put (v.taken ++ x ∷ []))
+takes port v may x items views h at = let w : Log = log v.puts v.takes v.closed v.put (v.taken ++ x ∷ []) in let mine = h.7 port v at in let taken = h.4 ++ x ∷ [] in (
+  w,
+  (
+    h.0,
+    h.1,
+    h.2,
+    h.3,
+    taken,
+    h.5 ∙ sym (append_assoc h.4 (x ∷ []) items),
+    h.6,
+    all_set (Fits h.0 h.1 h.2 h.3 taken) views port w (mine.0, λ _. ((mine.1 may).0, ap (λ l. l ++ x ∷ []) (mine.1 may).1))
+        (λ j u other e. ((h.7 j u e).0, λ p. absurd (other (((h.7 j u e).1 p).0 ∙ sym (mine.1 may).0)))),
+  ),
+  refl,
+)
+
+pub forks : (port : ℕ) (v : Log) → v.puts ≡ true → v.takes ≡ true → Forks Piped port v (log true false v.closed v.put []) (log false true false [] v.taken)
+forks port v a b items views h at = let l : Log = log true false v.closed v.put [] in let r : Log = log false true false [] v.taken in let mine = h.7 port v at in let vs : List Log = set views port l in
+    let Old : ℕ → Log → Type 0 = λ j u. (u.puts ≡ true → (j ≡ h.0) × (u.put ≡ h.3) × (u.closed ≡ h.2)) × (u.takes ≢ true) in
+    let old : All Old vs = all_set Old views port l ((λ _. mine.0 a), λ p. true≢false (sym p)) (λ j u other e. ((h.7 j u e).0, λ p. other (((h.7 j u e).1 p).0 ∙ sym (mine.1 b).0))) in (
+      h.0,
+      length vs,
+      h.2,
+      h.3,
+      h.4,
+      h.5,
+      h.6,
+      λ j u e. ⊎_elim (λ x. ((old j u x).0, λ p. absurd ((old j u x).1 p)))
+          (λ (is : r ≡ u). ((λ p. absurd (true≢false (sym (ap (λ (y : Log). y.puts) is ∙ p)))), λ p. (at_end vs r u j (λ x. (old j u x).1 p) e, ap (λ (y : Log). y.taken) (sym is) ∙ (mine.1 b).1))) (at_snoc vs r u j e),
+    )
+
+pub merges : (port : ℕ) (v : Log) (other : ℕ) (u : Log) → v.puts ≡ true → u.takes ≡ true → Merges Piped port v other u (log true true v.closed v.put u.taken) (log false false false [] [])
+merges port v other u a b items views h at two at' = let both : Log = log true true v.closed v.put u.taken in let mine = h.7 port v at in let vs : List Log = set views port both in
+    let was : get_elem? views other ≡ some u = ⊎_elim (λ x. absurd (two x.0)) (λ x. x.1) (at_set views port other both u at') in let theirs = (h.7 other u was).1 b in
+    let Now : ℕ → Log → Type 0 = λ j y. j ≢ other → Fits h.0 port h.2 h.3 h.4 j y in
+    let now : All Now vs = all_set Now views port both (λ _. ((λ _. mine.0 a), λ _. (refl, theirs.1))) (λ j y _ e apart. ((h.7 j y e).0, λ p. absurd (apart (((h.7 j y e).1 p).0 ∙ sym theirs.0)))) in
+    (h.0, port, h.2, h.3, h.4, h.5, h.6, all_set (Fits h.0 port h.2 h.3 h.4) vs other (log false false false [] []) ((λ p. absurd (true≢false (sym p))), λ p. absurd (true≢false (sym p))) (λ j y apart e. now j y e apart))
+
+pub totals : (port : ℕ) (v : Log) → v.puts ≡ true → v.takes ≡ true → Learns Piped port v (λ items. (v.put ≡ v.taken ++ items) × IsClosedBy v.closed v.put)
+totals port v a b items views h at = let mine = h.7 port v at in let p = mine.0 a in (
+  p.1 ∙ h.5 ∙ ap (λ l. l ++ items) (sym (mine.1 b).1),
+  subst (λ (y : Bool × List Message). IsClosedBy y.0 y.1) (λ i. (sym p.2 i, sym p.1 i)) h.6,
+)
+
+pub bytes_of-append : (xs ys : List Message) → bytes_of (xs ++ ys) ≡ bytes_of xs ++ bytes_of ys
+bytes_of-append [] ys = refl
+bytes_of-append (Data p ∷ ms) ys = ap (λ l. p.bytes.items ∷ l) (bytes_of-append ms ys)
+bytes_of-append (Layout b ∷ ms) ys = ap (λ l. b.bytes.items ∷ l) (bytes_of-append ms ys)
+bytes_of-append (End ∷ ms) ys = bytes_of-append ms ys
+
+pub instants_of-append : (xs ys : List Message) → instants_of (xs ++ ys) ≡ instants_of xs ++ instants_of ys
+instants_of-append [] ys = refl
+instants_of-append (Data p ∷ ms) ys = ap (λ l. p.instant ∷ l) (instants_of-append ms ys)
+instants_of-append (Layout b ∷ ms) ys = instants_of-append ms ys
+instants_of-append (End ∷ ms) ys = instants_of-append ms ys
+
+-- what was put, with what was given and what is left of it
+pub put_is_given : (put taken items : List Message) (given rest : List (List ℕ)) → put ≡ taken ++ items → bytes_of taken ≡ given ++ rest → bytes_of put ≡ given ++ (rest ++ bytes_of items)
+put_is_given put taken items given rest e t = ap bytes_of e ∙ (bytes_of-append taken items ∙ (ap (λ l. l ++ bytes_of items) t ∙ append_assoc given rest (bytes_of items)))
+
+pub rises_more : (low : ℕ) (ns : List ℕ) (high n : ℕ) → Rises low ns high → high < n → Rises low (ns ++ n ∷ []) n
+rises_more low [] high n r l = (omega (arith, r, l), omega arith)
+rises_more low (m ∷ ms) high n r l = (r.0, rises_more m ms high n r.1 l)
+
+pub rises_on : (low : ℕ) (ns : List ℕ) (high n : ℕ) → Rises low ns high → high ≤ n → Rises low ns n
+rises_on low [] high n r l = omega (arith, r, l)
+rises_on low (m ∷ ms) high n r l = (r.0, rises_on m ms high n r.1 l)
+
+pub took_data : (taken after : List Message) (p : Published) → after ≡ taken ++ Data p ∷ [] → bytes_of after ≡ bytes_of taken ++ p.bytes.items ∷ []
+took_data taken after p e = ap bytes_of e ∙ bytes_of-append taken (Data p ∷ [])
+
+pub took_layout : (taken after : List Message) (b : LayoutFrame) → after ≡ taken ++ Layout b ∷ [] → bytes_of after ≡ bytes_of taken ++ b.bytes.items ∷ []
+took_layout taken after b e = ap bytes_of e ∙ bytes_of-append taken (Layout b ∷ [])
+
+pub took_end : (taken after : List Message) → after ≡ taken ++ End ∷ [] → bytes_of after ≡ bytes_of taken
+took_end taken after e = ap bytes_of e ∙ (bytes_of-append taken (End ∷ []) ∙ append-nil (bytes_of taken))
+
+pub put_data : (put after : List Message) (p : Published) → after ≡ put ++ Data p ∷ [] → instants_of after ≡ instants_of put ++ p.instant ∷ []
+put_data put after p e = ap instants_of e ∙ instants_of-append put (Data p ∷ [])
+
+pub put_layout : (put after : List Message) (b : LayoutFrame) → after ≡ put ++ Layout b ∷ [] → instants_of after ≡ instants_of put
+put_layout put after b e = ap instants_of e ∙ (instants_of-append put (Layout b ∷ []) ∙ append-nil (instants_of put))
+
+pub put_end : (put after : List Message) → after ≡ put ++ End ∷ [] → instants_of after ≡ instants_of put
+put_end put after e = ap instants_of e ∙ (instants_of-append put (End ∷ []) ∙ append-nil (instants_of put))
+
+pub rises_put : (low : ℕ) (ns : List ℕ) (high n last : ℕ) → Rises low ns high → high < n → last ≡ n → Rises low (ns ++ n ∷ []) last
+rises_put low ns high n last r l e = subst (λ k. Rises low (ns ++ n ∷ []) k) (sym e) (rises_more low ns high n r l)
+
+-- what is drained comes after what was handed on
+pub drained : (taken after more : List Message) (given rest : List (List ℕ)) → after ≡ taken ++ more → bytes_of taken ≡ given ++ rest → bytes_of after ≡ given ++ (rest ++ bytes_of more)
+drained taken after more given rest e t = put_is_given after taken more given rest e t
+
+-- the sink's list and what was taken grow alike
+pub handed : (before was now : List (List ℕ)) (taken after : List (List ℕ)) (x : List ℕ) → now ≡ was ++ x ∷ [] → was ≡ before ++ taken → after ≡ taken ++ x ∷ [] → now ≡ before ++ after
+handed before was now taken after x n w a = n ∙ (ap (λ l. l ++ x ∷ []) w ∙ (append_assoc before taken (x ∷ []) ∙ ap (λ l. before ++ l) (sym a)))
+
+-- what is put alone, where there was nothing before, is the end mark at most
+pub ended_alone : (put after : List Message) (r : Bool) → put ≡ [] → (r ≡ true → after ≡ put ++ End ∷ []) → (r ≡ false → after ≡ put) → instants_of after ≡ []
+ended_alone put after true e h k = put_end put after (h refl) ∙ ap instants_of e
+ended_alone put after false e h k = ap instants_of (k refl ∙ e)

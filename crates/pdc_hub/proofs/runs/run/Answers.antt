@@ -1,0 +1,5 @@
+use Rattle.std.proofs.Common.{[], refl}
+use Rattle.pdc_hub.proofs.runs.run.Goals as goal
+
+pub returns-in_default-clause-sent : goal.returns-in_default-clause-sent
+returns-in_default-clause-sent g c = ([], [], [], g.K.Sink.nothing c.args.sink, refl, c.requires.top.3)

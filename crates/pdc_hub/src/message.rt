@@ -1,0 +1,24 @@
+//! What goes through the channel.
+ghost use Rattle.pdc_hub.specs.Layout.{IsOfSomeLayout};
+
+use pdc_publisher::Published;
+use std::alloc::Global;
+
+/// The frame of a layout.
+#[derive(Drop)]
+pub struct LayoutFrame {
+    /// The frame.
+    pub bytes: Vec<u8>,
+    pub ghost of_some_layout: { IsOfSomeLayout bytes.items },
+}
+
+/// A data frame that was published, a layout frame, or the end mark.
+#[derive(Drop)]
+pub enum Message {
+    /// A data frame.
+    Data(Published),
+    /// A layout frame.
+    Layout(LayoutFrame),
+    /// Nothing comes after it.
+    End,
+}

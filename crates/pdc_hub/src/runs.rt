@@ -1,0 +1,702 @@
+//! The loop over all receivers beside the aligner and the sender.
+ghost use Rattle.std.specs.Prelude.{◌≡◌, ◌≤◌, ◌<◌, ◌+◌, ◌++◌, ◌∷◌, ℕ, Bool, IfOk, IfSome, List, None, Ok, OnOk, Option, Some, [], false, length, map, sum, true, vec_len};
+ghost use Rattle.crossbeam_channel.specs.Claims.{IsSeatAt, view};
+ghost use Rattle.crossbeam_channel.specs.Ends.{receives_on, sends_on};
+ghost use Rattle.pdc_hub.specs.Pipe.{log};
+ghost use Rattle.pdc_hub.specs.Rate.{IsAtRate};
+ghost use Rattle.pdc_hub.specs.Sequence.{Rises, bytes_of, instants_of};
+ghost use Rattle.pdc_hub.specs.declared.message.Message.{Message};
+ghost use Rattle.pdc_publisher.specs.Publisher.{last_in, mark_in, output_in};
+
+use crate::aligner::{Pace, Ticker, align};
+use crate::message::Message;
+use crate::pipe::{CAPACITY, InOrder, Log, Receiver, Roles, Sender, Total, close};
+use crate::senders::{Ended, send_out};
+use crate::sink::Sink;
+use crossbeam_channel::{Pass, bounded_with};
+use pdc_core::Core;
+use pdc_frame::MAX_SIZE;
+use pdc_mark::Mark;
+use pdc_publisher::Publisher;
+use pdc_recorder::{Hub, HubFault, Naming, Received, Shares, Source, receive};
+use std::alloc::{AllocError, Global};
+use std::snapshot::Snapshot;
+use std::sync::Wait;
+use std::sync::ledger::{Ledger, Share};
+use std::thread;
+use std::thread::{JoinHandle, Promise, Scope, Threads};
+
+/// A source beside its buffer.
+#[derive(Drop)]
+pub struct Input<S> {
+    pub source: S,
+    pub buffer: Vec<u8>,
+}
+
+/// What a receiver counted.
+#[derive(Clone, Copy, Debug, PartialEq, Eq, Drop)]
+pub struct Counted {
+    pub taken: u64,
+    pub refused: u64,
+}
+
+/// What a run counted.
+#[derive(Debug, Drop)]
+pub struct Totals {
+    pub receivers: Vec<Counted>,
+    pub taken: u64,
+    pub refused: u64,
+}
+
+/// The receivers that were started, and the shares that are left.
+#[derive(Drop)]
+pub struct Started<T: Ledger, F: Ledger, G: Ledger> {
+    running: Vec<JoinHandle<Received<T, F, G>>>,
+    left: Shares<T, F, G>,
+    complete: bool,
+}
+
+/// Starts a receiver for each source, in a thread of its own.
+fn start_all<
+    's,
+    E: 's,
+    C: Core + Drop + Send + 's,
+    N: Naming<C::Settings> + Send + 's,
+    T: Ledger + Send + Sync + 's,
+    F: Ledger + Send + Sync + 's,
+    G: Ledger + Send + Sync + 's,
+    P: Ledger + Send + Sync + 's,
+    S: Source + Send + Drop + 's,
+    R: Wait + Sync,
+>(
+    scope: &'s Scope<'s, E>,
+    rt: &'s R,
+    alloc: Global,
+    hub: &'s Hub<C, N, T, F, G, P>,
+    settings: &'s C::Settings,
+    inputs: Vec<Input<S>>,
+    shares: Shares<T, F, G>,
+) -> Started<T, F, G>
+where
+    C::Settings: Sync + 's,
+    requires settings { N.settings ≡ Some settings.now }
+    requires streams { vec_len inputs ≡ C.Settings.streams settings.now }
+    requires few { vec_len inputs ≤ 16 }
+    requires parts { (shares.taken.parts ≡ vec_len inputs + 1) × (shares.refused.parts ≡ vec_len inputs + 1) × (shares.configured.parts ≡ vec_len inputs + 1) }
+    requires amounts { (shares.taken.amount ≡ 0) × (shares.refused.amount ≡ 0) × (shares.configured.amount ≡ 0) }
+    ensures { result.complete ≡ true → (result.left.taken.amount ≡ 0) × (result.left.refused.amount ≡ 0) × (result.left.taken.parts ≡ 1) × (result.left.refused.parts ≡ 1) × (result.left.configured.parts ≡ 1) × (vec_len result.running ≡ vec_len inputs) }
+{
+    let mut left = shares;
+    let mut running = Vec::new(alloc);
+    let mut complete = true;
+    let mut stream = 0usize;
+    for input in inputs {
+        if !complete {
+            continue;
+        }
+        let Input { source, buffer } = input;
+        let mine = split_one(&mut left);
+        match scope.spawn(
+            move || -> Received<T, F, G>
+                requires { (N.settings ≡ Some settings.now) × (stream < C.Settings.streams settings.now) × ((mine.taken.parts ≡ 1) × (mine.refused.parts ≡ 1) × (mine.configured.parts ≡ 1)) × ((mine.taken.amount ≡ 0) × (mine.refused.amount ≡ 0)) }
+            { receive_owned(rt, alloc, hub, settings, stream, source, buffer, mine) },
+        ) {
+            Ok(handle) => complete = running.push(handle).is_ok(),
+            Err(_) => complete = false,
+        }
+        if complete {
+            stream += 1;
+        }
+    }
+    Started {
+        running,
+        left,
+        complete,
+    }
+}
+
+/// One part of each ledger, which has counted nothing.
+fn split_one<T: Ledger, F: Ledger, G: Ledger>(left: &mut Shares<T, F, G>) -> Shares<T, F, G>
+    requires parts { (1 < left.old.taken.parts) × (1 < left.old.refused.parts) × (1 < left.old.configured.parts) }
+    ensures left { (left.new.taken.parts + 1 ≡ left.old.taken.parts) × (left.new.refused.parts + 1 ≡ left.old.refused.parts) × (left.new.configured.parts + 1 ≡ left.old.configured.parts) }
+    ensures amounts { (left.new.taken.amount ≡ left.old.taken.amount) × (left.new.refused.amount ≡ left.old.refused.amount) × (left.new.configured.amount ≡ left.old.configured.amount) }
+    ensures one { (result.taken.parts ≡ 1) × (result.refused.parts ≡ 1) × (result.configured.parts ≡ 1) }
+    ensures nothing { (result.taken.amount ≡ 0) × (result.refused.amount ≡ 0) }
+{
+    Shares {
+        taken: left.taken.split_off(1, 0),
+        refused: left.refused.split_off(1, 0),
+        configured: left.configured.split_off(1, 0),
+    }
+}
+
+/// As `receive`, of a source that is its own.
+fn receive_owned<
+    C: Core + Drop,
+    N: Naming<C::Settings>,
+    T: Ledger,
+    F: Ledger,
+    G: Ledger,
+    P: Ledger,
+    S: Source + Drop,
+    R: Wait,
+>(
+    rt: &R,
+    alloc: Global,
+    hub: &Hub<C, N, T, F, G, P>,
+    settings: &C::Settings,
+    stream: usize,
+    source: S,
+    buffer: Vec<u8>,
+    shares: Shares<T, F, G>,
+) -> Received<T, F, G>
+    requires settings { N.settings ≡ Some settings.now }
+    requires stream { stream < C.Settings.streams settings.now }
+    requires parts { (shares.taken.parts ≡ 1) × (shares.refused.parts ≡ 1) × (shares.configured.parts ≡ 1) }
+    requires amounts { (shares.taken.amount ≡ 0) × (shares.refused.amount ≡ 0) }
+{
+    let mut source = source;
+    receive(
+        rt,
+        alloc,
+        settings,
+        stream,
+        &mut source,
+        buffer,
+        hub,
+        shares,
+    )
+}
+
+/// The receivers' results, once all have ended.
+#[derive(Drop)]
+pub struct Joined<T: Ledger, F: Ledger, G: Ledger> {
+    all: Shares<T, F, G>,
+    receivers: Vec<Counted>,
+    fault: Option<HubFault>,
+    complete: bool,
+}
+
+/// Joins what was started. All are joined, whatever they answered.
+fn join_all<T: Ledger, F: Ledger, G: Ledger, R: Threads>(
+    rt: &R,
+    alloc: Global,
+    started: Started<T, F, G>,
+) -> Joined<T, F, G>
+    requires parts { started.complete ≡ true → (started.left.taken.parts + vec_len started.running ≡ T.parts) × (started.left.refused.parts + vec_len started.running ≡ F.parts) × (started.left.configured.parts + vec_len started.running ≡ G.parts) }
+    requires amounts { started.complete ≡ true → (started.left.taken.amount ≡ 0) × (started.left.refused.amount ≡ 0) }
+    ensures parts { result.complete ≡ true → (result.all.taken.parts ≡ T.parts) × (result.all.refused.parts ≡ F.parts) × (result.all.configured.parts ≡ G.parts) }
+    ensures sums { result.complete ≡ true → (result.all.taken.amount ≡ sum (map (λ c. c.taken) result.receivers.items)) × (result.all.refused.amount ≡ sum (map (λ c. c.refused) result.receivers.items)) }
+{
+    let Started {
+        running,
+        left,
+        complete: started_all,
+    } = started;
+    let mut all = left;
+    let mut receivers = Vec::new(alloc);
+    let mut fault = None;
+    let mut complete = started_all;
+    for handle in running {
+        let Received {
+            shares,
+            taken,
+            refused,
+            fault: cause,
+        } = handle.join(rt);
+        merge(&mut all, shares);
+        if fault.is_none() {
+            fault = cause;
+        }
+        if receivers.push(Counted { taken, refused }).is_err() {
+            complete = false;
+        }
+    }
+    Joined {
+        all,
+        receivers,
+        fault,
+        complete,
+    }
+}
+
+/// Adds the shares to those joined before.
+fn merge<T: Ledger, F: Ledger, G: Ledger>(all: &mut Shares<T, F, G>, more: Shares<T, F, G>)
+    ensures parts { (all.new.taken.parts ≡ all.old.taken.parts + more.taken.parts) × (all.new.refused.parts ≡ all.old.refused.parts + more.refused.parts) × (all.new.configured.parts ≡ all.old.configured.parts + more.configured.parts) }
+    ensures amounts { (all.new.taken.amount ≡ all.old.taken.amount + more.taken.amount) × (all.new.refused.amount ≡ all.old.refused.amount + more.refused.amount) × (all.new.configured.amount ≡ all.old.configured.amount + more.configured.amount) }
+{
+    let Shares {
+        taken,
+        refused,
+        configured,
+    } = more;
+    all.taken.merge(taken);
+    all.refused.merge(refused);
+    all.configured.merge(configured);
+}
+
+/// What the sender's thread hands back.
+#[derive(Drop)]
+pub struct Sent<K> {
+    sink: K,
+    pass: Pass<Message, Log>,
+    ended: Ended,
+}
+
+/// What the sender's thread promises, of the sink that it was given and the channel's end that it takes from.
+#[derive(Drop)]
+pub struct HandsOn<'a, K> {
+    sink: Snapshot<K>,
+    from: &'a Receiver,
+}
+
+impl<'a, K: Sink> Promise<Sent<K>> for HandsOn<'a, K> {
+    ghost use Rattle.std.specs.Prelude.{◌≡◌, ℕ, List, [], ◌++◌, true, false};
+    ghost use Rattle.crossbeam_channel.specs.Claims.{view, IsSeatAt};
+    ghost use Rattle.crossbeam_channel.specs.Ends.{receives_on};
+    ghost use Rattle.pdc_hub.specs.Sequence.{bytes_of};
+    ghost use Rattle.pdc_hub.specs.Pipe.{log};
+
+    ghost kept_by = { λ p r. IsSeatAt (receives_on p.from.now) r.pass × (view r.pass ≡ log false true false [] (view r.pass).taken) × ((given : List (List ℕ)) × (rest : List (List ℕ)) × K.took p.sink.value r.sink given × (bytes_of (view r.pass).taken ≡ given ++ rest)) };
+}
+
+/// As `send_out`, of a sink that is its own.
+fn send_owned<K: Sink, R: Wait>(
+    rt: &R,
+    from: &Receiver,
+    pass: Pass<Message, Log>,
+    sink: K,
+) -> Sent<K>
+    requires { IsSeatAt (receives_on from.now) pass × (view pass ≡ log false true false [] []) }
+    ensures { IsSeatAt (receives_on from.now) result.pass × (view result.pass ≡ log false true false [] (view result.pass).taken) × ((given : List (List ℕ)) × (rest : List (List ℕ)) × K.took sink result.sink given × (bytes_of (view result.pass).taken ≡ given ++ rest)) }
+{
+    let mut pass = pass;
+    let mut sink = sink;
+    let ended = send_out(rt, from, &mut pass, &mut sink);
+    Sent { sink, pass, ended }
+}
+
+/// Joins the two passes, and learns that what was taken is a prefix of what was put.
+fn settle(to: &Sender, writer: Pass<Message, Log>, reader: Pass<Message, Log>)
+    requires writer { IsSeatAt (sends_on to.now) writer × ((view writer).puts ≡ true) }
+    requires reader { IsSeatAt (sends_on to.now) reader × ((view reader).takes ≡ true) }
+    ensures { (rest : List Message) × ((view writer).put ≡ (view reader).taken ++ rest) }
+{
+    let mut writer = writer;
+    to.absorb::<Roles>(&mut writer, reader);
+    to.learn_as::<Total>(&mut writer);
+}
+
+/// The first fault in the order receivers, aligner, sender, or the totals.
+fn outcome<
+    C: Core + Drop,
+    N: Naming<C::Settings>,
+    T: Ledger,
+    F: Ledger,
+    G: Ledger,
+    P: Ledger,
+    R: Wait,
+>(
+    rt: &R,
+    hub: &Hub<C, N, T, F, G, P>,
+    joined: Joined<T, F, G>,
+    aligned: Result<(), HubFault>,
+    ended: Ended,
+) -> Result<Totals, HubFault>
+    requires parts { joined.complete ≡ true → (joined.all.taken.parts ≡ T.parts) × (joined.all.refused.parts ≡ F.parts) × (joined.all.configured.parts ≡ G.parts) }
+    requires sums { joined.complete ≡ true → (joined.all.taken.amount ≡ sum (map (λ c. c.taken) joined.receivers.items)) × (joined.all.refused.amount ≡ sum (map (λ c. c.refused) joined.receivers.items)) }
+    ensures totals { IfOk result (λ t. (t.taken ≡ sum (map (λ c. c.taken) t.receivers.items)) × (t.refused ≡ sum (map (λ c. c.refused) t.receivers.items))) }
+    ensures ended { OnOk result ((ended ≡ Ended.AtEndMark) × (OnOk aligned (Unit {0}))) }
+{
+    let Joined {
+        all,
+        receivers,
+        fault,
+        complete,
+    } = joined;
+    let mut all = all;
+    if let Some(cause) = fault {
+        return Err(cause);
+    }
+    if !complete {
+        return Err(HubFault::NoMemory);
+    }
+    if let Err(cause) = aligned {
+        return Err(cause);
+    }
+    match ended {
+        Ended::AtEndMark => {}
+        Ended::SinkFault => return Err(HubFault::SinkFault),
+        Ended::AlignerGone => return Err(HubFault::Stuck),
+    }
+    let counts = hub.totals(rt, &mut all);
+    Ok(Totals {
+        receivers,
+        taken: counts.taken,
+        refused: counts.refused,
+    })
+}
+
+/// What a run hands back: the publisher and the sink that it was given, and what it counted.
+#[derive(Drop)]
+pub struct Ran<M: Mark, K> {
+    /// The publisher.
+    pub publisher: Publisher<M>,
+    /// The sink.
+    pub sink: K,
+    /// The totals, or the first fault in the order receivers, aligner, sender.
+    pub outcome: Result<Totals, HubFault>,
+}
+
+/// Starts the sender and the receivers, aligns, and joins all.
+fn conduct<
+    's,
+    E: 's,
+    C: Core + Drop + Send + 's,
+    N: Naming<C::Settings> + Send + 's,
+    T: Ledger + Send + Sync + 's,
+    F: Ledger + Send + Sync + 's,
+    G: Ledger + Send + Sync + 's,
+    P: Ledger + Send + Sync + 's,
+    S: Source + Send + Drop + 's,
+    M: Mark,
+    I: Ticker + Drop,
+    K: Sink + Send + Drop + 's,
+    R: Threads + Wait + Sync,
+>(
+    scope: &'s Scope<'s, E>,
+    rt: &'s R,
+    alloc: Global,
+    hub: &'s Hub<C, N, T, F, G, P>,
+    settings: &'s C::Settings,
+    to: &'s Sender,
+    from: &'s Receiver,
+    writer: Pass<Message, Log>,
+    reader: Pass<Message, Log>,
+    shares: Shares<T, F, G>,
+    top: Share<P>,
+    inputs: Vec<Input<S>>,
+    publisher: Publisher<M>,
+    ticker: I,
+    pace: Pace,
+    sink: K,
+) -> Ran<M, K>
+where
+    C::Settings: Sync + 's,
+    requires settings { N.settings ≡ Some settings.now }
+    requires streams { (vec_len inputs ≡ C.Settings.streams settings.now) × (vec_len inputs ≤ 16) }
+    requires parts { (shares.taken.parts ≡ vec_len inputs + 1) × (shares.refused.parts ≡ vec_len inputs + 1) × (shares.configured.parts ≡ vec_len inputs + 1) }
+    requires whole { (shares.taken.parts ≡ T.parts) × (shares.refused.parts ≡ F.parts) × (shares.configured.parts ≡ G.parts) }
+    requires amounts { (shares.taken.amount ≡ 0) × (shares.refused.amount ≡ 0) × (shares.configured.amount ≡ 0) }
+    requires top { (top.parts ≡ P.parts) × (0 < top.parts) × (top.amount ≡ last_in publisher) × (last_in publisher ≤ (M.stored (mark_in publisher)).floor) }
+    requires rate { IsAtRate N.given (output_in publisher).rate }
+    requires ends { receives_on from.now ≡ sends_on to.now }
+    requires writer { IsSeatAt (sends_on to.now) writer × (view writer ≡ log true false false [] []) }
+    requires reader { IsSeatAt (receives_on from.now) reader × (view reader ≡ log false true false [] []) }
+    ensures totals { IfOk result.outcome (λ t. (t.taken ≡ sum (map (λ c. c.taken) t.receivers.items)) × (t.refused ≡ sum (map (λ c. c.refused) t.receivers.items))) }
+    ensures sent { (put : List Message) × (given : List (List ℕ)) × (rest : List (List ℕ)) × K.took sink result.sink given × (bytes_of put ≡ given ++ rest) × Rises (last_in publisher) (instants_of put) ((M.stored (mark_in result.publisher)).floor) }
+{
+    let mut writer = writer;
+    let mut publisher = publisher;
+    let was = Snapshot::of(&sink);
+    let child = match scope.spawn_with(
+        HandsOn { sink: was, from },
+        move || -> Sent<K>
+            requires { IsSeatAt (receives_on from.now) reader × (view reader ≡ log false true false [] []) }
+            ensures { IsSeatAt (receives_on from.entry.now) result.pass × (view result.pass ≡ log false true false [] (view result.pass).taken) × ((given : List (List ℕ)) × (rest : List (List ℕ)) × K.took sink result.sink given × (bytes_of (view result.pass).taken ≡ given ++ rest)) }
+        { send_owned(rt, from, reader, sink) },
+    ) {
+        Ok(child) => child,
+        Err(refused) => {
+            hub.close(rt);
+            let _closed = close(rt, to, &mut writer);
+            let Sent { sink, pass, .. } = (refused.value)();
+            settle(to, writer, pass);
+            return Ran {
+                publisher,
+                sink,
+                outcome: Err(HubFault::NoMemory),
+            };
+        }
+    };
+    let started = start_all(scope, rt, alloc, hub, settings, inputs, shares);
+    let aligned = align_or_close(
+        rt,
+        alloc,
+        hub,
+        started.complete,
+        top,
+        &mut publisher,
+        ticker,
+        pace,
+        to,
+        &mut writer,
+    );
+    let joined = join_all(rt, alloc, started);
+    let Sent { sink, pass, ended } = child.join(rt);
+    settle(to, writer, pass);
+    Ran {
+        publisher,
+        sink,
+        outcome: outcome(rt, hub, joined, aligned, ended),
+    }
+}
+
+/// Aligns. Where not all receivers were started, closes the hub and puts the end mark in its place.
+fn align_or_close<
+    C: Core + Drop,
+    N: Naming<C::Settings>,
+    T: Ledger,
+    F: Ledger,
+    G: Ledger,
+    P: Ledger,
+    M: Mark,
+    I: Ticker + Drop,
+    R: Wait,
+>(
+    rt: &R,
+    alloc: Global,
+    hub: &Hub<C, N, T, F, G, P>,
+    complete: bool,
+    top: Share<P>,
+    publisher: &mut Publisher<M>,
+    ticker: I,
+    pace: Pace,
+    to: &Sender,
+    writer: &mut Pass<Message, Log>,
+) -> Result<(), HubFault>
+    requires top { (top.parts ≡ P.parts) × (0 < top.parts) × (top.amount ≡ last_in publisher.old) × (last_in publisher.old ≤ (M.stored (mark_in publisher.old)).floor) }
+    requires rate { IsAtRate N.given (output_in publisher.old).rate }
+    requires seat { IsSeatAt (sends_on to.now) writer.old × (view writer.old ≡ log true false false [] []) }
+    ensures seat { IsSeatAt (sends_on to.now) writer.new × ((view writer.new).puts ≡ true) }
+    ensures rising { Rises (last_in publisher.old) (instants_of (view writer.new).put) ((M.stored (mark_in publisher.new)).floor) }
+    ensures complete { OnOk result (complete ≡ true) }
+{
+    let mut top = top;
+    let mut ticker = ticker;
+    if !complete {
+        hub.close(rt);
+        let _closed = close(rt, to, writer);
+        return Err(HubFault::NoMemory);
+    }
+    align(
+        rt,
+        alloc,
+        hub,
+        &mut top,
+        publisher,
+        &mut ticker,
+        &pace,
+        to,
+        writer,
+    )
+}
+
+/// As `run`, over a channel that is there.
+fn run_over<
+    'x,
+    C: Core + Drop + Send + 'x,
+    N: Naming<C::Settings> + Send + 'x,
+    T: Ledger + Send + Sync + 'x,
+    F: Ledger + Send + Sync + 'x,
+    G: Ledger + Send + Sync + 'x,
+    P: Ledger + Send + Sync + 'x,
+    S: Source + Send + Drop + 'x,
+    M: Mark + Drop + 'x,
+    I: Ticker + Drop + 'x,
+    K: Sink + Send + Drop + 'x,
+    R: Threads + Wait + Sync,
+>(
+    rt: &'x R,
+    alloc: Global,
+    hub: &'x Hub<C, N, T, F, G, P>,
+    settings: &'x C::Settings,
+    to: &'x Sender,
+    from: &'x Receiver,
+    writer: Pass<Message, Log>,
+    reader: Pass<Message, Log>,
+    shares: Shares<T, F, G>,
+    top: Share<P>,
+    inputs: Vec<Input<S>>,
+    publisher: Publisher<M>,
+    ticker: I,
+    pace: Pace,
+    sink: K,
+) -> Ran<M, K>
+where
+    C::Settings: Sync + 'x,
+    requires settings { N.settings ≡ Some settings.now }
+    requires streams { (vec_len inputs ≡ C.Settings.streams settings.now) × (vec_len inputs ≤ 16) }
+    requires parts { (shares.taken.parts ≡ vec_len inputs + 1) × (shares.refused.parts ≡ vec_len inputs + 1) × (shares.configured.parts ≡ vec_len inputs + 1) }
+    requires whole { (shares.taken.parts ≡ T.parts) × (shares.refused.parts ≡ F.parts) × (shares.configured.parts ≡ G.parts) }
+    requires amounts { (shares.taken.amount ≡ 0) × (shares.refused.amount ≡ 0) × (shares.configured.amount ≡ 0) }
+    requires top { (top.parts ≡ P.parts) × (0 < top.parts) × (top.amount ≡ last_in publisher) × (last_in publisher ≤ (M.stored (mark_in publisher)).floor) }
+    requires rate { IsAtRate N.given (output_in publisher).rate }
+    requires ends { receives_on from.now ≡ sends_on to.now }
+    requires writer { IsSeatAt (sends_on to.now) writer × (view writer ≡ log true false false [] []) }
+    requires reader { IsSeatAt (receives_on from.now) reader × (view reader ≡ log false true false [] []) }
+    ensures totals { IfOk result.outcome (λ t. (t.taken ≡ sum (map (λ c. c.taken) t.receivers.items)) × (t.refused ≡ sum (map (λ c. c.refused) t.receivers.items))) }
+    ensures sent { (put : List Message) × (given : List (List ℕ)) × (rest : List (List ℕ)) × K.took sink result.sink given × (bytes_of put ≡ given ++ rest) × Rises (last_in publisher) (instants_of put) ((M.stored (mark_in result.publisher)).floor) }
+{
+    thread::scope(
+        thread::scope_env(),
+        rt,
+        |scope| -> Ran<M, K>
+            requires settings { N.settings ≡ Some settings.now }
+            requires streams { (vec_len inputs ≡ C.Settings.streams settings.now) × (vec_len inputs ≤ 16) }
+            requires parts { (shares.taken.parts ≡ vec_len inputs + 1) × (shares.refused.parts ≡ vec_len inputs + 1) × (shares.configured.parts ≡ vec_len inputs + 1) }
+            requires whole { (shares.taken.parts ≡ T.parts) × (shares.refused.parts ≡ F.parts) × (shares.configured.parts ≡ G.parts) }
+            requires amounts { (shares.taken.amount ≡ 0) × (shares.refused.amount ≡ 0) × (shares.configured.amount ≡ 0) }
+            requires top { (top.parts ≡ P.parts) × (0 < top.parts) × (top.amount ≡ last_in publisher) × (last_in publisher ≤ (M.stored (mark_in publisher)).floor) }
+            requires rate { IsAtRate N.given (output_in publisher).rate }
+            requires ends { receives_on from.now ≡ sends_on to.now }
+            requires writer { IsSeatAt (sends_on to.now) writer × (view writer ≡ log true false false [] []) }
+            requires reader { IsSeatAt (receives_on from.now) reader × (view reader ≡ log false true false [] []) }
+            ensures totals { IfOk result.outcome (λ t. (t.taken ≡ sum (map (λ c. c.taken) t.receivers.items)) × (t.refused ≡ sum (map (λ c. c.refused) t.receivers.items))) }
+            ensures sent { (put : List Message) × (given : List (List ℕ)) × (rest : List (List ℕ)) × K.took sink result.sink given × (bytes_of put ≡ given ++ rest) × Rises (last_in publisher) (instants_of put) ((M.stored (mark_in result.publisher)).floor) }
+        {
+            conduct(
+                scope, rt, alloc, hub, settings, to, from, writer, reader, shares, top, inputs,
+                publisher, ticker, pace, sink,
+            )
+        },
+    )
+}
+
+/// A buffer for a datagram.
+fn buffer(alloc: Global) -> Result<Vec<u8>, AllocError> {
+    Ok(vec![in alloc; 0u8; MAX_SIZE]?)
+}
+
+/// The sources, each with a buffer.
+fn buffered<S: Source + Drop>(alloc: Global, sources: Vec<S>) -> Option<Vec<Input<S>>>
+    ensures { IfSome result (λ inputs. vec_len inputs ≡ vec_len sources) }
+{
+    let mut inputs = Vec::new(alloc);
+    for source in sources {
+        let Ok(buffer) = buffer(alloc) else {
+            return None;
+        };
+        if inputs.push(Input { source, buffer }).is_err() {
+            return None;
+        }
+    }
+    Some(inputs)
+}
+
+/// As `run`, of sources that have their buffers.
+fn run_buffered<
+    C: Core + Drop + Send,
+    N: Naming<C::Settings> + Send,
+    T: Ledger + Send + Sync,
+    F: Ledger + Send + Sync,
+    G: Ledger + Send + Sync,
+    P: Ledger + Send + Sync,
+    S: Source + Send + Drop,
+    M: Mark + Drop,
+    I: Ticker + Drop,
+    K: Sink + Send + Drop,
+    R: Threads + Wait + Sync,
+>(
+    rt: &R,
+    alloc: Global,
+    hub: &Hub<C, N, T, F, G, P>,
+    settings: &C::Settings,
+    shares: Shares<T, F, G>,
+    top: Share<P>,
+    inputs: Vec<Input<S>>,
+    publisher: Publisher<M>,
+    ticker: I,
+    pace: Pace,
+    sink: K,
+) -> Ran<M, K>
+where
+    C::Settings: Sync,
+    requires settings { N.settings ≡ Some settings.now }
+    requires streams { (vec_len inputs ≡ C.Settings.streams settings.now) × (vec_len inputs ≤ 16) }
+    requires parts { (shares.taken.parts ≡ vec_len inputs + 1) × (shares.refused.parts ≡ vec_len inputs + 1) × (shares.configured.parts ≡ vec_len inputs + 1) }
+    requires whole { (shares.taken.parts ≡ T.parts) × (shares.refused.parts ≡ F.parts) × (shares.configured.parts ≡ G.parts) }
+    requires amounts { (shares.taken.amount ≡ 0) × (shares.refused.amount ≡ 0) × (shares.configured.amount ≡ 0) }
+    requires top { (top.parts ≡ P.parts) × (0 < top.parts) × (top.amount ≡ last_in publisher) × (last_in publisher ≤ (M.stored (mark_in publisher)).floor) }
+    requires rate { IsAtRate N.given (output_in publisher).rate }
+    ensures totals { IfOk result.outcome (λ t. (t.taken ≡ sum (map (λ c. c.taken) t.receivers.items)) × (t.refused ≡ sum (map (λ c. c.refused) t.receivers.items))) }
+    ensures sent { (put : List Message) × (given : List (List ℕ)) × (rest : List (List ℕ)) × K.took sink result.sink given × (bytes_of put ≡ given ++ rest) × Rises (last_in publisher) (instants_of put) ((M.stored (mark_in result.publisher)).floor) }
+{
+    let Ok((sender, receiver, mut writer)) = bounded_with::<Message, Log, InOrder, Global>(
+        alloc, CAPACITY,
+    ) else {
+        return Ran {
+            publisher,
+            sink,
+            outcome: Err(HubFault::NoMemory),
+        };
+    };
+    let to = &sender;
+    let reader = to.another::<Roles>(&mut writer);
+    run_over(
+        rt, alloc, hub, settings, to, &receiver, writer, reader, shares, top, inputs, publisher,
+        ticker, pace, sink,
+    )
+}
+
+/// Runs a receiver for each source, the aligner and the sender, each in a thread of its own but the aligner, and joins them. The publisher
+/// and the sink are handed back.
+///
+/// # Errors
+///
+/// The first fault in the order receivers, aligner, sender: `SourceFault`, `SinkFault` or `Device` where a device failed; `NoMemory` where
+/// memory or a thread was wanted; `CountsUsedUp` where a total was at its greatest value; `Stuck` where a source gave up, or an end of the
+/// channel found the other one gone. What was received, published and sent before stays.
+pub fn run<
+    C: Core + Drop + Send,
+    N: Naming<C::Settings> + Send,
+    T: Ledger + Send + Sync,
+    F: Ledger + Send + Sync,
+    G: Ledger + Send + Sync,
+    P: Ledger + Send + Sync,
+    S: Source + Send + Drop,
+    M: Mark + Drop,
+    I: Ticker + Drop,
+    K: Sink + Send + Drop,
+    R: Threads + Wait + Sync,
+>(
+    rt: &R,
+    alloc: Global,
+    hub: &Hub<C, N, T, F, G, P>,
+    settings: &C::Settings,
+    shares: Shares<T, F, G>,
+    top: Share<P>,
+    sources: Vec<S>,
+    publisher: Publisher<M>,
+    ticker: I,
+    pace: Pace,
+    sink: K,
+) -> Ran<M, K>
+// Each stream has a source, in order; the shares are whole and have counted nothing; and the core was opened with what the publisher's
+// mark stores, at its rate.
+where
+    C::Settings: Sync,
+    requires settings { N.settings ≡ Some settings.now }
+    requires streams { (vec_len sources ≡ C.Settings.streams settings.now) × (vec_len sources ≤ 16) }
+    requires parts { (shares.taken.parts ≡ vec_len sources + 1) × (shares.refused.parts ≡ vec_len sources + 1) × (shares.configured.parts ≡ vec_len sources + 1) }
+    requires whole { (shares.taken.parts ≡ T.parts) × (shares.refused.parts ≡ F.parts) × (shares.configured.parts ≡ G.parts) }
+    requires amounts { (shares.taken.amount ≡ 0) × (shares.refused.amount ≡ 0) × (shares.configured.amount ≡ 0) }
+    requires top { (top.parts ≡ P.parts) × (0 < top.parts) × (top.amount ≡ last_in publisher) × (last_in publisher ≤ (M.stored (mark_in publisher)).floor) }
+    requires rate { IsAtRate N.given (output_in publisher).rate }
+    // The totals are the sums over the receivers.
+    ensures totals { IfOk result.outcome (λ t. (t.taken ≡ sum (map (λ c. c.taken) t.receivers.items)) × (t.refused ≡ sum (map (λ c. c.refused) t.receivers.items))) }
+    // What the sink took is a prefix of what was put, whose instants strictly rise, lie above the last one published before, and are at most
+    // the floor that is stored then.
+    ensures sent { (put : List Message) × (given : List (List ℕ)) × (rest : List (List ℕ)) × K.took sink result.sink given × (bytes_of put ≡ given ++ rest) × Rises (last_in publisher) (instants_of put) ((M.stored (mark_in result.publisher)).floor) }
+{
+    let Some(inputs) = buffered(alloc, sources) else {
+        return Ran {
+            publisher,
+            sink,
+            outcome: Err(HubFault::NoMemory),
+        };
+    };
+    run_buffered(
+        rt, alloc, hub, settings, shares, top, inputs, publisher, ticker, pace, sink,
+    )
+}

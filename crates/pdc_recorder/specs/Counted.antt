@@ -1,0 +1,37 @@
+-- What a delivery adds to the caller's shares (this profile).
+use Rattle.std.specs.Prelude.{◌≡◌, ℕ, ◌+◌, ◌-◌, ◌^◌, ◌≤◌, Bool, true, false, ◌||◌, nat_le}
+use Rattle.pdc_answering.specs.declared.counts.Counts.{Counts}
+use Rattle.pdc_life.specs.declared.outcome.Outcome.{Outcome}
+use Rattle.pdc_life.specs.declared.outcome.Outcome.TheVariants.{Taken, Candidate, Known, Refused}
+
+abbrev pub taken_by : Outcome → ℕ
+taken_by Taken = 1
+taken_by _ = 0
+
+abbrev pub refused_by : Outcome → ℕ
+refused_by (Refused _) = 1
+refused_by _ = 0
+
+-- a configuration that is new, or held already
+abbrev pub configured_by : Outcome → ℕ
+configured_by Candidate = 1
+configured_by Known = 1
+configured_by _ = 0
+
+-- how many configurations were new or held already
+abbrev pub configurations : Counts → ℕ
+configurations counts = counts.candidate + counts.known
+
+-- the total is at the greatest value of a counter
+abbrev pub is_at_greatest : ℕ → Bool
+is_at_greatest total = nat_le (2 ^ 64 - 1) total
+
+-- one of the three totals is
+abbrev pub is_used_up : (taken refused configured : ℕ) → Bool
+is_used_up taken refused configured = is_at_greatest taken || (is_at_greatest refused || is_at_greatest configured)
+
+-- A value that counts at least so much.
+pub record CountsAtLeast (counts : Counts) (taken refused : ℕ) (more : ℕ) : Type 0 where
+  pub taken_counted : taken ≤ counts.taken
+  pub refused_counted : refused ≤ counts.refused
+  pub configured_counted : more ≤ configurations counts

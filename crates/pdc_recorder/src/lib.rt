@@ -1,0 +1,25 @@
+//! What stands under the lock of a running core: a core beside a base and the steps since, with the books of what they counted (this
+//! profile).
+//!
+//! The first type to look at is [`Recorder`]. Its core is at every moment the replay of the kept steps over the base, and its books
+//! have the core's counters.
+//!
+//! The promise to the layers above: each call adds exactly the caller's step and answers what the core answers it, or adds none and
+//! says why; what the step counted is in the caller's share.
+#![tactic(auto)]
+
+mod fault;
+mod hub;
+mod naming;
+mod receiver;
+mod recorder;
+mod replayed;
+mod shares;
+
+pub use fault::HubFault;
+pub use hub::Hub;
+pub use naming::Naming;
+pub use receiver::{Next, Received, Source, receive};
+pub use recorder::Recorder;
+pub use replayed::Replayed;
+pub use shares::{Blanks, Books, Shares};

@@ -1,0 +1,20 @@
+//! Which life is recorded, for contracts.
+ghost use Rattle.std.specs.Prelude.{None, Option};
+ghost use Rattle.pdc_life.specs.Given.{Given};
+
+use std::marker::Brand;
+
+/// Which life is recorded: what is given to it, and the settings by which its bytes are read. It exists for contracts alone, and each
+/// call of a program that makes a recorder picks it.
+pub trait Naming<S> {
+    ghost given: { Option Given };
+
+    ghost settings: { Option S };
+}
+
+/// Nothing is named until it is picked.
+impl<S> Naming<S> for Brand {
+    ghost given = { None };
+
+    ghost settings = { None };
+}
