@@ -35,12 +35,13 @@ pub record State : Type 0 where
   pub columns : List ColumnState
   pub content : Content
 
--- What contracts see of an alignment: its state, for each buffer that it holds how many places it has, and how often both lanes of a
--- column differed at a closing, which no definition of a life speaks of.
+-- What contracts see of an alignment: its state, for each buffer that it holds how many places it has, how often both lanes of a
+-- column differed at a closing, which no definition of a life speaks of, and the greatest instant popped, at first the floor.
 pub record AlignmentView : Type 0 where
   pub state : State
   pub memory : List ℕ
   pub disagreements : ℕ
+  pub popped : ℕ
 
 -- It has so many columns and lanes,
 pub record HasSizes (columns lanes : ℕ) (a : State) : Type 0 where

@@ -12,6 +12,8 @@ pub fn adopt_in<T: Table>(table: &mut T, lanes: usize, columns: &[usize])
     requires lanes { lanes ≡ (T.content table.old).lanes }
     requires columns { All (λ (column : ℕ). column < (T.content table.old).columns) columns.now }
     requires well_formed { IsContent (T.content table.old) }
+    ensures closed { (T.content table.new).closed ≡ (T.content table.old).closed }
+    ensures last { (T.content table.new).last ≡ (T.content table.old).last }
     ensures content { T.content table.new ≡ after_adoptions (T.content table.old) columns.now }
     ensures sizes { HasSizesOf (T.content table.old) (T.content table.new) }
     ensures memory { T.memory table.new ≡ T.memory table.old }
@@ -28,6 +30,8 @@ fn adopt_one<T: Table>(table: &mut T, lanes: usize, column: usize)
     requires lanes { lanes ≡ (T.content table.old).lanes }
     requires column { column < (T.content table.old).columns }
     requires well_formed { IsContent (T.content table.old) }
+    ensures closed { (T.content table.new).closed ≡ (T.content table.old).closed }
+    ensures last { (T.content table.new).last ≡ (T.content table.old).last }
     ensures content { T.content table.new ≡ after_adoption (T.content table.old) column }
     ensures sizes { HasSizesOf (T.content table.old) (T.content table.new) }
     ensures memory { T.memory table.new ≡ T.memory table.old }

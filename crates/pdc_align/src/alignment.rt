@@ -1,5 +1,5 @@
 //! The alignment of a concentrator.
-ghost use Rattle.std.specs.Prelude.{◌≡◌, ◌<◌, ◌-◌, ◌^◌, [], ◌∷◌, ℕ, List, IfOk, Option, length, map, option_map};
+ghost use Rattle.std.specs.Prelude.{◌≡◌, ◌<◌, ◌-◌, ◌^◌, [], ◌∷◌, ℕ, List, IfOk, IfSome, Option, length, map, option_map};
 ghost use Rattle.std.specs.List.{All};
 ghost use Rattle.pdc_cfg.specs.Section.{fields_of_view};
 ghost use Rattle.pdc_output.specs.declared.output.Output.{Output};
@@ -19,6 +19,7 @@ ghost use Rattle.pdc_life.specs.Run.{IsRun};
 ghost use Rattle.pdc_life.specs.declared.outcome.Outcome.TheVariants.{Candidate};
 ghost use Rattle.pdc_state.specs.State.{row_layout_of, rule_of};
 ghost use Rattle.pdc_align.specs.Align.{HasSizes, KeepsSizes, StandsFor, given_by, new_change, ticked_of};
+ghost use Rattle.pdc_align.specs.Popped.{popped_after};
 ghost use Rattle.pdc_align.specs.Calls.{after_data, after_adopting, disagreements_at, after_closing, after_tick_of, column_in, told_at, after_hold, after_pop_of, first_content, first_of_plan, put_outcome, row_layout_in, waiting_in};
 
 use crate::adopting::adopt_in;
@@ -45,12 +46,15 @@ pub struct Alignment<T: Table> {
     lanes: usize,
     columns: Vec<Column>,
     table: T,
+    /// The greatest instant popped, at first the floor.
+    popped: u64,
 }
 
 impl<T: Table> Model for Alignment<T> {
     ghost use Rattle.std.specs.Prelude.{◌≡◌, ◌∷◌, length};
     ghost use Rattle.std.specs.Vec.{vec_capacity};
     ghost use Rattle.pdc_align.specs.Align.{AlignmentView};
+    ghost use Rattle.pdc_align.specs.Popped.{IsPoppedTo};
     ghost use Rattle.pdc_table.specs.Content.{IsContent};
 
     ghost Value = { AlignmentView };
@@ -68,12 +72,14 @@ impl<T: Table> Model for Alignment<T> {
       };
       memory = vec_capacity a.columns ∷ T.memory a.table;
       disagreements = T.disagreements a.table;
+      popped = a.popped;
     } };
 
     ghost invariant = { λ a. record {
       well_formed : IsContent (T.content a.table);
       each : length a.columns.items ≡ (T.content a.table).columns;
       lanes : a.lanes ≡ (T.content a.table).lanes;
+      gone : IsPoppedTo a.popped (T.content a.table);
     } };
 }
 
@@ -133,6 +139,7 @@ impl<T: Table> Alignment<T> {
         ensures stands { IfOk result (λ a. (output : Output) → StandsFor (given_by plan output start floor counts.now now) [] a.state) }
         ensures sizes { IfOk result (λ a. HasSizes plan.columns plan.lanes a.state) }
         ensures disagreements { IfOk result (λ a. a.disagreements ≡ 0) }
+        ensures popped { IfOk result (λ a. a.popped ≡ floor) }
     {
         Alignment::first(alloc, plan, start, floor, counts, now)
     }
@@ -155,6 +162,7 @@ impl<T: Table> Alignment<T> {
         ensures sizes { KeepsSizes self.old.state self.new.state }
         ensures memory { self.new.memory ≡ self.old.memory }
         ensures disagreements { self.new.disagreements ≡ self.old.disagreements }
+        ensures popped { self.new.popped ≡ self.old.popped }
     {
         answers_agree();
         take_is_take();
@@ -171,6 +179,7 @@ impl<T: Table> Alignment<T> {
         ensures sizes { KeepsSizes self.old.state self.new.state }
         ensures memory { self.new.memory ≡ self.old.memory }
         ensures disagreements { self.new.disagreements ≡ self.old.disagreements }
+        ensures popped { self.new.popped ≡ self.old.popped }
     {
         others_leave_it();
         self.keep(sections);
@@ -185,6 +194,7 @@ impl<T: Table> Alignment<T> {
         ensures sizes { KeepsSizes self.old.state self.new.state }
         ensures memory { self.new.memory ≡ self.old.memory }
         ensures disagreements { self.new.disagreements ≡ disagreements_at self.old.disagreements self.old.state now }
+        ensures popped { self.new.popped ≡ self.old.popped }
     {
         rows_are_those();
         tick_is_tick();
@@ -198,8 +208,18 @@ impl<T: Table> Alignment<T> {
         ensures sizes { KeepsSizes self.old.state self.new.state }
         ensures memory { self.new.memory ≡ self.old.memory }
         ensures disagreements { self.new.disagreements ≡ self.old.disagreements }
+        // Its instant is above all that were popped before, and above the floor.
+        ensures rises { IfSome result (λ row. self.old.popped < row.instant) }
+        ensures popped { self.new.popped ≡ popped_after (option_map row_view result) self.old.popped }
     {
         self.take_due()
+    }
+
+    /// The instant of the lowest closed row that was not popped.
+    pub fn next_due(&self) -> Option<u64>
+        ensures { (g : Given) (E : List Entry) → StandsFor g E self.now.state → result ≡ option_map (λ row. row.instant) (pop_answer E) }
+    {
+        self.next()
     }
 
     /// The layout under which rows close now: the stamp, and the shapes in force.
@@ -259,6 +279,7 @@ impl<T: Table> Alignment<T> {
     ) -> Result<Alignment<T>, AllocError>
         ensures state { IfOk result (λ a. a.state ≡ first_of_plan plan start floor counts.now now) }
         ensures disagreements { IfOk result (λ a. a.disagreements ≡ 0) }
+        ensures popped { IfOk result (λ a. a.popped ≡ floor) }
     {
         Ok(Alignment {
             wait: plan.wait,
@@ -270,6 +291,7 @@ impl<T: Table> Alignment<T> {
             lanes: plan.lanes,
             columns: columns::new_columns(alloc, plan.columns, counts)?,
             table: new_table(alloc, plan, floor)?,
+            popped: floor,
         })
     }
 
@@ -287,6 +309,7 @@ impl<T: Table> Alignment<T> {
         ensures sizes { KeepsSizes self.old.state self.new.state }
         ensures memory { self.new.memory ≡ self.old.memory }
         ensures disagreements { self.new.disagreements ≡ self.old.disagreements }
+        ensures popped { self.new.popped ≡ self.old.popped }
     {
         if instant <= self.table.last() {
             return Outcome::Refused(Refusal::Late);
@@ -304,6 +327,7 @@ impl<T: Table> Alignment<T> {
         ensures sizes { KeepsSizes self.old.state self.new.state }
         ensures memory { self.new.memory ≡ self.old.memory }
         ensures disagreements { self.new.disagreements ≡ self.old.disagreements }
+        ensures popped { self.new.popped ≡ self.old.popped }
     {
         columns::hold(&mut self.columns, sections);
     }
@@ -316,6 +340,7 @@ impl<T: Table> Alignment<T> {
         ensures sizes { KeepsSizes self.old.state self.new.state }
         ensures memory { self.new.memory ≡ self.old.memory }
         ensures disagreements { self.new.disagreements ≡ disagreements_at self.old.disagreements self.old.state now }
+        ensures popped { self.new.popped ≡ self.old.popped }
     {
         let closed = self.close(now, counts);
         let ready = columns::ready(&self.columns);
@@ -340,13 +365,26 @@ impl<T: Table> Alignment<T> {
         ensures sizes { KeepsSizes self.old.state self.new.state }
         ensures memory { self.new.memory ≡ self.old.memory }
         ensures disagreements { self.new.disagreements ≡ disagreements_at self.old.disagreements self.old.state now }
+        ensures popped { self.new.popped ≡ self.old.popped }
     {
         let layout = self.layout();
         let rule = rule_of(self.wait_kind, self.wait, now);
-        let closed = self.table.tick(rule, &layout);
+        let closed = self.close_rows(rule, &layout);
         columns::clear(&mut self.columns, counts);
         self.current = now;
         closed
+    }
+
+    /// Closes the rows that are due by the rule, under the layout. It answers how many.
+    fn close_rows(&mut self, rule: WaitRule, layout: &RowLayout) -> u32
+        ensures answer { result ≡ table.tick_answer self.old.state.content rule }
+        ensures state { self.new.state ≡ record self.old.state { content = table.after_tick self.old.state.content rule (layout_view layout.now) } }
+        ensures sizes { KeepsSizes self.old.state self.new.state }
+        ensures memory { self.new.memory ≡ self.old.memory }
+        ensures disagreements { self.new.disagreements ≡ table.disagreements_after self.old.disagreements self.old.state.content rule (layout_view layout.now) }
+        ensures popped { self.new.popped ≡ self.old.popped }
+    {
+        self.table.tick(rule, layout)
     }
 
     /// Puts into force what is ready, and adopts these columns in the table. It answers the change number, where there are any.
@@ -358,6 +396,7 @@ impl<T: Table> Alignment<T> {
         ensures sizes { KeepsSizes self.old.state self.new.state }
         ensures memory { self.new.memory ≡ self.old.memory }
         ensures disagreements { self.new.disagreements ≡ self.old.disagreements }
+        ensures popped { self.new.popped ≡ self.old.popped }
     {
         columns::adopt(&mut self.columns);
         adopt_in(&mut self.table, self.lanes, adopted);
@@ -375,8 +414,19 @@ impl<T: Table> Alignment<T> {
         ensures sizes { KeepsSizes self.old.state self.new.state }
         ensures memory { self.new.memory ≡ self.old.memory }
         ensures disagreements { self.new.disagreements ≡ self.old.disagreements }
+        ensures rises { IfSome result (λ row. self.old.popped < row.instant) }
+        ensures popped { self.new.popped ≡ popped_after (option_map row_view result) self.old.popped }
     {
-        self.table.pop_due()
+        let row = self.table.pop_due()?;
+        self.popped = row.instant;
+        Some(row)
+    }
+
+    /// The instant of the first row that waits.
+    fn next(&self) -> Option<u64>
+        ensures { result ≡ table.next_answer self.now.state.content }
+    {
+        self.table.next_due()
     }
 
     /// The layout under which rows close.

@@ -1,6 +1,7 @@
 -- The steps of a core and its replies, beside the steps of lives and their answers (this profile).
-use Rattle.std.specs.Prelude.{◌≡◌, ℕ, Bool, true, false, List, option_map}
+use Rattle.std.specs.Prelude.{◌≡◌, ℕ, Bool, true, false, List, Some, nat_lt, option_map}
 use Rattle.pdc_align.specs.Align.{ticked_of}
+use Rattle.pdc_align.specs.Popped.{popped_after}
 use Rattle.pdc_life.specs.Answer.{IsReadStep, ReadStep, ToArrive, ToPop, ToTick}
 use Rattle.pdc_life.specs.Life.{Arrive, Entry, Pop, Tick, changes}
 use Rattle.pdc_life.specs.Arrival.{Arrival}
@@ -43,3 +44,13 @@ answers step other = false
 abbrev pub counted_by : Reply → Counts → Counts
 counted_by (reply.Arrived outcome) counts = after_answer outcome counts
 counted_by other counts = counts
+
+-- The greatest instant popped after a reply,
+abbrev pub popped_by : Reply → ℕ → ℕ
+popped_by (reply.Popped due) popped = popped_after (option_map row_view due) popped
+popped_by other popped = popped
+
+-- above which lies the instant of a row that it gives.
+abbrev pub rises_by : Reply → ℕ → Bool
+rises_by (reply.Popped (Some row)) popped = nat_lt popped row.instant
+rises_by other popped = true

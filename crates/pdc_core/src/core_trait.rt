@@ -4,7 +4,8 @@ ghost use Rattle.pdc_align.specs.Align.{ticked_of};
 ghost use Rattle.pdc_answering.specs.Counts.{after_answer, counts_after};
 ghost use Rattle.pdc_answering.specs.declared.counts.Counts.{Counts as CountsData};
 ghost use Rattle.pdc_core.specs.Core.{Hears};
-ghost use Rattle.pdc_core.specs.Step.{IsOf, Tells, answers, counted_by, is_allowed};
+ghost use Rattle.pdc_align.specs.Popped.{popped_after};
+ghost use Rattle.pdc_core.specs.Step.{IsOf, Tells, answers, counted_by, is_allowed, popped_by, rises_by};
 ghost use Rattle.pdc_life.specs.Answer.{IsReadStep, ReadStep, Rules, ToArrive, ToPop, ToTick, answered, pop_answer, tick_answer, waiting_counts};
 ghost use Rattle.pdc_life.specs.Given.{Given};
 ghost use Rattle.pdc_life.specs.Life.{Entry, changes, popped};
@@ -41,6 +42,9 @@ pub trait Core {
     // and counted so.
     ghost counts_of: { Self → CountsData };
 
+    // The greatest instant popped, at first the floor.
+    ghost popped_of: { Self → ℕ };
+
     // It has so many places in each buffer that it holds.
     ghost memory: { Self → List ℕ };
 
@@ -56,6 +60,7 @@ pub trait Core {
         ensures stands { (g : Given) (E : List Entry) (bytes : List ℕ) → Self.Settings.says (settings_of self.old) stream bytes (arrival_view arrival.now) →
             stands_for self.old g E → stands_for self.new g (answered rules g E (ToArrive stream bytes (arrival_view arrival.now)) ∷ E) }
         ensures counts { counts_of self.new ≡ after_answer result (counts_of self.old) }
+        ensures popped { popped_of self.new ≡ popped_of self.old }
         ensures settings { settings_of self.new ≡ settings_of self.old }
         ensures memory { memory self.new ≡ memory self.old };
 
@@ -65,6 +70,7 @@ pub trait Core {
         ensures stands { (g : Given) (E : List Entry) → stands_for self.old g E →
             stands_for self.new g (answered rules g E (ToTick now counts.now) ∷ E) }
         ensures counts { counts_of self.new ≡ counts_of self.old }
+        ensures popped { popped_of self.new ≡ popped_of self.old }
         ensures settings { settings_of self.new ≡ settings_of self.old }
         ensures memory { memory self.new ≡ memory self.old };
 
@@ -76,8 +82,16 @@ pub trait Core {
             IfSome result (λ row. (g.floor < row.instant) × AreBelow row.instant (row_instants (popped E)) × (row.instant < SECONDS * g.output.rate)) }
         ensures stands { (g : Given) (E : List Entry) → stands_for self.old g E → stands_for self.new g (answered rules g E ToPop ∷ E) }
         ensures counts { counts_of self.new ≡ counts_of self.old }
+        ensures rises { IfSome result (λ row. popped_of self.old < row.instant) }
+        ensures popped { popped_of self.new ≡ popped_after (option_map row_view result) (popped_of self.old) }
         ensures settings { settings_of self.new ≡ settings_of self.old }
         ensures memory { memory self.new ≡ memory self.old };
+
+    /// The instant of the lowest row that closed and was not popped.
+    fn next_due(&self) -> Option<u64>
+        ensures answer { (g : Given) (E : List Entry) → stands_for self.now g E → result ≡ option_map (λ row. row.instant) (pop_answer E) }
+        // It can be tagged.
+        ensures tagged { (g : Given) (E : List Entry) → stands_for self.now g E → IfSome result (λ instant. instant < SECONDS * g.output.rate) };
 
     /// Appends the frame of the layout in force, dated with this second.
     ///
@@ -111,6 +125,8 @@ pub trait Core {
         ensures stands { (g : Given) (E : List Entry) (read : ReadStep) → IsOf step.now read → IsReadStep (Self.Settings.says (settings_of self.old)) read →
             stands_for self.old g E → stands_for self.new g (answered rules g E read ∷ E) }
         ensures counts { counts_of self.new ≡ counted_by result (counts_of self.old) }
+        ensures rises { rises_by result (popped_of self.old) ≡ true }
+        ensures popped { popped_of self.new ≡ popped_by result (popped_of self.old) }
         ensures settings { settings_of self.new ≡ settings_of self.old }
         ensures memory { memory self.new ≡ memory self.old }
     {
@@ -129,6 +145,7 @@ pub trait Core {
         requires { stream < Self.Settings.streams (settings_of self.old) }
         ensures hears { Hears (Self.Settings.says (settings_of self.old)) rules (stands_for self.old) (stands_for self.new) stream bytes.now result }
         ensures counts { counts_of self.new ≡ after_answer result (counts_of self.old) }
+        ensures popped { popped_of self.new ≡ popped_of self.old }
         ensures settings { settings_of self.new ≡ settings_of self.old }
         ensures memory { memory self.new ≡ memory self.old }
     {

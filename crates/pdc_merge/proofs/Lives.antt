@@ -25,10 +25,10 @@ Parts = List (ℕ × SectionFields)
 
 -- ---- the start
 
-pub begins : (settings : MergerSettings) (start floor : ℕ) (counts : List ℕ) (opening : ℕ) (g : Given) (a : State) (l : LayoutsView) (k : Counts) (m : List ℕ) (d : ℕ)
+pub begins : (settings : MergerSettings) (start floor : ℕ) (counts : List ℕ) (opening : ℕ) (g : Given) (a : State) (l : LayoutsView) (k : Counts) (m : List ℕ) (d last : ℕ)
     → g ≡ given_of_merger settings start floor counts opening → align.StandsFor g [] a → l ≡ layouts_of [] → k ≡ counts_after []
-    → StandsFor (given_of_merger settings start floor counts opening) [] (record { settings = settings; start = start; state = a; layouts = l; counts = k; memory = m; disagreements = d })
-begins settings start floor counts opening g a l k m d e aligned held counted = record {
+    → StandsFor (given_of_merger settings start floor counts opening) [] (record { settings = settings; start = start; state = a; layouts = l; counts = k; memory = m; disagreements = d; popped = last })
+begins settings start floor counts opening g a l k m d last e aligned held counted = record {
   life = record { given = refl; life = tt };
   same_start = refl;
   aligned = subst (λ (h : Given). align.StandsFor h [] a) e aligned;
@@ -119,13 +119,13 @@ module _ (runs : MergerLivesAreRuns) where
       → IsMergerLife m.settings g (Arrive s bytes arrival (merged_answer g E s arrival) ∷ E)
   life_more m g E s bytes arrival reads stands = record { given = stands.life.given; life = (reads, refl, stands.life.life) }
 
-  pub arrives : (m : MergerView) (g : Given) (E : List Entry) (s : ℕ) (bytes : List ℕ) (arrival : Arrival) (b : State) (l : LayoutsView) (k : Counts) (memory : List ℕ) (d : ℕ)
+  pub arrives : (m : MergerView) (g : Given) (E : List Entry) (s : ℕ) (bytes : List ℕ) (arrival : Arrival) (b : State) (l : LayoutsView) (k : Counts) (memory : List ℕ) (d last : ℕ)
       → ReadsForMerger m.settings s bytes arrival → StandsFor g E m
       → (IsRun g (Arrive s bytes arrival (merged_answer g E s arrival) ∷ E) → align.StandsFor g (Arrive s bytes arrival (merged_answer g E s arrival) ∷ E) b)
       → l ≡ layouts_of (Arrive s bytes arrival (merged_answer g E s arrival) ∷ E)
       → (m.counts ≡ counts_after E → k ≡ counts_after (Arrive s bytes arrival (merged_answer g E s arrival) ∷ E))
-      → StandsFor g (Arrive s bytes arrival (merged_answer g E s arrival) ∷ E) (record m { state = b; layouts = l; counts = k; memory = memory; disagreements = d })
-  arrives m g E s bytes arrival b l k memory d reads stands step held counts = record {
+      → StandsFor g (Arrive s bytes arrival (merged_answer g E s arrival) ∷ E) (record m { state = b; layouts = l; counts = k; memory = memory; disagreements = d; popped = last })
+  arrives m g E s bytes arrival b l k memory d last reads stands step held counts = record {
     life = life_more m g E s bytes arrival reads stands;
     same_start = stands.same_start;
     aligned = step (runs m.settings g (Arrive s bytes arrival (merged_answer g E s arrival) ∷ E) (life_more m g E s bytes arrival reads stands));

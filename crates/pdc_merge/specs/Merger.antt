@@ -30,6 +30,8 @@ pub record MergerView : Type 0 where
   -- no definition of a life speaks of
   pub memory : List ℕ
   pub disagreements : ℕ
+  -- the greatest instant popped, at first the floor
+  pub popped : ℕ
 
 -- The merger stands for this life, which is one of its settings.
 pub record StandsFor (g : Given) (E : List Entry) (m : MergerView) : Type 0 where

@@ -67,6 +67,7 @@ fn put_data<T: Table>(
         (with_cells result (cells_in alignment.old.state quality layout.now.sections (drop 7 (words_in payload.now)))) ∷ E) alignment.new.state }
     ensures sizes { KeepsSizes alignment.old.state alignment.new.state }
     ensures memory { alignment.new.memory ≡ alignment.old.memory }
+    ensures popped { alignment.new.popped ≡ alignment.old.popped }
     ensures disagreements { alignment.new.disagreements ≡ alignment.old.disagreements }
 {
     words_are_cut();
@@ -100,6 +101,7 @@ fn answer_data<T: Table>(
         StandsFor g (answered merged_answer g E (ToArrive stream bytes (Data instant quality payload.now)) ∷ E) alignment.new.state }
     ensures sizes { KeepsSizes alignment.old.state alignment.new.state }
     ensures memory { alignment.new.memory ≡ alignment.old.memory }
+    ensures popped { alignment.new.popped ≡ alignment.old.popped }
     ensures disagreements { alignment.new.disagreements ≡ alignment.old.disagreements }
 {
     others_are_left();
@@ -153,6 +155,7 @@ fn answer_layout<T: Table>(
         StandsFor g (answered merged_answer g E (ToArrive stream bytes (Layout (Some (stamp_view stamp)) (map section_part sections.now))) ∷ E) alignment.new.state }
     ensures sizes { KeepsSizes alignment.old.state alignment.new.state }
     ensures memory { alignment.new.memory ≡ alignment.old.memory }
+    ensures popped { alignment.new.popped ≡ alignment.old.popped }
     ensures disagreements { alignment.new.disagreements ≡ alignment.old.disagreements }
 {
     others_are_left();
@@ -186,6 +189,7 @@ fn answer_configuration<T: Table>(
     ensures in_place { AreAllInPlace (length alignment.old.state.columns) layouts.new }
     ensures sizes { KeepsSizes alignment.old.state alignment.new.state }
     ensures memory { alignment.new.memory ≡ alignment.old.memory }
+    ensures popped { alignment.new.popped ≡ alignment.old.popped }
     ensures disagreements { alignment.new.disagreements ≡ alignment.old.disagreements }
 {
     others_are_left();
@@ -219,6 +223,7 @@ pub fn answer<T: Table>(
     ensures in_place { AreAllInPlace (length alignment.old.state.columns) layouts.new }
     ensures sizes { KeepsSizes alignment.old.state alignment.new.state }
     ensures memory { alignment.new.memory ≡ alignment.old.memory }
+    ensures popped { alignment.new.popped ≡ alignment.old.popped }
     ensures disagreements { alignment.new.disagreements ≡ alignment.old.disagreements }
 {
     others_are_left();

@@ -43,6 +43,7 @@ impl<T: Table> Model for Merger<T> {
       layouts = m.layouts;
       counts = m.counts;
       memory = m.alignment.memory;
+      popped = m.alignment.popped;
       disagreements = m.alignment.disagreements;
     } };
 
@@ -83,6 +84,7 @@ impl<T: Table> Merger<T> {
     ) -> Result<Merger<T>, AllocError>
         ensures stands { IfOk result (λ m. StandsFor (given_of_merger settings start floor counts.now now) [] m) }
         ensures settings { IfOk result (λ m. m.settings ≡ settings) }
+        ensures popped { IfOk result (λ m. m.popped ≡ floor) }
         ensures disagreements { IfOk result (λ m. m.disagreements ≡ 0) }
     {
         let alignment = Alignment::new(alloc, plan_of(&settings), start, floor, counts, now)?;
@@ -115,6 +117,8 @@ impl<T: Table> Core for Merger<T> {
 
     ghost counts_of = { λ m. m.counts };
 
+    ghost popped_of = { λ m. m.popped };
+
     ghost memory = { λ m. m.memory };
 
     fn settings(&self) -> &MergerSettings {
@@ -136,6 +140,11 @@ impl<T: Table> Core for Merger<T> {
     fn pop_due(&mut self) -> Option<DueRow> {
         rows_have_tags();
         self.alignment.pop_due()
+    }
+
+    fn next_due(&self) -> Option<u64> {
+        rows_have_tags();
+        self.alignment.next_due()
     }
 
     /// Appends the frame of the layout in force: the merger's own section, and those in force.

@@ -21,10 +21,10 @@ use Rattle.pdc_node.specs.Node.{IsReady, NodeView, StandsFor}
 
 -- ---- the start
 
-pub begins : (settings : Settings) (start floor : ℕ) (counts : List ℕ) (opening : ℕ) (g : Given) (a : State) (k : Counts) (m : List ℕ)
+pub begins : (settings : Settings) (start floor : ℕ) (counts : List ℕ) (opening : ℕ) (g : Given) (a : State) (k : Counts) (m : List ℕ) (last : ℕ)
     → g ≡ given_of settings start floor counts opening → align.StandsFor g [] a → k ≡ counts_after []
-    → StandsFor (given_of settings start floor counts opening) [] (record { settings = settings; start = start; opening = counts; state = a; counts = k; memory = m })
-begins settings start floor counts opening g a k m e aligned counted = record {
+    → StandsFor (given_of settings start floor counts opening) [] (record { settings = settings; start = start; opening = counts; state = a; counts = k; memory = m; popped = last })
+begins settings start floor counts opening g a k m last e aligned counted = record {
   life = record { given = refl; life = tt };
   same_start = refl;
   same_opening = refl;
@@ -39,12 +39,12 @@ module _ (runs : NodeLivesAreRuns) where
       → IsNodeLife n.settings g (Arrive s bytes arrival (node_answer g E s arrival) ∷ E)
   life_more n g E s bytes arrival reads stands = record { given = stands.life.given; life = (reads, refl, stands.life.life) }
 
-  pub arrives : (n : NodeView) (g : Given) (E : List Entry) (s : ℕ) (bytes : List ℕ) (arrival : Arrival) (b : State) (k : Counts) (m : List ℕ)
+  pub arrives : (n : NodeView) (g : Given) (E : List Entry) (s : ℕ) (bytes : List ℕ) (arrival : Arrival) (b : State) (k : Counts) (m : List ℕ) (last : ℕ)
       → ReadsFor n.settings s bytes arrival → StandsFor g E n
       → (IsRun g (Arrive s bytes arrival (node_answer g E s arrival) ∷ E) → align.StandsFor g (Arrive s bytes arrival (node_answer g E s arrival) ∷ E) b)
       → (n.counts ≡ counts_after E → k ≡ counts_after (Arrive s bytes arrival (node_answer g E s arrival) ∷ E))
-      → StandsFor g (Arrive s bytes arrival (node_answer g E s arrival) ∷ E) (record n { state = b; counts = k; memory = m })
-  arrives n g E s bytes arrival b k m reads stands step counts = record {
+      → StandsFor g (Arrive s bytes arrival (node_answer g E s arrival) ∷ E) (record n { state = b; counts = k; memory = m; popped = last })
+  arrives n g E s bytes arrival b k m last reads stands step counts = record {
     life = life_more n g E s bytes arrival reads stands;
     same_start = stands.same_start;
     same_opening = stands.same_opening;

@@ -25,6 +25,8 @@ pub record NodeView : Type 0 where
   pub counts : Counts
   -- for each buffer that it holds how many places it has
   pub memory : List ℕ
+  -- the greatest instant popped, at first the floor
+  pub popped : ℕ
 
 -- The node stands for this life, which is one of its settings.
 pub record StandsFor (g : Given) (E : List Entry) (n : NodeView) : Type 0 where

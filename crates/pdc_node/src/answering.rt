@@ -47,6 +47,7 @@ fn answer_data<T: Table>(
         StandsFor g (answered node_answer g E (ToArrive stream bytes (Data instant quality payload.now)) ∷ E) alignment.new.state }
     ensures sizes { KeepsSizes alignment.old.state alignment.new.state }
     ensures memory { alignment.new.memory ≡ alignment.old.memory }
+    ensures popped { alignment.new.popped ≡ alignment.old.popped }
 {
     others_are_left();
     let Some(shape) = shape_in_force(alignment, stream) else {
@@ -74,6 +75,7 @@ fn answer_layout<T: Table>(
         StandsFor g (answered node_answer g E (ToArrive stream bytes (Layout stamp (map section_part sections.now))) ∷ E) alignment.new.state }
     ensures sizes { KeepsSizes alignment.old.state alignment.new.state }
     ensures memory { alignment.new.memory ≡ alignment.old.memory }
+    ensures popped { alignment.new.popped ≡ alignment.old.popped }
 {
     others_are_left();
     let [only] = sections else {
@@ -102,6 +104,7 @@ pub fn answer<T: Table>(
         StandsFor g (answered node_answer g E (ToArrive stream bytes (arrival_view arrival.now)) ∷ E) alignment.new.state }
     ensures sizes { KeepsSizes alignment.old.state alignment.new.state }
     ensures memory { alignment.new.memory ≡ alignment.old.memory }
+    ensures popped { alignment.new.popped ≡ alignment.old.popped }
 {
     others_are_left();
     match arrival {

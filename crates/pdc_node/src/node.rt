@@ -40,6 +40,7 @@ impl<T: Table> Model for Node<T> {
       state = n.alignment.state;
       counts = n.counts;
       memory = n.alignment.memory;
+      popped = n.alignment.popped;
     } };
 
     ghost invariant = { λ n. HasSizes (length n.settings.pmus.items) 1 n.alignment.state };
@@ -79,6 +80,7 @@ impl<T: Table> Node<T> {
     ) -> Result<Node<T>, AllocError>
         ensures stands { IfOk result (λ n. StandsFor (given_of settings start floor counts.now now) [] n) }
         ensures settings { IfOk result (λ n. n.settings ≡ settings) }
+        ensures popped { IfOk result (λ n. n.popped ≡ floor) }
     {
         let alignment = Alignment::new(alloc, plan_of(&settings), start, floor, counts, now)?;
         Ok(Node {
@@ -103,6 +105,8 @@ impl<T: Table> Core for Node<T> {
 
     ghost counts_of = { λ n. n.counts };
 
+    ghost popped_of = { λ n. n.popped };
+
     ghost memory = { λ n. n.memory };
 
     fn settings(&self) -> &Settings {
@@ -124,6 +128,11 @@ impl<T: Table> Core for Node<T> {
     fn pop_due(&mut self) -> Option<DueRow> {
         rows_have_tags();
         self.alignment.pop_due()
+    }
+
+    fn next_due(&self) -> Option<u64> {
+        rows_have_tags();
+        self.alignment.next_due()
     }
 
     /// Appends the frame of the layout in force: the node's own section, and those in force.

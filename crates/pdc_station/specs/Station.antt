@@ -27,7 +27,7 @@ wire_of_some output (Some row) = wire_of output row
 abbrev pub IsOfSomeLife : (Given → List Entry → Type 0) → Type 0
 IsOfSomeLife Stands = ((g : Given) (E : List Entry) → Stands g E → ⊥) → ⊥
 
--- the floor after a reservation for the row, if there is one
-abbrev pub floor_with : (lead : ℕ) → Option RowView → (floor : ℕ) → ℕ
+-- the floor after a reservation for the instant, if there is one
+abbrev pub floor_with : (lead : ℕ) → Option ℕ → (floor : ℕ) → ℕ
 floor_with lead None floor = floor
-floor_with lead (Some row) floor = if nat_lt floor row.instant then row.instant + lead else floor
+floor_with lead (Some instant) floor = if nat_lt floor instant then instant + lead else floor

@@ -27,6 +27,15 @@ pub(crate) fn next_row<C: Opens>(core: &mut C) -> (Output, Option<DueRow>)
     (output, core.pop_due())
 }
 
+/// The instant of the next row that waits. It can be tagged.
+pub(crate) fn next_instant<C: Opens>(core: &C) -> Option<u64>
+    requires { IsOfSomeLife (C.stands_for core.now) }
+    ensures answer { (g : Given) (E : List Entry) → C.stands_for core.now g E → result ≡ option_map (λ row. row.instant) (pop_answer E) }
+    ensures below { IfSome result (λ instant. instant < SECONDS * MAX_RATE) }
+{
+    core.next_due()
+}
+
 /// Appends the frame of the row, if there is one. It takes no memory.
 pub(crate) fn append_some<B: Buffer>(output: &Output, row: &Option<DueRow>, out: &mut B)
     requires tagged { IfSome row.now (λ row. row.instant < SECONDS * output.now.rate) }

@@ -1,15 +1,15 @@
 //! Stops of a station: its life ends, and the next one begins with what the mark then stores. It is opened before anything is stored,
 //! so a stop that is refused changes nothing.
-ghost use Rattle.std.specs.Prelude.{◌≡◌, ◌+◌, ◌<◌, ◌↔◌, [], ◌∷◌, IfOk, IsErrOf, List, OnErr, OnOk, false, if◌then◌else◌, true};
+ghost use Rattle.std.specs.Prelude.{◌≡◌, ◌+◌, ◌<◌, ◌↔◌, [], IfOk, IsErrOf, List, OnErr, OnOk, if◌then◌else◌};
 ghost use Rattle.pdc_history.specs.World.{reserved};
-ghost use Rattle.pdc_life.specs.Answer.{ToPop, answered, pop_answer, waiting_counts};
+ghost use Rattle.pdc_life.specs.Answer.{pop_answer, waiting_counts};
 ghost use Rattle.pdc_life.specs.Given.{Given};
 ghost use Rattle.pdc_life.specs.Life.{Entry};
 ghost use Rattle.pdc_mark.specs.Stored.{with_next_start};
 ghost use Rattle.pdc_station.specs.Station.{IsOfSomeLife, with_waiting};
 
 use crate::fault::StopFault;
-use crate::next_row::next_row;
+use crate::next_row::next_instant;
 use crate::opens::Opens;
 use crate::station::Station;
 use crate::stores::{begin_next, counts_after, floor_after, stop_in_raise, stop_in_reserve};
@@ -127,9 +127,14 @@ impl<C: Opens, M: Store> Station<C, M> {
         Ok(())
     }
 
-    /// A stop in the store of a publish, which did not land.
-    fn stop_in_lost(&mut self, alloc: Global) -> Result<(), StopFault>
-        ensures mark { OnOk result (M.stored self.new.mark ≡ with_next_start (M.stored self.old.mark)) }
+    /// A stop in the store of a publish, which landed or not. No frame goes out.
+    ///
+    /// # Errors
+    ///
+    /// As [`Station::stop`].
+    pub fn stop_in_publish(&mut self, alloc: Global, landed: bool) -> Result<(), StopFault>
+        ensures mark { (g : Given) (E : List Entry) → C.stands_for self.old.core g E → OnOk result (M.stored self.new.mark
+            ≡ with_next_start (if landed then reserved self.old.lead (pop_answer E) (M.stored self.old.mark) else M.stored self.old.mark)) }
         ensures stands { OnOk result (C.stands_for self.new.core (C.given_with (C.settings_of self.old.core)
             (M.stored self.new.mark).start (M.stored self.new.mark).floor (M.stored self.new.mark).counts) []) }
         ensures used_up { IsErrOf result StopFault.StartsUsedUp ↔ ((M.stored self.old.mark).start ≡ u32.MAX) }
@@ -139,64 +144,15 @@ impl<C: Opens, M: Store> Station<C, M> {
     {
         let (start, floor) = self.mark.stored();
         let counts = self.mark.counts();
-        let next = opened(&self.core, alloc, start, floor, &counts)?;
-        let (_, row) = next_row(&mut self.core);
-        stop_in_reserve(&mut self.mark, &row, self.lead, false);
-        self.begin(next);
-        Ok(())
-    }
-
-    /// A stop in the store of a publish, which landed. The floor of the next life is known only once the row is taken out.
-    fn stop_in_landed(&mut self, alloc: Global) -> Result<(), StopFault>
-        ensures mark { (g : Given) (E : List Entry) → C.stands_for self.old.core g E → OnOk result (M.stored self.new.mark
-            ≡ with_next_start (reserved self.old.lead (pop_answer E) (M.stored self.old.mark))) }
-        ensures stands { OnOk result (C.stands_for self.new.core (C.given_with (C.settings_of self.old.core)
-            (M.stored self.new.mark).start (M.stored self.new.mark).floor (M.stored self.new.mark).counts) []) }
-        ensures used_up { IsErrOf result StopFault.StartsUsedUp ↔ ((M.stored self.old.mark).start ≡ u32.MAX) }
-        ensures stored { OnErr result (self.new.mark ≡ self.old.mark) }
-        ensures untouched { IsErrOf result StopFault.StartsUsedUp → self.new ≡ self.old }
-        ensures spent { (g : Given) (E : List Entry) → C.stands_for self.old.core g E → IsErrOf result StopFault.NoMemory →
-            C.stands_for self.new.core g (answered C.rules g E ToPop ∷ E) }
-        ensures settings { C.settings_of self.new.core ≡ C.settings_of self.old.core }
-        ensures lead { self.new.lead ≡ self.old.lead }
-    {
-        let (start, floor) = self.mark.stored();
-        if start == u32::MAX {
-            return Err(StopFault::StartsUsedUp);
-        }
-        let counts = self.mark.counts();
-        let (_, row) = next_row(&mut self.core);
-        let floor = floor_after(floor, &row, self.lead);
-        let next = opened(&self.core, alloc, start, floor, &counts)?;
-        stop_in_reserve(&mut self.mark, &row, self.lead, true);
-        self.begin(next);
-        Ok(())
-    }
-
-    /// A stop in the store of a publish, which landed or not. No frame goes out.
-    ///
-    /// # Errors
-    ///
-    /// As [`Station::stop`]; but where the store lands, its floor is that of the row, so the row is taken out before the next life is
-    /// opened: on `NoMemory` it is gone.
-    pub fn stop_in_publish(&mut self, alloc: Global, landed: bool) -> Result<(), StopFault>
-        ensures mark { (g : Given) (E : List Entry) → C.stands_for self.old.core g E → OnOk result (M.stored self.new.mark
-            ≡ with_next_start (if landed then reserved self.old.lead (pop_answer E) (M.stored self.old.mark) else M.stored self.old.mark)) }
-        ensures stands { OnOk result (C.stands_for self.new.core (C.given_with (C.settings_of self.old.core)
-            (M.stored self.new.mark).start (M.stored self.new.mark).floor (M.stored self.new.mark).counts) []) }
-        ensures used_up { IsErrOf result StopFault.StartsUsedUp ↔ ((M.stored self.old.mark).start ≡ u32.MAX) }
-        ensures stored { OnErr result (self.new.mark ≡ self.old.mark) }
-        ensures untouched { IsErrOf result StopFault.StartsUsedUp → self.new ≡ self.old }
-        ensures kept { landed ≡ false → OnErr result (self.new ≡ self.old) }
-        ensures spent { (g : Given) (E : List Entry) → C.stands_for self.old.core g E → IsErrOf result StopFault.NoMemory → landed ≡ true →
-            C.stands_for self.new.core g (answered C.rules g E ToPop ∷ E) }
-        ensures settings { C.settings_of self.new.core ≡ C.settings_of self.old.core }
-        ensures lead { self.new.lead ≡ self.old.lead }
-    {
-        if landed {
-            self.stop_in_landed(alloc)
+        let due = next_instant(&self.core);
+        let floor = if landed {
+            floor_after(floor, due, self.lead)
         } else {
-            self.stop_in_lost(alloc)
-        }
+            floor
+        };
+        let next = opened(&self.core, alloc, start, floor, &counts)?;
+        stop_in_reserve(&mut self.mark, due, self.lead, landed);
+        self.begin(next);
+        Ok(())
     }
 }

@@ -1,15 +1,13 @@
 //! The stores of a station's mark, whose device never fails.
-ghost use Rattle.std.specs.Prelude.{◌≡◌, ◌+◌, ◌*◌, ◌<◌, ◌≤◌, IfNone, IfSome, if◌then◌else◌, option_map};
-ghost use Rattle.pdc_history.specs.World.{raised_to, reserved};
+ghost use Rattle.std.specs.Prelude.{◌≡◌, ◌+◌, ◌*◌, ◌<◌, ◌≤◌, IfNone, IfSome, if◌then◌else◌};
+ghost use Rattle.pdc_history.specs.World.{raised_to};
 ghost use Rattle.pdc_mark.specs.Counts.{IsRaise};
 ghost use Rattle.pdc_mark.specs.Stored.{with_counts, with_next_start};
-ghost use Rattle.pdc_row.specs.RowView.{row_view};
 ghost use Rattle.pdc_station.specs.Station.{floor_with, with_instant, with_waiting};
 ghost use Rattle.pdc_tag.specs.declared.limits.TheConstants.{MAX_RATE, SECONDS};
 
 use pdc_life::MAX_PMUS;
 use pdc_mark::{Store, raised};
-use pdc_row::DueRow;
 
 /// The greater of each two counts, where that differs from the first ones.
 pub(crate) fn raised_counts(
@@ -91,36 +89,30 @@ pub(crate) fn stop_in_raise<M: Store>(mark: &mut M, waiting: &[u16; MAX_PMUS], l
     }
 }
 
-/// The floor after a reservation for the row, if there is one.
-pub(crate) fn floor_after(floor: u64, row: &Option<DueRow>, lead: u16) -> u64
-    requires { IfSome row.now (λ row. row.instant < SECONDS * MAX_RATE) }
-    ensures { result ≡ floor_with lead (option_map row_view row.now) floor }
+/// The floor after a reservation for the instant, if there is one.
+pub(crate) fn floor_after(floor: u64, due: Option<u64>, lead: u16) -> u64
+    requires { IfSome due (λ instant. instant < SECONDS * MAX_RATE) }
+    ensures { result ≡ floor_with lead due floor }
 {
-    let Some(row) = row else {
-        return floor;
-    };
-    if floor < row.instant {
-        return row.instant + u64::from(lead);
+    match due {
+        Some(instant) if floor < instant => instant + u64::from(lead),
+        _ => floor,
     }
-    floor
 }
 
-/// A stop in the reservation for the row, which landed or not; where there is none, or it needs no store, a stop between stores.
-pub(crate) fn stop_in_reserve<M: Store>(mark: &mut M, row: &Option<DueRow>, lead: u16, landed: bool)
-    requires { IfSome row.now (λ row. row.instant < SECONDS * MAX_RATE) }
+/// A stop in the reservation for the instant, which landed or not; where there is none, or it needs no store, a stop between stores.
+pub(crate) fn stop_in_reserve<M: Store>(mark: &mut M, due: Option<u64>, lead: u16, landed: bool)
+    requires { IfSome due (λ instant. instant < SECONDS * MAX_RATE) }
     ensures start { (M.stored mark.new).start ≡ (M.stored mark.old).start }
     ensures counts { (M.stored mark.new).counts ≡ (M.stored mark.old).counts }
     ensures floor { (M.stored mark.new).floor
-        ≡ (if landed then floor_with lead (option_map row_view row.now) (M.stored mark.old).floor else (M.stored mark.old).floor) }
-    ensures mark { M.stored mark.new ≡ (if landed then reserved lead (option_map row_view row.now) (M.stored mark.old) else (M.stored mark.old)) }
+        ≡ (if landed then floor_with lead due (M.stored mark.old).floor else (M.stored mark.old).floor) }
 {
     let (_, floor) = mark.stored();
-    let Some(row) = row else {
-        return mark.stopped();
-    };
-    if floor < row.instant {
-        mark.reserve_stopped(row.instant + u64::from(lead), landed);
-    } else {
-        mark.stopped();
+    match due {
+        Some(instant) if floor < instant => {
+            mark.reserve_stopped(instant + u64::from(lead), landed);
+        }
+        _ => mark.stopped(),
     }
 }

@@ -1,13 +1,13 @@
 -- Rows of closed instants, which stay at their places.
-use Rattle.std.proofs.Common.{◌≡◌, ℕ, ◌+◌, ◌%◌, ◌<◌, Bool, true, false, if◌then◌else◌, List, [], ◌∷◌, ◌++◌, length, set, map, take, drop, refl, sym, ◌∙◌, ap, subst, arith, inl, inr, zero, suc}
+use Rattle.std.proofs.Common.{◌≡◌, ℕ, ◌+◌, ◌%◌, ◌<◌, Bool, true, false, if◌then◌else◌, List, [], ◌∷◌, ◌++◌, length, set, map, take, drop, refl, sym, ◌∙◌, ap, subst, arith, inl, inr, zero, suc, option_map, Some}
 use Rattle.std.proofs.Math.Nat.{mod-lt}
-use Rattle.std.specs.List.{AllByRecursion, list_all}
+use Rattle.std.specs.List.{AllByRecursion, list_all, slice_get}
 use Rattle.std.proofs.lemmas.Bool.{cases_eq}
 use Rattle.std.proofs.lemmas.Grind.{get_or-set_at}
 use Rattle.std.proofs.lemmas.List.{get_or-set_same, get_or-set_other, length-set}
 use Rattle.pdc_row.specs.Rising.{Rises, AreBelow, AreNear, is_near}
 use Rattle.pdc_row.specs.RisingLaws.{RisingLaws, AreAllNear}
-use Rattle.pdc_row.specs.RowView.{row_instants}
+use Rattle.pdc_row.specs.RowView.{RowView, row_instants}
 use Rattle.pdc_table.specs.Content.{Content, IsContent, held_instants}
 use Rattle.pdc_table.specs.Layout.{LayoutView}
 use Rattle.pdc_table.specs.OpenInstants.{instants_of}
@@ -25,6 +25,11 @@ AreApart window cs is = AllByRecursion (λ c. IsApart window c is) cs
 pub closed_instants : (places : List OpenRowView) (layouts : List LayoutView) (window : ℕ) (cs : List ℕ) → ArePlaced places window cs → row_instants (closed_rows places layouts window cs) ≡ cs
 closed_instants places layouts window [] p = refl
 closed_instants places layouts window (c ∷ cs) p = rw (p.0, closed_instants places layouts window cs p.1) refl
+
+-- the first of them is that of the first row
+pub first_instant : (places : List OpenRowView) (layouts : List LayoutView) (window : ℕ) (cs : List ℕ) → ArePlaced places window cs → slice_get cs 0 ≡ option_map (λ (row : RowView). row.instant) (slice_get (closed_rows places layouts window cs) 0)
+first_instant places layouts window [] p = refl
+first_instant places layouts window (c ∷ cs) p = ap Some (sym p.0)
 
 -- the instants that are held, as the code has them
 pub ring_held : (c : Content) (places : List OpenRowView) (layouts : List LayoutView) (cs is seen : List ℕ) → seen ≡ is → ArePlaced places c.window cs → ArePlaced places c.window is → c.closed ≡ closed_rows places layouts c.window cs → c.open_rows ≡ rows_in places c.window is → cs ++ seen ≡ held_instants c

@@ -1,5 +1,5 @@
 -- What each call of a table answers, and what it makes of the content (this profile).
-use Rattle.std.specs.Prelude.{ℕ, ◌+◌, ◌++◌, nat_le, Bool, true, false, not, if◌then◌else◌, List, [], ◌∷◌, length, map, drop, Option, Some, None, slice_set, slice_index_or}
+use Rattle.std.specs.Prelude.{ℕ, ◌+◌, ◌++◌, nat_le, Bool, true, false, not, if◌then◌else◌, List, [], ◌∷◌, length, map, drop, Option, Some, None, option_map, slice_set, slice_index_or}
 use Rattle.std.specs.List.{list_all, slice_get}
 use Rattle.pdc_cfg.specs.declared.shape.Shape.{Shape}
 use Rattle.pdc_row.specs.CellView.{BlockView, CellView}
@@ -118,6 +118,10 @@ after_drop_column c column = record c { open_rows = map (without_column column) 
 -- the lowest closed row
 abbrev pub pop_answer : Content → Option RowView
 pop_answer c = slice_get c.closed 0
+
+-- and its instant
+abbrev pub next_answer : Content → Option ℕ
+next_answer c = option_map (λ (row : RowView). row.instant) (pop_answer c)
 
 abbrev pub after_pop : Content → Content
 after_pop c = record c { closed = drop 1 c.closed }

@@ -255,6 +255,13 @@ fn close(
     }
 }
 
+/// The lowest closed instant.
+pub fn first(closed: &VecDeque<u64>) -> Option<u64>
+    ensures { result ≡ slice_get closed.now.items 0 }
+{
+    closed.front().copied()
+}
+
 /// Takes the lowest closed instant out, and gives its row.
 #[inline(never)]
 pub fn pop(

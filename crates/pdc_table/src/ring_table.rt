@@ -154,6 +154,10 @@ impl Table for RingTable {
         ring::pop(places, layouts, *window, closed)
     }
 
+    fn next_due(&self) -> Option<u64> {
+        ring::first(&self.closed)
+    }
+
     fn last(&self) -> u64 {
         self.last
     }

@@ -141,6 +141,11 @@ impl Table for SortedTable {
         self.closed.pop_front()
     }
 
+    fn next_due(&self) -> Option<u64> {
+        let row = self.closed.front()?;
+        Some(row.instant)
+    }
+
     fn last(&self) -> u64 {
         self.last
     }

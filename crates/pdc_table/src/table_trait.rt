@@ -4,7 +4,7 @@ ghost use Rattle.std.specs.List.{AllByRecursion};
 ghost use Rattle.pdc_row.specs.RowView.{RowView, row_view};
 ghost use Rattle.pdc_table.specs.Content.{Content, HasSizesOf, HaveLayoutShapes, IsContent, IsPut, new_content, streams_of};
 ghost use Rattle.pdc_table.specs.Layout.{layout_view};
-ghost use Rattle.pdc_table.specs.Steps.{after_drop_column, after_drop_stream, after_pop, after_put, after_require, after_tick, closed_by, disagreements_after, pop_answer, put_answer, shape_of, shapes_given, tick_answer};
+ghost use Rattle.pdc_table.specs.Steps.{after_drop_column, after_drop_stream, after_pop, after_put, after_require, after_tick, closed_by, disagreements_after, next_answer, pop_answer, put_answer, shape_of, shapes_given, tick_answer};
 ghost use Rattle.pdc_table.specs.Taking.{cells_of};
 
 use crate::{MAX_COLUMNS, MAX_LANES, MAX_WINDOW, MIN_WINDOW, PutOutcome, RowLayout, WaitRule};
@@ -117,6 +117,10 @@ pub trait Table: Drop {
         ensures sizes { HasSizesOf (content self.old) (content self.new) }
         ensures memory { memory self.new ≡ memory self.old }
         ensures well_formed { IsContent (content self.new) };
+
+    /// The instant of the lowest closed row that was not popped.
+    fn next_due(&self) -> Option<u64>
+        ensures { result ≡ next_answer (content self.now) };
 
     /// The greatest instant closed, at first the floor.
     fn last(&self) -> u64

@@ -2,6 +2,7 @@ use Rattle.std.proofs.Common.{ap, length, sym, ◌∙◌}
 use Rattle.std.proofs.lemmas.List.FromFn.{length-map-range_with_len}
 use Rattle.pdc_align.specs.Calls.{new_column}
 use Rattle.pdc_table.specs.Content.{Content}
+use Rattle.pdc_align.proofs.Popped.{popped_first}
 use Rattle.pdc_align.proofs.alignment.Alignment.first.Goals as goal
 
 pub invariant_of-result : goal.invariant_of-result
@@ -11,4 +12,5 @@ invariant_of-result g c = record {
       ap length c.in_ok-new_columns.ensures ∙ length-map-range_with_len (new_column c.args.counts.now) 0 c.args.plan.columns
       ∙ sym (ap (λ (t : Content). t.columns) c.in_ok-new_table.ensures.content);
   lanes = sym (ap (λ (t : Content). t.lanes) c.in_ok-new_table.ensures.content);
+  gone = popped_first c.args.plan.window c.args.plan.columns c.args.plan.lanes c.args.floor (g.T.Table.content c.in_ok-new_table.field-0) c.in_ok-new_table.ensures.content;
 }

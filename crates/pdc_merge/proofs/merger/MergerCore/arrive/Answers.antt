@@ -10,7 +10,7 @@ use Rattle.pdc_merge.proofs.merger.MergerCore.arrive.Goals as goal
 
 pub answer-outcome-requires-clause-placed : goal.answer-outcome-requires-clause-placed
 answer-outcome-requires-clause-placed g c =
-    let m : MergerView = record { settings = c.self.inside.settings; start = c.self.inside.start; state = c.self.inside.alignment.state; layouts = c.self.inside.layouts; counts = c.self.inside.counts; memory = c.self.inside.alignment.memory; disagreements = c.self.inside.alignment.disagreements } in
+    let m : MergerView = record { settings = c.self.inside.settings; start = c.self.inside.start; state = c.self.inside.alignment.state; layouts = c.self.inside.layouts; counts = c.self.inside.counts; memory = c.self.inside.alignment.memory; disagreements = c.self.inside.alignment.disagreements; popped = c.self.inside.alignment.popped } in
     same_place (length c.self.inside.settings.sources.items) (length c.self.inside.alignment.state.columns) c.args.stream (arrival_view c.args.arrival.now) (sym c.self.invariant.sizes.each_column)
     (passed c.self.inside.settings c.args.stream (arrival_view c.args.arrival.now)
     (subst (λ (n : MergerView). fits_merger n.settings c.args.stream (arrival_view c.args.arrival.now) ≡ true) (sym c.self.view_is) c.requires))
@@ -25,11 +25,11 @@ invariant_of-self g c =
 
 pub returns-clause-stands : goal.returns-clause-stands
 returns-clause-stands g c h E bytes reads before =
-    let m : MergerView = record { settings = c.self.inside.settings; start = c.self.inside.start; state = c.self.inside.alignment.state; layouts = c.self.inside.layouts; counts = c.self.inside.counts; memory = c.self.inside.alignment.memory; disagreements = c.self.inside.alignment.disagreements } in
+    let m : MergerView = record { settings = c.self.inside.settings; start = c.self.inside.start; state = c.self.inside.alignment.state; layouts = c.self.inside.layouts; counts = c.self.inside.counts; memory = c.self.inside.alignment.memory; disagreements = c.self.inside.alignment.disagreements; popped = c.self.inside.alignment.popped } in
     let arrival = arrival_view c.args.arrival.now in
     let stands : StandsFor h E m = subst (λ (n : MergerView). StandsFor h E n) (sym c.self.view_is) before in
     arrives c.merger_lives_are_runs.ensures m h E c.args.stream bytes arrival c.answer-outcome.new.alignment.state c.answer-outcome.new.layouts c.count.new.self c.answer-outcome.new.alignment.memory
-    c.answer-outcome.new.alignment.disagreements
+    c.answer-outcome.new.alignment.disagreements c.answer-outcome.new.alignment.popped
     (subst (λ (n : MergerView). ReadsForMerger n.settings c.args.stream bytes arrival) (sym c.self.view_is) reads) stands
     (c.answer-outcome.ensures.stands h E bytes stands.aligned stands.held)
     (c.answer-outcome.ensures.held h E bytes stands.aligned stands.held)

@@ -9,7 +9,7 @@ use Rattle.pdc_node.proofs.node.NodeCore.arrive.Goals as goal
 
 pub answer-outcome-requires-clause-ready : goal.answer-outcome-requires-clause-ready
 answer-outcome-requires-clause-ready g c =
-    let n : NodeView = record { settings = c.self.inside.settings; start = c.self.inside.start; opening = c.self.inside.opening; state = c.self.inside.alignment.state; counts = c.self.inside.counts; memory = c.self.inside.alignment.memory } in
+    let n : NodeView = record { settings = c.self.inside.settings; start = c.self.inside.start; opening = c.self.inside.opening; state = c.self.inside.alignment.state; counts = c.self.inside.counts; memory = c.self.inside.alignment.memory; popped = c.self.inside.alignment.popped } in
     passed_ready n c.args.stream (arrival_view c.args.arrival.now)
     (subst (λ (m : NodeView). fits_node m.settings c.args.stream (arrival_view c.args.arrival.now) ≡ true) (sym c.self.view_is) c.requires) c.self.invariant
 
@@ -22,10 +22,10 @@ invariant_of-self g c =
 
 pub returns-clause-stands : goal.returns-clause-stands
 returns-clause-stands g c h E bytes reads before =
-    let n : NodeView = record { settings = c.self.inside.settings; start = c.self.inside.start; opening = c.self.inside.opening; state = c.self.inside.alignment.state; counts = c.self.inside.counts; memory = c.self.inside.alignment.memory } in
+    let n : NodeView = record { settings = c.self.inside.settings; start = c.self.inside.start; opening = c.self.inside.opening; state = c.self.inside.alignment.state; counts = c.self.inside.counts; memory = c.self.inside.alignment.memory; popped = c.self.inside.alignment.popped } in
     let arrival = arrival_view c.args.arrival.now in
     let stands : StandsFor h E n = subst (λ (m : NodeView). StandsFor h E m) (sym c.self.view_is) before in
-    arrives c.lives_are_runs.ensures.of_node n h E c.args.stream bytes arrival c.answer-outcome.new.alignment.state c.count.new.self c.answer-outcome.new.alignment.memory
+    arrives c.lives_are_runs.ensures.of_node n h E c.args.stream bytes arrival c.answer-outcome.new.alignment.state c.count.new.self c.answer-outcome.new.alignment.memory c.answer-outcome.new.alignment.popped
     (subst (λ (m : NodeView). ReadsFor m.settings c.args.stream bytes arrival) (sym c.self.view_is) reads) stands
     (c.answer-outcome.ensures.stands h E bytes stands.aligned stands.same_opening)
     (λ before. c.count.ensures.life E c.args.stream bytes arrival (node_answer h E c.args.stream arrival) before (c.answer-outcome.ensures.answer h E stands.aligned stands.same_opening))
