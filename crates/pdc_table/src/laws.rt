@@ -4,28 +4,14 @@ ghost use Rattle.pdc_table.specs.Histories.{AgesAreTicks, CellsAreFirstPuts, Ins
 
 use pdc_row::numbers_rise;
 
-/// Over every list of calls on a new table, the rows come out in strictly rising order, above the floor.
+/// Over every list of calls on a new table, the rows come out in strictly rising order, above the floor; an instant closes at most
+/// once; each row that closed came out once or waits, in the order of closing; and what is taken is for an instant above the floor
+/// and each one that closed.
 pub fn rows_come_out_rising()
-    ensures { RowsComeOutRising }
-{
-    numbers_rise();
-}
-
-/// Over every list of calls on a new table, an instant closes at most once.
-pub fn instants_close_once()
-    ensures { InstantsCloseOnce }
-{
-    numbers_rise();
-}
-
-/// Over every list of calls on a new table, each row that closed came out once or waits, in the order of closing.
-pub fn rows_come_out_once()
-    ensures { RowsComeOutOnce }
-{}
-
-/// Over every list of calls on a new table, what is taken is for an instant above the floor and each one that closed.
-pub fn nothing_is_put_below_closed()
-    ensures { NothingIsPutBelowClosed }
+    ensures rise { RowsComeOutRising }
+    ensures once { InstantsCloseOnce }
+    ensures out { RowsComeOutOnce }
+    ensures above { NothingIsPutBelowClosed }
 {
     numbers_rise();
 }

@@ -26,9 +26,8 @@ mod wait_rule;
 use closing_layout::ClosingLayout;
 use column::Column;
 pub use laws::{
-    ages_are_ticks, blocks_stand_in_their_columns, cells_are_first_puts, instants_close_once,
-    instants_open_where_taken, nothing_is_put_below_closed, rows_close_where_due,
-    rows_come_out_once, rows_come_out_rising,
+    ages_are_ticks, blocks_stand_in_their_columns, cells_are_first_puts, instants_open_where_taken,
+    rows_close_where_due, rows_come_out_rising,
 };
 pub use limits::{MAX_COLUMNS, MAX_LANES, MAX_WINDOW, MIN_WINDOW};
 use open_row::OpenRow;
