@@ -1,0 +1,71 @@
+-- Bytes that come to the stream that they name.
+use Rattle.std.proofs.Common.{◌≡◌, Bool, true, false, not, IsTrue, ◌⊎◌, inl, inr, ℕ, List, length, slice_index_or, Some, refl, sym, ap, subst, ◌∙◌, arith}
+use Rattle.std.specs.List.{Contains, slice_get}
+use Rattle.std.proofs.lemmas.Option.{get_or_from_slice_get, slice_get_read, slice_get_within}
+use Rattle.pdc_history.specs.Asked.{IsReadOf, NamesNone, Names, To, Junk}
+use Rattle.pdc_history.specs.Event.{Bring, Miss}
+use Rattle.pdc_history.specs.History.{IsForOne, MayCome, Says, stream_ids}
+use Rattle.pdc_history.specs.World.{Who, World, Happened, sent}
+use Rattle.pdc_life.specs.Arrival.{Arrival}
+use Rattle.pdc_world.specs.Named.{IsNamed, IsUnnamed}
+
+pub names : (W : World) (v : Who) (ids bytes : List ℕ) (s : ℕ) → ids ≡ stream_ids W v → IsNamed ids bytes s → Names W v bytes s
+names W v ids bytes s same named = record { fields = named.fields; frame = named.frame; named = ap (λ (xs : List ℕ). slice_get xs s) (sym same) ∙ named.id }
+
+pub names_none : (W : World) (v : Who) (ids bytes : List ℕ) → ids ≡ stream_ids W v → IsUnnamed ids bytes → NamesNone W v bytes
+names_none W v ids bytes same unnamed = λ s n. unnamed s (record { fields = n.fields; frame = n.frame; id = ap (λ (xs : List ℕ). slice_get xs s) same ∙ n.named })
+
+pub among : (frames : List (List ℕ)) (number : ℕ) (bytes : List ℕ) → slice_get frames number ≡ Some bytes → Contains frames bytes
+among frames number bytes there = (number, slice_get_within frames number bytes there, get_or_from_slice_get frames number bytes bytes there)
+
+pub read_to : (W : World) (H : List Happened) (v : Who) (number s : ℕ) (ids bytes : List ℕ) (frames : List (List ℕ)) (arrival : Arrival) → frames ≡ sent W H
+    → slice_get frames number ≡ Some bytes → ids ≡ stream_ids W v → IsNamed ids bytes s → Says W v s bytes arrival → IsReadOf W H (To v number) (Bring v s bytes arrival)
+read_to W H v number s ids bytes frames arrival same there ids_same named says = record {
+  bytes = bytes;
+  there = ap (λ (xs : List (List ℕ)). slice_get xs number) (sym same) ∙ there;
+  read = inl (record { stream = s; names = names W v ids bytes s ids_same named; brings = record { arrival = arrival; says = says; is = refl } });
+}
+
+pub may_to : (W : World) (H : List Happened) (v : Who) (number s : ℕ) (bytes : List ℕ) (frames : List (List ℕ)) (arrival : Arrival) → frames ≡ sent W H
+    → slice_get frames number ≡ Some bytes → Says W v s bytes arrival → MayCome W H v s bytes arrival
+may_to W H v number s bytes frames arrival same there says = record {
+  says = says;
+  was_sent = λ is_for_one. among (sent W H) number bytes (ap (λ (xs : List (List ℕ)). slice_get xs number) (sym same) ∙ there);
+}
+
+pub read_past : (W : World) (H : List Happened) (v : Who) (number : ℕ) (ids bytes : List ℕ) (frames : List (List ℕ)) → frames ≡ sent W H
+    → slice_get frames number ≡ Some bytes → ids ≡ stream_ids W v → IsUnnamed ids bytes → IsReadOf W H (To v number) (Miss v)
+read_past W H v number ids bytes frames same there ids_same unnamed = record {
+  bytes = bytes;
+  there = ap (λ (xs : List (List ℕ)). slice_get xs number) (sym same) ∙ there;
+  read = inr (names_none W v ids bytes ids_same unnamed, refl);
+}
+
+pub read_named : (W : World) (H : List Happened) (v : Who) (s : ℕ) (ids bytes : List ℕ) (arrival : Arrival) → ids ≡ stream_ids W v → IsNamed ids bytes s
+    → Says W v s bytes arrival → IsReadOf W H (Junk v bytes) (Bring v s bytes arrival)
+read_named W H v s ids bytes arrival same named says = inl (record { stream = s; names = names W v ids bytes s same named; brings = record { arrival = arrival; says = says; is = refl } })
+
+pub read_unnamed : (W : World) (H : List Happened) (v : Who) (s : ℕ) (ids bytes : List ℕ) (arrival : Arrival) → s ≡ 0 → ids ≡ stream_ids W v → IsUnnamed ids bytes
+    → Says W v s bytes arrival → IsReadOf W H (Junk v bytes) (Bring v s bytes arrival)
+read_unnamed W H v s ids bytes arrival first same unnamed says =
+    subst (λ (x : ℕ). IsReadOf W H (Junk v bytes) (Bring v x bytes arrival)) (sym first)
+    (inr (names_none W v ids bytes same unnamed, record { arrival = arrival; says = subst (λ (x : ℕ). Says W v x bytes arrival) first says; is = refl }))
+
+is_for_none : (W : World) (v : Who) (bytes : List ℕ) → NamesNone W v bytes → IsForOne W v bytes → ⊥
+is_for_none W v bytes none one =
+    none one.listed.0 (record { fields = one.fields; frame = one.frame; named = slice_get_read (stream_ids W v) (length (stream_ids W v)) one.listed.0 one.fields.id refl one.listed.1 (sym one.listed.2) })
+
+pub may_unnamed : (W : World) (H : List Happened) (v : Who) (s : ℕ) (ids bytes : List ℕ) (arrival : Arrival) → ids ≡ stream_ids W v → IsUnnamed ids bytes
+    → Says W v s bytes arrival → MayCome W H v s bytes arrival
+may_unnamed W H v s ids bytes arrival same unnamed says = record {
+  says = says;
+  was_sent = λ one. absurd (is_for_none W v bytes (names_none W v ids bytes same unnamed) one);
+}
+
+pub may_named : (W : World) (H : List Happened) (v : Who) (s : ℕ) (bytes : List ℕ) (frames : List (List ℕ)) (arrival : Arrival) → frames ≡ sent W H → Contains frames bytes
+    → Says W v s bytes arrival → MayCome W H v s bytes arrival
+may_named W H v s bytes frames arrival same there says = record { says = says; was_sent = λ one. subst (λ (xs : List (List ℕ)). Contains xs bytes) same there }
+
+pub not_not : (b : Bool) → not b ≡ false → IsTrue b
+not_not true e = refl
+not_not false e = cc

@@ -1,0 +1,25 @@
+use Rattle.std.proofs.Common.{◌≡◌, ℕ, List, Some, None, ap, sym, option_map, ◌∙◌}
+use Rattle.std.specs.List.{slice_get}
+use Rattle.pdc_event.specs.Event.{who_of}
+use Rattle.pdc_history.specs.Asked as asked
+use Rattle.pdc_world.proofs.Heard.{may_to, read_past, read_to}
+use Rattle.pdc_world.proofs.Made.{heard_made, passed_made}
+use Rattle.pdc_world.proofs.arrivals.bring.Goals as goal
+
+pub returns-in-Some-named-clause-made : goal.returns-in-Some-named-clause-made
+returns-in-Some-named-clause-made g c =
+    λ W H part.
+    let there : slice_get c.args.ledger.now.sent.frames c.args.number ≡ Some c.in-Some.bytes.now = sym c.get.ensures ∙ ap (option_map (λ b. b.now)) c.in-Some.is in
+    let says = part.one.same_says c.in-Some-named.stream c.in-Some.bytes.now c.put_datagram.ensures.hears.arrival c.put_datagram.ensures.hears.says in
+    heard_made W H c.args.who (asked.To (who_of c.args.who) c.args.number) _ _ _ _ _ _ _ _ _ _ _ _ _ part c.put_datagram.ensures.hears
+    (ap g.S.Mark.stored c.put_datagram.ensures.mark)
+    (read_to W H (who_of c.args.who) c.args.number c.in-Some-named.stream _ c.in-Some.bytes.now c.args.ledger.now.sent.frames _ part.keeps.frames there part.one.same_ids
+    c.in-Some-named.ensures.named says)
+    (may_to W H (who_of c.args.who) c.args.number c.in-Some-named.stream c.in-Some.bytes.now c.args.ledger.now.sent.frames _ part.keeps.frames there says)
+
+pub returns-in-None-clause-made : goal.returns-in-None-clause-made
+returns-in-None-clause-made g c =
+    λ W H part.
+    let there : slice_get c.args.ledger.now.sent.frames c.args.number ≡ Some c.in-Some.bytes.now = sym c.get.ensures ∙ ap (option_map (λ b. b.now)) c.in-Some.is in
+    passed_made W H c.args.who (asked.To (who_of c.args.who) c.args.number) _ _ _ _ _ _ _ _ part
+    (read_past W H (who_of c.args.who) c.args.number _ c.in-Some.bytes.now c.args.ledger.now.sent.frames part.keeps.frames there part.one.same_ids c.in-None.ensures.none)

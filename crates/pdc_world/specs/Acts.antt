@@ -1,0 +1,132 @@
+-- What an act of one core makes of a world: of the core and its mark, and of what was sent and published (this profile).
+use Rattle.std.specs.Prelude.{◌≡◌, ◌≤◌, ℕ, Bool, true, List, [], ◌∷◌, ◌++◌, length, if◌then◌else◌, Option, None, Some}
+use Rattle.pdc_event.specs.declared.fault.Fault.{Fault}
+use Rattle.pdc_event.specs.declared.fault.Fault.TheVariants as fault
+use Rattle.pdc_event.specs.declared.fault.Premise.TheVariants.{OneBody, OneSection, Genuine, OneTable}
+use Rattle.pdc_event.specs.declared.reply.Published.{Published}
+use Rattle.pdc_event.specs.declared.reply.Reply.{Reply}
+use Rattle.pdc_history.specs.Asked.{Asked, IsFault, OtherBody, OtherSection, Foreign}
+use Rattle.pdc_history.specs.Asked as asked
+use Rattle.pdc_history.specs.History.{IsHistory, Says, stream_ids}
+use Rattle.pdc_history.specs.Play.{IsStepOf}
+use Rattle.pdc_history.specs.World.{Who, World, Happened, Sends, given_by, given_in, is_same, lead_of, life_of, mark_of, rules_of, sent}
+use Rattle.pdc_life.specs.Answer.{Rules}
+use Rattle.pdc_life.specs.Arrival.{Arrival}
+use Rattle.pdc_life.specs.Given.{Given}
+use Rattle.pdc_life.specs.Life.{Entry, is_adoption}
+use Rattle.pdc_life.specs.Published.{layout_wire}
+use Rattle.pdc_mark.specs.declared.stored.Stored.{Stored}
+use Rattle.pdc_output.specs.declared.output.Output.{Output}
+use Rattle.pdc_output.specs.Layout.{wire_of}
+use Rattle.pdc_row.specs.RowView.{RowView}
+use Rattle.pdc_frame.specs.declared.limits.TheConstants.{MAX_SIZE}
+use Rattle.pdc_life.specs.declared.given.Settings.{Settings}
+use Rattle.pdc_sent.specs.Sent.{IsOfNone}
+use Rattle.pdc_sent.specs.declared.fault.SendFault.{SendFault}
+use Rattle.pdc_sent.specs.declared.fault.SendFault.TheVariants as send
+use Rattle.pdc_station.specs.declared.fault.StopFault.{StopFault}
+use Rattle.pdc_station.specs.declared.fault.StopFault.TheVariants as stop
+use Rattle.pdc_world.specs.Replies.{listed, published_as, reply_of, whose_is}
+use Rattle.pdc_world.specs.Views.{LedgerView}
+
+-- What is fixed of a core is that of this one of the world: its rules, what is given to a life of it, what bytes say to it, the ids of
+-- its streams, and how far ahead its mark is reserved.
+pub record IsOne (W : World) (who : Who) (rules : Rules) (given : (start floor : ℕ) → List ℕ → Given) (Reads : ℕ → List ℕ → Arrival → Type 0) (ids : List ℕ) (lead : ℕ) : Type 0 where
+  pub same_rules : rules ≡ rules_of who
+  pub same_given : (mark : Stored) → given mark.start mark.floor mark.counts ≡ given_by W who mark
+  pub same_says : (s : ℕ) (bytes : List ℕ) (arrival : Arrival) → Reads s bytes arrival → Says W who s bytes arrival
+  pub same_ids : ids ≡ stream_ids W who
+  pub same_lead : lead ≡ lead_of W who
+
+-- It stands for its present life, and this is its mark.
+pub record HasCome (W : World) (H : List Happened) (who : Who) (Stands : Given → List Entry → Type 0) (mark : Stored) : Type 0 where
+  pub stands : Stands (given_in W H who) (life_of H who)
+  pub marked : mark ≡ mark_of W H who
+
+-- The ledger tells what was sent and published.
+pub record Keeps (W : World) (H : List Happened) (ledger : LedgerView) : Type 0 where
+  pub table : ledger.table ≡ W.a.settings
+  pub frames : ledger.frames ≡ sent W H
+  pub published : ledger.published ≡ listed W H
+
+-- All this of a core and the ledger, after a history.
+pub record IsPart (W : World) (H : List Happened) (who : Who) (rules : Rules) (given : (start floor : ℕ) → List ℕ → Given) (Reads : ℕ → List ℕ → Arrival → Type 0) (ids : List ℕ) (lead : ℕ) (Stands : Given → List Entry → Type 0) (mark : Stored) (ledger : LedgerView) : Type 0 where
+  pub history : IsHistory W H
+  pub one : IsOne W who rules given Reads ids lead
+  pub come : HasCome W H who Stands mark
+  pub keeps : Keeps W H ledger
+
+-- There is a history of which they are a part: that there were none is absurd.
+abbrev pub IsSomePart : (who : Who) (rules : Rules) (given : (start floor : ℕ) → List ℕ → Given) (Reads : ℕ → List ℕ → Arrival → Type 0) (ids : List ℕ) (lead : ℕ) (Stands : Given → List Entry → Type 0) (mark : Stored) (ledger : LedgerView) → Type 0
+IsSomePart who rules given Reads ids lead Stands mark ledger = ((W : World) (H : List Happened) → IsPart W H who rules given Reads ids lead Stands mark ledger → ⊥) → ⊥
+
+-- it is no other core's
+abbrev pub is_own : Who → Happened → Bool
+is_own who (Sends bytes) = true
+is_own who h = is_same (whose_is h) who
+
+-- What was asked was made: something happened to this core alone, and it, its mark and the ledger are those of the history with that
+-- more. This is what is replied.
+pub record IsAct (W : World) (H : List Happened) (who : Who) (asked : Asked) (Stands : Given → List Entry → Type 0) (mark : Stored) (ledger : LedgerView) (reply : Reply) : Type 0 where
+  pub happened : Happened
+  pub step : IsStepOf W H asked happened
+  pub own : is_own who happened ≡ true
+  pub come : HasCome W (happened ∷ H) who Stands mark
+  pub keeps : Keeps W (happened ∷ H) ledger
+  pub told : reply ≡ reply_of W H happened
+
+-- The fault tells why what was asked may not happen; want of memory is no such cause, and no event breaks the agreement of settings.
+abbrev pub IsWhy : World → List Happened → Asked → Fault → Type 0
+IsWhy W H what (fault.PremiseBroken OneBody) = IsFault W H what OtherBody
+IsWhy W H what (fault.PremiseBroken OneSection) = IsFault W H what OtherSection
+IsWhy W H what (fault.PremiseBroken Genuine) = IsFault W H what Foreign
+IsWhy W H what (fault.PremiseBroken OneTable) = ⊥
+IsWhy W H what fault.NoSuchFrame = IsFault W H what asked.NoSuchFrame
+IsWhy W H what fault.StartsUsedUp = IsFault W H what asked.StartsUsedUp
+IsWhy W H what fault.NoMemory = Unit {0}
+
+-- the layout that a tick adds to what is sent: that behind it, where it adopted
+abbrev pub layouts_after : Given → List Entry → Entry → List (List ℕ)
+layouts_after g E entry = if is_adoption entry then layout_wire g (entry ∷ E) 0 ∷ [] else []
+
+-- the same, by the change number that a tick tells
+abbrev pub layouts_of : (change : Option ℕ) → Given → List Entry → List (List ℕ)
+layouts_of None g E = []
+layouts_of (Some change) g E = layout_wire g E 0 ∷ []
+
+-- the frame that a row adds to what is sent, and how it is listed, if there is one
+abbrev pub frames_with : Output → Option RowView → List (List ℕ)
+frames_with output None = []
+frames_with output (Some row) = wire_of output row ∷ []
+
+abbrev pub listed_with : Who → (number : ℕ) → Option RowView → List Published
+listed_with whose number None = []
+listed_with whose number (Some row) = published_as whose number row ∷ []
+
+-- There is a life for which a core stands, whose layout is no longer than a frame may be, and no PMU's frame: that there were none is
+-- absurd.
+abbrev pub IsSomeFrame : (Given → List Entry → Type 0) → Settings → Type 0
+IsSomeFrame Stands settings =
+    ((g : Given) (E : List Entry) → Stands g E → length (layout_wire g E 0) ≤ MAX_SIZE → IsOfNone settings (layout_wire g E 0) → ⊥) → ⊥
+
+-- A PMU sent these bytes, and nothing else happened.
+pub record IsSend (W : World) (H : List Happened) (bytes : List ℕ) (ledger : LedgerView) (reply : Reply) : Type 0 where
+  pub step : IsStepOf W H (asked.Send bytes) (Sends bytes)
+  pub keeps : Keeps W (Sends bytes ∷ H) ledger
+  pub told : reply ≡ reply_of W H (Sends bytes)
+
+-- the faults of a world that a refused send and a refused stop are
+abbrev pub fault_of_send : SendFault → Fault
+fault_of_send send.Foreign = fault.PremiseBroken Genuine
+fault_of_send send.OtherBody = fault.PremiseBroken OneBody
+fault_of_send send.OtherSection = fault.PremiseBroken OneSection
+fault_of_send send.NoMemory = fault.NoMemory
+
+abbrev pub fault_of_stop : StopFault → Fault
+fault_of_stop stop.NoMemory = fault.NoMemory
+fault_of_stop stop.StartsUsedUp = fault.StartsUsedUp
+
+-- the frame that was written for a row, if there is one
+abbrev pub frames_if : (bytes : List ℕ) → Option RowView → List (List ℕ)
+frames_if bytes None = []
+frames_if bytes (Some row) = bytes ∷ []

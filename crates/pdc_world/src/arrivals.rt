@@ -1,0 +1,78 @@
+//! Arrivals.
+ghost use Rattle.std.specs.Prelude.{◌≡◌, IfErr, IfOk, List, OnErr};
+ghost use Rattle.pdc_event.specs.Event.{who_of};
+ghost use Rattle.pdc_history.specs.Asked as asked;
+ghost use Rattle.pdc_history.specs.World.{Happened, World};
+ghost use Rattle.pdc_world.specs.Acts.{IsAct, IsPart, IsWhy};
+ghost use Rattle.pdc_world.specs.Ledger.{ledger_view};
+
+use crate::ledger::Ledger;
+use crate::named::named;
+use crate::plays::Plays;
+use pdc_event::{Fault, Premise, Reply, Who};
+use pdc_mark::Store;
+use pdc_station::Station;
+
+/// A frame that was sent comes to the stream that it names; it passes by a core that has none.
+pub(crate) fn bring<C: Plays, S: Store>(
+    station: &mut Station<C, S>,
+    ledger: &Ledger,
+    who: Who,
+    number: usize,
+) -> Result<Reply, Fault>
+    ensures made { (W : World) (H : List Happened) → IsPart W H (who_of who) C.rules (C.given_with (C.settings_of station.old.core))
+        (C.Settings.says (C.settings_of station.old.core)) (C.ids (C.settings_of station.old.core)) station.old.lead (C.stands_for station.old.core)
+        (S.stored station.old.mark) (ledger_view ledger.now) →
+        IfOk result (λ reply. IsAct W H (who_of who) (asked.To (who_of who) number) (C.stands_for station.new.core) (S.stored station.new.mark) (ledger_view ledger.now) reply) }
+    ensures why { (W : World) (H : List Happened) → IsPart W H (who_of who) C.rules (C.given_with (C.settings_of station.old.core))
+        (C.Settings.says (C.settings_of station.old.core)) (C.ids (C.settings_of station.old.core)) station.old.lead (C.stands_for station.old.core)
+        (S.stored station.old.mark) (ledger_view ledger.now) →
+        IfErr result (IsWhy W H (asked.To (who_of who) number)) }
+    ensures err { OnErr result (station.new ≡ station.old) }
+    ensures settings { C.settings_of station.new.core ≡ C.settings_of station.old.core }
+    ensures lead { station.new.lead ≡ station.old.lead }
+{
+    let Some(bytes) = ledger.sent.get(number) else {
+        return Err(Fault::NoSuchFrame);
+    };
+    let outcome = match named(&station.core, bytes) {
+        Some(stream) => Some(station.put_datagram(stream, bytes)),
+        None => None,
+    };
+    Ok(Reply::Came { who, outcome })
+}
+
+/// Bytes come to the stream that they name, else to stream 0. What names a stream was sent.
+pub(crate) fn bring_junk<C: Plays, S: Store>(
+    station: &mut Station<C, S>,
+    ledger: &Ledger,
+    who: Who,
+    bytes: &[u8],
+) -> Result<Reply, Fault>
+    ensures made { (W : World) (H : List Happened) → IsPart W H (who_of who) C.rules (C.given_with (C.settings_of station.old.core))
+        (C.Settings.says (C.settings_of station.old.core)) (C.ids (C.settings_of station.old.core)) station.old.lead (C.stands_for station.old.core)
+        (S.stored station.old.mark) (ledger_view ledger.now) →
+        IfOk result (λ reply. IsAct W H (who_of who) (asked.Junk (who_of who) bytes.now) (C.stands_for station.new.core) (S.stored station.new.mark) (ledger_view ledger.now) reply) }
+    ensures why { (W : World) (H : List Happened) → IsPart W H (who_of who) C.rules (C.given_with (C.settings_of station.old.core))
+        (C.Settings.says (C.settings_of station.old.core)) (C.ids (C.settings_of station.old.core)) station.old.lead (C.stands_for station.old.core)
+        (S.stored station.old.mark) (ledger_view ledger.now) →
+        IfErr result (IsWhy W H (asked.Junk (who_of who) bytes.now)) }
+    ensures err { OnErr result (station.new ≡ station.old) }
+    ensures settings { C.settings_of station.new.core ≡ C.settings_of station.old.core }
+    ensures lead { station.new.lead ≡ station.old.lead }
+{
+    let stream = match named(&station.core, bytes) {
+        Some(stream) => {
+            if !ledger.sent.has(bytes) {
+                return Err(Fault::PremiseBroken(Premise::Genuine));
+            }
+            stream
+        }
+        None => 0,
+    };
+    let outcome = station.put_datagram(stream, bytes);
+    Ok(Reply::Came {
+        who,
+        outcome: Some(outcome),
+    })
+}

@@ -1,0 +1,75 @@
+//! What was sent and published.
+ghost use Rattle.std.specs.Prelude.{◌≡◌, ◌≤◌, ◌<◌, ◌∷◌, ◌++◌, [], ℕ, IfOk, IsTrue, List, OnErr, OnOk, length, vec_capacity, vec_len};
+ghost use Rattle.pdc_event.specs.declared.reply.Published.{Published};
+ghost use Rattle.pdc_frame.specs.declared.limits.TheConstants.{MAX_SIZE};
+ghost use Rattle.pdc_life.specs.Given.{Given};
+ghost use Rattle.pdc_life.specs.Life.{Entry};
+ghost use Rattle.pdc_life.specs.Published.{layout_wire};
+ghost use Rattle.pdc_sent.specs.Sent.{IsOfNone};
+ghost use Rattle.pdc_world.specs.Acts.{layouts_of};
+ghost use Rattle.pdc_world.specs.Ledger.{IsReady, ledger_view};
+
+use pdc_core::Core;
+use pdc_event::{Published, Who};
+use pdc_frame::{Buffer, MAX_SIZE};
+use pdc_life::Settings;
+use pdc_sent::Sent;
+use std::alloc::{AllocError, Global};
+
+/// What was sent and published, and room to write a frame.
+#[derive(Drop)]
+pub(crate) struct Ledger {
+    /// All frames that were ever sent.
+    pub(crate) sent: Sent,
+    /// The rows that were published.
+    pub(crate) published: Vec<Published>,
+    /// Where the next frame is written.
+    pub(crate) frame: Vec<u8>,
+}
+
+impl Ledger {
+    ghost use Rattle.pdc_world.specs.Ledger.{IsReady, ledger_view};
+
+    /// Nothing was sent.
+    pub(crate) fn new(alloc: Global, settings: Settings) -> Result<Ledger, AllocError>
+        ensures { IfOk result (λ ledger. ledger_view ledger ≡ record { table = settings; frames = []; published = [] }) }
+    {
+        Ok(Ledger {
+            sent: Sent::new(alloc, settings)?,
+            published: Vec::new(alloc),
+            frame: Vec::new(alloc),
+        })
+    }
+
+    /// Makes room for one frame and one row more.
+    pub(crate) fn make_room(&mut self) -> Result<(), AllocError>
+        ensures ready { OnOk result (IsReady self.new) }
+        ensures same { ledger_view self.new ≡ ledger_view self.old }
+    {
+        self.sent.reserve()?;
+        self.published.reserve(1)?;
+        self.frame.clear();
+        self.frame.make_room(MAX_SIZE)
+    }
+
+    /// The frame that was written joins those that were sent.
+    pub(crate) fn send_written(&mut self)
+        requires room { IsTrue self.old.sent.has_room }
+        requires most { length self.old.frame.items ≤ MAX_SIZE }
+        requires of_none { IsOfNone self.old.sent.settings self.old.frame.items }
+        ensures table { self.new.sent.settings ≡ self.old.sent.settings }
+        ensures frames { self.new.sent.frames ≡ self.old.sent.frames ++ self.old.frame.items ∷ [] }
+        ensures published { self.new.published ≡ self.old.published }
+    {
+        self.sent.push_reserved(self.frame.as_slice());
+    }
+
+    /// The row of the frame that was written last joins those that were published, with the number of its frame.
+    pub(crate) fn list(&mut self, row: Published)
+        requires { vec_len self.old.published < vec_capacity self.old.published }
+        ensures sent { self.new.sent ≡ self.old.sent }
+        ensures published { self.new.published.items ≡ self.old.published.items ++ row ∷ [] }
+    {
+        self.published.push_reserved(row);
+    }
+}

@@ -1,0 +1,25 @@
+//! A world of two nodes, a merger and the network between them, as a program (this profile): whatever the network loses, repeats and
+//! reorders, and whenever cores stop, it is played event by event.
+//!
+//! The first type to look at is [`World`]. It keeps the three cores with their marks, each in its present life, and all that was ever
+//! sent and published.
+//!
+//! To the layers above this crate promises that a world always holds a history, as `pdc_history` defines histories: each step makes
+//! what the event makes happen and replies what is told of it, or tells the cause for which it may not happen and changes nothing. So
+//! all that holds of histories holds of what a world published: see [`instants_rise`], [`blocks_are_genuine`] and [`frames_agree`].
+#![tactic(auto)]
+
+mod act;
+mod arrivals;
+mod known;
+mod ledger;
+mod named;
+mod plays;
+mod publishes;
+mod receiver;
+mod sends;
+mod stops;
+mod ticks;
+mod world;
+
+pub use world::World;

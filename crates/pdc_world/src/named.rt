@@ -1,0 +1,18 @@
+//! The stream that bytes name.
+ghost use Rattle.std.specs.Prelude.{◌<◌, IfNone, IfSome};
+ghost use Rattle.pdc_world.specs.Named.{IsNamed, IsUnnamed};
+
+use crate::plays::Plays;
+use pdc_frame::read_frame;
+
+/// The stream of the core that the bytes name: they are a frame with its id.
+pub(crate) fn named<C: Plays>(core: &C, bytes: &[u8]) -> Option<usize>
+    ensures named { IfSome result (IsNamed (C.ids (C.settings_of core.now)) bytes.now) }
+    ensures exists { IfSome result (λ s. s < C.Settings.streams (C.settings_of core.now)) }
+    ensures none { IfNone result (IsUnnamed (C.ids (C.settings_of core.now)) bytes.now) }
+{
+    match read_frame(bytes) {
+        Ok(frame) => core.stream_of(frame.id),
+        Err(_) => None,
+    }
+}

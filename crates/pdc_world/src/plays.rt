@@ -1,0 +1,82 @@
+//! Cores whose streams are named by ids.
+ghost use Rattle.std.specs.Prelude.{◌≡◌, ◌≢◌, ◌<◌, ℕ, IfNone, IfSome, List, Some, length};
+ghost use Rattle.std.proofs.Common.{lit<};
+ghost use Rattle.std.specs.List.{All, slice_get};
+ghost use Rattle.pdc_life.specs.declared.pmu.Pmu.{Pmu as PmuData};
+ghost use Rattle.pdc_history.specs.Agree.{ids_of};
+ghost use Rattle.pdc_world.specs.Named.{node_ids};
+
+use pdc_core::Core;
+use pdc_life::{MergerSettings, Pmu, Settings};
+use pdc_merge::Merger;
+use pdc_node::Node;
+use pdc_station::Opens;
+use pdc_table::Table;
+
+/// A core whose streams are named by ids.
+pub(crate) trait Plays: Opens {
+    // The ids of its streams, in their order.
+    ghost ids: { Self.Settings → List ℕ };
+
+    /// The number of the stream with this id, from 0.
+    fn stream_of(&self, id: u16) -> Option<usize>
+        ensures there { IfSome result (λ s. slice_get (ids (Self.settings_of self.now)) s ≡ Some id) }
+        ensures exists { IfSome result (λ s. s < Self.Settings.streams (Self.settings_of self.now)) }
+        ensures none { IfNone result ((s : ℕ) → slice_get (ids (Self.settings_of self.now)) s ≢ Some id) };
+
+    // It has a stream.
+    ghost has_stream: { (settings : Self.Settings) → 0 < Self.Settings.streams settings };
+}
+
+/// The number of the first PMU with this stream id.
+fn first_of(pmus: &[Pmu], id: u16) -> Option<usize>
+    ensures there { IfSome result (λ s. slice_get (ids_of pmus.now) s ≡ Some id) }
+    ensures exists { IfSome result (λ s. s < length pmus.now) }
+    ensures none { IfNone result (All (λ (pmu : PmuData). pmu.stream ≢ id) pmus.now) }
+{
+    pmus.iter().position(|pmu| pmu.stream == id)
+}
+
+/// The number of the PMU with this stream id.
+fn pmu_of(settings: &Settings, id: u16) -> Option<usize>
+    ensures there { IfSome result (λ s. slice_get (ids_of settings.now.pmus.items) s ≡ Some id) }
+    ensures exists { IfSome result (λ s. s < length settings.now.pmus.items) }
+    ensures none { IfNone result ((s : ℕ) → slice_get (ids_of settings.now.pmus.items) s ≢ Some id) }
+{
+    first_of(settings.pmus.as_slice(), id)
+}
+
+/// The number of the node with this id: 0 is A, 1 is B.
+fn node_of(settings: &MergerSettings, id: u16) -> Option<usize>
+    ensures there { IfSome result (λ s. slice_get (node_ids settings.now) s ≡ Some id) }
+    ensures exists { IfSome result (λ s. s < 2) }
+    ensures none { IfNone result ((s : ℕ) → slice_get (node_ids settings.now) s ≢ Some id) }
+{
+    if settings.first.id == id {
+        return Some(0);
+    }
+    if settings.second.id == id {
+        return Some(1);
+    }
+    None
+}
+
+impl<T: Table> Plays for Node<T> {
+    ghost ids = { λ settings. ids_of settings.pmus.items };
+
+    ghost has_stream = { λ settings. settings.some };
+
+    fn stream_of(&self, id: u16) -> Option<usize> {
+        pmu_of(self.settings(), id)
+    }
+}
+
+impl<T: Table> Plays for Merger<T> {
+    ghost ids = { node_ids };
+
+    ghost has_stream = { λ _. lit< tt };
+
+    fn stream_of(&self, id: u16) -> Option<usize> {
+        node_of(self.settings(), id)
+    }
+}

@@ -1,0 +1,71 @@
+//! Publishes.
+ghost use Rattle.std.specs.Prelude.{◌≡◌, ◌≤◌, ◌<◌, ◌++◌, IfErr, IfOk, IfSome, IsTrue, List, OnErr, length, option_map, vec_capacity, vec_len};
+ghost use Rattle.pdc_event.specs.declared.fault.Fault.TheVariants.{NoMemory};
+ghost use Rattle.pdc_event.specs.Event.{who_of};
+ghost use Rattle.pdc_history.specs.Asked as asked;
+ghost use Rattle.pdc_history.specs.World.{Happened, World};
+ghost use Rattle.pdc_world.specs.Acts.{IsAct, IsPart, IsSomePart, frames_if, listed_with};
+ghost use Rattle.pdc_frame.specs.declared.limits.TheConstants.{MAX_SIZE};
+ghost use Rattle.pdc_row.specs.RowView.{row_view};
+ghost use Rattle.pdc_sent.specs.Sent.{IsOfNone};
+ghost use Rattle.pdc_world.specs.Replies.{published_as};
+ghost use Rattle.pdc_world.specs.Ledger.{ledger_view};
+
+use crate::known::frames_are_known;
+use crate::ledger::Ledger;
+use crate::plays::Plays;
+use pdc_event::{Fault, Published, Reply, Who};
+use pdc_mark::Store;
+use pdc_row::DueRow;
+use pdc_station::Station;
+
+/// The row whose frame was written joins what was sent and published, if there is one.
+fn join(ledger: &mut Ledger, who: Who, row: &Option<DueRow>) -> Option<Published>
+    requires room { IsTrue ledger.old.sent.has_room }
+    requires place { vec_len ledger.old.published < vec_capacity ledger.old.published }
+    requires most { IfSome row.now (λ _. length ledger.old.frame.items ≤ MAX_SIZE) }
+    requires of_none { IfSome row.now (λ _. IsOfNone ledger.old.sent.settings ledger.old.frame.items) }
+    ensures table { ledger.new.sent.settings ≡ ledger.old.sent.settings }
+    ensures frames { ledger.new.sent.frames ≡ ledger.old.sent.frames ++ frames_if ledger.old.frame.items (option_map row_view row.now) }
+    ensures published { ledger.new.published.items
+        ≡ ledger.old.published.items ++ listed_with (who_of who) (length ledger.old.sent.frames) (option_map row_view row.now) }
+    ensures result { result ≡ option_map (published_as (who_of who) (length ledger.old.sent.frames)) (option_map row_view row.now) }
+{
+    let Some(row) = row else {
+        return None;
+    };
+    let published = Published {
+        who,
+        instant: row.instant,
+        number: ledger.sent.len(),
+    };
+    ledger.send_written();
+    ledger.list(published);
+    Some(published)
+}
+
+/// A core publishes the next row, if one waits.
+pub(crate) fn publish<C: Plays, S: Store>(
+    station: &mut Station<C, S>,
+    ledger: &mut Ledger,
+    who: Who,
+) -> Result<Reply, Fault>
+    requires some { IsSomePart (who_of who) C.rules (C.given_with (C.settings_of station.old.core)) (C.Settings.says (C.settings_of station.old.core))
+        (C.ids (C.settings_of station.old.core)) station.old.lead (C.stands_for station.old.core) (S.stored station.old.mark) (ledger_view ledger.old) }
+    ensures made { (W : World) (H : List Happened) → IsPart W H (who_of who) C.rules (C.given_with (C.settings_of station.old.core))
+        (C.Settings.says (C.settings_of station.old.core)) (C.ids (C.settings_of station.old.core)) station.old.lead (C.stands_for station.old.core)
+        (S.stored station.old.mark) (ledger_view ledger.old) →
+        IfOk result (λ reply. IsAct W H (who_of who) (asked.Publish (who_of who)) (C.stands_for station.new.core) (S.stored station.new.mark) (ledger_view ledger.new) reply) }
+    ensures memory { IfErr result (λ fault. fault ≡ NoMemory) }
+    ensures err { OnErr result ((station.new ≡ station.old) × (ledger_view ledger.new ≡ ledger_view ledger.old)) }
+    ensures settings { C.settings_of station.new.core ≡ C.settings_of station.old.core }
+    ensures lead { station.new.lead ≡ station.old.lead }
+{
+    frames_are_known();
+    let Ok(()) = ledger.make_room() else {
+        return Err(Fault::NoMemory);
+    };
+    let row = station.publish(&mut ledger.frame).unwrap();
+    let published = join(ledger, who, &row);
+    Ok(Reply::Published { who, published })
+}

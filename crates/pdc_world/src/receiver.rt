@@ -1,0 +1,23 @@
+//! Which core an event is for.
+ghost use Rattle.std.specs.Prelude.{◌≡◌};
+ghost use Rattle.pdc_event.specs.Event.{who_of};
+ghost use Rattle.pdc_world.specs.Receiver.{core_in};
+
+use pdc_event::{Event, Who};
+
+/// The core that the event is for; that a PMU sends is for none, and told as A's.
+pub(crate) fn receiver(event: &Event<'_>) -> Who
+    ensures { who_of result ≡ core_in event.now }
+{
+    match event {
+        Event::Send { .. } => Who::A,
+        Event::To { who, .. } => *who,
+        Event::Junk { who, .. } => *who,
+        Event::Tick { who, .. } => *who,
+        Event::Publish { who } => *who,
+        Event::Stop { who } => *who,
+        Event::StopIn { who, .. } => *who,
+        Event::StopInTick { who, .. } => *who,
+        Event::StopAtStart { who, .. } => *who,
+    }
+}

@@ -1,0 +1,36 @@
+//! Sends.
+ghost use Rattle.std.specs.Prelude.{◌≡◌, IfErr, IfOk, List, OnErr};
+ghost use Rattle.pdc_history.specs.Asked as asked;
+ghost use Rattle.pdc_history.specs.World.{Happened, World};
+ghost use Rattle.pdc_world.specs.Acts.{IsSend, IsWhy, Keeps, fault_of_send};
+ghost use Rattle.pdc_world.specs.Ledger.{ledger_view};
+
+use crate::ledger::Ledger;
+use pdc_event::{Fault, Premise, Reply};
+use pdc_sent::SendFault;
+
+/// The fault of a world that a refused send is.
+fn fault_of(fault: SendFault) -> Fault
+    ensures { result ≡ fault_of_send fault }
+{
+    match fault {
+        SendFault::Foreign => Fault::PremiseBroken(Premise::Genuine),
+        SendFault::OtherBody => Fault::PremiseBroken(Premise::OneBody),
+        SendFault::OtherSection => Fault::PremiseBroken(Premise::OneSection),
+        SendFault::NoMemory => Fault::NoMemory,
+    }
+}
+
+/// A PMU sends.
+pub(crate) fn send(ledger: &mut Ledger, bytes: &[u8]) -> Result<Reply, Fault>
+    ensures made { (W : World) (H : List Happened) → Keeps W H (ledger_view ledger.old) →
+        IfOk result (λ reply. IsSend W H bytes.now (ledger_view ledger.new) reply) }
+    ensures why { (W : World) (H : List Happened) → Keeps W H (ledger_view ledger.old) → IfErr result (IsWhy W H (asked.Send bytes.now)) }
+    ensures err { OnErr result (ledger_view ledger.new ≡ ledger_view ledger.old) }
+{
+    let number = ledger.sent.len();
+    match ledger.sent.send(bytes) {
+        Ok(()) => Ok(Reply::Sent { number }),
+        Err(fault) => Err(fault_of(fault)),
+    }
+}

@@ -1,0 +1,60 @@
+//! Ticks.
+ghost use Rattle.std.specs.Prelude.{◌≡◌, [], ◌∷◌, ◌++◌, IfErr, IfOk, List, OnErr};
+ghost use Rattle.pdc_life.specs.Given.{Given};
+ghost use Rattle.pdc_life.specs.Life.{Entry};
+ghost use Rattle.pdc_life.specs.Published.{layout_wire};
+ghost use Rattle.pdc_event.specs.declared.fault.Fault.TheVariants.{NoMemory};
+ghost use Rattle.pdc_event.specs.Event.{who_of};
+ghost use Rattle.pdc_history.specs.Asked as asked;
+ghost use Rattle.pdc_history.specs.World.{Happened, World};
+ghost use Rattle.pdc_world.specs.Acts.{IsAct, IsPart, IsSomePart, IsSomeFrame};
+ghost use Rattle.pdc_world.specs.Ledger.{IsReady, ledger_view};
+
+use crate::known::frames_are_known;
+use crate::ledger::Ledger;
+use crate::plays::Plays;
+use pdc_core::Core;
+use pdc_event::{Fault, Reply, Who};
+use pdc_mark::Store;
+use pdc_station::Station;
+
+/// The layout in force is sent.
+fn send_layout<C: Core>(core: &C, ledger: &mut Ledger)
+    requires ready { IsReady ledger.old }
+    requires frame { IsSomeFrame (C.stands_for core.now) ledger.old.sent.settings }
+    ensures table { ledger.new.sent.settings ≡ ledger.old.sent.settings }
+    ensures frames { (g : Given) (E : List Entry) → C.stands_for core.now g E → ledger.new.sent.frames ≡ ledger.old.sent.frames ++ layout_wire g E 0 ∷ [] }
+    ensures published { ledger.new.published.items ≡ ledger.old.published.items }
+{
+    core.layout_frame(0, &mut ledger.frame).unwrap();
+    ledger.send_written();
+}
+
+/// A core ticks. The layout of a tick that adopts is sent.
+pub(crate) fn tick<C: Plays, S: Store>(
+    station: &mut Station<C, S>,
+    ledger: &mut Ledger,
+    who: Who,
+    now: u64,
+) -> Result<Reply, Fault>
+    requires some { IsSomePart (who_of who) C.rules (C.given_with (C.settings_of station.old.core)) (C.Settings.says (C.settings_of station.old.core))
+        (C.ids (C.settings_of station.old.core)) station.old.lead (C.stands_for station.old.core) (S.stored station.old.mark) (ledger_view ledger.old) }
+    ensures made { (W : World) (H : List Happened) → IsPart W H (who_of who) C.rules (C.given_with (C.settings_of station.old.core))
+        (C.Settings.says (C.settings_of station.old.core)) (C.ids (C.settings_of station.old.core)) station.old.lead (C.stands_for station.old.core)
+        (S.stored station.old.mark) (ledger_view ledger.old) →
+        IfOk result (λ reply. IsAct W H (who_of who) (asked.TickAt (who_of who) now) (C.stands_for station.new.core) (S.stored station.new.mark) (ledger_view ledger.new) reply) }
+    ensures memory { IfErr result (λ fault. fault ≡ NoMemory) }
+    ensures err { OnErr result ((station.new ≡ station.old) × (ledger_view ledger.new ≡ ledger_view ledger.old)) }
+    ensures settings { C.settings_of station.new.core ≡ C.settings_of station.old.core }
+    ensures lead { station.new.lead ≡ station.old.lead }
+{
+    frames_are_known();
+    let Ok(()) = ledger.make_room() else {
+        return Err(Fault::NoMemory);
+    };
+    let ticked = station.tick(now);
+    if ticked.change.is_some() {
+        send_layout(&station.core, ledger);
+    }
+    Ok(Reply::Ticked { who, ticked })
+}
