@@ -3,7 +3,7 @@ use Rattle.std.specs.Prelude.{◌≡◌, refl, ℕ, Bool, true, false, if◌then
 use Rattle.std.specs.Option.{option_and_then}
 use Rattle.std.specs.Result.{result_ok}
 use Rattle.std.specs.Str.{bytes_eq}
-use Rattle.hex.specs.Hex.{decode_of}
+use Rattle.hex.specs.Hex.{decode_of, decode_pairs}
 use Rattle.pdc_history.specs.Asked.{Asked, Send, To, Junk, TickAt, Publish, Stop, StopIn, StopInTick, StopAtStart}
 use Rattle.pdc_history.specs.World.{Who, A, B, M}
 use Rattle.pdc_play_lines.specs.Number.{number_of}
@@ -65,12 +65,14 @@ asked_of_line line = option_and_then (λ rest. asked_behind (cut line).word (cut
 
 -- Worked: a line of each form.
 pub sends : asked_of_line (codes "send AA0f") ≡ Some (Send (170 ∷ 15 ∷ []))
+unfolding decode_pairs
 sends = refl
 
 pub brings : asked_of_line (codes "to A 3") ≡ Some (To A 3)
 brings = refl
 
 pub brings_junk : asked_of_line (codes "junk M 00") ≡ Some (Junk M (0 ∷ []))
+unfolding decode_pairs
 brings_junk = refl
 
 pub ticks : asked_of_line (codes "tick B 57478860000") ≡ Some (TickAt B 57478860000)
@@ -102,6 +104,7 @@ pub no_byte : asked_of_line (codes "send ") ≡ None
 no_byte = refl
 
 pub half_a_byte : asked_of_line (codes "send AA0") ≡ None
+unfolding decode_pairs
 half_a_byte = refl
 
 pub word_too_many : asked_of_line (codes "tick A 1 2") ≡ None

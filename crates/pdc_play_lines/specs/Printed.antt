@@ -124,7 +124,7 @@ not_an_event number = codes "line " ++ (decimal number ++ codes ": not an event\
 
 -- Worked.
 pub third_is_sent : line_of (Sent 3) [] ≡ codes "sent 3\n"
-  unfolding decimal digits
+unfolding digits
 third_is_sent = refl
 
 pub is_candidate : line_of (Came A (Some Candidate)) [] ≡ codes "A Candidate\n"
@@ -137,36 +137,36 @@ pub has_no_stream : line_of (Came B None) [] ≡ codes "B none\n"
 has_no_stream = refl
 
 pub closes_one : line_of (Tick A (record { closed = 1; change = None; used_up = false })) [] ≡ codes "A closed=1 change=none\n"
-  unfolding decimal digits
+unfolding digits
 closes_one = refl
 
 pub adopts : line_of (Tick A (record { closed = 0; change = Some 1; used_up = false })) [] ≡ codes "A closed=0 change=1\n"
-  unfolding decimal digits
+unfolding digits
 adopts = refl
 
 pub uses_up : line_of (Tick A (record { closed = 0; change = None; used_up = true })) [] ≡ codes "A closed=0 change=none used_up\n"
-  unfolding decimal digits
+unfolding digits
 uses_up = refl
 
 pub publishes : line_of (Published A (Some (record { who = A; instant = 57478860001; number = 5 }))) (170 ∷ 2 ∷ []) ≡ codes "A 57478860001 AA02\n"
-  unfolding decimal digits encode_with
+unfolding digits encode_with
 publishes = refl
 
 pub has_no_row : line_of (Published A None) [] ≡ codes "A none\n"
 has_no_row = refl
 
 pub starts_again : line_of (Stopped A 2 57478860001) [] ≡ codes "A start=2 floor=57478860001\n"
-  unfolding decimal digits
+unfolding digits
 starts_again = refl
 
 pub breaks_a_premise : fault_line (PremiseBroken OneBody) 4 ≡ codes "X1 P1 at 4\n"
-  unfolding decimal digits
+unfolding digits
 breaks_a_premise = refl
 
 pub finds_no_frame : fault_line NoSuchFrame 14 ≡ codes "X2 at 14\n"
-  unfolding decimal digits
+unfolding digits
 finds_no_frame = refl
 
 pub line_5 : not_an_event 5 ≡ codes "line 5: not an event\n"
-  unfolding decimal digits
+unfolding digits
 line_5 = refl
