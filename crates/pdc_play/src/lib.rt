@@ -12,8 +12,10 @@ mod player;
 mod run;
 mod script;
 mod telling;
+mod unbegun;
 
 pub use ending::Ending;
 pub use fault::PlayFault;
 pub use player::Plays;
 pub use run::{MAX_READS, run_script};
+pub use unbegun::tell_unbegun;

@@ -28,7 +28,7 @@ fn frame_told<'a, P: Plays>(player: &'a P, reply: &Reply) -> &'a [u8]
 }
 
 /// Prints a line.
-fn print<W: Write>(line: &str, writer: &mut W) -> Result<(), PlayFault>
+pub fn print<W: Write>(line: &str, writer: &mut W) -> Result<(), PlayFault>
     ensures { OnOk result (Appends (W.contents writer.old) (W.contents writer.new) line.now) }
 {
     writer.write_all(line.as_bytes()).map_err(PlayFault::Write)
