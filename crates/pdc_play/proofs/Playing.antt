@@ -1,5 +1,5 @@
 -- A script that is played, one line after the other.
-use Rattle.std.proofs.Common.{◌≡◌, ◌⊎◌, inl, inr, ℕ, ◌+◌, ◌-◌, ◌^◌, List, [], ◌∷◌, ◌++◌, length, take, drop, get_or, ◌<◌, add-one, drop-cons, Option, Some, None, Result, Ok, Err, refl, sym, ap, subst, ◌∙◌, arith, append_assoc}
+use Rattle.std.proofs.Common.{◌≡◌, inl, inr, ℕ, ◌+◌, ◌-◌, ◌^◌, List, [], ◌∷◌, ◌++◌, length, take, drop, get_or, ◌<◌, add-one, drop-cons, Option, Some, None, Result, Ok, Err, refl, sym, ap, subst, ◌∙◌, arith, append_assoc}
 use Rattle.std.proofs.lemmas.List.{append-nil, take-append-drop}
 use Rattle.std.specs.Prelude.{min, unwrap_or}
 use Rattle.std.specs.Io.KnownBytes.{Appends, Consumes, IsAtEnd, Keeps}
@@ -10,7 +10,7 @@ use Rattle.pdc_history.specs.Asked.{Asked}
 use Rattle.pdc_play_lines.specs.Line.{asked_of_line}
 use Rattle.pdc_play_lines.specs.Printed.{fault_line, line_of}
 use Rattle.pdc_play.specs.Run.{Comes, EndsHere, HasEnded, HasEndedEarly, PlaysOn, ReadsOn, Refuses, Replies, Stands}
-use Rattle.pdc_play.specs.Script.{Ends, EndsBy, EndsEarly, HasPlayed, IsEnded, IsNextLine, IsOneLine, counted, events_in, events_of, frame_of, spelled}
+use Rattle.pdc_play.specs.Script.{Ends, EndsBy, EndsEarly, HasPlayed, IsNextLine, IsOneLine, counted, events_in, events_of, frame_of, spelled}
 use Rattle.pdc_play.specs.declared.ending.Ending.{Ending}
 use Rattle.pdc_play.specs.declared.ending.Ending.TheVariants as ending
 use Rattle.pdc_play.specs.declared.fault.PlayFault.{PlayFault}

@@ -1,12 +1,11 @@
 -- A script that is played line by line (this profile): what is printed of it, and where it ends. What an event replies, why it is refused,
 -- and which frames were sent is the player's; the definitions here are of any player.
-use Rattle.std.specs.Prelude.{◌≡◌, ◌⊎◌, ℕ, ◌+◌, ◌-◌, ◌^◌, ◌<◌, ◌==◌, min, Bool, false, if◌then◌else◌, List, [], ◌∷◌, ◌++◌, length, Option, None, Some, unwrap_or}
+use Rattle.std.specs.Prelude.{◌≡◌, ◌⊎◌, ℕ, ◌+◌, ◌-◌, ◌^◌, ◌<◌, ◌==◌, min, Bool, false, List, [], ◌∷◌, ◌++◌, length, Option, None, Some, unwrap_or}
 use Rattle.std.specs.List.{list_any}
-use Rattle.std.specs.Io.KnownBytes.{Appends}
 use Rattle.std.specs.Str.Lines.{strip_carriage_return}
 use Rattle.pdc_event.specs.declared.fault.Fault.{Fault}
 use Rattle.pdc_event.specs.declared.reply.Reply.{Reply}
-use Rattle.pdc_event.specs.declared.reply.Reply.TheVariants.{Sent, Came, Ticked, Published, Stopped}
+use Rattle.pdc_event.specs.declared.reply.Reply.TheVariants.{Published}
 use Rattle.pdc_history.specs.Asked.{Asked}
 use Rattle.pdc_play_lines.specs.Line.{asked_of_line}
 use Rattle.pdc_play_lines.specs.Printed.{fault_line, line_of, not_an_event}

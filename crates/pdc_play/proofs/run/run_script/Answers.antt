@@ -1,4 +1,3 @@
-use Rattle.std.proofs.Common.{◌≡◌, Some, None}
 use Rattle.pdc_play.proofs.Playing.{none_of, nothing_read, read_on, run_ends, the_ending}
 use Rattle.pdc_play.proofs.run.run_script.Goals as goal
 

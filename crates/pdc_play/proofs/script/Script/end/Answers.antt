@@ -1,4 +1,3 @@
-use Rattle.std.proofs.Common.{◌≡◌}
 use Rattle.pdc_play.proofs.Playing.{last_line}
 use Rattle.pdc_play.proofs.script.Script.end.Goals as goal
 
