@@ -1,0 +1,33 @@
+//! A world that does not begin.
+ghost use Rattle.std.specs.Prelude.{◌≡◌, IfOk, OnOk};
+ghost use Rattle.std.specs.Io.KnownBytes.{Appends};
+ghost use Rattle.pdc_play_lines.specs.Printed as printed;
+ghost use Rattle.pdc_play.specs.declared.ending.Ending.TheVariants.{Refused};
+
+use crate::ending::Ending;
+use crate::fault::PlayFault;
+use crate::telling::print;
+use pdc_event::Fault;
+use pdc_play_lines::fault_line;
+use std::alloc::Global;
+use std::io::Write;
+
+/// Prints why a script is not played at all: its world does not begin.
+///
+/// # Errors
+///
+/// A failure of the writer, or want of memory.
+#[tactic(auto, using(crate::proofs::Playing::appends_kept))]
+pub fn tell_unbegun<W: Write>(
+    alloc: Global,
+    fault: Fault,
+    writer: &mut W,
+) -> Result<Ending, PlayFault>
+    ensures line { OnOk result (Appends (W.contents writer.old) (W.contents writer.new) (printed.fault_line fault 0)) }
+    ensures ending { IfOk result (λ end. end ≡ Refused fault) }
+{
+    let line = fault_line(alloc, fault, 0)?;
+    print(&line, writer)?;
+    writer.flush().map_err(PlayFault::Write)?;
+    Ok(Ending::Refused(fault))
+}

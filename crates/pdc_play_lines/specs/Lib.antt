@@ -1,0 +1,5 @@
+pub mod Line
+pub mod Number
+pub mod Printed
+pub mod Word
+pub mod Written
