@@ -4,9 +4,9 @@
 //! The first type to look at is [`World`]. It keeps the three cores with their marks, each in its present life, and all that was ever
 //! sent and published.
 //!
-//! To the layers above this crate promises that a world always holds a history, as `pdc_history` defines histories: each step makes
-//! what the event makes happen and replies what is told of it, or tells the cause for which it may not happen and changes nothing. So
-//! all that holds of histories holds of what a world published: see [`instants_rise`], [`blocks_are_genuine`] and [`frames_agree`].
+//! To the layers above this crate promises that a world which holds a history, as `pdc_history` defines histories, holds one after each
+//! step: a step makes what the event makes happen and replies what is told of it, or tells the cause for which it may not happen and
+//! changes nothing. So all that holds of histories holds of what such a world sent and published.
 #![tactic(auto)]
 
 mod act;
