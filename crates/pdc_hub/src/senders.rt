@@ -85,7 +85,7 @@ pub fn send_out<K: Sink, R: Wait>(
     ensures seat { IsSeatAt (receives_on receiver.now) pass.new × (view pass.new ≡ log false true false [] (view pass.new).taken) }
     // What the sink took is a prefix of what was taken,
     ensures took { (given : List (List ℕ)) × (rest : List (List ℕ)) × K.took sink.old sink.new given × (bytes_of (view pass.new).taken ≡ given ++ rest) }
-    // all of it, up to the end mark, where it ended there;
+    // all of it, up to the end mark, where it ended there,
     ensures whole { result ≡ Ended.AtEndMark → K.took sink.old sink.new (bytes_of (view pass.new).taken) × ((body : List Message) × ((view pass.new).taken ≡ body ++ End ∷ [])) }
     // and the sink failed where it ended by that.
     ensures fault { result ≡ Ended.SinkFault → HasRisen (K.failures_of sink.old) (K.failures_of sink.new) }
