@@ -1,0 +1,73 @@
+//! Laws of every world: each is the contract of a function that does nothing but call the laws that it stands on.
+ghost use Rattle.std.specs.Prelude.{◌≡◌, List};
+ghost use Rattle.pdc_headline.specs.Agree.{FramesAgree, PublishedAgree};
+ghost use Rattle.pdc_headline.specs.Frames.{DataIsCut, HasGenuineFrames, LayoutsAreOne, PmusSendOneBody, PmusSendOneSection};
+ghost use Rattle.pdc_headline.specs.Published.{InstantsRise, RowsAreSentData};
+ghost use Rattle.pdc_headline.specs.Seen.{seen_of};
+ghost use Rattle.pdc_history.specs.World.{A, B, Happened, M, World as Fixed};
+ghost use Rattle.pdc_world.specs.Holds.{Holds};
+
+use pdc_mark::Store;
+use pdc_tag::instant_is_nearest;
+use pdc_world::World;
+
+/// Over all lives of one owner the instants of the rows in `published` strictly rise; and the frame of each row, the one with its number
+/// among those that were sent, is data of its owner for its instant.
+pub fn instants_rise<S: Store>(world: &World<S>)
+    ensures rise { InstantsRise (seen_of world.now) }
+    ensures sent { RowsAreSentData (seen_of world.now) }
+{
+    world.holds_some_history();
+    pdc_history::instants_rise();
+    pdc_history::stamps_have_one_layout();
+    instant_is_nearest();
+}
+
+/// A PMU sent one body for one instant, and one section under one count.
+pub fn pmus_send_one<S: Store>(world: &World<S>)
+    ensures body { PmusSendOneBody (seen_of world.now) }
+    ensures section { PmusSendOneSection (seen_of world.now) }
+{
+    world.holds_some_history();
+    pdc_history::pmus_send_one();
+}
+
+/// Under a stamp there is one layout, byte for byte, whatever restarts came between.
+pub fn stamps_have_one_layout<S: Store>(world: &World<S>)
+    ensures { LayoutsAreOne (seen_of world.now) }
+{
+    world.holds_some_history();
+    pdc_history::stamps_have_one_layout();
+}
+
+/// Each section of a node's layouts is that of a valid configuration of its PMU that was sent; and however a data frame of a node that was
+/// ever sent is cut under the layout of its stamp, its blocks are absent or were sent by that PMU for that instant. That it could not be
+/// cut so is absurd: it is, by each history that the world may have had.
+pub fn node_blocks_are_genuine<S: Store>(world: &World<S>)
+    ensures genuine { HasGenuineFrames (seen_of world.now) A × HasGenuineFrames (seen_of world.now) B }
+    ensures cut { (W : Fixed) (H : List Happened) → Holds W H world.now → DataIsCut (seen_of world.now) A × DataIsCut (seen_of world.now) B }
+{
+    world.holds_some_history();
+    pdc_history::node_blocks_are_genuine();
+    instant_is_nearest();
+}
+
+/// The same of the merger.
+pub fn merged_blocks_are_genuine<S: Store>(world: &World<S>)
+    ensures genuine { HasGenuineFrames (seen_of world.now) M }
+    ensures cut { (W : Fixed) (H : List Happened) → Holds W H world.now → DataIsCut (seen_of world.now) M }
+{
+    world.holds_some_history();
+    pdc_history::merged_blocks_are_genuine();
+    instant_is_nearest();
+}
+
+/// Any two frames for one instant that were sent, of a node or the merger and of whatever lives, agree on each PMU that is present in
+/// both under one configuration count: the words are equal, and so are the sections, byte for byte. So do the frames of published rows.
+pub fn frames_agree<S: Store>(world: &World<S>)
+    ensures sent { FramesAgree (seen_of world.now) }
+    ensures published { PublishedAgree (seen_of world.now) }
+{
+    world.holds_some_history();
+    pdc_history::frames_agree();
+}
