@@ -9,9 +9,9 @@ use Rattle.pdc_history.specs.History.{IsHistory}
 use Rattle.pdc_history.specs.Pmus as pmus
 use Rattle.pdc_history.specs.World.{A, B, M, World, Happened}
 use Rattle.pdc_headline.specs.Agree.{FramesAgree, PublishedAgree, Shows, ShowsPublished}
-use Rattle.pdc_headline.specs.Frames.{LayoutsAreOne, PmusSendOneBody, PmusSendOneSection, bytes_of}
+use Rattle.pdc_headline.specs.Frames.{HasGenuineFrames, LayoutsAreOne, PmusSendOneBody, PmusSendOneSection, bytes_of}
 use Rattle.pdc_headline.specs.Seen.{CannotFail, Seen}
-use Rattle.pdc_headline.proofs.Histories.{IsGenuine, genuine_frames, seen_in, shows_of_history, under_of_history}
+use Rattle.pdc_headline.proofs.Histories.{genuine_frames, seen_in, shows_of_history, under_of_history}
 use Rattle.pdc_headline.proofs.Told.{are_lists, holds, is_list, so_does}
 
 -- ---- in a history
@@ -32,10 +32,10 @@ pub one_section_in : pmus.PmusSendOneSection → (W : World) (H : List Happened)
 one_section_in P W H is p pmu bytes other s t listed a b c d count = P W H p pmu bytes other s t is listed a b c d count
 
 abbrev pub NodesAreGenuine : Seen → Type 0
-NodesAreGenuine seen = IsGenuine seen A × IsGenuine seen B
+NodesAreGenuine seen = HasGenuineFrames seen A × HasGenuineFrames seen B
 
 abbrev pub MergerIsGenuine : Seen → Type 0
-MergerIsGenuine seen = IsGenuine seen M
+MergerIsGenuine seen = HasGenuineFrames seen M
 
 pub nodes_in : genuine.NodeBlocksAreGenuine → (W : World) (H : List Happened) → IsHistory W H → NodesAreGenuine (seen_in W H)
 nodes_in N W H is = (genuine_frames W H A (N W H is).0, genuine_frames W H B (N W H is).1)

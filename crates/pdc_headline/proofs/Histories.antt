@@ -1,6 +1,6 @@
 -- What is seen of a history, and that its frames and rows say the same of it.
 use Rattle.std.proofs.Common.{◌≡◌, ℕ, List, [], ◌∷◌, refl, sym, subst, inl, inr}
-use Rattle.std.specs.List.{AllByRecursion, Contains}
+use Rattle.std.specs.List.{AllByRecursion}
 use Rattle.pdc_cfg.specs.Section.{SectionFields}
 use Rattle.pdc_life.specs.Arrival.{Stamp}
 use Rattle.pdc_life.specs.MergerReading.{IsOwn}
@@ -14,7 +14,7 @@ use Rattle.pdc_world.specs.Holds.{Holds}
 use Rattle.pdc_world.specs.Replies.{listed}
 use Rattle.pdc_world.specs.Views.{WorldView}
 use Rattle.pdc_headline.specs.Agree.{Shows}
-use Rattle.pdc_headline.specs.Frames.{AreGenuineBlocks, DataIsCut, IsCutOf, IsGenuineBlock, IsGenuineData, IsLayoutSent, IsLayoutUnder, SectionWasSent}
+use Rattle.pdc_headline.specs.Frames.{AreGenuineBlocks, HasGenuineFrames, IsCutOf, IsGenuineBlock, IsGenuineData, IsLayoutSent, IsLayoutUnder, SectionWasSent}
 use Rattle.pdc_headline.specs.Seen.{Seen, output_in, seen_of, stream_in}
 
 abbrev pub seen_in : World → List Happened → Seen
@@ -146,16 +146,7 @@ data_is_genuine W H who i payload k = record {
   genuine = blocks_of_frames W H i k.sections k.blocks k.genuine;
 }
 
--- the same as `HasGenuineFrames`, with the cut of each frame itself
-pub record IsGenuine (seen : Seen) (who : Who) : Type 0 where
-  pub sections : (stamp : Stamp) (sections : List SectionFields) → IsLayoutUnder seen who stamp sections → AllByRecursion (SectionWasSent seen) sections
-  pub every_cut :
-      (bytes : List ℕ) (i quality : ℕ) (payload : List ℕ) (stamp : Stamp) (sections : List SectionFields) (blocks : List (List ℕ)) →
-      Contains seen.frames bytes → IsData (stream_in seen who) bytes i quality payload → IsCutOf seen who payload stamp sections blocks →
-      AreGenuineBlocks seen i sections blocks
-  pub every_frame : DataIsCut seen who
-
-pub genuine_frames : (W : World) (H : List Happened) (who : Who) → genuine.HasGenuineFrames W H who → IsGenuine (seen_in W H) who
+pub genuine_frames : (W : World) (H : List Happened) (who : Who) → genuine.HasGenuineFrames W H who → HasGenuineFrames (seen_in W H) who
 genuine_frames W H who k = record {
   sections = λ stamp sections under. sections_of_frames W H sections (k.sections stamp sections (under_of_history W H who stamp sections under));
   every_cut = λ bytes i quality payload stamp sections blocks among d c.

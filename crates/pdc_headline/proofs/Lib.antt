@@ -6,5 +6,7 @@ pub mod Rising
 pub mod Rows
 pub mod Genuine
 pub mod Valid
+pub mod Layouts
+pub mod Cuts
 pub mod Sources
 pub mod Worlds

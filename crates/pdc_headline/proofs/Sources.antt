@@ -1,29 +1,25 @@
 -- Whether a section or a block was sent can be told: PMUs and frames are so many.
-use Rattle.std.proofs.Common.{◌≡◌, ℕ, ◌^◌, List, [], ◌∷◌, length, sym, ap, subst, ◌∙◌, arith, Some}
-use Rattle.std.specs.List.{Contains, slice_get}
-use Rattle.std.proofs.lemmas.Option.{get_or_from_slice_get, slice_get-get_or, slice_get_within}
+use Rattle.std.proofs.Common.{◌≡◌, ℕ, ◌^◌, List, [], ◌∷◌, length, sym, ap, subst, ◌∙◌, arith}
+use Rattle.std.specs.List.{Contains}
 use Rattle.pdc_block.specs.Block.{AreWords, IsBody, bytes_of_words}
 use Rattle.pdc_cfg.specs.Section.{SectionFields}
 use Rattle.pdc_cfg.specs.Shape.{word_count_of}
 use Rattle.pdc_cfg.specs.declared.shape.Shape.{Shape}
+use Rattle.pdc_frame.specs.Bytes.{AreBytes}
 use Rattle.pdc_frame.specs.Frame.{Fields}
 use Rattle.pdc_stat.specs.AbsentBlock.{absent_of}
+use Rattle.pdc_life.specs.Arrival.{Stamp}
 use Rattle.pdc_life.specs.NodeReading.{IsValid, stream_of}
 use Rattle.pdc_life.specs.declared.pmu.Pmu.{Pmu}
 use Rattle.pdc_history.specs.World.{Who}
-use Rattle.pdc_headline.specs.Frames.{AreGenuineBlocks, HasGenuineFrames, SectionWasSent, WasSent}
-use Rattle.pdc_headline.specs.Seen.{CannotFail, Seen}
-use Rattle.pdc_headline.proofs.Histories.{IsGenuine}
+use Rattle.pdc_life.specs.Reading.{IsData}
+use Rattle.pdc_headline.specs.Frames.{AreGenuineBlocks, HasGenuineFrames, IsCutOf, IsGenuineData, SectionWasSent, WasSent}
+use Rattle.pdc_headline.specs.Seen.{CannotFail, Seen, stream_in}
+use Rattle.pdc_headline.proofs.Cuts.{CutLaws, IsSomehowCut, is_somehow_cut}
 use Rattle.pdc_headline.proofs.Reading.{IsDataThere, TagsAreComputed, data_in, data_there, is_data_there, same_data, there_of_data}
 use Rattle.pdc_headline.proofs.Stable.{each}
-use Rattle.pdc_headline.proofs.Told.{HasOne, IsTold, are_below, both, either, has_one, holds, is_list, is_number, likewise, so_does}
+use Rattle.pdc_headline.proofs.Told.{HasOne, IsTold, among, are_below, both, either, has_one, holds, is_list, is_number, likewise, so_does, there}
 use Rattle.pdc_headline.proofs.Valid.{is_valid}
-
-among : {X : Type 0} (xs : List X) (k : ℕ) (x : X) → slice_get xs k ≡ Some x → Contains xs x
-among xs k x e = (k, slice_get_within xs k x e, get_or_from_slice_get xs k x x e)
-
-there : {X : Type 0} (xs : List X) (x : X) (c : Contains xs x) → slice_get xs c.0 ≡ Some x
-there xs x c = slice_get-get_or xs c.0 x c.1 ∙ ap Some c.2
 
 -- ---- sections
 
@@ -121,11 +117,32 @@ blocks_hold T seen i (s ∷ sections) [] k = k (λ a. a)
 
 -- ---- frames
 
-pub genuine_frames_hold : TagsAreComputed → (seen : Seen) (who : Who) → CannotFail (IsGenuine seen who) → HasGenuineFrames seen who
-genuine_frames_hold T seen who k = record {
+cut_holds : TagsAreComputed → (seen : Seen) (who : Who) → CannotFail (HasGenuineFrames seen who) → (bytes : List ℕ) (i quality : ℕ) (payload : List ℕ) (stamp : Stamp) (sections : List SectionFields) (blocks : List (List ℕ))
+    → Contains seen.frames bytes → IsData (stream_in seen who) bytes i quality payload → IsCutOf seen who payload stamp sections blocks → AreGenuineBlocks seen i sections blocks
+cut_holds T seen who k bytes i quality payload stamp sections blocks is d c =
+    blocks_hold T seen i sections blocks (so_does (λ (g : HasGenuineFrames seen who). g.every_cut bytes i quality payload stamp sections blocks is d c) k)
+
+somehow_of : (seen : Seen) (who : Who) (i : ℕ) (payload : List ℕ) → IsGenuineData seen who i payload → IsSomehowCut seen who payload
+somehow_of seen who i payload g = record { stamp = g.stamp; sections = g.sections; blocks = g.blocks; is_cut = g.is_cut }
+
+frame_holds : TagsAreComputed → CutLaws → (seen : Seen) (who : Who) → CannotFail (HasGenuineFrames seen who) → (bytes : List ℕ) (i quality : ℕ) (payload : List ℕ) → Contains seen.frames bytes
+    → IsData (stream_in seen who) bytes i quality payload → IsGenuineData seen who i payload
+frame_holds T C seen who k bytes i quality payload is d =
+    let fits : AreBytes payload = subst AreBytes d.same_payload d.of_stream.frame.fits.bytes in
+    let c : IsSomehowCut seen who payload =
+    holds (is_somehow_cut C seen who payload fits) (so_does (λ (g : HasGenuineFrames seen who). somehow_of seen who i payload (g.every_frame bytes i quality payload is d)) k) in
+    record {
+      stamp = c.stamp;
+      sections = c.sections;
+      blocks = c.blocks;
+      is_cut = c.is_cut;
+      genuine = cut_holds T seen who k bytes i quality payload c.stamp c.sections c.blocks is d c.is_cut;
+    }
+
+pub genuine_frames_hold : TagsAreComputed → CutLaws → (seen : Seen) (who : Who) → CannotFail (HasGenuineFrames seen who) → HasGenuineFrames seen who
+genuine_frames_hold T C seen who k = record {
   sections = λ stamp sections under.
-      each (SectionWasSent seen) (λ s n. holds (section_was_sent seen s) n) sections (so_does (λ (g : IsGenuine seen who). g.sections stamp sections under) k);
-  every_cut = λ bytes i quality payload stamp sections blocks is d c.
-      blocks_hold T seen i sections blocks (so_does (λ (g : IsGenuine seen who). g.every_cut bytes i quality payload stamp sections blocks is d c) k);
-  every_frame = λ bytes i quality payload is d. so_does (λ (g : IsGenuine seen who). g.every_frame bytes i quality payload is d) k;
+      each (SectionWasSent seen) (λ s n. holds (section_was_sent seen s) n) sections (so_does (λ (g : HasGenuineFrames seen who). g.sections stamp sections under) k);
+  every_frame = λ bytes i quality payload is d. frame_holds T C seen who k bytes i quality payload is d;
+  every_cut = λ bytes i quality payload stamp sections blocks is d c. cut_holds T seen who k bytes i quality payload stamp sections blocks is d c;
 }

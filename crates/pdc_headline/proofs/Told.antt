@@ -1,9 +1,9 @@
 -- What can be told by looking.
-use Rattle.std.proofs.Common.{◌≡◌, ℕ, zero, suc, ◌<◌, List, [], ◌∷◌, refl, ap, arith, Option, Some, None, inl, inr, sym, subst}
+use Rattle.std.proofs.Common.{◌≡◌, ℕ, zero, suc, ◌<◌, List, [], ◌∷◌, refl, ap, arith, Option, Some, None, inl, inr, sym, subst, ◌∙◌}
 use Rattle.std.specs.Prelude.{◌⊎◌, slice_index}
-use Rattle.std.specs.List.{slice_get}
+use Rattle.std.specs.List.{Contains, slice_get}
 use Rattle.std.proofs.lemmas.Bool.{cases_eq, cases_lt}
-use Rattle.std.proofs.lemmas.Option.{none-some, same_Some}
+use Rattle.std.proofs.lemmas.Option.{get_or_from_slice_get, none-some, same_Some, slice_get-get_or, slice_get_within}
 use Rattle.pdc_headline.specs.Seen.{CannotFail}
 
 -- it holds, or it does not
@@ -93,3 +93,11 @@ has_one {X} P f (x ∷ xs) = likewise found apart (either (f x) (has_one P f xs)
 
     apart : HasOne P (x ∷ xs) → P x ⊎ HasOne P xs
     apart h = at h.0 h.1 h.2 h.3
+
+-- ---- elements by their places
+
+pub among : {X : Type 0} (xs : List X) (k : ℕ) (x : X) → slice_get xs k ≡ Some x → Contains xs x
+among xs k x e = (k, slice_get_within xs k x e, get_or_from_slice_get xs k x x e)
+
+pub there : {X : Type 0} (xs : List X) (x : X) (c : Contains xs x) → slice_get xs c.0 ≡ Some x
+there xs x c = slice_get-get_or xs c.0 x c.1 ∙ ap Some c.2

@@ -38,7 +38,7 @@ section_of_parts s (fits, (size, (source, (integers, (polar, (phasors, (analogs,
 parts_of_section : (s : SectionFields) → IsSection s → SectionParts s
 parts_of_section s k = (k.fits, (k.size, (k.source, (k.integers, (k.polar, (k.phasors, (k.analogs, (k.digitals, k.count))))))))
 
-is_section : (s : SectionFields) → IsTold (IsSection s)
+pub is_section : (s : SectionFields) → IsTold (IsSection s)
 is_section s =
     likewise (section_of_parts s) (parts_of_section s)
     (both (are_below 256 s.bytes (omega arith)) (both (is_number (length s.bytes) (section_len_of s.shape)) (both (is_number (source_in s.bytes) s.source)

@@ -12,7 +12,7 @@ use Rattle.pdc_life.specs.NodeReading.{IsValid, stream_of}
 use Rattle.pdc_life.specs.Reading.{HasConfig, IsData}
 use Rattle.pdc_history.specs.Frames.{IsCutUnder}
 use Rattle.pdc_history.specs.World.{Who}
-use Rattle.pdc_headline.specs.Seen.{CannotFail, Seen, output_in, stream_in}
+use Rattle.pdc_headline.specs.Seen.{Seen, output_in, stream_in}
 
 -- Of a PMU all data for one instant has one payload, and all valid configurations under one count have one section.
 abbrev pub PmusSendOneBody : Seen → Type 0
@@ -96,20 +96,14 @@ pub record IsGenuineData (seen : Seen) (who : Who) (i : ℕ) (payload : List ℕ
   pub is_cut : IsCutOf seen who payload stamp sections blocks
   pub genuine : AreGenuineBlocks seen i sections blocks
 
--- Each data frame of the owner is cut so.
-abbrev pub DataIsCut : Seen → Who → Type 0
-DataIsCut seen who =
-    (bytes : List ℕ) (i quality : ℕ) (payload : List ℕ) → Contains seen.frames bytes → IsData (stream_in seen who) bytes i quality payload →
-    IsGenuineData seen who i payload
-
--- Of an owner: each section of its layouts is that of a valid configuration of a PMU; however a data frame of it is cut under a layout
--- of the owner, the blocks are genuine; and that a data frame of it were not cut so at all is absurd.
+-- Of an owner: each section of its layouts is that of a valid configuration of a PMU; each of its data frames is cut so; and however
+-- it is cut under a layout of the owner, its blocks are genuine.
 pub record HasGenuineFrames (seen : Seen) (who : Who) : Type 0 where
   pub sections : (stamp : Stamp) (sections : List SectionFields) → IsLayoutUnder seen who stamp sections → AllByRecursion (SectionWasSent seen) sections
+  pub every_frame :
+      (bytes : List ℕ) (i quality : ℕ) (payload : List ℕ) → Contains seen.frames bytes → IsData (stream_in seen who) bytes i quality payload →
+      IsGenuineData seen who i payload
   pub every_cut :
       (bytes : List ℕ) (i quality : ℕ) (payload : List ℕ) (stamp : Stamp) (sections : List SectionFields) (blocks : List (List ℕ)) →
       Contains seen.frames bytes → IsData (stream_in seen who) bytes i quality payload → IsCutOf seen who payload stamp sections blocks →
       AreGenuineBlocks seen i sections blocks
-  pub every_frame :
-      (bytes : List ℕ) (i quality : ℕ) (payload : List ℕ) → Contains seen.frames bytes → IsData (stream_in seen who) bytes i quality payload →
-      CannotFail (IsGenuineData seen who i payload)

@@ -1,12 +1,14 @@
 //! Laws of every world: each is the contract of a function that does nothing but call the laws that it stands on.
-ghost use Rattle.std.specs.Prelude.{◌≡◌, List};
+ghost use Rattle.std.specs.Prelude.{◌≡◌};
 ghost use Rattle.pdc_headline.specs.Agree.{FramesAgree, PublishedAgree};
-ghost use Rattle.pdc_headline.specs.Frames.{DataIsCut, HasGenuineFrames, LayoutsAreOne, PmusSendOneBody, PmusSendOneSection};
+ghost use Rattle.pdc_headline.specs.Frames.{HasGenuineFrames, LayoutsAreOne, PmusSendOneBody, PmusSendOneSection};
 ghost use Rattle.pdc_headline.specs.Published.{InstantsRise, RowsAreSentData};
 ghost use Rattle.pdc_headline.specs.Seen.{seen_of};
-ghost use Rattle.pdc_history.specs.World.{A, B, Happened, M, World as Fixed};
-ghost use Rattle.pdc_world.specs.Holds.{Holds};
+ghost use Rattle.pdc_history.specs.World.{A, B, M};
 
+use pdc_block::payloads_are_cut_in_one_way;
+use pdc_cfg::configurations_are_read_in_one_way;
+use pdc_frame::parts_keep_their_words;
 use pdc_mark::Store;
 use pdc_tag::instant_is_nearest;
 use pdc_world::World;
@@ -40,26 +42,30 @@ pub fn stamps_have_one_layout<S: Store>(world: &World<S>)
     pdc_history::stamps_have_one_layout();
 }
 
-/// Each section of a node's layouts is that of a valid configuration of its PMU that was sent; and however a data frame of a node that was
-/// ever sent is cut under the layout of its stamp, its blocks are absent or were sent by that PMU for that instant. That it could not be
-/// cut so is absurd: it is, by each history that the world may have had.
+/// Each section of a node's layouts is that of a valid configuration of its PMU that was sent; each data frame of a node that was ever
+/// sent is cut, under the layout of its stamp, into the own block and blocks that are absent or were sent by that PMU for that instant;
+/// and so is every cut of it.
 pub fn node_blocks_are_genuine<S: Store>(world: &World<S>)
-    ensures genuine { HasGenuineFrames (seen_of world.now) A × HasGenuineFrames (seen_of world.now) B }
-    ensures cut { (W : Fixed) (H : List Happened) → Holds W H world.now → DataIsCut (seen_of world.now) A × DataIsCut (seen_of world.now) B }
+    ensures { HasGenuineFrames (seen_of world.now) A × HasGenuineFrames (seen_of world.now) B }
 {
     world.holds_some_history();
     pdc_history::node_blocks_are_genuine();
     instant_is_nearest();
+    parts_keep_their_words();
+    configurations_are_read_in_one_way();
+    payloads_are_cut_in_one_way();
 }
 
 /// The same of the merger.
 pub fn merged_blocks_are_genuine<S: Store>(world: &World<S>)
-    ensures genuine { HasGenuineFrames (seen_of world.now) M }
-    ensures cut { (W : Fixed) (H : List Happened) → Holds W H world.now → DataIsCut (seen_of world.now) M }
+    ensures { HasGenuineFrames (seen_of world.now) M }
 {
     world.holds_some_history();
     pdc_history::merged_blocks_are_genuine();
     instant_is_nearest();
+    parts_keep_their_words();
+    configurations_are_read_in_one_way();
+    payloads_are_cut_in_one_way();
 }
 
 /// Any two frames for one instant that were sent, of a node or the merger and of whatever lives, agree on each PMU that is present in
