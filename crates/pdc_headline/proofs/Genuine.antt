@@ -10,9 +10,9 @@ use Rattle.pdc_history.specs.Pmus as pmus
 use Rattle.pdc_history.specs.World.{A, B, M, World, Happened}
 use Rattle.pdc_headline.specs.Agree.{FramesAgree, PublishedAgree, Shows, ShowsPublished}
 use Rattle.pdc_headline.specs.Frames.{HasGenuineFrames, LayoutsAreOne, PmusSendOneBody, PmusSendOneSection, bytes_of}
-use Rattle.pdc_headline.specs.Seen.{CannotFail, Seen}
+use Rattle.pdc_headline.specs.Seen.{Seen}
 use Rattle.pdc_headline.proofs.Histories.{genuine_frames, seen_in, shows_of_history, under_of_history}
-use Rattle.pdc_headline.proofs.Told.{are_lists, holds, is_list, so_does}
+use Rattle.pdc_headline.proofs.Told.{CannotFail, are_lists, holds, is_list, so_does}
 
 -- ---- in a history
 

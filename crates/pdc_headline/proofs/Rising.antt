@@ -10,10 +10,10 @@ use Rattle.pdc_row.specs.Rising.{Rises}
 use Rattle.pdc_row.specs.RowView.{RowView, row_instants}
 use Rattle.pdc_world.specs.Replies.{listed, listed_at, name_of}
 use Rattle.pdc_headline.specs.Published.{InstantsRise}
-use Rattle.pdc_headline.specs.Seen.{AreRising, CannotFail, Seen, instants_of}
+use Rattle.pdc_headline.specs.Seen.{AreRising, Seen, instants_of}
 use Rattle.pdc_headline.proofs.Histories.{seen_in}
 use Rattle.pdc_headline.proofs.Stable.{all_rising}
-use Rattle.pdc_headline.proofs.Told.{so_does}
+use Rattle.pdc_headline.proofs.Told.{CannotFail, so_does}
 
 pub same_who : (who : Who) → who_of (name_of who) ≡ who
 same_who A = refl

@@ -12,12 +12,12 @@ use Rattle.pdc_output.specs.Layout.{row_payload, wire_of}
 use Rattle.pdc_row.specs.RowView.{RowView}
 use Rattle.pdc_world.specs.Replies.{listed, listed_at, published_as}
 use Rattle.pdc_headline.specs.Published.{IsSentData, RowsAreSentData}
-use Rattle.pdc_headline.specs.Seen.{CannotFail, Seen, stream_in}
+use Rattle.pdc_headline.specs.Seen.{Seen, stream_in}
 use Rattle.pdc_headline.proofs.Histories.{data_of_frames, same_stream, seen_in}
 use Rattle.pdc_headline.proofs.Reading.{IsDataThere, TagsAreComputed, data_in, data_there, is_data_there, there_of_data}
 use Rattle.pdc_headline.proofs.Rising.{same_who}
 use Rattle.pdc_headline.proofs.Stable.{each}
-use Rattle.pdc_headline.proofs.Told.{holds, so_does}
+use Rattle.pdc_headline.proofs.Told.{CannotFail, holds, so_does}
 
 -- ---- in a history
 

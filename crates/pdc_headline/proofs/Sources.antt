@@ -14,11 +14,11 @@ use Rattle.pdc_life.specs.declared.pmu.Pmu.{Pmu}
 use Rattle.pdc_history.specs.World.{Who}
 use Rattle.pdc_life.specs.Reading.{IsData}
 use Rattle.pdc_headline.specs.Frames.{AreGenuineBlocks, HasGenuineFrames, IsCutOf, IsGenuineData, SectionWasSent, WasSent}
-use Rattle.pdc_headline.specs.Seen.{CannotFail, Seen, stream_in}
+use Rattle.pdc_headline.specs.Seen.{Seen, stream_in}
 use Rattle.pdc_headline.proofs.Cuts.{CutLaws, IsSomehowCut, is_somehow_cut}
 use Rattle.pdc_headline.proofs.Reading.{IsDataThere, TagsAreComputed, data_in, data_there, is_data_there, same_data, there_of_data}
 use Rattle.pdc_headline.proofs.Stable.{each}
-use Rattle.pdc_headline.proofs.Told.{HasOne, IsTold, among, are_below, both, either, has_one, holds, is_list, is_number, likewise, so_does, there}
+use Rattle.pdc_headline.proofs.Told.{CannotFail, HasOne, IsTold, among, are_below, both, either, has_one, holds, is_list, is_number, likewise, so_does, there}
 use Rattle.pdc_headline.proofs.Valid.{is_valid}
 
 -- ---- sections

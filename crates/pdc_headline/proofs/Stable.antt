@@ -2,8 +2,8 @@
 use Rattle.std.proofs.Common.{ℕ, List, [], ◌∷◌}
 use Rattle.std.specs.List.{AllByRecursion}
 use Rattle.pdc_row.specs.Rising.{Rises}
-use Rattle.pdc_headline.specs.Seen.{AreRising, CannotFail}
-use Rattle.pdc_headline.proofs.Told.{holds, is_below, so_does}
+use Rattle.pdc_headline.specs.Seen.{AreRising}
+use Rattle.pdc_headline.proofs.Told.{CannotFail, holds, is_below, so_does}
 
 pub rising : (low : ℕ) (ns : List ℕ) → CannotFail (Rises low ns) → Rises low ns
 rising low [] k = tt

@@ -4,7 +4,10 @@ use Rattle.std.specs.Prelude.{◌⊎◌, slice_index}
 use Rattle.std.specs.List.{Contains, slice_get}
 use Rattle.std.proofs.lemmas.Bool.{cases_eq, cases_lt}
 use Rattle.std.proofs.lemmas.Option.{get_or_from_slice_get, none-some, same_Some, slice_get-get_or, slice_get_within}
-use Rattle.pdc_headline.specs.Seen.{CannotFail}
+
+-- That it did not hold is absurd: so much is had of a world, which keeps no history. What can be told by looking holds then.
+abbrev pub CannotFail : Type 0 → Type 0
+CannotFail P = (P → ⊥) → ⊥
 
 -- it holds, or it does not
 abbrev pub IsTold : Type 0 → Type 0

@@ -4,8 +4,9 @@ use Rattle.pdc_history.specs.History.{IsHistory}
 use Rattle.pdc_history.specs.World.{World, Happened}
 use Rattle.pdc_world.specs.Holds.{Holds, HoldsSome}
 use Rattle.pdc_world.specs.Views.{WorldView}
-use Rattle.pdc_headline.specs.Seen.{CannotFail, Seen, seen_of}
+use Rattle.pdc_headline.specs.Seen.{Seen, seen_of}
 use Rattle.pdc_headline.proofs.Histories.{seen_again, seen_in}
+use Rattle.pdc_headline.proofs.Told.{CannotFail}
 
 pub of_history : (C : Seen → Type 0) (v : WorldView) (W : World) (H : List Happened) → ((X : World) (Y : List Happened) → IsHistory X Y → C (seen_in X Y)) → Holds W H v → C (seen_of v)
 of_history C v W H f h = subst C (sym (seen_again W H v h)) (f W H h.history)

@@ -27,10 +27,6 @@ seen_of v = record {
   published = v.ledger.published;
 }
 
--- That it did not hold is absurd: so much can be had of a world, which keeps no history. What can be told by looking holds then.
-abbrev pub CannotFail : Type 0 → Type 0
-CannotFail P = (P → ⊥) → ⊥
-
 -- how an owner publishes, and the stream that it does
 abbrev pub output_in : Seen → Who → Output
 output_in seen A = seen.a.output
