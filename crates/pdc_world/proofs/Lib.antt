@@ -6,3 +6,4 @@ pub mod Parts
 pub mod Heard
 pub mod Frames
 pub mod Placed
+pub mod Played

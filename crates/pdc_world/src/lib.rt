@@ -14,6 +14,7 @@ mod arrivals;
 mod known;
 mod ledger;
 mod named;
+mod play;
 mod plays;
 mod publishes;
 mod receiver;

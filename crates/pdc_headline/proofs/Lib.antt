@@ -1,0 +1,12 @@
+pub mod Stable
+pub mod Told
+pub mod Reading
+pub mod Histories
+pub mod Rising
+pub mod Rows
+pub mod Genuine
+pub mod Valid
+pub mod Layouts
+pub mod Cuts
+pub mod Sources
+pub mod Worlds

@@ -1,0 +1,91 @@
+-- The instants that are listed of an owner are those of the rows that it published.
+use Rattle.std.proofs.Common.{◌≡◌, ℕ, Bool, true, false, List, [], ◌∷◌, ◌++◌, cond, filter, map, refl, sym, ap, subst, ◌∙◌, Some, None}
+use Rattle.pdc_event.specs.Event.{who_of}
+use Rattle.pdc_event.specs.declared.reply.Published.{Published}
+use Rattle.pdc_history.specs.Lives.{rows_of_one}
+use Rattle.pdc_history.specs.Marks as marks
+use Rattle.pdc_history.specs.History.{IsHistory}
+use Rattle.pdc_history.specs.World.{A, B, M, Who, World, Happened, Sends, Comes, PassesBy, Ticks, Publishes, Ends, first_mark, is_same, published, published_at}
+use Rattle.pdc_row.specs.Rising.{Rises}
+use Rattle.pdc_row.specs.RowView.{RowView, row_instants}
+use Rattle.pdc_world.specs.Replies.{listed, listed_at, name_of}
+use Rattle.pdc_headline.specs.Published.{InstantsRise}
+use Rattle.pdc_headline.specs.Seen.{AreRising, Seen, instants_of}
+use Rattle.pdc_headline.proofs.Histories.{seen_in}
+use Rattle.pdc_headline.proofs.Stable.{all_rising}
+use Rattle.pdc_headline.proofs.Told.{CannotFail, so_does}
+
+pub same_who : (who : Who) → who_of (name_of who) ≡ who
+same_who A = refl
+same_who B = refl
+same_who M = refl
+
+-- the instants of those that pass
+abbrev instants_where : {X : Type 0} → (X → Bool) → (X → ℕ) → List X → List ℕ
+instants_where p f xs = map f (filter p xs)
+
+one_more : {X : Type 0} (p : X → Bool) (f : X → ℕ) (x : X) (xs ys : List X) (b : Bool) → instants_where p f (xs ++ ys) ≡ instants_where p f xs ++ instants_where p f ys
+    → map f (cond b (x ∷ filter p (xs ++ ys)) (filter p (xs ++ ys))) ≡ map f (cond b (x ∷ filter p xs) (filter p xs)) ++ instants_where p f ys
+one_more p f x xs ys true e = ap (λ (ns : List ℕ). f x ∷ ns) e
+one_more p f x xs ys false e = e
+
+joined : {X : Type 0} (p : X → Bool) (f : X → ℕ) (xs ys : List X) → instants_where p f (xs ++ ys) ≡ instants_where p f xs ++ instants_where p f ys
+joined p f [] ys = refl
+joined p f (x ∷ xs) ys = one_more p f x xs ys (p x) (joined p f xs ys)
+
+mapped_on : {X Y : Type 0} (f : X → Y) (g : Y → ℕ) (xs : List X) → map g (map f xs) ≡ map (λ (x : X). g (f x)) xs
+mapped_on f g [] = refl
+mapped_on f g (x ∷ xs) = ap (λ (ns : List ℕ). g (f x) ∷ ns) (mapped_on f g xs)
+
+-- a row that was published, and one that was listed, are of this owner
+abbrev is_by : Who → Who × RowView → Bool
+is_by who r = is_same r.0 who
+
+abbrev is_listed_by : Who → Published → Bool
+is_listed_by who row = is_same (who_of row.who) who
+
+abbrev instant_in : Who × RowView → ℕ
+instant_in r = r.1.instant
+
+abbrev instant_listed : Published → ℕ
+instant_listed row = row.instant
+
+one_kept : (b : Bool) (row : Published) (r : Who × RowView) → instant_listed row ≡ instant_in r → map instant_listed (cond b (row ∷ []) []) ≡ map instant_in (cond b (r ∷ []) [])
+one_kept true row r e = ap (λ (n : ℕ). n ∷ []) e
+one_kept false row r e = refl
+
+same_at : (W : World) (H : List Happened) (who : Who) (h : Happened) → instants_of who (listed_at W H h) ≡ instants_where (is_by who) instant_in (published_at h)
+same_at W H who (Publishes A (Some row)) = one_kept (is_same A who) _ (A, row) refl
+same_at W H who (Publishes B (Some row)) = one_kept (is_same B who) _ (B, row) refl
+same_at W H who (Publishes M (Some row)) = one_kept (is_same M who) _ (M, row) refl
+same_at W H who (Publishes A None) = refl
+same_at W H who (Publishes B None) = refl
+same_at W H who (Publishes M None) = refl
+same_at W H who (Sends bytes) = refl
+same_at W H who (Comes v e) = refl
+same_at W H who (PassesBy v) = refl
+same_at W H who (Ticks v e) = refl
+same_at W H who (Ends v mark) = refl
+
+same_instants : (W : World) (H : List Happened) (who : Who) → instants_of who (listed W H) ≡ instants_where (is_by who) instant_in (published H)
+same_instants W [] who = refl
+same_instants W (h ∷ H) who =
+    joined (is_listed_by who) instant_listed (listed W H) (listed_at W H h)
+    ∙ ap (λ (ns : List ℕ). ns ++ instants_of who (listed_at W H h)) (same_instants W H who)
+    ∙ ap (λ (ns : List ℕ). instants_where (is_by who) instant_in (published H) ++ ns) (same_at W H who h)
+    ∙ sym (joined (is_by who) instant_in (published H) (published_at h))
+
+of_rows : (H : List Happened) (who : Who) → row_instants (rows_of_one who (published H)) ≡ instants_where (is_by who) instant_in (published H)
+of_rows H who = mapped_on (λ (r : Who × RowView). r.1) (λ (r : RowView). r.instant) (filter (is_by who) (published H))
+
+without_low : (low : ℕ) (ns : List ℕ) → Rises low ns → AreRising ns
+without_low low [] k = tt
+without_low low (n ∷ ns) k = k.1
+
+pub instants_rise_in : marks.InstantsRise → (W : World) (H : List Happened) → IsHistory W H → InstantsRise (seen_in W H)
+instants_rise_in R W H is who =
+    subst AreRising (of_rows H who ∙ sym (same_instants W H who)) (without_low (first_mark W who).floor (row_instants (rows_of_one who (published H))) (R W H who is))
+
+-- whatever is seen
+pub rise : (seen : Seen) → CannotFail (InstantsRise seen) → InstantsRise seen
+rise seen k who = all_rising (instants_of who seen.published) (so_does (λ (r : InstantsRise seen). r who) k)

@@ -1,0 +1,19 @@
+use Rattle.pdc_history.specs.World.{M}
+use Rattle.pdc_headline.specs.Seen.{seen_of}
+use Rattle.pdc_headline.proofs.Cuts.{CutLaws}
+use Rattle.pdc_headline.proofs.Genuine.{MergerIsGenuine, merger_in}
+use Rattle.pdc_headline.proofs.Sources.{genuine_frames_hold}
+use Rattle.pdc_headline.proofs.Worlds.{of_world}
+use Rattle.pdc_headline.proofs.laws.merged_blocks_are_genuine.Goals as goal
+
+pub returns : goal.returns
+returns g c =
+    let C : CutLaws = record {
+      parts = c.parts_keep_their_words.ensures;
+      one_config = c.configurations_are_read_in_one_way.ensures.same;
+      one_cut = c.payloads_are_cut_in_one_way.ensures.same;
+      size = c.payloads_are_cut_in_one_way.ensures.size;
+      found = c.payloads_are_cut_in_one_way.ensures.found;
+    } in
+    genuine_frames_hold c.instant_is_nearest.ensures.computed C (seen_of c.args.world.now) M
+    (of_world MergerIsGenuine c.args.world.now (merger_in c.merged_blocks_are_genuine.ensures.genuine) c.holds_some_history.ensures)

@@ -1,0 +1,24 @@
+-- What is seen of rows that were published (this profile).
+use Rattle.std.specs.Prelude.{◌≡◌, ℕ, List, Some}
+use Rattle.std.specs.List.{AllByRecursion, slice_get}
+use Rattle.pdc_event.specs.Event.{who_of}
+use Rattle.pdc_event.specs.declared.reply.Published.{Published}
+use Rattle.pdc_history.specs.World.{Who}
+use Rattle.pdc_life.specs.Reading.{IsData}
+use Rattle.pdc_headline.specs.Seen.{Seen, AreRising, instants_of, stream_in}
+
+-- Over all lives of an owner the instants that it published strictly rise.
+abbrev pub InstantsRise : Seen → Type 0
+InstantsRise seen = (who : Who) → AreRising (instants_of who seen.published)
+
+-- The frame of the row is the one with its number among those that were sent: data of its owner for its instant.
+pub record IsSentData (seen : Seen) (row : Published) : Type 0 where
+  pub bytes : List ℕ
+  pub there : slice_get seen.frames row.number ≡ Some bytes
+  pub quality : ℕ
+  pub payload : List ℕ
+  pub is_data : IsData (stream_in seen (who_of row.who)) bytes row.instant quality payload
+
+-- So is that of each row.
+abbrev pub RowsAreSentData : Seen → Type 0
+RowsAreSentData seen = AllByRecursion (IsSentData seen) seen.published
