@@ -99,42 +99,43 @@ above n e = omega (arith, e)
 below : (n : ℕ) → 2 ^ 32 ≤ n → 4294967295 < n
 below n e = omega (arith, e)
 
-why_stop : (W : World) (H : List Happened) (what : Asked) (refusal : StopFault) (n : ℕ) → ((cause : Cause) → IsFault W H what cause → 2 ^ 32 ≤ n)
+why_stop : (W : World) (H : List Happened) (what : Asked) (refusal : StopFault) (told : Fault) (n : ℕ) → ((cause : Cause) → IsFault W H what cause → 2 ^ 32 ≤ n)
     → (2 ^ 32 ≤ n → IsFault W H what asked.StartsUsedUp) → (refusal ≡ stop.StartsUsedUp → 2 ^ 32 ≤ n) → (2 ^ 32 ≤ n → refusal ≡ stop.StartsUsedUp)
-    → IsWhy W H what (fault_of_stop refusal)
-why_stop W H what stop.StartsUsedUp n only cause used from = cause (used refl)
-why_stop W H what stop.NoMemory n only cause used from = λ other it. let e : stop.NoMemory ≡ stop.StartsUsedUp = from (only other it) in cc
+    → told ≡ fault_of_stop refusal → IsWhy W H what told
+why_stop W H what stop.StartsUsedUp told n only cause used from is = subst (λ (f : Fault). IsWhy W H what f) (sym is) (cause (used refl))
+why_stop W H what stop.NoMemory told n only cause used from is =
+    subst (λ (f : Fault). IsWhy W H what f) (sym is) (λ other it. let e : stop.NoMemory ≡ stop.StartsUsedUp = from (only other it) in cc)
 
 -- a stop that begins the next life
-why_next : (W : World) (H : List Happened) (who : Who) (what : Asked) (refusal : StopFault) (old : Stored) → ((cause : Cause) → IsFault W H what cause → 2 ^ 32 ≤ (mark_of W H who).start + 1)
+why_next : (W : World) (H : List Happened) (who : Who) (what : Asked) (refusal : StopFault) (told : Fault) (old : Stored) → ((cause : Cause) → IsFault W H what cause → 2 ^ 32 ≤ (mark_of W H who).start + 1)
     → (2 ^ 32 ≤ (mark_of W H who).start + 1 → IsFault W H what asked.StartsUsedUp) → old ≡ mark_of W H who → (mark_of W H who).start < 2 ^ 32
-    → ((refusal ≡ stop.StartsUsedUp) ↔ (old.start ≡ 4294967295)) → IsWhy W H what (fault_of_stop refusal)
-why_next W H who what refusal old only cause marked fits used =
+    → ((refusal ≡ stop.StartsUsedUp) ↔ (old.start ≡ 4294967295)) → told ≡ fault_of_stop refusal → IsWhy W H what told
+why_next W H who what refusal told old only cause marked fits used is =
     let same : old.start ≡ (mark_of W H who).start = ap (λ (s : Stored). s.start) marked in
-    why_stop W H what refusal ((mark_of W H who).start + 1) only cause
-    (λ e. omega (arith, used.0 e, same)) (λ past. used.1 (omega (arith, past, fits, same)))
+    why_stop W H what refusal told ((mark_of W H who).start + 1) only cause
+    (λ e. omega (arith, used.0 e, same)) (λ past. used.1 (omega (arith, past, fits, same))) is
 
-pub why_stopped : (W : World) (H : List Happened) (who : Who) (refusal : StopFault) (old : Stored) → old ≡ mark_of W H who → (mark_of W H who).start < 2 ^ 32
-    → ((refusal ≡ stop.StartsUsedUp) ↔ (old.start ≡ 4294967295)) → IsWhy W H (asked.Stop who) (fault_of_stop refusal)
-why_stopped W H who refusal old marked fits used = why_next W H who (asked.Stop who) refusal old (stop_cause W H who) (λ past. past) marked fits used
+pub why_stopped : (W : World) (H : List Happened) (who : Who) (refusal : StopFault) (told : Fault) (old : Stored) → old ≡ mark_of W H who → (mark_of W H who).start < 2 ^ 32
+    → ((refusal ≡ stop.StartsUsedUp) ↔ (old.start ≡ 4294967295)) → told ≡ fault_of_stop refusal → IsWhy W H (asked.Stop who) told
+why_stopped W H who refusal told old marked fits used is = why_next W H who (asked.Stop who) refusal told old (stop_cause W H who) (λ past. past) marked fits used is
 
-pub why_stopped_in : (W : World) (H : List Happened) (who : Who) (landed : Bool) (refusal : StopFault) (old : Stored) → old ≡ mark_of W H who → (mark_of W H who).start < 2 ^ 32
-    → ((refusal ≡ stop.StartsUsedUp) ↔ (old.start ≡ 4294967295)) → IsWhy W H (asked.StopIn who landed) (fault_of_stop refusal)
-why_stopped_in W H who landed refusal old marked fits used =
-    why_next W H who (asked.StopIn who landed) refusal old (stop_in_cause W H who landed)
-    (λ past. subst (λ (n : ℕ). 2 ^ 32 ≤ n + 1) (sym (in_start landed W H who)) past) marked fits used
+pub why_stopped_in : (W : World) (H : List Happened) (who : Who) (landed : Bool) (refusal : StopFault) (told : Fault) (old : Stored) → old ≡ mark_of W H who → (mark_of W H who).start < 2 ^ 32
+    → ((refusal ≡ stop.StartsUsedUp) ↔ (old.start ≡ 4294967295)) → told ≡ fault_of_stop refusal → IsWhy W H (asked.StopIn who landed) told
+why_stopped_in W H who landed refusal told old marked fits used is =
+    why_next W H who (asked.StopIn who landed) refusal told old (stop_in_cause W H who landed)
+    (λ past. subst (λ (n : ℕ). 2 ^ 32 ≤ n + 1) (sym (in_start landed W H who)) past) marked fits used is
 
-pub why_stopped_in_tick : (W : World) (H : List Happened) (who : Who) (landed : Bool) (refusal : StopFault) (old : Stored) → old ≡ mark_of W H who → (mark_of W H who).start < 2 ^ 32
-    → ((refusal ≡ stop.StartsUsedUp) ↔ (old.start ≡ 4294967295)) → IsWhy W H (asked.StopInTick who landed) (fault_of_stop refusal)
-why_stopped_in_tick W H who landed refusal old marked fits used =
-    why_next W H who (asked.StopInTick who landed) refusal old (stop_in_tick_cause W H who landed)
-    (λ past. subst (λ (n : ℕ). 2 ^ 32 ≤ n + 1) (sym (tick_start landed W H who)) past) marked fits used
+pub why_stopped_in_tick : (W : World) (H : List Happened) (who : Who) (landed : Bool) (refusal : StopFault) (told : Fault) (old : Stored) → old ≡ mark_of W H who → (mark_of W H who).start < 2 ^ 32
+    → ((refusal ≡ stop.StartsUsedUp) ↔ (old.start ≡ 4294967295)) → told ≡ fault_of_stop refusal → IsWhy W H (asked.StopInTick who landed) told
+why_stopped_in_tick W H who landed refusal told old marked fits used is =
+    why_next W H who (asked.StopInTick who landed) refusal told old (stop_in_tick_cause W H who landed)
+    (λ past. subst (λ (n : ℕ). 2 ^ 32 ≤ n + 1) (sym (tick_start landed W H who)) past) marked fits used is
 
-pub why_stopped_at_start : (W : World) (H : List Happened) (who : Who) (landed : Bool) (refusal : StopFault) (old : Stored) → old ≡ mark_of W H who
-    → ((refusal ≡ stop.StartsUsedUp) ↔ (4294967295 < (if landed then old.start + 2 else old.start + 1))) → IsWhy W H (asked.StopAtStart who landed) (fault_of_stop refusal)
-why_stopped_at_start W H who landed refusal old marked used =
+pub why_stopped_at_start : (W : World) (H : List Happened) (who : Who) (landed : Bool) (refusal : StopFault) (told : Fault) (old : Stored) → old ≡ mark_of W H who
+    → ((refusal ≡ stop.StartsUsedUp) ↔ (4294967295 < (if landed then old.start + 2 else old.start + 1))) → told ≡ fault_of_stop refusal → IsWhy W H (asked.StopAtStart who landed) told
+why_stopped_at_start W H who landed refusal told old marked used is =
     let same : (if landed then old.start + 2 else old.start + 1) ≡ (if landed then (mark_of W H who).start + 2 else (mark_of W H who).start + 1) =
     ap (λ (s : Stored). if landed then s.start + 2 else s.start + 1) marked in
-    why_stop W H (asked.StopAtStart who landed) refusal (if landed then (mark_of W H who).start + 2 else (mark_of W H who).start + 1) (stop_at_start_cause W H who landed)
+    why_stop W H (asked.StopAtStart who landed) refusal told (if landed then (mark_of W H who).start + 2 else (mark_of W H who).start + 1) (stop_at_start_cause W H who landed)
     (λ past. subst (λ (n : ℕ). 2 ^ 32 ≤ n) (sym (next_start landed (mark_of W H who))) past)
-    (λ e. above _ (subst (λ (n : ℕ). 4294967295 < n) same (used.0 e))) (λ past. used.1 (subst (λ (n : ℕ). 4294967295 < n) (sym same) (below _ past)))
+    (λ e. above _ (subst (λ (n : ℕ). 4294967295 < n) same (used.0 e))) (λ past. used.1 (subst (λ (n : ℕ). 4294967295 < n) (sym same) (below _ past))) is
