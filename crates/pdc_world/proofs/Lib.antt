@@ -7,3 +7,6 @@ pub mod Heard
 pub mod Frames
 pub mod Placed
 pub mod Played
+pub mod Agreements
+pub mod Openings
+pub mod Told

@@ -1,5 +1,5 @@
 -- Acts of one core, as what they make happen.
-use Rattle.std.proofs.Common.{◌≡◌, ℕ, ◌+◌, ◌^◌, ◌<◌, ◌≤◌, Bool, true, false, List, [], ◌∷◌, ◌++◌, length, nat_lt, Option, Some, None, Result, Ok, Err, IfOk, option_map, refl, sym, ap, subst, cond, ◌∙◌, arith}
+use Rattle.std.proofs.Common.{◌≡◌, ℕ, ◌+◌, ◌^◌, ◌<◌, Bool, List, [], ◌∷◌, ◌++◌, length, nat_lt, Option, Some, None, Result, Ok, Err, IfOk, option_map, refl, sym, ap, subst, cond, ◌∙◌, arith}
 use Rattle.std.proofs.lemmas.Bool.{lt-ltb}
 use Rattle.std.proofs.lemmas.List.{append-nil}
 use Rattle.pdc_align.specs.Align.{new_change, ticked_of}
@@ -14,22 +14,22 @@ use Rattle.pdc_history.specs.Asked.{Asked, IsReadOf}
 use Rattle.pdc_history.specs.Asked as asked
 use Rattle.pdc_history.specs.Event.{Event, Bring, Miss, happens}
 use Rattle.pdc_history.specs.Event as event
-use Rattle.pdc_history.specs.History.{HasStart, MayCome, MayHappen}
+use Rattle.pdc_history.specs.History.{MayCome, MayHappen}
 use Rattle.pdc_event.specs.declared.fault.Fault.{Fault}
 use Rattle.pdc_history.specs.Play.{IsStepOf}
 use Rattle.pdc_history.specs.World.{Who, World, Happened, Sends, Comes, PassesBy, Ticks, Publishes, Ends, given_by, given_in, lead_of, life_of, mark_of, opened_with, output_of, raised, reserved, rules_of, sent, sent_at}
 use Rattle.pdc_life.specs.Answer.{Rules, ToArrive, ToPop, ToTick, answered, pop_answer, tick_answer, waiting_counts}
 use Rattle.pdc_life.specs.Arrival.{Arrival}
 use Rattle.pdc_life.specs.Given.{Given}
-use Rattle.pdc_life.specs.Life.{Entry, Arrive, Pop, Tick, changes}
+use Rattle.pdc_life.specs.Life.{Entry, Tick, changes}
 use Rattle.pdc_life.specs.Published.{layout_wire}
 use Rattle.pdc_life.specs.declared.outcome.Outcome.{Outcome}
 use Rattle.pdc_mark.specs.declared.stored.Stored.{Stored}
 use Rattle.pdc_output.specs.declared.output.Output.{Output}
 use Rattle.pdc_row.specs.RowView.{RowView}
 use Rattle.pdc_station.specs.Station.{with_waiting}
-use Rattle.pdc_world.specs.Acts.{IsAct, IsOne, IsSend, IsPart, HasCome, Keeps, frames_with, layouts_of, listed_with}
-use Rattle.pdc_world.specs.Replies.{listed, listed_at, name_of, published_as, reply_of}
+use Rattle.pdc_world.specs.Acts.{IsAct, IsSend, IsPart, Keeps, frames_with, layouts_of, listed_with}
+use Rattle.pdc_world.specs.Replies.{listed_at, published_as}
 use Rattle.pdc_world.specs.Views.{LedgerView}
 use Rattle.pdc_world.proofs.Own.{come_comes, come_ends, come_passes, come_publishes, come_ticks, name_back, same_itself, same_output}
 
@@ -183,11 +183,11 @@ published_made W H w rules given Reads ids lead Before After old new l m row out
 -- ---- stops
 
 pub ended_made : (W : World) (H : List Happened) (w : WhoData) (asked : Asked) (event : Event) (begun : Stored) (rules : Rules) (given : (start floor : ℕ) → List ℕ → Given)
-    (Reads : ℕ → List ℕ → Arrival → Type 0) (ids : List ℕ) (lead : ℕ) (Before After : Given → List Entry → Type 0) (old new : Stored) (l : LedgerView)
+    (Reads : ℕ → List ℕ → Arrival → Type 0) (ids : List ℕ) (lead : ℕ) (Before After : Given → List Entry → Type 0) (old new : Stored) (l : LedgerView) (said : Reply)
     → IsPart W H (who_of w) rules given Reads ids lead Before old l → IsReadOf W H asked event → happens W H event ≡ Ends (who_of w) begun
     → (begun.start < 2 ^ 32 → MayHappen W H event) → new ≡ begun → new.start < 2 ^ 32 → After (given new.start new.floor new.counts) []
-    → IsAct W H (who_of w) asked After new l (reply.Stopped w new.start new.floor)
-ended_made W H w asked event begun rules given Reads ids lead Before After old new l part read made may same fits stands =
+    → said ≡ reply.Stopped w new.start new.floor → IsAct W H (who_of w) asked After new l said
+ended_made W H w asked event begun rules given Reads ids lead Before After old new l said part read made may same fits stands is =
     let v : Who = who_of w in
     record {
       happened = Ends v begun;
@@ -197,7 +197,7 @@ ended_made W H w asked event begun rules given Reads ids lead Before After old n
           come_ends W H v begun After new
           (subst (λ (s : Stored). After (given_by W v s) []) same (subst (λ (g : Given). After g []) (part.one.same_given new) stands)) same;
       keeps = quiet W H (Ends v begun) l part.keeps refl refl;
-      told = ap (λ (s : Stored). reply.Stopped w s.start s.floor) same ∙ ap (λ (x : WhoData). reply.Stopped x begun.start begun.floor) (sym (name_back w));
+      told = is ∙ ap (λ (s : Stored). reply.Stopped w s.start s.floor) same ∙ ap (λ (x : WhoData). reply.Stopped x begun.start begun.floor) (sym (name_back w));
     }
 
 -- ---- sends

@@ -10,11 +10,13 @@
 #![tactic(auto)]
 
 mod act;
+mod agree;
 mod arrivals;
 mod known;
 mod ledger;
 mod named;
 mod play;
+mod opening;
 mod plays;
 mod publishes;
 mod receiver;
@@ -23,4 +25,5 @@ mod stops;
 mod ticks;
 mod world;
 
+pub use opening::Leads;
 pub use world::World;
