@@ -1,5 +1,5 @@
 //! All frames that were ever sent.
-ghost use Rattle.std.specs.Prelude.{◌≡◌, ◌<◌, ◌≤◌, ◌+◌, ◌↔◌, [], ◌∷◌, ◌++◌, true, false, length, option_map, IfErr, IfOk, IsOk, IsTrue, OnErr, OnOk};
+ghost use Rattle.std.specs.Prelude.{◌≡◌, ◌<◌, ◌≤◌, ◌+◌, ◌↔◌, [], ◌∷◌, ◌++◌, true, false, length, option_map, IfErr, IfOk, IsErrOf, IsOk, IsTrue, OnErr, OnOk};
 ghost use Rattle.std.specs.List.{Contains, slice_get};
 ghost use Rattle.pdc_frame.specs.declared.limits.TheConstants.{MAX_SIZE};
 ghost use Rattle.pdc_sent.specs.Histories.{HasCause, MayBeSent};
@@ -137,6 +137,8 @@ impl Sent {
         // The same in the words of the world.
         ensures event { OnOk result (MayBeSent self.old bytes.now) }
         ensures cause { IfErr result (HasCause self.old bytes.now) }
+        // Memory is asked for only where it may happen.
+        ensures memory { IsErrOf result SendFault.NoMemory → MayBeSent self.old bytes.now }
     {
         let bucket = bucket_for(&self.settings, &self.frames, &self.by_key, bytes)?;
         self.reserve().map_err(|_| SendFault::NoMemory)?;

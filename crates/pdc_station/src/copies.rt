@@ -4,8 +4,8 @@ ghost use Rattle.std.specs.Prelude.{◌≡◌};
 use arrayvec::ArrayVec;
 use pdc_life::{MergerSettings, Settings};
 
-/// A copy of a node's settings.
-pub(crate) fn copy_of(settings: &Settings) -> Settings
+/// A copy of a node's settings, which takes no memory.
+pub fn copy_of(settings: &Settings) -> Settings
     ensures { result ≡ settings.now }
 {
     let mut pmus = ArrayVec::new();

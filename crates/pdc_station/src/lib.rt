@@ -1,13 +1,14 @@
 //! A station of the world: a core with its mark, over all its lives (this profile).
 //!
 //! The first type to look at is [`Station`]: it hears, ticks and publishes as the present life of its core does, and raises its mark
-//! before each tick and each publish that needs it. A stop ends the life, and the station goes on with the next one, which begins
-//! with what the mark then stores ([`Opens`]).
+//! before each tick and each publish that needs it. A stop ends the life, and the station goes on with the next one. Each life, the
+//! first one too, begins with what the mark then stores, and that is a start number of its own ([`Opens`]).
 //!
 //! To the layers above this crate promises that each call leaves the life and the mark that the definitions of the world have: a
 //! tick is handed the counts of the raised mark, and a row goes out only once its instant is stored.
 #![tactic(auto)]
 
+mod begins;
 mod copies;
 mod fault;
 mod laws;
@@ -17,6 +18,7 @@ mod station;
 mod stops;
 mod stores;
 
+pub use copies::copy_of;
 pub use fault::StopFault;
 pub use laws::rows_are_published;
 pub use opens::Opens;

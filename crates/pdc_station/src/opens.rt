@@ -1,4 +1,4 @@
-//! Cores whose next life can be begun.
+//! Cores of which each life can be begun.
 ghost use Rattle.std.specs.Prelude.{◌≡◌, ℕ, [], IfOk, List};
 ghost use Rattle.pdc_life.specs.Given.{Given, given_of};
 ghost use Rattle.pdc_life.specs.Life.{Entry};
@@ -6,14 +6,14 @@ ghost use Rattle.pdc_life.specs.MergerReading.{given_of_merger};
 
 use crate::copies::{copy_of, copy_of_merger};
 use pdc_core::Core;
-use pdc_life::MAX_PMUS;
+use pdc_life::{MAX_PMUS, MergerSettings, Settings};
 use pdc_merge::Merger;
 use pdc_node::Node;
 use pdc_output::Output;
 use pdc_table::Table;
 use std::alloc::{AllocError, Global};
 
-/// A core from whose settings another one is opened: the next life of its owner.
+/// A core that is opened for the first life of its owner from settings, and from whose settings another one is opened: the next life.
 pub trait Opens: Core + Drop {
     // What is given to a life by the settings, and by a start number, a floor and counts; what counts as now is 0 until a tick.
     ghost given_with: { Self.Settings → (start floor : ℕ) → List ℕ → Given };
@@ -21,6 +21,22 @@ pub trait Opens: Core + Drop {
     /// What its frames say of itself.
     fn output(&self) -> Output
         ensures { (g : Given) (E : List Entry) → Self.stands_for self.now g E → result ≡ g.output };
+
+    /// A core of these settings at the start of a life: the number of the start, the instant up to which all is published, and
+    /// for each column the count below which no section is held.
+    ///
+    /// # Errors
+    ///
+    /// [`AllocError`] where there is no memory.
+    fn open_first(
+        alloc: Global,
+        settings: Self::Settings,
+        start: u32,
+        floor: u64,
+        counts: &[u16; MAX_PMUS],
+    ) -> Result<Self, AllocError>
+        ensures stands { IfOk result (λ first. Self.stands_for first (given_with settings start floor counts.now) []) }
+        ensures settings { IfOk result (λ first. Self.settings_of first ≡ settings) };
 
     /// A core of the same settings at the start of a life: the number of the start, the instant up to which all is published, and
     /// for each column the count below which no section is held.
@@ -46,6 +62,16 @@ impl<T: Table> Opens for Node<T> {
         self.settings().output
     }
 
+    fn open_first(
+        alloc: Global,
+        settings: Settings,
+        start: u32,
+        floor: u64,
+        counts: &[u16; MAX_PMUS],
+    ) -> Result<Node<T>, AllocError> {
+        Node::open(alloc, settings, start, floor, counts, 0)
+    }
+
     fn open_next(
         &self,
         alloc: Global,
@@ -62,6 +88,16 @@ impl<T: Table> Opens for Merger<T> {
 
     fn output(&self) -> Output {
         self.settings().output
+    }
+
+    fn open_first(
+        alloc: Global,
+        settings: MergerSettings,
+        start: u32,
+        floor: u64,
+        counts: &[u16; MAX_PMUS],
+    ) -> Result<Merger<T>, AllocError> {
+        Merger::open(alloc, settings, start, floor, counts, 0)
     }
 
     fn open_next(

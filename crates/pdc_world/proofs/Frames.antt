@@ -1,6 +1,6 @@
 -- The frames that cores send fit, and are no PMU's.
-use Rattle.std.proofs.Common.{◌≡◌, ℕ, ◌+◌, ◌^◌, ◌<◌, ◌≤◌, Bool, true, false, List, [], ◌∷◌, ◌++◌, length, nat_lt, Option, Some, None, IfSome, IsSome, is_some, option_map, Result, Ok, Err, IsOk, refl, sym, ap, subst, cond, ◌∙◌, arith, lit<}
-use Rattle.std.specs.List.{AllByRecursion, Contains, slice_get}
+use Rattle.std.proofs.Common.{◌≡◌, ℕ, ◌+◌, ◌≤◌, Bool, true, false, List, [], ◌∷◌, ◌++◌, length, nat_lt, Option, Some, None, IfSome, IsSome, is_some, option_map, Result, Ok, Err, IsOk, refl, sym, ap, subst, cond, ◌∙◌, arith, lit<}
+use Rattle.std.specs.List.{AllByRecursion, Contains}
 use Rattle.std.proofs.lemmas.Bool.{lt-ltb, ltb-false, ltb-true}
 use Rattle.std.proofs.lemmas.List.{append-nil}
 use Rattle.pdc_align.specs.Align.{new_change, ticked_of}
@@ -11,7 +11,7 @@ use Rattle.pdc_history.specs.Event as event
 use Rattle.pdc_history.specs.Genuine.{IsPublishedData}
 use Rattle.pdc_history.specs.History.{IsHistory}
 use Rattle.pdc_history.specs.Lives.{IsLifeOf}
-use Rattle.pdc_history.specs.World.{Who, A, B, M, World, Happened, Ticks, Publishes, given_by, given_in, life_of, mark_of, opened_with, output_of, published, raised, sent_at}
+use Rattle.pdc_history.specs.World.{Who, A, B, M, World, Happened, Ticks, Publishes, given_by, given_in, life_of, opened_with, output_of, published, raised}
 use Rattle.pdc_life.specs.Answer.{Rules, ToTick, answered, pop_answer, tick_answer, waiting_counts}
 use Rattle.pdc_life.specs.Arrival.{Arrival}
 use Rattle.pdc_life.specs.Given.{Given}
@@ -19,7 +19,6 @@ use Rattle.pdc_life.specs.Life.{Entry, Tick, changes}
 use Rattle.pdc_life.specs.Published.{layout_wire}
 use Rattle.pdc_life.specs.Run.{IsRun}
 use Rattle.pdc_life.specs.declared.given.Settings.{Settings}
-use Rattle.pdc_life.specs.declared.pmu.Pmu.{Pmu}
 use Rattle.pdc_mark.specs.declared.stored.Stored.{Stored}
 use Rattle.pdc_output.specs.Layout.{wire_of}
 use Rattle.pdc_output.specs.declared.output.Output.{Output}
@@ -30,7 +29,7 @@ use Rattle.pdc_station.specs.Station.{wire_of_some, with_waiting}
 use Rattle.pdc_world.specs.Acts.{IsPart, IsSomeFrame, IsSomePart, Keeps, frames_if, frames_with, layouts_of}
 use Rattle.pdc_world.specs.Known.{FramesAreKnown}
 use Rattle.pdc_world.specs.Views.{LedgerView}
-use Rattle.pdc_world.proofs.Own.{come_ticks, same_output}
+use Rattle.pdc_world.proofs.Own.{same_output}
 
 -- a bound that is not absurd
 by_test : (a b : ℕ) (over : Bool) → nat_lt b a ≡ over → ((a ≤ b → ⊥) → ⊥) → a ≤ b

@@ -1,5 +1,5 @@
 -- Bytes that come to the stream that they name.
-use Rattle.std.proofs.Common.{◌≡◌, Bool, true, false, not, IsTrue, ◌⊎◌, inl, inr, ℕ, List, length, slice_index_or, Some, refl, sym, ap, subst, ◌∙◌, arith}
+use Rattle.std.proofs.Common.{◌≡◌, Bool, true, false, not, IsTrue, inl, inr, ℕ, List, length, Some, refl, sym, ap, subst, ◌∙◌}
 use Rattle.std.specs.List.{Contains, slice_get}
 use Rattle.std.proofs.lemmas.Option.{get_or_from_slice_get, slice_get_read, slice_get_within}
 use Rattle.pdc_history.specs.Asked.{IsReadOf, NamesNone, Names, To, Junk}

@@ -6,3 +6,5 @@ pub mod Parts
 pub mod Heard
 pub mod Frames
 pub mod Placed
+pub mod Agreements
+pub mod Openings

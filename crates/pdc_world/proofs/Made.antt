@@ -1,5 +1,5 @@
 -- Acts of one core, as what they make happen.
-use Rattle.std.proofs.Common.{◌≡◌, ℕ, ◌+◌, ◌^◌, ◌<◌, ◌≤◌, Bool, true, false, List, [], ◌∷◌, ◌++◌, length, nat_lt, Option, Some, None, Result, Ok, Err, IfOk, option_map, refl, sym, ap, subst, cond, ◌∙◌, arith}
+use Rattle.std.proofs.Common.{◌≡◌, ℕ, ◌+◌, ◌^◌, ◌<◌, Bool, List, [], ◌∷◌, ◌++◌, length, nat_lt, Option, Some, None, Result, Ok, Err, IfOk, option_map, refl, sym, ap, subst, cond, ◌∙◌, arith}
 use Rattle.std.proofs.lemmas.Bool.{lt-ltb}
 use Rattle.std.proofs.lemmas.List.{append-nil}
 use Rattle.pdc_align.specs.Align.{new_change, ticked_of}
@@ -14,22 +14,22 @@ use Rattle.pdc_history.specs.Asked.{Asked, IsReadOf}
 use Rattle.pdc_history.specs.Asked as asked
 use Rattle.pdc_history.specs.Event.{Event, Bring, Miss, happens}
 use Rattle.pdc_history.specs.Event as event
-use Rattle.pdc_history.specs.History.{HasStart, MayCome, MayHappen}
+use Rattle.pdc_history.specs.History.{MayCome, MayHappen}
 use Rattle.pdc_event.specs.declared.fault.Fault.{Fault}
 use Rattle.pdc_history.specs.Play.{IsStepOf}
 use Rattle.pdc_history.specs.World.{Who, World, Happened, Sends, Comes, PassesBy, Ticks, Publishes, Ends, given_by, given_in, lead_of, life_of, mark_of, opened_with, output_of, raised, reserved, rules_of, sent, sent_at}
 use Rattle.pdc_life.specs.Answer.{Rules, ToArrive, ToPop, ToTick, answered, pop_answer, tick_answer, waiting_counts}
 use Rattle.pdc_life.specs.Arrival.{Arrival}
 use Rattle.pdc_life.specs.Given.{Given}
-use Rattle.pdc_life.specs.Life.{Entry, Arrive, Pop, Tick, changes}
+use Rattle.pdc_life.specs.Life.{Entry, Tick, changes}
 use Rattle.pdc_life.specs.Published.{layout_wire}
 use Rattle.pdc_life.specs.declared.outcome.Outcome.{Outcome}
 use Rattle.pdc_mark.specs.declared.stored.Stored.{Stored}
 use Rattle.pdc_output.specs.declared.output.Output.{Output}
 use Rattle.pdc_row.specs.RowView.{RowView}
 use Rattle.pdc_station.specs.Station.{with_waiting}
-use Rattle.pdc_world.specs.Acts.{IsAct, IsOne, IsSend, IsPart, HasCome, Keeps, frames_with, layouts_of, listed_with}
-use Rattle.pdc_world.specs.Replies.{listed, listed_at, name_of, published_as, reply_of}
+use Rattle.pdc_world.specs.Acts.{IsAct, IsSend, IsPart, Keeps, frames_with, layouts_of, listed_with}
+use Rattle.pdc_world.specs.Replies.{listed_at, published_as}
 use Rattle.pdc_world.specs.Views.{LedgerView}
 use Rattle.pdc_world.proofs.Own.{come_comes, come_ends, come_passes, come_publishes, come_ticks, name_back, same_itself, same_output}
 

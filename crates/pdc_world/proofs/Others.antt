@@ -1,5 +1,5 @@
 -- What happens to one core leaves the others where they have come to.
-use Rattle.std.proofs.Common.{◌≡◌, ℕ, Bool, true, false, List, [], ◌∷◌, Option, Some, None, refl, sym, ap, subst, cond, ◌∙◌}
+use Rattle.std.proofs.Common.{◌≡◌, Bool, true, false, List, ◌∷◌, Some, None, refl, sym, subst, cond}
 use Rattle.pdc_history.specs.World.{Who, A, B, M, World, Happened, Sends, Comes, PassesBy, Ticks, Publishes, Ends, begun_with, given_by, given_in, is_same, lead_of, life_of, mark_of, opened_with, reserved, since, with_counts_of, with_entry}
 use Rattle.pdc_life.specs.Given.{Given}
 use Rattle.pdc_life.specs.Life.{Entry, Pop}

@@ -1,12 +1,10 @@
 -- The parts of a world, and a world with one thing more.
-use Rattle.std.proofs.Common.{◌≡◌, ℕ, List, ◌∷◌, Result, Ok, Err, IfOk, IfErr, OnErr, refl, sym, ap, subst, ◌∙◌}
+use Rattle.std.proofs.Common.{◌≡◌, ℕ, List, ◌∷◌, Result, Ok, Err, IfOk, OnErr, refl, sym, ap, subst, ◌∙◌}
 use Rattle.pdc_event.specs.declared.fault.Fault.{Fault}
 use Rattle.pdc_event.specs.declared.reply.Reply.{Reply}
 use Rattle.pdc_history.specs.Agree.{ids_of}
 use Rattle.pdc_history.specs.Asked.{Asked}
-use Rattle.pdc_history.specs.History.{IsHistory}
 use Rattle.pdc_history.specs.World.{A, B, M, Who, World, Happened}
-use Rattle.pdc_life.specs.Arrival.{Arrival}
 use Rattle.pdc_life.specs.Given.{Given, given_of}
 use Rattle.pdc_life.specs.Life.{Entry}
 use Rattle.pdc_life.specs.Merger.{merged_answer}

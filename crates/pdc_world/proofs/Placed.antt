@@ -1,5 +1,5 @@
 -- No PMU has this stream id.
-use Rattle.std.proofs.Common.{◌≡◌, ◌≢◌, ℕ, List, slice_index_or, Option, Some, None, IfNone, option_map, refl, sym, ap, ◌∙◌}
+use Rattle.std.proofs.Common.{◌≡◌, ◌≢◌, ℕ, List, Option, Some, None, IfNone, option_map, refl, sym, ap, ◌∙◌}
 use Rattle.std.specs.List.{All, slice_get}
 use Rattle.std.proofs.lemmas.Option.{get_or_from_slice_get, slice_get-map, slice_get_within}
 use Rattle.pdc_history.specs.Agree.{ids_of}

@@ -1,5 +1,5 @@
 -- What an act of one core makes of a world: of the core and its mark, and of what was sent and published (this profile).
-use Rattle.std.specs.Prelude.{◌≡◌, ◌≤◌, ℕ, Bool, true, List, [], ◌∷◌, ◌++◌, length, if◌then◌else◌, Option, None, Some}
+use Rattle.std.specs.Prelude.{◌≡◌, ◌≤◌, ℕ, Bool, true, List, [], ◌∷◌, length, if◌then◌else◌, Option, None, Some}
 use Rattle.pdc_event.specs.declared.fault.Fault.{Fault}
 use Rattle.pdc_event.specs.declared.fault.Fault.TheVariants as fault
 use Rattle.pdc_event.specs.declared.fault.Premise.TheVariants.{OneBody, OneSection, Genuine, OneTable}

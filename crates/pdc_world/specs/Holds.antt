@@ -1,5 +1,5 @@
 -- The histories that a world holds, and what its steps make of them (this profile).
-use Rattle.std.specs.Prelude.{◌≡◌, ℕ, ◌+◌, List, [], ◌∷◌, ◌++◌, length}
+use Rattle.std.specs.Prelude.{◌≡◌, ◌+◌, List, ◌∷◌, ◌++◌, length}
 use Rattle.pdc_event.specs.declared.fault.WorldFault.{WorldFault}
 use Rattle.pdc_event.specs.declared.reply.Reply.{Reply}
 use Rattle.pdc_history.specs.Asked.{Asked}

@@ -6,3 +6,5 @@ pub mod Holds
 pub mod Named
 pub mod Known
 pub mod Receiver
+pub mod Agreement
+pub mod Opening

@@ -1,5 +1,5 @@
 -- What a world replies, and the list of what was published, by its history (this profile).
-use Rattle.std.specs.Prelude.{ℕ, List, [], ◌∷◌, ◌++◌, length, Option, None, Some, option_map}
+use Rattle.std.specs.Prelude.{ℕ, List, [], ◌∷◌, ◌++◌, length, None, Some, option_map}
 use Rattle.pdc_event.specs.declared.reply.Published.{Published}
 use Rattle.pdc_event.specs.declared.reply.Reply.{Reply}
 use Rattle.pdc_event.specs.declared.reply.Reply.TheVariants as reply

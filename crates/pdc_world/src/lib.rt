@@ -10,10 +10,12 @@
 #![tactic(auto)]
 
 mod act;
+mod agree;
 mod arrivals;
 mod known;
 mod ledger;
 mod named;
+mod opening;
 mod plays;
 mod publishes;
 mod receiver;
@@ -22,4 +24,5 @@ mod stops;
 mod ticks;
 mod world;
 
+pub use opening::Leads;
 pub use world::World;

@@ -1,6 +1,5 @@
 use Rattle.std.proofs.Common.{ap}
 use Rattle.pdc_event.specs.Event.{asked_of}
-use Rattle.pdc_world.specs.Ledger.{ledger_view}
 use Rattle.pdc_world.specs.Receiver.{core_in}
 use Rattle.pdc_world.proofs.Made.{sent_made}
 use Rattle.pdc_world.proofs.act.act.Goals as goal

@@ -1,4 +1,4 @@
-use Rattle.std.proofs.Common.{◌≡◌, ℕ, List, Some, None, ap, sym, option_map, ◌∙◌}
+use Rattle.std.proofs.Common.{◌≡◌, Some, ap, sym, option_map, ◌∙◌}
 use Rattle.std.specs.List.{slice_get}
 use Rattle.pdc_event.specs.Event.{who_of}
 use Rattle.pdc_history.specs.Asked as asked

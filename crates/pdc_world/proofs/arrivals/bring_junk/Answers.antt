@@ -1,4 +1,4 @@
-use Rattle.std.proofs.Common.{◌≡◌, ℕ, List, Some, None, ap, sym, subst, ◌∙◌}
+use Rattle.std.proofs.Common.{ℕ, List, ap, sym, subst}
 use Rattle.pdc_event.specs.Event.{who_of}
 use Rattle.pdc_history.specs.Asked as asked
 use Rattle.pdc_world.specs.Named.{IsNamed}

@@ -1,5 +1,3 @@
-use Rattle.std.proofs.Common.{List, subst}
-use Rattle.pdc_life.specs.declared.pmu.Pmu.{Pmu}
 use Rattle.pdc_world.proofs.Placed.{none_named}
 use Rattle.pdc_world.proofs.plays.pmu_of.Goals as goal
 

@@ -1,8 +1,7 @@
-use Rattle.std.proofs.Common.{◌≡◌, ℕ, List, ◌++◌, Option, option_map, ap, sym, ◌∙◌}
+use Rattle.std.proofs.Common.{ℕ, List, ◌++◌, option_map, ap, sym, ◌∙◌}
 use Rattle.pdc_event.specs.Event.{who_of}
 use Rattle.pdc_life.specs.Answer.{pop_answer}
-use Rattle.pdc_output.specs.declared.output.Output.{Output}
-use Rattle.pdc_row.specs.RowView.{RowView, row_view}
+use Rattle.pdc_row.specs.RowView.{row_view}
 use Rattle.pdc_station.specs.Station.{wire_of_some}
 use Rattle.pdc_world.specs.Ledger.{ledger_view}
 use Rattle.pdc_world.proofs.Frames.{frames_written, row_most, row_none, same_part}

@@ -1,14 +1,12 @@
-use Rattle.std.proofs.Common.{◌≡◌, ℕ, List, if◌then◌else◌, ap, sym, subst, refl, ◌∙◌}
+use Rattle.std.proofs.Common.{ap, sym, subst, refl, ◌∙◌}
 use Rattle.pdc_event.specs.Event.{who_of}
 use Rattle.pdc_event.specs.declared.reply.Reply.{Reply}
 use Rattle.pdc_history.specs.Asked as asked
 use Rattle.pdc_history.specs.Event as event
 use Rattle.pdc_history.specs.Event.{stored}
-use Rattle.pdc_history.specs.World.{given_in, lead_of, life_of, mark_of, raised, reserved}
-use Rattle.pdc_life.specs.Answer.{pop_answer, waiting_counts}
+use Rattle.pdc_history.specs.World.{mark_of}
 use Rattle.pdc_mark.specs.Stored.{with_next_start}
 use Rattle.pdc_mark.specs.declared.stored.Stored.{Stored}
-use Rattle.pdc_station.specs.Station.{with_waiting}
 use Rattle.pdc_world.specs.Acts.{IsAct}
 use Rattle.pdc_world.specs.Ledger.{ledger_view}
 use Rattle.pdc_world.proofs.Made.{ended_made}

@@ -1,11 +1,11 @@
-use Rattle.std.proofs.Common.{◌≡◌, ℕ, List, if◌then◌else◌, ap, sym, subst, refl, ◌∙◌}
+use Rattle.std.proofs.Common.{if◌then◌else◌, ap, sym, subst, refl, ◌∙◌}
 use Rattle.pdc_event.specs.Event.{who_of}
 use Rattle.pdc_event.specs.declared.reply.Reply.{Reply}
 use Rattle.pdc_history.specs.Asked as asked
 use Rattle.pdc_history.specs.Event as event
 use Rattle.pdc_history.specs.Event.{stored}
-use Rattle.pdc_history.specs.World.{given_in, lead_of, life_of, mark_of, raised, reserved}
-use Rattle.pdc_life.specs.Answer.{pop_answer, waiting_counts}
+use Rattle.pdc_history.specs.World.{given_in, life_of, mark_of, raised}
+use Rattle.pdc_life.specs.Answer.{waiting_counts}
 use Rattle.pdc_mark.specs.Stored.{with_next_start}
 use Rattle.pdc_mark.specs.declared.stored.Stored.{Stored}
 use Rattle.pdc_station.specs.Station.{with_waiting}

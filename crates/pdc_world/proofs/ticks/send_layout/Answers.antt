@@ -1,4 +1,4 @@
-use Rattle.std.proofs.Common.{◌≡◌, ◌+◌, ◌≤◌, ℕ, List, [], ◌∷◌, ◌++◌, length, ap, sym, subst, ◌∙◌, arith}
+use Rattle.std.proofs.Common.{ℕ, List, [], ◌∷◌, ◌++◌, ap, subst, ◌∙◌}
 use Rattle.pdc_life.specs.Published.{layout_wire}
 use Rattle.pdc_sent.specs.Sent.{IsOfPmu}
 use Rattle.pdc_world.proofs.Frames.{ok_stable, room_for}

@@ -1,4 +1,4 @@
-use Rattle.std.proofs.Common.{◌≡◌, ℕ, List, [], ◌∷◌, ◌++◌, refl, ap, sym, subst, ◌∙◌}
+use Rattle.std.proofs.Common.{refl, ap, sym, ◌∙◌}
 use Rattle.pdc_event.specs.Event.{who_of}
 use Rattle.pdc_world.specs.Ledger.{ledger_view}
 use Rattle.pdc_world.proofs.Frames.{layout_some, layouts_told, layouts_untold, same_part}

@@ -25,3 +25,7 @@ returns-in_err-bucket-clause-cause c =
 pub returns-clause-event : goal.returns-clause-event
 returns-clause-event c =
     may_be_sent c.args.self.now c.args.bytes.now (subst (λ (v : SentView). MaySendAfter v.settings v.frames c.args.bytes.now) c.self.view_is c.in_ok-bucket.ensures.may)
+
+pub returns-in_err-map_err-clause-memory : goal.returns-in_err-map_err-clause-memory
+returns-in_err-map_err-clause-memory c =
+    λ wanting. may_be_sent c.args.self.now c.args.bytes.now (subst (λ (v : SentView). MaySendAfter v.settings v.frames c.args.bytes.now) c.self.view_is c.in_ok-bucket.ensures.may)

@@ -1,5 +1,4 @@
-use Rattle.std.proofs.Common.{◌≡◌, ℕ, List, subst}
-use Rattle.pdc_life.specs.declared.pmu.Pmu.{Pmu}
+use Rattle.std.proofs.Common.{ℕ, List, subst}
 use Rattle.pdc_sent.specs.Sent.{IsOfPmu}
 use Rattle.pdc_world.proofs.ledger.Ledger.send_written.Goals as goal
 

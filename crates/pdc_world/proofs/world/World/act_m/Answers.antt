@@ -1,9 +1,9 @@
-use Rattle.std.proofs.Common.{◌≡◌, ℕ, List, ap, sym, subst, ◌∙◌}
+use Rattle.std.proofs.Common.{ap, sym, subst, ◌∙◌}
 use Rattle.pdc_event.specs.Event.{asked_of}
 use Rattle.pdc_world.specs.Holds.{Holds}
 use Rattle.pdc_world.specs.Ledger.{ledger_view}
 use Rattle.pdc_world.specs.Receiver.{core_in}
-use Rattle.pdc_world.specs.Views.{LedgerView, StationView, WorldView}
+use Rattle.pdc_world.specs.Views.{StationView, WorldView}
 use Rattle.pdc_merge.specs.Merger.{MergerView}
 use Rattle.pdc_world.proofs.Parts.{answered_m, as_m, on_err_map, some_m, some_again}
 use Rattle.pdc_world.proofs.world.World.act_m.Goals as goal

@@ -1,0 +1,109 @@
+-- A world whose first lives begin.
+use Rattle.std.proofs.Common.{◌≡◌, ◌^◌, ◌<◌, Bool, true, false, ◌&&◌, nat_lt, ◌⊎◌, inl, inr, List, [], sym, ap, subst, ◌∙◌, arith}
+use Rattle.std.proofs.lemmas.Bool.{and_cases, and_parts, both_ways, ltb-false, ltb-true}
+use Rattle.pdc_history.specs.Agree.{MayBegin, SettingsAgree}
+use Rattle.pdc_history.specs.World.{A, B, M, Who, World, first_mark, given_by}
+use Rattle.pdc_life.specs.Given.{Given, given_of}
+use Rattle.pdc_life.specs.Life.{Entry}
+use Rattle.pdc_life.specs.MergerReading.{given_of_merger}
+use Rattle.pdc_life.specs.declared.given.Settings.{Settings}
+use Rattle.pdc_life.specs.declared.merging.MergerSettings.{MergerSettings}
+use Rattle.pdc_mark.specs.Stored.{with_next_start}
+use Rattle.pdc_mark.specs.declared.stored.Stored.{Stored}
+use Rattle.pdc_merge.specs.Merger as merger
+use Rattle.pdc_node.specs.Node as node
+use Rattle.pdc_world.specs.Acts.{HasCome}
+use Rattle.pdc_world.specs.Agreement.{do_agree}
+use Rattle.pdc_world.specs.Holds.{Holds}
+use Rattle.pdc_world.specs.Opening.{HasNoStart, are_left, world_of}
+use Rattle.pdc_world.specs.Views.{LedgerView, WorldView}
+use Rattle.pdc_world.specs.declared.opening.Leads.{Leads}
+use Rattle.pdc_world.proofs.Agreements.{agree_from, agree_to}
+
+either : {P Q R : Type 0} → P ⊎ Q → (P → R) → (Q → R) → R
+either (inl p) f g = f p
+either (inr q) f g = g q
+
+come_first : (W : World) (v : Who) (Stands : Given → List Entry → Type 0) (mark : Stored) → mark ≡ first_mark W v → Stands (given_by W v mark) [] → HasCome W [] v Stands mark
+come_first W v Stands mark same stands = record { stands = subst (λ (s : Stored). Stands (given_by W v s) []) same stands; marked = same }
+
+-- Three starts are left.
+pub record AreLeft (of_a of_b of_m : Stored) : Type 0 where
+  pub a : of_a.start < 4294967295
+  pub b : of_b.start < 4294967295
+  pub m : of_m.start < 4294967295
+
+pub left_from : (of_a of_b of_m : Stored) → are_left of_a of_b of_m ≡ true → AreLeft of_a of_b of_m
+left_from of_a of_b of_m e =
+    let last = and_parts (nat_lt of_a.start 4294967295 && nat_lt of_b.start 4294967295) (nat_lt of_m.start 4294967295) e in
+    let first = and_parts (nat_lt of_a.start 4294967295) (nat_lt of_b.start 4294967295) last.0 in
+    record { a = ltb-true of_a.start 4294967295 first.0; b = ltb-true of_b.start 4294967295 first.1; m = ltb-true of_m.start 4294967295 last.1 }
+
+starts_left : (a b : Settings) (m : MergerSettings) (leads : Leads) (of_a of_b of_m : Stored) → AreLeft of_a of_b of_m → (who : Who)
+    → (first_mark (world_of a b m leads of_a of_b of_m) who).start < 2 ^ 32
+starts_left a b m leads of_a of_b of_m left A = omega (arith, left.a)
+starts_left a b m leads of_a of_b of_m left B = omega (arith, left.b)
+starts_left a b m leads of_a of_b of_m left M = omega (arith, left.m)
+
+pub may_begin : (a b : Settings) (m : MergerSettings) (leads : Leads) (of_a of_b of_m : Stored) → do_agree a b m ≡ true → are_left of_a of_b of_m ≡ true
+    → MayBegin (world_of a b m leads of_a of_b of_m)
+may_begin a b m leads of_a of_b of_m agree left = record {
+  settings = agree_from (world_of a b m leads of_a of_b of_m) agree;
+  starts = starts_left a b m leads of_a of_b of_m (left_from of_a of_b of_m left);
+}
+
+-- ---- why a world does not begin
+
+pub not_agreed : (a b : Settings) (m : MergerSettings) (leads : Leads) (of_a of_b of_m : Stored) (test : Bool) → test ≡ do_agree a b m → test ≡ false
+    → SettingsAgree (world_of a b m leads of_a of_b of_m) → ⊥
+not_agreed a b m leads of_a of_b of_m test is e agree = both_ways test e (is ∙ agree_to (world_of a b m leads of_a of_b of_m) agree)
+
+pub do_agree_by : (a b : Settings) (m : MergerSettings) (test : Bool) → test ≡ do_agree a b m → test ≡ true → do_agree a b m ≡ true
+do_agree_by a b m test is e = sym is ∙ e
+
+pub are_left_by : (of_a of_b of_m : Stored) (test : Bool) → test ≡ are_left of_a of_b of_m → test ≡ true → are_left of_a of_b of_m ≡ true
+are_left_by of_a of_b of_m test is e = sym is ∙ e
+
+past_a : (a b : Settings) (m : MergerSettings) (leads : Leads) (of_a of_b of_m : Stored) → nat_lt of_a.start 4294967295 ≡ false → HasNoStart (world_of a b m leads of_a of_b of_m)
+past_a a b m leads of_a of_b of_m e = record { who = A; past = omega (arith, ltb-false of_a.start 4294967295 e) }
+
+past_b : (a b : Settings) (m : MergerSettings) (leads : Leads) (of_a of_b of_m : Stored) → nat_lt of_b.start 4294967295 ≡ false → HasNoStart (world_of a b m leads of_a of_b of_m)
+past_b a b m leads of_a of_b of_m e = record { who = B; past = omega (arith, ltb-false of_b.start 4294967295 e) }
+
+past_m : (a b : Settings) (m : MergerSettings) (leads : Leads) (of_a of_b of_m : Stored) → nat_lt of_m.start 4294967295 ≡ false → HasNoStart (world_of a b m leads of_a of_b of_m)
+past_m a b m leads of_a of_b of_m e = record { who = M; past = omega (arith, ltb-false of_m.start 4294967295 e) }
+
+past_one : (a b : Settings) (m : MergerSettings) (leads : Leads) (of_a of_b of_m : Stored) → (nat_lt of_a.start 4294967295 && nat_lt of_b.start 4294967295) ≡ false
+    → HasNoStart (world_of a b m leads of_a of_b of_m)
+past_one a b m leads of_a of_b of_m e =
+    either (and_cases (nat_lt of_a.start 4294967295) (nat_lt of_b.start 4294967295) e) (past_a a b m leads of_a of_b of_m) (past_b a b m leads of_a of_b of_m)
+
+pub no_start : (a b : Settings) (m : MergerSettings) (leads : Leads) (of_a of_b of_m : Stored) (test : Bool) → test ≡ are_left of_a of_b of_m → test ≡ false
+    → HasNoStart (world_of a b m leads of_a of_b of_m)
+no_start a b m leads of_a of_b of_m test is e =
+    either (and_cases (nat_lt of_a.start 4294967295 && nat_lt of_b.start 4294967295) (nat_lt of_m.start 4294967295) (sym is ∙ e))
+    (past_one a b m leads of_a of_b of_m) (past_m a b m leads of_a of_b of_m)
+
+pub settings_agree : (a b : Settings) (m : MergerSettings) (leads : Leads) (of_a of_b of_m : Stored) → do_agree a b m ≡ true → SettingsAgree (world_of a b m leads of_a of_b of_m)
+settings_agree a b m leads of_a of_b of_m agree = agree_from (world_of a b m leads of_a of_b of_m) agree
+
+-- ---- a world that begins
+
+pub begun_holds : (a b : Settings) (m : MergerSettings) (leads : Leads) (of_a of_b of_m : Stored) (v : WorldView) → do_agree a b m ≡ true → are_left of_a of_b of_m ≡ true
+    → v.a.mark ≡ with_next_start of_a → node.StandsFor (given_of a v.a.mark.start v.a.mark.floor v.a.mark.counts 0) [] v.a.core → v.a.core.settings ≡ a → v.a.lead ≡ leads.a
+    → v.b.mark ≡ with_next_start of_b → node.StandsFor (given_of b v.b.mark.start v.b.mark.floor v.b.mark.counts 0) [] v.b.core → v.b.core.settings ≡ b → v.b.lead ≡ leads.b
+    → v.m.mark ≡ with_next_start of_m → merger.StandsFor (given_of_merger m v.m.mark.start v.m.mark.floor v.m.mark.counts 0) [] v.m.core → v.m.core.settings ≡ m → v.m.lead ≡ leads.m
+    → v.ledger ≡ record { table = a; frames = []; published = [] } → Holds (world_of a b m leads of_a of_b of_m) [] v
+begun_holds a b m leads of_a of_b of_m v agree left a_mark a_stands a_settings a_lead b_mark b_stands b_settings b_lead m_mark m_stands m_settings m_lead ledger = record {
+  history = may_begin a b m leads of_a of_b of_m agree left;
+  a_settings = a_settings;
+  b_settings = b_settings;
+  m_settings = m_settings;
+  a_lead = a_lead;
+  b_lead = b_lead;
+  m_lead = m_lead;
+  a = come_first (world_of a b m leads of_a of_b of_m) A (λ (g : Given) (E : List Entry). node.StandsFor g E v.a.core) v.a.mark a_mark a_stands;
+  b = come_first (world_of a b m leads of_a of_b of_m) B (λ (g : Given) (E : List Entry). node.StandsFor g E v.b.core) v.b.mark b_mark b_stands;
+  m = come_first (world_of a b m leads of_a of_b of_m) M (λ (g : Given) (E : List Entry). merger.StandsFor g E v.m.core) v.m.mark m_mark m_stands;
+  ledger = record { table = ap (λ (l : LedgerView). l.table) ledger; frames = ap (λ (l : LedgerView). l.frames) ledger; published = ap (λ (l : LedgerView). l.published) ledger };
+}

@@ -1,0 +1,41 @@
+-- Whether the settings of two nodes and a merger agree, as a test (this profile).
+use Rattle.std.specs.Prelude.{ℕ, ◌==◌, ◌&&◌, Bool, true, false, not, List, [], ◌∷◌}
+use Rattle.pdc_life.specs.declared.given.Settings.{Settings}
+use Rattle.pdc_life.specs.declared.merging.MergedNode.{MergedNode}
+use Rattle.pdc_life.specs.declared.merging.MergerSettings.{MergerSettings}
+use Rattle.pdc_life.specs.declared.pmu.Pmu.{Pmu}
+use Rattle.pdc_output.specs.declared.output.Output.{Output}
+
+-- the same streams with the same TIME_BASEs and sources, in the same order
+abbrev pub are_alike : List Pmu → List Pmu → Bool
+are_alike [] [] = true
+are_alike (pmu ∷ pmus) (other ∷ others) = (pmu.stream == other.stream) && (pmu.time_base == other.time_base) && (pmu.source == other.source) && are_alike pmus others
+are_alike pmus others = false
+
+-- these are their sources, in the same order
+abbrev pub are_sources : List ℕ → List Pmu → Bool
+are_sources [] [] = true
+are_sources (id ∷ ids) (pmu ∷ pmus) = (id == pmu.source) && are_sources ids pmus
+are_sources ids pmus = false
+
+-- none of them has a stream of this id
+abbrev pub is_free : (id : ℕ) → List Pmu → Bool
+is_free id [] = true
+is_free id (pmu ∷ pmus) = not (pmu.stream == id) && is_free id pmus
+
+-- the merger takes this stream for the one that this output makes
+abbrev pub is_taken_for : MergedNode → Output → Bool
+is_taken_for node output = (node.id == output.id) && (node.time_base == output.time_base)
+
+-- they have one rate, and three ids
+abbrev pub are_three : (a b m : Output) → Bool
+are_three a b m = (b.rate == a.rate) && (m.rate == a.rate) && not (a.id == b.id) && not (a.id == m.id) && not (b.id == m.id)
+
+-- none of their ids is a PMU's
+abbrev pub are_free : (a b m : Output) → List Pmu → Bool
+are_free a b m pmus = is_free a.id pmus && is_free b.id pmus && is_free m.id pmus
+
+abbrev pub do_agree : (a b : Settings) → MergerSettings → Bool
+do_agree a b m =
+    are_alike b.pmus.items a.pmus.items && are_sources m.sources.items a.pmus.items && is_taken_for m.first a.output && is_taken_for m.second b.output
+    && are_three a.output b.output m.output && are_free a.output b.output m.output a.pmus.items
