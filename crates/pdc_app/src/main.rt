@@ -7,10 +7,10 @@ mod play;
 
 use mark_convert::{mark_convert_status, report_mark_convert};
 use mark_init::{mark_init_status, report_mark_init};
-use play::run_play_command;
 use pdc_command_line::{MarkConvert, MarkInit, Request, parse};
 use pdc_mark_files::{convert_mark, make_mark};
 use pdc_show::{ShowFault, Shown, run_show};
+use play::run_play_command;
 use std::alloc::Global;
 use std::io;
 use std::io::BufWriter;

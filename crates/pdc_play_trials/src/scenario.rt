@@ -50,11 +50,7 @@ impl Scenario<'_> {
     /// # Errors
     ///
     /// A file that cannot be read, or is no settings.
-    pub fn settings(
-        &self,
-        rt: &(impl Files + AllocGlobal),
-        alloc: Global,
-    ) -> io::Result<Three> {
+    pub fn settings(&self, rt: &(impl Files + AllocGlobal), alloc: Global) -> io::Result<Three> {
         Ok(Three {
             a: settings_in(rt, alloc, self.a)?,
             b: settings_in(rt, alloc, self.b)?,

@@ -40,18 +40,21 @@ pub fn over_memory(alloc: Global, three: Three, script: &[u8]) -> io::Result<Vec
 
 /// A new mark on a disk in memory.
 fn new_mark(output: &Output) -> io::Result<DiskMark<MemoryDisk>> {
-    DiskMark::init(MemoryDisk::new(&[]), output.id, output.rate)
-        .map_err(|_| io::Error::other("a mark is not made"))
+    DiskMark::init(MemoryDisk::new(&[]), output.id, output.rate).map_err(|_| io::Error::other(
+        "a mark is not made",
+    ))
 }
 
 /// The new marks of a world.
 fn new_marks(
     roles: &Roles,
-) -> io::Result<(
-    DiskMark<MemoryDisk>,
-    DiskMark<MemoryDisk>,
-    DiskMark<MemoryDisk>,
-)> {
+) -> io::Result<
+    (
+        DiskMark<MemoryDisk>,
+        DiskMark<MemoryDisk>,
+        DiskMark<MemoryDisk>,
+    ),
+> {
     Ok((
         new_mark(&roles.a.life.output)?,
         new_mark(&roles.b.life.output)?,

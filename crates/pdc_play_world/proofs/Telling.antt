@@ -1,17 +1,17 @@
 -- A script that is played on a world is told by the histories that the world holds.
-use Rattle.std.proofs.Common.{◌≡◌, inl, inr, ℕ, ◌+◌, List, [], ◌∷◌, ◌++◌, length, Option, Some, None, refl, sym, ap, subst, ◌∙◌}
+use Rattle.std.proofs.Common.{◌≡◌, inl, ℕ, ◌+◌, List, [], ◌∷◌, length, Option, Result, Ok, Err, IfOk, refl, sym, ap, subst, ◌∙◌}
+use Rattle.std.specs.Io.KnownBytes.{Consumes}
 use Rattle.std.specs.List.{slice_get}
 use Rattle.std.specs.Str.Lines.{strip_carriage_return}
-use Rattle.pdc_event.specs.declared.fault.Fault.{Fault}
-use Rattle.pdc_event.specs.declared.reply.Reply.{Reply}
-use Rattle.pdc_history.specs.World.{World, Happened, sent}
+use Rattle.pdc_history.specs.World.{World, Happened}
 use Rattle.pdc_play.specs.Run.{HasEnded}
-use Rattle.pdc_play.specs.Script.{Ends, EndsBy, EndsEarly, EndsLate, HasPlayed, PlaysBehind, PlaysText, counted, events_in, frame_of}
+use Rattle.pdc_play.specs.Script.{Ends, EndsBy, EndsEarly, HasPlayed, PlaysText, counted, events_in, frame_of}
 use Rattle.pdc_play.specs.declared.ending.Ending.{Ending}
 use Rattle.pdc_play.specs.declared.ending.Ending.TheVariants as ending
+use Rattle.pdc_play.specs.declared.fault.PlayFault.{PlayFault}
 use Rattle.pdc_play_lines.specs.Printed.{line_of}
 use Rattle.pdc_play_world.specs.Seen.{RefusesSeen, RepliesSeen, frames_seen}
-use Rattle.pdc_play_world.specs.Told.{IsTold, Tells, frames_in}
+use Rattle.pdc_play_world.specs.Told.{IsPlayedOn, IsTold, Tells, frames_in}
 use Rattle.pdc_world.specs.Acts.{IsWhy}
 use Rattle.pdc_world.specs.Holds.{Holds, IsAnswered}
 use Rattle.pdc_world.specs.Views.{WorldView}
@@ -123,3 +123,9 @@ told W first start read end last contents holds h =
       history = all.holds.history;
       ended = record { printed = h.printed; ends = all.ends; written = h.written };
     }
+
+pub run_told : (W : World) (first world : WorldView) (remaining rest start contents : Option (List ℕ)) (last : WorldView) (r : Result Ending PlayFault) → first ≡ world → Holds W [] world
+    → IfOk r (λ end. (read : List ℕ) × Consumes remaining rest read × HasEnded RepliesSeen RefusesSeen frames_seen first start read end last contents) → IfOk r (IsPlayedOn W remaining rest start contents)
+run_told W first world remaining rest start contents last (Ok end) e holds h =
+    inl (record { read = h.0; consumed = h.1; told = told W first start h.0 end last contents (subst (λ (v : WorldView). Holds W [] v) (sym e) holds) h.2 })
+run_told W first world remaining rest start contents last (Err fault) e holds h = tt
