@@ -28,10 +28,11 @@ Events, and what is printed of each. WHO is A, B or M:
                            A 57478860001 AA02..., or A none where no row waits
   stop WHO               it stops, and begins its next life with what its mark has
                            A start=2 floor=57478860001
-  stopin WHO landed      it stops in the store of a publish, which was done; lost: was not done
-  stoptick WHO landed    it stops in the store with which a tick begins, or lost
-  stopstart WHO landed   it stops, and again in the store of its next start, or lost
-                           as stop
+  stopin WHO landed      it stops in the store with which a publish begins, and nothing goes out;
+                           the store is done, or with lost in place of landed is not
+  stoptick WHO landed    it stops in the store with which a tick begins; the same, or lost
+  stopstart WHO landed   it stops, and once more in the store of its next start; the same, or lost
+                           each as stop
 
     sent K     the number of the frame among all that were sent, from 0: those of PMUs, and the
                configurations and data frames of nodes and merger, which take numbers too
