@@ -8,3 +8,4 @@ pub mod Frames
 pub mod Placed
 pub mod Agreements
 pub mod Openings
+pub mod Told

@@ -183,11 +183,11 @@ published_made W H w rules given Reads ids lead Before After old new l m row out
 -- ---- stops
 
 pub ended_made : (W : World) (H : List Happened) (w : WhoData) (asked : Asked) (event : Event) (begun : Stored) (rules : Rules) (given : (start floor : ℕ) → List ℕ → Given)
-    (Reads : ℕ → List ℕ → Arrival → Type 0) (ids : List ℕ) (lead : ℕ) (Before After : Given → List Entry → Type 0) (old new : Stored) (l : LedgerView)
+    (Reads : ℕ → List ℕ → Arrival → Type 0) (ids : List ℕ) (lead : ℕ) (Before After : Given → List Entry → Type 0) (old new : Stored) (l : LedgerView) (said : Reply)
     → IsPart W H (who_of w) rules given Reads ids lead Before old l → IsReadOf W H asked event → happens W H event ≡ Ends (who_of w) begun
     → (begun.start < 2 ^ 32 → MayHappen W H event) → new ≡ begun → new.start < 2 ^ 32 → After (given new.start new.floor new.counts) []
-    → IsAct W H (who_of w) asked After new l (reply.Stopped w new.start new.floor)
-ended_made W H w asked event begun rules given Reads ids lead Before After old new l part read made may same fits stands =
+    → said ≡ reply.Stopped w new.start new.floor → IsAct W H (who_of w) asked After new l said
+ended_made W H w asked event begun rules given Reads ids lead Before After old new l said part read made may same fits stands is =
     let v : Who = who_of w in
     record {
       happened = Ends v begun;
@@ -197,7 +197,7 @@ ended_made W H w asked event begun rules given Reads ids lead Before After old n
           come_ends W H v begun After new
           (subst (λ (s : Stored). After (given_by W v s) []) same (subst (λ (g : Given). After g []) (part.one.same_given new) stands)) same;
       keeps = quiet W H (Ends v begun) l part.keeps refl refl;
-      told = ap (λ (s : Stored). reply.Stopped w s.start s.floor) same ∙ ap (λ (x : WhoData). reply.Stopped x begun.start begun.floor) (sym (name_back w));
+      told = is ∙ ap (λ (s : Stored). reply.Stopped w s.start s.floor) same ∙ ap (λ (x : WhoData). reply.Stopped x begun.start begun.floor) (sym (name_back w));
     }
 
 -- ---- sends

@@ -1,5 +1,5 @@
 -- The parts of a world, and a world with one thing more.
-use Rattle.std.proofs.Common.{◌≡◌, ℕ, List, ◌∷◌, Result, Ok, Err, IfOk, OnErr, refl, sym, ap, subst, ◌∙◌}
+use Rattle.std.proofs.Common.{◌≡◌, ℕ, Bool, List, ◌∷◌, Result, Ok, Err, IfOk, OnErr, refl, sym, ap, subst, ◌∙◌}
 use Rattle.pdc_event.specs.declared.fault.Fault.{Fault}
 use Rattle.pdc_event.specs.declared.reply.Reply.{Reply}
 use Rattle.pdc_history.specs.Agree.{ids_of}
@@ -16,7 +16,7 @@ use Rattle.pdc_merge.specs.Merger as merger
 use Rattle.pdc_merge.specs.Merger.{MergerView}
 use Rattle.pdc_node.specs.Node as node
 use Rattle.pdc_node.specs.Node.{NodeView}
-use Rattle.pdc_world.specs.Acts.{IsAct, IsPart, IsSomePart}
+use Rattle.pdc_world.specs.Acts.{IsAct, IsPart, IsSomePart, Keeps}
 use Rattle.pdc_world.specs.Holds.{Holds, HoldsSome, IsAnswered}
 use Rattle.pdc_world.specs.Named.{node_ids}
 use Rattle.pdc_world.specs.Views.{LedgerView, StationView, WorldView}
@@ -70,10 +70,10 @@ part_m W H v h = record {
   keeps = h.ledger;
 }
 
-pub moved_a : (W : World) (H : List Happened) (asked : Asked) (reply : Reply) (v : WorldView) (new : StationView NodeView) (l : LedgerView) → Holds W H v
+pub moved_a : (W : World) (H : List Happened) (asked : Asked) (reply : Reply) (v : WorldView) (new : StationView NodeView) (l : LedgerView) (r : Bool) → Holds W H v
     → new.core.settings ≡ v.a.core.settings → new.lead ≡ v.a.lead → IsAct W H A asked (λ (g : Given) (E : List Entry). node.StandsFor g E new.core) new.mark l reply
-    → IsAnswered W H asked reply (record { a = new; b = v.b; m = v.m; ledger = l })
-moved_a W H asked reply v new l h settings lead act = record {
+    → IsAnswered W H asked reply (record { a = new; b = v.b; m = v.m; ledger = l; has_room = r })
+moved_a W H asked reply v new l r h settings lead act = record {
   happened = act.happened;
   step = act.step;
   holds = record {
@@ -92,10 +92,10 @@ moved_a W H asked reply v new l h settings lead act = record {
   told = act.told;
 }
 
-pub moved_b : (W : World) (H : List Happened) (asked : Asked) (reply : Reply) (v : WorldView) (new : StationView NodeView) (l : LedgerView) → Holds W H v
+pub moved_b : (W : World) (H : List Happened) (asked : Asked) (reply : Reply) (v : WorldView) (new : StationView NodeView) (l : LedgerView) (r : Bool) → Holds W H v
     → new.core.settings ≡ v.b.core.settings → new.lead ≡ v.b.lead → IsAct W H B asked (λ (g : Given) (E : List Entry). node.StandsFor g E new.core) new.mark l reply
-    → IsAnswered W H asked reply (record { a = v.a; b = new; m = v.m; ledger = l })
-moved_b W H asked reply v new l h settings lead act = record {
+    → IsAnswered W H asked reply (record { a = v.a; b = new; m = v.m; ledger = l; has_room = r })
+moved_b W H asked reply v new l r h settings lead act = record {
   happened = act.happened;
   step = act.step;
   holds = record {
@@ -114,10 +114,10 @@ moved_b W H asked reply v new l h settings lead act = record {
   told = act.told;
 }
 
-pub moved_m : (W : World) (H : List Happened) (asked : Asked) (reply : Reply) (v : WorldView) (new : StationView MergerView) (l : LedgerView) → Holds W H v
+pub moved_m : (W : World) (H : List Happened) (asked : Asked) (reply : Reply) (v : WorldView) (new : StationView MergerView) (l : LedgerView) (r : Bool) → Holds W H v
     → new.core.settings ≡ v.m.core.settings → new.lead ≡ v.m.lead → IsAct W H M asked (λ (g : Given) (E : List Entry). merger.StandsFor g E new.core) new.mark l reply
-    → IsAnswered W H asked reply (record { a = v.a; b = v.b; m = new; ledger = l })
-moved_m W H asked reply v new l h settings lead act = record {
+    → IsAnswered W H asked reply (record { a = v.a; b = v.b; m = new; ledger = l; has_room = r })
+moved_m W H asked reply v new l r h settings lead act = record {
   happened = act.happened;
   step = act.step;
   holds = record {
@@ -142,6 +142,22 @@ pub some_again : (asked : Asked) (v new : WorldView) (result : Result Reply Faul
 some_again asked v new (Ok reply) some made same = λ none. some (λ W H holds. none W ((made W H holds).happened ∷ H) (made W H holds).holds)
 some_again asked v new (Err fault) some made same = λ none. some (λ W H holds. none W H (subst (λ (x : WorldView). Holds W H x) (sym same) holds))
 
+-- So is one whose ledger made room.
+pub room_again : (v : WorldView) (l : LedgerView) (r : Bool) → l ≡ v.ledger → HoldsSome v → HoldsSome (record { a = v.a; b = v.b; m = v.m; ledger = l; has_room = r })
+room_again v l r same some = λ none. some (λ W H h. none W H (record {
+  history = h.history;
+  a_settings = h.a_settings;
+  b_settings = h.b_settings;
+  m_settings = h.m_settings;
+  a_lead = h.a_lead;
+  b_lead = h.b_lead;
+  m_lead = h.m_lead;
+  a = h.a;
+  b = h.b;
+  m = h.m;
+  ledger = subst (λ (x : LedgerView). Keeps W H x) (sym same) h.ledger;
+}))
+
 pub on_err_map : {A B P Q : Type 0} (result : Result A B) → (P → Q) → OnErr result P → OnErr result Q
 on_err_map (Ok x) f p = tt
 on_err_map (Err x) f p = f p
@@ -159,14 +175,14 @@ pub some_a : (v : WorldView) (who : Who) → who ≡ A → HoldsSome v
     (ids_of v.a.core.settings.pmus.items) v.a.lead (λ (g : Given) (E : List Entry). node.StandsFor g E v.a.core) v.a.mark v.ledger
 some_a v who same some = λ none. some (λ W H holds. none W H (as_a W H v who same holds))
 
-pub answered_a : (W : World) (H : List Happened) (asked : Asked) (who : Who) (v : WorldView) (new : StationView NodeView) (l : LedgerView) (result : Result Reply Fault) → who ≡ A
+pub answered_a : (W : World) (H : List Happened) (asked : Asked) (who : Who) (v : WorldView) (new : StationView NodeView) (l : LedgerView) (r : Bool) (result : Result Reply Fault) → who ≡ A
     → Holds W H v → new.core.settings ≡ v.a.core.settings → new.lead ≡ v.a.lead
     → IfOk result (λ (reply : Reply). IsAct W H who asked (λ (g : Given) (E : List Entry). node.StandsFor g E new.core) new.mark l reply)
-    → IfOk result (λ (reply : Reply). IsAnswered W H asked reply (record { a = new; b = v.b; m = v.m; ledger = l }))
-answered_a W H asked who v new l (Ok reply) same holds settings lead act =
-    moved_a W H asked reply v new l holds settings lead
+    → IfOk result (λ (reply : Reply). IsAnswered W H asked reply (record { a = new; b = v.b; m = v.m; ledger = l; has_room = r }))
+answered_a W H asked who v new l r (Ok reply) same holds settings lead act =
+    moved_a W H asked reply v new l r holds settings lead
     (subst (λ (w : Who). IsAct W H w asked (λ (g : Given) (E : List Entry). node.StandsFor g E new.core) new.mark l reply) same act)
-answered_a W H asked who v new l (Err fault) same holds settings lead act = tt
+answered_a W H asked who v new l r (Err fault) same holds settings lead act = tt
 
 pub as_b : (W : World) (H : List Happened) (v : WorldView) (who : Who) → who ≡ B → Holds W H v
     → IsPart W H who node_answer (λ (start floor : ℕ) (counts : List ℕ). given_of v.b.core.settings start floor counts 0) (ReadsFor v.b.core.settings)
@@ -181,14 +197,14 @@ pub some_b : (v : WorldView) (who : Who) → who ≡ B → HoldsSome v
     (ids_of v.b.core.settings.pmus.items) v.b.lead (λ (g : Given) (E : List Entry). node.StandsFor g E v.b.core) v.b.mark v.ledger
 some_b v who same some = λ none. some (λ W H holds. none W H (as_b W H v who same holds))
 
-pub answered_b : (W : World) (H : List Happened) (asked : Asked) (who : Who) (v : WorldView) (new : StationView NodeView) (l : LedgerView) (result : Result Reply Fault) → who ≡ B
+pub answered_b : (W : World) (H : List Happened) (asked : Asked) (who : Who) (v : WorldView) (new : StationView NodeView) (l : LedgerView) (r : Bool) (result : Result Reply Fault) → who ≡ B
     → Holds W H v → new.core.settings ≡ v.b.core.settings → new.lead ≡ v.b.lead
     → IfOk result (λ (reply : Reply). IsAct W H who asked (λ (g : Given) (E : List Entry). node.StandsFor g E new.core) new.mark l reply)
-    → IfOk result (λ (reply : Reply). IsAnswered W H asked reply (record { a = v.a; b = new; m = v.m; ledger = l }))
-answered_b W H asked who v new l (Ok reply) same holds settings lead act =
-    moved_b W H asked reply v new l holds settings lead
+    → IfOk result (λ (reply : Reply). IsAnswered W H asked reply (record { a = v.a; b = new; m = v.m; ledger = l; has_room = r }))
+answered_b W H asked who v new l r (Ok reply) same holds settings lead act =
+    moved_b W H asked reply v new l r holds settings lead
     (subst (λ (w : Who). IsAct W H w asked (λ (g : Given) (E : List Entry). node.StandsFor g E new.core) new.mark l reply) same act)
-answered_b W H asked who v new l (Err fault) same holds settings lead act = tt
+answered_b W H asked who v new l r (Err fault) same holds settings lead act = tt
 
 pub as_m : (W : World) (H : List Happened) (v : WorldView) (who : Who) → who ≡ M → Holds W H v
     → IsPart W H who merged_answer (λ (start floor : ℕ) (counts : List ℕ). given_of_merger v.m.core.settings start floor counts 0) (ReadsForMerger v.m.core.settings)
@@ -203,11 +219,11 @@ pub some_m : (v : WorldView) (who : Who) → who ≡ M → HoldsSome v
     (node_ids v.m.core.settings) v.m.lead (λ (g : Given) (E : List Entry). merger.StandsFor g E v.m.core) v.m.mark v.ledger
 some_m v who same some = λ none. some (λ W H holds. none W H (as_m W H v who same holds))
 
-pub answered_m : (W : World) (H : List Happened) (asked : Asked) (who : Who) (v : WorldView) (new : StationView MergerView) (l : LedgerView) (result : Result Reply Fault) → who ≡ M
+pub answered_m : (W : World) (H : List Happened) (asked : Asked) (who : Who) (v : WorldView) (new : StationView MergerView) (l : LedgerView) (r : Bool) (result : Result Reply Fault) → who ≡ M
     → Holds W H v → new.core.settings ≡ v.m.core.settings → new.lead ≡ v.m.lead
     → IfOk result (λ (reply : Reply). IsAct W H who asked (λ (g : Given) (E : List Entry). merger.StandsFor g E new.core) new.mark l reply)
-    → IfOk result (λ (reply : Reply). IsAnswered W H asked reply (record { a = v.a; b = v.b; m = new; ledger = l }))
-answered_m W H asked who v new l (Ok reply) same holds settings lead act =
-    moved_m W H asked reply v new l holds settings lead
+    → IfOk result (λ (reply : Reply). IsAnswered W H asked reply (record { a = v.a; b = v.b; m = new; ledger = l; has_room = r }))
+answered_m W H asked who v new l r (Ok reply) same holds settings lead act =
+    moved_m W H asked reply v new l r holds settings lead
     (subst (λ (w : Who). IsAct W H w asked (λ (g : Given) (E : List Entry). merger.StandsFor g E new.core) new.mark l reply) same act)
-answered_m W H asked who v new l (Err fault) same holds settings lead act = tt
+answered_m W H asked who v new l r (Err fault) same holds settings lead act = tt

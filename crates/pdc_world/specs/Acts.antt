@@ -5,7 +5,7 @@ use Rattle.pdc_event.specs.declared.fault.Fault.TheVariants as fault
 use Rattle.pdc_event.specs.declared.fault.Premise.TheVariants.{OneBody, OneSection, Genuine, OneTable}
 use Rattle.pdc_event.specs.declared.reply.Published.{Published}
 use Rattle.pdc_event.specs.declared.reply.Reply.{Reply}
-use Rattle.pdc_history.specs.Asked.{Asked, IsFault, OtherBody, OtherSection, Foreign}
+use Rattle.pdc_history.specs.Asked.{Asked, Cause, IsFault, OtherBody, OtherSection, Foreign}
 use Rattle.pdc_history.specs.Asked as asked
 use Rattle.pdc_history.specs.History.{IsHistory, Says, stream_ids}
 use Rattle.pdc_history.specs.Play.{IsStepOf}
@@ -75,7 +75,8 @@ pub record IsAct (W : World) (H : List Happened) (who : Who) (asked : Asked) (St
   pub keeps : Keeps W (happened ∷ H) ledger
   pub told : reply ≡ reply_of W H happened
 
--- The fault tells why what was asked may not happen; want of memory is no such cause, and no event breaks the agreement of settings.
+-- The fault tells why what was asked may not happen; for want of memory only where nothing else stands in its way. No event breaks the
+-- agreement of settings.
 abbrev pub IsWhy : World → List Happened → Asked → Fault → Type 0
 IsWhy W H what (fault.PremiseBroken OneBody) = IsFault W H what OtherBody
 IsWhy W H what (fault.PremiseBroken OneSection) = IsFault W H what OtherSection
@@ -83,7 +84,7 @@ IsWhy W H what (fault.PremiseBroken Genuine) = IsFault W H what Foreign
 IsWhy W H what (fault.PremiseBroken OneTable) = ⊥
 IsWhy W H what fault.NoSuchFrame = IsFault W H what asked.NoSuchFrame
 IsWhy W H what fault.StartsUsedUp = IsFault W H what asked.StartsUsedUp
-IsWhy W H what fault.NoMemory = Unit {0}
+IsWhy W H what fault.NoMemory = (cause : Cause) → IsFault W H what cause → ⊥
 
 -- the layout that a tick adds to what is sent: that behind it, where it adopted
 abbrev pub layouts_after : Given → List Entry → Entry → List (List ℕ)

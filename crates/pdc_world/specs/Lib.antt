@@ -8,3 +8,4 @@ pub mod Known
 pub mod Receiver
 pub mod Agreement
 pub mod Opening
+pub mod Room

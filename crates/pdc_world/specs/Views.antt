@@ -1,5 +1,5 @@
 -- What contracts see of a world (this profile).
-use Rattle.std.specs.Prelude.{ℕ, List}
+use Rattle.std.specs.Prelude.{ℕ, Bool, List}
 use Rattle.pdc_event.specs.declared.reply.Published.{Published}
 use Rattle.pdc_life.specs.declared.given.Settings.{Settings}
 use Rattle.pdc_mark.specs.declared.stored.Stored.{Stored}
@@ -18,8 +18,10 @@ pub record StationView (Core : Type 0) : Type 0 where
   pub mark : Stored
   pub lead : ℕ
 
+-- The cores, what was sent and published, and whether there is room for one frame and one row more.
 pub record WorldView : Type 0 where
   pub a : StationView NodeView
   pub b : StationView NodeView
   pub m : StationView MergerView
   pub ledger : LedgerView
+  pub has_room : Bool

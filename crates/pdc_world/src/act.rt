@@ -1,10 +1,12 @@
 //! What one core is asked.
-ghost use Rattle.std.specs.Prelude.{◌≡◌, IfErr, IfOk, List, OnErr};
+ghost use Rattle.std.specs.Prelude.{◌≡◌, IfErr, IfOk, IsErrOf, List, OnErr};
+ghost use Rattle.pdc_event.specs.declared.fault.Fault.TheVariants.{NoMemory};
 ghost use Rattle.pdc_event.specs.Event.{asked_of};
 ghost use Rattle.pdc_history.specs.World.{Happened, World};
 ghost use Rattle.pdc_world.specs.Acts.{IsAct, IsPart, IsSomePart, IsWhy};
-ghost use Rattle.pdc_world.specs.Ledger.{ledger_view};
+ghost use Rattle.pdc_world.specs.Ledger.{ledger_has_room, ledger_view};
 ghost use Rattle.pdc_world.specs.Receiver.{core_in};
+ghost use Rattle.pdc_world.specs.Room.{HasRoomFor};
 
 use crate::arrivals::{bring, bring_junk};
 use crate::ledger::Ledger;
@@ -35,7 +37,9 @@ pub(crate) fn act<C: Plays, S: Store>(
     ensures why { (W : World) (H : List Happened) → IsPart W H (core_in event.now) C.rules (C.given_with (C.settings_of station.old.core))
         (C.Settings.says (C.settings_of station.old.core)) (C.ids (C.settings_of station.old.core)) station.old.lead (C.stands_for station.old.core)
         (S.stored station.old.mark) (ledger_view ledger.old) → IfErr result (IsWhy W H (asked_of event.now)) }
-    ensures err { OnErr result ((station.new ≡ station.old) × (ledger_view ledger.new ≡ ledger_view ledger.old)) }
+    ensures err { OnErr result ((station.new ≡ station.old) × (ledger_view ledger.new ≡ ledger_view ledger.old)
+        × (ledger_has_room ledger.new ≡ ledger_has_room ledger.old)) }
+    ensures room { HasRoomFor (ledger_has_room ledger.old) (asked_of event.now) → IsErrOf result NoMemory → ⊥ }
     ensures settings { C.settings_of station.new.core ≡ C.settings_of station.old.core }
     ensures lead { station.new.lead ≡ station.old.lead }
 {

@@ -1,5 +1,6 @@
 //! Arrivals.
-ghost use Rattle.std.specs.Prelude.{◌≡◌, IfErr, IfOk, List, OnErr};
+ghost use Rattle.std.specs.Prelude.{◌≡◌, IfErr, IfOk, IsErrOf, List, OnErr};
+ghost use Rattle.pdc_event.specs.declared.fault.Fault.TheVariants.{NoMemory};
 ghost use Rattle.pdc_event.specs.Event.{who_of};
 ghost use Rattle.pdc_history.specs.Asked as asked;
 ghost use Rattle.pdc_history.specs.World.{Happened, World};
@@ -29,6 +30,7 @@ pub(crate) fn bring<C: Plays, S: Store>(
         (S.stored station.old.mark) (ledger_view ledger.now) →
         IfErr result (IsWhy W H (asked.To (who_of who) number)) }
     ensures err { OnErr result (station.new ≡ station.old) }
+    ensures room { IsErrOf result NoMemory → ⊥ }
     ensures settings { C.settings_of station.new.core ≡ C.settings_of station.old.core }
     ensures lead { station.new.lead ≡ station.old.lead }
 {
@@ -58,6 +60,7 @@ pub(crate) fn bring_junk<C: Plays, S: Store>(
         (S.stored station.old.mark) (ledger_view ledger.now) →
         IfErr result (IsWhy W H (asked.Junk (who_of who) bytes.now)) }
     ensures err { OnErr result (station.new ≡ station.old) }
+    ensures room { IsErrOf result NoMemory → ⊥ }
     ensures settings { C.settings_of station.new.core ≡ C.settings_of station.old.core }
     ensures lead { station.new.lead ≡ station.old.lead }
 {

@@ -1,5 +1,5 @@
 //! What was sent and published.
-ghost use Rattle.std.specs.Prelude.{◌≡◌, ◌≤◌, ◌<◌, ◌∷◌, ◌++◌, [], ℕ, IfOk, IsTrue, List, OnErr, OnOk, length, vec_capacity, vec_len};
+ghost use Rattle.std.specs.Prelude.{◌≡◌, ◌≤◌, ◌<◌, ◌∷◌, ◌++◌, [], ℕ, IfOk, IsOk, IsTrue, List, OnErr, OnOk, length, true, vec_capacity, vec_len};
 ghost use Rattle.pdc_event.specs.declared.reply.Published.{Published};
 ghost use Rattle.pdc_frame.specs.declared.limits.TheConstants.{MAX_SIZE};
 ghost use Rattle.pdc_life.specs.Given.{Given};
@@ -7,7 +7,7 @@ ghost use Rattle.pdc_life.specs.Life.{Entry};
 ghost use Rattle.pdc_life.specs.Published.{layout_wire};
 ghost use Rattle.pdc_sent.specs.Sent.{IsOfNone};
 ghost use Rattle.pdc_world.specs.Acts.{layouts_of};
-ghost use Rattle.pdc_world.specs.Ledger.{IsReady, ledger_view};
+ghost use Rattle.pdc_world.specs.Ledger.{IsReady, ledger_has_room, ledger_view};
 
 use pdc_core::Core;
 use pdc_event::{Published, Who};
@@ -28,7 +28,7 @@ pub(crate) struct Ledger {
 }
 
 impl Ledger {
-    ghost use Rattle.pdc_world.specs.Ledger.{IsReady, ledger_view};
+    ghost use Rattle.pdc_world.specs.Ledger.{IsReady, ledger_has_room, ledger_view};
 
     /// Nothing was sent.
     pub(crate) fn new(alloc: Global, settings: Settings) -> Result<Ledger, AllocError>
@@ -41,10 +41,13 @@ impl Ledger {
         })
     }
 
-    /// Makes room for one frame and one row more.
+    /// Makes room for one frame and one row more. Where there is room, it takes no memory.
     pub(crate) fn make_room(&mut self) -> Result<(), AllocError>
         ensures ready { OnOk result (IsReady self.new) }
+        ensures made { OnOk result (ledger_has_room self.new ≡ true) }
         ensures same { ledger_view self.new ≡ ledger_view self.old }
+        ensures room { IsTrue (ledger_has_room self.old) → IsOk result }
+        ensures err { OnErr result (ledger_has_room self.new ≡ ledger_has_room self.old) }
     {
         self.sent.reserve()?;
         self.published.reserve(1)?;

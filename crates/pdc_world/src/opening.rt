@@ -1,5 +1,6 @@
 //! How a world begins.
-ghost use Rattle.std.specs.Prelude.{◌≡◌, [], IfErr, IfOk, nat_lt, true};
+ghost use Rattle.std.specs.Prelude.{◌≡◌, ◌≢◌, [], IfErr, IfOk, nat_lt, true};
+ghost use Rattle.pdc_event.specs.declared.fault.Fault.TheVariants.{StartsUsedUp};
 ghost use Rattle.pdc_mark.specs.Stored.{first_stored};
 ghost use Rattle.pdc_world.specs.Agreement.{do_agree};
 ghost use Rattle.pdc_world.specs.Holds.{Holds};
@@ -119,6 +120,7 @@ impl World<ModelMark> {
     ) -> Result<World<ModelMark>, WorldFault>
         ensures holds { IfOk result (λ world. Holds (world_of a b m leads first_stored first_stored first_stored) [] world) }
         ensures fault { IfErr result (IsOpeningFault (world_of a b m leads first_stored first_stored first_stored)) }
+        ensures starts { IfErr result (λ fault. fault.fault ≢ StartsUsedUp) }
     {
         let stores = (
             ModelMark::new(0, 0),

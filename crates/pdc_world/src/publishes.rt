@@ -1,5 +1,5 @@
 //! Publishes.
-ghost use Rattle.std.specs.Prelude.{◌≡◌, ◌≤◌, ◌<◌, ◌++◌, IfErr, IfOk, IfSome, IsTrue, List, OnErr, length, option_map, vec_capacity, vec_len};
+ghost use Rattle.std.specs.Prelude.{◌≡◌, ◌≤◌, ◌<◌, ◌++◌, IfErr, IfOk, IfSome, IsOk, IsTrue, List, OnErr, length, option_map, vec_capacity, vec_len};
 ghost use Rattle.pdc_event.specs.declared.fault.Fault.TheVariants.{NoMemory};
 ghost use Rattle.pdc_event.specs.Event.{who_of};
 ghost use Rattle.pdc_history.specs.Asked as asked;
@@ -9,7 +9,7 @@ ghost use Rattle.pdc_frame.specs.declared.limits.TheConstants.{MAX_SIZE};
 ghost use Rattle.pdc_row.specs.RowView.{row_view};
 ghost use Rattle.pdc_sent.specs.Sent.{IsOfNone};
 ghost use Rattle.pdc_world.specs.Replies.{published_as};
-ghost use Rattle.pdc_world.specs.Ledger.{ledger_view};
+ghost use Rattle.pdc_world.specs.Ledger.{ledger_has_room, ledger_view};
 
 use crate::known::frames_are_known;
 use crate::ledger::Ledger;
@@ -57,7 +57,9 @@ pub(crate) fn publish<C: Plays, S: Store>(
         (S.stored station.old.mark) (ledger_view ledger.old) →
         IfOk result (λ reply. IsAct W H (who_of who) (asked.Publish (who_of who)) (C.stands_for station.new.core) (S.stored station.new.mark) (ledger_view ledger.new) reply) }
     ensures memory { IfErr result (λ fault. fault ≡ NoMemory) }
-    ensures err { OnErr result ((station.new ≡ station.old) × (ledger_view ledger.new ≡ ledger_view ledger.old)) }
+    ensures err { OnErr result ((station.new ≡ station.old) × (ledger_view ledger.new ≡ ledger_view ledger.old)
+        × (ledger_has_room ledger.new ≡ ledger_has_room ledger.old)) }
+    ensures room { IsTrue (ledger_has_room ledger.old) → IsOk result }
     ensures settings { C.settings_of station.new.core ≡ C.settings_of station.old.core }
     ensures lead { station.new.lead ≡ station.old.lead }
 {

@@ -1,12 +1,14 @@
 //! Sends.
-ghost use Rattle.std.specs.Prelude.{◌≡◌, IfErr, IfOk, List, OnErr};
+ghost use Rattle.std.specs.Prelude.{◌≡◌, IfErr, IfOk, IsErrOf, IsTrue, List, OnErr};
+ghost use Rattle.pdc_event.specs.declared.fault.Fault.TheVariants.{NoMemory};
 ghost use Rattle.pdc_history.specs.Asked as asked;
 ghost use Rattle.pdc_history.specs.World.{Happened, World};
 ghost use Rattle.pdc_world.specs.Acts.{IsSend, IsWhy, Keeps, fault_of_send};
-ghost use Rattle.pdc_world.specs.Ledger.{ledger_view};
+ghost use Rattle.pdc_world.specs.Ledger.{ledger_has_room, ledger_view};
 
 use crate::ledger::Ledger;
 use pdc_event::{Fault, Premise, Reply};
+use pdc_history::asked_is_event_or_fault;
 use pdc_sent::SendFault;
 
 /// The fault of a world that a refused send is.
@@ -26,8 +28,10 @@ pub(crate) fn send(ledger: &mut Ledger, bytes: &[u8]) -> Result<Reply, Fault>
     ensures made { (W : World) (H : List Happened) → Keeps W H (ledger_view ledger.old) →
         IfOk result (λ reply. IsSend W H bytes.now (ledger_view ledger.new) reply) }
     ensures why { (W : World) (H : List Happened) → Keeps W H (ledger_view ledger.old) → IfErr result (IsWhy W H (asked.Send bytes.now)) }
-    ensures err { OnErr result (ledger_view ledger.new ≡ ledger_view ledger.old) }
+    ensures err { OnErr result ((ledger_view ledger.new ≡ ledger_view ledger.old) × (ledger_has_room ledger.new ≡ ledger_has_room ledger.old)) }
+    ensures room { IsTrue (ledger_has_room ledger.old) → IsErrOf result NoMemory → ⊥ }
 {
+    asked_is_event_or_fault();
     let number = ledger.sent.len();
     match ledger.sent.send(bytes) {
         Ok(()) => Ok(Reply::Sent { number }),

@@ -10,6 +10,7 @@ ghost use Rattle.pdc_world.specs.Ledger.{ledger_view};
 use crate::ledger::Ledger;
 use crate::plays::Plays;
 use pdc_event::{Fault, Reply, Who};
+use pdc_history::marks_bound_lives;
 use pdc_mark::Store;
 use pdc_station::{Station, StopFault};
 use std::alloc::Global;
@@ -52,6 +53,7 @@ pub(crate) fn stop<C: Plays, S: Store>(
     ensures settings { C.settings_of station.new.core ≡ C.settings_of station.old.core }
     ensures lead { station.new.lead ≡ station.old.lead }
 {
+    marks_bound_lives();
     match station.stop(alloc) {
         Ok(()) => Ok(begun(station, who)),
         Err(fault) => Err(fault_of(fault)),
@@ -78,6 +80,7 @@ pub(crate) fn stop_in<C: Plays, S: Store>(
     ensures settings { C.settings_of station.new.core ≡ C.settings_of station.old.core }
     ensures lead { station.new.lead ≡ station.old.lead }
 {
+    marks_bound_lives();
     match station.stop_in_publish(alloc, landed) {
         Ok(()) => Ok(begun(station, who)),
         Err(fault) => Err(fault_of(fault)),
@@ -104,6 +107,7 @@ pub(crate) fn stop_in_tick<C: Plays, S: Store>(
     ensures settings { C.settings_of station.new.core ≡ C.settings_of station.old.core }
     ensures lead { station.new.lead ≡ station.old.lead }
 {
+    marks_bound_lives();
     match station.stop_in_tick(alloc, landed) {
         Ok(()) => Ok(begun(station, who)),
         Err(fault) => Err(fault_of(fault)),

@@ -1,5 +1,5 @@
 //! Ticks.
-ghost use Rattle.std.specs.Prelude.{◌≡◌, [], ◌∷◌, ◌++◌, IfErr, IfOk, List, OnErr};
+ghost use Rattle.std.specs.Prelude.{◌≡◌, [], ◌∷◌, ◌++◌, IfErr, IfOk, IsOk, IsTrue, List, OnErr};
 ghost use Rattle.pdc_life.specs.Given.{Given};
 ghost use Rattle.pdc_life.specs.Life.{Entry};
 ghost use Rattle.pdc_life.specs.Published.{layout_wire};
@@ -8,7 +8,7 @@ ghost use Rattle.pdc_event.specs.Event.{who_of};
 ghost use Rattle.pdc_history.specs.Asked as asked;
 ghost use Rattle.pdc_history.specs.World.{Happened, World};
 ghost use Rattle.pdc_world.specs.Acts.{IsAct, IsPart, IsSomePart, IsSomeFrame};
-ghost use Rattle.pdc_world.specs.Ledger.{IsReady, ledger_view};
+ghost use Rattle.pdc_world.specs.Ledger.{IsReady, ledger_has_room, ledger_view};
 
 use crate::known::frames_are_known;
 use crate::ledger::Ledger;
@@ -44,7 +44,9 @@ pub(crate) fn tick<C: Plays, S: Store>(
         (S.stored station.old.mark) (ledger_view ledger.old) →
         IfOk result (λ reply. IsAct W H (who_of who) (asked.TickAt (who_of who) now) (C.stands_for station.new.core) (S.stored station.new.mark) (ledger_view ledger.new) reply) }
     ensures memory { IfErr result (λ fault. fault ≡ NoMemory) }
-    ensures err { OnErr result ((station.new ≡ station.old) × (ledger_view ledger.new ≡ ledger_view ledger.old)) }
+    ensures err { OnErr result ((station.new ≡ station.old) × (ledger_view ledger.new ≡ ledger_view ledger.old)
+        × (ledger_has_room ledger.new ≡ ledger_has_room ledger.old)) }
+    ensures room { IsTrue (ledger_has_room ledger.old) → IsOk result }
     ensures settings { C.settings_of station.new.core ≡ C.settings_of station.old.core }
     ensures lead { station.new.lead ≡ station.old.lead }
 {

@@ -1,22 +1,26 @@
 //! A world.
-ghost use Rattle.std.specs.Prelude.{◌≡◌, IfErr, IfOk, List, OnErr, length, option_map};
+ghost use Rattle.std.specs.Prelude.{◌≡◌, IfErr, IfOk, IsErrOf, IsOk, IsTrue, List, OnErr, OnOk, length, option_map, true};
 ghost use Rattle.std.specs.List.{slice_get};
-ghost use Rattle.pdc_event.specs.Event.{asked_of};
+ghost use Rattle.pdc_event.specs.declared.fault.Fault.TheVariants.{NoMemory};
+ghost use Rattle.pdc_event.specs.Event.{asked_of, fault_of};
+ghost use Rattle.pdc_history.specs.Asked.{Cause, IsFault};
 ghost use Rattle.pdc_history.specs.World.{A, B, Happened, M, World as Fixed};
 ghost use Rattle.pdc_world.specs.Acts.{IsWhy};
 ghost use Rattle.pdc_world.specs.Holds.{Holds, IsAnswered};
 ghost use Rattle.pdc_world.specs.Receiver.{core_in};
+ghost use Rattle.pdc_world.specs.Room.{HasRoomFor};
 
 use crate::act::act;
 use crate::ledger::Ledger;
 use crate::receiver::receiver;
 use pdc_event::{Event, Fault, Published, Reply, Who};
+use pdc_history::asked_is_event_or_fault;
 use pdc_mark::Store;
 use pdc_merge::Merger;
 use pdc_node::Node;
 use pdc_station::Station;
 use pdc_table::RingTable;
-use std::alloc::Global;
+use std::alloc::{AllocError, Global};
 use std::marker::Model;
 
 /// Two nodes, a merger and the network between them, and all that was ever sent and published.
@@ -31,7 +35,7 @@ pub struct World<S: Store> {
 
 impl<S: Store> Model for World<S> {
     ghost use Rattle.pdc_world.specs.Holds.{HoldsSome};
-    ghost use Rattle.pdc_world.specs.Ledger.{ledger_view};
+    ghost use Rattle.pdc_world.specs.Ledger.{ledger_has_room, ledger_view};
     ghost use Rattle.pdc_world.specs.Views.{WorldView};
 
     ghost Value = { WorldView };
@@ -41,6 +45,7 @@ impl<S: Store> Model for World<S> {
       b = record { core = w.b.core; mark = S.stored w.b.mark; lead = w.b.lead };
       m = record { core = w.m.core; mark = S.stored w.m.mark; lead = w.m.lead };
       ledger = ledger_view w.ledger;
+      has_room = ledger_has_room w.ledger;
     } };
 
     ghost invariant = { λ w. HoldsSome (record {
@@ -48,6 +53,7 @@ impl<S: Store> Model for World<S> {
       b = record { core = w.b.core; mark = S.stored w.b.mark; lead = w.b.lead };
       m = record { core = w.m.core; mark = S.stored w.m.mark; lead = w.m.lead };
       ledger = ledger_view w.ledger;
+      has_room = ledger_has_room w.ledger;
     }) };
 }
 
@@ -79,6 +85,7 @@ impl<S: Store> World<S> {
         ensures made { (W : Fixed) (H : List Happened) → Holds W H self.old → IfOk result (λ reply. IsAnswered W H (asked_of event.now) reply self.new) }
         ensures why { (W : Fixed) (H : List Happened) → Holds W H self.old → IfErr result (IsWhy W H (asked_of event.now)) }
         ensures err { OnErr result (self.new ≡ self.old) }
+        ensures room { HasRoomFor self.old.has_room (asked_of event.now) → IsErrOf result NoMemory → ⊥ }
     {
         act(&mut self.a, &mut self.ledger, self.alloc, event)
     }
@@ -89,6 +96,7 @@ impl<S: Store> World<S> {
         ensures made { (W : Fixed) (H : List Happened) → Holds W H self.old → IfOk result (λ reply. IsAnswered W H (asked_of event.now) reply self.new) }
         ensures why { (W : Fixed) (H : List Happened) → Holds W H self.old → IfErr result (IsWhy W H (asked_of event.now)) }
         ensures err { OnErr result (self.new ≡ self.old) }
+        ensures room { HasRoomFor self.old.has_room (asked_of event.now) → IsErrOf result NoMemory → ⊥ }
     {
         act(&mut self.b, &mut self.ledger, self.alloc, event)
     }
@@ -99,24 +107,54 @@ impl<S: Store> World<S> {
         ensures made { (W : Fixed) (H : List Happened) → Holds W H self.old → IfOk result (λ reply. IsAnswered W H (asked_of event.now) reply self.new) }
         ensures why { (W : Fixed) (H : List Happened) → Holds W H self.old → IfErr result (IsWhy W H (asked_of event.now)) }
         ensures err { OnErr result (self.new ≡ self.old) }
+        ensures room { HasRoomFor self.old.has_room (asked_of event.now) → IsErrOf result NoMemory → ⊥ }
     {
         act(&mut self.m, &mut self.ledger, self.alloc, event)
     }
 
-    /// Makes an event happen, if it may.
-    ///
-    /// # Errors
-    ///
-    /// Where it may not: a premise that it breaks, `NoSuchFrame` or `StartsUsedUp`; and `NoMemory`. Then nothing changes.
-    pub fn step(&mut self, event: &Event<'_>) -> Result<Reply, Fault>
+    /// What the core that an event is for is asked, or a PMU.
+    fn act_for(&mut self, event: &Event<'_>) -> Result<Reply, Fault>
         ensures made { (W : Fixed) (H : List Happened) → Holds W H self.old → IfOk result (λ reply. IsAnswered W H (asked_of event.now) reply self.new) }
         ensures why { (W : Fixed) (H : List Happened) → Holds W H self.old → IfErr result (IsWhy W H (asked_of event.now)) }
         ensures err { OnErr result (self.new ≡ self.old) }
+        ensures room { HasRoomFor self.old.has_room (asked_of event.now) → IsErrOf result NoMemory → ⊥ }
     {
         match receiver(event) {
             Who::A => self.act_a(event),
             Who::B => self.act_b(event),
             Who::M => self.act_m(event),
         }
+    }
+
+    /// Makes room for one frame and one row more, which no event takes away but one that sends. Where there is room, it takes no memory.
+    ///
+    /// # Errors
+    ///
+    /// [`AllocError`] where there is no memory for it. Then nothing changes.
+    pub fn reserve(&mut self) -> Result<(), AllocError>
+        ensures ok { OnOk result (self.new ≡ record self.old { has_room = true }) }
+        ensures err { OnErr result (self.new ≡ self.old) }
+        ensures room { IsTrue self.old.has_room → IsOk result }
+    {
+        self.ledger.make_room()
+    }
+
+    /// Makes an event happen, if it may. Bytes that come to a core need no memory. Where there is room ([`World::reserve`]), neither does
+    /// a send, a tick or a publish. A stop opens a core, and may always want memory.
+    ///
+    /// # Errors
+    ///
+    /// Where it may not: a premise that it breaks, `NoSuchFrame` or `StartsUsedUp`; and else `NoMemory`. Then nothing changes.
+    pub fn step(&mut self, event: &Event<'_>) -> Result<Reply, Fault>
+        ensures made { (W : Fixed) (H : List Happened) → Holds W H self.old → IfOk result (λ reply. IsAnswered W H (asked_of event.now) reply self.new) }
+        ensures why { (W : Fixed) (H : List Happened) → Holds W H self.old → IfErr result (IsWhy W H (asked_of event.now)) }
+        // And where there is a cause, it is told.
+        ensures told { (W : Fixed) (H : List Happened) (cause : Cause) → Holds W H self.old → IsFault W H (asked_of event.now) cause →
+            IsErrOf result (fault_of cause) }
+        ensures err { OnErr result (self.new ≡ self.old) }
+        ensures room { HasRoomFor self.old.has_room (asked_of event.now) → IsErrOf result NoMemory → ⊥ }
+    {
+        asked_is_event_or_fault();
+        self.act_for(event)
     }
 }
