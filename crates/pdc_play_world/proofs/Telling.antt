@@ -22,7 +22,8 @@ record TellsText (W : World) (H : List Happened) (text told : List ℕ) (new : W
   pub holds : Holds W after new
   pub plays : PlaysText (Tells W) (frames_in W) H text told after
 
-text_told : (W : World) (H : List Happened) (old : WorldView) (text told : List ℕ) (new : WorldView) → Holds W H old → PlaysText RepliesSeen frames_seen old text told new → TellsText W H text told new
+text_told : (W : World) (H : List Happened) (old : WorldView) (text told : List ℕ) (new : WorldView) → Holds W H old
+    → PlaysText RepliesSeen frames_seen old text told new → TellsText W H text told new
 text_told W H old [] told new holds p = record {
   after = H;
   holds = subst (λ (v : WorldView). Holds W H v) (sym p.1) holds;
@@ -48,7 +49,8 @@ record TellsLines (W : World) (lines : List (List ℕ)) (printed : List ℕ) (ne
   pub holds : Holds W after new
   pub played : HasPlayed (Tells W) (frames_in W) [] lines printed after
 
-lines_told : (W : World) (first : WorldView) (lines : List (List ℕ)) (printed : List ℕ) (new : WorldView) → Holds W [] first → HasPlayed RepliesSeen frames_seen first lines printed new → TellsLines W lines printed new
+lines_told : (W : World) (first : WorldView) (lines : List (List ℕ)) (printed : List ℕ) (new : WorldView) → Holds W [] first
+    → HasPlayed RepliesSeen frames_seen first lines printed new → TellsLines W lines printed new
 lines_told W first [] printed new holds p = record {
   after = [];
   holds = subst (λ (v : WorldView). Holds W [] v) (sym p.1) holds;
@@ -64,7 +66,8 @@ lines_told W first (line ∷ before) printed new holds p =
     }
 
 -- The same of the line that ends the script.
-end_told : (W : World) (H : List Happened) (state : WorldView) (text : List ℕ) (number at : ℕ) (end : Ending) (told : List ℕ) → Holds W H state → EndsBy RefusesSeen state text number at end told → EndsBy (IsWhy W) H text number at end told
+end_told : (W : World) (H : List Happened) (state : WorldView) (text : List ℕ) (number at : ℕ) (end : Ending) (told : List ℕ) → Holds W H state
+    → EndsBy RefusesSeen state text number at end told → EndsBy (IsWhy W) H text number at end told
 end_told W H state text number at ending.Played told holds e = absurd e
 end_told W H state text number at ending.NotAnEvent told holds e = e
 end_told W H state text number at (ending.Refused fault) told holds e = record { asked = e.asked; event = e.event; refused = e.refused W H holds; line = e.line }
@@ -75,7 +78,8 @@ record TellsAll (W : World) (read : List ℕ) (end : Ending) (printed : List ℕ
   pub holds : Holds W after last
   pub ends : Ends (Tells W) (IsWhy W) (frames_in W) [] read end printed after
 
-early_told : (W : World) (first : WorldView) (read : List ℕ) (end : Ending) (printed : List ℕ) (last : WorldView) → Holds W [] first → (e : EndsEarly RepliesSeen RefusesSeen frames_seen first read end printed last)
+early_told : (W : World) (first : WorldView) (read : List ℕ) (end : Ending) (printed : List ℕ) (last : WorldView) → Holds W [] first
+    → (e : EndsEarly RepliesSeen RefusesSeen frames_seen first read end printed last)
     → (t : TellsLines W e.lines e.earlier last) → EndsEarly (Tells W) (IsWhy W) (frames_in W) [] read end printed t.after
 early_told W first read end printed last holds e t = record {
   lines = e.lines;
@@ -91,7 +95,8 @@ early_told W first read end printed last holds e t = record {
   all = e.all;
 }
 
-all_told : (W : World) (first : WorldView) (read : List ℕ) (end : Ending) (printed : List ℕ) (last : WorldView) → Holds W [] first → Ends RepliesSeen RefusesSeen frames_seen first read end printed last → TellsAll W read end printed last
+all_told : (W : World) (first : WorldView) (read : List ℕ) (end : Ending) (printed : List ℕ) (last : WorldView) → Holds W [] first
+    → Ends RepliesSeen RefusesSeen frames_seen first read end printed last → TellsAll W read end printed last
 all_told W first read ending.Played printed last holds e =
     let earlier : TellsLines W e.lines e.played.earlier e.played.between = lines_told W first e.lines e.played.earlier e.played.between holds e.played.before in
     let now : TellsText W earlier.after e.text e.played.told last = text_told W earlier.after e.played.between e.text e.played.told last earlier.holds e.played.plays in
@@ -115,7 +120,8 @@ all_told W first read (ending.Refused fault) printed last holds e =
     record { after = t.after; holds = t.holds; ends = early_told W first read (ending.Refused fault) printed last holds e t }
 
 -- A script that was played on a world that held the empty history is told.
-pub told : (W : World) (first : WorldView) (start : Option (List ℕ)) (read : List ℕ) (end : Ending) (last : WorldView) (contents : Option (List ℕ)) → Holds W [] first → HasEnded RepliesSeen RefusesSeen frames_seen first start read end last contents → IsTold W start read end contents
+pub told : (W : World) (first : WorldView) (start : Option (List ℕ)) (read : List ℕ) (end : Ending) (last : WorldView) (contents : Option (List ℕ))
+    → Holds W [] first → HasEnded RepliesSeen RefusesSeen frames_seen first start read end last contents → IsTold W start read end contents
 told W first start read end last contents holds h =
     let all : TellsAll W read end h.printed last = all_told W first read end h.printed last holds h.ends in
     record {
@@ -124,8 +130,10 @@ told W first start read end last contents holds h =
       ended = record { printed = h.printed; ends = all.ends; written = h.written };
     }
 
-pub run_told : (W : World) (first world : WorldView) (remaining rest start contents : Option (List ℕ)) (last : WorldView) (r : Result Ending PlayFault) → first ≡ world → Holds W [] world
-    → IfOk r (λ end. (read : List ℕ) × Consumes remaining rest read × HasEnded RepliesSeen RefusesSeen frames_seen first start read end last contents) → IfOk r (IsPlayedOn W remaining rest start contents)
+pub run_told : (W : World) (first world : WorldView) (remaining rest start contents : Option (List ℕ)) (last : WorldView) (r : Result Ending PlayFault)
+    → first ≡ world → Holds W [] world
+    → IfOk r (λ end. (read : List ℕ) × Consumes remaining rest read × HasEnded RepliesSeen RefusesSeen frames_seen first start read end last contents)
+    → IfOk r (IsPlayedOn W remaining rest start contents)
 run_told W first world remaining rest start contents last (Ok end) e holds h =
     inl (record { read = h.0; consumed = h.1; told = told W first start h.0 end last contents (subst (λ (v : WorldView). Holds W [] v) (sym e) holds) h.2 })
 run_told W first world remaining rest start contents last (Err fault) e holds h = tt

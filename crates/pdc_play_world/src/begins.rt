@@ -28,7 +28,8 @@ pub fn play_over<S: Store + Drop, R: Read, W: Write>(
     reader: &mut R,
     writer: &mut W,
 ) -> Result<Ending, PlayFault>
-    ensures told { IfOk result (IsPlayedOn (world_over roles (S.stored stores.0) (S.stored stores.1) (S.stored stores.2)) (R.remaining reader.old) (R.remaining reader.new) (W.contents writer.old) (W.contents writer.new)) }
+    ensures told { IfOk result (IsPlayedOn (world_over roles (S.stored stores.0) (S.stored stores.1) (S.stored stores.2))
+        (R.remaining reader.old) (R.remaining reader.new) (W.contents writer.old) (W.contents writer.new)) }
     ensures whole { result ≡ Ok Played → IsAtEnd (R.remaining reader.new) }
 {
     let leads = Leads {
@@ -54,7 +55,8 @@ pub fn play_roles<R: Read, W: Write>(
     reader: &mut R,
     writer: &mut W,
 ) -> Result<Ending, PlayFault>
-    ensures told { IfOk result (IsPlayedOn (world_over roles first_stored first_stored first_stored) (R.remaining reader.old) (R.remaining reader.new) (W.contents writer.old) (W.contents writer.new)) }
+    ensures told { IfOk result (IsPlayedOn (world_over roles first_stored first_stored first_stored)
+        (R.remaining reader.old) (R.remaining reader.new) (W.contents writer.old) (W.contents writer.new)) }
     ensures whole { result ≡ Ok Played → IsAtEnd (R.remaining reader.new) }
 {
     let stores = (
@@ -78,7 +80,8 @@ pub fn play_settings<R: Read, W: Write>(
     reader: &mut R,
     writer: &mut W,
 ) -> Result<Ending, PlayFault>
-    ensures told { IfOk result (IsPlayedBy (roles_of a b m) (R.remaining reader.old) (R.remaining reader.new) (W.contents writer.old) (W.contents writer.new)) }
+    ensures told { IfOk result (IsPlayedBy (roles_of a b m)
+        (R.remaining reader.old) (R.remaining reader.new) (W.contents writer.old) (W.contents writer.new)) }
     ensures whole { result ≡ Ok Played → IsAtEnd (R.remaining reader.new) }
 {
     match roles_of_three(a, b, m) {
