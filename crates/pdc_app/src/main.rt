@@ -3,12 +3,14 @@
 
 mod mark_convert;
 mod mark_init;
+mod play;
 
 use mark_convert::{mark_convert_status, report_mark_convert};
 use mark_init::{mark_init_status, report_mark_init};
 use pdc_command_line::{MarkConvert, MarkInit, Request, parse};
 use pdc_mark_files::{convert_mark, make_mark};
 use pdc_show::{ShowFault, Shown, run_show};
+use play::run_play_command;
 use std::alloc::Global;
 use std::io;
 use std::io::BufWriter;
@@ -69,6 +71,7 @@ fn main(rt: HostRuntime) -> io::Result<ExitCode> {
     let arguments = words.as_slice().get(1..).unwrap_or(&[]);
     let status = match parse(alloc, arguments) {
         Ok(Some(Request::Show)) => run_show_command(&rt)?,
+        Ok(Some(Request::Play(request))) => run_play_command(&rt, &request)?,
         Ok(Some(Request::MarkInit(request))) => run_mark_init_command(&rt, &request)?,
         Ok(Some(Request::MarkConvert(request))) => run_mark_convert_command(&rt, &request)?,
         Ok(None) => WRONG_ARGUMENTS,

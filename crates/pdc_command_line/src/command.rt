@@ -2,6 +2,7 @@
 
 use crate::mark_convert::{mark_convert, mark_convert_request};
 use crate::mark_init::{mark_init, mark_init_request};
+use crate::play::{play, play_request};
 use crate::request::Request;
 use crate::show::show;
 use clap::{Command, Error};
@@ -14,6 +15,8 @@ const VERSION: &str = "0.1.0";
 
 const EXAMPLES: &str = "Examples:
   pdc show < captured.hex     print what captured frames say
+  pdc play a.toml b.toml m.toml < script.txt
+                              play events on two nodes and a merger
   pdc mark-init a.mark 201 50 make the mark file of node 201 at 50 frames a second
   pdc mark-convert old new    make a mark file of version 2 out of one of version 1
   pdc help show               tell more of a command
@@ -30,6 +33,7 @@ fn pdc<'a>(alloc: Global) -> Result<Command<'a>, AllocError> {
         .subcommand_required(true)
         .arg_required_else_help(true)
         .subcommand(show(alloc))?
+        .subcommand(play(alloc)?)?
         .subcommand(mark_init(alloc)?)?
         .subcommand(mark_convert(alloc)?)
 }
@@ -44,6 +48,7 @@ pub fn parse<'a>(alloc: Global, words: &'a [String]) -> Result<Option<Request<'a
     let matches = pdc(alloc)?.try_get_matches_from(words)?;
     match matches.subcommand() {
         Some(("show", _)) => Ok(Some(Request::Show)),
+        Some(("play", inner)) => Ok(play_request(inner).map(Request::Play)),
         Some(("mark-init", inner)) => Ok(mark_init_request(alloc, inner)?.map(Request::MarkInit)),
         Some(("mark-convert", inner)) => {
             Ok(mark_convert_request(inner).map(Request::MarkConvert))

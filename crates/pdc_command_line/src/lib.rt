@@ -8,8 +8,9 @@ mod command;
 mod mark_convert;
 mod mark_init;
 mod number;
+mod play;
 mod request;
 mod show;
 
 pub use command::parse;
-pub use request::{MAX_ID, MAX_RATE, MarkConvert, MarkInit, Request};
+pub use request::{MAX_ID, MAX_RATE, MarkConvert, MarkInit, Play, Request};

@@ -17,6 +17,8 @@ pub enum Request<'a> {
     MarkInit(MarkInit<'a>),
     /// Make a mark file of version 2 out of one of version 1.
     MarkConvert(MarkConvert<'a>),
+    /// Play the script on standard input.
+    Play(Play<'a>),
 }
 
 /// The mark file that is to be made.
@@ -41,4 +43,15 @@ pub struct MarkConvert<'a> {
     pub old: &'a str,
     /// The name of the new file.
     pub new: &'a str,
+}
+
+/// The settings files of the world on which a script is played.
+#[derive(Clone, Copy, Debug)]
+pub struct Play<'a> {
+    /// The name of the settings file of node A.
+    pub a: &'a str,
+    /// Of node B.
+    pub b: &'a str,
+    /// Of the merger.
+    pub m: &'a str,
 }

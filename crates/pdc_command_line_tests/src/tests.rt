@@ -6,7 +6,7 @@ use std::process::Abort;
 use std::test::Fail;
 
 /// Words, with a bar between two, and what they ask for. What is no command is status 2, and help is status 0.
-const CASES: [(&str, &str); 34] = [
+const CASES: [(&str, &str); 40] = [
     ("show", "show"),
     ("mark-init|a.mark|65534|240", "mark-init a.mark 65534 240"),
     ("mark-convert|a.mark|a2.mark", "mark-convert a.mark a2.mark"),
@@ -23,10 +23,16 @@ const CASES: [(&str, &str); 34] = [
     ("mark-convert|a.mark", "status 2"),
     ("mark-convert|a.mark|a2.mark|x", "status 2"),
     ("mark-convert|--no-such-flag|a2.mark", "status 2"),
+    ("play|a.toml|b.toml|m.toml", "play a.toml b.toml m.toml"),
+    ("play", "status 2"),
+    ("play|a.toml|b.toml", "status 2"),
+    ("play|a.toml|b.toml|m.toml|x", "status 2"),
     ("--help", "status 0"),
     ("show|--help", "status 0"),
     ("mark-init|--help", "status 0"),
     ("mark-convert|--help", "status 0"),
+    ("play|--help", "status 0"),
+    ("help|play", "status 0"),
     ("help|mark-init", "status 0"),
     ("help|mark-convert", "status 0"),
     // A number is decimal digits alone, from 1 to 240 here.
@@ -62,6 +68,9 @@ fn asked(alloc: Global, words: &[String]) -> Result<String, AllocError> {
         }
         Ok(Some(Request::MarkConvert(mark))) => {
             format!(in alloc; "mark-convert {} {}", mark.old, mark.new)
+        }
+        Ok(Some(Request::Play(world))) => {
+            format!(in alloc; "play {} {} {}", world.a, world.b, world.m)
         }
         Ok(None) => String::from_str(alloc, "nothing"),
         Err(error) => format!(in alloc; "status {}", error.exit_code()),
