@@ -5,7 +5,7 @@ use arrayvec::ArrayVec;
 use pdc_life::{MergerSettings, Settings};
 
 /// A copy of a node's settings.
-pub(crate) fn copy_of(settings: &Settings) -> Settings
+pub fn copy_of(settings: &Settings) -> Settings
     ensures { result ≡ settings.now }
 {
     let mut pmus = ArrayVec::new();
@@ -22,7 +22,7 @@ pub(crate) fn copy_of(settings: &Settings) -> Settings
 }
 
 /// A copy of the merger's settings.
-pub(crate) fn copy_of_merger(settings: &MergerSettings) -> MergerSettings
+pub fn copy_of_merger(settings: &MergerSettings) -> MergerSettings
     ensures { result ≡ settings.now }
 {
     let mut sources = ArrayVec::new();

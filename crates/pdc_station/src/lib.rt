@@ -17,6 +17,7 @@ mod station;
 mod stops;
 mod stores;
 
+pub use copies::{copy_of, copy_of_merger};
 pub use fault::StopFault;
 pub use laws::rows_are_published;
 pub use opens::Opens;

@@ -1,5 +1,6 @@
 use Rattle.std.proofs.Common.{rules}
-use Rattle.pdc_hub.proofs.Pipes.{merges, totals}
+use Rattle.crossbeam_channel.specs.Claims.{view}
+use Rattle.pdc_hub.proofs.Pipes.{all_taken, merges, totals}
 use Rattle.pdc_hub.proofs.runs.settle.Goals as goal
 
 pub absorb-requires-clause-rule : goal.absorb-requires-clause-rule
