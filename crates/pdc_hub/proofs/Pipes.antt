@@ -1,5 +1,6 @@
 -- Each step keeps the rule of the pipe.
 use Rattle.std.proofs.Common.{arith, ◌<◌, ◌≤◌, ◌+◌, ◌≡◌, ◌≢◌, ℕ, zero, suc, Result, Ok, Err, IfOk, OnOk, Bool, true, false, true≢false, List, [], ◌∷◌, ◌++◌, length, set, sym, refl, ap, ◌∙◌, subst, ⊎_elim, append_assoc, append-nil}
+use Rattle.std.proofs.lemmas.List.{length-append}
 use mathlib.Core.Option.{some, some-ne-none}
 use lib.ListN.{get_elem?}
 use Rattle.crossbeam_channel.specs.Fifo.{Pushes, Pops, Forks, Merges, Learns}
@@ -182,8 +183,7 @@ ended_alone put after false e h k = ap instants_of (k refl ∙ e)
 
 -- one more of them is one more
 pub length_more : (ns : List ℕ) (n : ℕ) → length (ns ++ n ∷ []) ≡ length ns + 1
-length_more [] n = refl
-length_more (m ∷ ns) n = ap suc (length_more ns n)
+length_more ns n = length-append ns (n ∷ [])
 
 -- a data frame that was put counts, and its instant bounds the count
 pub counted_data : (count : ℕ) (put after : List Message) (p : Published) (low last : ℕ) → after ≡ put ++ Data p ∷ [] → IsCounted count put low → low < p.instant → last ≡ p.instant → IsCounted (count + 1) after last
@@ -196,11 +196,11 @@ counted_data count put after p low last e h l s = record {
 pub counted_same : (count : ℕ) (put after : List Message) (low last : ℕ) → instants_of after ≡ instants_of put → IsCounted count put low → low ≤ last → IsCounted count after last
 counted_same count put after low last e h l = record { counted = h.counted ∙ sym (ap length e); few = omega (arith, h.few, l) }
 
-head_of : Message → List Message → Message
+abbrev head_of : Message → List Message → Message
 head_of d [] = d
 head_of d (x ∷ xs) = x
 
-tail_of : List Message → List Message
+abbrev tail_of : List Message → List Message
 tail_of [] = []
 tail_of (x ∷ xs) = xs
 
@@ -213,17 +213,17 @@ has_end-there (End ∷ ms) items = refl
 not_end : (m : Message) (ms : List Message) → End ≡ m → has_end (m ∷ ms) ≡ false → ⊥
 not_end m ms e h = true≢false (subst (λ x. has_end (x ∷ ms) ≡ false) (sym e) h)
 
-is_empty_list : List Message → Bool
+abbrev is_empty_list : List Message → Bool
 is_empty_list [] = true
 is_empty_list (x ∷ xs) = false
 
-is_at_end : Ended → Bool
+abbrev is_at_end : Ended → Bool
 is_at_end AtEndMark = true
 is_at_end SinkFault = false
 is_at_end AlignerGone = false
 
 is_not_end : (e : Ended) → is_at_end e ≡ false → e ≡ AtEndMark → ⊥
-is_not_end e no is = true≢false (sym (ap is_at_end is) ∙ no)
+is_not_end e other is = true≢false (sym (ap is_at_end is) ∙ other)
 
 end_of_tail : (m : Message) (ms : List Message) → has_end (m ∷ ms) ≡ false → has_end ms ≡ false
 end_of_tail (Data _) ms h = h

@@ -3,6 +3,6 @@ use Rattle.crossbeam_channel.specs.Claims.{view}
 use Rattle.pdc_hub.proofs.Pipes.{handed_on}
 use Rattle.pdc_hub.proofs.runs.send_owned.Goals as goal
 
-pub returns-clause : goal.returns-clause
-returns-clause g c =
+pub returns : goal.returns
+returns g c =
     (search rules, search rules, handed_on (view c.send_out-ended.new.pass).taken c.send_out-ended.result c.send_out-ended.ensures.took c.send_out-ended.ensures.whole)
