@@ -1,5 +1,5 @@
 //! Ticks by the system's clock.
-ghost use Rattle.std.specs.Prelude.{◌≡◌, ◌≤◌, ◌*◌, ◌/◌, ◌<◌};
+ghost use Rattle.std.specs.Prelude.{◌≡◌, ◌≤◌, ◌*◌, ◌/◌, ◌^◌, ◌<◌};
 
 use pdc_hub::Ticker;
 use std::rt::Clock;
