@@ -1,5 +1,5 @@
 //! A mark that has begun.
-ghost use Rattle.std.specs.Prelude.{◌≡◌, ◌⊎◌, ◌×◌, IfErr, IfOk, IsErrOf, OnErr};
+ghost use Rattle.std.specs.Prelude.{◌≡◌, ◌⊎◌, IfOk, IsErrOf, OnErr};
 ghost use Rattle.pdc_mark.specs.Stored.{with_next_start};
 ghost use Rattle.pdc_running.specs.Begun.{begun_mark};
 

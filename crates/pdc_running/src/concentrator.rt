@@ -23,7 +23,7 @@ use std::sync::Wait;
 use std::sync::ledger::{Blank, Ledger};
 use std::thread::Threads;
 
-/// Runs two cores that were opened alike: one is the base of the recorder, the other its present state.
+/// Runs a core at the start of its life, the base of the recorder, with another one that is opened like it, its present state.
 fn opened<
     C: Opens + Send,
     N: Naming<C::Settings> + Send,
@@ -41,7 +41,8 @@ fn opened<
     alloc: Global,
     settings: &C::Settings,
     base: C,
-    state: C,
+    start: u32,
+    counts: &[u16; MAX_PMUS],
     limit: usize,
     pace: Pace,
     blanks: Blanks,
@@ -52,19 +53,23 @@ fn opened<
 ) -> Ran<M, K>
 where
     C::Settings: Sync,
-    requires alike { (g : Given) × (N.given ≡ Some g) × C.stands_for base g [] × C.stands_for state g [] }
-    requires settings { (N.settings ≡ Some settings.now) × (C.settings_of base ≡ settings.now) × (C.settings_of state ≡ settings.now) }
+    requires given { N.given ≡ Some (C.given_with settings.now start (last_in publisher) counts.now) }
+    requires stands { C.stands_for base (C.given_with settings.now start (last_in publisher) counts.now) [] }
+    requires settings { (N.settings ≡ Some settings.now) × (C.settings_of base ≡ settings.now) }
     requires limit { 1 ≤ limit }
     requires names { (blanks.taken.name ≡ T.name) × (blanks.refused.name ≡ F.name) × (blanks.configured.name ≡ G.name) × (blanks.top.name ≡ P.name) }
     requires parts { (blanks.taken.parts ≡ T.parts) × (blanks.refused.parts ≡ F.parts) × (blanks.configured.parts ≡ G.parts) × (blanks.top.parts ≡ P.parts) }
     requires count { (T.parts ≡ vec_len sources + 1) × (F.parts ≡ vec_len sources + 1) × (G.parts ≡ vec_len sources + 1) × (P.parts ≡ 1) }
     requires streams { (vec_len sources ≡ C.Settings.streams settings.now) × (vec_len sources ≤ MAX_PMUS) }
-    requires floor { (C.popped_of state ≡ last_in publisher) × (last_in publisher ≡ (M.stored (mark_in publisher)).floor) }
+    requires floor { last_in publisher ≡ (M.stored (mark_in publisher)).floor }
     requires rate { IsAtRate N.given (output_in publisher).rate }
     ensures totals { IfOk result.outcome (λ t. (t.taken ≡ sum (map (λ c. c.taken) t.receivers.items)) × (t.refused ≡ sum (map (λ c. c.refused) t.receivers.items))) }
     ensures sent { HasRun (K.took sink result.sink) (last_in publisher) (M.stored (mark_in result.publisher)).floor result.outcome }
 {
     let floor = publisher.last();
+    let Ok(state) = base.open_next(alloc, start, floor, counts) else {
+        return not_run(publisher, sink);
+    };
     let (hub, shares, top) = Hub::<C, N, T, F, G, P>::new(alloc, base, state, limit, floor, blanks);
     run(
         rt, alloc, &hub, settings, shares, top, sources, publisher, ticker, pace, sink,
@@ -83,7 +88,7 @@ fn blanks(parts: u64) -> Blanks
     }
 }
 
-/// Runs a core at the start of its life, with another one that is opened like it.
+/// Runs a core at the start of its life.
 fn run_core<
     C: Opens + Send,
     S: Source + Send + Drop,
@@ -110,21 +115,18 @@ where
     requires stands { C.stands_for core (C.given_with settings.now start (last_in publisher) counts.now) [] }
     requires settings { C.settings_of core ≡ settings.now }
     requires streams { (vec_len sources ≡ C.Settings.streams settings.now) × (vec_len sources ≤ MAX_PMUS) }
-    requires floor { (C.popped_of core ≡ last_in publisher) × (last_in publisher ≡ (M.stored (mark_in publisher)).floor) }
+    requires floor { last_in publisher ≡ (M.stored (mark_in publisher)).floor }
     requires rate { (1 ≤ rate) × ((output_in publisher).rate ≡ rate) × ((C.given_with settings.now start (last_in publisher) counts.now).output.rate ≡ rate) }
     ensures totals { IfOk result.outcome (λ t. (t.taken ≡ sum (map (λ c. c.taken) t.receivers.items)) × (t.refused ≡ sum (map (λ c. c.refused) t.receivers.items))) }
     ensures sent { HasRun (K.took sink result.sink) (last_in publisher) (M.stored (mark_in result.publisher)).floor result.outcome }
 {
-    let Ok(state) = core.open_next(alloc, start, publisher.last(), counts) else {
-        return not_run(publisher, sink);
-    };
     let pace = Pace {
         rate,
         layout_every: plan.layout_every,
     };
     let blanks = blanks(sources.len() as u64 + 1);
     opened::<C, Brand, Brand, Brand, Brand, Brand, S, M, I, K, R>(
-        rt, alloc, settings, core, state, plan.limit, pace, blanks, sources, publisher, ticker, sink,
+        rt, alloc, settings, core, start, counts, plan.limit, pace, blanks, sources, publisher, ticker, sink,
     )
 }
 

@@ -1,6 +1,7 @@
 //! How a concentrator runs.
 ghost use Rattle.std.specs.Prelude.{◌≤◌};
 ghost use Rattle.pdc_publisher.specs.declared.publisher.TheConstants.{MAX_LEAD};
+ghost use Rattle.pdc_running.specs.declared.plan.TheConstants.{MAX_LIMIT};
 
 /// The most steps that are kept over a base.
 pub const MAX_LIMIT: usize = 1024;
