@@ -8,10 +8,10 @@ use pdc_settings::{MergerSettings, NodeSettings, SettingsFault};
 use std::alloc::Global;
 use std::fs;
 use std::fs::File;
-use std::rt::{Alloc, Files};
+use std::rt::Files;
 
 /// The bytes of the settings file.
-fn read_file<R: Files<File = File> + Alloc<A = Global>>(
+fn read_file<R: Files<File = File> + AllocGlobal>(
     rt: &R,
     file: &str,
 ) -> Result<Vec<u8>, ServiceFault> {
@@ -24,7 +24,7 @@ fn text_of(bytes: &[u8]) -> Result<&str, ServiceFault> {
 }
 
 /// The settings of a node in this file.
-pub fn read_node_settings<R: Files<File = File> + Alloc<A = Global>>(
+pub fn read_node_settings<R: Files<File = File> + AllocGlobal>(
     rt: &R,
     file: &str,
 ) -> Result<NodeSettings, ServiceFault> {
@@ -34,7 +34,7 @@ pub fn read_node_settings<R: Files<File = File> + Alloc<A = Global>>(
 }
 
 /// The settings of the merger in this file.
-pub fn read_merger_settings<R: Files<File = File> + Alloc<A = Global>>(
+pub fn read_merger_settings<R: Files<File = File> + AllocGlobal>(
     rt: &R,
     file: &str,
 ) -> Result<MergerSettings, ServiceFault> {

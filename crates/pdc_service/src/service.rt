@@ -11,7 +11,7 @@ use pdc_settings::Service;
 use std::alloc::Global;
 use std::fs::File;
 use std::net::Net;
-use std::rt::{Alloc, Clock};
+use std::rt::Clock;
 use std::sync::Wait;
 use std::thread::Threads;
 
@@ -39,7 +39,7 @@ fn plan_of(service: &Service) -> Plan {
 ///
 /// The first fault: of the settings file, the mark file, the start that is stored, the ports in the order of the PMUs, or the run.
 pub fn serve_node<
-    R: std::rt::Files<File = File> + Alloc<A = Global> + Clock + Net + Threads + Wait + Sync,
+    R: std::rt::Files<File = File> + AllocGlobal + Clock + Net + Threads + Wait + Sync,
 >(
     rt: &R,
     files: &Files<'_>,
@@ -63,7 +63,7 @@ pub fn serve_node<
 ///
 /// The first fault: of the settings file, the mark file, the start that is stored, the ports of node A and node B, or the run.
 pub fn serve_merger<
-    R: std::rt::Files<File = File> + Alloc<A = Global> + Clock + Net + Threads + Wait + Sync,
+    R: std::rt::Files<File = File> + AllocGlobal + Clock + Net + Threads + Wait + Sync,
 >(
     rt: &R,
     files: &Files<'_>,
