@@ -5,6 +5,6 @@
 #![tactic(auto)]
 
 mod section;
-mod simulate;
+mod simulation;
 
-pub use simulate::{Simulated, SimulationFault, simulate};
+pub use simulation::{Simulated, SimulationFault, simulate};

@@ -113,7 +113,9 @@ fn sleep_until<R: Clock>(rt: &R, instant: u64, rate: u16) -> Result<(), Simulati
 }
 
 /// The configuration of a new PMU.
-fn configure(pmu: &mut Pmu, id: u16, soc: u32, out: &mut Vec<u8>) -> Result<(), SimulationFault> {
+fn configure(pmu: &mut Pmu, id: u16, soc: u32, out: &mut Vec<u8>) -> Result<(), SimulationFault>
+    ensures { pmu.new.rate ≡ pmu.old.rate }
+{
     let payload = payload_of(id);
     let Some(config) = config_of(&payload) else {
         return Err(SimulationFault::NoMemory);
@@ -164,6 +166,7 @@ fn send_data(
     out: &mut Vec<u8>,
 ) -> Result<bool, SimulationFault>
     requires { pmu.old.rate ≡ rate }
+    ensures { pmu.new.rate ≡ rate }
 {
     if instant >= SECONDS * u64::from(rate) {
         return Ok(false);
