@@ -53,7 +53,7 @@ const PLAIN_12: &[Act] = &[Act::Give(CONFIG_12), Act::AwaitLayout(3), Act::Give(
 /// A source that fails at its second call.
 const FAILS: &[Act] = &[Act::Give(CONFIG_12), Act::Fail];
 
-fn scene<'a>(name: &'a str) -> Scene<'a> {
+fn plain<'a>(name: &'a str) -> Scene<'a> {
     Scene {
         name,
         limit: 1024,
@@ -68,23 +68,23 @@ fn scene<'a>(name: &'a str) -> Scene<'a> {
 fn main(rt: HostRuntime) -> io::Result<ExitCode> {
     let alloc = rt.alloc();
     let scenes = [
-        scene("both present"),
+        plain("both present"),
         Scene {
             limit: 1,
-            ..scene("both present, each step brings the base up")
+            ..plain("both present, each step brings the base up")
         },
         Scene {
             layout_every: 2,
-            ..scene("both present, the layout again at each second tick")
+            ..plain("both present, the layout again at each second tick")
         },
         Scene {
             second: FAILS,
             taken: 1,
-            ..scene("a source fails at its second call")
+            ..plain("a source fails at its second call")
         },
         Scene {
             sink_fails_at: 2,
-            ..scene("the sink fails at its second frame")
+            ..plain("the sink fails at its second frame")
         },
     ];
     for scene in &scenes {

@@ -16,7 +16,6 @@ use pdc_table::RingTable;
 use std::alloc::Global;
 use std::io;
 use std::marker::Brand;
-use std::rt::Print;
 use std::sync::Wait;
 use std::sync::ledger::{Blank, Ledger};
 use std::thread::Threads;
@@ -50,6 +49,7 @@ struct Played {
 
 /// Runs two nodes that were opened alike: one is the base, the other the state.
 fn opened<
+    'h,
     N: Naming<Settings> + Send + Sync,
     T: Ledger + Send + Sync,
     F: Ledger + Send + Sync,
@@ -57,19 +57,19 @@ fn opened<
     P: Ledger + Send + Sync,
     R: Threads + Wait + Sync,
 >(
-    rt: &R,
+    rt: &'h R,
     alloc: Global,
     settings: &Settings,
     counts: &[u16; MAX_PMUS],
     base: Node<RingTable>,
     state: Node<RingTable>,
-    scene: &Scene<'_>,
+    scene: &Scene<'h>,
     blanks: Blanks,
     publisher: Publisher<ModelMark>,
     sink: Fused,
 ) -> Option<Played>
     requires given { N.given ≡ Some (given_of settings.now 1 0 counts.now 0) }
-    requires alike { StandsFor (given_of settings.now 1 0 counts.now 0) [] base.now × StandsFor (given_of settings.now 1 0 counts.now 0) [] state.now }
+    requires alike { StandsFor (given_of settings.now 1 0 counts.now 0) [] base × StandsFor (given_of settings.now 1 0 counts.now 0) [] state }
     requires settings { (N.settings ≡ Some settings.now) × (base.settings ≡ settings.now) × (state.settings ≡ settings.now) }
     requires popped { state.popped ≡ 0 }
     requires limit { 1 ≤ scene.now.limit }
@@ -82,24 +82,13 @@ fn opened<
 {
     let (hub, shares, top) =
         Hub::<Node<RingTable>, N, T, F, G, P>::new(alloc, base, state, scene.limit, 0, blanks);
+    let shared = &hub;
     let mut sources = Vec::new(alloc);
-    for acts in [scene.first, scene.second] {
-        let source = Scripted {
-            rt,
-            alloc,
-            hub: &hub,
-            acts,
-            done: 0,
-            turns: 0,
-            failures: 0,
-        };
-        if sources.push(source).is_err() {
-            return None;
-        }
-    }
+    sources.push(Scripted::new(rt, alloc, shared, scene.first)).ok()?;
+    sources.push(Scripted::new(rt, alloc, shared, scene.second)).ok()?;
     let ticker = Following {
         rt,
-        hub: &hub,
+        hub: shared,
         first: FIRST,
         taken: scene.taken,
         given: 0,
@@ -109,7 +98,7 @@ fn opened<
         layout_every: scene.layout_every,
     };
     let ran = run(
-        rt, alloc, &hub, settings, shares, top, sources, publisher, ticker, pace, sink,
+        rt, alloc, shared, settings, shares, top, sources, publisher, ticker, pace, sink,
     );
     let taken = hub.counts(rt).taken;
     Some(Played { ran, taken })
@@ -127,8 +116,12 @@ fn run_scene<R: Threads + Wait + Sync>(
     requires streams { length settings.now.pmus.items ≡ 2 }
 {
     let counts = [0; MAX_PMUS];
-    let base = Node::open(alloc, copy_of(settings), 1, 0, &counts, 0).ok()?;
-    let state = Node::open(alloc, copy_of(settings), 1, 0, &counts, 0).ok()?;
+    let Ok(base) = Node::open(alloc, copy_of(settings), 1, 0, &counts, 0) else {
+        return None;
+    };
+    let Ok(state) = Node::open(alloc, copy_of(settings), 1, 0, &counts, 0) else {
+        return None;
+    };
     let publisher = Publisher::new(ModelMark::new(1, 0), settings.output, 0);
     let blanks = Blanks {
         taken: Blank::new(3),

@@ -1,5 +1,5 @@
 //! Sources and a ticker that wait for what the core shows.
-ghost use Rattle.std.specs.Prelude.{◌≡◌, ◌≤◌, length};
+ghost use Rattle.std.specs.Prelude.{◌≡◌, ◌≤◌, ℕ, length};
 
 use pdc_cfg::read_config;
 use pdc_core::Core;
@@ -27,6 +27,7 @@ pub enum Act<'a> {
 #[derive(Drop)]
 pub struct Scripted<
     'h,
+    'r,
     C: Core + Drop,
     N: Naming<C::Settings>,
     T: Ledger,
@@ -35,10 +36,10 @@ pub struct Scripted<
     P: Ledger,
     R: Wait,
 > {
-    pub rt: &'h R,
+    pub rt: &'r R,
     pub alloc: Global,
     pub hub: &'h Hub<C, N, T, F, G, P>,
-    pub acts: &'h [Act<'h>],
+    acts: &'r [Act<'r>],
     pub done: usize,
     pub turns: u32,
     pub failures: u64,
@@ -57,6 +58,7 @@ fn section_count(bytes: &[u8]) -> usize {
 
 impl<
     'h,
+    'r,
     C: Core + Drop,
     N: Naming<C::Settings>,
     T: Ledger,
@@ -64,7 +66,25 @@ impl<
     G: Ledger,
     P: Ledger,
     R: Wait,
-> Scripted<'h, C, N, T, F, G, P, R> {
+> Scripted<'h, 'r, C, N, T, F, G, P, R> {
+    /// A source that has done none of these things yet.
+    pub fn new(
+        rt: &'r R,
+        alloc: Global,
+        hub: &'h Hub<C, N, T, F, G, P>,
+        acts: &'r [Act<'r>],
+    ) -> Self {
+        Scripted {
+            rt,
+            alloc,
+            hub,
+            acts,
+            done: 0,
+            turns: 0,
+            failures: 0,
+        }
+    }
+
     /// How many sections the layout in force has.
     fn sections(&self) -> usize {
         let mut layout = Vec::new(self.alloc);
@@ -76,14 +96,14 @@ impl<
 
     /// Idle, or stuck after too many turns.
     fn wait(&mut self) -> Next
-        ensures { self.new.failures ≡ self.old.failures }
+        ensures same { self.new.failures ≡ self.old.failures }
         ensures datagram { (n : ℕ) → result ≡ Next.Datagram n → ⊥ }
         ensures fault { result ≡ Next.Fault → ⊥ }
     {
         if self.turns == TURNS {
             return Next::Stuck;
         }
-        self.turns += 1;
+        self.turns = self.turns.saturating_add(1);
         Next::Idle
     }
 }
@@ -103,6 +123,7 @@ fn give(text: &str, buffer: &mut [u8]) -> Next
 
 impl<
     'h,
+    'r,
     C: Core + Drop,
     N: Naming<C::Settings>,
     T: Ledger,
@@ -110,7 +131,7 @@ impl<
     G: Ledger,
     P: Ledger,
     R: Wait,
-> Source for Scripted<'h, C, N, T, F, G, P, R> {
+> Source for Scripted<'h, 'r, C, N, T, F, G, P, R> {
     ghost failures_of = { λ s. s.failures };
 
     fn next(&mut self, buffer: &mut [u8]) -> Next {
@@ -142,6 +163,7 @@ impl<
 #[derive(Drop)]
 pub struct Following<
     'h,
+    'r,
     C: Core + Drop,
     N: Naming<C::Settings>,
     T: Ledger,
@@ -150,7 +172,7 @@ pub struct Following<
     P: Ledger,
     R: Wait,
 > {
-    pub rt: &'h R,
+    pub rt: &'r R,
     pub hub: &'h Hub<C, N, T, F, G, P>,
     pub first: u64,
     pub taken: u64,
@@ -159,6 +181,7 @@ pub struct Following<
 
 impl<
     'h,
+    'r,
     C: Core + Drop,
     N: Naming<C::Settings>,
     T: Ledger,
@@ -166,7 +189,7 @@ impl<
     G: Ledger,
     P: Ledger,
     R: Wait,
-> Ticker for Following<'h, C, N, T, F, G, P, R> {
+> Ticker for Following<'h, 'r, C, N, T, F, G, P, R> {
     fn next(&mut self) -> Option<u64> {
         let given = self.given;
         if given >= 2 {
