@@ -1,5 +1,6 @@
 -- Each step keeps the rule of the pipe.
-use Rattle.std.proofs.Common.{arith, ◌<◌, ◌≤◌, ◌≡◌, ◌≢◌, ℕ, zero, suc, Bool, true, false, true≢false, List, [], ◌∷◌, ◌++◌, length, set, sym, refl, ap, ◌∙◌, subst, ⊎_elim, append_assoc, append-nil}
+use Rattle.std.proofs.Common.{arith, ◌<◌, ◌≤◌, ◌+◌, ◌≡◌, ◌≢◌, ℕ, zero, suc, Result, Ok, Err, IfOk, OnOk, Bool, true, false, true≢false, List, [], ◌∷◌, ◌++◌, length, set, sym, refl, ap, ◌∙◌, subst, ⊎_elim, append_assoc, append-nil}
+use Rattle.std.proofs.lemmas.List.{length-append}
 use mathlib.Core.Option.{some, some-ne-none}
 use lib.ListN.{get_elem?}
 use Rattle.crossbeam_channel.specs.Fifo.{Pushes, Pops, Forks, Merges, Learns}
@@ -10,7 +11,12 @@ use Rattle.pdc_hub.specs.declared.message.LayoutFrame.{LayoutFrame}
 use Rattle.pdc_hub.specs.declared.message.Message.TheVariants.{Data, Layout, End}
 use Rattle.pdc_hub.specs.declared.pipe.Log.{Log}
 use Rattle.pdc_hub.specs.Pipe.{log, Fits, Piped}
-use Rattle.pdc_hub.specs.Sequence.{IsClosedBy, has_end, is_end, bytes_of, instants_of, Rises}
+use Rattle.pdc_recorder.specs.declared.fault.HubFault.{HubFault}
+use Rattle.pdc_hub.specs.declared.runs.Totals.{Totals}
+use Rattle.pdc_hub.specs.declared.senders.Ended.{Ended}
+use Rattle.pdc_hub.specs.declared.senders.Ended.TheVariants.{AtEndMark, SinkFault, AlignerGone}
+use Rattle.pdc_hub.specs.Run.{EndsThere, HasHandedOn}
+use Rattle.pdc_hub.specs.Sequence.{IsClosedBy, IsCounted, has_end, is_end, bytes_of, instants_of, Rises}
 
 at_end : (l : List Log) (a b : Log) (j : ℕ) → get_elem? l j ≢ some b → get_elem? (l ++ a ∷ []) j ≡ some b → j ≡ length l
 at_end [] a b zero n e = refl
@@ -174,3 +180,86 @@ handed before was now taken after x n w a = n ∙ (ap (λ l. l ++ x ∷ []) w �
 pub ended_alone : (put after : List Message) (r : Bool) → put ≡ [] → (r ≡ true → after ≡ put ++ End ∷ []) → (r ≡ false → after ≡ put) → instants_of after ≡ []
 ended_alone put after true e h k = put_end put after (h refl) ∙ ap instants_of e
 ended_alone put after false e h k = ap instants_of (k refl ∙ e)
+
+-- one more of them is one more
+pub length_more : (ns : List ℕ) (n : ℕ) → length (ns ++ n ∷ []) ≡ length ns + 1
+length_more ns n = length-append ns (n ∷ [])
+
+-- a data frame that was put counts, and its instant bounds the count
+pub counted_data : (count : ℕ) (put after : List Message) (p : Published) (low last : ℕ) → after ≡ put ++ Data p ∷ [] → IsCounted count put low → low < p.instant → last ≡ p.instant → IsCounted (count + 1) after last
+counted_data count put after p low last e h l s = record {
+  counted = ap (λ k. k + 1) h.counted ∙ sym (ap length (put_data put after p e) ∙ length_more (instants_of put) p.instant);
+  few = omega (arith, h.few, l, s);
+}
+
+-- with the same instants, and a last one that is no lower, it stays
+pub counted_same : (count : ℕ) (put after : List Message) (low last : ℕ) → instants_of after ≡ instants_of put → IsCounted count put low → low ≤ last → IsCounted count after last
+counted_same count put after low last e h l = record { counted = h.counted ∙ sym (ap length e); few = omega (arith, h.few, l) }
+
+abbrev head_of : Message → List Message → Message
+head_of d [] = d
+head_of d (x ∷ xs) = x
+
+abbrev tail_of : List Message → List Message
+tail_of [] = []
+tail_of (x ∷ xs) = xs
+
+has_end-there : (body items : List Message) → has_end (body ++ End ∷ items) ≡ true
+has_end-there [] items = refl
+has_end-there (Data _ ∷ ms) items = has_end-there ms items
+has_end-there (Layout _ ∷ ms) items = has_end-there ms items
+has_end-there (End ∷ ms) items = refl
+
+not_end : (m : Message) (ms : List Message) → End ≡ m → has_end (m ∷ ms) ≡ false → ⊥
+not_end m ms e h = true≢false (subst (λ x. has_end (x ∷ ms) ≡ false) (sym e) h)
+
+abbrev is_empty_list : List Message → Bool
+is_empty_list [] = true
+is_empty_list (x ∷ xs) = false
+
+abbrev is_at_end : Ended → Bool
+is_at_end AtEndMark = true
+is_at_end SinkFault = false
+is_at_end AlignerGone = false
+
+is_not_end : (e : Ended) → is_at_end e ≡ false → e ≡ AtEndMark → ⊥
+is_not_end e other is = true≢false (sym (ap is_at_end is) ∙ other)
+
+end_of_tail : (m : Message) (ms : List Message) → has_end (m ∷ ms) ≡ false → has_end ms ≡ false
+end_of_tail (Data _) ms h = h
+end_of_tail (Layout _) ms h = h
+end_of_tail End ms h = absurd (true≢false h)
+
+-- behind the end mark comes nothing
+behind_end : (body items whole : List Message) → body ++ End ∷ items ≡ whole ++ End ∷ [] → has_end whole ≡ false → items ≡ []
+behind_end [] items [] e h = ap tail_of e
+behind_end [] items (m ∷ ms) e h = absurd (not_end m ms (ap (head_of End) e) h)
+behind_end (x ∷ []) items [] e h = absurd (true≢false (sym (ap is_empty_list (ap tail_of e))))
+behind_end (x ∷ (y ∷ xs)) items [] e h = absurd (true≢false (sym (ap is_empty_list (ap tail_of e))))
+behind_end (x ∷ xs) items (m ∷ ms) e h = behind_end xs items ms (ap tail_of e) (end_of_tail m ms h)
+
+-- Where the end mark was taken, all that was put was.
+pub all_taken : (closed : Bool) (put taken items : List Message) → put ≡ taken ++ items → IsClosedBy closed put → EndsThere taken → items ≡ []
+all_taken true put taken items e shut ends =
+    behind_end ends.0 items shut.0 (sym (append_assoc ends.0 (End ∷ []) items) ∙ (ap (λ l. l ++ items) (sym ends.1) ∙ (sym e ∙ shut.1))) shut.2
+all_taken false put taken items e unshut ends =
+    absurd (true≢false (sym (ap has_end (e ∙ (ap (λ l. l ++ items) ends.1 ∙ append_assoc ends.0 (End ∷ []) items)) ∙ has_end-there ends.0 items) ∙ unshut))
+
+-- what was handed on of all that was taken, where the sender ended at the end mark and where it did not
+pub handed_on : {Took : List (List ℕ) → Type 0} (taken : List Message) (ended : Ended) → ((given : List (List ℕ)) × (rest : List (List ℕ)) × Took given × (bytes_of taken ≡ given ++ rest))
+    → (ended ≡ AtEndMark → Took (bytes_of taken) × EndsThere taken) → HasHandedOn Took taken ended
+handed_on taken AtEndMark t whole = record { given = bytes_of taken; rest = []; took = (whole refl).0; first = sym (append-nil (bytes_of taken)); whole = λ _. (refl, (whole refl).1) }
+handed_on taken SinkFault t whole = record { given = t.0; rest = t.1; took = t.2; first = t.3; whole = λ e. absurd (is_not_end SinkFault refl e) }
+handed_on taken AlignerGone t whole = record { given = t.0; rest = t.1; took = t.2; first = t.3; whole = λ e. absurd (is_not_end AlignerGone refl e) }
+
+-- an Ok run handed all of it on
+pub all_handed_on : {Took : List (List ℕ) → Type 0} (outcome : Result Totals HubFault) (taken items : List Message) (ended : Ended) (sent : HasHandedOn Took taken ended)
+    → OnOk outcome (ended ≡ AtEndMark) → (EndsThere taken → items ≡ []) → OnOk outcome (sent.rest ++ bytes_of items ≡ [])
+all_handed_on (Ok totals) taken items ended sent at all = ap (λ l. l ++ bytes_of items) (sent.whole at).0 ∙ ap bytes_of (all (sent.whole at).1)
+all_handed_on (Err fault) taken items ended sent at all = tt
+
+-- and tells how many were published
+pub all_published : (outcome : Result Totals HubFault) (aligned : Result ℕ HubFault) (count : ℕ) → IfOk outcome (λ totals. aligned ≡ Ok totals.published) → IfOk aligned (λ published. published ≡ count)
+    → IfOk outcome (λ totals. totals.published ≡ count)
+all_published (Ok totals) aligned count same is = subst (λ r. IfOk r (λ published. published ≡ count)) same is
+all_published (Err fault) aligned count same is = tt

@@ -3,3 +3,4 @@ pub mod Layout
 pub mod Pipe
 pub mod Rate
 pub mod Sequence
+pub mod Run

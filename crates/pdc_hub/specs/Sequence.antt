@@ -1,5 +1,5 @@
 -- The messages of the channel, as bytes and as instants.
-use Rattle.std.specs.Prelude.{◌≡◌, ℕ, ◌<◌, ◌≤◌, Bool, true, false, List, [], ◌∷◌, ◌++◌}
+use Rattle.std.specs.Prelude.{◌≡◌, ℕ, ◌<◌, ◌≤◌, Bool, true, false, List, [], ◌∷◌, ◌++◌, length}
 use Rattle.pdc_hub.specs.declared.message.Message.{Message}
 use Rattle.pdc_hub.specs.declared.message.Message.TheVariants.{Data, Layout, End}
 
@@ -21,6 +21,11 @@ instants_of (End ∷ ms) = instants_of ms
 abbrev pub Rises : ℕ → List ℕ → ℕ → Type 0
 Rises low [] high = low ≤ high
 Rises low (n ∷ ns) high = (low < n) × Rises n ns high
+
+-- So many data frames were put; they are no more than the last instant, since instants rise from 0.
+pub record IsCounted (count : ℕ) (put : List Message) (last : ℕ) : Type 0 where
+  pub counted : count ≡ length (instants_of put)
+  pub few : count ≤ last
 
 abbrev pub is_end : Message → Bool
 is_end (Data _) = false

@@ -1,10 +1,10 @@
 //! The aligner: ticks, pops, publishes, and puts on the channel. It alone owns the mark.
-ghost use Rattle.std.specs.Prelude.{◌≡◌, ◌<◌, ◌≤◌, ◌*◌, ◌++◌, ◌∷◌, ℕ, Bool, IfOk, IfSome, List, None, Ok, OnErr, OnOk, Option, Some, [], false, slice_index, true};
+ghost use Rattle.std.specs.Prelude.{◌≡◌, ◌<◌, ◌≤◌, ◌*◌, ◌++◌, ◌∷◌, ℕ, Bool, IfOk, IfSome, List, None, Ok, OnErr, OnOk, Option, Some, [], false, length, slice_index, true};
 ghost use Rattle.crossbeam_channel.specs.Claims.{IsSeatAt, view};
 ghost use Rattle.crossbeam_channel.specs.Ends.{sends_on};
 ghost use Rattle.pdc_hub.specs.Pipe.{log};
 ghost use Rattle.pdc_hub.specs.Rate.{IsAtRate};
-ghost use Rattle.pdc_hub.specs.Sequence.{Rises, instants_of};
+ghost use Rattle.pdc_hub.specs.Sequence.{IsCounted, Rises, instants_of};
 ghost use Rattle.pdc_hub.specs.declared.message.Message.{Message};
 ghost use Rattle.pdc_hub.specs.declared.message.Message.TheVariants.{Data, End, Layout};
 ghost use Rattle.pdc_align.specs.Align.{ticked_of};
@@ -73,12 +73,15 @@ fn publish_one<M: Mark, R: Wait>(
     row: DueRow,
     sender: &Sender,
     pass: &mut Pass<Message, Log>,
+    published: &mut u64,
 ) -> Result<(), HubFault>
     requires above { last_in publisher.old < row.instant }
     requires tagged { row.instant < SECONDS * (output_in publisher.old).rate }
     requires seat { IsSeatAt (sends_on sender.now) pass.old × (view pass.old ≡ log true false false (view pass.old).put []) }
     requires stored { last_in publisher.old ≤ (M.stored (mark_in publisher.old)).floor }
+    requires counted { IsCounted published.old (view pass.old).put (last_in publisher.old) }
     ensures seat { IsSeatAt (sends_on sender.now) pass.new × (view pass.new ≡ log true false false (view pass.new).put []) }
+    ensures counted { IsCounted published.new (view pass.new).put (last_in publisher.new) }
     ensures last { last_in publisher.new ≤ row.instant }
     ensures stored { last_in publisher.new ≤ (M.stored (mark_in publisher.new)).floor }
     ensures rising { (low : ℕ) → Rises low (instants_of (view pass.old).put) (last_in publisher.old) → Rises low (instants_of (view pass.new).put) (last_in publisher.new) }
@@ -93,6 +96,7 @@ fn publish_one<M: Mark, R: Wait>(
     if !put(rt, sender, pass, Message::Data(frame)) {
         return Err(HubFault::Stuck);
     }
+    *published += 1;
     Ok(())
 }
 
@@ -140,11 +144,14 @@ fn publish_due<
     publisher: &mut Publisher<M>,
     sender: &Sender,
     pass: &mut Pass<Message, Log>,
+    published: &mut u64,
 ) -> Result<(), HubFault>
     requires top { (top.old.parts ≡ P.parts) × (0 < top.old.parts) × (last_in publisher.old ≤ top.old.amount) }
     requires rate { IsAtRate N.given (output_in publisher.old).rate }
     requires seat { IsSeatAt (sends_on sender.now) pass.old × (view pass.old ≡ log true false false (view pass.old).put []) }
     requires stored { last_in publisher.old ≤ (M.stored (mark_in publisher.old)).floor }
+    requires counted { IsCounted published.old (view pass.old).put (last_in publisher.old) }
+    ensures counted { IsCounted published.new (view pass.new).put (last_in publisher.new) }
     ensures top { (top.new.parts ≡ top.old.parts) × (last_in publisher.new ≤ top.new.amount) }
     ensures seat { IsSeatAt (sends_on sender.now) pass.new × (view pass.new ≡ log true false false (view pass.new).put []) }
     ensures stored { last_in publisher.new ≤ (M.stored (mark_in publisher.new)).floor }
@@ -157,7 +164,7 @@ fn publish_due<
             Ok(None) => return Ok(()),
             Err(fault) => return Err(fault),
         };
-        if let Err(fault) = publish_one(rt, publisher, row, sender, pass) {
+        if let Err(fault) = publish_one(rt, publisher, row, sender, pass, published) {
             return Err(fault);
         }
     }
@@ -205,7 +212,7 @@ fn put_layout<
 ) -> Result<(), HubFault>
     requires seat { IsSeatAt (sends_on sender.now) pass.old × (view pass.old ≡ log true false false (view pass.old).put []) }
     ensures seat { IsSeatAt (sends_on sender.now) pass.new × (view pass.new ≡ log true false false (view pass.new).put []) }
-    ensures rising { (low high : ℕ) → Rises low (instants_of (view pass.old).put) high → Rises low (instants_of (view pass.new).put) high }
+    ensures instants { instants_of (view pass.new).put ≡ instants_of (view pass.old).put }
 {
     let frame = match layout_of(rt, alloc, hub, soc) {
         Ok(frame) => frame,
@@ -237,7 +244,7 @@ fn put_layout_where<
 ) -> Result<(), HubFault>
     requires seat { IsSeatAt (sends_on sender.now) pass.old × (view pass.old ≡ log true false false (view pass.old).put []) }
     ensures seat { IsSeatAt (sends_on sender.now) pass.new × (view pass.new ≡ log true false false (view pass.new).put []) }
-    ensures rising { (low high : ℕ) → Rises low (instants_of (view pass.old).put) high → Rises low (instants_of (view pass.new).put) high }
+    ensures instants { instants_of (view pass.new).put ≡ instants_of (view pass.old).put }
 {
     if !is_wanted {
         return Ok(());
@@ -295,6 +302,7 @@ fn turn<
     sender: &Sender,
     pass: &mut Pass<Message, Log>,
     now: u64,
+    published: &mut u64,
     soc: u32,
     repeat: bool,
 ) -> Result<bool, HubFault>
@@ -302,6 +310,8 @@ fn turn<
     requires rate { IsAtRate N.given (output_in publisher.old).rate }
     requires seat { IsSeatAt (sends_on sender.now) pass.old × (view pass.old ≡ log true false false (view pass.old).put []) }
     requires stored { last_in publisher.old ≤ (M.stored (mark_in publisher.old)).floor }
+    requires counted { IsCounted published.old (view pass.old).put (last_in publisher.old) }
+    ensures counted { IsCounted published.new (view pass.new).put (last_in publisher.new) }
     ensures top { (top.new.parts ≡ top.old.parts) × (last_in publisher.new ≤ top.new.amount) }
     ensures seat { IsSeatAt (sends_on sender.now) pass.new × (view pass.new ≡ log true false false (view pass.new).put []) }
     ensures stored { last_in publisher.new ≤ (M.stored (mark_in publisher.new)).floor }
@@ -312,7 +322,7 @@ fn turn<
         Ok(ticked) => ticked,
         Err(fault) => return Err(fault),
     };
-    if let Err(fault) = publish_due(rt, hub, top, publisher, sender, pass) {
+    if let Err(fault) = publish_due(rt, hub, top, publisher, sender, pass, published) {
         return Err(fault);
     }
     let adopted = ticked.change.is_some();
@@ -323,7 +333,7 @@ fn turn<
     }
 }
 
-/// Ticks until the ticker ends or a call fails.
+/// Ticks until the ticker ends or a call fails. How many rows were published.
 fn turns<
     C: Core + Drop,
     N: Naming<C::Settings>,
@@ -344,7 +354,7 @@ fn turns<
     pace: &Pace,
     sender: &Sender,
     pass: &mut Pass<Message, Log>,
-) -> Result<(), HubFault>
+) -> Result<u64, HubFault>
     requires top { (top.old.parts ≡ P.parts) × (0 < top.old.parts) × (last_in publisher.old ≤ top.old.amount) }
     requires rate { IsAtRate N.given (output_in publisher.old).rate }
     requires seat { IsSeatAt (sends_on sender.now) pass.old × (view pass.old ≡ log true false false [] []) }
@@ -352,19 +362,31 @@ fn turns<
     ensures seat { IsSeatAt (sends_on sender.now) pass.new × (view pass.new ≡ log true false false (view pass.new).put []) }
     ensures stored { last_in publisher.new ≤ (M.stored (mark_in publisher.new)).floor }
     ensures rising { Rises (last_in publisher.old) (instants_of (view pass.new).put) (last_in publisher.new) }
+    ensures counted { IfOk result (λ published. published ≡ length (instants_of (view pass.new).put)) }
     ensures output { output_in publisher.new ≡ output_in publisher.old }
 {
+    let mut published = 0u64;
     let mut number = 0u64;
     let mut adopted = false;
     for _ in rt.forever() {
         let Some(now) = ticker.next() else {
-            return Ok(());
+            return Ok(published);
         };
         number = number.saturating_add(1);
         let repeat = adopted && number % u64::from(pace.layout_every) == 0;
         let soc = second_of(pace, now);
         match turn(
-            rt, alloc, hub, top, publisher, sender, pass, now, soc, repeat,
+            rt,
+            alloc,
+            hub,
+            top,
+            publisher,
+            sender,
+            pass,
+            now,
+            &mut published,
+            soc,
+            repeat,
         ) {
             Ok(adopts) => adopted = adopted || adopts,
             Err(fault) => return Err(fault),
@@ -375,7 +397,7 @@ fn turns<
 
 /// Ticks until the ticker ends or a call fails; then closes the hub and puts the end mark. At each tick the mark is first raised to the
 /// counts that wait, all due rows are popped, published and put on the channel in rising order, and then the layout frame is, where the
-/// tick adopted, or where an earlier one did and the tick's number is a multiple of `layout_every`.
+/// tick adopted, or where an earlier one did and the tick's number is a multiple of `layout_every`. Answers how many rows were published.
 ///
 /// # Errors
 ///
@@ -401,7 +423,7 @@ pub fn align<
     pace: &Pace,
     sender: &Sender,
     pass: &mut Pass<Message, Log>,
-) -> Result<(), HubFault>
+) -> Result<u64, HubFault>
     requires top { (top.old.parts ≡ P.parts) × (0 < top.old.parts) × (top.old.amount ≡ last_in publisher.old) }
     requires rate { IsAtRate N.given (output_in publisher.old).rate }
     requires seat { IsSeatAt (sends_on sender.now) pass.old × (view pass.old ≡ log true false false [] []) }
@@ -409,7 +431,8 @@ pub fn align<
     ensures seat { IsSeatAt (sends_on sender.now) pass.new × ((closed : Bool) × (view pass.new ≡ log true false closed (view pass.new).put [])) }
     // The instants put strictly rise, lie above the last one published before, and are at most the floor that is stored then.
     ensures rising { Rises (last_in publisher.old) (instants_of (view pass.new).put) (M.stored (mark_in publisher.new)).floor }
-    // Where it is Ok, the end mark was put last.
+    // Where it is Ok, all that were published were put, and so many they are; and the end mark was put last.
+    ensures published { IfOk result (λ published. published ≡ length (instants_of (view pass.new).put)) }
     ensures closed { OnOk result ((body : List Message) × ((view pass.new).put ≡ body ++ End ∷ [])) }
     ensures output { output_in publisher.new ≡ output_in publisher.old }
 {

@@ -4,6 +4,7 @@ ghost use Rattle.crossbeam_channel.specs.Claims.{IsSeatAt, view};
 ghost use Rattle.crossbeam_channel.specs.Ends.{receives_on, sends_on};
 ghost use Rattle.pdc_hub.specs.Pipe.{log};
 ghost use Rattle.pdc_hub.specs.Rate.{IsAtRate};
+ghost use Rattle.pdc_hub.specs.Run.{EndsThere, HasHandedOn, HasRun};
 ghost use Rattle.pdc_hub.specs.Sequence.{Rises, bytes_of, instants_of};
 ghost use Rattle.pdc_hub.specs.declared.message.Message.{Message};
 ghost use Rattle.pdc_publisher.specs.Publisher.{last_in, mark_in, output_in};
@@ -46,6 +47,8 @@ pub struct Totals {
     pub receivers: Vec<Counted>,
     pub taken: u64,
     pub refused: u64,
+    /// How many rows were published and handed on.
+    pub published: u64,
 }
 
 /// The receivers that were started, and the shares that are left.
@@ -254,10 +257,10 @@ impl<'a, K: Sink> Promise<Sent<K>> for HandsOn<'a, K> {
     ghost use Rattle.std.specs.Prelude.{◌≡◌, ℕ, List, [], ◌++◌, true, false};
     ghost use Rattle.crossbeam_channel.specs.Claims.{view, IsSeatAt};
     ghost use Rattle.crossbeam_channel.specs.Ends.{receives_on};
-    ghost use Rattle.pdc_hub.specs.Sequence.{bytes_of};
     ghost use Rattle.pdc_hub.specs.Pipe.{log};
+    ghost use Rattle.pdc_hub.specs.Run.{HasHandedOn};
 
-    ghost kept_by = { λ p r. IsSeatAt (receives_on p.from.now) r.pass × (view r.pass ≡ log false true false [] (view r.pass).taken) × ((given : List (List ℕ)) × (rest : List (List ℕ)) × K.took p.sink.value r.sink given × (bytes_of (view r.pass).taken ≡ given ++ rest)) };
+    ghost kept_by = { λ p r. IsSeatAt (receives_on p.from.now) r.pass × (view r.pass ≡ log false true false [] (view r.pass).taken) × HasHandedOn (K.took p.sink.value r.sink) (view r.pass).taken r.ended };
 }
 
 /// As `send_out`, of a sink that is its own.
@@ -268,7 +271,7 @@ fn send_owned<K: Sink, R: Wait>(
     sink: K,
 ) -> Sent<K>
     requires { IsSeatAt (receives_on from.now) pass × (view pass ≡ log false true false [] []) }
-    ensures { IsSeatAt (receives_on from.now) result.pass × (view result.pass ≡ log false true false [] (view result.pass).taken) × ((given : List (List ℕ)) × (rest : List (List ℕ)) × K.took sink result.sink given × (bytes_of (view result.pass).taken ≡ given ++ rest)) }
+    ensures { IsSeatAt (receives_on from.now) result.pass × (view result.pass ≡ log false true false [] (view result.pass).taken) × HasHandedOn (K.took sink result.sink) (view result.pass).taken result.ended }
 {
     let mut pass = pass;
     let mut sink = sink;
@@ -280,7 +283,7 @@ fn send_owned<K: Sink, R: Wait>(
 fn settle(to: &Sender, writer: Pass<Message, Log>, reader: Pass<Message, Log>)
     requires writer { IsSeatAt (sends_on to.now) writer × ((view writer).puts ≡ true) }
     requires reader { IsSeatAt (sends_on to.now) reader × ((view reader).takes ≡ true) }
-    ensures { (rest : List Message) × ((view writer).put ≡ (view reader).taken ++ rest) }
+    ensures { (rest : List Message) × ((view writer).put ≡ (view reader).taken ++ rest) × (EndsThere (view reader).taken → rest ≡ []) }
 {
     let mut writer = writer;
     to.absorb::<Roles>(&mut writer, reader);
@@ -300,13 +303,14 @@ fn outcome<
     rt: &R,
     hub: &Hub<C, N, T, F, G, P>,
     joined: Joined<T, F, G>,
-    aligned: Result<(), HubFault>,
+    aligned: Result<u64, HubFault>,
     ended: Ended,
 ) -> Result<Totals, HubFault>
     requires parts { joined.complete ≡ true → (joined.all.taken.parts ≡ T.parts) × (joined.all.refused.parts ≡ F.parts) × (joined.all.configured.parts ≡ G.parts) }
     requires sums { joined.complete ≡ true → (joined.all.taken.amount ≡ sum (map (λ c. c.taken) joined.receivers.items)) × (joined.all.refused.amount ≡ sum (map (λ c. c.refused) joined.receivers.items)) }
     ensures totals { IfOk result (λ t. (t.taken ≡ sum (map (λ c. c.taken) t.receivers.items)) × (t.refused ≡ sum (map (λ c. c.refused) t.receivers.items))) }
-    ensures ended { OnOk result ((ended ≡ Ended.AtEndMark) × (OnOk aligned (Unit {0}))) }
+    ensures ended { OnOk result (ended ≡ Ended.AtEndMark) }
+    ensures published { IfOk result (λ totals. aligned ≡ Ok totals.published) }
 {
     let Joined {
         all,
@@ -321,9 +325,10 @@ fn outcome<
     if !complete {
         return Err(HubFault::NoMemory);
     }
-    if let Err(cause) = aligned {
-        return Err(cause);
-    }
+    let published = match aligned {
+        Ok(published) => published,
+        Err(cause) => return Err(cause),
+    };
     match ended {
         Ended::AtEndMark => {}
         Ended::SinkFault => return Err(HubFault::SinkFault),
@@ -334,6 +339,7 @@ fn outcome<
         receivers,
         taken: counts.taken,
         refused: counts.refused,
+        published,
     })
 }
 
@@ -394,7 +400,7 @@ where
     requires writer { IsSeatAt (sends_on to.now) writer × (view writer ≡ log true false false [] []) }
     requires reader { IsSeatAt (receives_on from.now) reader × (view reader ≡ log false true false [] []) }
     ensures totals { IfOk result.outcome (λ t. (t.taken ≡ sum (map (λ c. c.taken) t.receivers.items)) × (t.refused ≡ sum (map (λ c. c.refused) t.receivers.items))) }
-    ensures sent { (put : List Message) × (given : List (List ℕ)) × (rest : List (List ℕ)) × K.took sink result.sink given × (bytes_of put ≡ given ++ rest) × Rises (last_in publisher) (instants_of put) ((M.stored (mark_in result.publisher)).floor) }
+    ensures sent { HasRun (K.took sink result.sink) (last_in publisher) (M.stored (mark_in result.publisher)).floor result.outcome }
 {
     let mut writer = writer;
     let mut publisher = publisher;
@@ -403,7 +409,7 @@ where
         HandsOn { sink: was, from },
         move || -> Sent<K>
             requires { IsSeatAt (receives_on from.now) reader × (view reader ≡ log false true false [] []) }
-            ensures { IsSeatAt (receives_on from.entry.now) result.pass × (view result.pass ≡ log false true false [] (view result.pass).taken) × ((given : List (List ℕ)) × (rest : List (List ℕ)) × K.took sink result.sink given × (bytes_of (view result.pass).taken ≡ given ++ rest)) }
+            ensures { IsSeatAt (receives_on from.entry.now) result.pass × (view result.pass ≡ log false true false [] (view result.pass).taken) × HasHandedOn (K.took sink result.sink) (view result.pass).taken result.ended }
         { send_owned(rt, from, reader, sink) },
     ) {
         Ok(child) => child,
@@ -464,12 +470,13 @@ fn align_or_close<
     pace: Pace,
     to: &Sender,
     writer: &mut Pass<Message, Log>,
-) -> Result<(), HubFault>
+) -> Result<u64, HubFault>
     requires top { (top.parts ≡ P.parts) × (0 < top.parts) × (top.amount ≡ last_in publisher.old) × (last_in publisher.old ≤ (M.stored (mark_in publisher.old)).floor) }
     requires rate { IsAtRate N.given (output_in publisher.old).rate }
     requires seat { IsSeatAt (sends_on to.now) writer.old × (view writer.old ≡ log true false false [] []) }
     ensures seat { IsSeatAt (sends_on to.now) writer.new × ((view writer.new).puts ≡ true) }
     ensures rising { Rises (last_in publisher.old) (instants_of (view writer.new).put) ((M.stored (mark_in publisher.new)).floor) }
+    ensures published { IfOk result (λ published. published ≡ length (instants_of (view writer.new).put)) }
     ensures complete { OnOk result (complete ≡ true) }
 {
     let mut top = top;
@@ -536,7 +543,7 @@ where
     requires writer { IsSeatAt (sends_on to.now) writer × (view writer ≡ log true false false [] []) }
     requires reader { IsSeatAt (receives_on from.now) reader × (view reader ≡ log false true false [] []) }
     ensures totals { IfOk result.outcome (λ t. (t.taken ≡ sum (map (λ c. c.taken) t.receivers.items)) × (t.refused ≡ sum (map (λ c. c.refused) t.receivers.items))) }
-    ensures sent { (put : List Message) × (given : List (List ℕ)) × (rest : List (List ℕ)) × K.took sink result.sink given × (bytes_of put ≡ given ++ rest) × Rises (last_in publisher) (instants_of put) ((M.stored (mark_in result.publisher)).floor) }
+    ensures sent { HasRun (K.took sink result.sink) (last_in publisher) (M.stored (mark_in result.publisher)).floor result.outcome }
 {
     thread::scope(
         thread::scope_env(),
@@ -553,7 +560,7 @@ where
             requires writer { IsSeatAt (sends_on to.now) writer × (view writer ≡ log true false false [] []) }
             requires reader { IsSeatAt (receives_on from.now) reader × (view reader ≡ log false true false [] []) }
             ensures totals { IfOk result.outcome (λ t. (t.taken ≡ sum (map (λ c. c.taken) t.receivers.items)) × (t.refused ≡ sum (map (λ c. c.refused) t.receivers.items))) }
-            ensures sent { (put : List Message) × (given : List (List ℕ)) × (rest : List (List ℕ)) × K.took sink result.sink given × (bytes_of put ≡ given ++ rest) × Rises (last_in publisher) (instants_of put) ((M.stored (mark_in result.publisher)).floor) }
+            ensures sent { HasRun (K.took sink result.sink) (last_in publisher) (M.stored (mark_in result.publisher)).floor result.outcome }
         {
             conduct(
                 scope, rt, alloc, hub, settings, to, from, writer, reader, shares, top, inputs,
@@ -620,7 +627,7 @@ where
     requires top { (top.parts ≡ P.parts) × (0 < top.parts) × (top.amount ≡ last_in publisher) × (last_in publisher ≤ (M.stored (mark_in publisher)).floor) }
     requires rate { IsAtRate N.given (output_in publisher).rate }
     ensures totals { IfOk result.outcome (λ t. (t.taken ≡ sum (map (λ c. c.taken) t.receivers.items)) × (t.refused ≡ sum (map (λ c. c.refused) t.receivers.items))) }
-    ensures sent { (put : List Message) × (given : List (List ℕ)) × (rest : List (List ℕ)) × K.took sink result.sink given × (bytes_of put ≡ given ++ rest) × Rises (last_in publisher) (instants_of put) ((M.stored (mark_in result.publisher)).floor) }
+    ensures sent { HasRun (K.took sink result.sink) (last_in publisher) (M.stored (mark_in result.publisher)).floor result.outcome }
 {
     let Ok((sender, receiver, mut writer)) = bounded_with::<Message, Log, InOrder, Global>(
         alloc, CAPACITY,
@@ -686,8 +693,8 @@ where
     // The totals are the sums over the receivers.
     ensures totals { IfOk result.outcome (λ t. (t.taken ≡ sum (map (λ c. c.taken) t.receivers.items)) × (t.refused ≡ sum (map (λ c. c.refused) t.receivers.items))) }
     // What the sink took is a prefix of what was put, whose instants strictly rise, lie above the last one published before, and are at most
-    // the floor that is stored then.
-    ensures sent { (put : List Message) × (given : List (List ℕ)) × (rest : List (List ℕ)) × K.took sink result.sink given × (bytes_of put ≡ given ++ rest) × Rises (last_in publisher) (instants_of put) ((M.stored (mark_in result.publisher)).floor) }
+    // the floor that is stored then; all of it where the run was Ok, and then so many rows were published.
+    ensures sent { HasRun (K.took sink result.sink) (last_in publisher) (M.stored (mark_in result.publisher)).floor result.outcome }
 {
     let Some(inputs) = buffered(alloc, sources) else {
         return Ran {

@@ -22,7 +22,7 @@ pub fn copy_of(settings: &Settings) -> Settings
 }
 
 /// A copy of the merger's settings.
-pub(crate) fn copy_of_merger(settings: &MergerSettings) -> MergerSettings
+pub fn copy_of_merger(settings: &MergerSettings) -> MergerSettings
     ensures { result ≡ settings.now }
 {
     let mut sources = ArrayVec::new();

@@ -18,7 +18,7 @@ mod station;
 mod stops;
 mod stores;
 
-pub use copies::copy_of;
+pub use copies::{copy_of, copy_of_merger};
 pub use fault::StopFault;
 pub use laws::rows_are_published;
 pub use opens::Opens;

@@ -52,7 +52,8 @@ pub trait Opens: Core + Drop {
         counts: &[u16; MAX_PMUS],
     ) -> Result<Self, AllocError>
         ensures stands { IfOk result (λ next. Self.stands_for next (given_with (Self.settings_of self.now) start floor counts.now) []) }
-        ensures settings { IfOk result (λ next. Self.settings_of next ≡ Self.settings_of self.now) };
+        ensures settings { IfOk result (λ next. Self.settings_of next ≡ Self.settings_of self.now) }
+        ensures popped { IfOk result (λ next. Self.popped_of next ≡ floor) };
 }
 
 impl<T: Table> Opens for Node<T> {

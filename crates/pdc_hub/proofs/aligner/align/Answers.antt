@@ -13,3 +13,8 @@ pub returns-clause-rising : goal.returns-clause-rising
 returns-clause-rising g c =
     let more : (view c.close-2.new.pass).put ≡ (view c.turns-done.new.pass).put ++ End ∷ [] = search rules in
     rw (put_end _ _ more) (rises_on _ _ _ _ c.turns-done.ensures.rising c.turns-done.ensures.stored)
+
+pub returns-clause-published : goal.returns-clause-published
+returns-clause-published g c =
+    let more : (view c.close-2.new.pass).put ≡ (view c.turns-done.new.pass).put ++ End ∷ [] = search rules in
+    rw (put_end _ _ more) c.turns-done.ensures.counted

@@ -2,7 +2,7 @@ use Rattle.std.proofs.Common.{◌≡◌, ◌≤◌, true, false, [], ℕ}
 use Rattle.crossbeam_channel.specs.Claims.{view, IsSeatAt}
 use Rattle.crossbeam_channel.specs.Ends.{sends_on}
 use Rattle.pdc_hub.specs.Pipe.{log}
-use Rattle.pdc_hub.specs.Sequence.{instants_of, Rises}
+use Rattle.pdc_hub.specs.Sequence.{instants_of, IsCounted, Rises}
 use Rattle.pdc_publisher.specs.Publisher.{last_in, mark_in, output_in}
 use Rattle.pdc_hub.proofs.aligner.publish_due.Given as goal
 
@@ -12,4 +12,5 @@ invariant-loop g l =
     × (l.top.parts ≡ l.initial.top.parts) × (last_in l.publisher ≤ l.top.amount)
     × (last_in l.publisher ≤ (g.M.Mark.stored (mark_in l.publisher)).floor)
     × (output_in l.publisher ≡ output_in l.initial.publisher)
+    × IsCounted l.published (view l.pass).put (last_in l.publisher)
     × ((low : ℕ) → Rises low (instants_of (view l.initial.pass).put) (last_in l.initial.publisher) → Rises low (instants_of (view l.pass).put) (last_in l.publisher))

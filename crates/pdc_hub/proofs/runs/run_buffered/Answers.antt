@@ -9,4 +9,4 @@ pub another-reader-requires-clause-rule : goal.another-reader-requires-clause-ru
 another-reader-requires-clause-rule g c = forks _ _ (search rules) (search rules)
 
 pub returns-in_default-clause-sent : goal.returns-in_default-clause-sent
-returns-in_default-clause-sent g c = ([], [], [], g.K.Sink.nothing c.args.sink, refl, c.requires.top.3)
+returns-in_default-clause-sent g c = record { put = []; given = []; rest = []; took = g.K.Sink.nothing c.args.sink; first = refl; rising = c.requires.top.3; whole = tt; published = tt }

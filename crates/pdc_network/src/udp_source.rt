@@ -1,0 +1,61 @@
+//! Datagrams from a UDP port.
+ghost use Rattle.std.specs.Prelude.{◌≡◌, IfOk};
+
+use pdc_hub::{Next, Source};
+use std::io;
+use std::io::ErrorKind;
+use std::net::{Net, UdpSocket};
+use std::time::Duration;
+
+/// How long it waits for a datagram, in milliseconds.
+const IDLE_AFTER: u64 = 20;
+
+/// The datagrams that come to a UDP port of the loopback. It is idle where none came for 20 ms.
+#[derive(Drop)]
+pub struct UdpSource {
+    socket: UdpSocket,
+    failures: u64,
+}
+
+impl UdpSource {
+    /// Opens the port on 127.0.0.1.
+    ///
+    /// # Errors
+    ///
+    /// Where the port cannot be opened, as one that is taken.
+    pub fn open<R: Net>(net: &R, port: u16) -> io::Result<UdpSource> {
+        let socket = UdpSocket::bind(net, ("127.0.0.1", port))?;
+        socket.set_read_timeout(Some(Duration::from_millis(IDLE_AFTER)))?;
+        Ok(UdpSource {
+            socket,
+            failures: 0,
+        })
+    }
+}
+
+/// Whether the wait for a datagram ended, and the device did not fail.
+fn is_idle(kind: ErrorKind) -> bool {
+    matches!(
+        kind,
+        ErrorKind::WouldBlock | ErrorKind::TimedOut | ErrorKind::Interrupted
+    )
+}
+
+impl Source for UdpSource {
+    ghost failures_of = { λ s. s.failures };
+
+    fn next(&mut self, buffer: &mut [u8]) -> Next {
+        match self.socket.recv(buffer) {
+            Ok(len) => Next::Datagram(len),
+            Err(error) if is_idle(error.kind()) => Next::Idle,
+            Err(_) => {
+                self.failures = self.failures.saturating_add(1);
+                Next::Fault
+            }
+        }
+    }
+
+    fn failures(&self) -> u64 {
+        self.failures
+    }
+}

@@ -1,0 +1,14 @@
+//! A node and the merger as programs: their settings and mark files are read, their ports opened, and they run for a number of ticks
+//! (this profile).
+//!
+//! The first calls to look at are [`serve_node`] and [`serve_merger`]. Faults are found in this order: the settings file, the mark
+//! file, the start that is stored, the ports, and then the run.
+#![tactic(auto)]
+
+mod fault;
+mod files;
+mod ports;
+mod service;
+
+pub use fault::ServiceFault;
+pub use service::{Files, serve_merger, serve_node};
