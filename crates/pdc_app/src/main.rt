@@ -4,6 +4,8 @@
 mod mark_convert;
 mod mark_init;
 mod play;
+mod pmu;
+mod running;
 
 use mark_convert::{mark_convert_status, report_mark_convert};
 use mark_init::{mark_init_status, report_mark_init};
@@ -11,6 +13,8 @@ use pdc_command_line::{MarkConvert, MarkInit, Request, parse};
 use pdc_mark_files::{convert_mark, make_mark};
 use pdc_show::{ShowFault, Shown, run_show};
 use play::run_play_command;
+use pmu::run_pmu_command;
+use running::{run_merge_command, run_node_command};
 use std::alloc::Global;
 use std::io;
 use std::io::BufWriter;
@@ -74,6 +78,9 @@ fn main(rt: HostRuntime) -> io::Result<ExitCode> {
         Ok(Some(Request::Play(request))) => run_play_command(&rt, &request)?,
         Ok(Some(Request::MarkInit(request))) => run_mark_init_command(&rt, &request)?,
         Ok(Some(Request::MarkConvert(request))) => run_mark_convert_command(&rt, &request)?,
+        Ok(Some(Request::Node(request))) => run_node_command(&rt, &request)?,
+        Ok(Some(Request::Merge(request))) => run_merge_command(&rt, &request)?,
+        Ok(Some(Request::Pmu(request))) => run_pmu_command(&rt, &request)?,
         Ok(None) => WRONG_ARGUMENTS,
         Err(error) => {
             error.print(&rt)?;

@@ -3,7 +3,9 @@
 use crate::mark_convert::{mark_convert, mark_convert_request};
 use crate::mark_init::{mark_init, mark_init_request};
 use crate::play::{play, play_request};
+use crate::pmu::{pmu, pmu_request};
 use crate::request::Request;
+use crate::running::{merge, node, running_request};
 use crate::show::show;
 use clap::{Command, Error};
 use std::alloc::{AllocError, Global};
@@ -19,6 +21,10 @@ const EXAMPLES: &str = "Examples:
                               play events on two nodes and a merger
   pdc mark-init a.mark 201 50 make the mark file of node 201 at 50 frames a second
   pdc mark-convert old new    make a mark file of version 2 out of one of version 1
+  pdc node a.toml a.mark 3000 run a node for 3000 ticks
+  pdc merge m.toml m.mark 3000
+                              run the merger for 3000 ticks
+  pdc pmu 11 50 3000 4811     simulate PMU 11 at 50 frames a second
   pdc help show               tell more of a command
 
 Exit status: 0 done, 1 refused input, 2 wrong arguments, 3 a device failed or memory ran out";
@@ -35,7 +41,10 @@ fn pdc<'a>(alloc: Global) -> Result<Command<'a>, AllocError> {
         .subcommand(show(alloc))?
         .subcommand(play(alloc)?)?
         .subcommand(mark_init(alloc)?)?
-        .subcommand(mark_convert(alloc)?)
+        .subcommand(mark_convert(alloc)?)?
+        .subcommand(node(alloc)?)?
+        .subcommand(merge(alloc)?)?
+        .subcommand(pmu(alloc)?)
 }
 
 /// The request that the words after the program's name make; `None` where no command is named, which the parser
@@ -53,6 +62,12 @@ pub fn parse<'a>(alloc: Global, words: &'a [String]) -> Result<Option<Request<'a
         Some(("mark-convert", inner)) => {
             Ok(mark_convert_request(inner).map(Request::MarkConvert))
         }
+        Some(("node", inner)) => Ok(running_request(alloc, inner)?.map(Request::Node)),
+        Some(("merge", inner)) => Ok(running_request(alloc, inner)?.map(Request::Merge)),
+        Some(("pmu", inner)) => match pmu_request(alloc, inner)? {
+            Some(simulated) => Ok(Some(Request::Pmu(simulated))),
+            None => Ok(None),
+        },
         _ => Ok(None),
     }
 }

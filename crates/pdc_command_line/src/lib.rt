@@ -9,8 +9,12 @@ mod mark_convert;
 mod mark_init;
 mod number;
 mod play;
+mod pmu;
 mod request;
+mod running;
 mod show;
 
 pub use command::parse;
-pub use request::{MAX_ID, MAX_RATE, MarkConvert, MarkInit, Play, Request};
+pub use request::{
+    MAX_ID, MAX_PORTS, MAX_RATE, MarkConvert, MarkInit, Play, Request, Running, Simulated,
+};

@@ -3,7 +3,7 @@ ghost use Rattle.std.specs.Prelude.{IfErr, IfNone, IfOk, IfSome};
 ghost use Rattle.clap.specs.Matches.{found_of};
 ghost use Rattle.pdc_command_line.specs.MarkInit.{AsksFor, HasWrongNumber, LacksWord};
 
-use crate::number::number;
+use crate::number::short_number;
 use crate::request::{MAX_ID, MAX_RATE, MarkInit};
 use clap::error::ErrorKind;
 use clap::{Arg, ArgAction, ArgMatches, Command, Error};
@@ -68,10 +68,10 @@ pub fn mark_init_request<'a>(
     ) else {
         return Ok(None);
     };
-    let Some(id) = number(id_text, 1, MAX_ID) else {
+    let Some(id) = short_number(id_text, 1, MAX_ID) else {
         return Err(out_of_range(alloc, "ID", id_text, MAX_ID)?);
     };
-    let Some(rate) = number(rate_text, 1, MAX_RATE) else {
+    let Some(rate) = short_number(rate_text, 1, MAX_RATE) else {
         return Err(out_of_range(alloc, "RATE", rate_text, MAX_RATE)?);
     };
     Ok(Some(MarkInit { file, id, rate }))

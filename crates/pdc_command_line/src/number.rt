@@ -17,7 +17,7 @@ fn are_digits(bytes: &[u8]) -> bool
 
 /// The whole number that the text writes in decimal digits, where it lies from `least` to `most`. A sign is none of
 /// these digits; leading zeros are read.
-pub fn number(text: &str, least: u16, most: u16) -> Option<u16>
+pub fn number(text: &str, least: u32, most: u32) -> Option<u32>
     ensures found { IfSome result (IsNumber text.now) }
     ensures low { IfSome result (λ n. least ≤ n) }
     ensures high { IfSome result (λ n. n ≤ most) }
@@ -26,11 +26,24 @@ pub fn number(text: &str, least: u16, most: u16) -> Option<u16>
     if !are_digits(text.as_bytes()) {
         return None;
     }
-    let Ok(n) = text.parse::<u16>() else {
+    let Ok(n) = text.parse::<u32>() else {
         return None;
     };
     if n < least || n > most {
         return None;
     }
     Some(n)
+}
+
+/// The same of a number that has 16 bits.
+pub fn short_number(text: &str, least: u16, most: u16) -> Option<u16>
+    ensures found { IfSome result (IsNumber text.now) }
+    ensures low { IfSome result (λ n. least ≤ n) }
+    ensures high { IfSome result (λ n. n ≤ most) }
+    ensures only { (n : ℕ) → IsNumber text.now n → least ≤ n → n ≤ most → result ≡ Some n }
+{
+    match number(text, u32::from(least), u32::from(most)) {
+        Some(n) => Some(n as u16),
+        None => None,
+    }
 }

@@ -2,14 +2,19 @@
 ghost use Rattle.std.specs.Prelude.{◌<◌, ◌≤◌};
 ghost use Rattle.pdc_command_line.specs.declared.request.TheConstants.{MAX_ID, MAX_RATE};
 
+use arrayvec::ArrayVec;
+
 /// The greatest id of a stream.
 pub const MAX_ID: u16 = 65534;
 
 /// The greatest data rate, in frames a second.
 pub const MAX_RATE: u16 = 240;
 
+/// The most ports that a simulated PMU sends to.
+pub const MAX_PORTS: usize = 16;
+
 /// What is asked of the program.
-#[derive(Clone, Copy, Debug)]
+#[derive(Debug, Drop)]
 pub enum Request<'a> {
     /// Print what the frames on standard input say.
     Show,
@@ -19,6 +24,12 @@ pub enum Request<'a> {
     MarkConvert(MarkConvert<'a>),
     /// Play the script on standard input.
     Play(Play<'a>),
+    /// Run a node.
+    Node(Running<'a>),
+    /// Run the merger.
+    Merge(Running<'a>),
+    /// Simulate a PMU.
+    Pmu(Simulated),
 }
 
 /// The mark file that is to be made.
@@ -54,4 +65,32 @@ pub struct Play<'a> {
     pub b: &'a str,
     /// Of the merger.
     pub m: &'a str,
+}
+
+/// A node or the merger that is to run.
+#[derive(Clone, Copy, Debug)]
+pub struct Running<'a> {
+    /// The name of the settings file.
+    pub settings: &'a str,
+    /// The name of the mark file.
+    pub mark: &'a str,
+    /// After how many ticks it ends, at least 1.
+    pub ticks: u32,
+}
+
+/// A PMU that is to be simulated.
+#[derive(Debug, Drop)]
+pub struct Simulated {
+    /// The stream id, 1 to 65534.
+    pub id: u16,
+    /// The frames in a second, 1 to 240.
+    pub rate: u16,
+    /// How many data frames are sent, at least 1.
+    pub count: u32,
+    /// The UDP ports that they go to, at most 16.
+    pub ports: ArrayVec<u16, MAX_PORTS>,
+    pub ghost some_id: { 0 < id },
+    pub ghost id_fits: { id ≤ MAX_ID },
+    pub ghost some_rate: { 0 < rate },
+    pub ghost rate_fits: { rate ≤ MAX_RATE },
 }

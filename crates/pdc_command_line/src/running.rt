@@ -1,0 +1,109 @@
+//! The commands `node` and `merge`.
+
+use crate::number::number;
+use crate::request::Running;
+use clap::error::ErrorKind;
+use clap::{Arg, ArgAction, ArgMatches, Command, Error};
+use std::alloc::{AllocError, Global};
+
+const ABOUT_NODE: &str = "Run a node: align the streams of PMUs and send one frame for each instant";
+
+const LONG_NODE: &str =
+    "Runs a node. The frames of each PMU come as UDP datagrams to the port that the settings name for it, are
+aligned by their time tags, and one data frame for each instant goes out to 127.0.0.1 at `out_port`; a
+configuration goes out at each change, and again after each `layout_every` ticks.
+
+SETTINGS is a TOML file, MARK the mark file that `pdc mark-init` made for this node. Each run stores a
+start of its own there, and no instant goes out before it is stored, so that whenever the node dies, and
+however often it is started again, the instants that it publishes strictly rise.
+
+It runs for TICKS ticks, one for each frame time, then prints
+  taken=N refused=N published=N
+and ends: data frames that were taken, datagrams that were refused, rows that were published.
+
+Faults, on standard error, with status 1: S1 Toml, S2 Range and S3 DoubledId of the settings; M1 NoMark,
+M2 Damaged, M3 OtherOwner, M5 StartsUsedUp and M6 OldMark of the mark. With status 3: `device fault` where
+a file or a port cannot be opened, and what stops a run: H1 SourceFault, H2 SinkFault, H3 NoMemory, M4 Device.
+
+Example, a minute at 50 frames a second:
+  pdc node a.toml a.mark 3000";
+
+const ABOUT_MERGE: &str = "Run the merger: join the streams of two nodes into one";
+
+const LONG_MERGE: &str =
+    "Runs the merger. The frames of nodes A and B come as UDP datagrams to the ports that the settings name for
+them, and one data frame for each instant goes out to 127.0.0.1 at `out_port`, so that one node may be lost
+and no reader downstream sees it.
+
+SETTINGS is a TOML file with two tables `node`, MARK the mark file that `pdc mark-init` made for the merger.
+It runs for TICKS ticks, prints what `pdc node` prints, and has the same faults.
+
+Example, a minute at 50 frames a second:
+  pdc merge m.toml m.mark 3000";
+
+fn word<'a>(alloc: Global, name: &'a str, help: &'a str) -> Arg<'a> {
+    Arg::new(alloc, name)
+        .required(true)
+        .action(ArgAction::Set)
+        .help(help)
+}
+
+/// A command with the words of both.
+fn with_words<'a>(alloc: Global, command: Command<'a>) -> Result<Command<'a>, AllocError> {
+    command
+        .arg(word(alloc, "SETTINGS", "The settings file"))?
+        .arg(word(alloc, "MARK", "The mark file"))?
+        .arg(word(alloc, "TICKS", "After how many ticks it ends, 1 to 4294967295"))
+}
+
+/// The command `node` and its help.
+pub fn node<'a>(alloc: Global) -> Result<Command<'a>, AllocError> {
+    let command = Command::new(alloc, "node")
+        .bin_name("pdc node")?
+        .about(ABOUT_NODE)
+        .long_about(LONG_NODE);
+    with_words(alloc, command)
+}
+
+/// The command `merge` and its help.
+pub fn merge<'a>(alloc: Global) -> Result<Command<'a>, AllocError> {
+    let command = Command::new(alloc, "merge")
+        .bin_name("pdc merge")?
+        .about(ABOUT_MERGE)
+        .long_about(LONG_MERGE);
+    with_words(alloc, command)
+}
+
+/// What is wrong with a number of ticks.
+fn no_ticks(alloc: Global, text: &str) -> Result<Error, AllocError> {
+    let message = format!(in alloc;
+        "invalid value '{text}' for '<TICKS>': a whole number from 1 to 4294967295 is wanted"
+    )?;
+    node(alloc)?.error(ErrorKind::ValueValidation, message.as_str())
+}
+
+/// What is asked by these words; `None` where one is missing, which the parser refuses before.
+///
+/// # Errors
+///
+/// TICKS is no number, or out of its range.
+pub fn running_request<'a>(
+    alloc: Global,
+    matches: &ArgMatches<'a>,
+) -> Result<Option<Running<'a>>, Error> {
+    let (Some(settings), Some(mark), Some(ticks_text)) = (
+        matches.get_str("SETTINGS"),
+        matches.get_str("MARK"),
+        matches.get_str("TICKS"),
+    ) else {
+        return Ok(None);
+    };
+    let Some(ticks) = number(ticks_text, 1, u32::MAX) else {
+        return Err(no_ticks(alloc, ticks_text)?);
+    };
+    Ok(Some(Running {
+        settings,
+        mark,
+        ticks,
+    }))
+}
