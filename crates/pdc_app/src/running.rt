@@ -63,10 +63,7 @@ pub fn run_node_command<
         + Sync
         + Print
         + Eprint,
->(
-    rt: &R,
-    request: &Running,
-) -> io::Result<u8> {
+>(rt: &R, request: &Running) -> io::Result<u8> {
     let files = Files {
         settings: request.settings,
         mark: request.mark,
@@ -88,10 +85,7 @@ pub fn run_merge_command<
         + Sync
         + Print
         + Eprint,
->(
-    rt: &R,
-    request: &Running,
-) -> io::Result<u8> {
+>(rt: &R, request: &Running) -> io::Result<u8> {
     let files = Files {
         settings: request.settings,
         mark: request.mark,

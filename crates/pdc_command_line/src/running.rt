@@ -6,7 +6,8 @@ use clap::error::ErrorKind;
 use clap::{Arg, ArgAction, ArgMatches, Command, Error};
 use std::alloc::{AllocError, Global};
 
-const ABOUT_NODE: &str = "Run a node: align the streams of PMUs and send one frame for each instant";
+const ABOUT_NODE: &str =
+    "Run a node: align the streams of PMUs and send one frame for each instant";
 
 const LONG_NODE: &str =
     "Runs a node. The frames of each PMU come as UDP datagrams to the port that the settings name for it, are
@@ -53,7 +54,11 @@ fn with_words<'a>(alloc: Global, command: Command<'a>) -> Result<Command<'a>, Al
     command
         .arg(word(alloc, "SETTINGS", "The settings file"))?
         .arg(word(alloc, "MARK", "The mark file"))?
-        .arg(word(alloc, "TICKS", "After how many ticks it ends, 1 to 4294967295"))
+        .arg(word(
+            alloc,
+            "TICKS",
+            "After how many ticks it ends, 1 to 4294967295",
+        ))
 }
 
 /// The command `node` and its help.

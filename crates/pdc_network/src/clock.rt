@@ -52,7 +52,9 @@ impl<C: Clock + Drop> Ticker for ClockTicker<C> {
             Duration::from_nanos(NANOSECONDS / u64::from(self.rate)),
         );
         let now = SystemTime::now(&self.clock).ok()?;
-        let since = now.duration_since(SystemTime::UNIX_EPOCH).unwrap_or(Duration::ZERO);
+        let since = now
+            .duration_since(SystemTime::UNIX_EPOCH)
+            .unwrap_or(Duration::ZERO);
         Some(instant_at(since.as_nanos(), self.rate))
     }
 }

@@ -126,7 +126,8 @@ where
     };
     let blanks = blanks(sources.len() as u64 + 1);
     opened::<C, Brand, Brand, Brand, Brand, Brand, S, M, I, K, R>(
-        rt, alloc, settings, core, start, counts, plan.limit, pace, blanks, sources, publisher, ticker, sink,
+        rt, alloc, settings, core, start, counts, plan.limit, pace, blanks, sources, publisher,
+        ticker, sink,
     )
 }
 

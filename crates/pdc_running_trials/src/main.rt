@@ -39,16 +39,27 @@ port = 4812
 /// The configurations of PMU 11 and of PMU 12: one phasor, count 1.
 const CONFIG_11: &str =
     "aa32004a000b448527f000000000000f42400001504d5520313120202020202020202020000b000000010000000056412020202020202020202020202020000df847000100010032c2ce";
+
 const CONFIG_12: &str =
     "aa32004a000c448527f000000000000f42400001504d5520313220202020202020202020000c000000010000000056412020202020202020202020202020000df847000100010032c29b";
 
 /// Their data for the instant 57478860001.
 const DATA_11: &str = "aa02001a000b448527f000004e200000392b000009c400002623";
+
 const DATA_12: &str = "aa02001a000c448527f000004e2000001388ec78fffe0000ce65";
 
 /// What a source of each PMU does in the runs that end well: its configuration, then its data once the layout shows both PMUs.
-const PLAIN_11: &[Act] = &[Act::Give(CONFIG_11), Act::AwaitLayout(3), Act::Give(DATA_11)];
-const PLAIN_12: &[Act] = &[Act::Give(CONFIG_12), Act::AwaitLayout(3), Act::Give(DATA_12)];
+const PLAIN_11: &[Act] = &[
+    Act::Give(CONFIG_11),
+    Act::AwaitLayout(3),
+    Act::Give(DATA_11),
+];
+
+const PLAIN_12: &[Act] = &[
+    Act::Give(CONFIG_12),
+    Act::AwaitLayout(3),
+    Act::Give(DATA_12),
+];
 
 /// A source that fails at its second call.
 const FAILS: &[Act] = &[Act::Give(CONFIG_12), Act::Fail];

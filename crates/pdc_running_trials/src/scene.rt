@@ -80,12 +80,22 @@ fn opened<
     requires streams { length settings.now.pmus.items ≡ 2 }
     requires publisher { (last_in publisher ≡ 0) × (output_in publisher ≡ settings.now.output) }
 {
-    let (hub, shares, top) =
-        Hub::<Node<RingTable>, N, T, F, G, P>::new(alloc, base, state, scene.limit, 0, blanks);
+    let (hub, shares, top) = Hub::<Node<RingTable>, N, T, F, G, P>::new(
+        alloc,
+        base,
+        state,
+        scene.limit,
+        0,
+        blanks,
+    );
     let shared = &hub;
     let mut sources = Vec::new(alloc);
-    sources.push(Scripted::new(rt, alloc, shared, scene.first)).ok()?;
-    sources.push(Scripted::new(rt, alloc, shared, scene.second)).ok()?;
+    sources
+        .push(Scripted::new(rt, alloc, shared, scene.first))
+        .ok()?;
+    sources
+        .push(Scripted::new(rt, alloc, shared, scene.second))
+        .ok()?;
     let ticker = Following {
         rt,
         hub: shared,

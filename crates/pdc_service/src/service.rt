@@ -40,11 +40,7 @@ fn plan_of(service: &Service) -> Plan {
 /// The first fault: of the settings file, the mark file, the start that is stored, the ports in the order of the PMUs, or the run.
 pub fn serve_node<
     R: std::rt::Files<File = File> + AllocGlobal + Clock + Net + Threads + Wait + Sync,
->(
-    rt: &R,
-    files: &Files<'_>,
-    ticks: u32,
-) -> Result<Totals, ServiceFault> {
+>(rt: &R, files: &Files<'_>, ticks: u32) -> Result<Totals, ServiceFault> {
     let settings = read_node_settings(rt, files.settings)?;
     let output = settings.life.output;
     let mark = begin_mark(rt, files.mark, output.id, output.rate)?;
@@ -52,9 +48,18 @@ pub fn serve_node<
     let sink = open_sink(rt, settings.service.out_port)?;
     let ticker = ClockTicker::new(rt, output.rate, ticks);
     let plan = plan_of(&settings.service);
-    run_node(rt, rt.alloc(), &settings.life, &plan, mark, sources, ticker, sink)
-        .outcome
-        .map_err(ServiceFault::Run)
+    run_node(
+        rt,
+        rt.alloc(),
+        &settings.life,
+        &plan,
+        mark,
+        sources,
+        ticker,
+        sink,
+    )
+    .outcome
+    .map_err(ServiceFault::Run)
 }
 
 /// Runs the merger for so many ticks.
@@ -64,11 +69,7 @@ pub fn serve_node<
 /// The first fault: of the settings file, the mark file, the start that is stored, the ports of node A and node B, or the run.
 pub fn serve_merger<
     R: std::rt::Files<File = File> + AllocGlobal + Clock + Net + Threads + Wait + Sync,
->(
-    rt: &R,
-    files: &Files<'_>,
-    ticks: u32,
-) -> Result<Totals, ServiceFault> {
+>(rt: &R, files: &Files<'_>, ticks: u32) -> Result<Totals, ServiceFault> {
     let settings = read_merger_settings(rt, files.settings)?;
     let output = settings.life.output;
     let mark = begin_mark(rt, files.mark, output.id, output.rate)?;
@@ -77,7 +78,16 @@ pub fn serve_merger<
     let sink = open_sink(rt, settings.service.out_port)?;
     let ticker = ClockTicker::new(rt, output.rate, ticks);
     let plan = plan_of(&settings.service);
-    run_merger(rt, rt.alloc(), &settings.life, &plan, mark, sources, ticker, sink)
-        .outcome
-        .map_err(ServiceFault::Run)
+    run_merger(
+        rt,
+        rt.alloc(),
+        &settings.life,
+        &plan,
+        mark,
+        sources,
+        ticker,
+        sink,
+    )
+    .outcome
+    .map_err(ServiceFault::Run)
 }

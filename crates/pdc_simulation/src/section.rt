@@ -11,7 +11,8 @@ const DIGITS_AT: usize = 10;
 
 /// TIME_BASE 1000000; one PMU: its name, IDCODE, FORMAT 0 (words of 16 bits, rectangular), one phasor and nothing else, its name, PHUNIT
 /// (a voltage, of 1 V a count), FNOM (50 Hz), CFGCNT; and DATA_RATE.
-const PAYLOAD: [u8; PAYLOAD_LEN] = *b"\x00\x0F\x42\x40\x00\x01PMU 00000       \x00\x01\x00\x00\x00\x01\x00\x00\x00\x00V               \x00\x01\x86\xA0\x00\x01\x00\x01\x00\x32";
+const PAYLOAD: [u8; PAYLOAD_LEN] =
+    *b"\x00\x0F\x42\x40\x00\x01PMU 00000       \x00\x01\x00\x00\x00\x01\x00\x00\x00\x00V               \x00\x01\x86\xA0\x00\x01\x00\x01\x00\x32";
 
 /// The payload, with the id in the station's name.
 pub fn payload_of(id: u16) -> [u8; PAYLOAD_LEN] {

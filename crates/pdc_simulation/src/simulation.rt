@@ -9,11 +9,10 @@ use pdc_network::{UdpSink, instant_at};
 use pdc_pmu::{Pmu, PmuFault};
 use pdc_tag::SECONDS;
 use std::alloc::Global;
-use std::io;
 use std::net::Net;
 use std::rt::Clock;
-use std::thread;
 use std::time::{Duration, SystemTime};
+use std::{io, thread};
 use thiserror::Error;
 
 /// The counts of FRACSEC in a second.
@@ -98,7 +97,9 @@ fn send_to_all(outlets: &mut Vec<Outlet>, bytes: &[u8]) -> Result<(), Simulation
 /// The nanoseconds since 1970; 0 where the clock shows an earlier time.
 fn nanoseconds_now<R: Clock>(rt: &R) -> Result<u128, SimulationFault> {
     let now = SystemTime::now(rt).map_err(SimulationFault::Clock)?;
-    let since = now.duration_since(SystemTime::UNIX_EPOCH).unwrap_or(Duration::ZERO);
+    let since = now
+        .duration_since(SystemTime::UNIX_EPOCH)
+        .unwrap_or(Duration::ZERO);
     Ok(since.as_nanos())
 }
 
@@ -123,7 +124,8 @@ fn configure(pmu: &mut Pmu, id: u16, soc: u32, out: &mut Vec<u8>) -> Result<(), 
     let Some(section) = config.sections.first() else {
         return Err(SimulationFault::NoMemory);
     };
-    pmu.set_configuration(soc, section, out).map_err(SimulationFault::Pmu)
+    pmu.set_configuration(soc, section, out)
+        .map_err(SimulationFault::Pmu)
 }
 
 /// Sends one configuration to each port, and then so many data frames, one for each instant as the clock reaches it: STAT 0, the phasor
