@@ -6,7 +6,7 @@ use std::process::Abort;
 use std::test::Fail;
 
 /// Words, with a bar between two, and what they ask for. What is no command is status 2, and help is status 0.
-const CASES: [(&str, &str); 40] = [
+const CASES: [(&str, &str); 50] = [
     ("show", "show"),
     ("mark-init|a.mark|65534|240", "mark-init a.mark 65534 240"),
     ("mark-convert|a.mark|a2.mark", "mark-convert a.mark a2.mark"),
@@ -48,6 +48,16 @@ const CASES: [(&str, &str); 40] = [
     ("mark-init|a|201|65537", "status 2"),
     ("mark-init|a|201|99999999999999999999", "status 2"),
     ("mark-init|a|1|1", "mark-init a 1 1"),
+    ("node|a.toml|a.mark|4294967295", "node a.toml a.mark 4294967295"),
+    ("node|a.toml|a.mark", "status 2"),
+    ("node|a.toml|a.mark|0", "status 2"),
+    ("node|a.toml|a.mark|4294967296", "status 2"),
+    ("merge|m.toml|m.mark|1", "merge m.toml m.mark 1"),
+    ("merge|m.toml|m.mark|1|x", "status 2"),
+    ("pmu|11|50|3|4811|4911", "pmu 11 50 3 to 2 ports"),
+    ("pmu|11|50|3", "status 2"),
+    ("pmu|11|50|3|4811|65536", "status 2"),
+    ("pmu|--help", "status 0"),
 ];
 
 /// The words of a line.
@@ -71,6 +81,16 @@ fn asked(alloc: Global, words: &[String]) -> Result<String, AllocError> {
         }
         Ok(Some(Request::Play(world))) => {
             format!(in alloc; "play {} {} {}", world.a, world.b, world.m)
+        }
+        Ok(Some(Request::Node(node))) => {
+            format!(in alloc; "node {} {} {}", node.settings, node.mark, node.ticks)
+        }
+        Ok(Some(Request::Merge(merger))) => {
+            format!(in alloc; "merge {} {} {}", merger.settings, merger.mark, merger.ticks)
+        }
+        Ok(Some(Request::Pmu(pmu))) => {
+            let ports = pmu.ports.len();
+            format!(in alloc; "pmu {} {} {} to {ports} ports", pmu.id, pmu.rate, pmu.count)
         }
         Ok(None) => String::from_str(alloc, "nothing"),
         Err(error) => format!(in alloc; "status {}", error.exit_code()),
