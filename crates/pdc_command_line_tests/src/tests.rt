@@ -48,7 +48,10 @@ const CASES: [(&str, &str); 50] = [
     ("mark-init|a|201|65537", "status 2"),
     ("mark-init|a|201|99999999999999999999", "status 2"),
     ("mark-init|a|1|1", "mark-init a 1 1"),
-    ("node|a.toml|a.mark|4294967295", "node a.toml a.mark 4294967295"),
+    (
+        "node|a.toml|a.mark|4294967295",
+        "node a.toml a.mark 4294967295",
+    ),
     ("node|a.toml|a.mark", "status 2"),
     ("node|a.toml|a.mark|0", "status 2"),
     ("node|a.toml|a.mark|4294967296", "status 2"),
@@ -86,11 +89,17 @@ fn asked(alloc: Global, words: &[String]) -> Result<String, AllocError> {
             format!(in alloc; "node {} {} {}", node.settings, node.mark, node.ticks)
         }
         Ok(Some(Request::Merge(merger))) => {
-            format!(in alloc; "merge {} {} {}", merger.settings, merger.mark, merger.ticks)
+            format!(in alloc;
+                "merge {} {} {}",
+                merger.settings, merger.mark, merger.ticks
+            )
         }
         Ok(Some(Request::Pmu(pmu))) => {
             let ports = pmu.ports.len();
-            format!(in alloc; "pmu {} {} {} to {ports} ports", pmu.id, pmu.rate, pmu.count)
+            format!(in alloc;
+                "pmu {} {} {} to {ports} ports",
+                pmu.id, pmu.rate, pmu.count
+            )
         }
         Ok(None) => String::from_str(alloc, "nothing"),
         Err(error) => format!(in alloc; "status {}", error.exit_code()),
