@@ -1,12 +1,14 @@
 //! The program `pdc`.
 #![tactic(auto)]
 
+mod listen;
 mod mark_convert;
 mod mark_init;
 mod play;
 mod pmu;
 mod running;
 
+use listen::run_listen_command;
 use mark_convert::{mark_convert_status, report_mark_convert};
 use mark_init::{mark_init_status, report_mark_init};
 use pdc_command_line::{MarkConvert, MarkInit, Request, parse};
@@ -81,6 +83,7 @@ fn main(rt: HostRuntime) -> io::Result<ExitCode> {
         Ok(Some(Request::Node(request))) => run_node_command(&rt, &request)?,
         Ok(Some(Request::Merge(request))) => run_merge_command(&rt, &request)?,
         Ok(Some(Request::Pmu(request))) => run_pmu_command(&rt, &request)?,
+        Ok(Some(Request::Listen(request))) => run_listen_command(&rt, &request)?,
         Ok(None) => WRONG_ARGUMENTS,
         Err(error) => {
             error.print(&rt)?;

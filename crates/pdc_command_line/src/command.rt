@@ -1,11 +1,12 @@
 //! The commands of `pdc`, and their help.
 
+use crate::listen::{listen, listen_request};
 use crate::mark_convert::{mark_convert, mark_convert_request};
 use crate::mark_init::{mark_init, mark_init_request};
 use crate::play::{play, play_request};
 use crate::pmu::{pmu, pmu_request};
 use crate::request::Request;
-use crate::running::{merge, node, running_request};
+use crate::running::{Concentrator, merge, node, running_request};
 use crate::show::show;
 use clap::{Command, Error};
 use std::alloc::{AllocError, Global};
@@ -25,6 +26,7 @@ const EXAMPLES: &str = "Examples:
   pdc merge m.toml m.mark 3000
                               run the merger for 3000 ticks
   pdc pmu 11 50 3000 4811     simulate PMU 11 at 50 frames a second
+  pdc listen 4751 | pdc show  print what the frames that come to a UDP port say
   pdc help show               tell more of a command
 
 Exit status: 0 done, 1 refused input, 2 wrong arguments, 3 a device failed or memory ran out";
@@ -44,7 +46,8 @@ fn pdc<'a>(alloc: Global) -> Result<Command<'a>, AllocError> {
         .subcommand(mark_convert(alloc)?)?
         .subcommand(node(alloc)?)?
         .subcommand(merge(alloc)?)?
-        .subcommand(pmu(alloc)?)
+        .subcommand(pmu(alloc)?)?
+        .subcommand(listen(alloc)?)
 }
 
 /// The request that the words after the program's name make; `None` where no command is named, which the parser
@@ -62,10 +65,18 @@ pub fn parse<'a>(alloc: Global, words: &'a [String]) -> Result<Option<Request<'a
         Some(("mark-convert", inner)) => {
             Ok(mark_convert_request(inner).map(Request::MarkConvert))
         }
-        Some(("node", inner)) => Ok(running_request(alloc, inner)?.map(Request::Node)),
-        Some(("merge", inner)) => Ok(running_request(alloc, inner)?.map(Request::Merge)),
+        Some(("node", inner)) => {
+            Ok(running_request(alloc, Concentrator::Node, inner)?.map(Request::Node))
+        }
+        Some(("merge", inner)) => {
+            Ok(running_request(alloc, Concentrator::Merger, inner)?.map(Request::Merge))
+        }
         Some(("pmu", inner)) => match pmu_request(alloc, inner)? {
             Some(simulated) => Ok(Some(Request::Pmu(simulated))),
+            None => Ok(None),
+        },
+        Some(("listen", inner)) => match listen_request(alloc, inner)? {
+            Some(asked) => Ok(Some(Request::Listen(asked))),
             None => Ok(None),
         },
         _ => Ok(None),

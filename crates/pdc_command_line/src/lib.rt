@@ -5,6 +5,7 @@
 #![tactic(auto)]
 
 mod command;
+mod listen;
 mod mark_convert;
 mod mark_init;
 mod number;
@@ -13,8 +14,9 @@ mod pmu;
 mod request;
 mod running;
 mod show;
+mod words;
 
 pub use command::parse;
 pub use request::{
-    MAX_ID, MAX_PORTS, MAX_RATE, MarkConvert, MarkInit, Play, Request, Running, Simulated,
+    Listen, MAX_ID, MAX_PORTS, MAX_RATE, MarkConvert, MarkInit, Play, Request, Running, Simulated,
 };

@@ -1,7 +1,8 @@
 //! The command `mark-convert`.
 
 use crate::request::MarkConvert;
-use clap::{Arg, ArgAction, ArgMatches, Command};
+use crate::words::word;
+use clap::{ArgMatches, Command};
 use std::alloc::{AllocError, Global};
 
 const ABOUT: &str = "Make a mark file of version 2 out of one of version 1";
@@ -23,13 +24,6 @@ gives `M4 Device`, both with status 3.
 
 Example:
   pdc mark-convert a.mark a2.mark";
-
-fn word<'a>(alloc: Global, name: &'a str, help: &'a str) -> Arg<'a> {
-    Arg::new(alloc, name)
-        .required(true)
-        .action(ArgAction::Set)
-        .help(help)
-}
 
 /// The command and its help.
 pub fn mark_convert<'a>(alloc: Global) -> Result<Command<'a>, AllocError> {

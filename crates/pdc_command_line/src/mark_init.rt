@@ -5,8 +5,9 @@ ghost use Rattle.pdc_command_line.specs.MarkInit.{AsksFor, HasWrongNumber, Lacks
 
 use crate::number::short_number;
 use crate::request::{MAX_ID, MAX_RATE, MarkInit};
+use crate::words::word;
 use clap::error::ErrorKind;
-use clap::{Arg, ArgAction, ArgMatches, Command, Error};
+use clap::{ArgMatches, Command, Error};
 use std::alloc::{AllocError, Global};
 
 const ABOUT: &str = "Make the mark file of a node or a merger";
@@ -21,13 +22,6 @@ A file that cannot be made gives `device fault` and status 3.
 
 Example:
   pdc mark-init /var/lib/pdc/a.mark 201 50";
-
-fn word<'a>(alloc: Global, name: &'a str, help: &'a str) -> Arg<'a> {
-    Arg::new(alloc, name)
-        .required(true)
-        .action(ArgAction::Set)
-        .help(help)
-}
 
 /// The command and its help.
 pub fn mark_init<'a>(alloc: Global) -> Result<Command<'a>, AllocError> {

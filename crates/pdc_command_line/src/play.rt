@@ -1,7 +1,8 @@
 //! The command `play`.
 
 use crate::request::Play;
-use clap::{Arg, ArgAction, ArgMatches, Command};
+use crate::words::word;
+use clap::{ArgMatches, Command};
 use std::alloc::{AllocError, Global};
 
 const ABOUT: &str = "Play a script of events on two nodes and a merger";
@@ -60,13 +61,6 @@ that is none, a fault or refused settings, and 3 for X3, a device and an input w
 
 Example:
   pdc play a.toml b.toml m.toml < a_node_dies.txt";
-
-fn word<'a>(alloc: Global, name: &'a str, help: &'a str) -> Arg<'a> {
-    Arg::new(alloc, name)
-        .required(true)
-        .action(ArgAction::Set)
-        .help(help)
-}
 
 /// The command and its help.
 pub fn play<'a>(alloc: Global) -> Result<Command<'a>, AllocError> {

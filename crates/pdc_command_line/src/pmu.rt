@@ -2,6 +2,7 @@
 
 use crate::number::{number, short_number};
 use crate::request::{MAX_ID, MAX_PORTS, MAX_RATE, Simulated};
+use crate::words::word;
 use arrayvec::ArrayVec;
 use clap::error::ErrorKind;
 use clap::{Arg, ArgAction, ArgMatches, Command, Error};
@@ -18,13 +19,6 @@ ID is its stream id, RATE its frames in a second.
 
 Example, PMU 11 for a minute at 50 frames a second, to the ports of two nodes:
   pdc pmu 11 50 3000 4811 4911";
-
-fn word<'a>(alloc: Global, name: &'a str, help: &'a str) -> Arg<'a> {
-    Arg::new(alloc, name)
-        .required(true)
-        .action(ArgAction::Set)
-        .help(help)
-}
 
 /// The command and its help.
 pub fn pmu<'a>(alloc: Global) -> Result<Command<'a>, AllocError> {

@@ -30,6 +30,8 @@ pub enum Request<'a> {
     Merge(Running<'a>),
     /// Simulate a PMU.
     Pmu(Simulated),
+    /// Print the datagrams that come to a port.
+    Listen(Listen),
 }
 
 /// The mark file that is to be made.
@@ -76,6 +78,17 @@ pub struct Running<'a> {
     pub mark: &'a str,
     /// After how many ticks it ends, at least 1.
     pub ticks: u32,
+    /// After how many seconds a line of counters is printed again; where there is none, no such line is.
+    pub every: Option<u32>,
+}
+
+/// A UDP port that is to be listened at.
+#[derive(Clone, Copy, Debug)]
+pub struct Listen {
+    /// The number of the port, at least 1.
+    pub port: u16,
+    /// After how many datagrams it ends; where there is none, it goes on.
+    pub count: Option<u32>,
 }
 
 /// A PMU that is to be simulated.

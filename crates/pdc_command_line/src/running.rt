@@ -2,9 +2,13 @@
 
 use crate::number::number;
 use crate::request::Running;
+use crate::words::word;
 use clap::error::ErrorKind;
 use clap::{Arg, ArgAction, ArgMatches, Command, Error};
 use std::alloc::{AllocError, Global};
+
+/// The most seconds from one line of counters to the next: a day.
+const MAX_SECONDS: u32 = 86400;
 
 const ABOUT_NODE: &str =
     "Run a node: align the streams of PMUs and send one frame for each instant";
@@ -20,7 +24,11 @@ however often it is started again, the instants that it publishes strictly rise.
 
 It runs for TICKS ticks, one for each frame time, then prints
   taken=N refused=N published=N
-and ends: data frames that were taken, datagrams that were refused, rows that were published.
+and ends: data frames that were taken, datagrams that were refused, rows that were published. With --every it
+prints on standard error, each time that so many seconds have gone by, what it counted until then: the same, the
+instant that was published last, and how many datagrams each cause refused.
+
+Consumers ask for its header, configuration and data over TCP at `session_port`, by the commands of the standard.
 
 Faults, on standard error, with status 1: S1 Toml, S2 Range and S3 DoubledId of the settings; M1 NoMark,
 M2 Damaged, M3 OtherOwner, M5 StartsUsedUp and M6 OldMark of the mark. With status 3: `device fault` where
@@ -37,16 +45,18 @@ them, and one data frame for each instant goes out to 127.0.0.1 at `out_port`, s
 and no reader downstream sees it.
 
 SETTINGS is a TOML file with two tables `node`, MARK the mark file that `pdc mark-init` made for the merger.
-It runs for TICKS ticks, prints what `pdc node` prints, and has the same faults.
+It runs for TICKS ticks, prints what `pdc node` prints, and has the same options, sessions and faults.
 
 Example, a minute at 50 frames a second:
   pdc merge m.toml m.mark 3000";
 
-fn word<'a>(alloc: Global, name: &'a str, help: &'a str) -> Arg<'a> {
-    Arg::new(alloc, name)
-        .required(true)
-        .action(ArgAction::Set)
-        .help(help)
+/// Which concentrator is asked for.
+#[derive(Clone, Copy, Debug, PartialEq, Eq)]
+pub enum Concentrator {
+    /// A node.
+    Node,
+    /// The merger.
+    Merger,
 }
 
 /// A command with the words of both.
@@ -58,7 +68,14 @@ fn with_words<'a>(alloc: Global, command: Command<'a>) -> Result<Command<'a>, Al
             alloc,
             "TICKS",
             "After how many ticks it ends, 1 to 4294967295",
-        ))
+        ))?
+        .arg(
+            Arg::new(alloc, "every")
+                .long("every")
+                .value_name("SECONDS")
+                .action(ArgAction::Set)
+                .help("Print counters on standard error every so many seconds, 1 to 86400"),
+        )
 }
 
 /// The command `node` and its help.
@@ -79,21 +96,32 @@ pub fn merge<'a>(alloc: Global) -> Result<Command<'a>, AllocError> {
     with_words(alloc, command)
 }
 
-/// What is wrong with a number of ticks.
-fn no_ticks(alloc: Global, text: &str) -> Result<Error, AllocError> {
+/// What is wrong with a number.
+fn out_of_range(
+    alloc: Global,
+    asked: Concentrator,
+    name: &str,
+    text: &str,
+    most: u32,
+) -> Result<Error, AllocError> {
     let message = format!(in alloc;
-        "invalid value '{text}' for '<TICKS>': a whole number from 1 to 4294967295 is wanted"
+        "invalid value '{text}' for '{name}': a whole number from 1 to {most} is wanted"
     )?;
-    node(alloc)?.error(ErrorKind::ValueValidation, message.as_str())
+    let mut command = match asked {
+        Concentrator::Node => node(alloc)?,
+        Concentrator::Merger => merge(alloc)?,
+    };
+    command.error(ErrorKind::ValueValidation, message.as_str())
 }
 
 /// What is asked by these words; `None` where one is missing, which the parser refuses before.
 ///
 /// # Errors
 ///
-/// TICKS is no number, or out of its range.
+/// TICKS or SECONDS is no number, or out of its range.
 pub fn running_request<'a>(
     alloc: Global,
+    asked: Concentrator,
     matches: &ArgMatches<'a>,
 ) -> Result<Option<Running<'a>>, Error> {
     let (Some(settings), Some(mark), Some(ticks_text)) = (
@@ -104,11 +132,21 @@ pub fn running_request<'a>(
         return Ok(None);
     };
     let Some(ticks) = number(ticks_text, 1, u32::MAX) else {
-        return Err(no_ticks(alloc, ticks_text)?);
+        return Err(out_of_range(alloc, asked, "<TICKS>", ticks_text, u32::MAX)?);
+    };
+    let every = match matches.get_str("every") {
+        None => None,
+        Some(text) => match number(text, 1, MAX_SECONDS) {
+            Some(seconds) => Some(seconds),
+            None => {
+                return Err(out_of_range(alloc, asked, "--every <SECONDS>", text, MAX_SECONDS)?);
+            }
+        },
     };
     Ok(Some(Running {
         settings,
         mark,
         ticks,
+        every,
     }))
 }

@@ -1,12 +1,12 @@
 //! What the words of the command line ask for.
 
-use pdc_command_line::{Request, parse};
+use pdc_command_line::{Request, Running, parse};
 use std::alloc::{AllocError, Global};
 use std::process::Abort;
 use std::test::Fail;
 
 /// Words, with a bar between two, and what they ask for. What is no command is status 2, and help is status 0.
-const CASES: [(&str, &str); 50] = [
+const CASES: [(&str, &str); 60] = [
     ("show", "show"),
     ("mark-init|a.mark|65534|240", "mark-init a.mark 65534 240"),
     ("mark-convert|a.mark|a2.mark", "mark-convert a.mark a2.mark"),
@@ -61,6 +61,22 @@ const CASES: [(&str, &str); 50] = [
     ("pmu|11|50|3", "status 2"),
     ("pmu|11|50|3|4811|65536", "status 2"),
     ("pmu|--help", "status 0"),
+    (
+        "node|--every|10|a.toml|a.mark|5",
+        "node a.toml a.mark 5 every 10",
+    ),
+    (
+        "merge|m.toml|m.mark|5|--every=86400",
+        "merge m.toml m.mark 5 every 86400",
+    ),
+    ("node|a.toml|a.mark|5|--every|0", "status 2"),
+    ("node|a.toml|a.mark|5|--every|86401", "status 2"),
+    ("node|a.toml|a.mark|5|--every", "status 2"),
+    ("listen|4751", "listen 4751 on and on"),
+    ("listen|65535|4294967295", "listen 65535 for 4294967295"),
+    ("listen|0", "status 2"),
+    ("listen|4751|0", "status 2"),
+    ("listen", "status 2"),
 ];
 
 /// The words of a line.
@@ -70,6 +86,17 @@ fn words(alloc: Global, line: &str) -> Result<Vec<String>, AllocError> {
         words.push(String::from_str(alloc, word)?)?;
     }
     Ok(words)
+}
+
+/// What a node or the merger is asked to do.
+fn asked_to_run(alloc: Global, command: &str, running: &Running) -> Result<String, AllocError> {
+    let (settings, mark, ticks) = (running.settings, running.mark, running.ticks);
+    match running.every {
+        None => format!(in alloc; "{command} {settings} {mark} {ticks}"),
+        Some(seconds) => {
+            format!(in alloc; "{command} {settings} {mark} {ticks} every {seconds}")
+        }
+    }
 }
 
 /// What these words ask for, or the exit status with which they are refused.
@@ -85,15 +112,8 @@ fn asked(alloc: Global, words: &[String]) -> Result<String, AllocError> {
         Ok(Some(Request::Play(world))) => {
             format!(in alloc; "play {} {} {}", world.a, world.b, world.m)
         }
-        Ok(Some(Request::Node(node))) => {
-            format!(in alloc; "node {} {} {}", node.settings, node.mark, node.ticks)
-        }
-        Ok(Some(Request::Merge(merger))) => {
-            format!(in alloc;
-                "merge {} {} {}",
-                merger.settings, merger.mark, merger.ticks
-            )
-        }
+        Ok(Some(Request::Node(running))) => asked_to_run(alloc, "node", &running),
+        Ok(Some(Request::Merge(running))) => asked_to_run(alloc, "merge", &running),
         Ok(Some(Request::Pmu(pmu))) => {
             let ports = pmu.ports.len();
             format!(in alloc;
@@ -101,6 +121,10 @@ fn asked(alloc: Global, words: &[String]) -> Result<String, AllocError> {
                 pmu.id, pmu.rate, pmu.count
             )
         }
+        Ok(Some(Request::Listen(listen))) => match listen.count {
+            None => format!(in alloc; "listen {} on and on", listen.port),
+            Some(count) => format!(in alloc; "listen {} for {count}", listen.port),
+        },
         Ok(None) => String::from_str(alloc, "nothing"),
         Err(error) => format!(in alloc; "status {}", error.exit_code()),
     }
