@@ -10,7 +10,8 @@
 mod aligner;
 mod runs;
 
-pub use aligner::{Pace, Ticker, align};
+pub use aligner::{Pace, Ticker, Told, align};
+pub use pdc_answering::Counts;
 pub use pdc_pipe::{
     CAPACITY, Ended, InOrder, LayoutFrame, Log, MemorySink, Message, Receiver, Sender, Sink,
     SinkFault, send_out,
