@@ -1,2 +1,2 @@
-mod Pipes
 mod Rates
+mod Sequences

@@ -1,5 +1,5 @@
 -- Rows that can be tagged, and layouts of some life.
-use Rattle.std.proofs.Common.{◌≡◌, ℕ, ◌<◌, ◌*◌, ◌++◌, List, [], Option, None, Some, Result, Ok, Err, IfSome, IfOk, sym, ap, ◌∙◌, subst}
+use Rattle.std.proofs.Common.{◌≡◌, ℕ, ◌<◌, ◌*◌, ◌++◌, List, [], Option, None, Some, Result, Ok, Err, IfSome, IfOk, ap, ◌∙◌, subst}
 use Rattle.std.proofs.Math.Logic.{∥∥₁_elim}
 use Rattle.std.proofs.Props.{props}
 use Rattle.pdc_life.specs.Given.{Given}
@@ -8,7 +8,7 @@ use Rattle.pdc_life.specs.Published.{layout_wire}
 use Rattle.pdc_row.specs.declared.due_row.DueRow.{DueRow}
 use Rattle.pdc_tag.specs.declared.limits.TheConstants.{SECONDS}
 use Rattle.pdc_recorder.specs.Replay.{InSomeLife, Lives}
-use Rattle.pdc_hub.specs.Layout.{IsOfSomeLayout}
+use Rattle.pdc_pipe.specs.Layout.{IsOfSomeLayout}
 use Rattle.pdc_hub.specs.Rate.{IsAtRate}
 
 -- what is popped in some life can be tagged at the rate of what is named

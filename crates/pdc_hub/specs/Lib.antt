@@ -1,6 +1,4 @@
--- What goes through the channel of a running core, and the rule of the channel.
-pub mod Layout
-pub mod Pipe
+-- What the aligner puts, and what a run does.
 pub mod Rate
-pub mod Sequence
 pub mod Run
+pub mod Sequence

@@ -1,24 +1,10 @@
 -- What a run of the receivers, the aligner and the sender did.
-use Rattle.std.specs.Prelude.{◌≡◌, ℕ, List, [], ◌∷◌, ◌++◌, length, IfOk, OnOk, Result}
+use Rattle.std.specs.Prelude.{◌≡◌, ℕ, List, [], ◌++◌, length, IfOk, OnOk, Result}
 use Rattle.pdc_recorder.specs.declared.fault.HubFault.{HubFault}
-use Rattle.pdc_hub.specs.declared.message.Message.{Message}
-use Rattle.pdc_hub.specs.declared.message.Message.TheVariants.{End}
+use Rattle.pdc_pipe.specs.declared.message.Message.{Message}
+use Rattle.pdc_pipe.specs.Sequence.{bytes_of}
 use Rattle.pdc_hub.specs.declared.runs.Totals.{Totals}
-use Rattle.pdc_hub.specs.declared.senders.Ended.{Ended}
-use Rattle.pdc_hub.specs.declared.senders.Ended.TheVariants.{AtEndMark}
-use Rattle.pdc_hub.specs.Sequence.{Rises, bytes_of, instants_of}
-
--- the end mark stands last
-abbrev pub EndsThere : List Message → Type 0
-EndsThere taken = (body : List Message) × (taken ≡ body ++ End ∷ [])
-
--- What the sink took are the first of the frames that were taken; all of them, up to the end mark, where it ended there.
-pub record HasHandedOn (Took : List (List ℕ) → Type 0) (taken : List Message) (ended : Ended) : Type 0 where
-  pub given : List (List ℕ)
-  pub rest : List (List ℕ)
-  pub took : Took given
-  pub first : bytes_of taken ≡ given ++ rest
-  pub whole : ended ≡ AtEndMark → (rest ≡ []) × EndsThere taken
+use Rattle.pdc_hub.specs.Sequence.{Rises, instants_of}
 
 -- The instants of what was put strictly rise, lie above `low` and are at most `high`. What the sink took are the first of the frames
 -- that were put; all of them where the run was Ok, and then as many rows were published as it tells.

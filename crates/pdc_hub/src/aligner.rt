@@ -2,11 +2,11 @@
 ghost use Rattle.std.specs.Prelude.{◌≡◌, ◌<◌, ◌≤◌, ◌*◌, ◌++◌, ◌∷◌, ℕ, Bool, IfOk, IfSome, List, None, Ok, OnErr, OnOk, Option, Some, [], false, length, slice_index, true};
 ghost use Rattle.crossbeam_channel.specs.Claims.{IsSeatAt, view};
 ghost use Rattle.crossbeam_channel.specs.Ends.{sends_on};
-ghost use Rattle.pdc_hub.specs.Pipe.{log};
+ghost use Rattle.pdc_pipe.specs.Pipe.{log};
 ghost use Rattle.pdc_hub.specs.Rate.{IsAtRate};
 ghost use Rattle.pdc_hub.specs.Sequence.{IsCounted, Rises, instants_of};
-ghost use Rattle.pdc_hub.specs.declared.message.Message.{Message};
-ghost use Rattle.pdc_hub.specs.declared.message.Message.TheVariants.{Data, End, Layout};
+ghost use Rattle.pdc_pipe.specs.declared.message.Message.{Message};
+ghost use Rattle.pdc_pipe.specs.declared.message.Message.TheVariants.{Data, End, Layout};
 ghost use Rattle.pdc_align.specs.Align.{ticked_of};
 ghost use Rattle.pdc_life.specs.Answer.{tick_answer};
 ghost use Rattle.pdc_life.specs.Life.{changes};
@@ -14,14 +14,14 @@ ghost use Rattle.pdc_recorder.specs.Replay.{InSomeLife};
 ghost use Rattle.pdc_publisher.specs.Publisher.{last_in, mark_in, output_in};
 ghost use Rattle.pdc_tag.specs.declared.limits.TheConstants.{SECONDS};
 
-use crate::message::{LayoutFrame, Message};
-use crate::pipe::{Log, Sender, close, put};
 use arrayvec::ArrayVec;
 use crossbeam_channel::Pass;
 use pdc_align::Ticked;
+use pdc_answering::Counts;
 use pdc_core::Core;
 use pdc_mark::{COUNTS, Mark, raised};
 use pdc_output::MAX_ROW_LEN;
+use pdc_pipe::{LayoutFrame, Log, Message, Sender, close, put};
 use pdc_publisher::{PublishFault, Publisher};
 use pdc_recorder::{Hub, HubFault, Naming};
 use pdc_row::DueRow;
@@ -29,10 +29,29 @@ use std::alloc::Global;
 use std::sync::Wait;
 use std::sync::ledger::{Ledger, Share};
 
-/// When the aligner ticks.
+/// How a run stands once all rows of a tick were published.
+#[derive(Clone, Copy, Debug)]
+pub struct Told {
+    /// How arrivals were answered since the core was opened.
+    pub counts: Counts,
+    /// How many rows were published in this run so far.
+    pub published: u64,
+    /// The last instant that was published, or the floor that the run began with.
+    pub last: u64,
+}
+
+/// When the aligner ticks, and who is told how the run stands.
 pub trait Ticker {
     /// The instant that is now, at the next tick; none at the end.
     fn next(&mut self) -> Option<u64>;
+
+    /// Whether it wants to be told how the run stands, after the tick that it gave last. One that says nothing of it never does.
+    fn wants_counts(&self) -> bool {
+        false
+    }
+
+    /// Takes how the run stands. Whoever calls it waits for its return: no tick comes before.
+    fn tell(&mut self, _told: &Told) {}
 }
 
 /// How instants are dated, and how often layouts are repeated.
@@ -333,6 +352,27 @@ fn turn<
     }
 }
 
+/// How the run stands: the counts are read under the lock.
+fn told_of<
+    C: Core + Drop,
+    N: Naming<C::Settings>,
+    T: Ledger,
+    F: Ledger,
+    G: Ledger,
+    P: Ledger,
+    M: Mark,
+    R: Wait,
+>(rt: &R, hub: &Hub<C, N, T, F, G, P>, publisher: &Publisher<M>, published: u64) -> Told
+    ensures published { result.published ≡ published }
+    ensures last { result.last ≡ last_in publisher.now }
+{
+    Told {
+        counts: hub.counts(rt),
+        published,
+        last: publisher.last(),
+    }
+}
+
 /// Ticks until the ticker ends or a call fails. How many rows were published.
 fn turns<
     C: Core + Drop,
@@ -391,13 +431,17 @@ fn turns<
             Ok(adopts) => adopted = adopted || adopts,
             Err(fault) => return Err(fault),
         }
+        if ticker.wants_counts() {
+            ticker.tell(&told_of(rt, hub, publisher, published));
+        }
     }
     unreachable!()
 }
 
 /// Ticks until the ticker ends or a call fails; then closes the hub and puts the end mark. At each tick the mark is first raised to the
 /// counts that wait, all due rows are popped, published and put on the channel in rising order, and then the layout frame is, where the
-/// tick adopted, or where an earlier one did and the tick's number is a multiple of `layout_every`. Answers how many rows were published.
+/// tick adopted, or where an earlier one did and the tick's number is a multiple of `layout_every`. Then the ticker is told how the run
+/// stands, where it wants to be. Answers how many rows were published.
 ///
 /// # Errors
 ///

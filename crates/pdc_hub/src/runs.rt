@@ -2,22 +2,23 @@
 ghost use Rattle.std.specs.Prelude.{◌≡◌, ◌≤◌, ◌<◌, ◌+◌, ◌++◌, ◌∷◌, ℕ, Bool, IfOk, IfSome, List, None, Ok, OnOk, Option, Some, [], false, length, map, sum, true, vec_len};
 ghost use Rattle.crossbeam_channel.specs.Claims.{IsSeatAt, view};
 ghost use Rattle.crossbeam_channel.specs.Ends.{receives_on, sends_on};
-ghost use Rattle.pdc_hub.specs.Pipe.{log};
+ghost use Rattle.pdc_pipe.specs.Pipe.{log};
 ghost use Rattle.pdc_hub.specs.Rate.{IsAtRate};
-ghost use Rattle.pdc_hub.specs.Run.{EndsThere, HasHandedOn, HasRun};
-ghost use Rattle.pdc_hub.specs.Sequence.{Rises, bytes_of, instants_of};
-ghost use Rattle.pdc_hub.specs.declared.message.Message.{Message};
+ghost use Rattle.pdc_hub.specs.Run.{HasRun};
+ghost use Rattle.pdc_hub.specs.Sequence.{Rises, instants_of};
+ghost use Rattle.pdc_pipe.specs.declared.message.Message.{Message};
+ghost use Rattle.pdc_pipe.specs.HandedOn.{HasHandedOn};
 ghost use Rattle.pdc_publisher.specs.Publisher.{last_in, mark_in, output_in};
 
 use crate::aligner::{Pace, Ticker, align};
-use crate::message::Message;
-use crate::pipe::{CAPACITY, InOrder, Log, Receiver, Roles, Sender, Total, close};
-use crate::senders::{Ended, send_out};
-use crate::sink::Sink;
-use crossbeam_channel::{Pass, bounded_with};
+use crossbeam_channel::Pass;
 use pdc_core::Core;
 use pdc_frame::MAX_SIZE;
 use pdc_mark::Mark;
+use pdc_pipe::{
+    Ended, Ends, HandsOn, Log, Message, Receiver, Sender, Sent, Sink, channel, close, send_owned,
+    settle,
+};
 use pdc_publisher::Publisher;
 use pdc_recorder::{Hub, HubFault, Naming, Received, Shares, Source, receive};
 use std::alloc::{AllocError, Global};
@@ -238,58 +239,6 @@ fn merge<T: Ledger, F: Ledger, G: Ledger>(all: &mut Shares<T, F, G>, more: Share
     all.configured.merge(configured);
 }
 
-/// What the sender's thread hands back.
-#[derive(Drop)]
-pub struct Sent<K> {
-    sink: K,
-    pass: Pass<Message, Log>,
-    ended: Ended,
-}
-
-/// What the sender's thread promises, of the sink that it was given and the channel's end that it takes from.
-#[derive(Drop)]
-pub struct HandsOn<'a, K> {
-    sink: Snapshot<K>,
-    from: &'a Receiver,
-}
-
-impl<'a, K: Sink> Promise<Sent<K>> for HandsOn<'a, K> {
-    ghost use Rattle.std.specs.Prelude.{◌≡◌, ℕ, List, [], ◌++◌, true, false};
-    ghost use Rattle.crossbeam_channel.specs.Claims.{view, IsSeatAt};
-    ghost use Rattle.crossbeam_channel.specs.Ends.{receives_on};
-    ghost use Rattle.pdc_hub.specs.Pipe.{log};
-    ghost use Rattle.pdc_hub.specs.Run.{HasHandedOn};
-
-    ghost kept_by = { λ p r. IsSeatAt (receives_on p.from.now) r.pass × (view r.pass ≡ log false true false [] (view r.pass).taken) × HasHandedOn (K.took p.sink.value r.sink) (view r.pass).taken r.ended };
-}
-
-/// As `send_out`, of a sink that is its own.
-fn send_owned<K: Sink, R: Wait>(
-    rt: &R,
-    from: &Receiver,
-    pass: Pass<Message, Log>,
-    sink: K,
-) -> Sent<K>
-    requires { IsSeatAt (receives_on from.now) pass × (view pass ≡ log false true false [] []) }
-    ensures { IsSeatAt (receives_on from.now) result.pass × (view result.pass ≡ log false true false [] (view result.pass).taken) × HasHandedOn (K.took sink result.sink) (view result.pass).taken result.ended }
-{
-    let mut pass = pass;
-    let mut sink = sink;
-    let ended = send_out(rt, from, &mut pass, &mut sink);
-    Sent { sink, pass, ended }
-}
-
-/// Joins the two passes, and learns that what was taken is a prefix of what was put.
-fn settle(to: &Sender, writer: Pass<Message, Log>, reader: Pass<Message, Log>)
-    requires writer { IsSeatAt (sends_on to.now) writer × ((view writer).puts ≡ true) }
-    requires reader { IsSeatAt (sends_on to.now) reader × ((view reader).takes ≡ true) }
-    ensures { (rest : List Message) × ((view writer).put ≡ (view reader).taken ++ rest) × (EndsThere (view reader).taken → rest ≡ []) }
-{
-    let mut writer = writer;
-    to.absorb::<Roles>(&mut writer, reader);
-    to.learn_as::<Total>(&mut writer);
-}
-
 /// The first fault in the order receivers, aligner, sender, or the totals.
 fn outcome<
     C: Core + Drop,
@@ -416,8 +365,8 @@ where
         Err(refused) => {
             hub.close(rt);
             let _closed = close(rt, to, &mut writer);
-            let Sent { sink, pass, .. } = (refused.value)();
-            settle(to, writer, pass);
+            let sent = (refused.value)();
+            let (sink, _ended) = settle(to, writer, sent);
             return Ran {
                 publisher,
                 sink,
@@ -439,8 +388,8 @@ where
         &mut writer,
     );
     let joined = join_all(rt, alloc, started);
-    let Sent { sink, pass, ended } = child.join(rt);
-    settle(to, writer, pass);
+    let sent = child.join(rt);
+    let (sink, ended) = settle(to, writer, sent);
     Ran {
         publisher,
         sink,
@@ -629,19 +578,21 @@ where
     ensures totals { IfOk result.outcome (λ t. (t.taken ≡ sum (map (λ c. c.taken) t.receivers.items)) × (t.refused ≡ sum (map (λ c. c.refused) t.receivers.items))) }
     ensures sent { HasRun (K.took sink result.sink) (last_in publisher) (M.stored (mark_in result.publisher)).floor result.outcome }
 {
-    let Ok((sender, receiver, mut writer)) = bounded_with::<Message, Log, InOrder, Global>(
-        alloc, CAPACITY,
-    ) else {
+    let Ok(ends) = channel(alloc) else {
         return Ran {
             publisher,
             sink,
             outcome: Err(HubFault::NoMemory),
         };
     };
-    let to = &sender;
-    let reader = to.another::<Roles>(&mut writer);
+    let Ends {
+        to,
+        from,
+        writer,
+        reader,
+    } = ends;
     run_over(
-        rt, alloc, hub, settings, to, &receiver, writer, reader, shares, top, inputs, publisher,
+        rt, alloc, hub, settings, &to, &from, writer, reader, shares, top, inputs, publisher,
         ticker, pace, sink,
     )
 }

@@ -1,7 +1,7 @@
 use Rattle.std.proofs.Common.{rules, ◌≡◌, ◌++◌, ◌∷◌, []}
 use Rattle.crossbeam_channel.specs.Claims.{view}
-use Rattle.pdc_hub.specs.declared.message.Message.TheVariants.{End}
-use Rattle.pdc_hub.proofs.Pipes.{put_end, rises_on}
+use Rattle.pdc_pipe.specs.declared.message.Message.TheVariants.{End}
+use Rattle.pdc_hub.proofs.Sequences.{put_end, rises_on}
 use Rattle.pdc_hub.proofs.aligner.align.Goals as goal
 
 pub returns-then-not-close-clause-rising : goal.returns-then-not-close-clause-rising

@@ -1,8 +1,8 @@
 use Rattle.std.proofs.Common.{rules, arith, ◌≡◌, ◌++◌, ◌∷◌, [], ◌≤◌, ◌<◌}
 use Rattle.crossbeam_channel.specs.Claims.{view}
 use Rattle.pdc_publisher.specs.Publisher.{last_in}
-use Rattle.pdc_hub.specs.declared.message.Message.TheVariants.{Data}
-use Rattle.pdc_hub.proofs.Pipes.{counted_data, rises_on, rises_put, put_data}
+use Rattle.pdc_pipe.specs.declared.message.Message.TheVariants.{Data}
+use Rattle.pdc_hub.proofs.Sequences.{counted_data, rises_on, rises_put, put_data}
 use Rattle.pdc_hub.proofs.aligner.publish_one.Goals as goal
 
 pub returns-then-not-put-clause-rising : goal.returns-then-not-put-clause-rising

@@ -1,4 +1,4 @@
-use Rattle.pdc_hub.proofs.Pipes.{put_layout}
+use Rattle.pdc_hub.proofs.Sequences.{put_layout}
 use Rattle.pdc_hub.proofs.aligner.put_layout.Goals as goal
 
 pub returns-clause-instants : goal.returns-clause-instants

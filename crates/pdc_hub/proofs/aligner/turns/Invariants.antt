@@ -1,7 +1,7 @@
-use Rattle.std.proofs.Common.{◌≡◌, ◌≤◌, true, false, [], ℕ}
+use Rattle.std.proofs.Common.{◌≡◌, ◌≤◌, true, false, []}
 use Rattle.crossbeam_channel.specs.Claims.{view, IsSeatAt}
 use Rattle.crossbeam_channel.specs.Ends.{sends_on}
-use Rattle.pdc_hub.specs.Pipe.{log}
+use Rattle.pdc_pipe.specs.Pipe.{log}
 use Rattle.pdc_hub.specs.Sequence.{instants_of, IsCounted, Rises}
 use Rattle.pdc_publisher.specs.Publisher.{last_in, mark_in, output_in}
 use Rattle.pdc_hub.proofs.aligner.turns.Given as goal

@@ -1,4 +1,4 @@
-use Rattle.std.proofs.Common.{◌≡◌, ◌+◌, true, length, sum, map}
+use Rattle.std.proofs.Common.{◌≡◌, ◌+◌, true, sum, map}
 use Rattle.std.specs.Vec.Iter.{into_iter_len}
 use Rattle.pdc_hub.proofs.runs.join_all.Given as goal
 

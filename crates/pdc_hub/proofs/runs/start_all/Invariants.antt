@@ -1,4 +1,4 @@
-use Rattle.std.proofs.Common.{◌≡◌, ◌+◌, ◌≤◌, true, length}
+use Rattle.std.proofs.Common.{◌≡◌, ◌+◌, true, length}
 use Rattle.std.specs.Vec.Iter.{into_iter_len}
 use Rattle.pdc_hub.proofs.runs.start_all.Given as goal
 

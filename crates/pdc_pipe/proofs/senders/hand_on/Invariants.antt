@@ -1,9 +1,9 @@
 use Rattle.std.proofs.Common.{◌≡◌, ◌≤◌, true, false, []}
 use Rattle.crossbeam_channel.specs.Claims.{view, IsSeatAt}
 use Rattle.crossbeam_channel.specs.Ends.{receives_on}
-use Rattle.pdc_hub.specs.Pipe.{log}
-use Rattle.pdc_hub.specs.Sequence.{bytes_of}
-use Rattle.pdc_hub.proofs.senders.hand_on.Given as goal
+use Rattle.pdc_pipe.specs.Pipe.{log}
+use Rattle.pdc_pipe.specs.Sequence.{bytes_of}
+use Rattle.pdc_pipe.proofs.senders.hand_on.Given as goal
 
 abbrev pub invariant-loop : goal.invariant-loop
 invariant-loop g l =

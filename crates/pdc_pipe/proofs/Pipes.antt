@@ -1,22 +1,19 @@
--- Each step keeps the rule of the pipe.
-use Rattle.std.proofs.Common.{arith, ◌<◌, ◌≤◌, ◌+◌, ◌≡◌, ◌≢◌, ℕ, zero, suc, Result, Ok, Err, IfOk, OnOk, Bool, true, false, true≢false, List, [], ◌∷◌, ◌++◌, length, set, sym, refl, ap, ◌∙◌, subst, ⊎_elim, append_assoc, append-nil}
-use Rattle.std.proofs.lemmas.List.{length-append}
+-- Each step keeps the rule of the pipe, and what was handed on is a prefix of what was put.
+use Rattle.std.proofs.Common.{◌≡◌, ◌≢◌, ℕ, zero, suc, Bool, true, false, true≢false, List, [], ◌∷◌, ◌++◌, length, set, sym, refl, ap, ◌∙◌, subst, ⊎_elim, append_assoc, append-nil}
 use mathlib.Core.Option.{some, some-ne-none}
 use lib.ListN.{get_elem?}
 use Rattle.crossbeam_channel.specs.Fifo.{Pushes, Pops, Forks, Merges, Learns}
 use Rattle.atomic_table.proofs.Lists.{at_set, at_snoc}
-use Rattle.pdc_hub.specs.declared.message.Message.{Message}
+use Rattle.pdc_pipe.specs.declared.message.Message.{Message}
 use Rattle.pdc_publisher.specs.declared.published.Published.{Published}
-use Rattle.pdc_hub.specs.declared.message.LayoutFrame.{LayoutFrame}
-use Rattle.pdc_hub.specs.declared.message.Message.TheVariants.{Data, Layout, End}
-use Rattle.pdc_hub.specs.declared.pipe.Log.{Log}
-use Rattle.pdc_hub.specs.Pipe.{log, Fits, Piped}
-use Rattle.pdc_recorder.specs.declared.fault.HubFault.{HubFault}
-use Rattle.pdc_hub.specs.declared.runs.Totals.{Totals}
-use Rattle.pdc_hub.specs.declared.senders.Ended.{Ended}
-use Rattle.pdc_hub.specs.declared.senders.Ended.TheVariants.{AtEndMark, SinkFault, AlignerGone}
-use Rattle.pdc_hub.specs.Run.{EndsThere, HasHandedOn}
-use Rattle.pdc_hub.specs.Sequence.{IsClosedBy, IsCounted, has_end, is_end, bytes_of, instants_of, Rises}
+use Rattle.pdc_pipe.specs.declared.message.LayoutFrame.{LayoutFrame}
+use Rattle.pdc_pipe.specs.declared.message.Message.TheVariants.{Data, Layout, End}
+use Rattle.pdc_pipe.specs.declared.pipe.Log.{Log}
+use Rattle.pdc_pipe.specs.Pipe.{log, Fits, Piped}
+use Rattle.pdc_pipe.specs.declared.senders.Ended.{Ended}
+use Rattle.pdc_pipe.specs.declared.senders.Ended.TheVariants.{AtEndMark, SinkFault, AlignerGone}
+use Rattle.pdc_pipe.specs.HandedOn.{EndsThere, HasHandedOn}
+use Rattle.pdc_pipe.specs.Sequence.{IsClosedBy, has_end, is_end, bytes_of}
 
 at_end : (l : List Log) (a b : Log) (j : ℕ) → get_elem? l j ≢ some b → get_elem? (l ++ a ∷ []) j ≡ some b → j ≡ length l
 at_end [] a b zero n e = refl
@@ -129,23 +126,9 @@ bytes_of-append (Data p ∷ ms) ys = ap (λ l. p.bytes.items ∷ l) (bytes_of-ap
 bytes_of-append (Layout b ∷ ms) ys = ap (λ l. b.bytes.items ∷ l) (bytes_of-append ms ys)
 bytes_of-append (End ∷ ms) ys = bytes_of-append ms ys
 
-pub instants_of-append : (xs ys : List Message) → instants_of (xs ++ ys) ≡ instants_of xs ++ instants_of ys
-instants_of-append [] ys = refl
-instants_of-append (Data p ∷ ms) ys = ap (λ l. p.instant ∷ l) (instants_of-append ms ys)
-instants_of-append (Layout b ∷ ms) ys = instants_of-append ms ys
-instants_of-append (End ∷ ms) ys = instants_of-append ms ys
-
 -- what was put, with what was given and what is left of it
 pub put_is_given : (put taken items : List Message) (given rest : List (List ℕ)) → put ≡ taken ++ items → bytes_of taken ≡ given ++ rest → bytes_of put ≡ given ++ (rest ++ bytes_of items)
 put_is_given put taken items given rest e t = ap bytes_of e ∙ (bytes_of-append taken items ∙ (ap (λ l. l ++ bytes_of items) t ∙ append_assoc given rest (bytes_of items)))
-
-pub rises_more : (low : ℕ) (ns : List ℕ) (high n : ℕ) → Rises low ns high → high < n → Rises low (ns ++ n ∷ []) n
-rises_more low [] high n r l = (omega (arith, r, l), omega arith)
-rises_more low (m ∷ ms) high n r l = (r.0, rises_more m ms high n r.1 l)
-
-pub rises_on : (low : ℕ) (ns : List ℕ) (high n : ℕ) → Rises low ns high → high ≤ n → Rises low ns n
-rises_on low [] high n r l = omega (arith, r, l)
-rises_on low (m ∷ ms) high n r l = (r.0, rises_on m ms high n r.1 l)
 
 pub took_data : (taken after : List Message) (p : Published) → after ≡ taken ++ Data p ∷ [] → bytes_of after ≡ bytes_of taken ++ p.bytes.items ∷ []
 took_data taken after p e = ap bytes_of e ∙ bytes_of-append taken (Data p ∷ [])
@@ -156,45 +139,9 @@ took_layout taken after b e = ap bytes_of e ∙ bytes_of-append taken (Layout b 
 pub took_end : (taken after : List Message) → after ≡ taken ++ End ∷ [] → bytes_of after ≡ bytes_of taken
 took_end taken after e = ap bytes_of e ∙ (bytes_of-append taken (End ∷ []) ∙ append-nil (bytes_of taken))
 
-pub put_data : (put after : List Message) (p : Published) → after ≡ put ++ Data p ∷ [] → instants_of after ≡ instants_of put ++ p.instant ∷ []
-put_data put after p e = ap instants_of e ∙ instants_of-append put (Data p ∷ [])
-
-pub put_layout : (put after : List Message) (b : LayoutFrame) → after ≡ put ++ Layout b ∷ [] → instants_of after ≡ instants_of put
-put_layout put after b e = ap instants_of e ∙ (instants_of-append put (Layout b ∷ []) ∙ append-nil (instants_of put))
-
-pub put_end : (put after : List Message) → after ≡ put ++ End ∷ [] → instants_of after ≡ instants_of put
-put_end put after e = ap instants_of e ∙ (instants_of-append put (End ∷ []) ∙ append-nil (instants_of put))
-
-pub rises_put : (low : ℕ) (ns : List ℕ) (high n last : ℕ) → Rises low ns high → high < n → last ≡ n → Rises low (ns ++ n ∷ []) last
-rises_put low ns high n last r l e = subst (λ k. Rises low (ns ++ n ∷ []) k) (sym e) (rises_more low ns high n r l)
-
 -- what is drained comes after what was handed on
 pub drained : (taken after more : List Message) (given rest : List (List ℕ)) → after ≡ taken ++ more → bytes_of taken ≡ given ++ rest → bytes_of after ≡ given ++ (rest ++ bytes_of more)
 drained taken after more given rest e t = put_is_given after taken more given rest e t
-
--- the sink's list and what was taken grow alike
-pub handed : (before was now : List (List ℕ)) (taken after : List (List ℕ)) (x : List ℕ) → now ≡ was ++ x ∷ [] → was ≡ before ++ taken → after ≡ taken ++ x ∷ [] → now ≡ before ++ after
-handed before was now taken after x n w a = n ∙ (ap (λ l. l ++ x ∷ []) w ∙ (append_assoc before taken (x ∷ []) ∙ ap (λ l. before ++ l) (sym a)))
-
--- what is put alone, where there was nothing before, is the end mark at most
-pub ended_alone : (put after : List Message) (r : Bool) → put ≡ [] → (r ≡ true → after ≡ put ++ End ∷ []) → (r ≡ false → after ≡ put) → instants_of after ≡ []
-ended_alone put after true e h k = put_end put after (h refl) ∙ ap instants_of e
-ended_alone put after false e h k = ap instants_of (k refl ∙ e)
-
--- one more of them is one more
-pub length_more : (ns : List ℕ) (n : ℕ) → length (ns ++ n ∷ []) ≡ length ns + 1
-length_more ns n = length-append ns (n ∷ [])
-
--- a data frame that was put counts, and its instant bounds the count
-pub counted_data : (count : ℕ) (put after : List Message) (p : Published) (low last : ℕ) → after ≡ put ++ Data p ∷ [] → IsCounted count put low → low < p.instant → last ≡ p.instant → IsCounted (count + 1) after last
-counted_data count put after p low last e h l s = record {
-  counted = ap (λ k. k + 1) h.counted ∙ sym (ap length (put_data put after p e) ∙ length_more (instants_of put) p.instant);
-  few = omega (arith, h.few, l, s);
-}
-
--- with the same instants, and a last one that is no lower, it stays
-pub counted_same : (count : ℕ) (put after : List Message) (low last : ℕ) → instants_of after ≡ instants_of put → IsCounted count put low → low ≤ last → IsCounted count after last
-counted_same count put after low last e h l = record { counted = h.counted ∙ sym (ap length e); few = omega (arith, h.few, l) }
 
 abbrev head_of : Message → List Message → Message
 head_of d [] = d
@@ -252,14 +199,15 @@ handed_on taken AtEndMark t whole = record { given = bytes_of taken; rest = []; 
 handed_on taken SinkFault t whole = record { given = t.0; rest = t.1; took = t.2; first = t.3; whole = λ e. absurd (is_not_end SinkFault refl e) }
 handed_on taken AlignerGone t whole = record { given = t.0; rest = t.1; took = t.2; first = t.3; whole = λ e. absurd (is_not_end AlignerGone refl e) }
 
--- an Ok run handed all of it on
-pub all_handed_on : {Took : List (List ℕ) → Type 0} (outcome : Result Totals HubFault) (taken items : List Message) (ended : Ended) (sent : HasHandedOn Took taken ended)
-    → OnOk outcome (ended ≡ AtEndMark) → (EndsThere taken → items ≡ []) → OnOk outcome (sent.rest ++ bytes_of items ≡ [])
-all_handed_on (Ok totals) taken items ended sent at all = ap (λ l. l ++ bytes_of items) (sent.whole at).0 ∙ ap bytes_of (all (sent.whole at).1)
-all_handed_on (Err fault) taken items ended sent at all = tt
-
--- and tells how many were published
-pub all_published : (outcome : Result Totals HubFault) (aligned : Result ℕ HubFault) (count : ℕ) → IfOk outcome (λ totals. aligned ≡ Ok totals.published) → IfOk aligned (λ published. published ≡ count)
-    → IfOk outcome (λ totals. totals.published ≡ count)
-all_published (Ok totals) aligned count same is = subst (λ r. IfOk r (λ published. published ≡ count)) same is
-all_published (Err fault) aligned count same is = tt
+-- What the sink took of what was taken, it took of what was put.
+pub settled : {Took : List (List ℕ) → Type 0} (closed : Bool) (put taken items : List Message) (ended : Ended) → put ≡ taken ++ items → IsClosedBy closed put → HasHandedOn Took taken ended → HasHandedOn Took put ended
+settled closed put taken items ended e shut h = record {
+  given = h.given;
+  rest = h.rest ++ bytes_of items;
+  took = h.took;
+  first = put_is_given put taken items h.given h.rest e h.first;
+  whole = λ at. let w = h.whole at in let none : items ≡ [] = all_taken closed put taken items e shut w.1 in (
+    ap (λ l. l ++ bytes_of items) w.0 ∙ ap bytes_of none,
+    (w.1.0, e ∙ (ap (λ l. taken ++ l) none ∙ (append-nil taken ∙ w.1.1))),
+  );
+}

@@ -2,9 +2,9 @@
 ghost use Rattle.std.specs.Prelude.{◌≡◌, Bool, true, false, ℕ, [], ◌∷◌, ◌++◌, List, IfSome, IfNone};
 ghost use Rattle.crossbeam_channel.specs.Claims.{view, IsSeatAt};
 ghost use Rattle.crossbeam_channel.specs.Ends.{sends_on, receives_on};
-ghost use Rattle.pdc_hub.specs.declared.message.Message.TheVariants.{Data, Layout, End};
-ghost use Rattle.pdc_hub.specs.Sequence.{is_end, IsClosedBy};
-ghost use Rattle.pdc_hub.specs.Pipe.{log, Piped};
+ghost use Rattle.pdc_pipe.specs.declared.message.Message.TheVariants.{Data, Layout, End};
+ghost use Rattle.pdc_pipe.specs.Sequence.{is_end, IsClosedBy};
+ghost use Rattle.pdc_pipe.specs.Pipe.{log, Piped};
 
 use crate::message::Message;
 use crossbeam_channel::protocol::{Join, Lesson, Outcome, Protocol, Split};
@@ -29,7 +29,7 @@ pub struct InOrder;
 
 impl Protocol<Message, Log> for InOrder {
     ghost use Rattle.std.specs.Prelude.{true, false, []};
-    ghost use Rattle.pdc_hub.specs.Pipe.{log, Piped};
+    ghost use Rattle.pdc_pipe.specs.Pipe.{log, Piped};
 
     ghost holds = { Piped };
 
@@ -40,7 +40,7 @@ pub struct Roles;
 
 impl Split<Log> for Roles {
     ghost use Rattle.std.specs.Prelude.{true, false, []};
-    ghost use Rattle.pdc_hub.specs.Pipe.{log};
+    ghost use Rattle.pdc_pipe.specs.Pipe.{log};
 
     ghost left = { λ v. log true false v.closed v.put [] };
 
@@ -49,7 +49,7 @@ impl Split<Log> for Roles {
 
 impl Join<Log> for Roles {
     ghost use Rattle.std.specs.Prelude.{true, false, []};
-    ghost use Rattle.pdc_hub.specs.Pipe.{log};
+    ghost use Rattle.pdc_pipe.specs.Pipe.{log};
 
     ghost both = { λ v w. log true true v.closed v.put w.taken };
 

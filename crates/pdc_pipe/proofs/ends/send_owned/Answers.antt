@@ -1,7 +1,7 @@
 use Rattle.std.proofs.Common.{rules}
 use Rattle.crossbeam_channel.specs.Claims.{view}
-use Rattle.pdc_hub.proofs.Pipes.{handed_on}
-use Rattle.pdc_hub.proofs.runs.send_owned.Goals as goal
+use Rattle.pdc_pipe.proofs.Pipes.{handed_on}
+use Rattle.pdc_pipe.proofs.ends.send_owned.Goals as goal
 
 pub returns : goal.returns
 returns g c =

@@ -1,8 +1,8 @@
-use Rattle.std.proofs.Common.{rules, ◌++◌}
+use Rattle.std.proofs.Common.{◌++◌}
 use Rattle.crossbeam_channel.specs.Claims.{view}
-use Rattle.pdc_hub.specs.Sequence.{bytes_of}
-use Rattle.pdc_hub.proofs.Pipes.{drained}
-use Rattle.pdc_hub.proofs.senders.send_out.Goals as goal
+use Rattle.pdc_pipe.specs.Sequence.{bytes_of}
+use Rattle.pdc_pipe.proofs.Pipes.{drained}
+use Rattle.pdc_pipe.proofs.senders.send_out.Goals as goal
 
 pub returns-then-eq-clause-took : goal.returns-then-eq-clause-took
 returns-then-eq-clause-took g c =

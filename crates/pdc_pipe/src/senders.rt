@@ -2,10 +2,10 @@
 ghost use Rattle.std.specs.Prelude.{◌≡◌, ◌≤◌, ◌+◌, ◌++◌, ◌∷◌, ℕ, List, [], false, true};
 ghost use Rattle.crossbeam_channel.specs.Claims.{IsSeatAt, view};
 ghost use Rattle.crossbeam_channel.specs.Ends.{receives_on};
-ghost use Rattle.pdc_hub.specs.Pipe.{log};
-ghost use Rattle.pdc_hub.specs.Sequence.{bytes_of};
-ghost use Rattle.pdc_hub.specs.declared.message.Message.{Message};
-ghost use Rattle.pdc_hub.specs.declared.message.Message.TheVariants.{End};
+ghost use Rattle.pdc_pipe.specs.Pipe.{log};
+ghost use Rattle.pdc_pipe.specs.Sequence.{bytes_of};
+ghost use Rattle.pdc_pipe.specs.declared.message.Message.{Message};
+ghost use Rattle.pdc_pipe.specs.declared.message.Message.TheVariants.{End};
 ghost use Rattle.pdc_recorder.specs.Failures.{HasRisen};
 
 use crate::message::Message;

@@ -1,9 +1,9 @@
-use Rattle.std.proofs.Common.{◌≡◌, ap, sym, ◌∙◌, rules, [], ◌∷◌, ◌++◌, append-nil, subst, List, ℕ}
+use Rattle.std.proofs.Common.{◌≡◌, sym, ◌∙◌, rules, [], ◌∷◌, ◌++◌, append-nil, subst, List, ℕ}
 use Rattle.crossbeam_channel.specs.Claims.{view}
-use Rattle.pdc_hub.specs.declared.message.Message.TheVariants.{Data, Layout, End}
-use Rattle.pdc_hub.specs.Sequence.{bytes_of}
-use Rattle.pdc_hub.proofs.Pipes.{took_data, took_layout, took_end}
-use Rattle.pdc_hub.proofs.senders.hand_on.Goals as goal
+use Rattle.pdc_pipe.specs.declared.message.Message.TheVariants.{Data, Layout, End}
+use Rattle.pdc_pipe.specs.Sequence.{bytes_of}
+use Rattle.pdc_pipe.proofs.Pipes.{took_data, took_layout, took_end}
+use Rattle.pdc_pipe.proofs.senders.hand_on.Goals as goal
 
 pub loop-init : goal.loop-init
 loop-init g c = (search rules, search rules, subst (λ (l : List (List ℕ)). g.K.Sink.took c.args.sink.now c.args.sink.now l) (search rules) (g.K.Sink.nothing c.args.sink.now), search rules)

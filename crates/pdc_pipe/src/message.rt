@@ -1,5 +1,5 @@
 //! What goes through the channel.
-ghost use Rattle.pdc_hub.specs.Layout.{IsOfSomeLayout};
+ghost use Rattle.pdc_pipe.specs.Layout.{IsOfSomeLayout};
 
 use pdc_publisher::Published;
 use std::alloc::Global;

@@ -3,9 +3,9 @@
 use Rattle.std.specs.Prelude.{◌≡◌, ℕ, Bool, true, List, ◌++◌}
 use mathlib.Core.Option.{some}
 use lib.ListN.{get_elem?}
-use Rattle.pdc_hub.specs.declared.message.Message.{Message}
-use Rattle.pdc_hub.specs.declared.pipe.Log.{Log}
-use Rattle.pdc_hub.specs.Sequence.{IsClosedBy}
+use Rattle.pdc_pipe.specs.declared.message.Message.{Message}
+use Rattle.pdc_pipe.specs.declared.pipe.Log.{Log}
+use Rattle.pdc_pipe.specs.Sequence.{IsClosedBy}
 
 abbrev pub log : Bool → Bool → Bool → List Message → List Message → Log
 log a b c put taken = record { puts = a; takes = b; closed = c; put = put; taken = taken }

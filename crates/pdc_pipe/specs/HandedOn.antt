@@ -1,0 +1,19 @@
+-- What the sender hands on.
+use Rattle.std.specs.Prelude.{◌≡◌, ℕ, List, [], ◌∷◌, ◌++◌}
+use Rattle.pdc_pipe.specs.declared.message.Message.{Message}
+use Rattle.pdc_pipe.specs.declared.message.Message.TheVariants.{End}
+use Rattle.pdc_pipe.specs.declared.senders.Ended.{Ended}
+use Rattle.pdc_pipe.specs.declared.senders.Ended.TheVariants.{AtEndMark}
+use Rattle.pdc_pipe.specs.Sequence.{bytes_of}
+
+-- the end mark stands last
+abbrev pub EndsThere : List Message → Type 0
+EndsThere taken = (body : List Message) × (taken ≡ body ++ End ∷ [])
+
+-- What the sink took are the first of the frames of the list; all of them, up to the end mark, where the sender ended there.
+pub record HasHandedOn (Took : List (List ℕ) → Type 0) (listed : List Message) (ended : Ended) : Type 0 where
+  pub given : List (List ℕ)
+  pub rest : List (List ℕ)
+  pub took : Took given
+  pub first : bytes_of listed ≡ given ++ rest
+  pub whole : ended ≡ AtEndMark → (rest ≡ []) × EndsThere listed

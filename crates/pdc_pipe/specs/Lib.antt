@@ -1,0 +1,5 @@
+-- What goes through the channel of a running core, the rule of the channel, and what the sender hands on.
+pub mod HandedOn
+pub mod Layout
+pub mod Pipe
+pub mod Sequence

@@ -1,0 +1,110 @@
+//! A channel with its two ends, the sender in a thread of its own, and what is known once it was joined.
+ghost use Rattle.std.specs.Prelude.{◌≡◌, ◌++◌, IfOk, List, [], false, true};
+ghost use Rattle.crossbeam_channel.specs.Claims.{IsSeatAt, view};
+ghost use Rattle.crossbeam_channel.specs.Ends.{receives_on, sends_on};
+ghost use Rattle.pdc_pipe.specs.HandedOn.{HasHandedOn};
+ghost use Rattle.pdc_pipe.specs.Pipe.{log};
+
+use crate::message::Message;
+use crate::pipe::{CAPACITY, InOrder, Log, Receiver, Roles, Sender, Total};
+use crate::senders::{Ended, send_out};
+use crate::sink::Sink;
+use crossbeam_channel::{Pass, bounded_with};
+use std::alloc::{AllocError, Global};
+use std::snapshot::Snapshot;
+use std::sync::Wait;
+use std::thread::Promise;
+
+/// Both ends of a channel, each with its pass.
+#[derive(Drop)]
+pub struct Ends {
+    /// The aligner's end.
+    pub to: Sender,
+    /// The sender's end.
+    pub from: Receiver,
+    /// By which the aligner puts.
+    pub writer: Pass<Message, Log>,
+    /// By which the sender takes.
+    pub reader: Pass<Message, Log>,
+}
+
+/// A channel with nothing in it.
+///
+/// # Errors
+///
+/// Where there is no memory for it.
+pub fn channel(alloc: Global) -> Result<Ends, AllocError>
+    ensures { IfOk result (λ ends. (receives_on ends.from ≡ sends_on ends.to)
+        × (IsSeatAt (sends_on ends.to) ends.writer × (view ends.writer ≡ log true false false [] []))
+        × (IsSeatAt (receives_on ends.from) ends.reader × (view ends.reader ≡ log false true false [] []))) }
+{
+    let (to, from, mut writer) = bounded_with::<Message, Log, InOrder, Global>(alloc, CAPACITY)?;
+    let reader = to.another::<Roles>(&mut writer);
+    Ok(Ends {
+        to,
+        from,
+        writer,
+        reader,
+    })
+}
+
+/// What the sender's thread hands back.
+#[derive(Drop)]
+pub struct Sent<K> {
+    /// The sink that it was given.
+    pub sink: K,
+    /// The pass by which it took.
+    pub pass: Pass<Message, Log>,
+    /// How it ended.
+    pub ended: Ended,
+}
+
+/// What the sender's thread promises, of the sink that it was given and the end that it takes from.
+#[derive(Drop)]
+pub struct HandsOn<'a, K> {
+    /// The sink as it was given.
+    pub sink: Snapshot<K>,
+    /// The end that it takes from.
+    pub from: &'a Receiver,
+}
+
+impl<'a, K: Sink> Promise<Sent<K>> for HandsOn<'a, K> {
+    ghost use Rattle.std.specs.Prelude.{◌≡◌, ℕ, List, [], ◌++◌, true, false};
+    ghost use Rattle.crossbeam_channel.specs.Claims.{view, IsSeatAt};
+    ghost use Rattle.crossbeam_channel.specs.Ends.{receives_on};
+    ghost use Rattle.pdc_pipe.specs.HandedOn.{HasHandedOn};
+    ghost use Rattle.pdc_pipe.specs.Pipe.{log};
+
+    ghost kept_by = { λ p r. IsSeatAt (receives_on p.from.now) r.pass × (view r.pass ≡ log false true false [] (view r.pass).taken) × HasHandedOn (K.took p.sink.value r.sink) (view r.pass).taken r.ended };
+}
+
+/// As [`send_out`], of a sink that is its own.
+pub fn send_owned<K: Sink, R: Wait>(
+    rt: &R,
+    from: &Receiver,
+    pass: Pass<Message, Log>,
+    sink: K,
+) -> Sent<K>
+    requires { IsSeatAt (receives_on from.now) pass × (view pass ≡ log false true false [] []) }
+    ensures { IsSeatAt (receives_on from.now) result.pass × (view result.pass ≡ log false true false [] (view result.pass).taken) × HasHandedOn (K.took sink result.sink) (view result.pass).taken result.ended }
+{
+    let mut pass = pass;
+    let mut sink = sink;
+    let ended = send_out(rt, from, &mut pass, &mut sink);
+    Sent { sink, pass, ended }
+}
+
+/// Joins both passes, and hands back the sink and how the sender ended. What the sink took are the first of the frames that were put, where
+/// they are the first of those that were taken.
+pub fn settle<K: Sink>(to: &Sender, writer: Pass<Message, Log>, sent: Sent<K>) -> (K, Ended)
+    requires writer { IsSeatAt (sends_on to.now) writer × ((view writer).puts ≡ true) }
+    requires reader { IsSeatAt (sends_on to.now) sent.pass × ((view sent.pass).takes ≡ true) }
+    ensures back { (result.0 ≡ sent.sink) × (result.1 ≡ sent.ended) }
+    ensures handed { (before : K) → HasHandedOn (K.took before sent.sink) (view sent.pass).taken sent.ended → HasHandedOn (K.took before result.0) (view writer).put result.1 }
+{
+    let mut writer = writer;
+    let Sent { sink, pass, ended } = sent;
+    to.absorb::<Roles>(&mut writer, pass);
+    to.learn_as::<Total>(&mut writer);
+    (sink, ended)
+}
