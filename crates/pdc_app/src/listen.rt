@@ -6,10 +6,12 @@ use pdc_listening::{ListenFault, listen};
 use pdc_network::UdpSource;
 use std::io;
 use std::io::BufWriter;
+use std::net::Net;
+use std::sync::Wait;
 
 /// Prints what comes to the source.
-fn print_datagrams(
-    rt: &HostRuntime,
+fn print_datagrams<R: AllocGlobal + Print + Wait>(
+    rt: &R,
     source: &mut UdpSource,
     count: Option<u32>,
 ) -> Result<(), ListenFault> {
@@ -19,7 +21,10 @@ fn print_datagrams(
 }
 
 /// Prints the datagrams that come to a port, and answers the exit status.
-pub fn run_listen_command(rt: &HostRuntime, asked: &Listen) -> io::Result<u8> {
+pub fn run_listen_command<R: AllocGlobal + Net + Print + Eprint + Wait>(
+    rt: &R,
+    asked: &Listen,
+) -> io::Result<u8> {
     let port = asked.port;
     let mut source = match UdpSource::open(rt, port) {
         Ok(source) => source,

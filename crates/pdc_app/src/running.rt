@@ -68,7 +68,7 @@ pub fn run_node_command<
         settings: request.settings,
         mark: request.mark,
     };
-    match serve_node(rt, &files, request.ticks) {
+    match serve_node(rt, &files, request.ticks, request.every) {
         Ok(totals) => report_totals(rt, &totals),
         Err(fault) => report_fault(rt, "node", &fault, request),
     }
@@ -90,7 +90,7 @@ pub fn run_merge_command<
         settings: request.settings,
         mark: request.mark,
     };
-    match serve_merger(rt, &files, request.ticks) {
+    match serve_merger(rt, &files, request.ticks, request.every) {
         Ok(totals) => report_totals(rt, &totals),
         Err(fault) => report_fault(rt, "merge", &fault, request),
     }

@@ -1,0 +1,35 @@
+//! What the line says.
+
+use crate::counters_line;
+use pdc_frame::FrameFault;
+use pdc_hub::{Counts, Told};
+use pdc_life::{Outcome, Refusal};
+use std::process::Abort;
+use std::test::Fail;
+
+fn same(rt: &impl Abort, found: &str, wanted: &str) {
+    assert_eq!(rt; found, wanted);
+}
+
+#[test]
+fn causes_that_refused_are_told(rt: HostRuntime) -> Result<(), Fail> {
+    let mut counts = Counts::new();
+    counts.count(Outcome::Taken);
+    counts.count(Outcome::Taken);
+    counts.count(Outcome::Refused(Refusal::Late));
+    counts.count(Outcome::Refused(Refusal::NoFrame(FrameFault::BadCheck)));
+    counts.count(Outcome::Refused(Refusal::Late));
+    counts.count(Outcome::Candidate);
+    let told = Told {
+        counts,
+        published: 1,
+        last: 57_478_860_001,
+    };
+    let line = counters_line(rt.alloc(), &told)?;
+    same(
+        &rt,
+        line.as_str(),
+        "taken=2 refused=3 published=1 last=57478860001, F4 BadCheck 1, B4 Late 2",
+    );
+    Ok(())
+}
