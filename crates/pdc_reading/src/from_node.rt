@@ -52,6 +52,7 @@ fn read_frame_of<'a>(settings: &MergerSettings, node: &MergedNode, bytes: &'a [u
 }
 
 /// What a data frame of the node's stream says.
+#[inline(always)]
 fn read_data<'a>(settings: &MergerSettings, node: &MergedNode, frame: &Frame<'a>) -> Arrival<'a>
     ensures { (bytes : List ℕ) → IsOfStream (stream_from settings.now node.now) bytes (fields_of frame.now) → frame.now.kind ≡ DataFrame
         → ReadsFrom settings.now node.now bytes (arrival_view result) }
