@@ -1,10 +1,11 @@
 //! The alignment of a concentrator.
-ghost use Rattle.std.specs.Prelude.{◌≡◌, ◌<◌, ◌-◌, ◌^◌, [], ◌∷◌, ℕ, List, IfOk, IfSome, Option, length, map, option_map};
+ghost use Rattle.std.specs.Prelude.{◌≡◌, ◌<◌, ◌-◌, ◌^◌, [], ◌∷◌, ℕ, List, IfOk, IfSome, Option, false, length, map, option_map};
 ghost use Rattle.std.specs.List.{All};
 ghost use Rattle.pdc_cfg.specs.Section.{fields_of_view};
 ghost use Rattle.pdc_output.specs.declared.output.Output.{Output};
-ghost use Rattle.pdc_row.specs.RowView.{row_view};
+ghost use Rattle.pdc_row.specs.RowView.{RowView, row_view};
 ghost use Rattle.pdc_table.specs.Content.{IsContent, IsPut};
+ghost use Rattle.pdc_table.specs.KeptRow.{popped_into};
 ghost use Rattle.pdc_table.specs.Layout.{layout_view};
 ghost use Rattle.pdc_table.specs.Steps as table;
 ghost use Rattle.pdc_table.specs.Taking.{cells_of};
@@ -215,6 +216,21 @@ impl<T: Table> Alignment<T> {
         self.take_due()
     }
 
+    /// Takes the lowest closed row that was not popped, and writes it over this one. Whether there was one; else the row stays.
+    pub fn pop_into(&mut self, row: &mut DueRow) -> bool
+        ensures answer { (g : Given) (E : List Entry) → StandsFor g E self.old.state → popped_into result row.new ≡ pop_answer E }
+        ensures none { result ≡ false → row.new ≡ row.old }
+        ensures stands { (g : Given) (E : List Entry) → StandsFor g E self.old.state → StandsFor g (Pop (pop_answer E) ∷ E) self.new.state }
+        ensures sizes { KeepsSizes self.old.state self.new.state }
+        ensures memory { self.new.memory ≡ self.old.memory }
+        ensures disagreements { self.new.disagreements ≡ self.old.disagreements }
+        // Its instant is above all that were popped before, and above the floor.
+        ensures rises { IfSome (popped_into result row.new) (λ (popped : RowView). self.old.popped < popped.instant) }
+        ensures popped { self.new.popped ≡ popped_after (popped_into result row.new) self.old.popped }
+    {
+        self.take_into(row)
+    }
+
     /// The instant of the lowest closed row that was not popped.
     pub fn next_due(&self) -> Option<u64>
         ensures { (g : Given) (E : List Entry) → StandsFor g E self.now.state → result ≡ option_map (λ row. row.instant) (pop_answer E) }
@@ -422,6 +438,24 @@ impl<T: Table> Alignment<T> {
             self.popped = row.instant;
         }
         row
+    }
+
+    /// Takes out the first row that waits, and writes it over this one. Whether there was one.
+    fn take_into(&mut self, row: &mut DueRow) -> bool
+        ensures answer { popped_into result row.new ≡ table.pop_answer self.old.state.content }
+        ensures none { result ≡ false → row.new ≡ row.old }
+        ensures state { self.new.state ≡ after_pop_of self.old.state }
+        ensures sizes { KeepsSizes self.old.state self.new.state }
+        ensures memory { self.new.memory ≡ self.old.memory }
+        ensures disagreements { self.new.disagreements ≡ self.old.disagreements }
+        ensures rises { IfSome (popped_into result row.new) (λ (popped : RowView). self.old.popped < popped.instant) }
+        ensures popped { self.new.popped ≡ popped_after (popped_into result row.new) self.old.popped }
+    {
+        let is_some = self.table.pop_into(row);
+        if is_some {
+            self.popped = row.instant;
+        }
+        is_some
     }
 
     /// The instant of the first row that waits.

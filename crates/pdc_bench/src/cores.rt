@@ -8,9 +8,9 @@ use pdc_mark::ModelMark;
 use pdc_merge::Merger;
 use pdc_node::Node;
 use pdc_output::Output;
-use pdc_publisher::Publisher;
+use pdc_publisher::{Published, Publisher, spare_frame};
 use pdc_settings::{MergerSettings, NodeSettings};
-use pdc_table::RingTable;
+use pdc_table::{DueRow, RingTable, spare_row};
 use pdc_tag::SECONDS;
 use std::alloc::{AllocError, Global};
 
@@ -27,7 +27,10 @@ struct Concentrator<C: Core + Drop> {
     streams: usize,
     output: Output,
     publisher: Publisher<ModelMark>,
-    out: Vec<u8>,
+    /// Each row is popped into this one,
+    row: DueRow,
+    /// and published into this frame.
+    frame: Published,
     mixed: u64,
     ghost same_streams: { streams ≡ C.Settings.streams (C.settings_of core) },
     ghost some_streams: { 0 < streams },
@@ -36,7 +39,7 @@ struct Concentrator<C: Core + Drop> {
 
 impl<C: Core + Drop> Concentrator<C> {
     /// Up to this instant all is published.
-    fn new(alloc: Global, core: C, streams: usize, output: Output, floor: u64) -> Concentrator<C>
+    fn new(core: C, streams: usize, output: Output, floor: u64) -> Concentrator<C>
         requires same_streams { streams ≡ C.Settings.streams (C.settings_of core) }
         requires some_streams { 0 < streams }
     {
@@ -45,7 +48,8 @@ impl<C: Core + Drop> Concentrator<C> {
             streams,
             output,
             publisher: Publisher::new(ModelMark::new(1, floor), output, 0),
-            out: Vec::new(alloc),
+            row: spare_row(),
+            frame: spare_frame(&output),
             mixed: 0,
         }
     }
@@ -63,18 +67,19 @@ impl<C: Core + Drop> Concentrator<C> {
 
     /// Publishes the next row, and mixes the check word of its frame.
     fn publish(&mut self) {
-        let Some(row) = self.core.pop_due() else {
-            return;
-        };
-        let end = SECONDS * u64::from(self.output.rate);
-        if row.instant <= self.publisher.last() || row.instant >= end {
+        if !self.core.pop_into(&mut self.row) {
             return;
         }
-        self.out.clear();
-        if self.publisher.publish(row, &mut self.out).is_ok() {
-            for byte in &self.out[self.out.len().saturating_sub(2)..] {
-                self.mixed = self.mixed.rotate_left(8) ^ u64::from(*byte);
-            }
+        let end = SECONDS * u64::from(self.output.rate);
+        if self.row.instant <= self.publisher.last() || self.row.instant >= end {
+            return;
+        }
+        if self
+            .publisher
+            .publish_into(&self.row, &mut self.frame)
+            .is_ok()
+        {
+            self.mixed = with_end(self.mixed, self.frame.bytes.as_slice());
         }
     }
 
@@ -105,12 +110,21 @@ impl<C: Core + Drop> Concentrator<C> {
     }
 }
 
+/// The number mixed with the last two bytes.
+fn with_end(mixed: u64, bytes: &[u8]) -> u64 {
+    let mut mixed = mixed;
+    for byte in &bytes[bytes.len().saturating_sub(2)..] {
+        mixed = mixed.rotate_left(8) ^ u64::from(*byte);
+    }
+    mixed
+}
+
 /// A node of these settings, a TOML text; none where they are refused or memory runs out.
 fn open_node(alloc: Global, text: &str, floor: u64) -> Option<Concentrator<Node<RingTable>>> {
     let life = NodeSettings::from_toml(alloc, text).ok()?.life;
     let (streams, output) = (life.pmus.len(), life.output);
     let node = Node::open(alloc, life, 1, floor, &[0; MAX_PMUS], floor).ok()?;
-    Some(Concentrator::new(alloc, node, streams, output, floor))
+    Some(Concentrator::new(node, streams, output, floor))
 }
 
 /// The merger of these settings, a TOML text; none where they are refused or memory runs out.
@@ -118,7 +132,7 @@ fn open_merger(alloc: Global, text: &str, floor: u64) -> Option<Concentrator<Mer
     let life = MergerSettings::from_toml(alloc, text).ok()?.life;
     let output = life.output;
     let merger = Merger::open(alloc, life, 1, floor, &[0; MAX_PMUS], floor).ok()?;
-    Some(Concentrator::new(alloc, merger, NODES, output, floor))
+    Some(Concentrator::new(merger, NODES, output, floor))
 }
 
 /// Runs a node of these settings, a TOML text, over datagrams: [`Concentrator::run`]; 0 where the settings are refused or memory

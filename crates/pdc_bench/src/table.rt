@@ -4,7 +4,7 @@ ghost use Rattle.std.specs.Prelude.{◌≡◌, ◌<◌, ◌≤◌};
 use arrayvec::ArrayVec;
 use pdc_block::Block;
 use pdc_cfg::Shape;
-use pdc_table::{DueRow, RingTable, RowLayout, SortedTable, Table, WaitRule};
+use pdc_table::{DueRow, RingTable, RowLayout, SortedTable, Table, WaitRule, spare_row};
 use std::alloc::{AllocError, Global};
 
 const STREAMS: usize = 16;
@@ -20,6 +20,8 @@ const SHAPE: Shape = Shape {
 struct Aligner<T: Table> {
     table: T,
     layout: RowLayout,
+    /// Each row is popped into this one.
+    row: DueRow,
     mixed: u64,
     ghost one_lane: { (T.content table).lanes ≡ 1 },
     ghost counted: { (T.content table).columns ≡ 16 },
@@ -43,6 +45,7 @@ impl<T: Table> Aligner<T> {
                 change: 0,
                 shapes,
             },
+            row: spare_row(),
             mixed: 0,
         })
     }
@@ -72,8 +75,8 @@ impl<T: Table> Aligner<T> {
     }
 
     fn pop(&mut self) {
-        if let Some(row) = &self.table.pop_due() {
-            self.mixed = self.mixed.rotate_left(1) ^ mix(row);
+        if self.table.pop_into(&mut self.row) {
+            self.mixed = self.mixed.rotate_left(1) ^ mix(&self.row);
         }
     }
 }

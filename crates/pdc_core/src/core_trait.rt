@@ -1,5 +1,5 @@
 //! What a node and the merger are to the programs that run them.
-ghost use Rattle.std.specs.Prelude.{◌≡◌, ◌≤◌, ◌<◌, ◌+◌, ◌*◌, ◌++◌, ◌∷◌, ℕ, IfSome, IsOk, List, OnErr, OnOk, length, option_map, true};
+ghost use Rattle.std.specs.Prelude.{◌≡◌, ◌≤◌, ◌<◌, ◌+◌, ◌*◌, ◌++◌, ◌∷◌, ℕ, IfSome, IsOk, List, OnErr, OnOk, false, length, option_map, true};
 ghost use Rattle.pdc_align.specs.Align.{ticked_of};
 ghost use Rattle.pdc_answering.specs.Counts.{after_answer, counts_after};
 ghost use Rattle.pdc_answering.specs.declared.counts.Counts.{Counts as CountsData};
@@ -12,7 +12,8 @@ ghost use Rattle.pdc_life.specs.Life.{Entry, changes, popped};
 ghost use Rattle.pdc_life.specs.Published.{layout_wire};
 ghost use Rattle.pdc_reading.specs.Views.{arrival_view};
 ghost use Rattle.pdc_row.specs.Rising.{AreBelow};
-ghost use Rattle.pdc_row.specs.RowView.{row_instants, row_view};
+ghost use Rattle.pdc_row.specs.RowView.{RowView, row_instants, row_view};
+ghost use Rattle.pdc_table.specs.KeptRow.{popped_into};
 ghost use Rattle.pdc_tag.specs.declared.limits.TheConstants.{SECONDS};
 
 use crate::{CoreStep, Reads, Reply};
@@ -84,6 +85,20 @@ pub trait Core {
         ensures counts { counts_of self.new ≡ counts_of self.old }
         ensures rises { IfSome result (λ row. popped_of self.old < row.instant) }
         ensures popped { popped_of self.new ≡ popped_after (option_map row_view result) (popped_of self.old) }
+        ensures settings { settings_of self.new ≡ settings_of self.old }
+        ensures memory { memory self.new ≡ memory self.old };
+
+    /// Takes the lowest row that closed and was not popped, and writes it over this one. Whether there was one; else the row stays.
+    fn pop_into(&mut self, row: &mut DueRow) -> bool
+        ensures answer { (g : Given) (E : List Entry) → stands_for self.old g E → popped_into result row.new ≡ pop_answer E }
+        ensures none { result ≡ false → row.new ≡ row.old }
+        // Its instant is above the floor and above all that were popped before, and can be tagged.
+        ensures next { (g : Given) (E : List Entry) → stands_for self.old g E →
+            IfSome (popped_into result row.new) (λ (row : RowView). (g.floor < row.instant) × AreBelow row.instant (row_instants (popped E)) × (row.instant < SECONDS * g.output.rate)) }
+        ensures stands { (g : Given) (E : List Entry) → stands_for self.old g E → stands_for self.new g (answered rules g E ToPop ∷ E) }
+        ensures counts { counts_of self.new ≡ counts_of self.old }
+        ensures rises { IfSome (popped_into result row.new) (λ (row : RowView). popped_of self.old < row.instant) }
+        ensures popped { popped_of self.new ≡ popped_after (popped_into result row.new) (popped_of self.old) }
         ensures settings { settings_of self.new ≡ settings_of self.old }
         ensures memory { memory self.new ≡ memory self.old };
 

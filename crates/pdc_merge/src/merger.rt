@@ -152,6 +152,11 @@ impl<T: Table> Core for Merger<T> {
         self.alignment.pop_due()
     }
 
+    fn pop_into(&mut self, row: &mut DueRow) -> bool {
+        rows_have_tags();
+        self.alignment.pop_into(row)
+    }
+
     fn next_due(&self) -> Option<u64> {
         rows_have_tags();
         self.alignment.next_due()

@@ -5,7 +5,7 @@ ghost use Rattle.pdc_life.specs.Given.{given_of};
 ghost use Rattle.pdc_life.specs.Node.{node_answer};
 ghost use Rattle.pdc_node.specs.Node.{StandsFor};
 
-use crate::answering;
+use crate::answering::{self, CellRoom};
 use pdc_align::{Alignment, Plan, Ticked, append_layout_frame};
 use pdc_answering::Counts;
 use pdc_core::Core;
@@ -23,6 +23,8 @@ pub struct Node<T: Table> {
     start: u32,
     opening: [u16; MAX_PMUS],
     alignment: Alignment<T>,
+    /// The cell of the frame that arrives.
+    cell: CellRoom,
     counts: Counts,
 }
 
@@ -88,6 +90,7 @@ impl<T: Table> Node<T> {
             start,
             opening: *counts,
             alignment,
+            cell: Default::default(),
             counts: Counts::new(),
         })
     }
@@ -115,7 +118,13 @@ impl<T: Table> Core for Node<T> {
 
     fn arrive(&mut self, stream: usize, arrival: &Arrival<'_>) -> Outcome {
         lives_are_runs();
-        let outcome = answering::answer(&mut self.alignment, &self.opening, stream, arrival);
+        let outcome = answering::answer(
+            &mut self.alignment,
+            &mut self.cell,
+            &self.opening,
+            stream,
+            arrival,
+        );
         self.counts.count(outcome);
         outcome
     }
@@ -128,6 +137,11 @@ impl<T: Table> Core for Node<T> {
     fn pop_due(&mut self) -> Option<DueRow> {
         rows_have_tags();
         self.alignment.pop_due()
+    }
+
+    fn pop_into(&mut self, row: &mut DueRow) -> bool {
+        rows_have_tags();
+        self.alignment.pop_into(row)
     }
 
     fn next_due(&self) -> Option<u64> {

@@ -1,5 +1,5 @@
 -- A published frame (this profile).
-use Rattle.std.specs.Prelude.{◌≡◌, ℕ, List}
+use Rattle.std.specs.Prelude.{◌≡◌, ℕ, [], List}
 use Rattle.pdc_row.specs.RowView.{RowView}
 use Rattle.pdc_output.specs.declared.output.Output.{Output}
 use Rattle.pdc_output.specs.Layout.{wire_of}
@@ -16,3 +16,7 @@ pub record IsRowFrame (instant start change : ℕ) (bytes : List ℕ) (output : 
 abbrev pub IsOfSomeRow : (instant start change : ℕ) → List ℕ → Type 0
 IsOfSomeRow instant start change bytes =
     ((output : Output) → (row : RowView) → IsRowFrame instant start change bytes output row → ⊥) → ⊥
+
+-- a row of instant 0 without blocks
+abbrev pub no_row : RowView
+no_row = record { instant = 0; start = 0; change = 0; quality = 15; blocks = [] }

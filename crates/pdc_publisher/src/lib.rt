@@ -13,5 +13,5 @@ mod published;
 mod publisher;
 
 pub use fault::PublishFault;
-pub use published::Published;
+pub use published::{Published, spare_frame};
 pub use publisher::{MAX_LEAD, Publisher};

@@ -2,7 +2,7 @@
 ghost use Rattle.std.specs.Prelude.{◌≡◌, ◌*◌, ◌<◌};
 ghost use Rattle.pdc_tag.specs.declared.limits.TheConstants.{SECONDS};
 ghost use Rattle.pdc_row.specs.RowView.{row_view};
-ghost use Rattle.pdc_publisher.specs.Published.{IsOfSomeRow, IsRowFrame};
+ghost use Rattle.pdc_publisher.specs.Published.{IsOfSomeRow, IsRowFrame, no_row};
 
 use arrayvec::ArrayVec;
 use pdc_output::{MAX_ROW_LEN, Output, append_row};
@@ -22,6 +22,21 @@ pub struct Published {
     pub ghost of_some_row: { IsOfSomeRow instant start change bytes.items },
 }
 
+/// A frame to be written over, by [`Publisher::publish_into`](crate::Publisher::publish_into): that of a row of instant 0 without
+/// blocks.
+pub fn spare_frame(output: &Output) -> Published
+    ensures { IsRowFrame result.instant result.start result.change result.bytes.items output.now no_row }
+{
+    let row = DueRow {
+        instant: 0,
+        start: 0,
+        change: 0,
+        quality: 15,
+        blocks: ArrayVec::new(),
+    };
+    frame_of(output, &row)
+}
+
 /// The frame of a row.
 pub fn frame_of(output: &Output, row: &DueRow) -> Published
     requires { row.now.instant < SECONDS * output.now.rate }
@@ -35,4 +50,16 @@ pub fn frame_of(output: &Output, row: &DueRow) -> Published
         change: row.change,
         bytes,
     }
+}
+
+/// Writes the frame of a row over this one.
+pub fn write_over(output: &Output, row: &DueRow, frame: &mut Published)
+    requires { row.now.instant < SECONDS * output.now.rate }
+    ensures { IsRowFrame frame.new.instant frame.new.start frame.new.change frame.new.bytes.items output.now (row_view row.now) }
+{
+    frame.bytes.clear();
+    append_row(output, row, &mut frame.bytes).unwrap();
+    frame.instant = row.instant;
+    frame.start = row.start;
+    frame.change = row.change;
 }

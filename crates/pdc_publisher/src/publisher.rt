@@ -11,7 +11,7 @@ ghost use Rattle.pdc_publisher.specs.Published.{IsRowFrame};
 ghost use Rattle.pdc_publisher.specs.declared.publisher.TheConstants.{MAX_LEAD};
 
 use crate::fault::PublishFault;
-use crate::published::{Published, frame_of};
+use crate::published::{Published, frame_of, write_over};
 use pdc_frame::Buffer;
 use pdc_mark::{COUNTS, Mark, MarkFault};
 use pdc_output::Output;
@@ -179,5 +179,47 @@ impl<M: Mark> Publisher<M> {
         out.append_bytes(frame.bytes.as_slice());
         self.last = row.instant;
         Ok(frame)
+    }
+
+    /// Publishes a row that is lent, and writes its data frame over this one, which is then to be sent: stores the floor where the
+    /// instant is above it, and then writes the frame. The instant is above the last one, and below 2^32 times the rate. It takes no
+    /// memory.
+    ///
+    /// # Errors
+    ///
+    /// `Device` after a device fault, or where the floor is not stored; the frame is then as it was.
+    pub fn publish_into(&mut self, row: &DueRow, frame: &mut Published) -> Result<(), MarkFault>
+        requires above { last_in self.old < row.now.instant }
+        requires instant { row.now.instant < SECONDS * (output_in self.old).rate }
+        // The frame is that of the row.
+        ensures ok { OnOk result (IsRowFrame frame.new.instant frame.new.start frame.new.change frame.new.bytes.items (output_in self.old) (row_view row.now)) }
+        // Its instant was reserved before.
+        ensures stored { OnOk result (M.stored (mark_in self.new) ≡ reserved (lead_in self.old) (M.stored (mark_in self.old)) row.now.instant) }
+        ensures covered { OnOk result (row.now.instant ≤ (M.stored (mark_in self.new)).floor) }
+        ensures last { OnOk result (last_in self.new ≡ row.now.instant) }
+        // Below the floor, no device call is made.
+        ensures spared { row.now.instant ≤ (M.stored (mark_in self.old)).floor → mark_in self.new ≡ mark_in self.old }
+        // A row that is not published leaves all as it was.
+        ensures err { OnErr result ((frame.new ≡ frame.old)
+            × (M.stored (mark_in self.new) ≡ M.stored (mark_in self.old)) × (last_in self.new ≡ last_in self.old)) }
+        ensures faults { OnErr result (IsErrOf result MarkFault.Device) }
+        // A device fault stands, and has its cause.
+        ensures device { OnErr result (has_failed_in self.new ≡ true) }
+        ensures failed { has_failed_in self.old ≡ true → OnOk result ⊥ }
+        ensures works { OnOk result (has_failed_in self.new ≡ false) }
+        ensures safe { M.is_safe → has_failed_in self.old ≡ false → OnErr result ⊥ }
+        ensures needed { row.now.instant ≤ (M.stored (mark_in self.old)).floor → has_failed_in self.old ≡ false → OnErr result ⊥ }
+        ensures kept { (output_in self.new ≡ output_in self.old) × (lead_in self.new ≡ lead_in self.old) }
+    {
+        if self.has_failed {
+            return Err(MarkFault::Device);
+        }
+        let reserved = self.reserve(row.instant);
+        if reserved.is_err() {
+            return Err(MarkFault::Device);
+        }
+        write_over(&self.output, row, frame);
+        self.last = row.instant;
+        Ok(())
     }
 }

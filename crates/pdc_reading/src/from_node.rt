@@ -20,6 +20,7 @@ use pdc_tag::instant;
 pub const NODES: usize = 2;
 
 /// What bytes say that arrived for the stream with this number: 0 is node A's, 1 is node B's. It takes no memory.
+#[inline]
 pub fn read_from_node<'a>(settings: &MergerSettings, stream: usize, bytes: &'a [u8]) -> Arrival<'a>
     requires { stream < NODES }
     ensures { ReadsForMerger settings.now stream bytes.now (arrival_view result) }
@@ -32,6 +33,7 @@ pub fn read_from_node<'a>(settings: &MergerSettings, stream: usize, bytes: &'a [
 }
 
 /// What bytes say that came from this node.
+#[inline(always)]
 fn read_frame_of<'a>(settings: &MergerSettings, node: &MergedNode, bytes: &'a [u8]) -> Arrival<'a>
     ensures { ReadsFrom settings.now node.now bytes.now (arrival_view result) }
 {
@@ -50,6 +52,7 @@ fn read_frame_of<'a>(settings: &MergerSettings, node: &MergedNode, bytes: &'a [u
 }
 
 /// What a data frame of the node's stream says.
+#[inline(always)]
 fn read_data<'a>(settings: &MergerSettings, node: &MergedNode, frame: &Frame<'a>) -> Arrival<'a>
     ensures { (bytes : List ℕ) → IsOfStream (stream_from settings.now node.now) bytes (fields_of frame.now) → frame.now.kind ≡ DataFrame
         → ReadsFrom settings.now node.now bytes (arrival_view result) }
@@ -66,6 +69,7 @@ fn read_data<'a>(settings: &MergerSettings, node: &MergedNode, frame: &Frame<'a>
 }
 
 /// What a CFG-2 frame of the node's stream says.
+#[inline(never)]
 fn read_configuration<'a>(
     settings: &MergerSettings,
     node: &MergedNode,

@@ -3,6 +3,7 @@ pub mod Chosen
 pub mod Closing
 pub mod Content
 pub mod Histories
+pub mod KeptRow
 pub mod Layout
 pub mod OpenInstants
 pub mod Placing

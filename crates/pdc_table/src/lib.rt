@@ -20,6 +20,7 @@ mod ring_table;
 mod row_layout;
 mod rows;
 mod sorted_table;
+mod spare;
 mod table_trait;
 mod wait_rule;
 
@@ -36,5 +37,6 @@ pub use pdc_row::DueRow;
 pub use ring_table::RingTable;
 pub use row_layout::RowLayout;
 pub use sorted_table::SortedTable;
+pub use spare::spare_row;
 pub use table_trait::Table;
 pub use wait_rule::WaitRule;

@@ -205,9 +205,19 @@ impl OpenRow {
         }
     }
 
-    /// Makes these the blocks of the row that it closes to, each in place, and answers its quality.
+    /// Writes the row that it closes to over this one.
+    pub(crate) fn close_into(&self, layout: &RowLayout, row: &mut DueRow)
+        ensures { row_view row.new ≡ row_of (layout_view layout.now) self.now }
+    {
+        row.instant = self.instant;
+        row.start = layout.start;
+        row.change = layout.change;
+        row.quality = self.fill(layout, &mut row.blocks);
+    }
+
+    /// Makes these the blocks of the row that it closes to, and answers its quality. Blocks that are there are written over, each in
+    /// place.
     pub(crate) fn fill(&self, layout: &RowLayout, blocks: &mut ArrayVec<Block, 16>) -> u8
-        requires { length blocks.old.items ≡ 16 }
         ensures blocks { map block_view blocks.new.items ≡ (row_of (layout_view layout.now) self.now).blocks }
         ensures quality { result ≡ (row_of (layout_view layout.now) self.now).quality }
         ensures fits { result ≤ 15 }
@@ -216,6 +226,7 @@ impl OpenRow {
         let mut count = 0;
         let mut quality = None;
         for (place, shape) in layout.shapes.as_slice().iter().enumerate() {
+            make_slot(blocks, count);
             count = give(
                 self.columns.as_slice(),
                 place,
@@ -238,6 +249,18 @@ pub fn falses(count: usize) -> ArrayVec<bool, MAX_COLUMNS>
     let mut falses = ArrayVec::from_array_in((), [false; MAX_COLUMNS]);
     falses.truncate(count);
     falses
+}
+
+/// Makes a slot behind so many blocks, where there is none.
+fn make_slot(blocks: &mut ArrayVec<Block, 16>, count: usize)
+    requires held { count ≤ length blocks.old.items }
+    requires room { count < 16 }
+    ensures slot { count < length blocks.new.items }
+    ensures held { take count blocks.new.items ≡ take count blocks.old.items }
+{
+    if count == blocks.len() {
+        blocks.push(Block::default());
+    }
 }
 
 /// Whether each required stream was taken.

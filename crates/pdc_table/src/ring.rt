@@ -4,7 +4,7 @@
 //! window 8, open 13 14 18     place  0  1  2  3  4  5  6  7
 //!                             row          18       13 14
 //! ```
-ghost use Rattle.std.specs.Prelude.{◌≡◌, ℕ, ◌+◌, ◌%◌, ◌==◌, ◌<◌, ◌≤◌, ◌++◌, drop, List, length, map, nat_lt, option_map, replicate, IfOk, slice_set, take, vec_len, if◌then◌else◌};
+ghost use Rattle.std.specs.Prelude.{◌≡◌, ℕ, ◌+◌, ◌%◌, ◌==◌, ◌<◌, ◌≤◌, ◌++◌, drop, false, List, length, map, nat_lt, option_map, replicate, IfOk, slice_set, take, vec_len, if◌then◌else◌};
 ghost use Rattle.std.specs.List.{All, AllByRecursion, list_all, prefix_len, slice_get};
 ghost use Rattle.std.specs.Vec.{vec_capacity};
 ghost use Rattle.std.specs.VecDeque.{deque_capacity, deque_len};
@@ -13,6 +13,7 @@ ghost use Rattle.pdc_row.specs.Quality.{greatest};
 ghost use Rattle.pdc_row.specs.Rising.{Rises, highest_of, is_near, place};
 ghost use Rattle.pdc_row.specs.RowView.{row_view};
 ghost use Rattle.pdc_table.specs.Closing.{closing, counter, is_due, staying};
+ghost use Rattle.pdc_table.specs.KeptRow.{popped_into};
 ghost use Rattle.pdc_table.specs.Layout.{layout_view};
 ghost use Rattle.pdc_table.specs.OpenInstants.{instants_of};
 ghost use Rattle.pdc_table.specs.RingRows.{base_row, changed, closed_rows, laid, met_row, no_layout, older, row_in, rows_in, with_ages};
@@ -290,6 +291,30 @@ pub fn pop(
     };
     row.quality = open_row.fill(layout, &mut row.blocks);
     Some(row)
+}
+
+/// Takes the lowest closed instant out, and writes its row over this one. Whether there was one.
+pub fn pop_into(
+    places: &[OpenRow],
+    layouts: &[ClosingLayout],
+    window: u64,
+    closed: &mut VecDeque<u64>,
+    row: &mut DueRow,
+) -> bool
+    requires least { 0 < window }
+    requires size { length places.now ≡ window }
+    requires layouts_size { length layouts.now ≡ window }
+    ensures row { popped_into result row.new ≡ slice_get (closed_rows places.now layouts.now window closed.old.items) 0 }
+    ensures none { result ≡ false → row.new ≡ row.old }
+    ensures rest { closed.new.items ≡ drop 1 closed.old.items }
+    ensures capacity { deque_capacity closed.new ≡ deque_capacity closed.old }
+{
+    let Some(instant) = closed.pop_front() else {
+        return false;
+    };
+    let place = place_of(window, instant);
+    places[place].close_into(layouts[place].layout(), row);
+    true
 }
 
 /// The count of disagreements after the rows of these instants closed.

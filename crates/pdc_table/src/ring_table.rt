@@ -154,6 +154,18 @@ impl Table for RingTable {
         ring::pop(places, layouts, *window, closed)
     }
 
+    fn pop_into(&mut self, row: &mut DueRow) -> bool {
+        numbers_rise();
+        let RingTable {
+            window,
+            places,
+            layouts,
+            closed,
+            ..
+        } = self;
+        ring::pop_into(places, layouts, *window, closed, row)
+    }
+
     fn next_due(&self) -> Option<u64> {
         ring::first(&self.closed)
     }

@@ -1,8 +1,9 @@
 //! What every table promises, however it is kept.
-ghost use Rattle.std.specs.Prelude.{◌≡◌, ℕ, ◌<◌, ◌≤◌, List, map, IfOk, option_map};
+ghost use Rattle.std.specs.Prelude.{◌≡◌, ℕ, ◌<◌, ◌≤◌, false, List, map, IfOk, option_map};
 ghost use Rattle.std.specs.List.{AllByRecursion};
 ghost use Rattle.pdc_row.specs.RowView.{RowView, row_view};
 ghost use Rattle.pdc_table.specs.Content.{Content, HasSizesOf, HaveLayoutShapes, IsContent, IsPut, new_content, streams_of};
+ghost use Rattle.pdc_table.specs.KeptRow.{popped_into};
 ghost use Rattle.pdc_table.specs.Layout.{layout_view};
 ghost use Rattle.pdc_table.specs.Steps.{after_drop_column, after_drop_stream, after_pop, after_put, after_require, after_tick, closed_by, disagreements_after, next_answer, pop_answer, put_answer, shape_of, shapes_given, tick_answer};
 ghost use Rattle.pdc_table.specs.Taking.{cells_of};
@@ -117,6 +118,26 @@ pub trait Table: Drop {
         ensures sizes { HasSizesOf (content self.old) (content self.new) }
         ensures memory { memory self.new ≡ memory self.old }
         ensures well_formed { IsContent (content self.new) };
+
+    /// Takes the lowest closed row that was not popped, and writes it over this one: of the row only what has come is written. Whether
+    /// there was one; else the row stays.
+    fn pop_into(&mut self, row: &mut DueRow) -> bool
+        ensures answer { popped_into result row.new ≡ pop_answer (content self.old) }
+        ensures none { result ≡ false → row.new ≡ row.old }
+        ensures content { content self.new ≡ after_pop (content self.old) }
+        ensures disagreements { disagreements self.new ≡ disagreements self.old }
+        ensures sizes { HasSizesOf (content self.old) (content self.new) }
+        ensures memory { memory self.new ≡ memory self.old }
+        ensures well_formed { IsContent (content self.new) }
+    {
+        match self.pop_due() {
+            Some(due) => {
+                *row = due;
+                true
+            }
+            None => false,
+        }
+    }
 
     /// The instant of the lowest closed row that was not popped.
     fn next_due(&self) -> Option<u64>

@@ -7,7 +7,7 @@
 //! | `put STREAM INSTANT QUALITY BLOCK..` | the outcome; one lane: at most one block; two: a block for the first column and one for the last, `.` for none |
 //! | `tick WAIT SHAPES` | how many rows closed; `WAIT` is a number of ticks, `until=INSTANT`, or `until=none`; `x` is a column with a shape, `.` one without, `0` nothing |
 //! | `ticks TIMES WAIT SHAPES` | how many rows closed in so many ticks |
-//! | `pop` | the row, as `8 1 2 0 sent absent`: its instant, stamp, quality and blocks; or `none` |
+//! | `pop` | the row, as `8 1 2 0 sent absent`: its instant, stamp, quality and blocks; or `none`. Every other one is popped into a row that is kept |
 //! | `drop_stream STREAM`, `drop_column COLUMN` | `ok` |
 //! | `last`, `disagree` | the number |
 //!
@@ -19,7 +19,7 @@ use crate::blocks::{ONE_PHASOR, name_of, named};
 use arrayvec::ArrayVec;
 use pdc_row::DueRow;
 use pdc_script::Player;
-use pdc_table::{PutOutcome, RowLayout, Table, WaitRule};
+use pdc_table::{PutOutcome, RowLayout, Table, WaitRule, spare_row};
 use std::alloc::{AllocError, Global};
 use std::fmt::Write;
 
@@ -29,6 +29,9 @@ pub struct TablePlayer<T: Table> {
     table: T,
     columns: usize,
     lanes: usize,
+    /// The row that is popped into, every other time.
+    row: DueRow,
+    is_in_place: bool,
     ghost columns_kept: { (T.content table).columns ≡ columns },
     ghost lanes_kept: { (T.content table).lanes ≡ lanes },
 }
@@ -44,6 +47,8 @@ impl<T: Table> TablePlayer<T> {
             table: T::new(alloc, 8, 1, 1, 0)?,
             columns: 1,
             lanes: 1,
+            row: spare_row(),
+            is_in_place: false,
         })
     }
 
@@ -58,8 +63,25 @@ impl<T: Table> TablePlayer<T> {
             table: T::new(alloc, window, columns, lanes, floor)?,
             columns,
             lanes,
+            row: spare_row(),
+            is_in_place: false,
         };
         Ok(true)
+    }
+
+    fn pop(&mut self, alloc: Global) -> Result<String, AllocError> {
+        self.is_in_place = !self.is_in_place;
+        if !self.is_in_place {
+            return match self.table.pop_due() {
+                Some(row) => row_text(alloc, &row),
+                None => "none".to_string(alloc),
+            };
+        }
+        if self.table.pop_into(&mut self.row) {
+            row_text(alloc, &self.row)
+        } else {
+            "none".to_string(alloc)
+        }
     }
 
     fn has_stream(&self, stream: usize) -> bool
@@ -272,10 +294,7 @@ impl<T: Table> Player for TablePlayer<T> {
             }
             ["tick", wait, shapes] => number(alloc, self.ticks("1", wait, shapes)),
             ["ticks", times, wait, shapes] => number(alloc, self.ticks(times, wait, shapes)),
-            ["pop"] => match self.table.pop_due() {
-                Some(row) => row_text(alloc, &row),
-                None => "none".to_string(alloc),
-            },
+            ["pop"] => self.pop(alloc),
             ["drop_stream", stream] => done(alloc, self.drop_stream(stream)),
             ["drop_column", column] => done(alloc, self.drop_column(column)),
             ["last"] => number(alloc, Some(self.table.last())),

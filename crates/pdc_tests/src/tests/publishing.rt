@@ -8,7 +8,7 @@ use pdc_block::Block;
 use pdc_cfg::Shape;
 use pdc_mark::{Mark, ModelMark};
 use pdc_output::{Nominal, Output};
-use pdc_publisher::{PublishFault, Publisher};
+use pdc_publisher::{PublishFault, Publisher, spare_frame};
 use pdc_row::DueRow;
 use std::test::Fail;
 
@@ -59,6 +59,24 @@ fn reserved_ahead(rt: HostRuntime) -> Result<(), Fail> {
     is!(&rt; first.bytes.as_slice(), BOTH.as_slice());
     is!(&rt; out.len(), 100);
     is!(&rt; (second.instant, publisher.last()), (FIRST + 1, FIRST + 1));
+    is!(&rt; publisher.into_mark().stored(), (1, FIRST + 10));
+    Ok(())
+}
+
+/// Rows that are lent are published into one frame, which is written over.
+#[test]
+fn published_in_place(rt: HostRuntime) -> Result<(), Fail> {
+    let mut publisher = Publisher::new(ModelMark::new(1, 0), NODE_201, 10);
+    let mut frame = spare_frame(&NODE_201);
+    if publisher.publish_into(&row(FIRST), &mut frame).is_err() {
+        return Err(Fail::from("the first row is published"));
+    }
+    is!(&rt; frame.bytes.as_slice(), BOTH.as_slice());
+    if publisher.publish_into(&row(FIRST + 1), &mut frame).is_err() {
+        return Err(Fail::from("the second row is published"));
+    }
+    is!(&rt; (frame.instant, frame.bytes.len()), (FIRST + 1, 50));
+    is!(&rt; publisher.last(), FIRST + 1);
     is!(&rt; publisher.into_mark().stored(), (1, FIRST + 10));
     Ok(())
 }

@@ -14,17 +14,23 @@ shape c = c.shape-item.is ∙ get_or_default c.as_slice-shape-items.result.now c
 columns : (c : goal.After-blocks-1) → c.as_slice.result.now ≡ c.args.self.now.columns
 columns c = c.as_slice.ensures.value ∙ ap (λ (r : OpenRowView). r.columns) c.self.view_is
 
-same : (c : goal.After-blocks-1) → refill (length c.loop-place.blocks.items) c.loop-place.blocks.items c.give-count.new.blocks ≡ c.give-count.new.blocks
+same : (c : goal.After-blocks-1) → refill (length c.make_slot.new.blocks.items) c.make_slot.new.blocks.items c.give-count.new.blocks ≡ c.give-count.new.blocks
 same c =
-    refilled (length c.loop-place.blocks.items) c.loop-place.blocks.items c.give-count.new.blocks refl (c.give-count.ensures.len ∙ ap length c.as_mut_slice.ensures.value)
+    refilled (length c.make_slot.new.blocks.items) c.make_slot.new.blocks.items c.give-count.new.blocks refl (c.give-count.ensures.len ∙ ap length c.as_mut_slice.ensures.value)
+
+-- the blocks before the slot, as they were
+before : (c : goal.After-blocks-1) → map block_view (take c.loop-place.count c.as_mut_slice.result.now) ≡ map block_view (take c.loop-place.count c.loop-place.blocks.items)
+before c =
+    ap (λ bs. map block_view (take c.loop-place.count bs)) c.as_mut_slice.ensures.value
+    ∙ ap (map block_view) c.make_slot.ensures.held
 
 pub loop-place-preserved : goal.loop-place-preserved
 loop-place-preserved c = record {
   few = omega arith;
-  len = ap length (same c) ∙ c.give-count.ensures.len ∙ ap length c.as_mut_slice.ensures.value ∙ c.loop-place.invariant.len;
+  held = omega (arith, ap length (same c), c.give-count.ensures.len, ap length c.as_mut_slice.ensures.value, c.give-count.ensures.grown, c.make_slot.ensures.slot);
   blocks = rw (same c) (blocks_more c.as_slice-shape-items.result.now c.args.self.now.columns c.loop-place.place (map block_view (take c.loop-place.count c.loop-place.blocks.items))
       (map block_view (take c.give-count.result c.give-count.new.blocks)) (blocks_of c.as_slice-shape-items.result.now c.args.self.now.columns) (omega arith)
-      (c.give-count.ensures.blocks ∙ ap (λ bs. map block_view (take c.loop-place.count bs) ++ blocks_at c.shape-item.result (get_or c.as_slice.result.now c.loop-place.place empty_column)) c.as_mut_slice.ensures.value
+      (c.give-count.ensures.blocks ∙ ap (λ bs. bs ++ blocks_at c.shape-item.result (get_or c.as_slice.result.now c.loop-place.place empty_column)) (before c)
       ∙ ap (λ cs. map block_view (take c.loop-place.count c.loop-place.blocks.items) ++ blocks_at c.shape-item.result (get_or cs c.loop-place.place empty_column)) (columns c)
       ∙ ap (λ o. map block_view (take c.loop-place.count c.loop-place.blocks.items) ++ blocks_at o (get_or c.args.self.now.columns c.loop-place.place empty_column)) (shape c))
       c.loop-place.invariant.blocks);

@@ -9,7 +9,7 @@ use Rattle.pdc_table.proofs.open_row.OpenRow.fill.Given as goal
 abbrev pub invariant-loop-place : goal.invariant-loop-place
 invariant-loop-place l = record {
   few : l.count ≤ l.place;
-  len : length l.blocks.items ≡ 16;
+  held : l.count ≤ length l.blocks.items;
   blocks : map block_view (take l.count l.blocks.items) ++ blocks_of (drop l.place l.shape-items) (drop l.place l.self.columns) ≡ blocks_of l.shape-items l.self.columns;
   quality : worst_of l.quality (qualities_of (drop l.place l.shape-items) (drop l.place l.self.columns)) ≡ quality_of (qualities_of l.shape-items l.self.columns);
   fits : IfSome l.quality (λ n. n ≤ 15);

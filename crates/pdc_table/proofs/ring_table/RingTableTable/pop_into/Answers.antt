@@ -1,0 +1,47 @@
+use Rattle.std.proofs.Common.{arith, ◌≡◌, ◌∙◌, ap, sym, drop, List}
+use Rattle.std.proofs.lemmas.List.{drop-map}
+use Rattle.pdc_row.specs.RowView.{RowView}
+use Rattle.std.specs.List.{slice_get}
+use Rattle.pdc_table.specs.Ring.{content_of}
+use Rattle.pdc_table.specs.RingRows.{closed_row, closed_rows, with_ages}
+use Rattle.pdc_table.specs.Steps.{after_pop, pop_answer}
+use Rattle.pdc_table.specs.TableView.{TableView}
+use Rattle.pdc_table.proofs.Keeps.{keeps-pop}
+use Rattle.pdc_table.proofs.RingAges.{aged_closed}
+use Rattle.pdc_table.proofs.RingClosed.{placed-less}
+use Rattle.pdc_table.proofs.ring_table.RingTableTable.pop_into.Goals as goal
+
+-- the closed rows without the first
+rest : (c : goal.After-pop_into) → closed_rows (with_ages c.self.inside.places.items c.self.inside.ages.items) c.self.inside.layouts.items c.self.inside.window c.pop_into.new.closed.items ≡ drop 1 (closed_rows (with_ages c.self.inside.places.items c.self.inside.ages.items) c.self.inside.layouts.items c.self.inside.window c.self.inside.closed.items)
+rest c =
+    ap (closed_rows (with_ages c.self.inside.places.items c.self.inside.ages.items) c.self.inside.layouts.items c.self.inside.window) c.pop_into.ensures.rest
+    ∙ sym (drop-map (closed_row (with_ages c.self.inside.places.items c.self.inside.ages.items) c.self.inside.layouts.items c.self.inside.window) 1 c.self.inside.closed.items)
+
+pub invariant_of-self : goal.invariant_of-self
+invariant_of-self c = record {
+  content = rw (rest c) (keeps-pop c.numbers_rise.ensures (content_of c.self.inside) c.self.invariant.content);
+  size = c.self.invariant.size;
+  each = c.self.invariant.each;
+  placed = c.self.invariant.placed;
+  ages = c.self.invariant.ages;
+  layouts = c.self.invariant.layouts;
+  closed_placed = rw c.pop_into.ensures.rest (placed-less c.self.inside.places.items c.self.inside.window c.self.inside.closed.items c.self.invariant.closed_placed);
+  known = c.self.invariant.known;
+  room = c.self.invariant.room;
+  closed_room = rw c.pop_into.ensures.capacity c.self.invariant.closed_room;
+}
+
+pub returns-clause-answer : goal.returns-clause-answer
+returns-clause-answer c =
+    c.pop_into.ensures.row
+    ∙ ap (λ (rows : List RowView). slice_get rows 0) (ap (λ ps. closed_rows ps c.deref-2.result.now c.self.inside.window c.self.inside.closed.items) c.deref.ensures.value
+    ∙ ap (λ ls. closed_rows c.self.inside.places.items ls c.self.inside.window c.self.inside.closed.items) c.deref-2.ensures.value
+    ∙ sym (aged_closed c.self.inside.places.items c.self.inside.ages.items c.self.inside.layouts.items c.self.inside.window c.self.inside.closed.items (omega (arith, c.self.invariant.content.window_least)) c.self.invariant.size c.self.invariant.ages))
+    ∙ ap (λ (t : TableView). pop_answer t.content) c.self.view_is
+
+pub returns-clause-content : goal.returns-clause-content
+returns-clause-content c =
+    ap (λ (rows : List RowView). record (content_of c.self.inside) { closed = rows }) (rest c) ∙ ap (λ (t : TableView). after_pop t.content) c.self.view_is
+
+pub returns-clause-well_formed : goal.returns-clause-well_formed
+returns-clause-well_formed c = rw (rest c) (keeps-pop c.numbers_rise.ensures (content_of c.self.inside) c.self.invariant.content)

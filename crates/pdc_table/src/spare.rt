@@ -1,0 +1,19 @@
+//! A row to pop into.
+ghost use Rattle.std.specs.Prelude.{◌≡◌, []};
+
+use arrayvec::ArrayVec;
+use pdc_row::DueRow;
+
+/// A row to be written over by [`Table::pop_into`](crate::Table::pop_into): of instant 0, without blocks.
+pub fn spare_row() -> DueRow
+    ensures instant { result.instant ≡ 0 }
+    ensures blocks { result.blocks.items ≡ [] }
+{
+    DueRow {
+        instant: 0,
+        start: 0,
+        change: 0,
+        quality: 15,
+        blocks: ArrayVec::new(),
+    }
+}
