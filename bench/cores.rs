@@ -1,7 +1,7 @@
 //! A node of plain, careful Rust for the same work as the proved one, over the plain ring: it reads and checks each datagram, counts
 //! how it was answered, aligns, stores the floor in a mark in memory, and writes the data frames.
 
-use crate::plain::{self, Block, Config, Few, Kind, Shape};
+use crate::plain::{self, Config, Few, Kind, Shape};
 use crate::tables::{DueRow, Layout, Outcome, RingTable, Table};
 
 const STREAMS: usize = 16;
@@ -74,6 +74,8 @@ pub struct Node {
     layout: Layout,
     counts: [u64; ANSWERS],
     mark: Mark,
+    /// Each row is written over this one.
+    row: DueRow,
     last: u64,
 }
 
@@ -95,6 +97,7 @@ impl Node {
             layout: Layout { start: 1, change: 0, shapes: Few::new() },
             counts: [0; ANSWERS],
             mark: Mark { slots: [(1, floor), (0, 0)] },
+            row: DueRow::spare(),
             last: floor,
         }
     }
@@ -122,7 +125,7 @@ impl Node {
         if instant > self.now.saturating_add(self.ahead) {
             return Answer::Ahead;
         }
-        match self.table.put(stream, instant, &[(stream, Block::from_body(&body))], frame.quality) {
+        match self.table.put(stream, instant, &[(stream, shape, body)], frame.quality) {
             Outcome::Taken => Answer::Taken,
             Outcome::Late => Answer::Late,
             Outcome::OutOfWindow => Answer::OutOfWindow,
@@ -180,19 +183,19 @@ impl Node {
 
     /// Publishes the next row: stores its instant, and then appends its data frame.
     pub fn publish(&mut self, out: &mut Vec<u8>) -> bool {
-        let Some(row) = self.table.pop_due() else { return false };
-        if row.instant <= self.last {
+        if !self.table.pop_into(&mut self.row) || self.row.instant <= self.last {
             return false;
         }
-        if self.mark.floor() < row.instant {
-            self.mark.reserve(row.instant);
+        if self.mark.floor() < self.row.instant {
+            self.mark.reserve(self.row.instant);
         }
-        self.write(&row, out);
-        self.last = row.instant;
+        self.write(out);
+        self.last = self.row.instant;
         true
     }
 
-    fn write(&self, row: &DueRow, out: &mut Vec<u8>) {
+    fn write(&self, out: &mut Vec<u8>) {
+        let row = &self.row;
         let (soc, k) = ((row.instant / u64::from(self.rate)) as u32, row.instant % u64::from(self.rate));
         let (rate, base) = (u64::from(self.rate), u64::from(self.time_base));
         let frac = ((2 * k * base + rate) / (2 * rate)) as u32;

@@ -198,6 +198,7 @@ pub struct Section<'a> {
 }
 
 /// At most N values, in the value itself.
+#[derive(Clone)]
 pub struct Few<T, const N: usize> {
     values: [T; N],
     len: usize,
@@ -215,6 +216,16 @@ impl<T: Copy + Default, const N: usize> Few<T, N> {
 
     pub fn as_slice(&self) -> &[T] {
         &self.values[..self.len]
+    }
+
+    pub fn clear(&mut self) {
+        self.len = 0;
+    }
+
+    /// The next place, with what stood there before, to be written over.
+    pub fn next(&mut self) -> &mut T {
+        self.len += 1;
+        &mut self.values[self.len - 1]
     }
 }
 
@@ -303,6 +314,24 @@ impl Block {
         Block { shape: body.shape, words, len: body.bytes.len() / 2 }
     }
 
+    /// Writes these words over what was there.
+    pub fn set(&mut self, shape: Shape, from: &[u16]) {
+        self.shape = shape;
+        self.len = from.len();
+        self.words[..from.len()].copy_from_slice(from);
+    }
+
+    /// Writes the absent block over what was there.
+    pub fn set_absent(&mut self, shape: Shape) {
+        let len = shape.word_count();
+        let digitals = len - usize::from(shape.digitals);
+        self.shape = shape;
+        self.len = len;
+        self.words[..digitals].fill(0x8000);
+        self.words[digitals..len].fill(0);
+        self.words[0] = 0xA1F0;
+    }
+
     pub fn words(&self) -> &[u16] {
         &self.words[..self.len]
     }
@@ -344,6 +373,10 @@ pub struct Body<'a> {
 }
 
 impl<'a> Body<'a> {
+    pub fn len(&self) -> usize {
+        self.bytes.len() / 2
+    }
+
     pub fn words(&self) -> impl Iterator<Item = u16> + 'a {
         self.bytes.chunks_exact(2).map(|pair| u16::from_be_bytes([pair[0], pair[1]]))
     }
@@ -386,11 +419,13 @@ pub fn write_config(config: &Config, id: u16, soc: u32, out: &mut Vec<u8>) {
 }
 
 pub fn join(blocks: &[Block], out: &mut Vec<u8>) {
-    out.reserve(blocks.iter().map(|block| 2 * block.len).sum());
+    let mut at = out.len();
+    out.resize(at + blocks.iter().map(|block| 2 * block.len).sum::<usize>(), 0);
     for block in blocks {
-        for word in block.words() {
-            out.extend_from_slice(&word.to_be_bytes());
+        for (pair, word) in out[at..at + 2 * block.len].chunks_exact_mut(2).zip(block.words()) {
+            pair.copy_from_slice(&word.to_be_bytes());
         }
+        at += 2 * block.len;
     }
 }
 

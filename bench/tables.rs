@@ -1,7 +1,8 @@
 //! Two tables of plain, careful Rust for the same work as `SortedTable`: rows in a `BTreeMap`, and rows in a ring with a
-//! place for each instant of the window. One lane.
+//! place for each instant of the window. One lane. The ring moves no words but those that a block has: a put writes them over the cell of
+//! its instant, closing copies none, and a row is written over one that the caller keeps.
 
-use crate::plain::{Block, Few, Shape};
+use crate::plain::{Block, Body, Few, Shape};
 use std::collections::{BTreeMap, VecDeque};
 
 const STREAMS: usize = 16;
@@ -21,12 +22,56 @@ pub struct Layout {
     pub shapes: Few<Option<Shape>, STREAMS>,
 }
 
+/// The words of a block, wherever they lie.
+pub trait Words: Copy {
+    fn count(self) -> usize;
+    fn write(self, to: &mut [u16]);
+    fn are(self, held: &[u16]) -> bool;
+}
+
+impl Words for &[u16] {
+    fn count(self) -> usize {
+        self.len()
+    }
+
+    fn write(self, to: &mut [u16]) {
+        to.copy_from_slice(self);
+    }
+
+    fn are(self, held: &[u16]) -> bool {
+        self == held
+    }
+}
+
+impl Words for Body<'_> {
+    fn count(self) -> usize {
+        self.len()
+    }
+
+    fn write(self, to: &mut [u16]) {
+        for (place, word) in to.iter_mut().zip(self.words()) {
+            *place = word;
+        }
+    }
+
+    fn are(self, held: &[u16]) -> bool {
+        self.words().eq(held.iter().copied())
+    }
+}
+
 pub struct DueRow {
     pub instant: u64,
     pub start: u32,
     pub change: u32,
     pub quality: u8,
     pub blocks: Few<Block, STREAMS>,
+}
+
+impl DueRow {
+    /// A row to be written over.
+    pub fn spare() -> DueRow {
+        DueRow { instant: 0, start: 0, change: 0, quality: 15, blocks: Few::new() }
+    }
 }
 
 struct Row {
@@ -41,17 +86,19 @@ impl Row {
         Row { instant, age: 0, taken: [false; STREAMS], cells: [None; STREAMS] }
     }
 
-    fn offer(&mut self, stream: usize, cells: &[(usize, Block)], quality: u8) -> Outcome {
+    fn offer<W: Words>(&mut self, stream: usize, cells: &[(usize, Shape, W)], quality: u8) -> Outcome {
         if self.taken[stream] {
-            let differs = cells.iter().any(|(column, block)| match &self.cells[*column] {
-                Some((held, _)) => held.shape != block.shape || held.words() != block.words(),
+            let differs = cells.iter().any(|(column, shape, words)| match &self.cells[*column] {
+                Some((held, _)) => held.shape != *shape || !words.are(held.words()),
                 None => false,
             });
             return if differs { Outcome::Conflict } else { Outcome::Duplicate };
         }
         self.taken[stream] = true;
-        for (column, block) in cells {
-            self.cells[*column] = Some((*block, quality));
+        for (column, shape, words) in cells {
+            let mut copy = [0; 107];
+            words.write(&mut copy[..words.count()]);
+            self.cells[*column] = Some((Block::from_words(*shape, &copy[..words.count()]), quality));
         }
         Outcome::Taken
     }
@@ -86,16 +133,21 @@ fn absent(shape: Shape) -> Block {
 }
 
 fn is_absent(block: &Block) -> bool {
-    let (values, digitals) = block.words().split_at(block.words().len() - usize::from(block.shape.digitals));
+    are_absent(block.shape, block.words())
+}
+
+fn are_absent(shape: Shape, words: &[u16]) -> bool {
+    let (values, digitals) = words.split_at(words.len() - usize::from(shape.digitals));
     values[0] == 0xA1F0 && values[1..].iter().all(|word| *word == 0x8000) && digitals.iter().all(|word| *word == 0)
 }
 
 pub trait Table {
     fn new(window: u64) -> Self;
     fn require(&mut self, stream: usize, is_required: bool);
-    fn put(&mut self, stream: usize, instant: u64, cells: &[(usize, Block)], quality: u8) -> Outcome;
+    fn put<W: Words>(&mut self, stream: usize, instant: u64, cells: &[(usize, Shape, W)], quality: u8) -> Outcome;
     fn tick(&mut self, wait: u64, layout: &Layout) -> u32;
-    fn pop_due(&mut self) -> Option<DueRow>;
+    /// Writes the next row over this one, if there is one.
+    fn pop_into(&mut self, row: &mut DueRow) -> bool;
 }
 
 fn is_near(window: u64, instant: u64, held: Option<u64>) -> bool {
@@ -120,7 +172,7 @@ impl Table for MapTable {
         self.required[stream] = is_required;
     }
 
-    fn put(&mut self, stream: usize, instant: u64, cells: &[(usize, Block)], quality: u8) -> Outcome {
+    fn put<W: Words>(&mut self, stream: usize, instant: u64, cells: &[(usize, Shape, W)], quality: u8) -> Outcome {
         if instant <= self.last {
             return Outcome::Late;
         }
@@ -150,20 +202,47 @@ impl Table for MapTable {
         count
     }
 
-    fn pop_due(&mut self) -> Option<DueRow> {
-        self.closed.pop_front()
+    fn pop_into(&mut self, row: &mut DueRow) -> bool {
+        let Some(popped) = self.closed.pop_front() else { return false };
+        *row = popped;
+        true
     }
+}
+
+/// What is known of a place of the ring.
+#[derive(Clone)]
+struct Head {
+    instant: u64,
+    age: u64,
+    start: u32,
+    change: u32,
+    /// Bits of streams and of columns: what was taken, what has a cell, and which of these hold a present block.
+    taken: u16,
+    held: u16,
+    present: u16,
+    is_open: bool,
+    quality: [u8; STREAMS],
+    shapes: Few<Option<Shape>, STREAMS>,
+}
+
+/// The words of a column at an instant, as many as its shape has.
+#[derive(Clone)]
+struct Cell {
+    shape: Shape,
+    words: [u16; 107],
 }
 
 pub struct RingTable {
     window: u64,
-    required: [bool; STREAMS],
-    /// The row of an instant stands at its remainder by the window.
-    rows: Vec<Row>,
-    open: Vec<bool>,
-    /// The lowest and the highest instant that is open.
+    required: u16,
+    /// The place of an instant is its remainder by the window.
+    heads: Vec<Head>,
+    /// The cells of a place stand side by side.
+    cells: Vec<Cell>,
+    /// The lowest and the highest instant that may be open.
     range: Option<(u64, u64)>,
-    closed: VecDeque<DueRow>,
+    /// The instants that closed and wait.
+    closed: VecDeque<u64>,
     last: u64,
 }
 
@@ -180,11 +259,23 @@ impl RingTable {
 
 impl Table for RingTable {
     fn new(window: u64) -> Self {
+        let head = Head {
+            instant: 0,
+            age: 0,
+            start: 0,
+            change: 0,
+            taken: 0,
+            held: 0,
+            present: 0,
+            is_open: false,
+            quality: [0; STREAMS],
+            shapes: Few::new(),
+        };
         RingTable {
             window,
-            required: [false; STREAMS],
-            rows: (0..window).map(|_| Row::blank(0)).collect(),
-            open: vec![false; window as usize],
+            required: 0,
+            heads: vec![head; window as usize],
+            cells: vec![Cell { shape: Shape::default(), words: [0; 107] }; window as usize * STREAMS],
             range: None,
             closed: VecDeque::with_capacity(window as usize),
             last: 0,
@@ -192,60 +283,91 @@ impl Table for RingTable {
     }
 
     fn require(&mut self, stream: usize, is_required: bool) {
-        self.required[stream] = is_required;
+        self.required = self.required & !(1 << stream) | u16::from(is_required) << stream;
     }
 
-    fn put(&mut self, stream: usize, instant: u64, cells: &[(usize, Block)], quality: u8) -> Outcome {
+    fn put<W: Words>(&mut self, stream: usize, instant: u64, cells: &[(usize, Shape, W)], quality: u8) -> Outcome {
         if instant <= self.last {
             return Outcome::Late;
         }
-        let lowest = self.closed.front().map(|row| row.instant).or(self.range.map(|(low, _)| low));
-        let highest = self.range.map(|(_, high)| high).or(self.closed.back().map(|row| row.instant));
+        let lowest = self.closed.front().copied().or(self.range.map(|(low, _)| low));
+        let highest = self.range.map(|(_, high)| high).or(self.closed.back().copied());
         if !is_near(self.window, instant, lowest) || !is_near(self.window, instant, highest) {
             return Outcome::OutOfWindow;
         }
         let place = (instant % self.window) as usize;
-        if !self.open[place] {
-            self.open[place] = true;
-            let row = &mut self.rows[place];
-            row.instant = instant;
-            row.age = 0;
-            row.taken = [false; STREAMS];
-            for cell in &mut row.cells {
-                *cell = None;
-            }
+        let head = &mut self.heads[place];
+        if !head.is_open {
+            (head.instant, head.age, head.taken, head.held, head.present, head.is_open) = (instant, 0, 0, 0, 0, true);
             self.range = Some(self.range.map_or((instant, instant), |(low, high)| (low.min(instant), high.max(instant))));
         }
-        self.rows[place].offer(stream, cells, quality)
+        let held = &mut self.cells[place * STREAMS..(place + 1) * STREAMS];
+        if head.taken & 1 << stream != 0 {
+            let differs = cells.iter().any(|(column, shape, words)| {
+                let cell = &held[*column];
+                head.held & 1 << column != 0 && (cell.shape != *shape || !words.are(&cell.words[..shape.word_count()]))
+            });
+            return if differs { Outcome::Conflict } else { Outcome::Duplicate };
+        }
+        head.taken |= 1 << stream;
+        for (column, shape, words) in cells {
+            let cell = &mut held[*column];
+            let to = &mut cell.words[..words.count()];
+            words.write(to);
+            cell.shape = *shape;
+            head.held |= 1 << column;
+            head.present |= u16::from(!are_absent(*shape, to)) << column;
+            head.quality[*column] = quality % 16;
+        }
+        Outcome::Taken
     }
 
     fn tick(&mut self, wait: u64, layout: &Layout) -> u32 {
         let Some((low, high)) = self.range else { return 0 };
         for instant in low..=high {
-            let row = &mut self.rows[(instant % self.window) as usize];
-            row.age = row.age.saturating_add(1);
+            let head = &mut self.heads[(instant % self.window) as usize];
+            head.age = head.age.saturating_add(1);
         }
         self.range = None;
         let mut count = 0;
         for instant in low..=high {
-            let place = (instant % self.window) as usize;
-            if !self.open[place] {
+            let head = &mut self.heads[(instant % self.window) as usize];
+            if !head.is_open || head.instant != instant {
                 continue;
             }
-            if !self.rows[place].is_due(&self.required, wait) {
+            if head.age < wait && self.required & !head.taken != 0 {
                 self.range = Some((instant, high));
                 break;
             }
-            self.open[place] = false;
+            head.is_open = false;
+            (head.start, head.change) = (layout.start, layout.change);
+            head.shapes.clone_from(&layout.shapes);
             self.last = instant;
-            self.closed.push_back(self.rows[place].close(layout));
+            self.closed.push_back(instant);
             count += 1;
         }
         count
     }
 
-    fn pop_due(&mut self) -> Option<DueRow> {
-        self.closed.pop_front()
+    fn pop_into(&mut self, row: &mut DueRow) -> bool {
+        let Some(instant) = self.closed.pop_front() else { return false };
+        let place = (instant % self.window) as usize;
+        let head = &self.heads[place];
+        let cells = &self.cells[place * STREAMS..(place + 1) * STREAMS];
+        let mut worst = None;
+        row.blocks.clear();
+        for (column, shape) in head.shapes.as_slice().iter().enumerate() {
+            let Some(shape) = shape else { continue };
+            if head.present & 1 << column != 0 {
+                let cell = &cells[column];
+                row.blocks.next().set(cell.shape, &cell.words[..cell.shape.word_count()]);
+                worst = worst.max(Some(head.quality[column]));
+            } else {
+                row.blocks.next().set_absent(*shape);
+            }
+        }
+        (row.instant, row.start, row.change, row.quality) = (instant, head.start, head.change, worst.unwrap_or(15));
+        true
     }
 }
 
@@ -254,6 +376,7 @@ const SHAPE: Shape = Shape { phasors: 8, analogs: 4, digitals: 1 };
 struct Aligner<T: Table> {
     table: T,
     layout: Layout,
+    row: DueRow,
     mixed: u64,
 }
 
@@ -265,21 +388,21 @@ impl<T: Table> Aligner<T> {
             shapes.push(Some(SHAPE));
             table.require(stream, true);
         }
-        Aligner { table, layout: Layout { start: 1, change: 0, shapes }, mixed: 0 }
+        Aligner { table, layout: Layout { start: 1, change: 0, shapes }, row: DueRow::spare(), mixed: 0 }
     }
 
     fn put(&mut self, stream: usize, instant: u64) {
         let mut words = [0u16; 24];
         words[1] = instant as u16;
         words[2] = stream as u16;
-        let outcome = self.table.put(stream, instant, &[(stream, Block::from_words(SHAPE, &words))], 0);
+        let outcome = self.table.put(stream, instant, &[(stream, SHAPE, &words[..SHAPE.word_count()])], 0);
         self.mixed = self.mixed.rotate_left(1) ^ outcome as u64;
     }
 
     fn tick(&mut self, wait: u64) {
         for _ in 0..self.table.tick(wait, &self.layout) {
-            if let Some(row) = self.table.pop_due() {
-                self.mixed = self.mixed.rotate_left(1) ^ mix(&row);
+            if self.table.pop_into(&mut self.row) {
+                self.mixed = self.mixed.rotate_left(1) ^ mix(&self.row);
             }
         }
     }

@@ -6,6 +6,7 @@ use pdc_block::Block;
 use pdc_cfg::Shape;
 use pdc_table::{DueRow, RingTable, RowLayout, SortedTable, Table, WaitRule, spare_row};
 use std::alloc::{AllocError, Global};
+use std::slice;
 
 const STREAMS: usize = 16;
 
@@ -20,6 +21,8 @@ const SHAPE: Shape = Shape {
 struct Aligner<T: Table> {
     table: T,
     layout: RowLayout,
+    /// The words of each put are written over this cell.
+    cell: (usize, Block),
     /// Each row is popped into this one.
     row: DueRow,
     mixed: u64,
@@ -45,6 +48,7 @@ impl<T: Table> Aligner<T> {
                 change: 0,
                 shapes,
             },
+            cell: Default::default(),
             row: spare_row(),
             mixed: 0,
         })
@@ -62,8 +66,12 @@ impl<T: Table> Aligner<T> {
         let mut words = [0u16; 24];
         words[1] = (instant % 65536) as u16;
         words[2] = stream as u16;
-        let block = Block::from_words(SHAPE, &words);
-        let outcome = self.table.put(stream, instant, &[(stream, block)], 0);
+        let (column, block) = &mut self.cell;
+        *column = stream;
+        block.set(SHAPE, &words);
+        let outcome = self
+            .table
+            .put(stream, instant, slice::from_ref(&self.cell), 0);
         self.mixed = self.mixed.rotate_left(1) ^ outcome as u64;
     }
 
