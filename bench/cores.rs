@@ -75,6 +75,10 @@ pub struct Node {
     counts: [u64; ANSWERS],
     mark: Mark,
     last: u64,
+    /// The cell of the frame that arrives,
+    cell: (usize, Block),
+    /// and the row that goes out.
+    row: DueRow,
 }
 
 impl Node {
@@ -96,6 +100,8 @@ impl Node {
             counts: [0; ANSWERS],
             mark: Mark { slots: [(1, floor), (0, 0)] },
             last: floor,
+            cell: (0, Block::default()),
+            row: DueRow::blank(),
         }
     }
 
@@ -122,7 +128,9 @@ impl Node {
         if instant > self.now.saturating_add(self.ahead) {
             return Answer::Ahead;
         }
-        match self.table.put(stream, instant, &[(stream, Block::from_body(&body))], frame.quality) {
+        self.cell.0 = stream;
+        self.cell.1.read(&body);
+        match self.table.put(stream, instant, std::slice::from_ref(&self.cell), frame.quality) {
             Outcome::Taken => Answer::Taken,
             Outcome::Late => Answer::Late,
             Outcome::OutOfWindow => Answer::OutOfWindow,
@@ -180,15 +188,14 @@ impl Node {
 
     /// Publishes the next row: stores its instant, and then appends its data frame.
     pub fn publish(&mut self, out: &mut Vec<u8>) -> bool {
-        let Some(row) = self.table.pop_due() else { return false };
-        if row.instant <= self.last {
+        if !self.table.pop_into(&mut self.row) || self.row.instant <= self.last {
             return false;
         }
-        if self.mark.floor() < row.instant {
-            self.mark.reserve(row.instant);
+        if self.mark.floor() < self.row.instant {
+            self.mark.reserve(self.row.instant);
         }
-        self.write(&row, out);
-        self.last = row.instant;
+        self.write(&self.row, out);
+        self.last = self.row.instant;
         true
     }
 

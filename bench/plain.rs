@@ -198,6 +198,7 @@ pub struct Section<'a> {
 }
 
 /// At most N values, in the value itself.
+#[derive(Clone, Copy)]
 pub struct Few<T, const N: usize> {
     values: [T; N],
     len: usize,
@@ -215,6 +216,16 @@ impl<T: Copy + Default, const N: usize> Few<T, N> {
 
     pub fn as_slice(&self) -> &[T] {
         &self.values[..self.len]
+    }
+
+    pub fn clear(&mut self) {
+        self.len = 0;
+    }
+
+    /// One more value, to be written over.
+    pub fn next(&mut self) -> &mut T {
+        self.len += 1;
+        &mut self.values[self.len - 1]
     }
 }
 
@@ -301,6 +312,22 @@ impl Block {
             *word = u16::from_be_bytes([pair[0], pair[1]]);
         }
         Block { shape: body.shape, words, len: body.bytes.len() / 2 }
+    }
+
+    /// Makes this the block of these words, in place.
+    pub fn set(&mut self, shape: Shape, from: &[u16]) {
+        self.words[..from.len()].copy_from_slice(from);
+        self.len = from.len();
+        self.shape = shape;
+    }
+
+    /// Makes this the block of the words of a body, in place.
+    pub fn read(&mut self, body: &Body) {
+        self.len = body.bytes.len() / 2;
+        for (word, pair) in self.words[..self.len].iter_mut().zip(body.bytes.chunks_exact(2)) {
+            *word = u16::from_be_bytes([pair[0], pair[1]]);
+        }
+        self.shape = body.shape;
     }
 
     pub fn words(&self) -> &[u16] {

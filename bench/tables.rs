@@ -15,6 +15,7 @@ pub enum Outcome {
     Conflict,
 }
 
+#[derive(Clone, Copy)]
 pub struct Layout {
     pub start: u32,
     pub change: u32,
@@ -29,29 +30,57 @@ pub struct DueRow {
     pub blocks: Few<Block, STREAMS>,
 }
 
+impl DueRow {
+    /// A row to be written over.
+    pub fn blank() -> DueRow {
+        DueRow { instant: 0, start: 0, change: 0, quality: 15, blocks: Few::new() }
+    }
+}
+
+/// What is held of a column: the block is written over in place.
+#[derive(Clone, Copy, Default)]
+struct Cell {
+    is_held: bool,
+    quality: u8,
+    block: Block,
+}
+
 struct Row {
     instant: u64,
     age: u64,
     taken: [bool; STREAMS],
-    cells: [Option<(Block, u8)>; STREAMS],
+    cells: [Cell; STREAMS],
 }
 
 impl Row {
     fn blank(instant: u64) -> Row {
-        Row { instant, age: 0, taken: [false; STREAMS], cells: [None; STREAMS] }
+        Row { instant, age: 0, taken: [false; STREAMS], cells: [Cell::default(); STREAMS] }
+    }
+
+    /// Makes this the row of an instant in which nothing was taken.
+    fn begin(&mut self, instant: u64) {
+        self.instant = instant;
+        self.age = 0;
+        self.taken = [false; STREAMS];
+        for cell in &mut self.cells {
+            cell.is_held = false;
+        }
     }
 
     fn offer(&mut self, stream: usize, cells: &[(usize, Block)], quality: u8) -> Outcome {
         if self.taken[stream] {
-            let differs = cells.iter().any(|(column, block)| match &self.cells[*column] {
-                Some((held, _)) => held.shape != block.shape || held.words() != block.words(),
-                None => false,
+            let differs = cells.iter().any(|(column, block)| {
+                let cell = &self.cells[*column];
+                cell.is_held && (cell.block.shape != block.shape || cell.block.words() != block.words())
             });
             return if differs { Outcome::Conflict } else { Outcome::Duplicate };
         }
         self.taken[stream] = true;
         for (column, block) in cells {
-            self.cells[*column] = Some((*block, quality));
+            let cell = &mut self.cells[*column];
+            cell.is_held = true;
+            cell.quality = quality;
+            cell.block.set(block.shape, block.words());
         }
         Outcome::Taken
     }
@@ -60,20 +89,23 @@ impl Row {
         wait <= self.age || required.iter().zip(&self.taken).all(|(required, taken)| !required || *taken)
     }
 
-    fn close(&self, layout: &Layout) -> DueRow {
-        let mut blocks = Few::new();
+    /// Writes the row that it closes to over this one.
+    fn close_into(&self, layout: &Layout, row: &mut DueRow) {
         let mut worst = None;
+        row.blocks.clear();
         for (cell, shape) in self.cells.iter().zip(layout.shapes.as_slice()) {
             let Some(shape) = shape else { continue };
-            match cell {
-                Some((block, quality)) if !is_absent(block) => {
-                    worst = worst.max(Some(quality % 16));
-                    blocks.push(*block);
-                }
-                _ => blocks.push(absent(*shape)),
+            if cell.is_held && !is_absent(&cell.block) {
+                worst = worst.max(Some(cell.quality % 16));
+                row.blocks.next().set(cell.block.shape, cell.block.words());
+            } else {
+                *row.blocks.next() = absent(*shape);
             }
         }
-        DueRow { instant: self.instant, start: layout.start, change: layout.change, quality: worst.unwrap_or(15), blocks }
+        row.instant = self.instant;
+        row.start = layout.start;
+        row.change = layout.change;
+        row.quality = worst.unwrap_or(15);
     }
 }
 
@@ -95,7 +127,8 @@ pub trait Table {
     fn require(&mut self, stream: usize, is_required: bool);
     fn put(&mut self, stream: usize, instant: u64, cells: &[(usize, Block)], quality: u8) -> Outcome;
     fn tick(&mut self, wait: u64, layout: &Layout) -> u32;
-    fn pop_due(&mut self) -> Option<DueRow>;
+    /// Writes the next closed row over this one. Whether there was one.
+    fn pop_into(&mut self, row: &mut DueRow) -> bool;
 }
 
 fn is_near(window: u64, instant: u64, held: Option<u64>) -> bool {
@@ -144,14 +177,22 @@ impl Table for MapTable {
             }
             let row = first.remove();
             self.last = row.instant;
-            self.closed.push_back(row.close(layout));
+            let mut due = DueRow::blank();
+            row.close_into(layout, &mut due);
+            self.closed.push_back(due);
             count += 1;
         }
         count
     }
 
-    fn pop_due(&mut self) -> Option<DueRow> {
-        self.closed.pop_front()
+    fn pop_into(&mut self, row: &mut DueRow) -> bool {
+        match self.closed.pop_front() {
+            Some(due) => {
+                *row = due;
+                true
+            }
+            None => false,
+        }
     }
 }
 
@@ -160,10 +201,13 @@ pub struct RingTable {
     required: [bool; STREAMS],
     /// The row of an instant stands at its remainder by the window.
     rows: Vec<Row>,
+    /// At the same place stands the layout that a closed row closed under.
+    layouts: Vec<Layout>,
     open: Vec<bool>,
     /// The lowest and the highest instant that is open.
     range: Option<(u64, u64)>,
-    closed: VecDeque<DueRow>,
+    /// The instants that are closed and were not popped: their rows stay at their places.
+    closed: VecDeque<u64>,
     last: u64,
 }
 
@@ -184,6 +228,7 @@ impl Table for RingTable {
             window,
             required: [false; STREAMS],
             rows: (0..window).map(|_| Row::blank(0)).collect(),
+            layouts: vec![Layout { start: 0, change: 0, shapes: Few::new() }; window as usize],
             open: vec![false; window as usize],
             range: None,
             closed: VecDeque::with_capacity(window as usize),
@@ -199,21 +244,15 @@ impl Table for RingTable {
         if instant <= self.last {
             return Outcome::Late;
         }
-        let lowest = self.closed.front().map(|row| row.instant).or(self.range.map(|(low, _)| low));
-        let highest = self.range.map(|(_, high)| high).or(self.closed.back().map(|row| row.instant));
+        let lowest = self.closed.front().copied().or(self.range.map(|(low, _)| low));
+        let highest = self.range.map(|(_, high)| high).or(self.closed.back().copied());
         if !is_near(self.window, instant, lowest) || !is_near(self.window, instant, highest) {
             return Outcome::OutOfWindow;
         }
         let place = (instant % self.window) as usize;
         if !self.open[place] {
             self.open[place] = true;
-            let row = &mut self.rows[place];
-            row.instant = instant;
-            row.age = 0;
-            row.taken = [false; STREAMS];
-            for cell in &mut row.cells {
-                *cell = None;
-            }
+            self.rows[place].begin(instant);
             self.range = Some(self.range.map_or((instant, instant), |(low, high)| (low.min(instant), high.max(instant))));
         }
         self.rows[place].offer(stream, cells, quality)
@@ -238,14 +277,18 @@ impl Table for RingTable {
             }
             self.open[place] = false;
             self.last = instant;
-            self.closed.push_back(self.rows[place].close(layout));
+            self.layouts[place] = *layout;
+            self.closed.push_back(instant);
             count += 1;
         }
         count
     }
 
-    fn pop_due(&mut self) -> Option<DueRow> {
-        self.closed.pop_front()
+    fn pop_into(&mut self, row: &mut DueRow) -> bool {
+        let Some(instant) = self.closed.pop_front() else { return false };
+        let place = (instant % self.window) as usize;
+        self.rows[place].close_into(&self.layouts[place], row);
+        true
     }
 }
 
@@ -254,6 +297,8 @@ const SHAPE: Shape = Shape { phasors: 8, analogs: 4, digitals: 1 };
 struct Aligner<T: Table> {
     table: T,
     layout: Layout,
+    cell: (usize, Block),
+    row: DueRow,
     mixed: u64,
 }
 
@@ -265,21 +310,23 @@ impl<T: Table> Aligner<T> {
             shapes.push(Some(SHAPE));
             table.require(stream, true);
         }
-        Aligner { table, layout: Layout { start: 1, change: 0, shapes }, mixed: 0 }
+        Aligner { table, layout: Layout { start: 1, change: 0, shapes }, cell: (0, Block::default()), row: DueRow::blank(), mixed: 0 }
     }
 
     fn put(&mut self, stream: usize, instant: u64) {
         let mut words = [0u16; 24];
         words[1] = instant as u16;
         words[2] = stream as u16;
-        let outcome = self.table.put(stream, instant, &[(stream, Block::from_words(SHAPE, &words))], 0);
+        self.cell.0 = stream;
+        self.cell.1.set(SHAPE, &words);
+        let outcome = self.table.put(stream, instant, std::slice::from_ref(&self.cell), 0);
         self.mixed = self.mixed.rotate_left(1) ^ outcome as u64;
     }
 
     fn tick(&mut self, wait: u64) {
         for _ in 0..self.table.tick(wait, &self.layout) {
-            if let Some(row) = self.table.pop_due() {
-                self.mixed = self.mixed.rotate_left(1) ^ mix(&row);
+            if self.table.pop_into(&mut self.row) {
+                self.mixed = self.mixed.rotate_left(1) ^ mix(&self.row);
             }
         }
     }

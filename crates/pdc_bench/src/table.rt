@@ -6,6 +6,7 @@ use pdc_block::Block;
 use pdc_cfg::Shape;
 use pdc_table::{DueRow, RingTable, RowLayout, SortedTable, Table, WaitRule, spare_row};
 use std::alloc::{AllocError, Global};
+use std::slice;
 
 const STREAMS: usize = 16;
 
@@ -20,7 +21,9 @@ const SHAPE: Shape = Shape {
 struct Aligner<T: Table> {
     table: T,
     layout: RowLayout,
-    /// Each row is popped into this one.
+    /// The cell of each put,
+    cell: (usize, Block),
+    /// and the row that is popped into.
     row: DueRow,
     mixed: u64,
     ghost one_lane: { (T.content table).lanes ≡ 1 },
@@ -45,6 +48,7 @@ impl<T: Table> Aligner<T> {
                 change: 0,
                 shapes,
             },
+            cell: Default::default(),
             row: spare_row(),
             mixed: 0,
         })
@@ -62,8 +66,10 @@ impl<T: Table> Aligner<T> {
         let mut words = [0u16; 24];
         words[1] = (instant % 65536) as u16;
         words[2] = stream as u16;
-        let block = Block::from_words(SHAPE, &words);
-        let outcome = self.table.put(stream, instant, &[(stream, block)], 0);
+        set_cell(&mut self.cell, stream, &words);
+        let outcome = self
+            .table
+            .put(stream, instant, slice::from_ref(&self.cell), 0);
         self.mixed = self.mixed.rotate_left(1) ^ outcome as u64;
     }
 
@@ -79,6 +85,15 @@ impl<T: Table> Aligner<T> {
             self.mixed = self.mixed.rotate_left(1) ^ mix(&self.row);
         }
     }
+}
+
+/// Makes this the cell of the column whose block has these words.
+fn set_cell(cell: &mut (usize, Block), column: usize, words: &[u16; 24])
+    ensures column { cell.new.0 ≡ column }
+{
+    let (place, block) = cell;
+    *place = column;
+    block.set(SHAPE, words);
 }
 
 /// A number that depends on all of the row.
