@@ -1,16 +1,17 @@
 //! A node and the merger, from their files to the end of their run.
 ghost use Rattle.std.specs.Prelude.{◌≡◌};
 
+use crate::concentrator::Concentrator;
 use crate::fault::ServiceFault;
 use crate::files::{begin_mark, read_merger_settings, read_node_settings};
-use crate::ports::{open_sink, open_sources};
+use crate::ports::{open_listener, open_sink, open_sources};
+use crate::serving::{new_recent, run_serving};
 use pdc_hub::Totals;
 use pdc_network::ClockTicker;
-use pdc_running::{MAX_LIMIT, Plan, run_merger, run_node};
+use pdc_running::{MAX_LIMIT, Plan};
 use pdc_settings::Service;
-use std::alloc::Global;
 use std::fs::File;
-use std::net::Net;
+use std::net::{Net, TcpListener, TcpStream};
 use std::rt::Clock;
 use std::sync::Wait;
 use std::thread::Threads;
@@ -33,61 +34,73 @@ fn plan_of(service: &Service) -> Plan {
     }
 }
 
-/// Runs a node for so many ticks.
-///
-/// # Errors
-///
-/// The first fault: of the settings file, the mark file, the start that is stored, the ports in the order of the PMUs, or the run.
-pub fn serve_node<
-    R: std::rt::Files<File = File> + AllocGlobal + Clock + Net + Threads + Wait + Sync,
->(rt: &R, files: &Files<'_>, ticks: u32) -> Result<Totals, ServiceFault> {
-    let settings = read_node_settings(rt, files.settings)?;
-    let output = settings.life.output;
-    let mark = begin_mark(rt, files.mark, output.id, output.rate)?;
-    let sources = open_sources(rt, rt.alloc(), settings.ports.as_slice())?;
-    let sink = open_sink(rt, settings.service.out_port)?;
+/// Runs a concentrator with its mark in this file.
+fn serve_concentrator<
+    R: std::rt::Files<File = File>
+        + AllocGlobal
+        + Clock
+        + Net<Listener = TcpListener, Stream = TcpStream>
+        + Threads
+        + Wait
+        + Sync,
+>(rt: &R, concentrator: &Concentrator, mark: &str, ticks: u32) -> Result<Totals, ServiceFault> {
+    let output = concentrator.output();
+    let service = concentrator.service();
+    let mark = begin_mark(rt, mark, output.id, output.rate)?;
+    let sources = open_sources(rt, rt.alloc(), concentrator)?;
+    let sink = open_sink(rt, service.out_port)?;
+    let listener = open_listener(rt, service.session_port)?;
+    let recent = new_recent(rt.alloc(), &output, mark.start())?;
     let ticker = ClockTicker::new(rt, output.rate, ticks);
-    let plan = plan_of(&settings.service);
-    run_node(
+    let plan = plan_of(&service);
+    run_serving(
         rt,
         rt.alloc(),
-        &settings.life,
+        concentrator,
         &plan,
         mark,
         sources,
         ticker,
         sink,
+        &recent,
+        listener,
     )
-    .outcome
-    .map_err(ServiceFault::Run)
 }
 
-/// Runs the merger for so many ticks.
+/// Runs a node for so many ticks, and serves its consumers as long.
 ///
 /// # Errors
 ///
-/// The first fault: of the settings file, the mark file, the start that is stored, the ports of node A and node B, or the run.
+/// The first fault: of the settings file, the mark file, the start that is stored, the ports in the order of the PMUs, the port of the
+/// frames, the port of the sessions, or the run.
+pub fn serve_node<
+    R: std::rt::Files<File = File>
+        + AllocGlobal
+        + Clock
+        + Net<Listener = TcpListener, Stream = TcpStream>
+        + Threads
+        + Wait
+        + Sync,
+>(rt: &R, files: &Files<'_>, ticks: u32) -> Result<Totals, ServiceFault> {
+    let settings = read_node_settings(rt, files.settings)?;
+    serve_concentrator(rt, &Concentrator::Node(settings), files.mark, ticks)
+}
+
+/// Runs the merger for so many ticks, and serves its consumers as long.
+///
+/// # Errors
+///
+/// The first fault: of the settings file, the mark file, the start that is stored, the ports of node A and node B, the port of the
+/// frames, the port of the sessions, or the run.
 pub fn serve_merger<
-    R: std::rt::Files<File = File> + AllocGlobal + Clock + Net + Threads + Wait + Sync,
+    R: std::rt::Files<File = File>
+        + AllocGlobal
+        + Clock
+        + Net<Listener = TcpListener, Stream = TcpStream>
+        + Threads
+        + Wait
+        + Sync,
 >(rt: &R, files: &Files<'_>, ticks: u32) -> Result<Totals, ServiceFault> {
     let settings = read_merger_settings(rt, files.settings)?;
-    let output = settings.life.output;
-    let mark = begin_mark(rt, files.mark, output.id, output.rate)?;
-    let ports = [settings.first_port, settings.second_port];
-    let sources = open_sources(rt, rt.alloc(), &ports)?;
-    let sink = open_sink(rt, settings.service.out_port)?;
-    let ticker = ClockTicker::new(rt, output.rate, ticks);
-    let plan = plan_of(&settings.service);
-    run_merger(
-        rt,
-        rt.alloc(),
-        &settings.life,
-        &plan,
-        mark,
-        sources,
-        ticker,
-        sink,
-    )
-    .outcome
-    .map_err(ServiceFault::Run)
+    serve_concentrator(rt, &Concentrator::Merger(settings), files.mark, ticks)
 }
