@@ -30,7 +30,7 @@ impl Concentrator {
     }
 
     /// What the running program is told.
-    pub fn service(&self) -> Service {
+    pub fn service_settings(&self) -> Service {
         match self {
             Concentrator::Node(settings) => settings.service,
             Concentrator::Merger(settings) => settings.service,

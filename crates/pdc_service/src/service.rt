@@ -45,7 +45,7 @@ fn serve_concentrator<
         + Sync,
 >(rt: &R, concentrator: &Concentrator, mark: &str, ticks: u32) -> Result<Totals, ServiceFault> {
     let output = concentrator.output();
-    let service = concentrator.service();
+    let service = concentrator.service_settings();
     let mark = begin_mark(rt, mark, output.id, output.rate)?;
     let sources = open_sources(rt, rt.alloc(), concentrator)?;
     let sink = open_sink(rt, service.out_port)?;
