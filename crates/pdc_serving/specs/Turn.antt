@@ -1,5 +1,5 @@
 -- One turn with a consumer (this profile).
-use Rattle.std.specs.Prelude.{◌≡◌, ◌⊎◌, ℕ, List, [], ◌++◌, Option, true, false}
+use Rattle.std.specs.Prelude.{◌≡◌, ◌⊎◌, ℕ, List, [], Option, true, false}
 use Rattle.std.specs.Io.KnownBytes.{Appends, Consumes}
 use Rattle.pdc_session.specs.Session.{HasAnswered, SessionView}
 use Rattle.pdc_session.specs.declared.serving.Serving.{Serving}

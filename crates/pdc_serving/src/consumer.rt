@@ -91,12 +91,12 @@ impl Consumer {
         match heard {
             Ok(()) => {}
             Err(ended) => {
-                write_out(stream, &self.out)?;
+                write_out(rt, recent, stream, &self.out)?;
                 return Err(ended);
             }
         }
         self.got = append_data(rt, &self.session, recent, self.got, &mut self.out)?;
-        write_out(stream, &self.out)?;
+        write_out(rt, recent, stream, &self.out)?;
         Ok(())
     }
 }

@@ -1,4 +1,4 @@
-use Rattle.std.proofs.Common.{◌≡◌, List, ℕ, inr, subst}
+use Rattle.std.proofs.Common.{List, ℕ, inr, subst}
 use Rattle.pdc_serving.specs.Turn.{IsAnswered}
 use Rattle.pdc_serving.proofs.Turns.{where_ok}
 use Rattle.pdc_serving.proofs.hearing.answer.Goals as goal

@@ -1,4 +1,4 @@
-use Rattle.std.proofs.Common.{◌≡◌, ℕ, List, subst, sym, ap, take, ◌∙◌}
+use Rattle.std.proofs.Common.{ℕ, List, subst, sym, take}
 use Rattle.std.specs.Io.KnownBytes.{Appends, Consumes}
 use Rattle.pdc_serving.specs.Turn.{HasHeard}
 use Rattle.pdc_serving.specs.Consumer.{id_in, session_in}
