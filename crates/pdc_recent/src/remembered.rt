@@ -1,5 +1,5 @@
 //! What is held under the lock.
-ghost use Rattle.std.specs.Prelude.{◌≡◌, ◌++◌, [], None, true, false, OnErr, OnOk, IfOk};
+ghost use Rattle.std.specs.Prelude.{◌≡◌, ◌++◌, true, false, OnErr, OnOk, IfOk};
 ghost use Rattle.pdc_recent.specs.Given.{IsGiven};
 ghost use Rattle.pdc_session.specs.Recent.{is_old, pushed};
 
