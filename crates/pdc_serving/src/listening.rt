@@ -11,14 +11,21 @@ use std::io::{Read, Write};
 use std::net::{OpenListener, OpenStream};
 use std::rt::Clock;
 use std::sync::Wait;
-use std::thread;
 use std::time::Duration;
+use std::{io, thread};
 
 /// How long a read waits for a consumer, and how long nobody is looked for after nobody came, in milliseconds.
 const TURN: u64 = 20;
 
 /// How long a write waits for a consumer that does not read, in milliseconds.
 const WRITE_LIMIT: u64 = 1000;
+
+/// Sets the limits of a connection; what is written to it goes out at once.
+fn set_up<S: OpenStream>(stream: &S) -> io::Result<()> {
+    stream.set_read_timeout(Some(Duration::from_millis(TURN)))?;
+    stream.set_write_timeout(Some(Duration::from_millis(WRITE_LIMIT)))?;
+    stream.set_nodelay(true)
+}
 
 /// Serves one consumer to the end of its session, and answers why it ended.
 fn serve_one<S: Read + Write + OpenStream, R: Wait + Clock>(
@@ -31,13 +38,7 @@ fn serve_one<S: Read + Write + OpenStream, R: Wait + Clock>(
     requires id_low { 0 < id }
     requires id_high { id ≤ MAX_ID }
 {
-    if stream
-        .set_read_timeout(Some(Duration::from_millis(TURN)))
-        .is_err()
-        || stream
-            .set_write_timeout(Some(Duration::from_millis(WRITE_LIMIT)))
-            .is_err()
-    {
+    if set_up(stream).is_err() {
         return Ended::Device;
     }
     let Ok(mut consumer) = Consumer::new(alloc, id) else {
