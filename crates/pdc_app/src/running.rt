@@ -7,7 +7,7 @@ use pdc_service::{Files, ServiceFault, serve_merger, serve_node};
 use pdc_settings::SettingsFault;
 use std::fs::File;
 use std::io;
-use std::net::Net;
+use std::net::{Net, TcpListener, TcpStream};
 use std::rt::Clock;
 use std::sync::Wait;
 use std::thread::Threads;
@@ -45,7 +45,7 @@ fn report_fault(
         ServiceFault::MarkUnopened(error) => eprintln!(rt; "pdc {command}: {mark}: {error}")?,
         ServiceFault::Mark(_) => eprintln!(rt; "pdc {command}: {mark}: the mark is not begun")?,
         ServiceFault::Port(port, error) => {
-            eprintln!(rt; "pdc {command}: UDP port {port} of 127.0.0.1: {error}")?
+            eprintln!(rt; "pdc {command}: port {port} of 127.0.0.1: {error}")?
         }
         ServiceFault::Run(_) => eprintln!(rt; "pdc {command}: the run ended early")?,
     }
@@ -57,7 +57,7 @@ pub fn run_node_command<
     R: std::rt::Files<File = File>
         + AllocGlobal
         + Clock
-        + Net
+        + Net<Listener = TcpListener, Stream = TcpStream>
         + Threads
         + Wait
         + Sync
@@ -79,7 +79,7 @@ pub fn run_merge_command<
     R: std::rt::Files<File = File>
         + AllocGlobal
         + Clock
-        + Net
+        + Net<Listener = TcpListener, Stream = TcpStream>
         + Threads
         + Wait
         + Sync

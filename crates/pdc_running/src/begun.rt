@@ -29,6 +29,14 @@ impl<M: Mark + Drop> Begun<M> {
         Ok(Begun { mark })
     }
 
+    /// The start number of the life.
+    pub fn start(&self) -> u32
+        ensures { result ≡ (M.stored (begun_mark self.now)).start }
+    {
+        let (start, _) = self.mark.stored();
+        start
+    }
+
     /// The mark.
     pub fn into_mark(self) -> M
         ensures { result ≡ begun_mark self }

@@ -1,18 +1,16 @@
 //! The ports of a concentrator.
 ghost use Rattle.std.specs.Prelude.{◌≡◌, IfOk, length, vec_len};
+ghost use Rattle.pdc_service.specs.Concentrator.{streams_of};
 
+use crate::concentrator::Concentrator;
 use crate::fault::ServiceFault;
 use pdc_hub::HubFault;
 use pdc_network::{UdpSink, UdpSource};
 use std::alloc::Global;
-use std::net::Net;
+use std::net::{Net, TcpListener, TcpStream};
 
 /// A source at each of these ports, in their order.
-pub fn open_sources<R: Net>(
-    rt: &R,
-    alloc: Global,
-    ports: &[u16],
-) -> Result<Vec<UdpSource>, ServiceFault>
+fn open_all<R: Net>(rt: &R, alloc: Global, ports: &[u16]) -> Result<Vec<UdpSource>, ServiceFault>
     ensures { IfOk result (λ sources. vec_len sources ≡ length ports.now) }
 {
     let mut sources = Vec::new(alloc);
@@ -25,7 +23,37 @@ pub fn open_sources<R: Net>(
     Ok(sources)
 }
 
+/// A source for each stream, in their order.
+pub fn open_sources<R: Net>(
+    rt: &R,
+    alloc: Global,
+    concentrator: &Concentrator,
+) -> Result<Vec<UdpSource>, ServiceFault>
+    ensures { IfOk result (λ sources. vec_len sources ≡ streams_of concentrator.now) }
+{
+    match concentrator {
+        Concentrator::Node(settings) => open_all(rt, alloc, settings.ports.as_slice()),
+        Concentrator::Merger(settings) => {
+            open_all(rt, alloc, &[settings.first_port, settings.second_port])
+        }
+    }
+}
+
 /// A sink that sends to this port.
 pub fn open_sink<R: Net>(rt: &R, port: u16) -> Result<UdpSink, ServiceFault> {
     UdpSink::open(rt, port).map_err(|error| ServiceFault::Port(port, error))
+}
+
+/// A listener at this TCP port, whose `accept` does not wait.
+pub fn open_listener<R: Net<Listener = TcpListener, Stream = TcpStream>>(
+    rt: &R,
+    port: u16,
+) -> Result<TcpListener, ServiceFault> {
+    let listener = TcpListener::bind(rt, ("127.0.0.1", port)).map_err(|error| ServiceFault::Port(
+        port, error,
+    ))?;
+    listener
+        .set_nonblocking(true)
+        .map_err(|error| ServiceFault::Port(port, error))?;
+    Ok(listener)
 }

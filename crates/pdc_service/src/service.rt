@@ -1,17 +1,18 @@
 //! A node and the merger, from their files to the end of their run.
 ghost use Rattle.std.specs.Prelude.{◌≡◌};
 
+use crate::concentrator::Concentrator;
 use crate::fault::ServiceFault;
 use crate::files::{begin_mark, read_merger_settings, read_node_settings};
-use crate::ports::{open_sink, open_sources};
+use crate::ports::{open_listener, open_sink, open_sources};
+use crate::serving::{new_recent, run_serving};
 use pdc_hub::Totals;
 use pdc_network::ClockTicker;
 use pdc_reporting::Reporting;
-use pdc_running::{MAX_LIMIT, Plan, run_merger, run_node};
+use pdc_running::{MAX_LIMIT, Plan};
 use pdc_settings::Service;
-use std::alloc::Global;
 use std::fs::File;
-use std::net::Net;
+use std::net::{Net, TcpListener, TcpStream};
 use std::rt::Clock;
 use std::sync::Wait;
 use std::thread::Threads;
@@ -34,61 +35,89 @@ fn plan_of(service: &Service) -> Plan {
     }
 }
 
-/// Runs a node for so many ticks. Each time that so many seconds have gone by it prints a line of counters on standard error, if any are asked for.
-///
-/// # Errors
-///
-/// The first fault: of the settings file, the mark file, the start that is stored, the ports in the order of the PMUs, or the run.
-pub fn serve_node<
-    R: std::rt::Files<File = File> + AllocGlobal + Clock + Net + Threads + Wait + Sync + Eprint,
->(rt: &R, files: &Files<'_>, ticks: u32, every: Option<u32>) -> Result<Totals, ServiceFault> {
-    let settings = read_node_settings(rt, files.settings)?;
-    let output = settings.life.output;
-    let mark = begin_mark(rt, files.mark, output.id, output.rate)?;
-    let sources = open_sources(rt, rt.alloc(), settings.ports.as_slice())?;
-    let sink = open_sink(rt, settings.service.out_port)?;
+/// Runs a concentrator with its mark in this file.
+fn serve_concentrator<
+    R: std::rt::Files<File = File>
+        + AllocGlobal
+        + Clock
+        + Net<Listener = TcpListener, Stream = TcpStream>
+        + Threads
+        + Wait
+        + Sync
+        + Eprint,
+>(
+    rt: &R,
+    concentrator: &Concentrator,
+    mark: &str,
+    ticks: u32,
+    every: Option<u32>,
+) -> Result<Totals, ServiceFault> {
+    let output = concentrator.output();
+    let service = concentrator.service_settings();
+    let mark = begin_mark(rt, mark, output.id, output.rate)?;
+    let sources = open_sources(rt, rt.alloc(), concentrator)?;
+    let sink = open_sink(rt, service.out_port)?;
+    let listener = open_listener(rt, service.session_port)?;
+    let recent = new_recent(rt.alloc(), &output, mark.start())?;
     let ticker = Reporting::new(rt, ClockTicker::new(rt, output.rate, ticks), every);
-    let plan = plan_of(&settings.service);
-    run_node(
+    let plan = plan_of(&service);
+    run_serving(
         rt,
         rt.alloc(),
-        &settings.life,
+        concentrator,
         &plan,
         mark,
         sources,
         ticker,
         sink,
+        &recent,
+        listener,
     )
-    .outcome
-    .map_err(ServiceFault::Run)
 }
 
-/// Runs the merger for so many ticks, and prints counters as [`serve_node`] does.
+/// Runs a node for so many ticks, and serves its consumers as long. Each time that so many seconds have gone by it prints a line of counters
+/// on standard error, if any are asked for.
 ///
 /// # Errors
 ///
-/// The first fault: of the settings file, the mark file, the start that is stored, the ports of node A and node B, or the run.
+/// The first fault: of the settings file, the mark file, the start that is stored, the ports in the order of the PMUs, the port of the
+/// frames, the port of the sessions, or the run.
+pub fn serve_node<
+    R: std::rt::Files<File = File>
+        + AllocGlobal
+        + Clock
+        + Net<Listener = TcpListener, Stream = TcpStream>
+        + Threads
+        + Wait
+        + Sync
+        + Eprint,
+>(rt: &R, files: &Files<'_>, ticks: u32, every: Option<u32>) -> Result<Totals, ServiceFault> {
+    let settings = read_node_settings(rt, files.settings)?;
+    serve_concentrator(rt, &Concentrator::Node(settings), files.mark, ticks, every)
+}
+
+/// Runs the merger for so many ticks, serves its consumers as long, and prints counters as [`serve_node`] does.
+///
+/// # Errors
+///
+/// The first fault: of the settings file, the mark file, the start that is stored, the ports of node A and node B, the port of the
+/// frames, the port of the sessions, or the run.
 pub fn serve_merger<
-    R: std::rt::Files<File = File> + AllocGlobal + Clock + Net + Threads + Wait + Sync + Eprint,
+    R: std::rt::Files<File = File>
+        + AllocGlobal
+        + Clock
+        + Net<Listener = TcpListener, Stream = TcpStream>
+        + Threads
+        + Wait
+        + Sync
+        + Eprint,
 >(rt: &R, files: &Files<'_>, ticks: u32, every: Option<u32>) -> Result<Totals, ServiceFault> {
     let settings = read_merger_settings(rt, files.settings)?;
-    let output = settings.life.output;
-    let mark = begin_mark(rt, files.mark, output.id, output.rate)?;
-    let ports = [settings.first_port, settings.second_port];
-    let sources = open_sources(rt, rt.alloc(), &ports)?;
-    let sink = open_sink(rt, settings.service.out_port)?;
-    let ticker = Reporting::new(rt, ClockTicker::new(rt, output.rate, ticks), every);
-    let plan = plan_of(&settings.service);
-    run_merger(
+    serve_concentrator(
         rt,
-        rt.alloc(),
-        &settings.life,
-        &plan,
-        mark,
-        sources,
-        ticker,
-        sink,
+        &Concentrator::Merger(settings),
+        files.mark,
+        ticks,
+        every,
     )
-    .outcome
-    .map_err(ServiceFault::Run)
 }

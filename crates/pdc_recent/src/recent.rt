@@ -1,0 +1,92 @@
+//! The lock round what was sent last.
+ghost use Rattle.std.specs.Prelude.{◌≡◌, ◌++◌, ℕ, List, OnErr, OnOk, IfOk};
+ghost use Rattle.pdc_recent.specs.Given.{IsGiven};
+
+use crate::remembered::Remembered;
+use pdc_frame::Buffer;
+use pdc_session::Frames;
+use std::alloc::{AllocError, Global};
+use std::sync::{Mutex, Wait};
+
+/// The last 256 data frames that were sent, and the last layout frame. Each call takes the lock once, and may wait for it; none holds it
+/// for longer than a copy of what is asked for.
+#[derive(Drop)]
+pub struct Recent {
+    remembered: Mutex<Remembered>,
+}
+
+impl Recent {
+    /// No data frame yet, and this layout frame.
+    ///
+    /// # Errors
+    ///
+    /// [`AllocError`] where there is no memory for the ring.
+    pub fn new(alloc: Global, layout: Vec<u8>) -> Result<Recent, AllocError> {
+        Ok(Recent {
+            remembered: Mutex::new(Remembered {
+                frames: Frames::new(alloc)?,
+                layout,
+                closed: false,
+            }),
+        })
+    }
+
+    /// Keeps a data frame, if its instant is above all before; the oldest of 256 goes.
+    ///
+    /// # Errors
+    ///
+    /// [`AllocError`] where there is no memory for the frame's bytes. Nothing is kept then.
+    pub fn push<R: Wait>(
+        &self,
+        rt: &R,
+        alloc: Global,
+        instant: u64,
+        bytes: &[u8],
+    ) -> Result<(), AllocError> {
+        self.remembered.lock(rt).push(alloc, instant, bytes)
+    }
+
+    /// Appends the frames above the instant, in order, and answers the greatest of their instants; the given one where there is none.
+    ///
+    /// # Errors
+    ///
+    /// [`AllocError`] where `out` has no room for them and gets none. `out` is unchanged then.
+    pub fn after<B: Buffer, R: Wait>(
+        &self,
+        rt: &R,
+        instant: u64,
+        out: &mut B,
+    ) -> Result<u64, AllocError>
+        ensures ok { IfOk result (λ answer. IsGiven instant (B.content out.old) answer (B.content out.new)) }
+        ensures err { OnErr result (B.content out.new ≡ B.content out.old) }
+    {
+        self.remembered.lock(rt).after(instant, out)
+    }
+
+    /// Keeps a layout frame in place of the one before.
+    pub fn keep_layout<R: Wait>(&self, rt: &R, layout: Vec<u8>) {
+        self.remembered.lock(rt).layout = layout;
+    }
+
+    /// Appends a copy of the layout frame that was kept last.
+    ///
+    /// # Errors
+    ///
+    /// [`AllocError`] where `out` has no room for it and gets none. `out` is unchanged then.
+    pub fn layout<B: Buffer, R: Wait>(&self, rt: &R, out: &mut B) -> Result<(), AllocError>
+        ensures ok { OnOk result ((frame : List ℕ) × (B.content out.new ≡ B.content out.old ++ frame)) }
+        ensures err { OnErr result (B.content out.new ≡ B.content out.old) }
+    {
+        self.remembered.lock(rt).layout(out)
+    }
+
+    /// No more is to be kept.
+    pub fn close<R: Wait>(&self, rt: &R) {
+        self.remembered.lock(rt).closed = true;
+    }
+
+    /// Whether no more is to be kept.
+    pub fn closed<R: Wait>(&self, rt: &R) -> bool {
+        self.remembered.lock(rt).closed
+    }
+}

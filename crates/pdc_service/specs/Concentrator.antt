@@ -1,0 +1,9 @@
+-- A node or the merger, as its settings describe it (this profile).
+use Rattle.std.specs.Prelude.{ℕ, length}
+use Rattle.pdc_service.specs.declared.concentrator.Concentrator.{Concentrator}
+use Rattle.pdc_service.specs.declared.concentrator.Concentrator.TheVariants.{Merger, Node}
+
+-- how many streams it takes: one for each PMU, and one for each node
+abbrev pub streams_of : Concentrator → ℕ
+streams_of (Node settings) = length settings.life.pmus.items
+streams_of (Merger settings) = 2

@@ -1,0 +1,69 @@
+//! What a node and the merger have in common.
+ghost use Rattle.std.specs.Prelude.{◌≡◌, IfOk, map, sum, vec_len};
+ghost use Rattle.pdc_service.specs.Concentrator.{streams_of};
+
+use pdc_hub::{HubFault, Sink, Source, Ticker, Totals};
+use pdc_mark::Mark;
+use pdc_output::Output;
+use pdc_running::{Begun, Plan, run_merger, run_node};
+use pdc_settings::{MergerSettings, NodeSettings, Service};
+use std::alloc::Global;
+use std::sync::Wait;
+use std::thread::Threads;
+
+/// A node or the merger, as its settings describe it.
+#[derive(Debug, Drop)]
+pub enum Concentrator {
+    /// A node.
+    Node(NodeSettings),
+    /// The merger.
+    Merger(MergerSettings),
+}
+
+impl Concentrator {
+    /// What its frames say.
+    pub fn output(&self) -> Output {
+        match self {
+            Concentrator::Node(settings) => settings.life.output,
+            Concentrator::Merger(settings) => settings.life.output,
+        }
+    }
+
+    /// What the running program is told.
+    pub fn service_settings(&self) -> Service {
+        match self {
+            Concentrator::Node(settings) => settings.service,
+            Concentrator::Merger(settings) => settings.service,
+        }
+    }
+}
+
+/// Runs it, over a source for each of its streams.
+pub fn run_concentrator<
+    S: Source + Send + Drop,
+    M: Mark + Drop,
+    I: Ticker + Drop,
+    K: Sink + Send + Drop,
+    R: Threads + Wait + Sync,
+>(
+    rt: &R,
+    alloc: Global,
+    concentrator: &Concentrator,
+    plan: &Plan,
+    mark: Begun<M>,
+    sources: Vec<S>,
+    ticker: I,
+    sink: K,
+) -> Result<Totals, HubFault>
+    requires { vec_len sources ≡ streams_of concentrator.now }
+    ensures { IfOk result (λ t. (t.taken ≡ sum (map (λ c. c.taken) t.receivers.items)) × (t.refused ≡ sum (map (λ c. c.refused) t.receivers.items))) }
+{
+    match concentrator {
+        Concentrator::Node(settings) => {
+            run_node(rt, alloc, &settings.life, plan, mark, sources, ticker, sink).outcome
+        }
+        Concentrator::Merger(settings) => {
+            run_merger(rt, alloc, &settings.life, plan, mark, sources, ticker, sink).outcome
+        }
+    }
+}

@@ -1,0 +1,122 @@
+//! A run with consumers beside it.
+ghost use Rattle.std.specs.Prelude.{◌≡◌, ◌≤◌, ◌<◌, vec_len};
+ghost use Rattle.pdc_frame.specs.declared.limits.TheConstants.{MAX_ID};
+ghost use Rattle.pdc_service.specs.Concentrator.{streams_of};
+
+use crate::concentrator::{Concentrator, run_concentrator};
+use crate::fault::ServiceFault;
+use pdc_disk::FileDisk;
+use pdc_hub::{HubFault, Ticker, Totals};
+use pdc_mark::DiskMark;
+use pdc_network::{UdpSink, UdpSource};
+use pdc_output::{Output, append_layout};
+use pdc_recent::Recent;
+use pdc_remembering::RememberingSink;
+use pdc_running::{Begun, Plan};
+use pdc_serving::serve;
+use std::alloc::Global;
+use std::net::TcpListener;
+use std::rt::Clock;
+use std::sync::Wait;
+use std::thread;
+use std::thread::{Scope, Threads};
+
+/// Nothing was sent yet; the layout is the own section alone, as before the first adoption of a life with this start.
+pub fn new_recent(alloc: Global, output: &Output, start: u32) -> Result<Recent, ServiceFault> {
+    let mut layout = Vec::new(alloc);
+    if append_layout(output, start, 0, &[], 0, &mut layout).is_err() {
+        return Err(ServiceFault::Run(HubFault::NoMemory));
+    }
+    match Recent::new(alloc, layout) {
+        Ok(recent) => Ok(recent),
+        Err(_) => Err(ServiceFault::Run(HubFault::NoMemory)),
+    }
+}
+
+/// Starts the thread that serves the consumers, and answers whether it was started.
+fn start_sessions<'s, E: 's, R: Wait + Clock + Sync + 's>(
+    scope: &'s Scope<'s, E>,
+    rt: &'s R,
+    alloc: Global,
+    id: u16,
+    recent: &'s Recent,
+    listener: TcpListener,
+) -> bool
+    requires id_low { 0 < id }
+    requires id_high { id ≤ MAX_ID }
+{
+    scope
+        .spawn(
+            move || -> ()
+                requires { (0 < id) × (id ≤ MAX_ID) }
+            { serve(rt, alloc, id, recent, &listener) },
+        )
+        .is_ok()
+}
+
+/// Starts the sessions, runs, and ends the sessions.
+fn conduct<'s, E: 's, I: Ticker + Drop, R: Threads + Wait + Clock + Sync + 's>(
+    scope: &'s Scope<'s, E>,
+    rt: &'s R,
+    alloc: Global,
+    concentrator: &Concentrator,
+    plan: &Plan,
+    mark: Begun<DiskMark<FileDisk>>,
+    sources: Vec<UdpSource>,
+    ticker: I,
+    sink: UdpSink,
+    recent: &'s Recent,
+    listener: TcpListener,
+) -> Result<Totals, ServiceFault>
+    requires { vec_len sources ≡ streams_of concentrator.now }
+{
+    let output = concentrator.output();
+    if !start_sessions(scope, rt, alloc, output.id, recent, listener) {
+        return Err(ServiceFault::Run(HubFault::NoMemory));
+    }
+    let sink = RememberingSink::new(rt, alloc, recent, output, sink);
+    let outcome = run_concentrator(rt, alloc, concentrator, plan, mark, sources, ticker, sink);
+    recent.close(rt);
+    match outcome {
+        Ok(totals) => Ok(totals),
+        Err(fault) => Err(ServiceFault::Run(fault)),
+    }
+}
+
+/// Runs a concentrator, and serves its consumers in a thread beside it for as long as it runs.
+pub fn run_serving<'x, I: Ticker + Drop + 'x, R: Threads + Wait + Clock + Sync + 'x>(
+    rt: &'x R,
+    alloc: Global,
+    concentrator: &'x Concentrator,
+    plan: &'x Plan,
+    mark: Begun<DiskMark<FileDisk>>,
+    sources: Vec<UdpSource>,
+    ticker: I,
+    sink: UdpSink,
+    recent: &'x Recent,
+    listener: TcpListener,
+) -> Result<Totals, ServiceFault>
+    requires { vec_len sources ≡ streams_of concentrator.now }
+{
+    thread::scope(
+        thread::scope_env(),
+        rt,
+        |scope| -> Result<Totals, ServiceFault>
+            requires streams { vec_len sources ≡ streams_of concentrator.now }
+        {
+            conduct(
+                scope,
+                rt,
+                alloc,
+                concentrator,
+                plan,
+                mark,
+                sources,
+                ticker,
+                sink,
+                recent,
+                listener,
+            )
+        },
+    )
+}

@@ -1,0 +1,3 @@
+pub mod Consumer
+pub mod Header
+pub mod Turn

@@ -1,0 +1,84 @@
+//! Connections, one after the other.
+ghost use Rattle.std.specs.Prelude.{◌≤◌, ◌<◌};
+ghost use Rattle.pdc_frame.specs.declared.limits.TheConstants.{MAX_ID};
+
+use crate::consumer::Consumer;
+use crate::ended::Ended;
+use pdc_frame::MAX_ID;
+use pdc_recent::Recent;
+use std::alloc::Global;
+use std::io::{Read, Write};
+use std::net::{OpenListener, OpenStream};
+use std::rt::Clock;
+use std::sync::Wait;
+use std::time::Duration;
+use std::{io, thread};
+
+/// How long a read waits for a consumer, and how long nobody is looked for after nobody came, in milliseconds.
+const TURN: u64 = 20;
+
+/// How long a write waits for a consumer that does not read, in milliseconds.
+const WRITE_LIMIT: u64 = 1000;
+
+/// Sets the limits of a connection; what is written to it goes out at once.
+fn set_up<S: OpenStream>(stream: &S) -> io::Result<()> {
+    stream.set_read_timeout(Some(Duration::from_millis(TURN)))?;
+    stream.set_write_timeout(Some(Duration::from_millis(WRITE_LIMIT)))?;
+    stream.set_nodelay(true)
+}
+
+/// Serves one consumer to the end of its session, and answers why it ended.
+fn serve_one<S: Read + Write + OpenStream, R: Wait + Clock>(
+    rt: &R,
+    alloc: Global,
+    id: u16,
+    recent: &Recent,
+    stream: &mut S,
+) -> Ended
+    requires id_low { 0 < id }
+    requires id_high { id ≤ MAX_ID }
+{
+    if set_up(stream).is_err() {
+        return Ended::Device;
+    }
+    let Ok(mut consumer) = Consumer::new(alloc, id) else {
+        return Ended::NoMemory;
+    };
+    for _ in rt.forever() {
+        if recent.closed(rt) {
+            return Ended::Closed;
+        }
+        if let Err(ended) = consumer.turn(rt, recent, stream) {
+            return ended;
+        }
+    }
+    unreachable!()
+}
+
+/// Serves the consumers that connect, one after the other, until no more is to come. The listener's `accept` is one that does not wait.
+pub fn serve<L: OpenListener, R: Wait + Clock>(
+    rt: &R,
+    alloc: Global,
+    id: u16,
+    recent: &Recent,
+    listener: &L,
+)
+where
+    L::Stream: Read + Write + OpenStream,
+    requires id_low { 0 < id }
+    requires id_high { id ≤ MAX_ID }
+{
+    for _ in rt.forever() {
+        if recent.closed(rt) {
+            return;
+        }
+        match listener.accept() {
+            Ok((stream, _)) => {
+                let mut stream = stream;
+                let _ended = serve_one(rt, alloc, id, recent, &mut stream);
+            }
+            Err(_) => thread::sleep(rt, Duration::from_millis(TURN)),
+        }
+    }
+    unreachable!()
+}
