@@ -298,7 +298,7 @@ where
     thread::scope(
         thread::scope_env(),
         rt,
-        |scope| -> Ran<M, K>
+        move |scope| -> Ran<M, K>
             requires settings { N.settings ≡ Some settings.now }
             requires can { CanRun crew (C.Settings.streams settings.now) T.parts F.parts G.parts P.parts (M.stored (mark_in crew.publisher)).floor }
             requires rate { IsAtRate N.given (output_in crew.publisher).rate }
