@@ -8,6 +8,7 @@
 #![tactic(auto)]
 
 mod aligner;
+mod receivers;
 mod runs;
 
 pub use aligner::{Pace, Ticker, Told, align};
@@ -17,4 +18,5 @@ pub use pdc_pipe::{
     SinkFault, send_out,
 };
 pub use pdc_recorder::{Blanks, Hub, HubFault, Naming, Next, Received, Shares, Source, receive};
-pub use runs::{Counted, Input, Ran, Totals, run};
+pub use receivers::{Counted, Input};
+pub use runs::{Ran, Totals, run};

@@ -1,46 +1,33 @@
-//! The loop over all receivers beside the aligner and the sender.
+//! A run of all receivers beside the aligner and the sender.
 ghost use Rattle.std.specs.Prelude.{◌≡◌, ◌≤◌, ◌<◌, ◌+◌, ◌++◌, ◌∷◌, ℕ, Bool, IfOk, IfSome, List, None, Ok, OnOk, Option, Some, [], false, length, map, sum, true, vec_len};
 ghost use Rattle.crossbeam_channel.specs.Claims.{IsSeatAt, view};
 ghost use Rattle.crossbeam_channel.specs.Ends.{receives_on, sends_on};
 ghost use Rattle.pdc_pipe.specs.Pipe.{log};
 ghost use Rattle.pdc_hub.specs.Rate.{IsAtRate};
-ghost use Rattle.pdc_hub.specs.Run.{HasRun};
+ghost use Rattle.pdc_hub.specs.Crew.{CanRun};
+ghost use Rattle.pdc_hub.specs.Run.{HasRun, IsSummed};
 ghost use Rattle.pdc_hub.specs.Sequence.{Rises, instants_of};
 ghost use Rattle.pdc_pipe.specs.declared.message.Message.{Message};
 ghost use Rattle.pdc_pipe.specs.HandedOn.{HasHandedOn};
 ghost use Rattle.pdc_publisher.specs.Publisher.{last_in, mark_in, output_in};
 
 use crate::aligner::{Pace, Ticker, align};
+use crate::receivers::{Counted, Input, Joined, buffered, join_all, start_all};
 use crossbeam_channel::Pass;
 use pdc_core::Core;
-use pdc_frame::MAX_SIZE;
 use pdc_mark::Mark;
 use pdc_pipe::{
     Ended, Ends, HandsOn, Log, Message, Receiver, Sender, Sent, Sink, channel, close, send_owned,
     settle,
 };
 use pdc_publisher::Publisher;
-use pdc_recorder::{Hub, HubFault, Naming, Received, Shares, Source, receive};
-use std::alloc::{AllocError, Global};
+use pdc_recorder::{Hub, HubFault, Naming, Shares, Source};
+use std::alloc::Global;
 use std::snapshot::Snapshot;
 use std::sync::Wait;
 use std::sync::ledger::{Ledger, Share};
 use std::thread;
-use std::thread::{JoinHandle, Promise, Scope, Threads};
-
-/// A source beside its buffer.
-#[derive(Drop)]
-pub struct Input<S> {
-    pub source: S,
-    pub buffer: Vec<u8>,
-}
-
-/// What a receiver counted.
-#[derive(Clone, Copy, Debug, PartialEq, Eq, Drop)]
-pub struct Counted {
-    pub taken: u64,
-    pub refused: u64,
-}
+use std::thread::{Scope, Threads};
 
 /// What a run counted.
 #[derive(Debug, Drop)]
@@ -50,193 +37,6 @@ pub struct Totals {
     pub refused: u64,
     /// How many rows were published and handed on.
     pub published: u64,
-}
-
-/// The receivers that were started, and the shares that are left.
-#[derive(Drop)]
-pub struct Started<T: Ledger, F: Ledger, G: Ledger> {
-    running: Vec<JoinHandle<Received<T, F, G>>>,
-    left: Shares<T, F, G>,
-    complete: bool,
-}
-
-/// Starts a receiver for each source, in a thread of its own.
-fn start_all<
-    's,
-    E: 's,
-    C: Core + Drop + Send + 's,
-    N: Naming<C::Settings> + Send + 's,
-    T: Ledger + Send + Sync + 's,
-    F: Ledger + Send + Sync + 's,
-    G: Ledger + Send + Sync + 's,
-    P: Ledger + Send + Sync + 's,
-    S: Source + Send + Drop + 's,
-    R: Wait + Sync,
->(
-    scope: &'s Scope<'s, E>,
-    rt: &'s R,
-    alloc: Global,
-    hub: &'s Hub<C, N, T, F, G, P>,
-    settings: &'s C::Settings,
-    inputs: Vec<Input<S>>,
-    shares: Shares<T, F, G>,
-) -> Started<T, F, G>
-where
-    C::Settings: Sync + 's,
-    requires settings { N.settings ≡ Some settings.now }
-    requires streams { vec_len inputs ≡ C.Settings.streams settings.now }
-    requires few { vec_len inputs ≤ 16 }
-    requires parts { (shares.taken.parts ≡ vec_len inputs + 1) × (shares.refused.parts ≡ vec_len inputs + 1) × (shares.configured.parts ≡ vec_len inputs + 1) }
-    requires amounts { (shares.taken.amount ≡ 0) × (shares.refused.amount ≡ 0) × (shares.configured.amount ≡ 0) }
-    ensures { result.complete ≡ true → (result.left.taken.amount ≡ 0) × (result.left.refused.amount ≡ 0) × (result.left.taken.parts ≡ 1) × (result.left.refused.parts ≡ 1) × (result.left.configured.parts ≡ 1) × (vec_len result.running ≡ vec_len inputs) }
-{
-    let mut left = shares;
-    let mut running = Vec::new(alloc);
-    let mut complete = true;
-    let mut stream = 0usize;
-    for input in inputs {
-        if !complete {
-            continue;
-        }
-        let Input { source, buffer } = input;
-        let mine = split_one(&mut left);
-        match scope.spawn(
-            move || -> Received<T, F, G>
-                requires { (N.settings ≡ Some settings.now) × (stream < C.Settings.streams settings.now) × ((mine.taken.parts ≡ 1) × (mine.refused.parts ≡ 1) × (mine.configured.parts ≡ 1)) × ((mine.taken.amount ≡ 0) × (mine.refused.amount ≡ 0)) }
-            { receive_owned(rt, alloc, hub, settings, stream, source, buffer, mine) },
-        ) {
-            Ok(handle) => complete = running.push(handle).is_ok(),
-            Err(_) => complete = false,
-        }
-        if complete {
-            stream += 1;
-        }
-    }
-    Started {
-        running,
-        left,
-        complete,
-    }
-}
-
-/// One part of each ledger, which has counted nothing.
-fn split_one<T: Ledger, F: Ledger, G: Ledger>(left: &mut Shares<T, F, G>) -> Shares<T, F, G>
-    requires parts { (1 < left.old.taken.parts) × (1 < left.old.refused.parts) × (1 < left.old.configured.parts) }
-    ensures left { (left.new.taken.parts + 1 ≡ left.old.taken.parts) × (left.new.refused.parts + 1 ≡ left.old.refused.parts) × (left.new.configured.parts + 1 ≡ left.old.configured.parts) }
-    ensures amounts { (left.new.taken.amount ≡ left.old.taken.amount) × (left.new.refused.amount ≡ left.old.refused.amount) × (left.new.configured.amount ≡ left.old.configured.amount) }
-    ensures one { (result.taken.parts ≡ 1) × (result.refused.parts ≡ 1) × (result.configured.parts ≡ 1) }
-    ensures nothing { (result.taken.amount ≡ 0) × (result.refused.amount ≡ 0) }
-{
-    Shares {
-        taken: left.taken.split_off(1, 0),
-        refused: left.refused.split_off(1, 0),
-        configured: left.configured.split_off(1, 0),
-    }
-}
-
-/// As `receive`, of a source that is its own.
-fn receive_owned<
-    C: Core + Drop,
-    N: Naming<C::Settings>,
-    T: Ledger,
-    F: Ledger,
-    G: Ledger,
-    P: Ledger,
-    S: Source + Drop,
-    R: Wait,
->(
-    rt: &R,
-    alloc: Global,
-    hub: &Hub<C, N, T, F, G, P>,
-    settings: &C::Settings,
-    stream: usize,
-    source: S,
-    buffer: Vec<u8>,
-    shares: Shares<T, F, G>,
-) -> Received<T, F, G>
-    requires settings { N.settings ≡ Some settings.now }
-    requires stream { stream < C.Settings.streams settings.now }
-    requires parts { (shares.taken.parts ≡ 1) × (shares.refused.parts ≡ 1) × (shares.configured.parts ≡ 1) }
-    requires amounts { (shares.taken.amount ≡ 0) × (shares.refused.amount ≡ 0) }
-{
-    let mut source = source;
-    receive(
-        rt,
-        alloc,
-        settings,
-        stream,
-        &mut source,
-        buffer,
-        hub,
-        shares,
-    )
-}
-
-/// The receivers' results, once all have ended.
-#[derive(Drop)]
-pub struct Joined<T: Ledger, F: Ledger, G: Ledger> {
-    all: Shares<T, F, G>,
-    receivers: Vec<Counted>,
-    fault: Option<HubFault>,
-    complete: bool,
-}
-
-/// Joins what was started. All are joined, whatever they answered.
-fn join_all<T: Ledger, F: Ledger, G: Ledger, R: Threads>(
-    rt: &R,
-    alloc: Global,
-    started: Started<T, F, G>,
-) -> Joined<T, F, G>
-    requires parts { started.complete ≡ true → (started.left.taken.parts + vec_len started.running ≡ T.parts) × (started.left.refused.parts + vec_len started.running ≡ F.parts) × (started.left.configured.parts + vec_len started.running ≡ G.parts) }
-    requires amounts { started.complete ≡ true → (started.left.taken.amount ≡ 0) × (started.left.refused.amount ≡ 0) }
-    ensures parts { result.complete ≡ true → (result.all.taken.parts ≡ T.parts) × (result.all.refused.parts ≡ F.parts) × (result.all.configured.parts ≡ G.parts) }
-    ensures sums { result.complete ≡ true → (result.all.taken.amount ≡ sum (map (λ c. c.taken) result.receivers.items)) × (result.all.refused.amount ≡ sum (map (λ c. c.refused) result.receivers.items)) }
-{
-    let Started {
-        running,
-        left,
-        complete: started_all,
-    } = started;
-    let mut all = left;
-    let mut receivers = Vec::new(alloc);
-    let mut fault = None;
-    let mut complete = started_all;
-    for handle in running {
-        let Received {
-            shares,
-            taken,
-            refused,
-            fault: cause,
-        } = handle.join(rt);
-        merge(&mut all, shares);
-        if fault.is_none() {
-            fault = cause;
-        }
-        if receivers.push(Counted { taken, refused }).is_err() {
-            complete = false;
-        }
-    }
-    Joined {
-        all,
-        receivers,
-        fault,
-        complete,
-    }
-}
-
-/// Adds the shares to those joined before.
-fn merge<T: Ledger, F: Ledger, G: Ledger>(all: &mut Shares<T, F, G>, more: Shares<T, F, G>)
-    ensures parts { (all.new.taken.parts ≡ all.old.taken.parts + more.taken.parts) × (all.new.refused.parts ≡ all.old.refused.parts + more.refused.parts) × (all.new.configured.parts ≡ all.old.configured.parts + more.configured.parts) }
-    ensures amounts { (all.new.taken.amount ≡ all.old.taken.amount + more.taken.amount) × (all.new.refused.amount ≡ all.old.refused.amount + more.refused.amount) × (all.new.configured.amount ≡ all.old.configured.amount + more.configured.amount) }
-{
-    let Shares {
-        taken,
-        refused,
-        configured,
-    } = more;
-    all.taken.merge(taken);
-    all.refused.merge(refused);
-    all.configured.merge(configured);
 }
 
 /// The first fault in the order receivers, aligner, sender, or the totals.
@@ -257,7 +57,7 @@ fn outcome<
 ) -> Result<Totals, HubFault>
     requires parts { joined.complete ≡ true → (joined.all.taken.parts ≡ T.parts) × (joined.all.refused.parts ≡ F.parts) × (joined.all.configured.parts ≡ G.parts) }
     requires sums { joined.complete ≡ true → (joined.all.taken.amount ≡ sum (map (λ c. c.taken) joined.receivers.items)) × (joined.all.refused.amount ≡ sum (map (λ c. c.refused) joined.receivers.items)) }
-    ensures totals { IfOk result (λ t. (t.taken ≡ sum (map (λ c. c.taken) t.receivers.items)) × (t.refused ≡ sum (map (λ c. c.refused) t.receivers.items))) }
+    ensures totals { IsSummed result }
     ensures ended { OnOk result (ended ≡ Ended.AtEndMark) }
     ensures published { IfOk result (λ totals. aligned ≡ Ok totals.published) }
 {
@@ -303,6 +103,18 @@ pub struct Ran<M: Mark, K> {
     pub outcome: Result<Totals, HubFault>,
 }
 
+/// What a run is given beside its core: the shares, a source with its buffer for each stream, and who publishes, ticks and sends.
+#[derive(Drop)]
+pub struct Crew<T: Ledger, F: Ledger, G: Ledger, P: Ledger, S, M: Mark, I, K> {
+    shares: Shares<T, F, G>,
+    top: Share<P>,
+    inputs: Vec<Input<S>>,
+    publisher: Publisher<M>,
+    ticker: I,
+    pace: Pace,
+    sink: K,
+}
+
 /// Starts the sender and the receivers, aligns, and joins all.
 fn conduct<
     's,
@@ -328,29 +140,28 @@ fn conduct<
     from: &'s Receiver,
     writer: Pass<Message, Log>,
     reader: Pass<Message, Log>,
-    shares: Shares<T, F, G>,
-    top: Share<P>,
-    inputs: Vec<Input<S>>,
-    publisher: Publisher<M>,
-    ticker: I,
-    pace: Pace,
-    sink: K,
+    crew: Crew<T, F, G, P, S, M, I, K>,
 ) -> Ran<M, K>
 where
     C::Settings: Sync + 's,
     requires settings { N.settings ≡ Some settings.now }
-    requires streams { (vec_len inputs ≡ C.Settings.streams settings.now) × (vec_len inputs ≤ 16) }
-    requires parts { (shares.taken.parts ≡ vec_len inputs + 1) × (shares.refused.parts ≡ vec_len inputs + 1) × (shares.configured.parts ≡ vec_len inputs + 1) }
-    requires whole { (shares.taken.parts ≡ T.parts) × (shares.refused.parts ≡ F.parts) × (shares.configured.parts ≡ G.parts) }
-    requires amounts { (shares.taken.amount ≡ 0) × (shares.refused.amount ≡ 0) × (shares.configured.amount ≡ 0) }
-    requires top { (top.parts ≡ P.parts) × (0 < top.parts) × (top.amount ≡ last_in publisher) × (last_in publisher ≤ (M.stored (mark_in publisher)).floor) }
-    requires rate { IsAtRate N.given (output_in publisher).rate }
+    requires can { CanRun crew (C.Settings.streams settings.now) T.parts F.parts G.parts P.parts (M.stored (mark_in crew.publisher)).floor }
+    requires rate { IsAtRate N.given (output_in crew.publisher).rate }
     requires ends { receives_on from.now ≡ sends_on to.now }
     requires writer { IsSeatAt (sends_on to.now) writer × (view writer ≡ log true false false [] []) }
     requires reader { IsSeatAt (receives_on from.now) reader × (view reader ≡ log false true false [] []) }
-    ensures totals { IfOk result.outcome (λ t. (t.taken ≡ sum (map (λ c. c.taken) t.receivers.items)) × (t.refused ≡ sum (map (λ c. c.refused) t.receivers.items))) }
-    ensures sent { HasRun (K.took sink result.sink) (last_in publisher) (M.stored (mark_in result.publisher)).floor result.outcome }
+    ensures totals { IsSummed result.outcome }
+    ensures sent { HasRun (K.took crew.sink result.sink) (last_in crew.publisher) (M.stored (mark_in result.publisher)).floor result.outcome }
 {
+    let Crew {
+        shares,
+        top,
+        inputs,
+        publisher,
+        ticker,
+        pace,
+        sink,
+    } = crew;
     let mut writer = writer;
     let mut publisher = publisher;
     let was = Snapshot::of(&sink);
@@ -471,73 +282,37 @@ fn run_over<
     from: &'x Receiver,
     writer: Pass<Message, Log>,
     reader: Pass<Message, Log>,
-    shares: Shares<T, F, G>,
-    top: Share<P>,
-    inputs: Vec<Input<S>>,
-    publisher: Publisher<M>,
-    ticker: I,
-    pace: Pace,
-    sink: K,
+    crew: Crew<T, F, G, P, S, M, I, K>,
 ) -> Ran<M, K>
 where
     C::Settings: Sync + 'x,
     requires settings { N.settings ≡ Some settings.now }
-    requires streams { (vec_len inputs ≡ C.Settings.streams settings.now) × (vec_len inputs ≤ 16) }
-    requires parts { (shares.taken.parts ≡ vec_len inputs + 1) × (shares.refused.parts ≡ vec_len inputs + 1) × (shares.configured.parts ≡ vec_len inputs + 1) }
-    requires whole { (shares.taken.parts ≡ T.parts) × (shares.refused.parts ≡ F.parts) × (shares.configured.parts ≡ G.parts) }
-    requires amounts { (shares.taken.amount ≡ 0) × (shares.refused.amount ≡ 0) × (shares.configured.amount ≡ 0) }
-    requires top { (top.parts ≡ P.parts) × (0 < top.parts) × (top.amount ≡ last_in publisher) × (last_in publisher ≤ (M.stored (mark_in publisher)).floor) }
-    requires rate { IsAtRate N.given (output_in publisher).rate }
+    requires can { CanRun crew (C.Settings.streams settings.now) T.parts F.parts G.parts P.parts (M.stored (mark_in crew.publisher)).floor }
+    requires rate { IsAtRate N.given (output_in crew.publisher).rate }
     requires ends { receives_on from.now ≡ sends_on to.now }
     requires writer { IsSeatAt (sends_on to.now) writer × (view writer ≡ log true false false [] []) }
     requires reader { IsSeatAt (receives_on from.now) reader × (view reader ≡ log false true false [] []) }
-    ensures totals { IfOk result.outcome (λ t. (t.taken ≡ sum (map (λ c. c.taken) t.receivers.items)) × (t.refused ≡ sum (map (λ c. c.refused) t.receivers.items))) }
-    ensures sent { HasRun (K.took sink result.sink) (last_in publisher) (M.stored (mark_in result.publisher)).floor result.outcome }
+    ensures totals { IsSummed result.outcome }
+    ensures sent { HasRun (K.took crew.sink result.sink) (last_in crew.publisher) (M.stored (mark_in result.publisher)).floor result.outcome }
 {
     thread::scope(
         thread::scope_env(),
         rt,
-        |scope| -> Ran<M, K>
+        move |scope| -> Ran<M, K>
             requires settings { N.settings ≡ Some settings.now }
-            requires streams { (vec_len inputs ≡ C.Settings.streams settings.now) × (vec_len inputs ≤ 16) }
-            requires parts { (shares.taken.parts ≡ vec_len inputs + 1) × (shares.refused.parts ≡ vec_len inputs + 1) × (shares.configured.parts ≡ vec_len inputs + 1) }
-            requires whole { (shares.taken.parts ≡ T.parts) × (shares.refused.parts ≡ F.parts) × (shares.configured.parts ≡ G.parts) }
-            requires amounts { (shares.taken.amount ≡ 0) × (shares.refused.amount ≡ 0) × (shares.configured.amount ≡ 0) }
-            requires top { (top.parts ≡ P.parts) × (0 < top.parts) × (top.amount ≡ last_in publisher) × (last_in publisher ≤ (M.stored (mark_in publisher)).floor) }
-            requires rate { IsAtRate N.given (output_in publisher).rate }
+            requires can { CanRun crew (C.Settings.streams settings.now) T.parts F.parts G.parts P.parts (M.stored (mark_in crew.publisher)).floor }
+            requires rate { IsAtRate N.given (output_in crew.publisher).rate }
             requires ends { receives_on from.now ≡ sends_on to.now }
             requires writer { IsSeatAt (sends_on to.now) writer × (view writer ≡ log true false false [] []) }
             requires reader { IsSeatAt (receives_on from.now) reader × (view reader ≡ log false true false [] []) }
-            ensures totals { IfOk result.outcome (λ t. (t.taken ≡ sum (map (λ c. c.taken) t.receivers.items)) × (t.refused ≡ sum (map (λ c. c.refused) t.receivers.items))) }
-            ensures sent { HasRun (K.took sink result.sink) (last_in publisher) (M.stored (mark_in result.publisher)).floor result.outcome }
+            ensures totals { IsSummed result.outcome }
+            ensures sent { HasRun (K.took crew.sink result.sink) (last_in crew.publisher) (M.stored (mark_in result.publisher)).floor result.outcome }
         {
             conduct(
-                scope, rt, alloc, hub, settings, to, from, writer, reader, shares, top, inputs,
-                publisher, ticker, pace, sink,
+                scope, rt, alloc, hub, settings, to, from, writer, reader, crew,
             )
         },
     )
-}
-
-/// A buffer for a datagram.
-fn buffer(alloc: Global) -> Result<Vec<u8>, AllocError> {
-    Ok(vec![in alloc; 0u8; MAX_SIZE]?)
-}
-
-/// The sources, each with a buffer.
-fn buffered<S: Source + Drop>(alloc: Global, sources: Vec<S>) -> Option<Vec<Input<S>>>
-    ensures { IfSome result (λ inputs. vec_len inputs ≡ vec_len sources) }
-{
-    let mut inputs = Vec::new(alloc);
-    for source in sources {
-        let Ok(buffer) = buffer(alloc) else {
-            return None;
-        };
-        if inputs.push(Input { source, buffer }).is_err() {
-            return None;
-        }
-    }
-    Some(inputs)
 }
 
 /// As `run`, of sources that have their buffers.
@@ -558,30 +333,20 @@ fn run_buffered<
     alloc: Global,
     hub: &Hub<C, N, T, F, G, P>,
     settings: &C::Settings,
-    shares: Shares<T, F, G>,
-    top: Share<P>,
-    inputs: Vec<Input<S>>,
-    publisher: Publisher<M>,
-    ticker: I,
-    pace: Pace,
-    sink: K,
+    crew: Crew<T, F, G, P, S, M, I, K>,
 ) -> Ran<M, K>
 where
     C::Settings: Sync,
     requires settings { N.settings ≡ Some settings.now }
-    requires streams { (vec_len inputs ≡ C.Settings.streams settings.now) × (vec_len inputs ≤ 16) }
-    requires parts { (shares.taken.parts ≡ vec_len inputs + 1) × (shares.refused.parts ≡ vec_len inputs + 1) × (shares.configured.parts ≡ vec_len inputs + 1) }
-    requires whole { (shares.taken.parts ≡ T.parts) × (shares.refused.parts ≡ F.parts) × (shares.configured.parts ≡ G.parts) }
-    requires amounts { (shares.taken.amount ≡ 0) × (shares.refused.amount ≡ 0) × (shares.configured.amount ≡ 0) }
-    requires top { (top.parts ≡ P.parts) × (0 < top.parts) × (top.amount ≡ last_in publisher) × (last_in publisher ≤ (M.stored (mark_in publisher)).floor) }
-    requires rate { IsAtRate N.given (output_in publisher).rate }
-    ensures totals { IfOk result.outcome (λ t. (t.taken ≡ sum (map (λ c. c.taken) t.receivers.items)) × (t.refused ≡ sum (map (λ c. c.refused) t.receivers.items))) }
-    ensures sent { HasRun (K.took sink result.sink) (last_in publisher) (M.stored (mark_in result.publisher)).floor result.outcome }
+    requires can { CanRun crew (C.Settings.streams settings.now) T.parts F.parts G.parts P.parts (M.stored (mark_in crew.publisher)).floor }
+    requires rate { IsAtRate N.given (output_in crew.publisher).rate }
+    ensures totals { IsSummed result.outcome }
+    ensures sent { HasRun (K.took crew.sink result.sink) (last_in crew.publisher) (M.stored (mark_in result.publisher)).floor result.outcome }
 {
     let Ok(ends) = channel(alloc) else {
         return Ran {
-            publisher,
-            sink,
+            publisher: crew.publisher,
+            sink: crew.sink,
             outcome: Err(HubFault::NoMemory),
         };
     };
@@ -591,10 +356,7 @@ where
         writer,
         reader,
     } = ends;
-    run_over(
-        rt, alloc, hub, settings, &to, &from, writer, reader, shares, top, inputs, publisher,
-        ticker, pace, sink,
-    )
+    run_over(rt, alloc, hub, settings, &to, &from, writer, reader, crew)
 }
 
 /// Runs a receiver for each source, the aligner and the sender, each in a thread of its own but the aligner, and joins them. The publisher
@@ -654,7 +416,14 @@ where
             outcome: Err(HubFault::NoMemory),
         };
     };
-    run_buffered(
-        rt, alloc, hub, settings, shares, top, inputs, publisher, ticker, pace, sink,
-    )
+    let crew = Crew {
+        shares,
+        top,
+        inputs,
+        publisher,
+        ticker,
+        pace,
+        sink,
+    };
+    run_buffered(rt, alloc, hub, settings, crew)
 }

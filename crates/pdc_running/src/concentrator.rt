@@ -1,7 +1,7 @@
 //! Runs of a node and of the merger.
 ghost use Rattle.std.specs.Prelude.{◌≡◌, ◌≤◌, ◌<◌, ◌+◌, ℕ, IfOk, List, Some, [], length, map, sum, vec_len};
 ghost use Rattle.pdc_hub.specs.Rate.{IsAtRate};
-ghost use Rattle.pdc_hub.specs.Run.{HasRun};
+ghost use Rattle.pdc_hub.specs.Run.{HasRun, IsSummed};
 ghost use Rattle.pdc_life.specs.Given.{Given};
 ghost use Rattle.pdc_publisher.specs.Publisher.{last_in, mark_in, output_in};
 ghost use Rattle.pdc_running.specs.Begun.{begun_mark};
@@ -14,6 +14,7 @@ use pdc_life::{MAX_PMUS, MergerSettings, Settings};
 use pdc_mark::Mark;
 use pdc_merge::Merger;
 use pdc_node::Node;
+use pdc_output::Output;
 use pdc_publisher::Publisher;
 use pdc_station::{Opens, copy_of, copy_of_merger};
 use pdc_table::RingTable;
@@ -63,7 +64,7 @@ where
     requires streams { (vec_len sources ≡ C.Settings.streams settings.now) × (vec_len sources ≤ MAX_PMUS) }
     requires floor { last_in publisher ≡ (M.stored (mark_in publisher)).floor }
     requires rate { IsAtRate N.given (output_in publisher).rate }
-    ensures totals { IfOk result.outcome (λ t. (t.taken ≡ sum (map (λ c. c.taken) t.receivers.items)) × (t.refused ≡ sum (map (λ c. c.refused) t.receivers.items))) }
+    ensures totals { IsSummed result.outcome }
     ensures sent { HasRun (K.took sink result.sink) (last_in publisher) (M.stored (mark_in result.publisher)).floor result.outcome }
 {
     let floor = publisher.last();
@@ -88,8 +89,21 @@ fn blanks(parts: u64) -> Blanks
     }
 }
 
-/// Runs a core at the start of its life.
-fn run_core<
+/// Nothing was run, for want of memory.
+fn not_run<M: Mark, K: Sink>(publisher: Publisher<M>, sink: K) -> Ran<M, K>
+    requires floor { last_in publisher ≡ (M.stored (mark_in publisher)).floor }
+    ensures totals { IsSummed result.outcome }
+    ensures sent { HasRun (K.took sink result.sink) (last_in publisher) (M.stored (mark_in result.publisher)).floor result.outcome }
+{
+    Ran {
+        publisher,
+        sink,
+        outcome: Err(HubFault::NoMemory),
+    }
+}
+
+/// Runs a core whose life begins with what the mark stores. The copy of the settings goes into the core.
+fn run_begun<
     C: Opens + Send,
     S: Source + Send + Drop,
     M: Mark + Drop,
@@ -100,48 +114,38 @@ fn run_core<
     rt: &R,
     alloc: Global,
     settings: &C::Settings,
-    core: C,
-    start: u32,
-    counts: &[u16; MAX_PMUS],
+    copy: C::Settings,
+    output: Output,
     plan: &Plan,
+    mark: Begun<M>,
     sources: Vec<S>,
-    publisher: Publisher<M>,
-    rate: u16,
     ticker: I,
     sink: K,
 ) -> Ran<M, K>
 where
     C::Settings: Sync,
-    requires stands { C.stands_for core (C.given_with settings.now start (last_in publisher) counts.now) [] }
-    requires settings { C.settings_of core ≡ settings.now }
+    requires copy { copy ≡ settings.now }
+    requires output { (start floor : ℕ) (counts : List ℕ) → (C.given_with settings.now start floor counts).output ≡ output }
     requires streams { (vec_len sources ≡ C.Settings.streams settings.now) × (vec_len sources ≤ MAX_PMUS) }
-    requires floor { last_in publisher ≡ (M.stored (mark_in publisher)).floor }
-    requires rate { (1 ≤ rate) × ((output_in publisher).rate ≡ rate) × ((C.given_with settings.now start (last_in publisher) counts.now).output.rate ≡ rate) }
-    ensures totals { IfOk result.outcome (λ t. (t.taken ≡ sum (map (λ c. c.taken) t.receivers.items)) × (t.refused ≡ sum (map (λ c. c.refused) t.receivers.items))) }
-    ensures sent { HasRun (K.took sink result.sink) (last_in publisher) (M.stored (mark_in result.publisher)).floor result.outcome }
+    ensures totals { IsSummed result.outcome }
+    ensures sent { HasRun (K.took sink result.sink) (M.stored (begun_mark mark)).floor (M.stored (mark_in result.publisher)).floor result.outcome }
 {
+    let mark = mark.into_mark();
+    let (start, floor) = mark.stored();
+    let counts = mark.counts();
+    let publisher = Publisher::new(mark, output, plan.lead);
+    let Ok(core) = C::open_first(alloc, copy, start, floor, &counts) else {
+        return not_run(publisher, sink);
+    };
     let pace = Pace {
-        rate,
+        rate: output.rate,
         layout_every: plan.layout_every,
     };
     let blanks = blanks(sources.len() as u64 + 1);
     opened::<C, Brand, Brand, Brand, Brand, Brand, S, M, I, K, R>(
-        rt, alloc, settings, core, start, counts, plan.limit, pace, blanks, sources, publisher,
+        rt, alloc, settings, core, start, &counts, plan.limit, pace, blanks, sources, publisher,
         ticker, sink,
     )
-}
-
-/// Nothing was run, for want of memory.
-fn not_run<M: Mark, K: Sink>(publisher: Publisher<M>, sink: K) -> Ran<M, K>
-    requires floor { last_in publisher ≡ (M.stored (mark_in publisher)).floor }
-    ensures totals { IfOk result.outcome (λ t. (t.taken ≡ sum (map (λ c. c.taken) t.receivers.items)) × (t.refused ≡ sum (map (λ c. c.refused) t.receivers.items))) }
-    ensures sent { HasRun (K.took sink result.sink) (last_in publisher) (M.stored (mark_in result.publisher)).floor result.outcome }
-{
-    Ran {
-        publisher,
-        sink,
-        outcome: Err(HubFault::NoMemory),
-    }
 }
 
 /// Runs a node: a receiver for each PMU, in the order of the settings, the aligner and the sender. Its life begins with what the mark
@@ -174,25 +178,15 @@ pub fn run_node<
     // one that is stored then; all of them where the run was Ok, and then so many rows were published.
     ensures sent { HasRun (K.took sink result.sink) (M.stored (begun_mark mark)).floor (M.stored (mark_in result.publisher)).floor result.outcome }
 {
-    let mark = mark.into_mark();
-    let (start, floor) = mark.stored();
-    let counts = mark.counts();
-    let publisher = Publisher::new(mark, settings.output, plan.lead);
-    let node = match Node::<RingTable>::open(alloc, copy_of(settings), start, floor, &counts, 0) {
-        Ok(node) => node,
-        Err(_) => return not_run(publisher, sink),
-    };
-    run_core(
+    run_begun::<Node<RingTable>, S, M, I, K, R>(
         rt,
         alloc,
         settings,
-        node,
-        start,
-        &counts,
+        copy_of(settings),
+        settings.output,
         plan,
+        mark,
         sources,
-        publisher,
-        settings.output.rate,
         ticker,
         sink,
     )
@@ -224,32 +218,15 @@ pub fn run_merger<
     ensures totals { IfOk result.outcome (λ t. (t.taken ≡ sum (map (λ c. c.taken) t.receivers.items)) × (t.refused ≡ sum (map (λ c. c.refused) t.receivers.items))) }
     ensures sent { HasRun (K.took sink result.sink) (M.stored (begun_mark mark)).floor (M.stored (mark_in result.publisher)).floor result.outcome }
 {
-    let mark = mark.into_mark();
-    let (start, floor) = mark.stored();
-    let counts = mark.counts();
-    let publisher = Publisher::new(mark, settings.output, plan.lead);
-    let merger = match Merger::<RingTable>::open(
-        alloc,
-        copy_of_merger(settings),
-        start,
-        floor,
-        &counts,
-        0,
-    ) {
-        Ok(merger) => merger,
-        Err(_) => return not_run(publisher, sink),
-    };
-    run_core(
+    run_begun::<Merger<RingTable>, S, M, I, K, R>(
         rt,
         alloc,
         settings,
-        merger,
-        start,
-        &counts,
+        copy_of_merger(settings),
+        settings.output,
         plan,
+        mark,
         sources,
-        publisher,
-        settings.output.rate,
         ticker,
         sink,
     )

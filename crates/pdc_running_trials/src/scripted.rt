@@ -4,10 +4,12 @@ ghost use Rattle.std.specs.Prelude.{◌≡◌, ◌≤◌, ℕ, length};
 use pdc_cfg::read_config;
 use pdc_core::Core;
 use pdc_frame::read_frame;
-use pdc_hub::{Hub, Naming, Next, Source, Ticker};
+use pdc_hub::{Hub, Naming, Next, Source, Ticker, Told};
 use std::alloc::Global;
 use std::sync::Wait;
+use std::sync::atomic::{AtomicBool, AtomicU64, Ordering};
 use std::sync::ledger::Ledger;
+use std::thread;
 
 /// How often a source or a ticker looks before it gives up.
 const TURNS: u32 = 10_000_000;
@@ -17,10 +19,41 @@ const TURNS: u32 = 10_000_000;
 pub enum Act<'a> {
     /// It gives this datagram, in hexadecimal.
     Give(&'a str),
+    /// It raises its own flag, waits for the other source's, and gives this datagram, in hexadecimal.
+    Meet(&'a str),
     /// It is idle until the layout has so many sections.
     AwaitLayout(usize),
     /// Its device fails.
     Fail,
+}
+
+/// What sources and ticker of a run show: the flag of each of two sources, and what the ticker was told last.
+#[derive(Drop)]
+pub struct Shown {
+    first: AtomicBool,
+    second: AtomicBool,
+    pub published: AtomicU64,
+    pub last: AtomicU64,
+}
+
+impl Shown {
+    /// No flag is raised, and nothing was told.
+    pub fn new() -> Shown {
+        Shown {
+            first: AtomicBool::new(false),
+            second: AtomicBool::new(false),
+            published: AtomicU64::new(0),
+            last: AtomicU64::new(0),
+        }
+    }
+
+    /// Raises the caller's flag, and waits for the other's. Whether it was raised before too many turns.
+    fn meet(&self, is_second: bool) -> bool {
+        if is_second {
+            return raise_and_wait(&self.second, &self.first);
+        }
+        raise_and_wait(&self.first, &self.second)
+    }
 }
 
 /// A source that does one thing after the other, and then ends.
@@ -39,6 +72,8 @@ pub struct Scripted<
     pub rt: &'r R,
     pub alloc: Global,
     pub hub: &'h Hub<C, N, T, F, G, P>,
+    shown: &'r Shown,
+    is_second: bool,
     acts: &'r [Act<'r>],
     pub done: usize,
     pub turns: u32,
@@ -67,17 +102,21 @@ impl<
     P: Ledger,
     R: Wait,
 > Scripted<'h, 'r, C, N, T, F, G, P, R> {
-    /// A source that has done none of these things yet.
+    /// A source that has done none of these things yet, with what both show; it is the first source or the second one.
     pub fn new(
         rt: &'r R,
         alloc: Global,
         hub: &'h Hub<C, N, T, F, G, P>,
+        shown: &'r Shown,
+        is_second: bool,
         acts: &'r [Act<'r>],
     ) -> Self {
         Scripted {
             rt,
             alloc,
             hub,
+            shown,
+            is_second,
             acts,
             done: 0,
             turns: 0,
@@ -121,6 +160,18 @@ fn give(text: &str, buffer: &mut [u8]) -> Next
     Next::Datagram(len)
 }
 
+/// Raises the one flag, and waits for the other. Whether it was raised before too many turns.
+fn raise_and_wait(mine: &AtomicBool, theirs: &AtomicBool) -> bool {
+    mine.store(true, Ordering::SeqCst);
+    for _ in 0..TURNS {
+        if theirs.load(Ordering::SeqCst) {
+            return true;
+        }
+        thread::yield_now();
+    }
+    false
+}
+
 impl<
     'h,
     'r,
@@ -138,6 +189,13 @@ impl<
         match self.acts.get(self.done).copied() {
             Some(Act::Give(text)) => {
                 self.done = self.done.saturating_add(1);
+                give(text, buffer)
+            }
+            Some(Act::Meet(text)) => {
+                self.done = self.done.saturating_add(1);
+                if !self.shown.meet(self.is_second) {
+                    return Next::Stuck;
+                }
                 give(text, buffer)
             }
             Some(Act::AwaitLayout(sections)) => {
@@ -177,6 +235,7 @@ pub struct Following<
     pub first: u64,
     pub taken: u64,
     pub given: u64,
+    pub shown: &'r Shown,
 }
 
 impl<
@@ -208,5 +267,14 @@ impl<
             }
         }
         None
+    }
+
+    fn wants_counts(&self) -> bool {
+        true
+    }
+
+    fn tell(&mut self, told: &Told) {
+        self.shown.published.store(told.published, Ordering::SeqCst);
+        self.shown.last.store(told.last, Ordering::SeqCst);
     }
 }

@@ -8,7 +8,7 @@ use Rattle.pdc_hub.proofs.runs.conduct.Goals as goal
 pub returns-clause-sent : goal.returns-clause-sent
 returns-clause-sent g c =
     let put = (view c.align_or_close-aligned.new.writer).put in
-    let t = c.settle-sink-2.ensures.handed c.args.sink (search (rules, c.join-sent.ensures.2)) in
+    let t = c.settle-sink-2.ensures.handed c.args.crew.sink (search (rules, c.join-sent.ensures.2)) in
     record {
       put = put;
       given = t.given;
@@ -23,7 +23,7 @@ returns-clause-sent g c =
 pub returns-in-Err-clause-sent : goal.returns-in-Err-clause-sent
 returns-in-Err-clause-sent g c =
     let put = (view c.close-closed.new.pass).put in
-    let same : c.in-Err.refused.value.3 ≡ c.args.sink = search (rules, c.in-Err.ensures.err) in
+    let same : c.in-Err.refused.value.3 ≡ c.args.crew.sink = search (rules, c.in-Err.ensures.err) in
     let t = c.settle-sink.ensures.handed c.in-Err.refused.value.3 c.spawn_with-sent.ensures.2 in
     let none : instants_of put ≡ [] = ended_alone (view c.args.writer).put put c.close-closed.result (ap (λ v. v.put) c.requires.writer.1) c.close-closed.ensures.put c.close-closed.ensures.not in
     record {
@@ -32,7 +32,7 @@ returns-in-Err-clause-sent g c =
       rest = t.rest;
       took = subst (λ k. g.K.Sink.took k c.settle-sink.result.0 t.given) same t.took;
       first = t.first;
-      rising = subst (λ (ns : List ℕ). Rises (last_in c.args.publisher) ns (g.M.Mark.stored (mark_in c.args.publisher)).floor) (sym none) c.requires.top.3;
+      rising = subst (λ (ns : List ℕ). Rises (last_in c.args.crew.publisher) ns (g.M.Mark.stored (mark_in c.args.crew.publisher)).floor) (sym none) c.requires.can.14;
       whole = tt;
       published = tt;
     }

@@ -1,6 +1,6 @@
 use Rattle.std.proofs.Common.{◌≡◌, ◌+◌, true, sum, map}
 use Rattle.std.specs.Vec.Iter.{into_iter_len}
-use Rattle.pdc_hub.proofs.runs.join_all.Given as goal
+use Rattle.pdc_hub.proofs.receivers.join_all.Given as goal
 
 abbrev pub invariant-loop-handle : goal.invariant-loop-handle
 invariant-loop-handle g l =

@@ -1,6 +1,6 @@
 use Rattle.std.proofs.Common.{Some}
 use Rattle.pdc_publisher.specs.Publisher.{last_in}
-use Rattle.pdc_running.proofs.concentrator.run_core.Given as goal
+use Rattle.pdc_running.proofs.concentrator.run_begun.Given as goal
 
 abbrev pub ghosts-opened-N-Naming : goal.ghosts-opened-N-Naming
 ghosts-opened-N-Naming g a = record {

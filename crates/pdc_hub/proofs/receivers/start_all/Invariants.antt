@@ -1,6 +1,6 @@
 use Rattle.std.proofs.Common.{◌≡◌, ◌+◌, true, length}
 use Rattle.std.specs.Vec.Iter.{into_iter_len}
-use Rattle.pdc_hub.proofs.runs.start_all.Given as goal
+use Rattle.pdc_hub.proofs.receivers.start_all.Given as goal
 
 abbrev pub invariant-loop-input : goal.invariant-loop-input
 invariant-loop-input g l =
