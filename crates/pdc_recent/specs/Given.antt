@@ -2,8 +2,8 @@
 use Rattle.std.specs.Prelude.{◌≡◌, refl, ℕ, List, [], ◌∷◌, ◌++◌}
 use Rattle.pdc_session.specs.Recent.{AreAbove, AreRising, Kept, bytes_of, greatest_of}
 
--- Behind the bytes that there were stand these frames, each as it was pushed: their instants strictly rise and lie above the one that was
--- asked for. The answer is the greatest of them, and that one where there is none.
+-- Behind the bytes that there were stand the bytes of some frames: their instants strictly rise and lie above the one that was asked for.
+-- The answer is the greatest of them, and that one where there is none. Which bytes a frame of an instant has is not spoken of.
 pub record IsGiven (instant : ℕ) (before : List ℕ) (answer : ℕ) (grown : List ℕ) : Type 0 where
   pub frames : List Kept
   pub appended : grown ≡ before ++ bytes_of frames

@@ -5,7 +5,7 @@
 //! the other.
 //!
 //! To the layers above this crate promises that in each turn a consumer gets the replies to the commands in what it sent, in order, and
-//! then, while data is on, frames whose instants strictly rise above all that it got before.
+//! then, while data is on, what `pdc_recent` gives above all that it got before.
 #![tactic(auto)]
 
 mod consumer;
