@@ -4,6 +4,7 @@ ghost use Rattle.pdc_cfg.specs.Shape.{word_count_of};
 ghost use Rattle.pdc_block.specs.Block.{IsBody, body_len_of, words_in};
 
 use crate::fault::BodyFault;
+use crate::in_place::read_into;
 use pdc_cfg::Shape;
 use pdc_frame::{read_word, words_are_their_bytes};
 
@@ -46,5 +47,14 @@ impl<'a> Body<'a> {
         ensures { result ≡ slice_index (words_in self.now.bytes.now) place }
     {
         read_word(self.bytes, 2 * place)
+    }
+
+    /// Writes the words, in wire order, over these.
+    #[inline]
+    pub fn write_words(&self, words: &mut [u16])
+        requires { length words.old ≡ word_count_of self.now.shape }
+        ensures { words.new ≡ words_in self.now.bytes.now }
+    {
+        read_into(words, self.bytes);
     }
 }

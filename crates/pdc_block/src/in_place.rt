@@ -56,7 +56,7 @@ pub fn new_words(count: usize, bytes: &[u8]) -> ArrayVec<u16, MAX_WORDS>
 }
 
 /// Writes the words that the bytes write over these.
-fn read_into(words: &mut [u16], bytes: &[u8])
+pub fn read_into(words: &mut [u16], bytes: &[u8])
     requires { length bytes.now ≡ 2 * length words.old }
     ensures { words.new ≡ words_in bytes.now }
 {

@@ -3,7 +3,8 @@ use Rattle.std.specs.Prelude.{ℕ, ◌==◌, Bool, ◌&&◌, not, List, nat_eq}
 use Rattle.std.specs.Cmp.Lexicographic.{pointwise}
 use Rattle.pdc_cfg.specs.declared.shape.Shape.{Shape}
 use Rattle.pdc_block.specs.declared.block.Block.{Block}
-use Rattle.pdc_block.specs.Block.{words_of}
+use Rattle.pdc_block.specs.declared.body.Body.{Body}
+use Rattle.pdc_block.specs.Block.{words_in, words_of}
 use Rattle.pdc_stat.specs.AbsentBlock.{absent_of}
 
 -- a block: its shape, and its words in wire order
@@ -18,6 +19,10 @@ pub record CellView : Type 0 where
 
 abbrev pub block_view : Block → BlockView
 block_view b = record { shape = b.shape; words = words_of b }
+
+-- a block that is lent from a payload: the words that its bytes write
+abbrev pub body_view : Body → BlockView
+body_view b = record { shape = b.shape; words = words_in b.bytes.now }
 
 -- the absent block of a shape
 abbrev pub absent_view : Shape → BlockView

@@ -2,7 +2,8 @@
 ghost use Rattle.std.specs.Prelude.{◌≡◌, ◌%◌, length};
 ghost use Rattle.pdc_cfg.specs.Shape.{word_count_of};
 
-use crate::is_present;
+use crate::Offered;
+use crate::present::are_present;
 use pdc_block::Block;
 use pdc_cfg::{MAX_WORDS, Shape};
 use std::marker::Model;
@@ -36,7 +37,7 @@ impl Model for Cell {
 }
 
 impl Cell {
-    ghost use Rattle.pdc_row.specs.CellView.{cell_view, is_present, same_block, block_view};
+    ghost use Rattle.pdc_row.specs.CellView.{is_present, same_block, block_view};
 
     /// Some cell of quality 0, to be set.
     pub fn blank() -> Cell
@@ -55,14 +56,15 @@ impl Cell {
     }
 
     /// Makes this the block, copied, and the time quality byte of its frame.
-    pub fn set(&mut self, block: &Block, quality: u8)
-        ensures { self.new ≡ cell_view block.now quality }
+    pub fn set<B: Offered>(&mut self, block: &B, quality: u8)
+        ensures { self.new ≡ record { block = B.view block.now; quality = quality } }
     {
-        let words = block.words();
-        self.shape = block.shape;
+        let shape = block.shape();
+        self.shape = shape;
         self.quality = quality;
-        self.has_data = is_present(block);
-        self.words[..words.len()].copy_from_slice(words);
+        let words = &mut self.words[..shape.word_count()];
+        block.write_words(words);
+        self.has_data = are_present(shape, words);
     }
 
     /// The words, in wire order.
@@ -95,10 +97,10 @@ impl Cell {
     }
 
     /// Whether the block has this shape and these words.
-    pub fn holds(&self, block: &Block) -> bool
-        ensures { result ≡ same_block self.now.block (block_view block.now) }
+    pub fn holds<B: Offered>(&self, block: &B) -> bool
+        ensures { result ≡ same_block self.now.block (B.view block.now) }
     {
-        self.shape == block.shape && self.words() == block.words()
+        self.shape == block.shape() && block.has_words(self.words())
     }
 
     /// Whether both hold the same block.

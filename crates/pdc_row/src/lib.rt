@@ -9,9 +9,11 @@
 mod cell;
 mod due_row;
 mod laws;
+mod offered;
 mod present;
 
 pub use cell::Cell;
 pub use due_row::DueRow;
 pub use laws::numbers_rise;
+pub use offered::Offered;
 pub use present::is_present;

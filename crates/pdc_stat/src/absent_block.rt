@@ -2,6 +2,7 @@
 ghost use Rattle.std.specs.Prelude.{◌≡◌, ◌↔◌, ◌<◌, ◌≤◌, ◌+◌, ◌++◌, length, replicate, IsTrue};
 ghost use Rattle.arrayvec.specs.ArrayVec.{array_vec_len};
 ghost use Rattle.pdc_block.specs.Block.{words_of};
+ghost use Rattle.pdc_cfg.specs.Shape.{word_count_of};
 ghost use Rattle.pdc_stat.specs.AbsentBlock.{absent_of, IsAbsent};
 
 use arrayvec::ArrayVec;
@@ -34,11 +35,18 @@ pub fn absent(shape: Shape) -> Block
 pub fn is_absent(block: &Block) -> bool
     ensures { IsTrue result ↔ IsAbsent block.now }
 {
-    let words = block.words();
+    are_absent(block.shape, block.words())
+}
+
+/// Whether these are the words of `absent` of the shape, wherever they lie.
+pub fn are_absent(shape: Shape, words: &[u16]) -> bool
+    requires { length words.now ≡ word_count_of shape }
+    ensures { IsTrue result ↔ (words.now ≡ absent_of shape) }
+{
     if words[0] != ABSENT_STAT {
         return false;
     }
-    let values = words.len() - usize::from(block.shape.digitals);
+    let values = words.len() - usize::from(shape.digitals);
     are_all(&words[1..values], NO_VALUE) && are_all(&words[values..], 0)
 }
 

@@ -7,5 +7,5 @@
 mod absent_block;
 mod stat;
 
-pub use absent_block::{ABSENT_STAT, NO_VALUE, absent, is_absent, set_absent};
+pub use absent_block::{ABSENT_STAT, NO_VALUE, absent, are_absent, is_absent, set_absent};
 pub use stat::{ErrorClass, Stat};

@@ -2,10 +2,9 @@
 use Rattle.std.proofs.Common.{◌≡◌, ℕ, ◌<◌, ◌≤◌, Bool, true, false, cond, eqb, List, [], ◌∷◌, length, get_or, replicate, map, None, take, ap, refl, ◌∙◌, arith, zero, suc}
 use Rattle.std.proofs.lemmas.List.{take-replicate}
 use Rattle.std.specs.List.{All}
-use Rattle.pdc_block.specs.declared.block.Block.{Block}
-use Rattle.pdc_row.specs.CellView.{CellView, cell_view}
+use Rattle.pdc_row.specs.CellView.{BlockView, CellView}
 use Rattle.pdc_table.specs.Content.{stream_count}
-use Rattle.pdc_table.specs.Taking.{cells_of, with_cell}
+use Rattle.pdc_table.specs.Taking.{cells_in, with_cell}
 use Rattle.pdc_table.specs.Views.{ColumnView, empty_column}
 
 all_same : {A : Type 0} → (xs : List A) (n : ℕ) (a : A) → length xs ≡ n → ((i : ℕ) (d : A) → i < n → get_or xs i d ≡ a) → xs ≡ replicate n a
@@ -25,10 +24,10 @@ pub front_same : {A : Type 0} → (xs : List A) (k n : ℕ) (a : A) → length x
 front_same xs k n a e h l = ap (take k) (all_same xs n a e h) ∙ take-replicate k n a l
 
 -- the columns of a frame's blocks are those of the cells that they make
-pub columns_exist : (columns quality : ℕ) (blocks : List (ℕ × Block)) → All (λ (cell : ℕ × CellView). cell.0 < columns) (cells_of blocks quality) → All (λ (cell : ℕ × Block). cell.0 < columns) blocks
-columns_exist columns quality [] h k d l = absurd (omega arith)
-columns_exist columns quality (b ∷ bs) h zero d l = h zero (d.0, cell_view d.1 quality) (omega arith)
-columns_exist columns quality (b ∷ bs) h (suc k) d l = columns_exist columns quality bs (λ j e m. h (suc j) e (omega arith)) k d (omega arith)
+pub columns_exist : {B : Type 0} → (view : B → BlockView) (columns quality : ℕ) (blocks : List (ℕ × B)) → All (λ (cell : ℕ × CellView). cell.0 < columns) (cells_in view blocks quality) → All (λ (cell : ℕ × B). cell.0 < columns) blocks
+columns_exist view columns quality [] h k d l = absurd (omega arith)
+columns_exist view columns quality (b ∷ bs) h zero d l = h zero (d.0, record { block = view d.1; quality = quality }) (omega arith)
+columns_exist view columns quality (b ∷ bs) h (suc k) d l = columns_exist view columns quality bs (λ j e m. h (suc j) e (omega arith)) k d (omega arith)
 
 -- a column whose lanes were both emptied is empty
 pub emptied : (columns : List ColumnView) → map (with_cell 1 None) (map (with_cell 0 None) columns) ≡ replicate (length columns) empty_column

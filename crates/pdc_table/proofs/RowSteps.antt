@@ -5,11 +5,11 @@ use Rattle.std.specs.List.{refill}
 use Rattle.std.proofs.lemmas.List.{drop_all, get_or_past, take_all}
 use Rattle.pdc_block.specs.declared.block.Block.{Block}
 use Rattle.pdc_cfg.specs.declared.shape.Shape.{Shape}
-use Rattle.pdc_row.specs.CellView.{BlockView, block_view, cell_view}
+use Rattle.pdc_row.specs.CellView.{BlockView, block_view}
 use Rattle.pdc_table.specs.Row.{blocks_at, blocks_of, qualities_at, qualities_of}
 use Rattle.pdc_table.specs.Closing.{all_taken}
 use Rattle.pdc_table.specs.Steps.{disagreement_at, disagreements_of}
-use Rattle.pdc_table.specs.Taking.{cell_in, cells_of, conflicts, holds_other, with_cell, with_cells}
+use Rattle.pdc_table.specs.Taking.{cell_in, cells_in, conflicts, holds_other, with_cell, with_cells}
 use Rattle.pdc_table.specs.Views.{ColumnView, empty_column}
 
 pub blocks_step : (os : List (Option Shape)) (cs : List ColumnView) (i : ℕ) → i < length os → blocks_of (drop i os) (drop i cs) ≡ blocks_at (get_or os i None) (get_or cs i empty_column) ++ blocks_of (drop (i + 1) os) (drop (i + 1) cs)
@@ -61,11 +61,11 @@ disagreements_step os cs i h = elim (cases_lt i (length cs)) [
   | inr k ↦ rw (drop_all i cs k, drop_all (i + 1) cs (omega arith), get_or_past cs i empty_column k, no_disagreements (drop i os), no_disagreements (drop (i + 1) os), no_disagreement (get_or os i None)) refl
 ]
 
-pub cells_step : (lane quality : ℕ) (blocks : List (ℕ × Block)) (columns : List ColumnView) (i : ℕ) (part : ℕ × Block) → i < length blocks → part ≡ get_or blocks i part → with_cells lane (cells_of (drop i blocks) quality) columns ≡ with_cells lane (cells_of (drop (i + 1) blocks) quality) (set columns part.0 (with_cell lane (Some (cell_view part.1 quality)) (get_or columns part.0 empty_column)))
-cells_step lane quality blocks columns i part h e = rw (add-one, drop-cons blocks i part, ← e) refl
+pub cells_step : {B : Type 0} → (view : B → BlockView) (lane quality : ℕ) (blocks : List (ℕ × B)) (columns : List ColumnView) (i : ℕ) (part : ℕ × B) → i < length blocks → part ≡ get_or blocks i part → with_cells lane (cells_in view (drop i blocks) quality) columns ≡ with_cells lane (cells_in view (drop (i + 1) blocks) quality) (set columns part.0 (with_cell lane (Some (record { block = view part.1; quality = quality })) (get_or columns part.0 empty_column)))
+cells_step view lane quality blocks columns i part h e = rw (add-one, drop-cons blocks i part, ← e) refl
 
-pub conflicts_step : (lane quality : ℕ) (blocks : List (ℕ × Block)) (columns : List ColumnView) (i : ℕ) (part : ℕ × Block) → i < length blocks → part ≡ get_or blocks i part → conflicts lane (cells_of (drop i blocks) quality) columns ≡ holds_other (cell_in lane (get_or columns part.0 empty_column)) (block_view part.1) || conflicts lane (cells_of (drop (i + 1) blocks) quality) columns
-conflicts_step lane quality blocks columns i part h e = rw (add-one, drop-cons blocks i part, ← e) refl
+pub conflicts_step : {B : Type 0} → (view : B → BlockView) (lane quality : ℕ) (blocks : List (ℕ × B)) (columns : List ColumnView) (i : ℕ) (part : ℕ × B) → i < length blocks → part ≡ get_or blocks i part → conflicts lane (cells_in view (drop i blocks) quality) columns ≡ holds_other (cell_in lane (get_or columns part.0 empty_column)) (view part.1) || conflicts lane (cells_in view (drop (i + 1) blocks) quality) columns
+conflicts_step view lane quality blocks columns i part h e = rw (add-one, drop-cons blocks i part, ← e) refl
 
 -- one more column of a row that is written
 pub blocks_more : (os : List (Option Shape)) (cs : List ColumnView) (i : ℕ) (front next all : List BlockView) → i < length os → next ≡ front ++ blocks_at (get_or os i None) (get_or cs i empty_column) → front ++ blocks_of (drop i os) (drop i cs) ≡ all → next ++ blocks_of (drop (i + 1) os) (drop (i + 1) cs) ≡ all

@@ -2,12 +2,21 @@
 use Rattle.std.specs.Prelude.{ℕ, ◌==◌, Bool, true, false, not, if◌then◌else◌, List, [], ◌∷◌, map, Option, Some, None, slice_set, slice_index_or}
 use Rattle.std.specs.List.{list_any}
 use Rattle.pdc_block.specs.declared.block.Block.{Block}
-use Rattle.pdc_row.specs.CellView.{BlockView, CellView, cell_view, same_block}
+use Rattle.pdc_block.specs.declared.body.Body.{Body}
+use Rattle.pdc_row.specs.CellView.{BlockView, CellView, body_view, cell_view, same_block}
 use Rattle.pdc_table.specs.Views.{ColumnView, OpenRowView, empty_column}
 
 -- the cells that the blocks of a frame make, each with its column
 abbrev pub cells_of : List (ℕ × Block) → (quality : ℕ) → List (ℕ × CellView)
 cells_of blocks quality = map (λ (part : ℕ × Block). (part.0, cell_view part.1 quality)) blocks
+
+-- the cells that what is offered makes, wherever its words lie
+abbrev pub cells_in : {B : Type 0} → (B → BlockView) → List (ℕ × B) → (quality : ℕ) → List (ℕ × CellView)
+cells_in {B = B} view blocks quality = map (λ (part : ℕ × B). (part.0, record { block = view part.1; quality = quality })) blocks
+
+-- the cells that the blocks of a frame make where they are lent from its payload
+abbrev pub body_cells_of : List (ℕ × Body) → (quality : ℕ) → List (ℕ × CellView)
+body_cells_of bodies quality = cells_in body_view bodies quality
 
 -- what a lane of a column holds
 abbrev pub cell_in : ℕ → ColumnView → Option CellView

@@ -1,6 +1,6 @@
 //! What was taken of one column at one instant.
 ghost use Rattle.std.specs.Prelude.{◌≡◌, ℕ, ◌+◌, ◌<◌, ◌≤◌, ◌++◌, List, length, map, option_copied, take, None, Some, IfSome};
-ghost use Rattle.pdc_row.specs.CellView.{block_view, cell_view};
+ghost use Rattle.pdc_row.specs.CellView.{block_view};
 ghost use Rattle.pdc_table.specs.Row.{blocks_at, qualities_at};
 ghost use Rattle.pdc_row.specs.Quality.{worst_of};
 ghost use Rattle.pdc_table.specs.Chosen.{chosen_of, disagrees};
@@ -11,7 +11,7 @@ ghost use Rattle.pdc_table.specs.Views.{empty_column};
 
 use pdc_block::Block;
 use pdc_cfg::Shape;
-use pdc_row::Cell;
+use pdc_row::{Cell, Offered};
 use pdc_stat::set_absent;
 use std::marker::Model;
 
@@ -63,8 +63,8 @@ impl Column {
     }
 
     /// Puts a copy of the block, and the time quality byte of its frame, into the lane, 0 or else 1.
-    pub(crate) fn put(&mut self, lane: usize, block: &Block, quality: u8)
-        ensures { self.new ≡ with_cell lane (Some (cell_view block.now quality)) self.old }
+    pub(crate) fn put<B: Offered>(&mut self, lane: usize, block: &B, quality: u8)
+        ensures { self.new ≡ with_cell lane (Some (record { block = B.view block.now; quality = quality })) self.old }
     {
         if lane == 0 {
             self.has_first = true;
@@ -87,8 +87,8 @@ impl Column {
     }
 
     /// Whether the lane, 0 or else 1, holds another block than this; a lane that holds nothing does not.
-    pub(crate) fn holds_other(&self, lane: usize, block: &Block) -> bool
-        ensures { result ≡ holds_other (cell_in lane self.now) (block_view block.now) }
+    pub(crate) fn holds_other<B: Offered>(&self, lane: usize, block: &B) -> bool
+        ensures { result ≡ holds_other (cell_in lane self.now) (B.view block.now) }
     {
         if lane == 0 {
             self.has_first && !self.first.holds(block)

@@ -1,7 +1,6 @@
 //! The row of an instant that is open.
 ghost use Rattle.std.specs.Prelude.{◌≡◌, ℕ, ◌+◌, ◌<◌, ◌≤◌, ◌++◌, List, length, map, replicate, take, false, slice_index_or, Some, IfSome, if◌then◌else◌};
 ghost use Rattle.std.specs.List.{All};
-ghost use Rattle.pdc_block.specs.declared.block.Block.{Block as BlockData};
 ghost use Rattle.pdc_row.specs.CellView.{block_view};
 ghost use Rattle.pdc_row.specs.Quality.{worst_of};
 ghost use Rattle.pdc_row.specs.RowView.{row_view};
@@ -10,14 +9,14 @@ ghost use Rattle.pdc_table.specs.Row.{blocks_at, qualities_at, row_of};
 ghost use Rattle.pdc_table.specs.Closing.{aged, all_taken, is_due};
 ghost use Rattle.pdc_table.specs.Steps.{answer_at, disagreements_of, is_taken};
 ghost use Rattle.pdc_table.specs.Layout.{layout_view};
-ghost use Rattle.pdc_table.specs.Taking.{cells_of, conflicts, with_cell, with_cells, with_frame, without_column, without_stream};
+ghost use Rattle.pdc_table.specs.Taking.{cells_in, conflicts, with_cell, with_cells, with_frame, without_column, without_stream};
 ghost use Rattle.pdc_table.specs.Views.{blank_row, empty_column};
 
 use crate::{Column, MAX_COLUMNS, PutOutcome, RowLayout, WaitRule};
 use arrayvec::ArrayVec;
 use pdc_block::Block;
 use pdc_cfg::Shape;
-use pdc_row::DueRow;
+use pdc_row::{DueRow, Offered};
 use pdc_stat::set_absent;
 use std::marker::Model;
 
@@ -86,28 +85,34 @@ impl OpenRow {
     }
 
     /// Takes a frame of the stream: its blocks go into their columns, in this lane.
-    pub(crate) fn take(&mut self, stream: usize, lane: usize, cells: &[(usize, Block)], quality: u8)
+    pub(crate) fn take<B: Offered>(
+        &mut self,
+        stream: usize,
+        lane: usize,
+        cells: &[(usize, B)],
+        quality: u8,
+    )
         requires stream { stream < length self.old.taken }
-        requires columns { All (λ (cell : ℕ × BlockData). cell.0 < length self.old.columns) cells.now }
-        ensures { self.new ≡ with_frame stream lane (cells_of cells.now quality) self.old }
+        requires columns { All (λ (cell : ℕ × B). cell.0 < length self.old.columns) cells.now }
+        ensures { self.new ≡ with_frame stream lane (cells_in B.view cells.now quality) self.old }
     {
         self.taken[stream] = true;
         put_cells(self.columns.as_mut_slice(), lane, cells, quality);
     }
 
     /// Takes the frame, unless the stream was taken already: then the first stays.
-    pub(crate) fn offer(
+    pub(crate) fn offer<B: Offered>(
         &mut self,
         stream: usize,
         lane: usize,
-        cells: &[(usize, Block)],
+        cells: &[(usize, B)],
         quality: u8,
     ) -> PutOutcome
         requires stream { stream < length self.old.taken }
-        requires columns { All (λ (cell : ℕ × BlockData). cell.0 < length self.old.columns) cells.now }
-        ensures answer { result ≡ answer_at (Some self.old) stream lane (cells_of cells.now quality) }
-        ensures row { self.new ≡ (if is_taken (answer_at (Some self.old) stream lane (cells_of cells.now quality))
-            then with_frame stream lane (cells_of cells.now quality) self.old else self.old) }
+        requires columns { All (λ (cell : ℕ × B). cell.0 < length self.old.columns) cells.now }
+        ensures answer { result ≡ answer_at (Some self.old) stream lane (cells_in B.view cells.now quality) }
+        ensures row { self.new ≡ (if is_taken (answer_at (Some self.old) stream lane (cells_in B.view cells.now quality))
+            then with_frame stream lane (cells_in B.view cells.now quality) self.old else self.old) }
     {
         if self.taken[stream] {
             return if self.conflicts(lane, cells) {
@@ -121,9 +126,9 @@ impl OpenRow {
     }
 
     /// Whether some of these blocks differs from what this lane of its column holds.
-    pub(crate) fn conflicts(&self, lane: usize, cells: &[(usize, Block)]) -> bool
-        requires { All (λ (cell : ℕ × BlockData). cell.0 < length self.now.columns) cells.now }
-        ensures { (quality : ℕ) → result ≡ conflicts lane (cells_of cells.now quality) self.now.columns }
+    pub(crate) fn conflicts<B: Offered>(&self, lane: usize, cells: &[(usize, B)]) -> bool
+        requires { All (λ (cell : ℕ × B). cell.0 < length self.now.columns) cells.now }
+        ensures { (quality : ℕ) → result ≡ conflicts lane (cells_in B.view cells.now quality) self.now.columns }
     {
         for (column, block) in cells {
             if self.columns[*column].holds_other(lane, block) {
@@ -276,9 +281,14 @@ fn all_taken(required: &[bool], taken: &[bool]) -> bool
 }
 
 /// Puts the blocks into their columns, in this lane.
-fn put_cells(columns: &mut [Column], lane: usize, cells: &[(usize, Block)], quality: u8)
-    requires { All (λ (cell : ℕ × BlockData). cell.0 < length columns.old) cells.now }
-    ensures { columns.new ≡ with_cells lane (cells_of cells.now quality) columns.old }
+fn put_cells<B: Offered>(
+    columns: &mut [Column],
+    lane: usize,
+    cells: &[(usize, B)],
+    quality: u8,
+)
+    requires { All (λ (cell : ℕ × B). cell.0 < length columns.old) cells.now }
+    ensures { columns.new ≡ with_cells lane (cells_in B.view cells.now quality) columns.old }
 {
     for (column, block) in cells {
         columns[*column].put(lane, block, quality);

@@ -8,7 +8,6 @@ ghost use Rattle.std.specs.Prelude.{◌≡◌, ℕ, ◌+◌, ◌%◌, ◌==◌, 
 ghost use Rattle.std.specs.List.{All, AllByRecursion, list_all, prefix_len, slice_get};
 ghost use Rattle.std.specs.Vec.{vec_capacity};
 ghost use Rattle.std.specs.VecDeque.{deque_capacity, deque_len};
-ghost use Rattle.pdc_block.specs.declared.block.Block.{Block as BlockData};
 ghost use Rattle.pdc_row.specs.Quality.{greatest};
 ghost use Rattle.pdc_row.specs.Rising.{Rises, highest_of, is_near, place};
 ghost use Rattle.pdc_row.specs.RowView.{row_view};
@@ -18,15 +17,14 @@ ghost use Rattle.pdc_table.specs.Layout.{layout_view};
 ghost use Rattle.pdc_table.specs.OpenInstants.{instants_of};
 ghost use Rattle.pdc_table.specs.RingRows.{base_row, changed, closed_rows, laid, met_row, no_layout, older, row_in, rows_in, with_ages};
 ghost use Rattle.pdc_table.specs.Steps.{answer_at, disagreements_in, is_taken};
-ghost use Rattle.pdc_table.specs.Taking.{cells_of, with_frame, without_column, without_stream};
+ghost use Rattle.pdc_table.specs.Taking.{cells_in, with_frame, without_column, without_stream};
 ghost use Rattle.pdc_table.specs.Views.{OpenRowView, blank_row};
 
 use crate::open_row::{OpenRow, Places};
 use crate::rows::{is_near, remove_front};
 use crate::{ClosingLayout, MAX_COLUMNS, PutOutcome, RowLayout, WaitRule};
 use arrayvec::ArrayVec;
-use pdc_block::Block;
-use pdc_row::{DueRow, numbers_rise};
+use pdc_row::{DueRow, Offered, numbers_rise};
 use std::alloc::{AllocError, Global};
 use std::collections::VecDeque;
 
@@ -163,7 +161,7 @@ fn open_instant(open: &mut Vec<u64>, instant: u64)
 }
 
 /// Takes a frame of a stream for an instant, unless the stream was taken there.
-pub fn take(
+pub fn take<B: Offered>(
     places: &mut Vec<OpenRow>,
     ages: &mut Vec<u64>,
     open: &mut Vec<u64>,
@@ -171,7 +169,7 @@ pub fn take(
     stream: usize,
     lane: usize,
     instant: u64,
-    cells: &[(usize, Block)],
+    cells: &[(usize, B)],
     quality: u8,
 ) -> PutOutcome
     requires least { 0 < window }
@@ -181,11 +179,11 @@ pub fn take(
     requires placed { AllByRecursion (λ i. (row_in places.old.items window i).instant ≡ i) open.old.items }
     requires room { ((row_in places.old.items window instant).instant ≡ instant → ⊥) → vec_len open.old < vec_capacity open.old }
     requires stream { stream < length (row_in places.old.items window instant).taken }
-    requires columns { All (λ (cell : ℕ × BlockData). cell.0 < length (row_in places.old.items window instant).columns) cells.now }
-    ensures answer { result ≡ answer_at (met_row instant (row_in places.old.items window instant)) stream lane (cells_of cells.now quality) }
+    requires columns { All (λ (cell : ℕ × B). cell.0 < length (row_in places.old.items window instant).columns) cells.now }
+    ensures answer { result ≡ answer_at (met_row instant (row_in places.old.items window instant)) stream lane (cells_in B.view cells.now quality) }
     ensures places { places.new.items ≡ (if is_taken result
         then slice_set places.old.items (instant % window)
-        (with_frame stream lane (cells_of cells.now quality) (base_row instant (row_in places.old.items window instant)))
+        (with_frame stream lane (cells_in B.view cells.now quality) (base_row instant (row_in places.old.items window instant)))
         else places.old.items) }
     ensures ages { ages.new.items ≡ (if (row_in places.old.items window instant).instant == instant then ages.old.items
         else slice_set ages.old.items (instant % window) 0) }

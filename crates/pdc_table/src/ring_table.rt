@@ -1,10 +1,15 @@
 //! A table kept as a ring.
+ghost use Rattle.std.specs.Prelude.{◌≡◌};
+ghost use Rattle.pdc_table.specs.Content.{HasSizesOf, IsContent, IsPut};
+ghost use Rattle.pdc_table.specs.Steps.{after_put, put_answer};
+ghost use Rattle.pdc_table.specs.Taking.{cells_in};
+
 use crate::open_row::{OpenRow, Places, falses};
 use crate::sorted_table::{lane_of, stream_count};
 use crate::{ClosingLayout, MAX_COLUMNS, PutOutcome, RowLayout, Table, WaitRule, ring};
 use arrayvec::ArrayVec;
-use pdc_block::Block;
-use pdc_row::{DueRow, numbers_rise};
+use pdc_block::{Block, Body};
+use pdc_row::{DueRow, Offered, numbers_rise};
 use std::alloc::{AllocError, Global};
 use std::collections::VecDeque;
 use std::marker::Model;
@@ -41,6 +46,44 @@ impl Model for RingTable {
     ghost view = { view_of };
 
     ghost invariant = { IsKept };
+}
+
+impl RingTable {
+    /// Offers a frame of a stream: [`Table::put`], wherever the words of its blocks lie.
+    fn offer<B: Offered>(
+        &mut self,
+        stream: usize,
+        instant: u64,
+        cells: &[(usize, B)],
+        quality: u8,
+    ) -> PutOutcome
+        requires { IsPut self.old.content stream (cells_in B.view cells.now quality) }
+        ensures answer { result ≡ put_answer self.old.content stream instant (cells_in B.view cells.now quality) }
+        ensures content { self.new.content ≡ after_put self.old.content stream instant (cells_in B.view cells.now quality) }
+        ensures disagreements { self.new.disagreements ≡ self.old.disagreements }
+        ensures sizes { HasSizesOf self.old.content self.new.content }
+        ensures memory { self.new.memory ≡ self.old.memory }
+        ensures well_formed { IsContent self.new.content }
+    {
+        numbers_rise();
+        if instant <= self.last {
+            return PutOutcome::Late;
+        }
+        if !ring::are_near(&self.open, &self.closed, self.window, instant) {
+            return PutOutcome::OutOfWindow;
+        }
+        let lane = lane_of(self.lanes, stream);
+        let RingTable {
+            window,
+            places,
+            ages,
+            open,
+            ..
+        } = self;
+        ring::take(
+            places, ages, open, *window, stream, lane, instant, cells, quality,
+        )
+    }
 }
 
 impl Table for RingTable {
@@ -81,24 +124,17 @@ impl Table for RingTable {
         cells: &[(usize, Block)],
         quality: u8,
     ) -> PutOutcome {
-        numbers_rise();
-        if instant <= self.last {
-            return PutOutcome::Late;
-        }
-        if !ring::are_near(&self.open, &self.closed, self.window, instant) {
-            return PutOutcome::OutOfWindow;
-        }
-        let lane = lane_of(self.lanes, stream);
-        let RingTable {
-            window,
-            places,
-            ages,
-            open,
-            ..
-        } = self;
-        ring::take(
-            places, ages, open, *window, stream, lane, instant, cells, quality,
-        )
+        self.offer(stream, instant, cells, quality)
+    }
+
+    fn put_bodies(
+        &mut self,
+        stream: usize,
+        instant: u64,
+        cells: &[(usize, Body<'_>)],
+        quality: u8,
+    ) -> PutOutcome {
+        self.offer(stream, instant, cells, quality)
     }
 
     fn require(&mut self, stream: usize, is_required: bool) {

@@ -4,7 +4,6 @@ ghost use Rattle.std.specs.Vec.{vec_capacity};
 ghost use Rattle.std.specs.List.{All, AllByRecursion, list_all, prefix_len, slice_get};
 ghost use Rattle.std.specs.Result.{MatchResult};
 ghost use Rattle.std.specs.VecDeque.{deque_capacity, deque_len};
-ghost use Rattle.pdc_block.specs.declared.block.Block.{Block as BlockData};
 ghost use Rattle.pdc_table.specs.Closing.{aged, closing, counter, is_due, staying};
 ghost use Rattle.pdc_row.specs.RowView.{row_instants, row_view};
 ghost use Rattle.pdc_table.specs.Placing.{place_of, row_at, with_row, IsGap, IsRowPlace};
@@ -13,15 +12,14 @@ ghost use Rattle.pdc_table.specs.OpenInstants.{instants_of};
 ghost use Rattle.pdc_table.specs.Row.{row_of};
 ghost use Rattle.pdc_row.specs.Quality.{greatest};
 ghost use Rattle.pdc_table.specs.Steps.{answer_at, disagreements_in, is_taken};
-ghost use Rattle.pdc_table.specs.Taking.{cells_of, with_frame, without_column, without_stream};
+ghost use Rattle.pdc_table.specs.Taking.{cells_in, with_frame, without_column, without_stream};
 ghost use Rattle.pdc_table.specs.Content.{HasPlaces};
 ghost use Rattle.pdc_table.specs.Layout.{layout_view};
 ghost use Rattle.pdc_table.specs.Views.{OpenRowView, blank_row};
 
 use crate::open_row::{OpenRow, Places};
 use crate::{MAX_COLUMNS, PutOutcome, RowLayout, WaitRule};
-use pdc_block::Block;
-use pdc_row::{DueRow, numbers_rise};
+use pdc_row::{DueRow, Offered, numbers_rise};
 use std::collections::VecDeque;
 
 /// How many rows stand below the instant.
@@ -136,13 +134,13 @@ pub fn greatest(rows: &[OpenRow], last: u64) -> u64
 }
 
 /// Takes a frame of a stream for an instant, unless the stream was taken there.
-pub fn take(
+pub fn take<B: Offered>(
     rows: &mut Vec<OpenRow>,
     places: Places,
     stream: usize,
     lane: usize,
     instant: u64,
-    cells: &[(usize, Block)],
+    cells: &[(usize, B)],
     quality: u8,
 ) -> PutOutcome
     requires rising { Rises 0 (instants_of rows.old.items) }
@@ -151,10 +149,10 @@ pub fn take(
     requires streams_fit { places.streams ≤ MAX_COLUMNS }
     requires columns_fit { places.columns ≤ MAX_COLUMNS }
     requires stream { stream < places.streams }
-    requires columns { All (λ (cell : ℕ × BlockData). cell.0 < places.columns) cells.now }
-    ensures answer { result ≡ answer_at (row_at instant rows.old.items) stream lane (cells_of cells.now quality) }
-    ensures items { rows.new.items ≡ (if is_taken (answer_at (row_at instant rows.old.items) stream lane (cells_of cells.now quality))
-        then with_row (with_frame stream lane (cells_of cells.now quality)) (blank_row places.streams places.columns instant) rows.old.items
+    requires columns { All (λ (cell : ℕ × B). cell.0 < places.columns) cells.now }
+    ensures answer { result ≡ answer_at (row_at instant rows.old.items) stream lane (cells_in B.view cells.now quality) }
+    ensures items { rows.new.items ≡ (if is_taken (answer_at (row_at instant rows.old.items) stream lane (cells_in B.view cells.now quality))
+        then with_row (with_frame stream lane (cells_in B.view cells.now quality)) (blank_row places.streams places.columns instant) rows.old.items
         else rows.old.items) }
     ensures capacity { vec_capacity rows.new ≡ vec_capacity rows.old }
 {

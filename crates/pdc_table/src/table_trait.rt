@@ -6,10 +6,10 @@ ghost use Rattle.pdc_table.specs.Content.{Content, HasSizesOf, HaveLayoutShapes,
 ghost use Rattle.pdc_table.specs.KeptRow.{popped_into};
 ghost use Rattle.pdc_table.specs.Layout.{layout_view};
 ghost use Rattle.pdc_table.specs.Steps.{after_drop_column, after_drop_stream, after_pop, after_put, after_require, after_tick, closed_by, disagreements_after, next_answer, pop_answer, put_answer, shape_of, shapes_given, tick_answer};
-ghost use Rattle.pdc_table.specs.Taking.{cells_of};
+ghost use Rattle.pdc_table.specs.Taking.{body_cells_of, cells_of};
 
 use crate::{MAX_COLUMNS, MAX_LANES, MAX_WINDOW, MIN_WINDOW, PutOutcome, RowLayout, WaitRule};
-use pdc_block::Block;
+use pdc_block::{Block, Body};
 use pdc_row::DueRow;
 use std::alloc::{AllocError, Global};
 
@@ -62,6 +62,22 @@ pub trait Table: Drop {
         requires { IsPut (content self.old) stream (cells_of cells.now quality) }
         ensures answer { result ≡ put_answer (content self.old) stream instant (cells_of cells.now quality) }
         ensures content { content self.new ≡ after_put (content self.old) stream instant (cells_of cells.now quality) }
+        ensures disagreements { disagreements self.new ≡ disagreements self.old }
+        ensures sizes { HasSizesOf (content self.old) (content self.new) }
+        ensures memory { memory self.new ≡ memory self.old }
+        ensures well_formed { IsContent (content self.new) };
+
+    /// As `put`, with blocks that are lent from the payload that brought them: their words are copied once, to where the table keeps them.
+    fn put_bodies(
+        &mut self,
+        stream: usize,
+        instant: u64,
+        cells: &[(usize, Body<'_>)],
+        quality: u8,
+    ) -> PutOutcome
+        requires { IsPut (content self.old) stream (body_cells_of cells.now quality) }
+        ensures answer { result ≡ put_answer (content self.old) stream instant (body_cells_of cells.now quality) }
+        ensures content { content self.new ≡ after_put (content self.old) stream instant (body_cells_of cells.now quality) }
         ensures disagreements { disagreements self.new ≡ disagreements self.old }
         ensures sizes { HasSizesOf (content self.old) (content self.new) }
         ensures memory { memory self.new ≡ memory self.old }

@@ -2,7 +2,6 @@ use Rattle.std.proofs.Common.{arith, eqb, ◌≡◌, ◌<◌, ◌++◌, ◌∙�
 use Rattle.std.specs.List.{All, list_all}
 use Rattle.std.proofs.lemmas.Bool.{ne_eqb}
 use Rattle.std.proofs.lemmas.List.{length-map}
-use Rattle.pdc_block.specs.declared.block.Block.{Block}
 use Rattle.pdc_row.specs.Rising.{Rises, is_near, place}
 use Rattle.pdc_table.specs.Content.{HasPlaces, lane_of, streams_of}
 use Rattle.pdc_table.specs.Placing.{row_at, with_row}
@@ -11,7 +10,7 @@ use Rattle.pdc_table.specs.Ring.{content_of}
 use Rattle.pdc_table.specs.RingRows.{base_row, closed_rows, met_row, row_in, rows_in, with_ages}
 use Rattle.pdc_table.specs.Steps.{after_put, after_take, answer_at, fresh_row, is_near_all, is_taken, put_answer}
 use Rattle.pdc_table.specs.TableView.{TableView}
-use Rattle.pdc_table.specs.Taking.{cells_of, with_frame}
+use Rattle.pdc_table.specs.Taking.{cells_in, with_frame}
 use Rattle.pdc_table.proofs.Blank.{columns_exist}
 use Rattle.pdc_table.proofs.Keeps.{has_room, keeps-offered}
 use Rattle.pdc_table.proofs.RingAges.{aged_answer, aged_closed, aged_placed, aged_put, aged_ring, aged_row, ages_kept}
@@ -19,36 +18,37 @@ use Rattle.pdc_table.proofs.RingClosed.{near_closed, ring_held, written_closed, 
 use Rattle.pdc_table.proofs.RingKept.{IsPutInto, IsRing, met_in, put_kept, put_rows, sized_in}
 use Rattle.pdc_table.proofs.RingPut.{far_content, put_content, put_far, put_near}
 use Rattle.pdc_table.proofs.RingRows.{ArePlaced, IsApart, near_apart, near_open}
-use Rattle.pdc_table.proofs.ring_table.RingTableTable.put.Goals as goal
+use Rattle.pdc_table.proofs.ring_table.RingTable.offer.Goals as goal
+use Rattle.pdc_table.proofs.ring_table.RingTable.offer.Given as given
 
 pub are_near-requires : goal.are_near-requires
-are_near-requires c =
+are_near-requires g c =
     subst (λ ns. Rises 0 ns) (sym (ring_held (content_of c.self.inside) (with_ages c.self.inside.places.items c.self.inside.ages.items) c.self.inside.layouts.items c.self.inside.closed.items c.self.inside.open.items c.deref.result.now c.deref.ensures.value (aged_placed c.self.inside.places.items c.self.inside.ages.items c.self.inside.window c.self.inside.closed.items (omega (arith, c.self.invariant.content.window_least)) c.self.invariant.size c.self.invariant.ages c.self.invariant.closed_placed) (aged_placed c.self.inside.places.items c.self.inside.ages.items c.self.inside.window c.self.inside.open.items (omega (arith, c.self.invariant.content.window_least)) c.self.invariant.size c.self.invariant.ages c.self.invariant.placed) refl refl))
     c.self.invariant.content.held_rise
 
-far : (c : goal.Then-not-are_near) → is_near_all (content_of c.self.inside) c.args.instant ≡ false
-far c =
+far : (g : given.Over) (c : goal.Then-not-are_near g) → is_near_all (content_of c.self.inside) c.args.instant ≡ false
+far g c =
     ap (list_all (is_near c.self.inside.window c.args.instant)) (sym (ring_held (content_of c.self.inside) (with_ages c.self.inside.places.items c.self.inside.ages.items) c.self.inside.layouts.items c.self.inside.closed.items c.self.inside.open.items c.deref.result.now c.deref.ensures.value (aged_placed c.self.inside.places.items c.self.inside.ages.items c.self.inside.window c.self.inside.closed.items (omega (arith, c.self.invariant.content.window_least)) c.self.invariant.size c.self.invariant.ages c.self.invariant.closed_placed) (aged_placed c.self.inside.places.items c.self.inside.ages.items c.self.inside.window c.self.inside.open.items (omega (arith, c.self.invariant.content.window_least)) c.self.invariant.size c.self.invariant.ages c.self.invariant.placed) refl refl))
     ∙ sym c.are_near.ensures ∙ c.if-not-are_near.true
 
 pub returns-then-not-are_near-clause-answer : goal.returns-then-not-are_near-clause-answer
-returns-then-not-are_near-clause-answer c =
-    put_far (content_of c.self.inside) c.args.stream c.args.instant (cells_of c.args.cells.now c.args.quality) c.if-instant-self.false (far c)
-    ∙ ap (λ (t : TableView). put_answer t.content c.args.stream c.args.instant (cells_of c.args.cells.now c.args.quality)) c.self.view_is
+returns-then-not-are_near-clause-answer g c =
+    put_far (content_of c.self.inside) c.args.stream c.args.instant (cells_in g.B.Offered.view c.args.cells.now c.args.quality) c.if-instant-self.false (far g c)
+    ∙ ap (λ (t : TableView). put_answer t.content c.args.stream c.args.instant (cells_in g.B.Offered.view c.args.cells.now c.args.quality)) c.self.view_is
 
 pub returns-then-not-are_near-clause-content : goal.returns-then-not-are_near-clause-content
-returns-then-not-are_near-clause-content c =
-    far_content c.args.self.now.content c.args.stream c.args.instant (cells_of c.args.cells.now c.args.quality)
-    (put_far (content_of c.self.inside) c.args.stream c.args.instant (cells_of c.args.cells.now c.args.quality) c.if-instant-self.false (far c)
-    ∙ ap (λ (t : TableView). put_answer t.content c.args.stream c.args.instant (cells_of c.args.cells.now c.args.quality)) c.self.view_is)
+returns-then-not-are_near-clause-content g c =
+    far_content c.args.self.now.content c.args.stream c.args.instant (cells_in g.B.Offered.view c.args.cells.now c.args.quality)
+    (put_far (content_of c.self.inside) c.args.stream c.args.instant (cells_in g.B.Offered.view c.args.cells.now c.args.quality) c.if-instant-self.false (far g c)
+    ∙ ap (λ (t : TableView). put_answer t.content c.args.stream c.args.instant (cells_in g.B.Offered.view c.args.cells.now c.args.quality)) c.self.view_is)
 
 pub take-requires-clause-rising : goal.take-requires-clause-rising
-take-requires-clause-rising c =
+take-requires-clause-rising g c =
     c.numbers_rise.ensures.rises_above 0 c.self.inside.last c.self.inside.open.items (omega arith)
     (near_open c.numbers_rise.ensures (content_of c.self.inside) (with_ages c.self.inside.places.items c.self.inside.ages.items) c.self.inside.open.items (aged_placed c.self.inside.places.items c.self.inside.ages.items c.self.inside.window c.self.inside.open.items (omega (arith, c.self.invariant.content.window_least)) c.self.invariant.size c.self.invariant.ages c.self.invariant.placed) c.self.invariant.content).0
 
 pub take-requires-clause-room : goal.take-requires-clause-room
-take-requires-clause-room c n =
+take-requires-clause-room g c n =
     let near : is_near_all (content_of c.self.inside) c.args.instant ≡ true =
     ap (list_all (is_near c.self.inside.window c.args.instant)) (sym (ring_held (content_of c.self.inside) (with_ages c.self.inside.places.items c.self.inside.ages.items) c.self.inside.layouts.items c.self.inside.closed.items c.self.inside.open.items c.deref.result.now c.deref.ensures.value (aged_placed c.self.inside.places.items c.self.inside.ages.items c.self.inside.window c.self.inside.closed.items (omega (arith, c.self.invariant.content.window_least)) c.self.invariant.size c.self.invariant.ages c.self.invariant.closed_placed) (aged_placed c.self.inside.places.items c.self.inside.ages.items c.self.inside.window c.self.inside.open.items (omega (arith, c.self.invariant.content.window_least)) c.self.invariant.size c.self.invariant.ages c.self.invariant.placed) refl refl))
     ∙ sym c.if-not-are_near.ensures in
@@ -64,137 +64,137 @@ take-requires-clause-room c n =
     omega (arith, c.self.invariant.room, length-map c.self.inside.open.items (row_in (with_ages c.self.inside.places.items c.self.inside.ages.items) c.self.inside.window))
 
 pub take-requires-clause-columns : goal.take-requires-clause-columns
-take-requires-clause-columns c k d l =
+take-requires-clause-columns g c k d l =
     let ring : IsRing c.self.inside.window c.self.inside.last (streams_of (content_of c.self.inside)) c.self.inside.columns c.self.inside.places.items c.self.inside.open.items =
     record { size = c.self.invariant.size; each = c.self.invariant.each; placed = c.self.invariant.placed; known = c.self.invariant.known } in
     let least : 0 < c.self.inside.window = omega (arith, c.self.invariant.content.window_least) in
     let sized : HasPlaces (streams_of (content_of c.self.inside)) c.self.inside.columns (row_in c.self.inside.places.items c.self.inside.window c.args.instant) =
     sized_in c.self.inside.window c.self.inside.last (streams_of (content_of c.self.inside)) c.self.inside.columns c.args.instant c.self.inside.places.items c.self.inside.open.items least ring in
-    let columns : All (λ (cell : ℕ × Block). cell.0 < c.self.inside.columns) c.args.cells.now =
-    subst (λ (t : TableView). All (λ (cell : ℕ × Block). cell.0 < t.content.columns) c.args.cells.now) (sym c.self.view_is)
-    (columns_exist c.args.self.now.content.columns c.args.quality c.args.cells.now c.requires.columns_exist) in
+    let columns : All (λ (cell : ℕ × g.row.B.Denot). cell.0 < c.self.inside.columns) c.args.cells.now =
+    subst (λ (t : TableView). All (λ (cell : ℕ × g.row.B.Denot). cell.0 < t.content.columns) c.args.cells.now) (sym c.self.view_is)
+    (columns_exist g.B.Offered.view c.args.self.now.content.columns c.args.quality c.args.cells.now c.requires.columns_exist) in
     omega (arith, columns k d l, sized.columns)
 
 -- the put, as the code makes it
 
-near : (c : goal.After-take) → is_near_all (content_of c.self.inside) c.args.instant ≡ true
-near c =
+near : (g : given.Over) (c : goal.After-take g) → is_near_all (content_of c.self.inside) c.args.instant ≡ true
+near g c =
     ap (list_all (is_near c.self.inside.window c.args.instant)) (sym (ring_held (content_of c.self.inside) (with_ages c.self.inside.places.items c.self.inside.ages.items) c.self.inside.layouts.items c.self.inside.closed.items c.self.inside.open.items c.deref.result.now c.deref.ensures.value (aged_placed c.self.inside.places.items c.self.inside.ages.items c.self.inside.window c.self.inside.closed.items (omega (arith, c.self.invariant.content.window_least)) c.self.invariant.size c.self.invariant.ages c.self.invariant.closed_placed) (aged_placed c.self.inside.places.items c.self.inside.ages.items c.self.inside.window c.self.inside.open.items (omega (arith, c.self.invariant.content.window_least)) c.self.invariant.size c.self.invariant.ages c.self.invariant.placed) refl refl))
     ∙ sym c.if-not-are_near.ensures
 
-into : (c : goal.After-take) → IsPutInto c.self.inside.window c.self.inside.last (streams_of (content_of c.self.inside)) c.self.inside.columns c.args.instant c.args.stream (lane_of (content_of c.self.inside) c.args.stream) (cells_of c.args.cells.now c.args.quality) c.self.inside.places.items c.self.inside.open.items c.take.result c.take.new.places.items c.take.new.open.items
-into c = record {
+into : (g : given.Over) (c : goal.After-take g) → IsPutInto c.self.inside.window c.self.inside.last (streams_of (content_of c.self.inside)) c.self.inside.columns c.args.instant c.args.stream (lane_of (content_of c.self.inside) c.args.stream) (cells_in g.B.Offered.view c.args.cells.now c.args.quality) c.self.inside.places.items c.self.inside.open.items c.take.result c.take.new.places.items c.take.new.open.items
+into g c = record {
   ring = record { size = c.self.invariant.size; each = c.self.invariant.each; placed = c.self.invariant.placed; known = c.self.invariant.known };
   least = omega (arith, c.self.invariant.content.window_least);
   above = c.if-instant-self.false;
   rising = (near_open c.numbers_rise.ensures (content_of c.self.inside) (with_ages c.self.inside.places.items c.self.inside.ages.items) c.self.inside.open.items (aged_placed c.self.inside.places.items c.self.inside.ages.items c.self.inside.window c.self.inside.open.items (omega (arith, c.self.invariant.content.window_least)) c.self.invariant.size c.self.invariant.ages c.self.invariant.placed) c.self.invariant.content).0;
   apart = near_apart c.numbers_rise.ensures c.self.inside.window c.args.instant c.self.inside.closed.items c.self.inside.open.items
       (ap (λ ns. list_all (is_near c.self.inside.window c.args.instant) (c.self.inside.closed.items ++ ns)) (sym c.deref.ensures.value) ∙ sym c.if-not-are_near.ensures);
-  answered = c.take.ensures.answer ∙ ap (λ l. answer_at (met_row c.args.instant (row_in c.self.inside.places.items c.self.inside.window c.args.instant)) c.args.stream l (cells_of c.args.cells.now c.args.quality)) c.lane_of-lane.ensures;
+  answered = c.take.ensures.answer ∙ ap (λ l. answer_at (met_row c.args.instant (row_in c.self.inside.places.items c.self.inside.window c.args.instant)) c.args.stream l (cells_in g.B.Offered.view c.args.cells.now c.args.quality)) c.lane_of-lane.ensures;
   written = c.take.ensures.places
-      ∙ ap (λ l. if is_taken c.take.result then set c.self.inside.places.items (c.args.instant % c.self.inside.window) (with_frame c.args.stream l (cells_of c.args.cells.now c.args.quality) (base_row c.args.instant (row_in c.self.inside.places.items c.self.inside.window c.args.instant))) else c.self.inside.places.items) c.lane_of-lane.ensures;
+      ∙ ap (λ l. if is_taken c.take.result then set c.self.inside.places.items (c.args.instant % c.self.inside.window) (with_frame c.args.stream l (cells_in g.B.Offered.view c.args.cells.now c.args.quality) (base_row c.args.instant (row_in c.self.inside.places.items c.self.inside.window c.args.instant))) else c.self.inside.places.items) c.lane_of-lane.ensures;
   opened = c.take.ensures.open;
 }
 
 -- the same of the rows with their ages
-aged_into : (c : goal.After-take) → IsPutInto c.self.inside.window c.self.inside.last (streams_of (content_of c.self.inside)) c.self.inside.columns c.args.instant c.args.stream (lane_of (content_of c.self.inside) c.args.stream) (cells_of c.args.cells.now c.args.quality) (with_ages c.self.inside.places.items c.self.inside.ages.items) c.self.inside.open.items c.take.result (with_ages c.take.new.places.items c.take.new.ages.items) c.take.new.open.items
-aged_into c =
-    let p : IsPutInto c.self.inside.window c.self.inside.last (streams_of (content_of c.self.inside)) c.self.inside.columns c.args.instant c.args.stream (lane_of (content_of c.self.inside) c.args.stream) (cells_of c.args.cells.now c.args.quality) c.self.inside.places.items c.self.inside.open.items c.take.result c.take.new.places.items c.take.new.open.items = into c in
+aged_into : (g : given.Over) (c : goal.After-take g) → IsPutInto c.self.inside.window c.self.inside.last (streams_of (content_of c.self.inside)) c.self.inside.columns c.args.instant c.args.stream (lane_of (content_of c.self.inside) c.args.stream) (cells_in g.B.Offered.view c.args.cells.now c.args.quality) (with_ages c.self.inside.places.items c.self.inside.ages.items) c.self.inside.open.items c.take.result (with_ages c.take.new.places.items c.take.new.ages.items) c.take.new.open.items
+aged_into g c =
+    let p : IsPutInto c.self.inside.window c.self.inside.last (streams_of (content_of c.self.inside)) c.self.inside.columns c.args.instant c.args.stream (lane_of (content_of c.self.inside) c.args.stream) (cells_in g.B.Offered.view c.args.cells.now c.args.quality) c.self.inside.places.items c.self.inside.open.items c.take.result c.take.new.places.items c.take.new.open.items = into g c in
     record {
       ring = aged_ring c.self.inside.window c.self.inside.last (streams_of (content_of c.self.inside)) c.self.inside.columns c.self.inside.places.items c.self.inside.ages.items c.self.inside.open.items p.least c.self.invariant.ages p.ring;
       least = p.least;
       above = p.above;
       rising = p.rising;
       apart = p.apart;
-      answered = p.answered ∙ aged_answer c.self.inside.places.items c.self.inside.ages.items c.self.inside.window c.args.instant c.args.stream (lane_of (content_of c.self.inside) c.args.stream) (cells_of c.args.cells.now c.args.quality) p.least c.self.invariant.size c.self.invariant.ages;
-      written = aged_put c.self.inside.window c.args.instant c.args.stream (lane_of (content_of c.self.inside) c.args.stream) (cells_of c.args.cells.now c.args.quality) c.self.inside.places.items c.take.new.places.items c.self.inside.ages.items c.take.new.ages.items c.take.result
+      answered = p.answered ∙ aged_answer c.self.inside.places.items c.self.inside.ages.items c.self.inside.window c.args.instant c.args.stream (lane_of (content_of c.self.inside) c.args.stream) (cells_in g.B.Offered.view c.args.cells.now c.args.quality) p.least c.self.invariant.size c.self.invariant.ages;
+      written = aged_put c.self.inside.window c.args.instant c.args.stream (lane_of (content_of c.self.inside) c.args.stream) (cells_in g.B.Offered.view c.args.cells.now c.args.quality) c.self.inside.places.items c.take.new.places.items c.self.inside.ages.items c.take.new.ages.items c.take.result
           p.least c.self.invariant.size c.self.invariant.ages p.answered p.written c.take.ensures.ages;
       opened = p.opened ∙ ap (λ n. if eqb n c.args.instant then c.self.inside.open.items else place c.args.instant c.self.inside.open.items) (sym (ap (λ (row : OpenRowView). row.instant) (aged_row c.self.inside.places.items c.self.inside.ages.items c.self.inside.window c.args.instant p.least c.self.invariant.size c.self.invariant.ages)));
     }
 
-answered : (c : goal.After-take) → c.take.result ≡ put_answer (content_of c.self.inside) c.args.stream c.args.instant (cells_of c.args.cells.now c.args.quality)
-answered c =
-    let p : IsPutInto c.self.inside.window c.self.inside.last (streams_of (content_of c.self.inside)) c.self.inside.columns c.args.instant c.args.stream (lane_of (content_of c.self.inside) c.args.stream) (cells_of c.args.cells.now c.args.quality) (with_ages c.self.inside.places.items c.self.inside.ages.items) c.self.inside.open.items c.take.result (with_ages c.take.new.places.items c.take.new.ages.items) c.take.new.open.items = aged_into c in
+answered : (g : given.Over) (c : goal.After-take g) → c.take.result ≡ put_answer (content_of c.self.inside) c.args.stream c.args.instant (cells_in g.B.Offered.view c.args.cells.now c.args.quality)
+answered g c =
+    let p : IsPutInto c.self.inside.window c.self.inside.last (streams_of (content_of c.self.inside)) c.self.inside.columns c.args.instant c.args.stream (lane_of (content_of c.self.inside) c.args.stream) (cells_in g.B.Offered.view c.args.cells.now c.args.quality) (with_ages c.self.inside.places.items c.self.inside.ages.items) c.self.inside.open.items c.take.result (with_ages c.take.new.places.items c.take.new.ages.items) c.take.new.open.items = aged_into g c in
     p.answered
-    ∙ ap (λ o. answer_at o c.args.stream (lane_of (content_of c.self.inside) c.args.stream) (cells_of c.args.cells.now c.args.quality))
+    ∙ ap (λ o. answer_at o c.args.stream (lane_of (content_of c.self.inside) c.args.stream) (cells_in g.B.Offered.view c.args.cells.now c.args.quality))
     (sym (met_in c.self.inside.window c.self.inside.last (streams_of (content_of c.self.inside)) c.self.inside.columns c.args.instant (with_ages c.self.inside.places.items c.self.inside.ages.items) c.self.inside.open.items p.least p.above p.ring))
-    ∙ sym (put_near (content_of c.self.inside) c.args.stream c.args.instant (cells_of c.args.cells.now c.args.quality) c.if-instant-self.false (near c))
+    ∙ sym (put_near (content_of c.self.inside) c.args.stream c.args.instant (cells_in g.B.Offered.view c.args.cells.now c.args.quality) c.if-instant-self.false (near g c))
 
 -- the place is that of no closed instant
-apart : (c : goal.After-take) → IsApart c.self.inside.window c.args.instant c.self.inside.closed.items
-apart c =
+apart : (g : given.Over) (c : goal.After-take g) → IsApart c.self.inside.window c.args.instant c.self.inside.closed.items
+apart g c =
     near_closed c.numbers_rise.ensures (content_of c.self.inside) (with_ages c.self.inside.places.items c.self.inside.ages.items) c.self.inside.layouts.items c.args.instant c.self.inside.closed.items c.self.inside.open.items c.if-instant-self.false (aged_placed c.self.inside.places.items c.self.inside.ages.items c.self.inside.window c.self.inside.closed.items (omega (arith, c.self.invariant.content.window_least)) c.self.invariant.size c.self.invariant.ages c.self.invariant.closed_placed)
     (ap (λ ns. list_all (is_near c.self.inside.window c.args.instant) (c.self.inside.closed.items ++ ns)) (sym c.deref.ensures.value) ∙ sym c.if-not-are_near.ensures) c.self.invariant.content
 
-written : (c : goal.After-take) → c.take.new.places.items ≡ (if is_taken c.take.result
-    then set c.self.inside.places.items (c.args.instant % c.self.inside.window) (with_frame c.args.stream (lane_of (content_of c.self.inside) c.args.stream) (cells_of c.args.cells.now c.args.quality) (base_row c.args.instant (row_in c.self.inside.places.items c.self.inside.window c.args.instant)))
+written : (g : given.Over) (c : goal.After-take g) → c.take.new.places.items ≡ (if is_taken c.take.result
+    then set c.self.inside.places.items (c.args.instant % c.self.inside.window) (with_frame c.args.stream (lane_of (content_of c.self.inside) c.args.stream) (cells_in g.B.Offered.view c.args.cells.now c.args.quality) (base_row c.args.instant (row_in c.self.inside.places.items c.self.inside.window c.args.instant)))
     else c.self.inside.places.items)
-written c =
-    let p : IsPutInto c.self.inside.window c.self.inside.last (streams_of (content_of c.self.inside)) c.self.inside.columns c.args.instant c.args.stream (lane_of (content_of c.self.inside) c.args.stream) (cells_of c.args.cells.now c.args.quality) c.self.inside.places.items c.self.inside.open.items c.take.result c.take.new.places.items c.take.new.open.items = into c in
+written g c =
+    let p : IsPutInto c.self.inside.window c.self.inside.last (streams_of (content_of c.self.inside)) c.self.inside.columns c.args.instant c.args.stream (lane_of (content_of c.self.inside) c.args.stream) (cells_in g.B.Offered.view c.args.cells.now c.args.quality) c.self.inside.places.items c.self.inside.open.items c.take.result c.take.new.places.items c.take.new.open.items = into g c in
     p.written
 
-ages_size : (c : goal.After-take) → length c.take.new.ages.items ≡ c.self.inside.window
-ages_size c =
+ages_size : (g : given.Over) (c : goal.After-take g) → length c.take.new.ages.items ≡ c.self.inside.window
+ages_size g c =
     ap length c.take.ensures.ages ∙ ages_kept (eqb (row_in c.self.inside.places.items c.self.inside.window c.args.instant).instant c.args.instant) c.self.inside.ages.items (c.args.instant % c.self.inside.window) ∙ c.self.invariant.ages
 
-kept : (c : goal.After-take) → IsRing c.self.inside.window c.self.inside.last (streams_of (content_of c.self.inside)) c.self.inside.columns c.take.new.places.items c.take.new.open.items
-kept c =
-    put_kept c.numbers_rise.ensures c.self.inside.window c.self.inside.last (streams_of (content_of c.self.inside)) c.self.inside.columns c.args.instant c.args.stream (lane_of (content_of c.self.inside) c.args.stream) (cells_of c.args.cells.now c.args.quality) c.self.inside.places.items c.self.inside.open.items c.take.result c.take.new.places.items c.take.new.open.items (into c)
+kept : (g : given.Over) (c : goal.After-take g) → IsRing c.self.inside.window c.self.inside.last (streams_of (content_of c.self.inside)) c.self.inside.columns c.take.new.places.items c.take.new.open.items
+kept g c =
+    put_kept c.numbers_rise.ensures c.self.inside.window c.self.inside.last (streams_of (content_of c.self.inside)) c.self.inside.columns c.args.instant c.args.stream (lane_of (content_of c.self.inside) c.args.stream) (cells_in g.B.Offered.view c.args.cells.now c.args.quality) c.self.inside.places.items c.self.inside.open.items c.take.result c.take.new.places.items c.take.new.open.items (into g c)
 
-size : (c : goal.After-take) → length c.take.new.places.items ≡ c.self.inside.window
-size c =
-    let ring : IsRing c.self.inside.window c.self.inside.last (streams_of (content_of c.self.inside)) c.self.inside.columns c.take.new.places.items c.take.new.open.items = kept c in
+size : (g : given.Over) (c : goal.After-take g) → length c.take.new.places.items ≡ c.self.inside.window
+size g c =
+    let ring : IsRing c.self.inside.window c.self.inside.last (streams_of (content_of c.self.inside)) c.self.inside.columns c.take.new.places.items c.take.new.open.items = kept g c in
     ring.size
 
-closed : (c : goal.After-take) → closed_rows (with_ages c.take.new.places.items c.take.new.ages.items) c.self.inside.layouts.items c.self.inside.window c.self.inside.closed.items ≡ closed_rows (with_ages c.self.inside.places.items c.self.inside.ages.items) c.self.inside.layouts.items c.self.inside.window c.self.inside.closed.items
-closed c =
-    aged_closed c.take.new.places.items c.take.new.ages.items c.self.inside.layouts.items c.self.inside.window c.self.inside.closed.items (omega (arith, c.self.invariant.content.window_least)) (size c) (ages_size c)
-    ∙ ap (λ ps. closed_rows ps c.self.inside.layouts.items c.self.inside.window c.self.inside.closed.items) (written c)
+closed : (g : given.Over) (c : goal.After-take g) → closed_rows (with_ages c.take.new.places.items c.take.new.ages.items) c.self.inside.layouts.items c.self.inside.window c.self.inside.closed.items ≡ closed_rows (with_ages c.self.inside.places.items c.self.inside.ages.items) c.self.inside.layouts.items c.self.inside.window c.self.inside.closed.items
+closed g c =
+    aged_closed c.take.new.places.items c.take.new.ages.items c.self.inside.layouts.items c.self.inside.window c.self.inside.closed.items (omega (arith, c.self.invariant.content.window_least)) (size g c) (ages_size g c)
+    ∙ ap (λ ps. closed_rows ps c.self.inside.layouts.items c.self.inside.window c.self.inside.closed.items) (written g c)
     ∙ written_closed c.self.inside.places.items c.self.inside.layouts.items c.self.inside.window c.args.instant
-    (with_frame c.args.stream (lane_of (content_of c.self.inside) c.args.stream) (cells_of c.args.cells.now c.args.quality) (base_row c.args.instant (row_in c.self.inside.places.items c.self.inside.window c.args.instant)))
-    c.self.inside.closed.items (is_taken c.take.result) (apart c)
+    (with_frame c.args.stream (lane_of (content_of c.self.inside) c.args.stream) (cells_in g.B.Offered.view c.args.cells.now c.args.quality) (base_row c.args.instant (row_in c.self.inside.places.items c.self.inside.window c.args.instant)))
+    c.self.inside.closed.items (is_taken c.take.result) (apart g c)
     ∙ sym (aged_closed c.self.inside.places.items c.self.inside.ages.items c.self.inside.layouts.items c.self.inside.window c.self.inside.closed.items (omega (arith, c.self.invariant.content.window_least)) c.self.invariant.size c.self.invariant.ages)
 
-stands : (c : goal.After-take) → ArePlaced c.take.new.places.items c.self.inside.window c.self.inside.closed.items
-stands c =
-    subst (λ ps. ArePlaced ps c.self.inside.window c.self.inside.closed.items) (sym (written c))
+stands : (g : given.Over) (c : goal.After-take g) → ArePlaced c.take.new.places.items c.self.inside.window c.self.inside.closed.items
+stands g c =
+    subst (λ ps. ArePlaced ps c.self.inside.window c.self.inside.closed.items) (sym (written g c))
     (written_placed c.self.inside.places.items c.self.inside.window c.args.instant
-    (with_frame c.args.stream (lane_of (content_of c.self.inside) c.args.stream) (cells_of c.args.cells.now c.args.quality) (base_row c.args.instant (row_in c.self.inside.places.items c.self.inside.window c.args.instant)))
-    c.self.inside.closed.items (is_taken c.take.result) (apart c) c.self.invariant.closed_placed)
+    (with_frame c.args.stream (lane_of (content_of c.self.inside) c.args.stream) (cells_in g.B.Offered.view c.args.cells.now c.args.quality) (base_row c.args.instant (row_in c.self.inside.places.items c.self.inside.window c.args.instant)))
+    c.self.inside.closed.items (is_taken c.take.result) (apart g c) c.self.invariant.closed_placed)
 
-rows : (c : goal.After-take) → rows_in (with_ages c.take.new.places.items c.take.new.ages.items) c.self.inside.window c.take.new.open.items ≡ (if is_taken c.take.result
-    then with_row (with_frame c.args.stream (lane_of (content_of c.self.inside) c.args.stream) (cells_of c.args.cells.now c.args.quality)) (fresh_row (content_of c.self.inside) c.args.instant) (rows_in (with_ages c.self.inside.places.items c.self.inside.ages.items) c.self.inside.window c.self.inside.open.items)
+rows : (g : given.Over) (c : goal.After-take g) → rows_in (with_ages c.take.new.places.items c.take.new.ages.items) c.self.inside.window c.take.new.open.items ≡ (if is_taken c.take.result
+    then with_row (with_frame c.args.stream (lane_of (content_of c.self.inside) c.args.stream) (cells_in g.B.Offered.view c.args.cells.now c.args.quality)) (fresh_row (content_of c.self.inside) c.args.instant) (rows_in (with_ages c.self.inside.places.items c.self.inside.ages.items) c.self.inside.window c.self.inside.open.items)
     else rows_in (with_ages c.self.inside.places.items c.self.inside.ages.items) c.self.inside.window c.self.inside.open.items)
-rows c =
-    put_rows c.numbers_rise.ensures c.self.inside.window c.self.inside.last (streams_of (content_of c.self.inside)) c.self.inside.columns c.args.instant c.args.stream (lane_of (content_of c.self.inside) c.args.stream) (cells_of c.args.cells.now c.args.quality) (with_ages c.self.inside.places.items c.self.inside.ages.items) c.self.inside.open.items c.take.result (with_ages c.take.new.places.items c.take.new.ages.items) c.take.new.open.items (aged_into c)
+rows g c =
+    put_rows c.numbers_rise.ensures c.self.inside.window c.self.inside.last (streams_of (content_of c.self.inside)) c.self.inside.columns c.args.instant c.args.stream (lane_of (content_of c.self.inside) c.args.stream) (cells_in g.B.Offered.view c.args.cells.now c.args.quality) (with_ages c.self.inside.places.items c.self.inside.ages.items) c.self.inside.open.items c.take.result (with_ages c.take.new.places.items c.take.new.ages.items) c.take.new.open.items (aged_into g c)
 
 pub returns-clause-answer : goal.returns-clause-answer
-returns-clause-answer c = answered c ∙ ap (λ (t : TableView). put_answer t.content c.args.stream c.args.instant (cells_of c.args.cells.now c.args.quality)) c.self.view_is
+returns-clause-answer g c = answered g c ∙ ap (λ (t : TableView). put_answer t.content c.args.stream c.args.instant (cells_in g.B.Offered.view c.args.cells.now c.args.quality)) c.self.view_is
 
 pub returns-clause-content : goal.returns-clause-content
-returns-clause-content c =
-    ap (λ rs. record (content_of c.self.inside) { open_rows = rows_in (with_ages c.take.new.places.items c.take.new.ages.items) c.self.inside.window c.take.new.open.items; closed = rs }) (closed c)
-    ∙ ap (λ rs. record (content_of c.self.inside) { open_rows = rs }) (rows c)
-    ∙ put_content (is_taken c.take.result) (content_of c.self.inside) (with_row (with_frame c.args.stream (lane_of (content_of c.self.inside) c.args.stream) (cells_of c.args.cells.now c.args.quality)) (fresh_row (content_of c.self.inside) c.args.instant) (rows_in (with_ages c.self.inside.places.items c.self.inside.ages.items) c.self.inside.window c.self.inside.open.items))
-    ∙ ap (λ a. if is_taken a then after_take (content_of c.self.inside) c.args.stream c.args.instant (cells_of c.args.cells.now c.args.quality) else content_of c.self.inside) (answered c)
-    ∙ ap (λ (t : TableView). after_put t.content c.args.stream c.args.instant (cells_of c.args.cells.now c.args.quality)) c.self.view_is
+returns-clause-content g c =
+    ap (λ rs. record (content_of c.self.inside) { open_rows = rows_in (with_ages c.take.new.places.items c.take.new.ages.items) c.self.inside.window c.take.new.open.items; closed = rs }) (closed g c)
+    ∙ ap (λ rs. record (content_of c.self.inside) { open_rows = rs }) (rows g c)
+    ∙ put_content (is_taken c.take.result) (content_of c.self.inside) (with_row (with_frame c.args.stream (lane_of (content_of c.self.inside) c.args.stream) (cells_in g.B.Offered.view c.args.cells.now c.args.quality)) (fresh_row (content_of c.self.inside) c.args.instant) (rows_in (with_ages c.self.inside.places.items c.self.inside.ages.items) c.self.inside.window c.self.inside.open.items))
+    ∙ ap (λ a. if is_taken a then after_take (content_of c.self.inside) c.args.stream c.args.instant (cells_in g.B.Offered.view c.args.cells.now c.args.quality) else content_of c.self.inside) (answered g c)
+    ∙ ap (λ (t : TableView). after_put t.content c.args.stream c.args.instant (cells_in g.B.Offered.view c.args.cells.now c.args.quality)) c.self.view_is
 
 pub returns-clause-well_formed : goal.returns-clause-well_formed
-returns-clause-well_formed c =
-    rw (rows c, closed c) (keeps-offered c.numbers_rise.ensures (content_of c.self.inside) (is_taken c.take.result) c.args.stream (lane_of (content_of c.self.inside) c.args.stream) c.args.instant (cells_of c.args.cells.now c.args.quality) c.if-instant-self.false (near c) c.self.invariant.content)
+returns-clause-well_formed g c =
+    rw (rows g c, closed g c) (keeps-offered c.numbers_rise.ensures (content_of c.self.inside) (is_taken c.take.result) c.args.stream (lane_of (content_of c.self.inside) c.args.stream) c.args.instant (cells_in g.B.Offered.view c.args.cells.now c.args.quality) c.if-instant-self.false (near g c) c.self.invariant.content)
 
 pub invariant_of-self : goal.invariant_of-self
-invariant_of-self c =
+invariant_of-self g c =
     let ring : IsRing c.self.inside.window c.self.inside.last (streams_of (content_of c.self.inside)) c.self.inside.columns c.take.new.places.items c.take.new.open.items =
-    put_kept c.numbers_rise.ensures c.self.inside.window c.self.inside.last (streams_of (content_of c.self.inside)) c.self.inside.columns c.args.instant c.args.stream (lane_of (content_of c.self.inside) c.args.stream) (cells_of c.args.cells.now c.args.quality) c.self.inside.places.items c.self.inside.open.items c.take.result c.take.new.places.items c.take.new.open.items (into c) in
+    put_kept c.numbers_rise.ensures c.self.inside.window c.self.inside.last (streams_of (content_of c.self.inside)) c.self.inside.columns c.args.instant c.args.stream (lane_of (content_of c.self.inside) c.args.stream) (cells_in g.B.Offered.view c.args.cells.now c.args.quality) c.self.inside.places.items c.self.inside.open.items c.take.result c.take.new.places.items c.take.new.open.items (into g c) in
     record {
-      content = rw (rows c, closed c) (keeps-offered c.numbers_rise.ensures (content_of c.self.inside) (is_taken c.take.result) c.args.stream (lane_of (content_of c.self.inside) c.args.stream) c.args.instant (cells_of c.args.cells.now c.args.quality) c.if-instant-self.false (near c) c.self.invariant.content);
+      content = rw (rows g c, closed g c) (keeps-offered c.numbers_rise.ensures (content_of c.self.inside) (is_taken c.take.result) c.args.stream (lane_of (content_of c.self.inside) c.args.stream) c.args.instant (cells_in g.B.Offered.view c.args.cells.now c.args.quality) c.if-instant-self.false (near g c) c.self.invariant.content);
       size = ring.size;
       each = ring.each;
       placed = ring.placed;
-      ages = ages_size c;
+      ages = ages_size g c;
       layouts = c.self.invariant.layouts;
-      closed_placed = stands c;
+      closed_placed = stands g c;
       known = ring.known;
       room = rw c.take.ensures.open_capacity c.self.invariant.room;
       closed_room = c.self.invariant.closed_room;

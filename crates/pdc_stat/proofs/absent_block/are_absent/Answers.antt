@@ -2,7 +2,7 @@ use Rattle.std.proofs.Common.{◌≡◌, ℕ, ◌+◌, ◌-◌, ◌*◌, List, [
 use Rattle.std.proofs.lemmas.Bool.{false≢true}
 use Rattle.std.proofs.Math.Seq.{take-append_seam, drop-append_seam}
 use Rattle.std.proofs.lemmas.List.{length-replicate, length-take-le, replicate-append-replicate, take_all, take-append-drop}
-use Rattle.pdc_stat.proofs.absent_block.is_absent.Goals as goal
+use Rattle.pdc_stat.proofs.absent_block.are_absent.Goals as goal
 
 -- the words of an absent block behind STAT: values, and digital words
 abbrev rest_of : (p a d : ℕ) → List ℕ
@@ -55,20 +55,20 @@ whole words k = take_all (length words - k) (drop k words) (omega (arith, length
 
 pub returns-then-are_all : goal.returns-then-are_all
 returns-then-are_all c =
-    let len : length c.words-words.result.now ≡ 3 + 2 * c.args.block.now.shape.phasors + c.args.block.now.shape.analogs + c.from.result = omega (arith, c.words-words.ensures.count, c.from.ensures) in
-    let same : 0xA1F0 ∷ rest_of c.args.block.now.shape.phasors c.args.block.now.shape.analogs c.from.result ≡ 0xA1F0 ∷ rest_of c.args.block.now.shape.phasors c.args.block.now.shape.analogs c.args.block.now.shape.digitals =
-    ap (λ d. 0xA1F0 ∷ rest_of c.args.block.now.shape.phasors c.args.block.now.shape.analogs d) c.from.ensures in (
-      λ t. sym c.words-words.ensures.words ∙ is_so c.words-words.result.now c.args.block.now.shape.phasors c.args.block.now.shape.analogs c.from.result len c.if-words.false
-          (c.are_all.ensures.0 c.if-are_all.true) (subst (λ (xs : List ℕ). xs ≡ replicate (length xs) 0) (whole c.words-words.result.now (length c.words-words.result.now - c.from.result)) (c.are_all-then-are_all.ensures.0 t)) ∙ same,
-      λ h. c.are_all-then-are_all.ensures.1 (subst (λ (xs : List ℕ). xs ≡ replicate (length xs) 0) (sym (whole c.words-words.result.now (length c.words-words.result.now - c.from.result)))
-          (back_so c.words-words.result.now c.args.block.now.shape.phasors c.args.block.now.shape.analogs c.from.result len (c.words-words.ensures.words ∙ h ∙ sym same))),
+    let len : length c.args.words.now ≡ 3 + 2 * c.args.shape.phasors + c.args.shape.analogs + c.from.result = omega (arith, c.requires, c.from.ensures) in
+    let same : 0xA1F0 ∷ rest_of c.args.shape.phasors c.args.shape.analogs c.from.result ≡ 0xA1F0 ∷ rest_of c.args.shape.phasors c.args.shape.analogs c.args.shape.digitals =
+    ap (λ d. 0xA1F0 ∷ rest_of c.args.shape.phasors c.args.shape.analogs d) c.from.ensures in (
+      λ t. is_so c.args.words.now c.args.shape.phasors c.args.shape.analogs c.from.result len c.if-words.false
+          (c.are_all.ensures.0 c.if-are_all.true) (subst (λ (xs : List ℕ). xs ≡ replicate (length xs) 0) (whole c.args.words.now (length c.args.words.now - c.from.result)) (c.are_all-then-are_all.ensures.0 t)) ∙ same,
+      λ h. c.are_all-then-are_all.ensures.1 (subst (λ (xs : List ℕ). xs ≡ replicate (length xs) 0) (sym (whole c.args.words.now (length c.args.words.now - c.from.result)))
+          (back_so c.args.words.now c.args.shape.phasors c.args.shape.analogs c.from.result len (h ∙ sym same))),
     )
 
 pub returns-else-are_all : goal.returns-else-are_all
 returns-else-are_all c =
-    let len : length c.words-words.result.now ≡ 3 + 2 * c.args.block.now.shape.phasors + c.args.block.now.shape.analogs + c.from.result = omega (arith, c.words-words.ensures.count, c.from.ensures) in
-    let same : 0xA1F0 ∷ rest_of c.args.block.now.shape.phasors c.args.block.now.shape.analogs c.from.result ≡ 0xA1F0 ∷ rest_of c.args.block.now.shape.phasors c.args.block.now.shape.analogs c.args.block.now.shape.digitals =
-    ap (λ d. 0xA1F0 ∷ rest_of c.args.block.now.shape.phasors c.args.block.now.shape.analogs d) c.from.ensures in (
+    let len : length c.args.words.now ≡ 3 + 2 * c.args.shape.phasors + c.args.shape.analogs + c.from.result = omega (arith, c.requires, c.from.ensures) in
+    let same : 0xA1F0 ∷ rest_of c.args.shape.phasors c.args.shape.analogs c.from.result ≡ 0xA1F0 ∷ rest_of c.args.shape.phasors c.args.shape.analogs c.args.shape.digitals =
+    ap (λ d. 0xA1F0 ∷ rest_of c.args.shape.phasors c.args.shape.analogs d) c.from.ensures in (
       λ t. absurd (false≢true (sym c.if-are_all.false ∙ t)),
-      λ h. c.are_all.ensures.1 (front_so c.words-words.result.now c.args.block.now.shape.phasors c.args.block.now.shape.analogs c.from.result len (c.words-words.ensures.words ∙ h ∙ sym same)),
+      λ h. c.are_all.ensures.1 (front_so c.args.words.now c.args.shape.phasors c.args.shape.analogs c.from.result len (h ∙ sym same)),
     )
