@@ -2,7 +2,7 @@
 //! place for each instant of the window. One lane. The ring moves no words but those that a block has: a put writes them over the cell of
 //! its instant, closing copies none, and a row is written over one that the caller keeps.
 
-use crate::plain::{Block, Body, Few, Shape};
+use crate::plain::{self, Block, Body, Few, Shape};
 use std::collections::{BTreeMap, VecDeque};
 
 const STREAMS: usize = 16;
@@ -373,6 +373,9 @@ impl Table for RingTable {
 
 const SHAPE: Shape = Shape { phasors: 8, analogs: 4, digitals: 1 };
 
+/// The bytes of a body of this shape.
+const BODY_LEN: usize = 48;
+
 struct Aligner<T: Table> {
     table: T,
     layout: Layout,
@@ -392,10 +395,12 @@ impl<T: Table> Aligner<T> {
     }
 
     fn put(&mut self, stream: usize, instant: u64) {
-        let mut words = [0u16; 24];
-        words[1] = instant as u16;
-        words[2] = stream as u16;
-        let outcome = self.table.put(stream, instant, &[(stream, SHAPE, &words[..SHAPE.word_count()])], 0);
+        let mut bytes = [0; BODY_LEN];
+        bytes[2] = (instant / 256) as u8;
+        bytes[3] = instant as u8;
+        bytes[5] = stream as u8;
+        let Ok(body) = plain::read_body(SHAPE, &bytes) else { return };
+        let outcome = self.table.put(stream, instant, &[(stream, SHAPE, body)], 0);
         self.mixed = self.mixed.rotate_left(1) ^ outcome as u64;
     }
 
@@ -412,8 +417,9 @@ fn mix(row: &DueRow) -> u64 {
     let mut mixed = row.instant ^ u64::from(row.quality) << 60;
     for block in row.blocks.as_slice() {
         for word in block.words() {
-            mixed = mixed.rotate_left(1) ^ u64::from(*word);
+            mixed = mixed.wrapping_add(u64::from(*word));
         }
+        mixed = mixed.rotate_left(7);
     }
     mixed
 }

@@ -8,7 +8,7 @@ ghost use Rattle.pdc_table.specs.Content.{IsContent, IsPut};
 ghost use Rattle.pdc_table.specs.KeptRow.{popped_into};
 ghost use Rattle.pdc_table.specs.Layout.{layout_view};
 ghost use Rattle.pdc_table.specs.Steps as table;
-ghost use Rattle.pdc_table.specs.Taking.{cells_of};
+ghost use Rattle.pdc_table.specs.Taking.{body_cells_of};
 ghost use Rattle.pdc_reading.specs.Views.{section_part};
 ghost use Rattle.pdc_reading.specs.declared.arrival.ColumnSection.{ColumnSection as ColumnSectionData};
 ghost use Rattle.pdc_state.specs.Follows.{told_by};
@@ -25,7 +25,7 @@ ghost use Rattle.pdc_align.specs.Calls.{after_data, after_adopting, disagreement
 
 use crate::adopting::adopt_in;
 use crate::{Column, Plan, Ticked, columns};
-use pdc_block::Block;
+use pdc_block::Body;
 use pdc_cfg::SectionView;
 use pdc_closing::{rows_are_those, tick_is_tick};
 use pdc_life::{MAX_PMUS, Outcome, Refusal, WaitKind};
@@ -145,21 +145,21 @@ impl<T: Table> Alignment<T> {
         Alignment::first(alloc, plan, start, floor, counts, now)
     }
 
-    /// Offers data of a stream for an instant: its blocks, each with its column, and its time quality byte. The answer is the end
+    /// Offers data of a stream for an instant: its blocks, lent from the payload, each with its column, and its time quality byte. The answer is the end
     /// of what a concentrator answers to data.
     pub fn put(
         &mut self,
         stream: usize,
         instant: u64,
-        cells: &[(usize, Block)],
+        cells: &[(usize, Body<'_>)],
         quality: u8,
     ) -> Outcome
-        requires { IsPut self.old.state.content stream (cells_of cells.now quality) }
+        requires { IsPut self.old.state.content stream (body_cells_of cells.now quality) }
         ensures answer { (g : Given) (E : List Entry) → StandsFor g E self.old.state →
-            result ≡ outcome_in_time g E stream instant (cells_of cells.now quality) }
+            result ≡ outcome_in_time g E stream instant (body_cells_of cells.now quality) }
         ensures stands { (g : Given) (E : List Entry) (bytes payload : List ℕ) → StandsFor g E self.old.state →
-            IsRun g (Arrive stream bytes (Data instant quality payload) (with_cells result (cells_of cells.now quality)) ∷ E) →
-            StandsFor g (Arrive stream bytes (Data instant quality payload) (with_cells result (cells_of cells.now quality)) ∷ E) self.new.state }
+            IsRun g (Arrive stream bytes (Data instant quality payload) (with_cells result (body_cells_of cells.now quality)) ∷ E) →
+            StandsFor g (Arrive stream bytes (Data instant quality payload) (with_cells result (body_cells_of cells.now quality)) ∷ E) self.new.state }
         ensures sizes { KeepsSizes self.old.state self.new.state }
         ensures memory { self.new.memory ≡ self.old.memory }
         ensures disagreements { self.new.disagreements ≡ self.old.disagreements }
@@ -316,12 +316,12 @@ impl<T: Table> Alignment<T> {
         &mut self,
         stream: usize,
         instant: u64,
-        cells: &[(usize, Block)],
+        cells: &[(usize, Body<'_>)],
         quality: u8,
     ) -> Outcome
-        requires { IsPut self.old.state.content stream (cells_of cells.now quality) }
-        ensures answer { result ≡ put_outcome self.old.state stream instant (cells_of cells.now quality) }
-        ensures state { self.new.state ≡ after_data self.old.state stream instant (cells_of cells.now quality) }
+        requires { IsPut self.old.state.content stream (body_cells_of cells.now quality) }
+        ensures answer { result ≡ put_outcome self.old.state stream instant (body_cells_of cells.now quality) }
+        ensures state { self.new.state ≡ after_data self.old.state stream instant (body_cells_of cells.now quality) }
         ensures sizes { KeepsSizes self.old.state self.new.state }
         ensures memory { self.new.memory ≡ self.old.memory }
         ensures disagreements { self.new.disagreements ≡ self.old.disagreements }
@@ -333,7 +333,7 @@ impl<T: Table> Alignment<T> {
         if instant.saturating_sub(self.current) > self.ahead {
             return Outcome::Refused(Refusal::Ahead);
         }
-        outcome_of(self.table.put(stream, instant, cells, quality))
+        outcome_of(self.table.put_bodies(stream, instant, cells, quality))
     }
 
     /// Holds each section in its column.

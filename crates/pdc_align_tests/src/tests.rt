@@ -3,7 +3,7 @@ ghost use Rattle.std.specs.Prelude.{◌≡◌, ◌<◌};
 ghost use Rattle.pdc_align.specs.Align.{HasSizes};
 
 use pdc_align::{Alignment, Plan, Ticked};
-use pdc_block::Block;
+use pdc_block::Body;
 use pdc_cfg::{SectionView, Shape};
 use pdc_life::{MAX_PMUS, Outcome, Refusal, WaitKind};
 use pdc_reading::ColumnSection;
@@ -39,8 +39,12 @@ fn put<T: Table>(alignment: &mut Alignment<T>, stream: usize, instant: u64, freq
     requires stream { stream < 2 }
     ensures { HasSizes 2 1 alignment.new.state }
 {
-    let block = Block::from_words(Shape::default(), &[0, freq, 0]);
-    alignment.put(stream, instant, &[(stream, block)], 3)
+    let [high, low] = freq.to_be_bytes();
+    let body = Body {
+        shape: Shape::default(),
+        bytes: &[0, 0, high, low, 0, 0],
+    };
+    alignment.put(stream, instant, &[(stream, body)], 3)
 }
 
 /// A section of count 0 comes for the first column, and is adopted; its data closes with the next tick.

@@ -2,11 +2,10 @@
 ghost use Rattle.std.specs.Prelude.{◌≡◌, ◌<◌, ◌≤◌};
 
 use arrayvec::ArrayVec;
-use pdc_block::Block;
+use pdc_block::Body;
 use pdc_cfg::Shape;
 use pdc_table::{DueRow, RingTable, RowLayout, SortedTable, Table, WaitRule, spare_row};
 use std::alloc::{AllocError, Global};
-use std::slice;
 
 const STREAMS: usize = 16;
 
@@ -16,13 +15,14 @@ const SHAPE: Shape = Shape {
     digitals: 1,
 };
 
+/// The bytes of a body of this shape.
+const BODY_LEN: usize = 48;
+
 /// A table of 16 streams, one for each column.
 #[derive(Drop)]
 struct Aligner<T: Table> {
     table: T,
     layout: RowLayout,
-    /// The words of each put are written over this cell.
-    cell: (usize, Block),
     /// Each row is popped into this one.
     row: DueRow,
     mixed: u64,
@@ -48,7 +48,6 @@ impl<T: Table> Aligner<T> {
                 change: 0,
                 shapes,
             },
-            cell: Default::default(),
             row: spare_row(),
             mixed: 0,
         })
@@ -63,15 +62,15 @@ impl<T: Table> Aligner<T> {
     fn put(&mut self, stream: usize, instant: u64)
         requires { stream < 16 }
     {
-        let mut words = [0u16; 24];
-        words[1] = (instant % 65536) as u16;
-        words[2] = stream as u16;
-        let (column, block) = &mut self.cell;
-        *column = stream;
-        block.set(SHAPE, &words);
-        let outcome = self
-            .table
-            .put(stream, instant, slice::from_ref(&self.cell), 0);
+        let mut bytes = [0; BODY_LEN];
+        bytes[2] = (instant / 256 % 256) as u8;
+        bytes[3] = (instant % 256) as u8;
+        bytes[5] = stream as u8;
+        let body = Body {
+            shape: SHAPE,
+            bytes: &bytes,
+        };
+        let outcome = self.table.put_bodies(stream, instant, &[(stream, body)], 0);
         self.mixed = self.mixed.rotate_left(1) ^ outcome as u64;
     }
 
@@ -95,8 +94,9 @@ fn mix(row: &DueRow) -> u64 {
     let mut mixed = row.instant ^ u64::from(row.quality) << 60;
     for block in row.blocks.as_slice() {
         for word in block.words() {
-            mixed = mixed.rotate_left(1) ^ u64::from(*word);
+            mixed = mixed.wrapping_add(u64::from(*word));
         }
+        mixed = mixed.rotate_left(7);
     }
     mixed
 }

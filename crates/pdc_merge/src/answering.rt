@@ -16,7 +16,7 @@ ghost use Rattle.pdc_merge.specs.Cells.{blocks_len, cells_in, conflicts_in, data
 ghost use Rattle.pdc_merge.specs.Held.{AreAllInPlace, AreInPlace, LayoutView, layout_at, layouts_of};
 ghost use Rattle.pdc_merge.specs.Merger.{IsPlaced, IsReady};
 
-use crate::cells::{CellRoom, write_cells};
+use crate::cells::{new_room, write_cells};
 use crate::held_layout::HeldLayout;
 use crate::layouts::HeldLayouts;
 use pdc_align::{Alignment, columns_stand, others_are_left};
@@ -46,7 +46,6 @@ fn data_refusal(layout: &HeldLayout, payload: &[u8]) -> Option<Refusal>
 /// Offers the cells of data that a layout reads.
 fn put_data<T: Table>(
     alignment: &mut Alignment<T>,
-    cells: &mut CellRoom,
     layout: &HeldLayout,
     stream: usize,
     instant: u64,
@@ -72,14 +71,14 @@ fn put_data<T: Table>(
 {
     words_are_cut();
     let blocks = &payload[OWN_BLOCK_LEN..];
-    let count = write_cells(alignment, layout.sections(), blocks, cells, 0);
+    let mut cells = new_room();
+    let count = write_cells(alignment, layout.sections(), blocks, &mut cells, 0);
     alignment.put(stream, instant, &cells[..count], quality)
 }
 
 /// Answers data of a node under its layout, and takes it where it comes in time.
 fn answer_data<T: Table>(
     alignment: &mut Alignment<T>,
-    cells: &mut CellRoom,
     layout: &HeldLayout,
     stream: usize,
     instant: u64,
@@ -104,7 +103,7 @@ fn answer_data<T: Table>(
     columns_stand();
     match data_refusal(layout, payload) {
         Some(refusal) => Outcome::Refused(refusal),
-        None => put_data(alignment, cells, layout, stream, instant, quality, payload),
+        None => put_data(alignment, layout, stream, instant, quality, payload),
     }
 }
 
@@ -200,11 +199,10 @@ fn answer_configuration<T: Table>(
     outcome
 }
 
-/// Answers what arrives from a node; the cells of data are written into the room for them.
+/// Answers what arrives from a node.
 pub fn answer<T: Table>(
     alignment: &mut Alignment<T>,
     layouts: &mut HeldLayouts,
-    cells: &mut CellRoom,
     stream: usize,
     arrival: &Arrival<'_>,
 ) -> Outcome
@@ -231,9 +229,7 @@ pub fn answer<T: Table>(
             quality,
             payload,
         } => match layouts.of(stream) {
-            Some(layout) => answer_data(
-                alignment, cells, layout, stream, *instant, *quality, payload,
-            ),
+            Some(layout) => { answer_data(alignment, layout, stream, *instant, *quality, payload) }
             None => Outcome::Refused(Refusal::NoConfig),
         },
         Arrival::Layout { stamp, sections } => {

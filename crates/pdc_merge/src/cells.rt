@@ -4,8 +4,7 @@ ghost use Rattle.std.specs.List.{AllByRecursion};
 ghost use Rattle.pdc_block.specs.Block.{words_in};
 ghost use Rattle.pdc_cfg.specs.Section.{fields_of_view};
 ghost use Rattle.pdc_cfg.specs.Shape.{word_count_of};
-ghost use Rattle.pdc_row.specs.CellView.{block_view};
-ghost use Rattle.pdc_table.specs.Taking.{cells_of};
+ghost use Rattle.pdc_table.specs.Taking.{body_cells_of};
 ghost use Rattle.pdc_align.specs.Calls.{column_in};
 ghost use Rattle.pdc_merge.specs.Cells.{blocks_len, cell_in, cells_in, has_count};
 ghost use Rattle.pdc_merge.specs.declared.held_layout.HeldSection.{HeldSection as HeldSectionData};
@@ -13,14 +12,22 @@ ghost use Rattle.pdc_merge.specs.declared.held_layout.HeldSection.{HeldSection a
 use crate::held_layout::HeldSection;
 use pdc_align::Alignment;
 use pdc_answering::words_are_cut;
-use pdc_block::Block;
-use pdc_cfg::SectionView;
+use pdc_block::Body;
+use pdc_cfg::{SectionView, Shape};
 use pdc_life::MAX_PMUS;
 use pdc_table::Table;
 
-/// Room for the cells of a frame, each a block with its column. It is kept from one frame to the next: the words of a frame are
-/// written over those of the one before.
-pub type CellRoom = [(usize, Block); MAX_PMUS];
+/// Room for the cells of a frame, each a block, lent from the payload, with its column.
+pub type CellRoom<'a> = [(usize, Body<'a>); MAX_PMUS];
+
+/// Room in which no cell was written yet.
+pub fn new_room<'a>() -> CellRoom<'a> {
+    let blank = Body {
+        shape: Shape::default(),
+        bytes: &[0; 6],
+    };
+    [(0, blank); MAX_PMUS]
+}
 
 /// Whether the section in force has this count.
 fn has_count(in_force: Option<SectionView>, count: u16) -> bool
@@ -32,55 +39,48 @@ fn has_count(in_force: Option<SectionView>, count: u16) -> bool
     }
 }
 
-/// Makes this the cell of a section whose block has these bytes.
-fn set_cell(cell: &mut (usize, Block), section: &HeldSection, block: &[u8])
-    requires { length block.now ≡ 2 * word_count_of section.now.shape }
-    ensures column { cell.new.0 ≡ section.now.column }
-    ensures block { block_view cell.new.1 ≡ record { shape = section.now.shape; words = words_in block.now } }
-{
-    let (column, kept) = cell;
-    *column = section.column;
-    kept.read(section.shape, block);
-}
-
 /// Writes the cell of a section whose block has these bytes behind so many cells, where its count is in force, and answers how many
 /// there are then.
-fn write_cell<T: Table>(
+fn write_cell<'a, T: Table>(
     alignment: &Alignment<T>,
     section: &HeldSection,
-    block: &[u8],
-    cells: &mut [(usize, Block)],
+    block: &'a [u8],
+    cells: &mut [(usize, Body<'a>)],
     count: usize,
 ) -> usize
     requires room { count < length cells.old }
     requires exists { section.now.column < length alignment.now.state.columns }
     requires size { length block.now ≡ 2 * word_count_of section.now.shape }
-    ensures cells { (quality : ℕ) → cells_of (take result cells.new) quality
-        ≡ cells_of (take count cells.old) quality ++ cell_in (column_in alignment.now.state section.now.column).in_force quality section.now (words_in block.now) }
+    ensures cells { (quality : ℕ) → body_cells_of (take result cells.new) quality
+        ≡ body_cells_of (take count cells.old) quality ++ cell_in (column_in alignment.now.state section.now.column).in_force quality section.now (words_in block.now) }
     ensures len { length cells.new ≡ length cells.old }
     ensures grown { result ≤ count + 1 }
 {
     if !has_count(alignment.in_force(section.column), section.count) {
         return count;
     }
-    set_cell(&mut cells[count], section, block);
+    let body = Body {
+        shape: section.shape,
+        bytes: block,
+    };
+    cells[count] = (section.column, body);
     count + 1
 }
 
 /// Writes the cells of the sections, whose blocks these bytes are, one after the other, behind so many cells, and answers how many there
 /// are then: those whose count is in force. What the others have is passed over.
-pub fn write_cells<T: Table>(
+pub fn write_cells<'a, T: Table>(
     alignment: &Alignment<T>,
     sections: &[HeldSection],
-    blocks: &[u8],
-    cells: &mut [(usize, Block)],
+    blocks: &'a [u8],
+    cells: &mut [(usize, Body<'a>)],
     count: usize,
 ) -> usize
     requires room { count + length sections.now ≤ length cells.old }
     requires exist { AllByRecursion (λ (s : HeldSectionData). s.column < length alignment.now.state.columns) sections.now }
     requires size { length blocks.now ≡ blocks_len sections.now }
-    ensures cells { (quality : ℕ) → cells_of (take result cells.new) quality
-        ≡ cells_of (take count cells.old) quality ++ cells_in alignment.now.state quality sections.now (words_in blocks.now) }
+    ensures cells { (quality : ℕ) → body_cells_of (take result cells.new) quality
+        ≡ body_cells_of (take count cells.old) quality ++ cells_in alignment.now.state quality sections.now (words_in blocks.now) }
     ensures len { length cells.new ≡ length cells.old }
     ensures grown { result ≤ length cells.old }
 {

@@ -6,7 +6,6 @@ ghost use Rattle.pdc_life.specs.MergerReading.{given_of_merger};
 ghost use Rattle.pdc_merge.specs.Merger.{StandsFor};
 
 use crate::answering;
-use crate::cells::CellRoom;
 use crate::layouts::HeldLayouts;
 use pdc_align::{Alignment, Plan, Ticked, append_layout_frame};
 use pdc_answering::Counts;
@@ -28,8 +27,6 @@ pub struct Merger<T: Table> {
     start: u32,
     alignment: Alignment<T>,
     layouts: HeldLayouts,
-    /// The cells of the frame that arrives.
-    cells: CellRoom,
     counts: Counts,
 }
 
@@ -96,7 +93,6 @@ impl<T: Table> Merger<T> {
             start,
             alignment,
             layouts: HeldLayouts::new(),
-            cells: Default::default(),
             counts: Counts::new(),
         })
     }
@@ -131,13 +127,7 @@ impl<T: Table> Core for Merger<T> {
 
     fn arrive(&mut self, stream: usize, arrival: &Arrival<'_>) -> Outcome {
         merger_lives_are_runs();
-        let outcome = answering::answer(
-            &mut self.alignment,
-            &mut self.layouts,
-            &mut self.cells,
-            stream,
-            arrival,
-        );
+        let outcome = answering::answer(&mut self.alignment, &mut self.layouts, stream, arrival);
         self.counts.count(outcome);
         outcome
     }

@@ -1,10 +1,8 @@
 //! What a node answers to what arrives, over its alignment.
-ghost use Rattle.std.specs.Prelude.{◌≡◌, ℕ, ◌*◌, ◌∷◌, ◌<◌, List, Option, length, map};
+ghost use Rattle.std.specs.Prelude.{◌≡◌, ℕ, ◌∷◌, ◌<◌, List, Option, length, map};
 ghost use Rattle.std.specs.List.{AllByRecursion};
 ghost use Rattle.pdc_align.specs.Align.{KeepsSizes, StandsFor};
-ghost use Rattle.pdc_block.specs.Block.{words_in, words_of};
 ghost use Rattle.pdc_cfg.specs.Section.{SectionFields};
-ghost use Rattle.pdc_cfg.specs.Shape.{word_count_of};
 ghost use Rattle.pdc_life.specs.Answer.{answered, ToArrive};
 ghost use Rattle.pdc_life.specs.Arrival.{Data, Layout, Stamp};
 ghost use Rattle.pdc_life.specs.Given.{Given, count_for};
@@ -17,28 +15,11 @@ ghost use Rattle.pdc_state.specs.State.{shape_in};
 
 use pdc_align::{Alignment, others_are_left};
 use pdc_answering::{count_for, is_candidate, section_answer};
-use pdc_block::Block;
+use pdc_block::Body;
 use pdc_cfg::{CfgFault, Shape};
 use pdc_life::{MAX_PMUS, Outcome, Refusal};
 use pdc_reading::{Arrival, ColumnSection};
 use pdc_table::Table;
-use std::slice;
-
-/// The cell of a data frame: its block, with its column. It is kept from one frame to the next: the words of a frame are written over
-/// those of the one before.
-pub type CellRoom = (usize, Block);
-
-/// Makes this the cell of the column whose block has these bytes.
-fn set_cell(cell: &mut CellRoom, column: usize, shape: Shape, bytes: &[u8])
-    requires { length bytes.now ≡ 2 * word_count_of shape }
-    ensures column { cell.new.0 ≡ column }
-    ensures shape { cell.new.1.shape ≡ shape }
-    ensures words { words_of cell.new.1 ≡ words_in bytes.now }
-{
-    let (place, block) = cell;
-    *place = column;
-    block.read(shape, bytes);
-}
 
 /// The shape in force for the column.
 fn shape_in_force<T: Table>(alignment: &Alignment<T>, column: usize) -> Option<Shape>
@@ -54,7 +35,6 @@ fn shape_in_force<T: Table>(alignment: &Alignment<T>, column: usize) -> Option<S
 /// Answers data of a PMU, and takes it where it comes in time.
 fn answer_data<T: Table>(
     alignment: &mut Alignment<T>,
-    cell: &mut CellRoom,
     stream: usize,
     instant: u64,
     quality: u8,
@@ -77,8 +57,11 @@ fn answer_data<T: Table>(
     if payload.len() != 2 * shape.word_count() {
         return Outcome::Refused(Refusal::WrongLength);
     }
-    set_cell(cell, stream, shape, payload);
-    alignment.put(stream, instant, slice::from_ref(cell), quality)
+    let body = Body {
+        shape,
+        bytes: payload,
+    };
+    alignment.put(stream, instant, &[(stream, body)], quality)
 }
 
 /// Answers a configuration of a PMU, and holds its section where it is new.
@@ -110,10 +93,9 @@ fn answer_layout<T: Table>(
     outcome
 }
 
-/// Answers what arrives for a PMU; the cell of data is written into the room for it.
+/// Answers what arrives for a PMU.
 pub fn answer<T: Table>(
     alignment: &mut Alignment<T>,
-    cell: &mut CellRoom,
     opening: &[u16; MAX_PMUS],
     stream: usize,
     arrival: &Arrival<'_>,
@@ -136,7 +118,7 @@ pub fn answer<T: Table>(
             instant,
             quality,
             payload,
-        } => answer_data(alignment, cell, stream, *instant, *quality, payload),
+        } => answer_data(alignment, stream, *instant, *quality, payload),
         Arrival::Layout { sections, .. } => {
             answer_layout(alignment, count_for(stream, opening), stream, sections)
         }

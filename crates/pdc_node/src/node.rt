@@ -5,7 +5,7 @@ ghost use Rattle.pdc_life.specs.Given.{given_of};
 ghost use Rattle.pdc_life.specs.Node.{node_answer};
 ghost use Rattle.pdc_node.specs.Node.{StandsFor};
 
-use crate::answering::{self, CellRoom};
+use crate::answering;
 use pdc_align::{Alignment, Plan, Ticked, append_layout_frame};
 use pdc_answering::Counts;
 use pdc_core::Core;
@@ -23,8 +23,6 @@ pub struct Node<T: Table> {
     start: u32,
     opening: [u16; MAX_PMUS],
     alignment: Alignment<T>,
-    /// The cell of the frame that arrives.
-    cell: CellRoom,
     counts: Counts,
 }
 
@@ -90,7 +88,6 @@ impl<T: Table> Node<T> {
             start,
             opening: *counts,
             alignment,
-            cell: Default::default(),
             counts: Counts::new(),
         })
     }
@@ -118,13 +115,7 @@ impl<T: Table> Core for Node<T> {
 
     fn arrive(&mut self, stream: usize, arrival: &Arrival<'_>) -> Outcome {
         lives_are_runs();
-        let outcome = answering::answer(
-            &mut self.alignment,
-            &mut self.cell,
-            &self.opening,
-            stream,
-            arrival,
-        );
+        let outcome = answering::answer(&mut self.alignment, &self.opening, stream, arrival);
         self.counts.count(outcome);
         outcome
     }

@@ -281,12 +281,7 @@ fn all_taken(required: &[bool], taken: &[bool]) -> bool
 }
 
 /// Puts the blocks into their columns, in this lane.
-fn put_cells<B: Offered>(
-    columns: &mut [Column],
-    lane: usize,
-    cells: &[(usize, B)],
-    quality: u8,
-)
+fn put_cells<B: Offered>(columns: &mut [Column], lane: usize, cells: &[(usize, B)], quality: u8)
     requires { All (λ (cell : ℕ × B). cell.0 < length columns.old) cells.now }
     ensures { columns.new ≡ with_cells lane (cells_in B.view cells.now quality) columns.old }
 {

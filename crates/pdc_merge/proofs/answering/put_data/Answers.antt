@@ -3,7 +3,7 @@ use Rattle.std.proofs.lemmas.List.{length-drop, take_all}
 use Rattle.pdc_block.specs.Block.{words_in}
 use Rattle.pdc_row.specs.CellView.{CellView}
 use Rattle.pdc_table.specs.Content.{IsPut}
-use Rattle.pdc_table.specs.Taking.{cells_of}
+use Rattle.pdc_table.specs.Taking.{body_cells_of}
 use Rattle.pdc_merge.specs.Cells.{cells_in}
 use Rattle.pdc_merge.specs.declared.held_layout.HeldSection.{HeldSection}
 use Rattle.pdc_merge.proofs.Placed.{is_put}
@@ -18,7 +18,7 @@ put-requires g c =
     let q = c.args.quality in
     let payload = c.args.payload.now in
     let rest : List ℕ = take (length payload - 14) (drop 14 payload) in
-    let cells : cells_of (take c.write_cells-count.result c.write_cells-count.new.cells) q ≡ cells_in a q c.args.layout.now.sections (drop 7 (words_in payload)) =
+    let cells : body_cells_of (take c.write_cells-count.result c.write_cells-count.new.cells) q ≡ cells_in a q c.args.layout.now.sections (drop 7 (words_in payload)) =
     c.write_cells-count.ensures.cells q
     ∙ ap (λ (sections : List HeldSection). cells_in a q sections (words_in rest)) c.sections.ensures.sections
     ∙ ap (cells_in a q c.args.layout.now.sections) (ap words_in (behind_own payload) ∙ c.words_are_cut.ensures.behind 7 payload) in
