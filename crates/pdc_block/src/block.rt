@@ -3,7 +3,7 @@ ghost use Rattle.std.specs.Prelude.{◌≡◌, ◌<◌, ◌≤◌, ◌^◌, ℕ,
 ghost use Rattle.arrayvec.specs.ArrayVec.{array_vec_len};
 ghost use Rattle.pdc_cfg.specs.Shape.{word_count_of};
 
-use crate::in_place::{read_words, set_words};
+use crate::in_place::set_words;
 use arrayvec::ArrayVec;
 use pdc_cfg::{MAX_WORDS, Shape};
 use std::alloc::AllocError;
@@ -52,7 +52,7 @@ impl Clone for Block {
 }
 
 impl Block {
-    ghost use Rattle.pdc_block.specs.Block.{body_len_of, words_in, words_of};
+    ghost use Rattle.pdc_block.specs.Block.{words_of};
 
     /// The block of this shape and these words.
     pub fn from_words(shape: Shape, words: &[u16]) -> Block
@@ -76,16 +76,6 @@ impl Block {
     {
         self.shape = shape;
         set_words(&mut self.words, words);
-    }
-
-    /// Makes this the block of this shape that the bytes are, in place: each word is read where it lies, and written once.
-    pub fn read(&mut self, shape: Shape, bytes: &[u8])
-        requires { length bytes.now ≡ body_len_of shape }
-        ensures shape { self.new.shape ≡ shape }
-        ensures words { words_of self.new ≡ words_in bytes.now }
-    {
-        self.shape = shape;
-        read_words(&mut self.words, shape.word_count(), bytes);
     }
 
     /// The words in wire order.

@@ -19,20 +19,6 @@ pub fn set_words(kept: &mut ArrayVec<u16, MAX_WORDS>, words: &[u16])
     }
 }
 
-/// Makes these the words of a block: as many as this, and those that the bytes write. Where there were as many before, they are written
-/// over.
-pub fn read_words(kept: &mut ArrayVec<u16, MAX_WORDS>, count: usize, bytes: &[u8])
-    requires most { count ≤ MAX_WORDS }
-    requires size { length bytes.now ≡ 2 * count }
-    ensures words { kept.new.items ≡ words_in bytes.now }
-    ensures count { length kept.new.items ≡ count }
-{
-    if kept.len() != count {
-        *kept = zeros(count);
-    }
-    read_into(kept.as_mut_slice(), bytes);
-}
-
 /// So many words, to be written over.
 fn zeros(count: usize) -> ArrayVec<u16, MAX_WORDS>
     requires { count ≤ MAX_WORDS }
