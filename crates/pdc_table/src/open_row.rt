@@ -85,6 +85,7 @@ impl OpenRow {
     }
 
     /// Takes a frame of the stream: its blocks go into their columns, in this lane.
+    #[inline]
     pub(crate) fn take<B: Offered>(
         &mut self,
         stream: usize,
@@ -101,6 +102,7 @@ impl OpenRow {
     }
 
     /// Takes the frame, unless the stream was taken already: then the first stays.
+    #[inline]
     pub(crate) fn offer<B: Offered>(
         &mut self,
         stream: usize,

@@ -15,7 +15,7 @@ ghost use Rattle.pdc_table.specs.Closing.{closing, counter, is_due, staying};
 ghost use Rattle.pdc_table.specs.KeptRow.{popped_into};
 ghost use Rattle.pdc_table.specs.Layout.{layout_view};
 ghost use Rattle.pdc_table.specs.OpenInstants.{instants_of};
-ghost use Rattle.pdc_table.specs.RingRows.{base_row, changed, closed_rows, laid, met_row, no_layout, older, row_in, rows_in, with_ages};
+ghost use Rattle.pdc_table.specs.RingRows.{HaveGrown, base_row, changed, closed_rows, grown, laid, met_row, no_layout, older, row_in, rows_in, with_ages};
 ghost use Rattle.pdc_table.specs.Steps.{answer_at, disagreements_in, is_taken};
 ghost use Rattle.pdc_table.specs.Taking.{cells_in, with_frame, without_column, without_stream};
 ghost use Rattle.pdc_table.specs.Views.{OpenRowView, blank_row};
@@ -92,8 +92,38 @@ fn highest(open: &[u64], closed: &VecDeque<u64>) -> Option<u64>
     }
 }
 
+/// One open instant for so many places, or fewer, are few: their places are looked for, and the others passed over.
+const FEW: u64 = 16;
+
+/// Counts one more tick for each open instant.
+pub fn grow_older(ages: &mut Vec<u64>, window: u64, open: &[u64])
+    requires least { 0 < window }
+    requires size { length ages.old.items ≡ window }
+    ensures grown { HaveGrown window open.now ages.old.items ages.new.items }
+    ensures capacity { vec_capacity ages.new ≡ vec_capacity ages.old }
+{
+    if (open.len() as u64) <= window / FEW {
+        grow_open(ages, window, open);
+    } else {
+        grow_all(ages);
+    }
+}
+
+/// Counts one more tick at the place of each of these instants.
+fn grow_open(ages: &mut Vec<u64>, window: u64, open: &[u64])
+    requires least { 0 < window }
+    requires size { length ages.old.items ≡ window }
+    ensures items { ages.new.items ≡ grown window open.now ages.old.items }
+    ensures capacity { vec_capacity ages.new ≡ vec_capacity ages.old }
+{
+    for instant in open {
+        let place = place_of(window, *instant);
+        ages[place] = ages[place].saturating_add(1);
+    }
+}
+
 /// Counts one more tick at each place.
-pub fn grow_older(ages: &mut Vec<u64>)
+fn grow_all(ages: &mut Vec<u64>)
     ensures items { ages.new.items ≡ map older ages.old.items }
     ensures capacity { vec_capacity ages.new ≡ vec_capacity ages.old }
 {

@@ -143,7 +143,7 @@ impl Table for RingTable {
 
     fn tick(&mut self, rule: WaitRule, layout: &RowLayout) -> u32 {
         numbers_rise();
-        ring::grow_older(&mut self.ages);
+        ring::grow_older(&mut self.ages, self.window, &self.open);
         let RingTable {
             window,
             required,

@@ -1,4 +1,4 @@
-use Rattle.std.proofs.Common.{rules, arith, ◌≡◌, ◌≤◌, ◌+◌, ◌++◌, ◌∙◌, ap, length, map, refl, subst, sym, take, vec_len}
+use Rattle.std.proofs.Common.{rules, arith, ◌≡◌, ◌≤◌, ◌+◌, ◌++◌, ◌∙◌, ap, length, map, refl, subst, sym, take, vec_len, inl, inr}
 use Rattle.std.proofs.lemmas.List.{length-map}
 use Rattle.std.specs.VecDeque.{deque_len}
 use Rattle.pdc_table.specs.Closing.{aged, closing, counter, staying}
@@ -10,14 +10,14 @@ use Rattle.pdc_table.specs.Row.{row_of}
 use Rattle.pdc_table.specs.Steps.{after_tick, closing_of, disagreements_after, disagreements_in, staying_of, tick_answer}
 use Rattle.pdc_table.specs.TableView.{TableView}
 use Rattle.pdc_table.proofs.Keeps.{closed_shapes, closing_few, held_fit, keeps-tick}
-use Rattle.pdc_table.proofs.RingAges.{aged_closed, aged_length, aged_placed, mapped_rows, older_length, older_rows}
+use Rattle.pdc_table.proofs.RingAges.{aged_closed, aged_length, aged_placed, grew_length, grown_rows, mapped_rows, older_rows}
 use Rattle.pdc_table.proofs.RingClosed.{AreApart, are_apart_take, held_apart, laid-length, laid_closed, placed_more}
 use Rattle.pdc_table.proofs.RingKept.{IsRing, ring_closed}
-use Rattle.pdc_table.proofs.RingRows.{ArePlaced, near_open}
+use Rattle.pdc_table.proofs.RingRows.{ArePlaced, changed-open, near_open}
 use Rattle.pdc_table.proofs.ring_table.RingTableTable.tick.Goals as goal
 
 pub close_due-requires-clause-ages_size : goal.close_due-requires-clause-ages_size
-close_due-requires-clause-ages_size c = ap length c.deref-2.ensures.value ∙ older_length c.self.inside.ages.items c.grow_older.new.ages.items c.self.inside.window c.grow_older.ensures.items c.self.invariant.ages
+close_due-requires-clause-ages_size c = ap length c.deref-3.ensures.value ∙ grew_length c.self.inside.window c.deref.result.now c.self.inside.ages.items c.grow_older.new.ages.items c.grow_older.ensures.grown c.self.invariant.ages
 
 pub close_due-requires-clause-rising : goal.close_due-requires-clause-rising
 close_due-requires-clause-rising c =
@@ -25,9 +25,9 @@ close_due-requires-clause-rising c =
 
 pub close_due-requires-clause-placed : goal.close_due-requires-clause-placed
 close_due-requires-clause-placed c =
-    subst (λ ps. ArePlaced (with_ages ps c.deref-2.result.now) c.self.inside.window c.self.inside.open.items) (sym c.deref.ensures.value)
-    (subst (λ ns. ArePlaced (with_ages c.self.inside.places.items ns) c.self.inside.window c.self.inside.open.items) (sym c.deref-2.ensures.value)
-    (aged_placed c.self.inside.places.items c.grow_older.new.ages.items c.self.inside.window c.self.inside.open.items (omega (arith, c.self.invariant.content.window_least)) c.self.invariant.size (older_length c.self.inside.ages.items c.grow_older.new.ages.items c.self.inside.window c.grow_older.ensures.items c.self.invariant.ages) c.self.invariant.placed))
+    subst (λ ps. ArePlaced (with_ages ps c.deref-3.result.now) c.self.inside.window c.self.inside.open.items) (sym c.deref-2.ensures.value)
+    (subst (λ ns. ArePlaced (with_ages c.self.inside.places.items ns) c.self.inside.window c.self.inside.open.items) (sym c.deref-3.ensures.value)
+    (aged_placed c.self.inside.places.items c.grow_older.new.ages.items c.self.inside.window c.self.inside.open.items (omega (arith, c.self.invariant.content.window_least)) c.self.invariant.size (grew_length c.self.inside.window c.deref.result.now c.self.inside.ages.items c.grow_older.new.ages.items c.grow_older.ensures.grown c.self.invariant.ages) c.self.invariant.placed))
 
 pub close_due-requires-clause-room : goal.close_due-requires-clause-room
 close_due-requires-clause-room c =
@@ -36,33 +36,38 @@ close_due-requires-clause-room c =
     let closed : deque_len c.self.inside.closed ≡ length c.self.inside.closed.items = search rules in
     omega (arith, c.self.invariant.closed_room, length-map c.self.inside.closed.items (closed_row (with_ages c.self.inside.places.items c.self.inside.ages.items) c.self.inside.layouts.items c.self.inside.window), length-map c.self.inside.open.items (row_in (with_ages c.self.inside.places.items c.self.inside.ages.items) c.self.inside.window))
 
+seen : (c : goal.After-close_due) → with_ages c.deref-2.result.now c.deref-3.result.now ≡ (with_ages c.self.inside.places.items c.grow_older.new.ages.items)
+seen c = ap (λ ps. with_ages ps c.deref-3.result.now) c.deref-2.ensures.value ∙ ap (with_ages c.self.inside.places.items) c.deref-3.ensures.value
+
 -- the rows that the code looks at are those before, each a tick older
-now : (c : goal.After-close_due) → (with_ages c.self.inside.places.items c.grow_older.new.ages.items) ≡ map aged (with_ages c.self.inside.places.items c.self.inside.ages.items)
-now c = ap (with_ages c.self.inside.places.items) c.grow_older.ensures.items ∙ older_rows c.self.inside.places.items c.self.inside.ages.items
-
-seen : (c : goal.After-close_due) → with_ages c.deref.result.now c.deref-2.result.now ≡ (with_ages c.self.inside.places.items c.grow_older.new.ages.items)
-seen c = ap (λ ps. with_ages ps c.deref-2.result.now) c.deref.ensures.value ∙ ap (with_ages c.self.inside.places.items) c.deref-2.ensures.value
-
-rows : (c : goal.After-close_due) → rows_in (with_ages c.deref.result.now c.deref-2.result.now) c.self.inside.window c.self.inside.open.items ≡ map aged (rows_in (with_ages c.self.inside.places.items c.self.inside.ages.items) c.self.inside.window c.self.inside.open.items)
+rows : (c : goal.After-close_due) → rows_in (with_ages c.deref-2.result.now c.deref-3.result.now) c.self.inside.window c.self.inside.open.items ≡ map aged (rows_in (with_ages c.self.inside.places.items c.self.inside.ages.items) c.self.inside.window c.self.inside.open.items)
 rows c =
-    ap (λ ps. rows_in ps c.self.inside.window c.self.inside.open.items) (seen c ∙ now c)
-    ∙ mapped_rows aged (with_ages c.self.inside.places.items c.self.inside.ages.items) c.self.inside.window c.self.inside.open.items (omega (arith, c.self.invariant.content.window_least)) (aged_length c.self.inside.places.items c.self.inside.ages.items c.self.inside.window c.self.invariant.size c.self.invariant.ages)
+    ap (λ ps. rows_in ps c.self.inside.window c.self.inside.open.items) (seen c)
+    ∙ elim c.grow_older.ensures.grown [
+      | inl e ↦ ap (λ ps. rows_in ps c.self.inside.window c.self.inside.open.items) (ap (with_ages c.self.inside.places.items) e ∙ older_rows c.self.inside.places.items c.self.inside.ages.items)
+          ∙ mapped_rows aged (with_ages c.self.inside.places.items c.self.inside.ages.items) c.self.inside.window c.self.inside.open.items (omega (arith, c.self.invariant.content.window_least)) (aged_length c.self.inside.places.items c.self.inside.ages.items c.self.inside.window c.self.invariant.size c.self.invariant.ages)
+      | inr e ↦ changed-open c.numbers_rise.ensures aged (content_of c.self.inside) (with_ages c.self.inside.places.items c.self.inside.ages.items) (with_ages c.self.inside.places.items c.grow_older.new.ages.items) c.self.inside.open.items c.deref.result.now
+          c.deref.ensures.value
+          (ap (with_ages c.self.inside.places.items) e ∙ grown_rows c.self.inside.window c.deref.result.now c.self.inside.places.items c.self.inside.ages.items (omega (arith, c.self.invariant.content.window_least)) c.self.invariant.size c.self.invariant.ages)
+          (aged_length c.self.inside.places.items c.self.inside.ages.items c.self.inside.window c.self.invariant.size c.self.invariant.ages)
+          (aged_placed c.self.inside.places.items c.self.inside.ages.items c.self.inside.window c.self.inside.open.items (omega (arith, c.self.invariant.content.window_least)) c.self.invariant.size c.self.invariant.ages c.self.invariant.placed) c.self.invariant.content
+    ]
 
-closes : (c : goal.After-close_due) → closing c.as_slice-required.result.now c.args.rule (rows_in (with_ages c.deref.result.now c.deref-2.result.now) c.self.inside.window c.self.inside.open.items) ≡ closing_of (content_of c.self.inside) c.args.rule
+closes : (c : goal.After-close_due) → closing c.as_slice-required.result.now c.args.rule (rows_in (with_ages c.deref-2.result.now c.deref-3.result.now) c.self.inside.window c.self.inside.open.items) ≡ closing_of (content_of c.self.inside) c.args.rule
 closes c =
-    ap (λ rs. closing rs c.args.rule (rows_in (with_ages c.deref.result.now c.deref-2.result.now) c.self.inside.window c.self.inside.open.items)) c.as_slice-required.ensures.value
+    ap (λ rs. closing rs c.args.rule (rows_in (with_ages c.deref-2.result.now c.deref-3.result.now) c.self.inside.window c.self.inside.open.items)) c.as_slice-required.ensures.value
     ∙ ap (closing c.self.inside.required.items c.args.rule) (rows c)
 
 stays : (c : goal.After-close_due) → rows_in (with_ages c.self.inside.places.items c.grow_older.new.ages.items) c.self.inside.window c.close_due.new.open.items ≡ staying_of (content_of c.self.inside) c.args.rule
 stays c =
     ap (λ ps. rows_in ps c.self.inside.window c.close_due.new.open.items) (sym (seen c)) ∙ c.close_due.ensures.rows
-    ∙ ap (λ rs. staying rs c.args.rule (rows_in (with_ages c.deref.result.now c.deref-2.result.now) c.self.inside.window c.self.inside.open.items)) c.as_slice-required.ensures.value
+    ∙ ap (λ rs. staying rs c.args.rule (rows_in (with_ages c.deref-2.result.now c.deref-3.result.now) c.self.inside.window c.self.inside.open.items)) c.as_slice-required.ensures.value
     ∙ ap (staying c.self.inside.required.items c.args.rule) (rows c)
 
 -- the closed rows are those before, and those that close now
 older_closed : (c : goal.After-close_due) → closed_rows (with_ages c.self.inside.places.items c.grow_older.new.ages.items) c.self.inside.layouts.items c.self.inside.window c.self.inside.closed.items ≡ closed_rows (with_ages c.self.inside.places.items c.self.inside.ages.items) c.self.inside.layouts.items c.self.inside.window c.self.inside.closed.items
 older_closed c =
-    aged_closed c.self.inside.places.items c.grow_older.new.ages.items c.self.inside.layouts.items c.self.inside.window c.self.inside.closed.items (omega (arith, c.self.invariant.content.window_least)) c.self.invariant.size (older_length c.self.inside.ages.items c.grow_older.new.ages.items c.self.inside.window c.grow_older.ensures.items c.self.invariant.ages)
+    aged_closed c.self.inside.places.items c.grow_older.new.ages.items c.self.inside.layouts.items c.self.inside.window c.self.inside.closed.items (omega (arith, c.self.invariant.content.window_least)) c.self.invariant.size (grew_length c.self.inside.window c.deref.result.now c.self.inside.ages.items c.grow_older.new.ages.items c.grow_older.ensures.grown c.self.invariant.ages)
     ∙ sym (aged_closed c.self.inside.places.items c.self.inside.ages.items c.self.inside.layouts.items c.self.inside.window c.self.inside.closed.items (omega (arith, c.self.invariant.content.window_least)) c.self.invariant.size c.self.invariant.ages)
 
 apart : (c : goal.After-close_due) → AreApart c.self.inside.window c.self.inside.closed.items (take c.close_due.result c.self.inside.open.items)
@@ -124,7 +129,7 @@ invariant_of-self c =
       size = ring.size;
       each = ring.each;
       placed = ring.placed;
-      ages = older_length c.self.inside.ages.items c.grow_older.new.ages.items c.self.inside.window c.grow_older.ensures.items c.self.invariant.ages;
+      ages = grew_length c.self.inside.window c.deref.result.now c.self.inside.ages.items c.grow_older.new.ages.items c.grow_older.ensures.grown c.self.invariant.ages;
       layouts = ap length c.close_due.ensures.layouts ∙ laid-length (layout_view c.args.layout.now) c.self.inside.window (take c.close_due.result c.self.inside.open.items) c.self.inside.layouts.items ∙ c.self.invariant.layouts;
       closed_placed = rw c.close_due.ensures.closed (placed_more c.self.inside.places.items c.self.inside.window c.close_due.result c.self.inside.closed.items c.self.inside.open.items c.self.invariant.closed_placed c.self.invariant.placed);
       known = ring.known;

@@ -2,7 +2,7 @@ use Rattle.std.proofs.Common.{◌∙◌, ap, arith, get_or, length, set}
 use Rattle.std.proofs.lemmas.List.{get_or_default}
 use Rattle.std.proofs.lemmas.List.Edits.{map_over_more}
 use Rattle.pdc_table.specs.RingRows.{older}
-use Rattle.pdc_table.proofs.ring.grow_older.Goals as goal
+use Rattle.pdc_table.proofs.ring.grow_all.Goals as goal
 
 pub loop-age-preserved : goal.loop-age-preserved
 loop-age-preserved c =
