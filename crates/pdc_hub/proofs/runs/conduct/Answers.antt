@@ -1,8 +1,8 @@
 use Rattle.std.proofs.Common.{rules, ◌≡◌, [], List, ℕ, ap, length, subst, sym}
 use Rattle.crossbeam_channel.specs.Claims.{view}
-use Rattle.pdc_hub.specs.Sequence.{Rises, instants_of}
+use Rattle.pdc_aligner.specs.Sequence.{Rises, instants_of}
 use Rattle.pdc_publisher.specs.Publisher.{last_in, mark_in}
-use Rattle.pdc_hub.proofs.Sequences.{all_handed_on, all_published, ended_alone}
+use Rattle.pdc_hub.proofs.Outcomes.{all_handed_on, all_published, ended_alone}
 use Rattle.pdc_hub.proofs.runs.conduct.Goals as goal
 
 pub returns-clause-sent : goal.returns-clause-sent
