@@ -1,5 +1,5 @@
 -- What is put tick by tick, and the counts that ticks are handed.
-use Rattle.std.proofs.Common.{arith, ◌≡◌, ◌≤◌, ◌+◌, ◌%◌, ◌==◌, ℕ, Bool, true, false, ◌&&◌, ◌||◌, List, [], ◌∷◌, ◌++◌, length, slice_index, Option, is_some, Result, Ok, Err, OnOk, refl, sym, ap, ◌∙◌, subst, append_assoc, append-nil}
+use Rattle.std.proofs.Common.{arith, ◌≡◌, ◌≤◌, ◌+◌, ◌%◌, ◌==◌, ℕ, Bool, true, false, ◌&&◌, ◌||◌, List, [], ◌∷◌, ◌++◌, length, slice_index, Option, is_some, Result, Ok, Err, refl, sym, ap, ◌∙◌, subst, append_assoc, append-nil}
 use Rattle.std.proofs.Math.Logic.{∥∥₁_map}
 use Rattle.std.proofs.Math.Nat.{mod-add-mod}
 use Rattle.std.proofs.Math.Numerals.{suc-eq-add-one}
@@ -7,14 +7,14 @@ use Rattle.pdc_align.specs.Align.{ticked_of}
 use Rattle.pdc_align.specs.declared.ticked.Ticked.{Ticked}
 use Rattle.pdc_life.specs.Answer.{tick_answer}
 use Rattle.pdc_life.specs.Given.{Given}
-use Rattle.pdc_life.specs.Life.{Entry, changes}
+use Rattle.pdc_life.specs.Life.{changes}
 use Rattle.pdc_pipe.specs.declared.message.Message.{Message}
 use Rattle.pdc_pipe.specs.declared.message.Message.TheVariants.{Data, Layout, End}
 use Rattle.pdc_publisher.specs.declared.published.Published.{Published}
 use Rattle.pdc_recorder.specs.Replay.{InSomeLife, Lives}
 use Rattle.pdc_recorder.specs.declared.fault.HubFault.{HubFault}
 use Rattle.pdc_aligner.specs.Sequence.{AreData, HasPutData}
-use Rattle.pdc_aligner.specs.Turns.{AreAnswered, AreStored, AreTurns, HasPut, HasTurned, IsAligned, IsAnswered, NoneFalls, Turn, end_mark, has_adopted, is_told, second_at, turn_at}
+use Rattle.pdc_aligner.specs.Turns.{AreStored, AreTurns, HasPut, HasTurned, IsAligned, IsAnswered, NoneFalls, Turn, has_adopted, is_told, second_at, turn_at}
 
 pub are_data-append : (xs ys : List Message) → AreData xs → AreData ys → AreData (xs ++ ys)
 are_data-append [] ys x y = y

@@ -1,7 +1,7 @@
 -- What a run tells of what was put.
 use Rattle.std.proofs.Common.{arith, ◌≡◌, ℕ, Option, Result, Ok, Err, IfOk, OnOk, Bool, true, false, List, [], ◌∷◌, ◌++◌, refl, ap, ◌∙◌, subst}
 use Rattle.pdc_aligner.specs.Sequence.{instants_of}
-use Rattle.pdc_aligner.specs.Turns.{HasTurned, IsAligned, end_mark}
+use Rattle.pdc_aligner.specs.Turns.{IsAligned, end_mark}
 use Rattle.pdc_life.specs.Given.{Given}
 use Rattle.pdc_recorder.specs.Replay.{Lives}
 use Rattle.pdc_pipe.specs.declared.message.Message.{Message}

@@ -1,4 +1,4 @@
-use Rattle.std.proofs.Common.{rules, ◌≡◌, ◌+◌, ◌%◌, ◌==◌, ◌&&◌, ◌||◌, ℕ, Bool, refl}
+use Rattle.std.proofs.Common.{rules, ◌≡◌, ◌+◌, ◌%◌, ◌==◌, ◌&&◌, ◌||◌, ℕ}
 use Rattle.crossbeam_channel.specs.Claims.{view}
 use Rattle.pdc_publisher.specs.Publisher.{mark_in}
 use Rattle.pdc_aligner.proofs.Laying.{turned_in_part, turning_begins, turning_on}
