@@ -14,7 +14,7 @@ use Rattle.pdc_publisher.specs.declared.published.Published.{Published}
 use Rattle.pdc_recorder.specs.Replay.{InSomeLife, Lives}
 use Rattle.pdc_recorder.specs.declared.fault.HubFault.{HubFault}
 use Rattle.pdc_aligner.specs.Sequence.{AreData, HasPutData}
-use Rattle.pdc_aligner.specs.Turns.{AreStored, AreTurns, HasPut, HasTurned, IsAligned, IsAnswered, NoneFalls, Turn, has_adopted, is_told, second_at, turn_at}
+use Rattle.pdc_aligner.specs.Turns.{AreStored, AreTurns, HasGiven, HasPut, HasTurned, IsAligned, IsAnswered, NoneFalls, Turn, has_adopted, is_told, nows_of, second_at, turn_at}
 
 pub are_data-append : (xs ys : List Message) → AreData xs → AreData ys → AreData (xs ++ ys)
 are_data-append [] ys x y = y
@@ -52,10 +52,23 @@ answered_with Stands named now handed stored ticked adopts h e a =
     subst (λ (counts : List ℕ). IsAnswered Stands named (turn_at now counts adopts)) (sym e)
     (∥∥₁_map h (λ x. record { core = x.core; given = x.given; is_named = x.is_named; life = x.life; stands = x.stands; fact = a ∙ ap (λ t. is_some t.change) x.fact }))
 
+-- a ticker that gave one more, and one that gave none
+pub given_on : {K : Type 0} (gave : K → List ℕ → Type 0) (old middle new : K) (nows : List ℕ) (now : ℕ) → HasGiven gave old middle nows
+    → ((ns : List ℕ) → gave middle ns → gave new (ns ++ now ∷ [])) → HasGiven gave old new (nows ++ now ∷ [])
+given_on gave old middle new nows now h more before g = subst (λ (ns : List ℕ). gave new ns) (append_assoc before nows (now ∷ [])) (more (before ++ nows) (h before g))
+
+pub given_same : {K : Type 0} (gave : K → List ℕ → Type 0) (old middle new : K) (nows : List ℕ) → HasGiven gave old middle nows
+    → ((ns : List ℕ) → gave middle ns → gave new ns) → HasGiven gave old new nows
+given_same gave old middle new nows h same before g = same (before ++ nows) (h before g)
+
+given_none : {K : Type 0} (gave : K → List ℕ → Type 0) (old : K) → HasGiven gave old old []
+given_none gave old before g = subst (λ (ns : List ℕ). gave old ns) (sym (append-nil before)) g
+
 -- How the ticks of a run stand between two of them: whether one adopted, and the number of the last one, modulo `every`.
-pub record IsTurning {C : Type 0} (Stands : C → Lives) (named : Option Given) (rate every : ℕ) (first last : List ℕ) (put : List Message) (adopted : Bool) (place : ℕ) : Type 0 where
+pub record IsTurning {C : Type 0} (Stands : C → Lives) (named : Option Given) (rate every : ℕ) (first last : List ℕ) (Gave : List ℕ → Type 0) (put : List Message) (adopted : Bool) (place : ℕ) : Type 0 where
   pub turns : List Turn
   pub are_turns : AreTurns Stands named rate every first last turns put
+  pub given : Gave (nows_of turns)
   pub has : adopted ≡ has_adopted turns
   pub at : place ≡ length turns % every
 
@@ -66,21 +79,24 @@ either true false = refl
 either true true = refl
 
 -- before the first
-pub turning_begins : {C : Type 0} (Stands : C → Lives) (named : Option Given) (rate every : ℕ) (first : List ℕ) (put : List Message) → put ≡ [] → (place : ℕ) → place ≡ 0 % every → IsTurning Stands named rate every first first put false place
-turning_begins Stands named rate every first put none place at = record {
+pub turning_begins : {C K : Type 0} (Stands : C → Lives) (named : Option Given) (gave : K → List ℕ → Type 0) (ticker : K) (rate every : ℕ) (first : List ℕ) (put : List Message) → put ≡ [] → (place : ℕ) → place ≡ 0 % every
+    → IsTurning Stands named rate every first first (HasGiven gave ticker ticker) put false place
+turning_begins Stands named gave ticker rate every first put none place at = record {
   turns = [];
   are_turns = record { answered = tt; stored = none_falls first first refl; laid = none };
+  given = given_none gave ticker;
   has = refl;
   at = at;
 }
 
 -- after one more
-pub turning_on : {C : Type 0} (Stands : C → Lives) (named : Option Given) (rate every : ℕ) (first last stored : List ℕ) (before put : List Message) (place now second : ℕ) (adopted adopts repeat after : Bool)
-    → (h : IsTurning Stands named rate every first last before adopted place) → IsAnswered Stands named (turn_at now stored adopts) → NoneFalls last stored
+pub turning_on : {C : Type 0} (Stands : C → Lives) (named : Option Given) (rate every : ℕ) (first last stored : List ℕ) (Gave Gives : List ℕ → Type 0) (before put : List Message) (place now second : ℕ) (adopted adopts repeat after : Bool)
+    → (h : IsTurning Stands named rate every first last Gave before adopted place) → IsAnswered Stands named (turn_at now stored adopts) → NoneFalls last stored
+    → ((nows : List ℕ) → Gave nows → Gives (nows ++ now ∷ []))
     → second ≡ second_at rate now → repeat ≡ adopted && ((place + 1) % every == 0) → after ≡ adopted || adopts
     → HasPut Stands named second (adopts || repeat) before put
-    → IsTurning Stands named rate every first stored put after ((place + 1) % every)
-turning_on Stands named rate every first last stored before put place now second adopted adopts repeat after h answered rises dated repeats has p =
+    → IsTurning Stands named rate every first stored Gives put after ((place + 1) % every)
+turning_on Stands named rate every first last stored Gave Gives before put place now second adopted adopts repeat after h answered rises gives dated repeats has p =
     let t = turn_at now stored adopts in
     let next : (place + 1) % every ≡ (length h.turns + 1) % every = ap (λ n. (n + 1) % every) h.at ∙ mod-add-mod (length h.turns) every 1 in
     let same : adopts || repeat ≡ is_told every t h.turns =
@@ -93,37 +109,50 @@ turning_on Stands named rate every first last stored before put place now second
         stored = (none_falls stored stored refl, stored_on first h.turns last stored h.are_turns.stored rises);
         laid = (before, h.are_turns.laid, subst (λ b. HasPut Stands named (second_at rate now) b before put) same dated_so);
       };
+      given = gives (nows_of h.turns) h.given;
       has = has ∙ (either adopted adopts ∙ ap (λ b. adopts || b) h.has);
       at = next ∙ ap (λ n. n % every) (sym (suc-eq-add-one (length h.turns)));
     }
 
 -- where it ends, and where a tick fails
-pub turned_all : {C A : Type 0} (Stands : C → Lives) (named : Option Given) (rate every : ℕ) (first last : List ℕ) (put : List Message) (adopted : Bool) (place : ℕ) (outcome : Result A HubFault)
-    → IsTurning Stands named rate every first last put adopted place → HasTurned Stands named rate every first last outcome put
-turned_all Stands named rate every first last put adopted place (Ok x) h = record { turns = h.turns; laid = put; are_turns = h.are_turns; rows_last = same_put put put refl; whole = refl }
-turned_all Stands named rate every first last put adopted place (Err e) h = record { turns = h.turns; laid = put; are_turns = h.are_turns; rows_last = same_put put put refl; whole = tt }
+pub turned_all : {C A : Type 0} (Stands : C → Lives) (named : Option Given) (rate every : ℕ) (first last : List ℕ) (Gave Gives : List ℕ → Type 0) (put : List Message) (adopted : Bool) (place : ℕ) (answer : A)
+    → IsTurning Stands named rate every first last Gave put adopted place → ((nows : List ℕ) → Gave nows → Gives nows) → HasTurned Stands named rate every first last Gives (Ok answer) put
+turned_all Stands named rate every first last Gave Gives put adopted place answer h same = record {
+  turns = h.turns;
+  laid = put;
+  failed = [];
+  are_turns = h.are_turns;
+  given = subst (λ (ns : List ℕ). Gives ns) (sym (append-nil (nows_of h.turns))) (same (nows_of h.turns) h.given);
+  one_failed = omega arith;
+  rows_last = same_put put put refl;
+  whole = (refl, refl);
+}
 
-pub turned_in_part : {C A : Type 0} (Stands : C → Lives) (named : Option Given) (rate every : ℕ) (first last stored : List ℕ) (before put : List Message) (adopted : Bool) (place : ℕ) (fault : HubFault)
-    → IsTurning Stands named rate every first last before adopted place → NoneFalls last stored → HasPutData before put → HasTurned {A = A} Stands named rate every first stored (Err fault) put
-turned_in_part Stands named rate every first last stored before put adopted place fault h rises more = record {
+pub turned_in_part : {C A : Type 0} (Stands : C → Lives) (named : Option Given) (rate every : ℕ) (first last stored : List ℕ) (Gave Gives : List ℕ → Type 0) (before put : List Message) (adopted : Bool) (place now : ℕ) (fault : HubFault)
+    → IsTurning Stands named rate every first last Gave before adopted place → NoneFalls last stored → ((nows : List ℕ) → Gave nows → Gives (nows ++ now ∷ []))
+    → HasPutData before put → HasTurned {A = A} Stands named rate every first stored Gives (Err fault) put
+turned_in_part Stands named rate every first last stored Gave Gives before put adopted place now fault h rises gives more = record {
   turns = h.turns;
   laid = before;
+  failed = now ∷ [];
   are_turns = record { answered = h.are_turns.answered; stored = stored_on first h.turns last stored h.are_turns.stored rises; laid = h.are_turns.laid };
+  given = gives (nows_of h.turns) h.given;
+  one_failed = omega arith;
   rows_last = more;
   whole = tt;
 }
 
 -- the end mark behind it, or none
-pub aligned_ended : {C A : Type 0} (Stands : C → Lives) (named : Option Given) (rate every : ℕ) (first last : List ℕ) (outcome : Result A HubFault) (before put : List Message)
-    → HasTurned Stands named rate every first last outcome before → put ≡ before ++ End ∷ [] → IsAligned Stands named rate every first last outcome put
-aligned_ended Stands named rate every first last (Ok x) before put h e = record { before = before; turned = h; has_ended = true; ended = e; whole = refl }
-aligned_ended Stands named rate every first last (Err f) before put h e = record { before = before; turned = h; has_ended = true; ended = e; whole = tt }
+pub aligned_ended : {C A : Type 0} (Stands : C → Lives) (named : Option Given) (rate every : ℕ) (first last : List ℕ) (Gave : List ℕ → Type 0) (outcome : Result A HubFault) (before put : List Message)
+    → HasTurned Stands named rate every first last Gave outcome before → put ≡ before ++ End ∷ [] → IsAligned Stands named rate every first last Gave outcome put
+aligned_ended Stands named rate every first last Gave (Ok x) before put h e = record { before = before; turned = h; has_ended = true; ended = e; whole = refl }
+aligned_ended Stands named rate every first last Gave (Err f) before put h e = record { before = before; turned = h; has_ended = true; ended = e; whole = tt }
 
-pub aligned_open : {C A : Type 0} (Stands : C → Lives) (named : Option Given) (rate every : ℕ) (first last : List ℕ) (outcome : Result A HubFault) (before put : List Message) (fault : HubFault)
-    → HasTurned Stands named rate every first last outcome before → put ≡ before → IsAligned {A = A} Stands named rate every first last (Err fault) put
-aligned_open Stands named rate every first last outcome before put fault h e = record {
+pub aligned_open : {C A : Type 0} (Stands : C → Lives) (named : Option Given) (rate every : ℕ) (first last : List ℕ) (Gave : List ℕ → Type 0) (outcome : Result A HubFault) (before put : List Message) (fault : HubFault)
+    → HasTurned Stands named rate every first last Gave outcome before → put ≡ before → IsAligned {A = A} Stands named rate every first last Gave (Err fault) put
+aligned_open Stands named rate every first last Gave outcome before put fault h e = record {
   before = before;
-  turned = record { turns = h.turns; laid = h.laid; are_turns = h.are_turns; rows_last = h.rows_last; whole = tt };
+  turned = record { turns = h.turns; laid = h.laid; failed = h.failed; are_turns = h.are_turns; given = h.given; one_failed = h.one_failed; rows_last = h.rows_last; whole = tt };
   has_ended = false;
   ended = e ∙ sym (append-nil before);
   whole = tt;

@@ -21,6 +21,15 @@ pub record Turn : Type 0 where
 abbrev pub turn_at : (now : ℕ) (counts : List ℕ) (adopts : Bool) → Turn
 turn_at now counts adopts = record { now = now; counts = counts; adopts = adopts }
 
+-- the instants of these ticks, the latest first, in order
+abbrev pub nows_of : List Turn → List ℕ
+nows_of [] = []
+nows_of (t ∷ earlier) = nows_of earlier ++ t.now ∷ []
+
+-- Between the one state and the other a ticker gave these instants, in order: whatever it had given before, then it had given these more.
+abbrev pub HasGiven : {K : Type 0} (gave : K → List ℕ → Type 0) (old new : K) → List ℕ → Type 0
+HasGiven gave old new nows = (before : List ℕ) → gave old before → gave new (before ++ nows)
+
 -- one of these ticks adopted
 abbrev pub has_adopted : List Turn → Bool
 has_adopted [] = false
@@ -78,13 +87,17 @@ pub record AreTurns {C : Type 0} (Stands : C → Lives) (named : Option Given) (
   pub stored : AreStored first turns last
   pub laid : IsLaid Stands named rate every turns put
 
--- What was put is what was put at these ticks, and then the data frames of one that failed; where it is Ok, none did.
-pub record HasTurned {C A : Type 0} (Stands : C → Lives) (named : Option Given) (rate every : ℕ) (first last : List ℕ) (outcome : Result A HubFault) (put : List Message) : Type 0 where
+-- What was put is what was put at these ticks, and then the data frames of one that failed; where it is Ok, none did. The ticker gave the
+-- instants of all of them, and no more.
+pub record HasTurned {C A : Type 0} (Stands : C → Lives) (named : Option Given) (rate every : ℕ) (first last : List ℕ) (Gave : List ℕ → Type 0) (outcome : Result A HubFault) (put : List Message) : Type 0 where
   pub turns : List Turn
   pub laid : List Message
+  pub failed : List ℕ
   pub are_turns : AreTurns Stands named rate every first last turns laid
+  pub given : Gave (nows_of turns ++ failed)
+  pub one_failed : length failed ≤ 1
   pub rows_last : HasPutData laid put
-  pub whole : OnOk outcome (put ≡ laid)
+  pub whole : OnOk outcome ((put ≡ laid) × (failed ≡ []))
 
 -- the end mark, where it was put
 abbrev pub end_mark : Bool → List Message
@@ -92,9 +105,9 @@ end_mark ended = if ended then End ∷ [] else []
 
 -- What was put is what was put at the ticks, the data frames of a tick that failed, and the end mark. Where it is Ok, no tick failed and the
 -- end mark was put.
-pub record IsAligned {C A : Type 0} (Stands : C → Lives) (named : Option Given) (rate every : ℕ) (first last : List ℕ) (outcome : Result A HubFault) (put : List Message) : Type 0 where
+pub record IsAligned {C A : Type 0} (Stands : C → Lives) (named : Option Given) (rate every : ℕ) (first last : List ℕ) (Gave : List ℕ → Type 0) (outcome : Result A HubFault) (put : List Message) : Type 0 where
   pub before : List Message
-  pub turned : HasTurned Stands named rate every first last outcome before
+  pub turned : HasTurned Stands named rate every first last Gave outcome before
   pub has_ended : Bool
   pub ended : put ≡ before ++ end_mark has_ended
   pub whole : OnOk outcome (has_ended ≡ true)

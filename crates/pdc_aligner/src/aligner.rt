@@ -4,7 +4,7 @@ ghost use Rattle.crossbeam_channel.specs.Claims.{IsSeatAt, view};
 ghost use Rattle.crossbeam_channel.specs.Ends.{sends_on};
 ghost use Rattle.pdc_aligner.specs.Rate.{IsAtRate};
 ghost use Rattle.pdc_aligner.specs.Sequence.{HasPutData, IsCounted, Rises, instants_of};
-ghost use Rattle.pdc_aligner.specs.Turns.{HasPut, HasTurned, IsAligned, IsAnswered, NoneFalls, turn_at};
+ghost use Rattle.pdc_aligner.specs.Turns.{HasGiven, HasPut, HasTurned, IsAligned, IsAnswered, NoneFalls, turn_at};
 ghost use Rattle.pdc_pipe.specs.Pipe.{log};
 ghost use Rattle.pdc_pipe.specs.declared.message.Message.{Message};
 ghost use Rattle.pdc_pipe.specs.declared.message.Message.TheVariants.{End};
@@ -111,7 +111,9 @@ fn tell<
     M: Mark,
     K: Ticker,
     R: Wait,
->(rt: &R, hub: &Hub<C, N, T, F, G, P>, publisher: &Publisher<M>, published: u64, ticker: &mut K) {
+>(rt: &R, hub: &Hub<C, N, T, F, G, P>, publisher: &Publisher<M>, published: u64, ticker: &mut K)
+    ensures { (nows : List ℕ) → K.gave ticker.old nows → K.gave ticker.new nows }
+{
     if ticker.wants_counts() {
         ticker.tell(&told_of(rt, hub, publisher, published));
     }
@@ -147,7 +149,7 @@ fn turns<
     ensures stored { last_in publisher.new ≤ (M.stored (mark_in publisher.new)).floor }
     ensures rising { Rises (last_in publisher.old) (instants_of (view pass.new).put) (last_in publisher.new) }
     ensures counted { IfOk result (λ published. published ≡ length (instants_of (view pass.new).put)) }
-    ensures turned { HasTurned C.stands_for N.given pace.now.rate pace.now.layout_every (M.stored (mark_in publisher.old)).counts (M.stored (mark_in publisher.new)).counts result (view pass.new).put }
+    ensures turned { HasTurned C.stands_for N.given pace.now.rate pace.now.layout_every (M.stored (mark_in publisher.old)).counts (M.stored (mark_in publisher.new)).counts (HasGiven K.gave ticker.old ticker.new) result (view pass.new).put }
     ensures output { output_in publisher.new ≡ output_in publisher.old }
 {
     let every = pace.layout_every;
@@ -223,9 +225,9 @@ pub fn align<
     // Where it is Ok, all that were published were put, and so many they are; and the end mark was put last.
     ensures published { IfOk result (λ published. published ≡ length (instants_of (view pass.new).put)) }
     ensures closed { OnOk result ((body : List Message) × ((view pass.new).put ≡ body ++ End ∷ [])) }
-    // Tick by tick: the data frames, and then the layout where it is told; and the counts that each tick was handed rise from those that
-    // were stored before to those that are stored then.
-    ensures laid { IsAligned C.stands_for N.given pace.now.rate pace.now.layout_every (M.stored (mark_in publisher.old)).counts (M.stored (mark_in publisher.new)).counts result (view pass.new).put }
+    // Tick by tick of those that the ticker gave: the data frames, and then the layout where it is told. The counts that ticks were handed
+    // never fall, from those that were stored before to those that are stored then.
+    ensures laid { IsAligned C.stands_for N.given pace.now.rate pace.now.layout_every (M.stored (mark_in publisher.old)).counts (M.stored (mark_in publisher.new)).counts (HasGiven K.gave ticker.old ticker.new) result (view pass.new).put }
     ensures output { output_in publisher.new ≡ output_in publisher.old }
 {
     let done = turns(rt, alloc, hub, top, publisher, ticker, pace, sender, pass);

@@ -3,6 +3,7 @@ use Rattle.crossbeam_channel.specs.Claims.{view, IsSeatAt}
 use Rattle.crossbeam_channel.specs.Ends.{sends_on}
 use Rattle.pdc_pipe.specs.Pipe.{log}
 use Rattle.pdc_aligner.specs.Sequence.{instants_of, IsCounted, Rises}
+use Rattle.pdc_aligner.specs.Turns.{HasGiven}
 use Rattle.pdc_publisher.specs.Publisher.{last_in, mark_in, output_in}
 use Rattle.pdc_aligner.proofs.Laying.{IsTurning}
 use Rattle.pdc_aligner.proofs.aligner.turns.Given as goal
@@ -16,4 +17,4 @@ invariant-loop g l =
     × IsCounted l.published (view l.pass).put (last_in l.publisher)
     × Rises (last_in l.initial.publisher) (instants_of (view l.pass).put) (last_in l.publisher)
     × (l.place < l.every)
-    × IsTurning {C = g.row.C.Denot} g.C.Core.stands_for g.N.Naming.given l.pace.rate l.every (g.M.Mark.stored (mark_in l.initial.publisher)).counts (g.M.Mark.stored (mark_in l.publisher)).counts (view l.pass).put l.adopted l.place
+    × IsTurning {C = g.row.C.Denot} g.C.Core.stands_for g.N.Naming.given l.pace.rate l.every (g.M.Mark.stored (mark_in l.initial.publisher)).counts (g.M.Mark.stored (mark_in l.publisher)).counts (HasGiven g.K.Ticker.gave l.initial.ticker l.ticker) (view l.pass).put l.adopted l.place
