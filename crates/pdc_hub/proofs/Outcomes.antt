@@ -1,7 +1,7 @@
 -- What a run tells of what was put.
-use Rattle.std.proofs.Common.{arith, ◌≡◌, ℕ, Option, Result, Ok, Err, IfOk, OnOk, Bool, true, false, List, [], ◌∷◌, ◌++◌, refl, ap, ◌∙◌, subst}
+use Rattle.std.proofs.Common.{arith, ◌≡◌, ℕ, Option, Result, Ok, Err, IfOk, OnOk, Bool, true, false, List, [], ◌∷◌, ◌++◌, refl, sym, ap, ◌∙◌, subst, append-nil}
 use Rattle.pdc_aligner.specs.Sequence.{instants_of}
-use Rattle.pdc_aligner.specs.Turns.{IsAligned, end_mark}
+use Rattle.pdc_aligner.specs.Turns.{HasGiven, IsAligned, end_mark}
 use Rattle.pdc_life.specs.Given.{Given}
 use Rattle.pdc_recorder.specs.Replay.{Lives}
 use Rattle.pdc_pipe.specs.declared.message.Message.{Message}
@@ -11,6 +11,7 @@ use Rattle.pdc_pipe.specs.declared.senders.Ended.TheVariants.{AtEndMark}
 use Rattle.pdc_pipe.specs.HandedOn.{HasHandedOn}
 use Rattle.pdc_recorder.specs.declared.fault.HubFault.{HubFault}
 use Rattle.pdc_hub.specs.declared.runs.Totals.{Totals}
+use Rattle.pdc_hub.specs.Run.{GivesFrom}
 
 -- what is put alone, where there was nothing before, is the end mark at most
 pub ended_alone : (put after : List Message) (r : Bool) → put ≡ [] → (r ≡ true → after ≡ put ++ End ∷ []) → (r ≡ false → after ≡ put) → instants_of after ≡ []
@@ -29,31 +30,40 @@ all_published (Ok totals) aligned count same is = subst (λ r. IfOk r (λ publis
 all_published (Err fault) aligned count same is = tt
 
 -- the ticks of what was aligned are those of the run
-pub all_aligned : {C : Type 0} (Stands : C → Lives) (named : Option Given) (rate every : ℕ) (first last : List ℕ) (outcome : Result Totals HubFault) (aligned : Result ℕ HubFault) (put : List Message)
-    → IfOk outcome (λ totals. aligned ≡ Ok totals.published) → IsAligned Stands named rate every first last aligned put → IsAligned Stands named rate every first last outcome put
-all_aligned Stands named rate every first last (Ok totals) aligned put same h = let t : IsAligned {A = ℕ} Stands named rate every first last (Ok totals.published) put = subst (λ r. IsAligned Stands named rate every first last r put) same h in record {
-  before = t.before;
-  turned = record { turns = t.turned.turns; laid = t.turned.laid; are_turns = t.turned.are_turns; rows_last = t.turned.rows_last; whole = t.turned.whole };
-  has_ended = t.has_ended;
-  ended = t.ended;
-  whole = t.whole;
-}
-all_aligned Stands named rate every first last (Err fault) aligned put same h = record {
-  before = h.before;
-  turned = record { turns = h.turned.turns; laid = h.turned.laid; are_turns = h.turned.are_turns; rows_last = h.turned.rows_last; whole = tt };
-  has_ended = h.has_ended;
-  ended = h.ended;
-  whole = tt;
-}
+pub all_aligned : {C : Type 0} (Stands : C → Lives) (named : Option Given) (rate every : ℕ) (first last : List ℕ) (Gave : List ℕ → Type 0) (outcome : Result Totals HubFault) (aligned : Result ℕ HubFault) (put : List Message)
+    → IfOk outcome (λ totals. aligned ≡ Ok totals.published) → IsAligned Stands named rate every first last Gave aligned put → IsAligned Stands named rate every first last Gave outcome put
+all_aligned Stands named rate every first last Gave (Ok totals) aligned put same h =
+    let t : IsAligned {A = ℕ} Stands named rate every first last Gave (Ok totals.published) put = subst (λ r. IsAligned Stands named rate every first last Gave r put) same h in
+    let w = t.turned in
+    record {
+      before = t.before;
+      turned = record { turns = w.turns; laid = w.laid; failed = w.failed; are_turns = w.are_turns; given = w.given; one_failed = w.one_failed; rows_last = w.rows_last; whole = w.whole };
+      has_ended = t.has_ended;
+      ended = t.ended;
+      whole = t.whole;
+    }
+all_aligned Stands named rate every first last Gave (Err fault) aligned put same h =
+    let w = h.turned in
+    record {
+      before = h.before;
+      turned = record { turns = w.turns; laid = w.laid; failed = w.failed; are_turns = w.are_turns; given = w.given; one_failed = w.one_failed; rows_last = w.rows_last; whole = tt };
+      has_ended = h.has_ended;
+      ended = h.ended;
+      whole = tt;
+    }
 
--- Where nothing was aligned, nothing was put but the end mark at most.
-pub none_aligned : {C A : Type 0} (Stands : C → Lives) (named : Option Given) (rate every : ℕ) (first : List ℕ) (fault : HubFault) (ended : Bool) (put : List Message) → put ≡ end_mark ended → IsAligned {A = A} Stands named rate every first first (Err fault) put
-none_aligned Stands named rate every first fault ended put e = record {
+-- Where nothing was aligned, nothing was put but the end mark at most, and the ticker was not asked.
+pub none_aligned : {C I A : Type 0} (Stands : C → Lives) (named : Option Given) (rate every : ℕ) (first : List ℕ) (gave : I → List ℕ → Type 0) (ticker : I) (fault : HubFault) (ended : Bool) (put : List Message)
+    → put ≡ end_mark ended → IsAligned {A = A} Stands named rate every first first (GivesFrom gave ticker) (Err fault) put
+none_aligned Stands named rate every first gave ticker fault ended put e = record {
   before = [];
   turned = record {
     turns = [];
     laid = [];
+    failed = [];
     are_turns = record { answered = tt; stored = λ column. omega arith; laid = refl };
+    given = (ticker, λ before g. subst (λ (ns : List ℕ). gave ticker ns) (sym (append-nil before)) g);
+    one_failed = omega arith;
     rows_last = record { frames = []; are_data = tt; behind = refl };
     whole = tt;
   };

@@ -3,6 +3,7 @@ use Rattle.crossbeam_channel.specs.Claims.{view}
 use Rattle.pdc_aligner.specs.Sequence.{Rises, instants_of}
 use Rattle.pdc_publisher.specs.Publisher.{last_in, mark_in}
 use Rattle.pdc_recorder.specs.declared.fault.HubFault.TheVariants.{NoMemory}
+use Rattle.pdc_hub.specs.Run.{GivesFrom}
 use Rattle.pdc_hub.proofs.Outcomes.{all_aligned, all_handed_on, all_published, ended_alone, ended_or_not, none_aligned}
 use Rattle.pdc_hub.proofs.runs.conduct.Goals as goal
 
@@ -22,7 +23,7 @@ returns-clause-turned g c =
         published = all_published c.outcome.result c.align_or_close-aligned.result (length (instants_of put)) c.outcome.ensures.published c.align_or_close-aligned.ensures.published;
       };
       aligned = all_aligned g.C.Core.stands_for g.N.Naming.given c.args.crew.pace.rate c.args.crew.pace.layout_every (g.M.Mark.stored (mark_in c.args.crew.publisher)).counts
-          (g.M.Mark.stored (mark_in c.align_or_close-aligned.new.publisher)).counts c.outcome.result c.align_or_close-aligned.result put c.outcome.ensures.published c.align_or_close-aligned.ensures.laid;
+          (g.M.Mark.stored (mark_in c.align_or_close-aligned.new.publisher)).counts (GivesFrom g.I.Ticker.gave c.args.crew.ticker) c.outcome.result c.align_or_close-aligned.result put c.outcome.ensures.published c.align_or_close-aligned.ensures.laid;
     }
 
 pub returns-in-Err-clause-turned : goal.returns-in-Err-clause-turned
@@ -43,6 +44,6 @@ returns-in-Err-clause-turned g c =
         whole = tt;
         published = tt;
       };
-      aligned = none_aligned g.C.Core.stands_for g.N.Naming.given c.args.crew.pace.rate c.args.crew.pace.layout_every (g.M.Mark.stored (mark_in c.args.crew.publisher)).counts NoMemory c.close-closed.result put
+      aligned = none_aligned g.C.Core.stands_for g.N.Naming.given c.args.crew.pace.rate c.args.crew.pace.layout_every (g.M.Mark.stored (mark_in c.args.crew.publisher)).counts g.I.Ticker.gave c.args.crew.ticker NoMemory c.close-closed.result put
           (ended_or_not (view c.args.writer).put put c.close-closed.result nothing c.close-closed.ensures.put c.close-closed.ensures.not);
     }

@@ -10,5 +10,5 @@ returns-in_default-clause-sent g c = record { put = []; given = []; rest = []; t
 pub returns-in_default-clause-turned : goal.returns-in_default-clause-turned
 returns-in_default-clause-turned g c = record {
   run = record { put = []; given = []; rest = []; took = g.K.Sink.nothing c.args.sink; first = refl; rising = c.requires.top.3; whole = tt; published = tt };
-  aligned = none_aligned g.C.Core.stands_for g.N.Naming.given c.args.pace.rate c.args.pace.layout_every (g.M.Mark.stored (mark_in c.args.publisher)).counts NoMemory false [] refl;
+  aligned = none_aligned g.C.Core.stands_for g.N.Naming.given c.args.pace.rate c.args.pace.layout_every (g.M.Mark.stored (mark_in c.args.publisher)).counts g.I.Ticker.gave c.args.ticker NoMemory false [] refl;
 }

@@ -7,5 +7,5 @@ use Rattle.pdc_hub.proofs.runs.run_buffered.Goals as goal
 pub returns-in_default-clause-turned : goal.returns-in_default-clause-turned
 returns-in_default-clause-turned g c = record {
   run = record { put = []; given = []; rest = []; took = g.K.Sink.nothing c.args.crew.sink; first = refl; rising = c.requires.can.14; whole = tt; published = tt };
-  aligned = none_aligned g.C.Core.stands_for g.N.Naming.given c.args.crew.pace.rate c.args.crew.pace.layout_every (g.M.Mark.stored (mark_in c.args.crew.publisher)).counts NoMemory false [] refl;
+  aligned = none_aligned g.C.Core.stands_for g.N.Naming.given c.args.crew.pace.rate c.args.crew.pace.layout_every (g.M.Mark.stored (mark_in c.args.crew.publisher)).counts g.I.Ticker.gave c.args.crew.ticker NoMemory false [] refl;
 }
