@@ -3,7 +3,7 @@
 //! The first call to look at is [`align`], which ticks as a [`Ticker`] says, at a [`Pace`].
 //!
 //! The promise to the layers above: at each tick the data frames of what is due are put in rising order, and then the layout where the
-//! tick adopted or its number says so; no count that a tick was handed is above the one that is stored then.
+//! tick adopted or its number says so; no count that a tick was handed is above the one that is stored in the end.
 #![tactic(auto)]
 
 mod aligner;
