@@ -1,2 +1,1 @@
-mod Rates
-mod Sequences
+mod Outcomes

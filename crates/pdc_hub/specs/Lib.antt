@@ -1,5 +1,4 @@
--- What the aligner puts, and what a run does.
+-- What a run does.
 pub mod Crew
 pub mod Rate
 pub mod Run
-pub mod Sequence

@@ -1,10 +1,15 @@
 -- What a run of the receivers, the aligner and the sender did.
-use Rattle.std.specs.Prelude.{◌≡◌, ℕ, List, [], ◌++◌, length, map, sum, IfOk, OnOk, Result}
+use Rattle.std.specs.Prelude.{◌≡◌, ℕ, Option, List, [], ◌++◌, length, map, sum, IfOk, OnOk, Result}
+use Rattle.pdc_aligner.specs.declared.ticker.Pace.{Pace}
+use Rattle.pdc_aligner.specs.Sequence.{Rises, instants_of}
+use Rattle.pdc_aligner.specs.Turns.{HasGiven, IsAligned}
+use Rattle.pdc_life.specs.Given.{Given}
+use Rattle.pdc_mark.specs.declared.stored.Stored.{Stored}
 use Rattle.pdc_recorder.specs.declared.fault.HubFault.{HubFault}
+use Rattle.pdc_recorder.specs.Replay.{Lives}
 use Rattle.pdc_pipe.specs.declared.message.Message.{Message}
 use Rattle.pdc_pipe.specs.Sequence.{bytes_of}
 use Rattle.pdc_hub.specs.declared.runs.Totals.{Totals}
-use Rattle.pdc_hub.specs.Sequence.{Rises, instants_of}
 
 -- The totals are the sums over the receivers.
 abbrev pub IsSummed : Result Totals HubFault → Type 0
@@ -21,3 +26,13 @@ pub record HasRun (Took : List (List ℕ) → Type 0) (low high : ℕ) (outcome 
   pub rising : Rises low (instants_of put) high
   pub whole : OnOk outcome (rest ≡ [])
   pub published : IfOk outcome (λ totals. totals.published ≡ length (instants_of put))
+
+-- From this state on a ticker gave these instants, in order.
+abbrev pub GivesFrom : {I : Type 0} (gave : I → List ℕ → Type 0) (ticker : I) → List ℕ → Type 0
+GivesFrom {I} gave ticker nows = (after : I) × HasGiven gave ticker after nows
+
+-- It ran so above the last instant that was published, with the mark that was stored before and the one that is stored then, and what was
+-- put was put tick by tick of those that the ticker gave.
+pub record HasRunInTurns {C : Type 0} (Stands : C → Lives) (named : Option Given) (pace : Pace) (Gave : List ℕ → Type 0) (Took : List (List ℕ) → Type 0) (last : ℕ) (before after : Stored) (outcome : Result Totals HubFault) : Type 0 where
+  pub run : HasRun Took last after.floor outcome
+  pub aligned : IsAligned Stands named pace.rate pace.layout_every before.counts after.counts Gave outcome run.put

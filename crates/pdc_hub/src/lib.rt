@@ -7,12 +7,10 @@
 //! floor that was stored before, and are at most the floor that is stored then.
 #![tactic(auto)]
 
-mod aligner;
 mod receivers;
 mod runs;
 
-pub use aligner::{Pace, Ticker, Told, align};
-pub use pdc_answering::Counts;
+pub use pdc_aligner::{Counts, Pace, Ticker, Told, align, tick_cleared};
 pub use pdc_pipe::{
     CAPACITY, Ended, InOrder, LayoutFrame, Log, MemorySink, Message, Receiver, Sender, Sink,
     SinkFault, send_out,

@@ -3,17 +3,18 @@ ghost use Rattle.std.specs.Prelude.{◌≡◌, ◌≤◌, ◌<◌, ◌+◌, ◌+
 ghost use Rattle.crossbeam_channel.specs.Claims.{IsSeatAt, view};
 ghost use Rattle.crossbeam_channel.specs.Ends.{receives_on, sends_on};
 ghost use Rattle.pdc_pipe.specs.Pipe.{log};
-ghost use Rattle.pdc_hub.specs.Rate.{IsAtRate};
+ghost use Rattle.pdc_aligner.specs.Rate.{IsAtRate};
 ghost use Rattle.pdc_hub.specs.Crew.{CanRun};
-ghost use Rattle.pdc_hub.specs.Run.{HasRun, IsSummed};
-ghost use Rattle.pdc_hub.specs.Sequence.{Rises, instants_of};
+ghost use Rattle.pdc_hub.specs.Run.{GivesFrom, HasRun, HasRunInTurns, IsSummed};
+ghost use Rattle.pdc_aligner.specs.Sequence.{Rises, instants_of};
+ghost use Rattle.pdc_aligner.specs.Turns.{IsAligned};
 ghost use Rattle.pdc_pipe.specs.declared.message.Message.{Message};
 ghost use Rattle.pdc_pipe.specs.HandedOn.{HasHandedOn};
 ghost use Rattle.pdc_publisher.specs.Publisher.{last_in, mark_in, output_in};
 
-use crate::aligner::{Pace, Ticker, align};
 use crate::receivers::{Counted, Input, Joined, buffered, join_all, start_all};
 use crossbeam_channel::Pass;
+use pdc_aligner::{Pace, Ticker, align};
 use pdc_core::Core;
 use pdc_mark::Mark;
 use pdc_pipe::{
@@ -151,7 +152,7 @@ where
     requires writer { IsSeatAt (sends_on to.now) writer × (view writer ≡ log true false false [] []) }
     requires reader { IsSeatAt (receives_on from.now) reader × (view reader ≡ log false true false [] []) }
     ensures totals { IsSummed result.outcome }
-    ensures sent { HasRun (K.took crew.sink result.sink) (last_in crew.publisher) (M.stored (mark_in result.publisher)).floor result.outcome }
+    ensures turned { HasRunInTurns C.stands_for N.given crew.pace (GivesFrom I.gave crew.ticker) (K.took crew.sink result.sink) (last_in crew.publisher) (M.stored (mark_in crew.publisher)) (M.stored (mark_in result.publisher)) result.outcome }
 {
     let Crew {
         shares,
@@ -237,6 +238,7 @@ fn align_or_close<
     ensures seat { IsSeatAt (sends_on to.now) writer.new × ((view writer.new).puts ≡ true) }
     ensures rising { Rises (last_in publisher.old) (instants_of (view writer.new).put) ((M.stored (mark_in publisher.new)).floor) }
     ensures published { IfOk result (λ published. published ≡ length (instants_of (view writer.new).put)) }
+    ensures laid { IsAligned C.stands_for N.given pace.rate pace.layout_every (M.stored (mark_in publisher.old)).counts (M.stored (mark_in publisher.new)).counts (GivesFrom I.gave ticker) result (view writer.new).put }
     ensures complete { OnOk result (complete ≡ true) }
 {
     let mut top = top;
@@ -293,7 +295,7 @@ where
     requires writer { IsSeatAt (sends_on to.now) writer × (view writer ≡ log true false false [] []) }
     requires reader { IsSeatAt (receives_on from.now) reader × (view reader ≡ log false true false [] []) }
     ensures totals { IsSummed result.outcome }
-    ensures sent { HasRun (K.took crew.sink result.sink) (last_in crew.publisher) (M.stored (mark_in result.publisher)).floor result.outcome }
+    ensures turned { HasRunInTurns C.stands_for N.given crew.pace (GivesFrom I.gave crew.ticker) (K.took crew.sink result.sink) (last_in crew.publisher) (M.stored (mark_in crew.publisher)) (M.stored (mark_in result.publisher)) result.outcome }
 {
     thread::scope(
         thread::scope_env(),
@@ -306,7 +308,7 @@ where
             requires writer { IsSeatAt (sends_on to.now) writer × (view writer ≡ log true false false [] []) }
             requires reader { IsSeatAt (receives_on from.now) reader × (view reader ≡ log false true false [] []) }
             ensures totals { IsSummed result.outcome }
-            ensures sent { HasRun (K.took crew.sink result.sink) (last_in crew.publisher) (M.stored (mark_in result.publisher)).floor result.outcome }
+            ensures turned { HasRunInTurns C.stands_for N.given crew.pace (GivesFrom I.gave crew.ticker) (K.took crew.sink result.sink) (last_in crew.publisher) (M.stored (mark_in crew.publisher)) (M.stored (mark_in result.publisher)) result.outcome }
         {
             conduct(
                 scope, rt, alloc, hub, settings, to, from, writer, reader, crew,
@@ -341,7 +343,7 @@ where
     requires can { CanRun crew (C.Settings.streams settings.now) T.parts F.parts G.parts P.parts (M.stored (mark_in crew.publisher)).floor }
     requires rate { IsAtRate N.given (output_in crew.publisher).rate }
     ensures totals { IsSummed result.outcome }
-    ensures sent { HasRun (K.took crew.sink result.sink) (last_in crew.publisher) (M.stored (mark_in result.publisher)).floor result.outcome }
+    ensures turned { HasRunInTurns C.stands_for N.given crew.pace (GivesFrom I.gave crew.ticker) (K.took crew.sink result.sink) (last_in crew.publisher) (M.stored (mark_in crew.publisher)) (M.stored (mark_in result.publisher)) result.outcome }
 {
     let Ok(ends) = channel(alloc) else {
         return Ran {
@@ -408,6 +410,9 @@ where
     // What the sink took is a prefix of what was put, whose instants strictly rise, lie above the last one published before, and are at most
     // the floor that is stored then; all of it where the run was Ok, and then so many rows were published.
     ensures sent { HasRun (K.took sink result.sink) (last_in publisher) (M.stored (mark_in result.publisher)).floor result.outcome }
+    // And tick by tick of those that the ticker gave: what was put are the data frames of each, and then its layout where it is told. The
+    // counts that ticks were handed never fall, from those that were stored before to those that are stored then.
+    ensures turned { HasRunInTurns C.stands_for N.given pace (GivesFrom I.gave ticker) (K.took sink result.sink) (last_in publisher) (M.stored (mark_in publisher)) (M.stored (mark_in result.publisher)) result.outcome }
 {
     let Some(inputs) = buffered(alloc, sources) else {
         return Ran {

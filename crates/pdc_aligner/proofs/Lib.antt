@@ -1,0 +1,3 @@
+mod Laying
+mod Rates
+mod Sequences

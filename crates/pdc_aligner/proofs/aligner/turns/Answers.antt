@@ -1,0 +1,59 @@
+use Rattle.std.proofs.Common.{rules, ◌≡◌, ◌+◌, ◌%◌, ◌==◌, ◌&&◌, ◌||◌, ◌++◌, ◌∷◌, [], ℕ, List}
+use Rattle.crossbeam_channel.specs.Claims.{view}
+use Rattle.pdc_publisher.specs.Publisher.{mark_in}
+use Rattle.pdc_aligner.specs.Turns.{HasGiven}
+use Rattle.pdc_aligner.proofs.Laying.{given_on, given_same, turned_all, turned_in_part, turning_begins, turning_on}
+use Rattle.pdc_aligner.proofs.aligner.turns.Goals as goal
+
+pub loop-init : goal.loop-init
+loop-init g c = (
+  search rules,
+  search rules,
+  search rules,
+  search rules,
+  search rules,
+  search rules,
+  search rules,
+  search rules,
+  search rules,
+  turning_begins g.C.Core.stands_for g.N.Naming.given g.K.Ticker.gave c.args.ticker.now c.args.pace.now.rate c.args.pace.now.layout_every (g.M.Mark.stored (mark_in c.args.publisher.now)).counts (view c.args.pass.now).put (search rules) 0 (search rules),
+)
+
+pub returns-in_default-clause-turned : goal.returns-in_default-clause-turned
+returns-in_default-clause-turned g c =
+    turned_all g.C.Core.stands_for g.N.Naming.given c.args.pace.now.rate c.args.pace.now.layout_every (g.M.Mark.stored (mark_in c.args.publisher.now)).counts
+    (g.M.Mark.stored (mark_in c.loop.publisher)).counts (HasGiven g.K.Ticker.gave c.args.ticker.now c.loop.ticker) (HasGiven g.K.Ticker.gave c.args.ticker.now c.next-in-loop.new.self)
+    (view c.loop.pass).put c.loop.adopted c.loop.place c.loop.published c.loop.invariant.9
+    (λ nows h. given_same g.K.Ticker.gave c.args.ticker.now c.loop.ticker c.next-in-loop.new.self nows h (search (rules, c.next-in-loop.ensures.none)))
+
+pub returns-in-Err-clause-turned : goal.returns-in-Err-clause-turned
+returns-in-Err-clause-turned g c =
+    turned_in_part g.C.Core.stands_for g.N.Naming.given c.args.pace.now.rate c.args.pace.now.layout_every (g.M.Mark.stored (mark_in c.args.publisher.now)).counts
+    (g.M.Mark.stored (mark_in c.loop.publisher)).counts (g.M.Mark.stored (mark_in c.turn.new.publisher)).counts
+    (HasGiven g.K.Ticker.gave c.args.ticker.now c.loop.ticker) (HasGiven g.K.Ticker.gave c.args.ticker.now c.next-in-loop.new.self) (view c.loop.pass).put (view c.turn.new.pass).put
+    c.loop.adopted c.loop.place c.in-Some-next.now c.in-Err.fault c.loop.invariant.9 c.turn.ensures.none_falls
+    (λ nows h. given_on g.K.Ticker.gave c.args.ticker.now c.loop.ticker c.next-in-loop.new.self nows c.in-Some-next.now h c.in-Some-next.ensures.some) c.in-Err.ensures.failed
+
+pub loop-preserved : goal.loop-preserved
+loop-preserved g c =
+    let every : ℕ = c.args.pace.now.layout_every in
+    let repeats : c.if-adopted.repeat ≡ c.loop.adopted && ((c.loop.place + 1) % every == 0) = search rules in
+    let after : c.if-adopted-2.adopted ≡ c.loop.adopted || c.in-Ok.adopts = search rules in
+    let gives : (nows : List ℕ) → HasGiven g.K.Ticker.gave c.args.ticker.now c.loop.ticker nows → HasGiven g.K.Ticker.gave c.args.ticker.now c.tell.new.ticker (nows ++ c.in-Some-next.now ∷ []) =
+    λ nows h. given_same g.K.Ticker.gave c.args.ticker.now c.next-in-loop.new.self c.tell.new.ticker (nows ++ c.in-Some-next.now ∷ [])
+    (given_on g.K.Ticker.gave c.args.ticker.now c.loop.ticker c.next-in-loop.new.self nows c.in-Some-next.now h c.in-Some-next.ensures.some) c.tell.ensures in (
+      search rules,
+      search rules,
+      search rules,
+      search rules,
+      search rules,
+      search rules,
+      search rules,
+      search rules,
+      search rules,
+      turning_on g.C.Core.stands_for g.N.Naming.given c.args.pace.now.rate every (g.M.Mark.stored (mark_in c.args.publisher.now)).counts
+          (g.M.Mark.stored (mark_in c.loop.publisher)).counts (g.M.Mark.stored (mark_in c.turn.new.publisher)).counts
+          (HasGiven g.K.Ticker.gave c.args.ticker.now c.loop.ticker) (HasGiven g.K.Ticker.gave c.args.ticker.now c.tell.new.ticker) (view c.loop.pass).put (view c.turn.new.pass).put
+          c.loop.place c.in-Some-next.now c.second_of-soc.result c.loop.adopted c.in-Ok.adopts c.if-adopted.repeat c.if-adopted-2.adopted
+          c.loop.invariant.9 c.in-Ok.ensures.answered c.turn.ensures.none_falls gives c.second_of-soc.ensures repeats after c.in-Ok.ensures.laid,
+    )

@@ -1,0 +1,73 @@
+//! What comes before a tick and the tick itself: the mark is raised to the counts that wait.
+ghost use Rattle.std.specs.Prelude.{◌≡◌, ◌≤◌, ℕ, IfOk, is_some, slice_index};
+ghost use Rattle.pdc_align.specs.Align.{ticked_of};
+ghost use Rattle.pdc_aligner.specs.Turns.{NoneFalls};
+ghost use Rattle.pdc_life.specs.Answer.{tick_answer};
+ghost use Rattle.pdc_life.specs.Life.{changes};
+ghost use Rattle.pdc_publisher.specs.Publisher.{last_in, mark_in, output_in};
+ghost use Rattle.pdc_recorder.specs.Replay.{InSomeLife};
+
+use pdc_align::Ticked;
+use pdc_core::Core;
+use pdc_mark::{COUNTS, Mark, raised};
+use pdc_publisher::Publisher;
+use pdc_recorder::{Hub, HubFault, Naming};
+use std::sync::Wait;
+use std::sync::ledger::Ledger;
+
+/// Raises the mark to the counts that wait, where one of them is greater, and gives the stored ones.
+fn clear_counts<M: Mark>(
+    publisher: &mut Publisher<M>,
+    waiting: &[u16; COUNTS],
+) -> Result<[u16; COUNTS], HubFault>
+    ensures stored { IfOk result (λ counts. counts ≡ (M.stored (mark_in publisher.new)).counts) }
+    ensures cleared { IfOk result (λ counts. (i : ℕ) → slice_index waiting.now i ≤ slice_index counts i) }
+    ensures none_falls { NoneFalls (M.stored (mark_in publisher.old)).counts (M.stored (mark_in publisher.new)).counts }
+    ensures floor { (M.stored (mark_in publisher.new)).floor ≡ (M.stored (mark_in publisher.old)).floor }
+    ensures last { last_in publisher.new ≡ last_in publisher.old }
+    ensures output { output_in publisher.new ≡ output_in publisher.old }
+{
+    if let Some(counts) = raised(&publisher.counts(), waiting) {
+        if publisher.raise(&counts).is_err() {
+            return Err(HubFault::Device);
+        }
+        return Ok(counts);
+    }
+    Ok(publisher.counts())
+}
+
+/// Raises the mark to the counts that wait, outside the lock, and then ticks with the stored ones.
+///
+/// # Errors
+///
+/// `Device` where the mark's device failed; `NoMemory` where there is no memory for the step.
+pub fn tick_cleared<
+    C: Core + Drop,
+    N: Naming<C::Settings>,
+    T: Ledger,
+    F: Ledger,
+    G: Ledger,
+    P: Ledger,
+    M: Mark,
+    R: Wait,
+>(
+    rt: &R,
+    hub: &Hub<C, N, T, F, G, P>,
+    publisher: &mut Publisher<M>,
+    now: u64,
+) -> Result<Ticked, HubFault>
+    // The tick was handed the counts that are stored.
+    ensures stored { IfOk result (λ ticked. ∥ InSomeLife C.stands_for N.given (λ state g E.
+        ticked ≡ ticked_of (changes E) (tick_answer g E now (M.stored (mark_in publisher.new)).counts)) ∥₁) }
+    // No stored count falls.
+    ensures none_falls { NoneFalls (M.stored (mark_in publisher.old)).counts (M.stored (mark_in publisher.new)).counts }
+    ensures floor { (M.stored (mark_in publisher.new)).floor ≡ (M.stored (mark_in publisher.old)).floor }
+    ensures last { last_in publisher.new ≡ last_in publisher.old }
+    ensures output { output_in publisher.new ≡ output_in publisher.old }
+{
+    let waiting = hub.waiting(rt);
+    match clear_counts(publisher, &waiting) {
+        Ok(counts) => hub.tick(rt, now, &counts),
+        Err(fault) => Err(fault),
+    }
+}

@@ -1,0 +1,130 @@
+//! What is due is published, and put on the channel.
+ghost use Rattle.std.specs.Prelude.{◌≡◌, ◌<◌, ◌≤◌, ◌*◌, ℕ, IfOk, IfSome, None, Ok, OnErr, [], false, true};
+ghost use Rattle.crossbeam_channel.specs.Claims.{IsSeatAt, view};
+ghost use Rattle.crossbeam_channel.specs.Ends.{sends_on};
+ghost use Rattle.pdc_aligner.specs.Rate.{IsAtRate};
+ghost use Rattle.pdc_aligner.specs.Sequence.{HasPutData, IsCounted, Rises, instants_of};
+ghost use Rattle.pdc_pipe.specs.Pipe.{log};
+ghost use Rattle.pdc_publisher.specs.Publisher.{last_in, mark_in, output_in};
+ghost use Rattle.pdc_tag.specs.declared.limits.TheConstants.{SECONDS};
+
+use arrayvec::ArrayVec;
+use crossbeam_channel::Pass;
+use pdc_core::Core;
+use pdc_mark::Mark;
+use pdc_output::MAX_ROW_LEN;
+use pdc_pipe::{Log, Message, Sender, put};
+use pdc_publisher::{PublishFault, Publisher};
+use pdc_recorder::{Hub, HubFault, Naming};
+use pdc_row::DueRow;
+use std::sync::Wait;
+use std::sync::ledger::{Ledger, Share};
+
+/// Publishes a row, and puts its frame on the channel.
+fn publish_one<M: Mark, R: Wait>(
+    rt: &R,
+    publisher: &mut Publisher<M>,
+    row: DueRow,
+    sender: &Sender,
+    pass: &mut Pass<Message, Log>,
+    published: &mut u64,
+) -> Result<(), HubFault>
+    requires above { last_in publisher.old < row.instant }
+    requires tagged { row.instant < SECONDS * (output_in publisher.old).rate }
+    requires seat { IsSeatAt (sends_on sender.now) pass.old × (view pass.old ≡ log true false false (view pass.old).put []) }
+    requires stored { last_in publisher.old ≤ (M.stored (mark_in publisher.old)).floor }
+    requires counted { IsCounted published.old (view pass.old).put (last_in publisher.old) }
+    ensures seat { IsSeatAt (sends_on sender.now) pass.new × (view pass.new ≡ log true false false (view pass.new).put []) }
+    ensures counted { IsCounted published.new (view pass.new).put (last_in publisher.new) }
+    ensures last { last_in publisher.new ≤ row.instant }
+    ensures stored { last_in publisher.new ≤ (M.stored (mark_in publisher.new)).floor }
+    ensures rising { (low : ℕ) → Rises low (instants_of (view pass.old).put) (last_in publisher.old) → Rises low (instants_of (view pass.new).put) (last_in publisher.new) }
+    ensures frames { HasPutData (view pass.old).put (view pass.new).put }
+    ensures counts { (M.stored (mark_in publisher.new)).counts ≡ (M.stored (mark_in publisher.old)).counts }
+    ensures output { output_in publisher.new ≡ output_in publisher.old }
+{
+    let mut out: ArrayVec<u8, MAX_ROW_LEN> = ArrayVec::new();
+    let frame = match publisher.publish(row, &mut out) {
+        Ok(frame) => frame,
+        Err(PublishFault::NoMemory(_)) => return Err(HubFault::NoMemory),
+        Err(PublishFault::Device) => return Err(HubFault::Device),
+    };
+    if !put(rt, sender, pass, Message::Data(frame)) {
+        return Err(HubFault::Stuck);
+    }
+    *published += 1;
+    Ok(())
+}
+
+/// The lowest row that closed and was not popped. It lies above all that were popped, and can be tagged at the publisher's rate.
+fn next_row<
+    C: Core + Drop,
+    N: Naming<C::Settings>,
+    T: Ledger,
+    F: Ledger,
+    G: Ledger,
+    P: Ledger,
+    M: Mark,
+    R: Wait,
+>(
+    rt: &R,
+    hub: &Hub<C, N, T, F, G, P>,
+    top: &mut Share<P>,
+    publisher: &Publisher<M>,
+) -> Result<Option<DueRow>, HubFault>
+    requires top { (top.old.parts ≡ P.parts) × (0 < top.old.parts) }
+    requires rate { IsAtRate N.given (output_in publisher.now).rate }
+    ensures row { IfOk result (λ popped. IfSome popped (λ row. (top.old.amount < row.instant) × (top.new.amount ≡ row.instant))) }
+    ensures tagged { IfOk result (λ popped. IfSome popped (λ row. row.instant < SECONDS * (output_in publisher.now).rate)) }
+    ensures none { result ≡ Ok None → top.new.amount ≡ top.old.amount }
+    ensures parts { top.new.parts ≡ top.old.parts }
+    ensures err { OnErr result (top.new.amount ≡ top.old.amount) }
+{
+    hub.pop(rt, top)
+}
+
+/// Pops and publishes all due rows, and puts each on the channel.
+pub fn publish_due<
+    C: Core + Drop,
+    N: Naming<C::Settings>,
+    T: Ledger,
+    F: Ledger,
+    G: Ledger,
+    P: Ledger,
+    M: Mark,
+    R: Wait,
+>(
+    rt: &R,
+    hub: &Hub<C, N, T, F, G, P>,
+    top: &mut Share<P>,
+    publisher: &mut Publisher<M>,
+    sender: &Sender,
+    pass: &mut Pass<Message, Log>,
+    published: &mut u64,
+) -> Result<(), HubFault>
+    requires top { (top.old.parts ≡ P.parts) × (0 < top.old.parts) × (last_in publisher.old ≤ top.old.amount) }
+    requires rate { IsAtRate N.given (output_in publisher.old).rate }
+    requires seat { IsSeatAt (sends_on sender.now) pass.old × (view pass.old ≡ log true false false (view pass.old).put []) }
+    requires stored { last_in publisher.old ≤ (M.stored (mark_in publisher.old)).floor }
+    requires counted { IsCounted published.old (view pass.old).put (last_in publisher.old) }
+    ensures counted { IsCounted published.new (view pass.new).put (last_in publisher.new) }
+    ensures top { (top.new.parts ≡ top.old.parts) × (last_in publisher.new ≤ top.new.amount) }
+    ensures seat { IsSeatAt (sends_on sender.now) pass.new × (view pass.new ≡ log true false false (view pass.new).put []) }
+    ensures stored { last_in publisher.new ≤ (M.stored (mark_in publisher.new)).floor }
+    ensures rising { (low : ℕ) → Rises low (instants_of (view pass.old).put) (last_in publisher.old) → Rises low (instants_of (view pass.new).put) (last_in publisher.new) }
+    ensures frames { HasPutData (view pass.old).put (view pass.new).put }
+    ensures counts { (M.stored (mark_in publisher.new)).counts ≡ (M.stored (mark_in publisher.old)).counts }
+    ensures output { output_in publisher.new ≡ output_in publisher.old }
+{
+    for _ in rt.forever() {
+        let row = match next_row(rt, hub, top, publisher) {
+            Ok(Some(row)) => row,
+            Ok(None) => return Ok(()),
+            Err(fault) => return Err(fault),
+        };
+        if let Err(fault) = publish_one(rt, publisher, row, sender, pass, published) {
+            return Err(fault);
+        }
+    }
+    unreachable!()
+}
