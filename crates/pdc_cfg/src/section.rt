@@ -31,8 +31,6 @@ pub struct SectionView<'a> {
 /// A section that holds its bytes: what a configuration says of one PMU (C37.118.2-2011, table 9).
 #[derive(Debug, Drop)]
 pub struct Section {
-    /// From STN to CFGCNT.
-    pub bytes: ArrayVec<u8, MAX_SECTION_LEN>,
     /// How many phasors, analog values and digital words its data has.
     pub shape: Shape,
     /// IDCODE, the id of the data's source.
@@ -41,6 +39,8 @@ pub struct Section {
     pub count: u16,
     /// Phasors are magnitude and angle, not real and imaginary part.
     pub polar: bool,
+    /// From STN to CFGCNT. They stand last, since most of what is asked of a section is in front.
+    pub bytes: ArrayVec<u8, MAX_SECTION_LEN>,
     // The bytes are a section that says this.
     pub ghost whole: { IsSection (record { bytes = bytes.items; shape = shape; source = source; count = count; polar = polar }) },
 }
