@@ -1,5 +1,5 @@
 //! What comes before a tick and the tick itself: the mark is raised to the counts that wait.
-ghost use Rattle.std.specs.Prelude.{◌≡◌, ◌≤◌, ℕ, IfOk, is_some, slice_index};
+ghost use Rattle.std.specs.Prelude.{◌≡◌, ◌≤◌, ℕ, IfOk, slice_index};
 ghost use Rattle.pdc_align.specs.Align.{ticked_of};
 ghost use Rattle.pdc_aligner.specs.Turns.{NoneFalls};
 ghost use Rattle.pdc_life.specs.Answer.{tick_answer};

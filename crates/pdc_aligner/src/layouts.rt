@@ -1,13 +1,11 @@
 //! Layouts are put on the channel.
-ghost use Rattle.std.specs.Prelude.{◌≡◌, ◌∷◌, ◌++◌, ◌/◌, ◌-◌, ◌^◌, min, IfOk, OnErr, OnOk, [], false, true};
+ghost use Rattle.std.specs.Prelude.{◌≡◌, IfOk, OnErr, OnOk, [], false, true};
 ghost use Rattle.crossbeam_channel.specs.Claims.{IsSeatAt, view};
 ghost use Rattle.crossbeam_channel.specs.Ends.{sends_on};
 ghost use Rattle.pdc_aligner.specs.Sequence.{instants_of};
 ghost use Rattle.pdc_aligner.specs.Turns.{HasPutLayout, second_at};
 ghost use Rattle.pdc_life.specs.Published.{layout_wire};
 ghost use Rattle.pdc_pipe.specs.Pipe.{log};
-ghost use Rattle.pdc_pipe.specs.declared.message.Message.{Message};
-ghost use Rattle.pdc_pipe.specs.declared.message.Message.TheVariants.{Layout};
 ghost use Rattle.pdc_recorder.specs.Replay.{InSomeLife};
 
 use crate::ticker::Pace;
