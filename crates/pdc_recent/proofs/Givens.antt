@@ -5,7 +5,7 @@ use Rattle.std.proofs.lemmas.Bool.{ltb-true}
 use Rattle.std.proofs.Math.Logic.{∥∥₁_map}
 use Rattle.pdc_session.specs.Recent.{AreAbove, AreRising, Kept, above, bytes_of, greatest_of}
 use Rattle.pdc_recent.specs.Given.{IsGiven}
-use Rattle.pdc_recent.specs.Stream.{AreData, IsData, Stream}
+use Rattle.pdc_recent.specs.Stream.{AreData, Stream}
 
 -- those above an instant are
 above_is_above : (instant : ℕ) (frames : List Kept) → AreAbove instant (above instant frames)

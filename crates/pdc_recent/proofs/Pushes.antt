@@ -2,7 +2,7 @@
 use Rattle.std.proofs.Common.{◌≡◌, refl, sym, ap₂, subst, ℕ, suc, zero, List, [], ◌∷◌, ◌++◌, drop, length, ◌-◌}
 use Rattle.std.specs.Prelude.{Result, Ok, Err, OnErr, OnOk, Bool, true, false}
 use Rattle.std.proofs.Math.Logic.{∥∥₁_elim, ∥∥₁_map, ∥∥₁_prop}
-use Rattle.pdc_session.specs.Recent.{Kept, RecentView, is_old, last_256, pushed}
+use Rattle.pdc_session.specs.Recent.{Kept, RecentView, is_old, pushed}
 use Rattle.pdc_recent.specs.Stream.{AreData, IsData, Stream}
 
 one_more : (stream : Stream) (frames : List Kept) (frame : Kept) → AreData stream frames → IsData stream frame.instant frame.bytes → AreData stream (frames ++ frame ∷ [])

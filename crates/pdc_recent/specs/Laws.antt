@@ -1,5 +1,5 @@
 -- What a publisher sends is what is kept (this profile).
-use Rattle.std.specs.Prelude.{ℕ, ◌*◌, ◌^◌, ◌<◌, ◌≤◌, List, length}
+use Rattle.std.specs.Prelude.{◌*◌, ◌^◌, ◌<◌, ◌≤◌, List, length}
 use Rattle.pdc_block.specs.Block.{AreOfShapes}
 use Rattle.pdc_cfg.specs.declared.shape.Shape.{Shape}
 use Rattle.pdc_row.specs.RowView.{RowView}

@@ -2,7 +2,7 @@
 ghost use Rattle.std.specs.Prelude.{◌≡◌, ◌++◌, [], true, false, OnErr, OnOk, IfOk};
 ghost use Rattle.pdc_recent.specs.Given.{IsGiven};
 ghost use Rattle.pdc_recent.specs.Stream.{AreData, IsData, IsLayout};
-ghost use Rattle.pdc_session.specs.Recent.{is_old, pushed};
+ghost use Rattle.pdc_session.specs.Recent.{above, bytes_of, greatest_of, is_old, pushed};
 
 use crate::naming::Naming;
 use pdc_frame::Buffer;
@@ -48,6 +48,8 @@ impl<N: Naming> Remembered<N> {
     /// Appends the frames above the instant, and answers the greatest of theirs, or the instant.
     pub fn after<B: Buffer>(&self, instant: u64, out: &mut B) -> Result<u64, AllocError>
         ensures ok { IfOk result (λ answer. IsGiven N.stream instant (B.content out.old) answer (B.content out.new)) }
+        ensures bytes { OnOk result (B.content out.new ≡ B.content out.old ++ bytes_of (above instant self.now.frames.frames)) }
+        ensures greatest { IfOk result (λ answer. answer ≡ greatest_of instant (above instant self.now.frames.frames)) }
         ensures err { OnErr result (B.content out.new ≡ B.content out.old) }
     {
         self.frames.after(instant, out)

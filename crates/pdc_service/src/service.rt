@@ -5,7 +5,7 @@ use crate::concentrator::Concentrator;
 use crate::fault::ServiceFault;
 use crate::files::{begin_mark, read_merger_settings, read_node_settings};
 use crate::ports::{open_listener, open_sink, open_sources};
-use crate::serving::{new_recent, run_serving};
+use crate::serving::run_serving;
 use pdc_hub::Totals;
 use pdc_network::ClockTicker;
 use pdc_reporting::Reporting;
@@ -58,7 +58,6 @@ fn serve_concentrator<
     let sources = open_sources(rt, rt.alloc(), concentrator)?;
     let sink = open_sink(rt, service.out_port)?;
     let listener = open_listener(rt, service.session_port)?;
-    let recent = new_recent(rt.alloc(), &output, mark.start())?;
     let ticker = Reporting::new(rt, ClockTicker::new(rt, output.rate, ticks), every);
     let plan = plan_of(&service);
     run_serving(
@@ -70,7 +69,6 @@ fn serve_concentrator<
         sources,
         ticker,
         sink,
-        &recent,
         listener,
     )
 }

@@ -1,4 +1,3 @@
-use Rattle.std.proofs.Common.{rules}
 use Rattle.pdc_session.specs.Recent.{RecentView}
 use Rattle.pdc_recent.specs.Stream.{AreData}
 use Rattle.pdc_recent.proofs.Pushes.{kept_are_data, made_alike, where_err}
