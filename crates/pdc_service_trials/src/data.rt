@@ -1,5 +1,6 @@
 //! The data frames of a trial, and how they come to be kept.
-ghost use Rattle.std.specs.Prelude.{◌≡◌};
+ghost use Rattle.std.specs.Prelude.{◌≡◌, ◌<◌, ◌≤◌};
+ghost use Rattle.pdc_frame.specs.declared.limits.TheConstants.{MAX_ID};
 ghost use Rattle.pdc_recent.specs.Stream.{stream_of};
 
 use pdc_frame::{Frame, Kind, write_frame};
@@ -32,7 +33,10 @@ pub fn node_a() -> Output {
 }
 
 /// Appends a data frame of this instant, with the instant as its payload.
-fn append_data(id: u16, instant: u16, out: &mut Vec<u8>) -> io::Result<()> {
+fn append_data(id: u16, instant: u16, out: &mut Vec<u8>) -> io::Result<()>
+    requires id_low { 0 < id }
+    requires id_high { id ≤ MAX_ID }
+{
     let output = node_a();
     let (soc, frac) = tag_of(u64::from(instant), output.time_base, u32::from(output.rate));
     let frame = Frame {
@@ -56,7 +60,9 @@ pub fn send_data<N: Naming, R: Wait>(
     id: u16,
     instant: u16,
 ) -> io::Result<()>
-    requires { N.stream ≡ stream_of output.now }
+    requires named { N.stream ≡ stream_of output.now }
+    requires id_low { 0 < id }
+    requires id_high { id ≤ MAX_ID }
 {
     let mut bytes = Vec::new(alloc);
     append_data(id, instant, &mut bytes)?;

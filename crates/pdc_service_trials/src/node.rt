@@ -65,7 +65,7 @@ const DATA_12: &str = "aa02001a000c448527f000004e2000001388ec78fffe0000ce65";
 const TRIES: u32 = 1000;
 
 /// Runs the node, in a life with start 1, until the trial is done.
-fn run_it<N: Naming, R: Threads + Wait + Clock + Sync>(
+fn run_it<N: Naming + Send, R: Threads + Wait + Clock + Sync>(
     rt: &R,
     alloc: Global,
     settings: &Settings,

@@ -29,11 +29,7 @@ fn print_after<N: Naming, R: Wait + Print>(
 }
 
 /// Sends a frame of each instant from 1 to 300, and one of another stream, and asks for them.
-fn play_named<N: Naming, R: Wait + Print>(
-    rt: &R,
-    alloc: Global,
-    output: &Output,
-) -> io::Result<()>
+fn play_named<N: Naming, R: Wait + Print>(rt: &R, alloc: Global, output: &Output) -> io::Result<()>
     requires { N.stream ≡ stream_of output.now }
 {
     let recent = Recent::<N>::new(alloc, output, 1)?;
