@@ -2,6 +2,7 @@
 #![tactic(auto)]
 
 mod listen;
+mod loading;
 mod mark_convert;
 mod mark_init;
 mod play;

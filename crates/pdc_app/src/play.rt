@@ -1,89 +1,38 @@
 //! The command `play`.
 
-use crate::{FAILED, REFUSED};
+use crate::FAILED;
+use crate::loading::report_load;
 use pdc_command_line::Play;
 use pdc_play::{Ending, PlayFault};
 use pdc_play_settings::{AnySettings, read_settings};
 use pdc_play_world::play_settings;
-use pdc_settings::SettingsFault;
+use pdc_service::{LoadFault, read_settings_text};
 use std::alloc::Global;
+use std::fs::File;
+use std::io;
 use std::io::BufWriter;
 use std::rt::Files;
-use std::{fs, io};
 
-/// Why the settings are not had of a file.
-#[derive(Debug, Drop)]
-pub enum LoadFault {
-    /// The file cannot be read.
-    NotRead(io::Error),
-    /// It is no settings.
-    Refused(SettingsFault),
-}
-
-impl From<io::Error> for LoadFault {
-    fn from(error: io::Error) -> LoadFault {
-        LoadFault::NotRead(error)
-    }
-}
-
-impl From<SettingsFault> for LoadFault {
-    fn from(fault: SettingsFault) -> LoadFault {
-        LoadFault::Refused(fault)
-    }
-}
-
-/// The settings in this file. A file that is not UTF-8 is no TOML.
+/// The settings in this file.
 fn load(
-    rt: &(impl Files + AllocGlobal),
-    alloc: Global,
+    rt: &(impl Files<File = File> + AllocGlobal),
     file: &str,
 ) -> Result<AnySettings, LoadFault> {
-    let bytes = fs::read(rt, file)?;
-    match str::from_utf8(&bytes) {
-        Ok(text) => Ok(read_settings(alloc, text)?),
-        Err(_) => Err(LoadFault::Refused(SettingsFault::Toml)),
-    }
+    let text = read_settings_text(rt, file)?;
+    read_settings(rt.alloc(), &text).map_err(LoadFault::Refused)
 }
 
-/// The exit status that a file gives whose settings are not had.
-fn load_status(fault: &LoadFault) -> u8 {
-    match fault {
-        LoadFault::NotRead(_) | LoadFault::Refused(SettingsFault::NoMemory) => FAILED,
-        LoadFault::Refused(_) => REFUSED,
-    }
-}
-
-/// Prints the fault to standard error, and on a second line the file with the reason: the key where there is one.
-fn report_load(rt: &impl Eprint, fault: &LoadFault, file: &str) -> io::Result<()> {
-    match fault {
-        LoadFault::NotRead(error) => {
-            eprintln!(rt; "device fault")?;
-            eprintln!(rt; "pdc play: {file}: {error}")
-        }
-        LoadFault::Refused(fault) => {
-            eprintln!(rt; "{fault}")?;
-            match fault {
-                SettingsFault::Toml => eprintln!(rt; "pdc play: {file}: it is no TOML"),
-                SettingsFault::Range(wanted) => eprintln!(rt; "pdc play: {file}: {wanted}"),
-                SettingsFault::DoubledId => {
-                    eprintln!(rt; "pdc play: {file}: two ids are the same that must differ")
-                }
-                SettingsFault::NoMemory => eprintln!(rt; "pdc play: {file}: it is not read"),
-            }
-        }
-    }
-}
-
-/// The settings in this file; where they are not had the reason is printed, and the exit status answered that it gives.
+/// The settings in this file; where there are none the reason is printed, and the exit status answered that it gives.
 fn loaded(
-    rt: &(impl Files + AllocGlobal + Eprint),
+    rt: &(impl Files<File = File> + AllocGlobal + Eprint),
     file: &str,
 ) -> io::Result<Result<AnySettings, u8>> {
-    match load(rt, rt.alloc(), file) {
+    match load(rt, file) {
         Ok(settings) => Ok(Ok(settings)),
         Err(fault) => {
-            report_load(rt, &fault, file)?;
-            Ok(Err(load_status(&fault)))
+            eprintln!(rt; "{fault}")?;
+            report_load(rt, "play", file, &fault)?;
+            Ok(Err(fault.status()))
         }
     }
 }

@@ -1,16 +1,11 @@
 //! The commands `node` and `merge`.
 
 use crate::DONE;
+use crate::loading::report_load;
 use pdc_command_line::Running;
 use pdc_hub::Totals;
-use pdc_service::{Files, ServiceFault, serve_merger, serve_node};
-use pdc_settings::SettingsFault;
-use std::fs::File;
+use pdc_service::{Files, Host, ServiceFault, serve_merger, serve_node};
 use std::io;
-use std::net::{Net, TcpListener, TcpStream};
-use std::rt::Clock;
-use std::sync::Wait;
-use std::thread::Threads;
 
 /// Prints what a run counted.
 fn report_totals(rt: &impl Print, totals: &Totals) -> io::Result<u8> {
@@ -26,22 +21,10 @@ fn report_fault(
     fault: &ServiceFault,
     request: &Running,
 ) -> io::Result<u8> {
-    let (settings, mark) = (request.settings, request.mark);
+    let mark = request.mark;
     eprintln!(rt; "{fault}")?;
     match fault {
-        ServiceFault::SettingsUnread(error) => eprintln!(rt; "pdc {command}: {settings}: {error}")?,
-        ServiceFault::Settings(SettingsFault::Toml) => {
-            eprintln!(rt; "pdc {command}: {settings}: it is no TOML")?
-        }
-        ServiceFault::Settings(SettingsFault::Range(wanted)) => {
-            eprintln!(rt; "pdc {command}: {settings}: {wanted}")?
-        }
-        ServiceFault::Settings(SettingsFault::DoubledId) => {
-            eprintln!(rt; "pdc {command}: {settings}: two ids are the same that must differ")?
-        }
-        ServiceFault::Settings(SettingsFault::NoMemory) => {
-            eprintln!(rt; "pdc {command}: {settings}: it is not read")?
-        }
+        ServiceFault::Settings(fault) => report_load(rt, command, request.settings, fault)?,
         ServiceFault::MarkUnopened(error) => eprintln!(rt; "pdc {command}: {mark}: {error}")?,
         ServiceFault::Mark(_) => eprintln!(rt; "pdc {command}: {mark}: the mark is not begun")?,
         ServiceFault::Port(port, error) => {
@@ -52,46 +35,35 @@ fn report_fault(
     Ok(fault.status())
 }
 
-/// Runs a node, and answers the exit status.
-pub fn run_node_command<
-    R: std::rt::Files<File = File>
-        + AllocGlobal
-        + Clock
-        + Net<Listener = TcpListener, Stream = TcpStream>
-        + Threads
-        + Wait
-        + Sync
-        + Print
-        + Eprint,
->(rt: &R, request: &Running) -> io::Result<u8> {
-    let files = Files {
-        settings: request.settings,
-        mark: request.mark,
-    };
-    match serve_node(rt, &files, request.ticks, request.every) {
+/// Prints what came of a run, and answers the exit status.
+fn report_run<R: Print + Eprint>(
+    rt: &R,
+    command: &str,
+    request: &Running,
+    outcome: Result<Totals, ServiceFault>,
+) -> io::Result<u8> {
+    match outcome {
         Ok(totals) => report_totals(rt, &totals),
-        Err(fault) => report_fault(rt, "node", &fault, request),
+        Err(fault) => report_fault(rt, command, &fault, request),
     }
 }
 
-/// Runs the merger, and answers the exit status.
-pub fn run_merge_command<
-    R: std::rt::Files<File = File>
-        + AllocGlobal
-        + Clock
-        + Net<Listener = TcpListener, Stream = TcpStream>
-        + Threads
-        + Wait
-        + Sync
-        + Print
-        + Eprint,
->(rt: &R, request: &Running) -> io::Result<u8> {
-    let files = Files {
+/// The files that a command names.
+fn files_of<'a>(request: &Running<'a>) -> Files<'a> {
+    Files {
         settings: request.settings,
         mark: request.mark,
-    };
-    match serve_merger(rt, &files, request.ticks, request.every) {
-        Ok(totals) => report_totals(rt, &totals),
-        Err(fault) => report_fault(rt, "merge", &fault, request),
     }
+}
+
+/// Runs a node, and answers the exit status.
+pub fn run_node_command<R: Host + Print>(rt: &R, request: &Running) -> io::Result<u8> {
+    let outcome = serve_node(rt, &files_of(request), request.ticks, request.every);
+    report_run(rt, "node", request, outcome)
+}
+
+/// Runs the merger, and answers the exit status.
+pub fn run_merge_command<R: Host + Print>(rt: &R, request: &Running) -> io::Result<u8> {
+    let outcome = serve_merger(rt, &files_of(request), request.ticks, request.every);
+    report_run(rt, "merge", request, outcome)
 }

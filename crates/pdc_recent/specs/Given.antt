@@ -1,14 +1,17 @@
 -- What a reader of the recent frames is given (this profile).
 use Rattle.std.specs.Prelude.{◌≡◌, refl, ℕ, List, [], ◌∷◌, ◌++◌}
 use Rattle.pdc_session.specs.Recent.{AreAbove, AreRising, Kept, bytes_of, greatest_of}
+use Rattle.pdc_recent.specs.Stream.{AreData, Stream}
 
--- Behind the bytes that there were stand the bytes of some frames: their instants strictly rise and lie above the one that was asked for.
--- The answer is the greatest of them, and that one where there is none. Which bytes a frame of an instant has is not spoken of.
-pub record IsGiven (instant : ℕ) (before : List ℕ) (answer : ℕ) (grown : List ℕ) : Type 0 where
+-- Behind the bytes that there were stand the bytes of some frames: their instants strictly rise and lie above the one that was asked for,
+-- and each is a data frame of the stream, whose time tag tells its instant. The answer is the greatest of them, and that one where there
+-- is none.
+pub record IsGiven (stream : Stream) (instant : ℕ) (before : List ℕ) (answer : ℕ) (grown : List ℕ) : Type 0 where
   pub frames : List Kept
   pub appended : grown ≡ before ++ bytes_of frames
   pub rising : AreRising frames
   pub later : AreAbove instant frames
+  pub are_data : ∥ AreData stream frames ∥₁
   pub greatest : answer ≡ greatest_of instant frames
 
 -- Worked: a reader that got up to instant 3 is given the frames of 5 and 6, and told 6; then nothing, and 6 again.

@@ -2,12 +2,16 @@
 //!
 //! The type to look at is [`Recent`]: the last data frames and the last layout frame, under one lock.
 //!
-//! To the layers above this crate promises that whatever other threads do, a reader that asks for the frames above an instant is given pieces
-//! that were kept under instants which strictly rise above it, and is told the greatest of them. That each piece is the frame that was pushed under
-//! its instant is shown by tests.
+//! To the layers above this crate promises that whatever other threads do, a reader that asks for the frames above an instant is given data
+//! frames of the stream, whose time tags tell instants that strictly rise above it, and is told the greatest of them; and that the layout
+//! that is kept is a CFG-2 frame of the stream. That a reader is given the frames that were pushed, and no others, is shown by tests.
 #![tactic(auto)]
 
+mod laws;
+mod naming;
 mod recent;
 mod remembered;
 
+pub use laws::rows_are_data;
+pub use naming::Naming;
 pub use recent::Recent;

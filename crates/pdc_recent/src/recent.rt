@@ -1,37 +1,47 @@
 //! The lock round what was sent last.
 ghost use Rattle.std.specs.Prelude.{◌≡◌, ◌++◌, ℕ, List, OnErr, OnOk, IfOk};
 ghost use Rattle.pdc_recent.specs.Given.{IsGiven};
+ghost use Rattle.pdc_recent.specs.Stream.{IsData, IsLayout, stream_of};
 
+use crate::naming::Naming;
 use crate::remembered::Remembered;
 use pdc_frame::Buffer;
-use pdc_session::Frames;
+use pdc_output::{Output, append_layout};
 use std::alloc::{AllocError, Global};
 use std::sync::{Mutex, Wait};
 
 /// The last 256 data frames that were sent, and the last layout frame. Each call takes the lock once, and may wait for it; none holds it
 /// for longer than a copy of what is asked for.
 #[derive(Drop)]
-pub struct Recent {
-    remembered: Mutex<Remembered>,
+pub struct Recent<N: Naming> {
+    remembered: Mutex<Remembered<N>>,
 }
 
-impl Recent {
-    /// No data frame yet, and this layout frame.
+/// The layout frame before the first adoption of a life with this start: the own section alone.
+fn first_layout(alloc: Global, output: &Output, start: u32) -> Result<Vec<u8>, AllocError>
+    ensures { IfOk result (λ layout. IsLayout (stream_of output.now) layout.items) }
+{
+    let mut layout = Vec::new(alloc);
+    append_layout(output, start, 0, &[], 0, &mut layout)?;
+    Ok(layout)
+}
+
+impl<N: Naming> Recent<N> {
+    /// No data frame yet. The layout is the own section alone, as before the first adoption of a life with this start.
     ///
     /// # Errors
     ///
-    /// [`AllocError`] where there is no memory for the ring.
-    pub fn new(alloc: Global, layout: Vec<u8>) -> Result<Recent, AllocError> {
+    /// [`AllocError`] where there is no memory for the ring or for the layout frame.
+    pub fn new(alloc: Global, output: &Output, start: u32) -> Result<Recent<N>, AllocError>
+        requires { N.stream ≡ stream_of output.now }
+    {
+        let layout = first_layout(alloc, output, start)?;
         Ok(Recent {
-            remembered: Mutex::new(Remembered {
-                frames: Frames::new(alloc)?,
-                layout,
-                closed: false,
-            }),
+            remembered: Mutex::new(Remembered::new(alloc, layout)?),
         })
     }
 
-    /// Keeps a data frame, if its instant is above all before; the oldest of 256 goes.
+    /// Keeps a data frame of this instant, if the instant is above all before; the oldest of 256 goes.
     ///
     /// # Errors
     ///
@@ -42,7 +52,9 @@ impl Recent {
         alloc: Global,
         instant: u64,
         bytes: &[u8],
-    ) -> Result<(), AllocError> {
+    ) -> Result<(), AllocError>
+        requires { IsData N.stream instant bytes.now }
+    {
         self.remembered.lock(rt).push(alloc, instant, bytes)
     }
 
@@ -57,15 +69,17 @@ impl Recent {
         instant: u64,
         out: &mut B,
     ) -> Result<u64, AllocError>
-        ensures ok { IfOk result (λ answer. IsGiven instant (B.content out.old) answer (B.content out.new)) }
+        ensures ok { IfOk result (λ answer. IsGiven N.stream instant (B.content out.old) answer (B.content out.new)) }
         ensures err { OnErr result (B.content out.new ≡ B.content out.old) }
     {
         self.remembered.lock(rt).after(instant, out)
     }
 
     /// Keeps a layout frame in place of the one before.
-    pub fn keep_layout<R: Wait>(&self, rt: &R, layout: Vec<u8>) {
-        self.remembered.lock(rt).layout = layout;
+    pub fn keep_layout<R: Wait>(&self, rt: &R, layout: Vec<u8>)
+        requires { IsLayout N.stream layout.items }
+    {
+        self.remembered.lock(rt).keep_layout(layout);
     }
 
     /// Appends a copy of the layout frame that was kept last.
@@ -74,7 +88,7 @@ impl Recent {
     ///
     /// [`AllocError`] where `out` has no room for it and gets none. `out` is unchanged then.
     pub fn layout<B: Buffer, R: Wait>(&self, rt: &R, out: &mut B) -> Result<(), AllocError>
-        ensures ok { OnOk result ((frame : List ℕ) × (B.content out.new ≡ B.content out.old ++ frame)) }
+        ensures ok { OnOk result ((frame : List ℕ) × ∥ IsLayout N.stream frame ∥₁ × (B.content out.new ≡ B.content out.old ++ frame)) }
         ensures err { OnErr result (B.content out.new ≡ B.content out.old) }
     {
         self.remembered.lock(rt).layout(out)

@@ -1,5 +1,6 @@
 -- A node or the merger, as its settings describe it (this profile).
 use Rattle.std.specs.Prelude.{ℕ, length}
+use Rattle.pdc_output.specs.declared.output.Output.{Output}
 use Rattle.pdc_service.specs.declared.concentrator.Concentrator.{Concentrator}
 use Rattle.pdc_service.specs.declared.concentrator.Concentrator.TheVariants.{Merger, Node}
 
@@ -7,3 +8,8 @@ use Rattle.pdc_service.specs.declared.concentrator.Concentrator.TheVariants.{Mer
 abbrev pub streams_of : Concentrator → ℕ
 streams_of (Node settings) = length settings.life.pmus.items
 streams_of (Merger settings) = 2
+
+-- what its frames say
+abbrev pub output_of : Concentrator → Output
+output_of (Node settings) = settings.life.output
+output_of (Merger settings) = settings.life.output

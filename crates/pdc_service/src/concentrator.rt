@@ -1,6 +1,6 @@
 //! What a node and the merger have in common.
 ghost use Rattle.std.specs.Prelude.{◌≡◌, IfOk, map, sum, vec_len};
-ghost use Rattle.pdc_service.specs.Concentrator.{streams_of};
+ghost use Rattle.pdc_service.specs.Concentrator.{output_of, streams_of};
 
 use pdc_hub::{HubFault, Sink, Source, Ticker, Totals};
 use pdc_mark::Mark;
@@ -22,7 +22,9 @@ pub enum Concentrator {
 
 impl Concentrator {
     /// What its frames say.
-    pub fn output(&self) -> Output {
+    pub fn output(&self) -> Output
+        ensures { result ≡ output_of self.now }
+    {
         match self {
             Concentrator::Node(settings) => settings.life.output,
             Concentrator::Merger(settings) => settings.life.output,

@@ -6,15 +6,23 @@ use pdc_settings::SettingsFault;
 use std::io;
 use thiserror::Error;
 
+/// Why there are no settings in a file. Each prints as its code and its name, or as `device fault`.
+#[derive(Debug, Drop, Error)]
+pub enum LoadFault {
+    /// The file cannot be read.
+    #[error("device fault")]
+    Unread(io::Error),
+    /// It is no settings.
+    #[error("{0}")]
+    Refused(SettingsFault),
+}
+
 /// Why a node or the merger did not run to its end. Each prints as its code and its name, or as `device fault`.
 #[derive(Debug, Drop, Error)]
 pub enum ServiceFault {
-    /// The settings file cannot be read.
-    #[error("device fault")]
-    SettingsUnread(io::Error),
-    /// The settings file is no settings.
+    /// There are no settings in the settings file.
     #[error("{0}")]
-    Settings(SettingsFault),
+    Settings(LoadFault),
     /// The mark file cannot be opened.
     #[error("device fault")]
     MarkUnopened(io::Error),
@@ -35,18 +43,24 @@ const REFUSED: u8 = 1;
 /// The exit status where a device failed or memory ran out.
 const FAILED: u8 = 3;
 
+impl LoadFault {
+    /// The exit status: 1 where the settings are refused, 3 where the file cannot be read or memory ran out.
+    pub fn status(&self) -> u8 {
+        match self {
+            LoadFault::Unread(_) | LoadFault::Refused(SettingsFault::NoMemory) => FAILED,
+            LoadFault::Refused(_) => REFUSED,
+        }
+    }
+}
+
 impl ServiceFault {
     /// The exit status: 1 where settings or mark are refused, 3 where a device failed or memory ran out.
     pub fn status(&self) -> u8 {
         match self {
-            ServiceFault::Settings(SettingsFault::NoMemory) => FAILED,
-            ServiceFault::Settings(_) => REFUSED,
+            ServiceFault::Settings(fault) => fault.status(),
             ServiceFault::Mark(MarkFault::Device) => FAILED,
             ServiceFault::Mark(_) => REFUSED,
-            ServiceFault::SettingsUnread(_)
-            | ServiceFault::MarkUnopened(_)
-            | ServiceFault::Port(..)
-            | ServiceFault::Run(_) => FAILED,
+            ServiceFault::MarkUnopened(_) | ServiceFault::Port(..) | ServiceFault::Run(_) => FAILED,
         }
     }
 }

@@ -1,6 +1,6 @@
 //! The files of a concentrator.
 
-use crate::fault::ServiceFault;
+use crate::fault::{LoadFault, ServiceFault};
 use pdc_disk::FileDisk;
 use pdc_mark::DiskMark;
 use pdc_running::Begun;
@@ -10,37 +10,31 @@ use std::fs;
 use std::fs::File;
 use std::rt::Files;
 
-/// The bytes of the settings file.
-fn read_file<R: Files<File = File> + AllocGlobal>(
+/// The text of a settings file; one that is not UTF-8 is no TOML.
+pub fn read_settings_text<R: Files<File = File> + AllocGlobal>(
     rt: &R,
     file: &str,
-) -> Result<Vec<u8>, ServiceFault> {
-    fs::read(rt, file).map_err(ServiceFault::SettingsUnread)
-}
-
-/// The text of a settings file; one that is no UTF-8 is no TOML.
-fn text_of(bytes: &[u8]) -> Result<&str, ServiceFault> {
-    std::str::from_utf8(bytes).map_err(|_| ServiceFault::Settings(SettingsFault::Toml))
+) -> Result<String, LoadFault> {
+    let bytes = fs::read(rt, file).map_err(LoadFault::Unread)?;
+    String::from_utf8(bytes).map_err(|_| LoadFault::Refused(SettingsFault::Toml))
 }
 
 /// The settings of a node in this file.
 pub fn read_node_settings<R: Files<File = File> + AllocGlobal>(
     rt: &R,
     file: &str,
-) -> Result<NodeSettings, ServiceFault> {
-    let bytes = read_file(rt, file)?;
-    let text = text_of(&bytes)?;
-    NodeSettings::from_toml(rt.alloc(), text).map_err(ServiceFault::Settings)
+) -> Result<NodeSettings, LoadFault> {
+    let text = read_settings_text(rt, file)?;
+    NodeSettings::from_toml(rt.alloc(), &text).map_err(LoadFault::Refused)
 }
 
 /// The settings of the merger in this file.
 pub fn read_merger_settings<R: Files<File = File> + AllocGlobal>(
     rt: &R,
     file: &str,
-) -> Result<MergerSettings, ServiceFault> {
-    let bytes = read_file(rt, file)?;
-    let text = text_of(&bytes)?;
-    MergerSettings::from_toml(rt.alloc(), text).map_err(ServiceFault::Settings)
+) -> Result<MergerSettings, LoadFault> {
+    let text = read_settings_text(rt, file)?;
+    MergerSettings::from_toml(rt.alloc(), &text).map_err(LoadFault::Refused)
 }
 
 /// The mark in this file, of the concentrator with this id and rate, with its next start stored.

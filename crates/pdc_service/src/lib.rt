@@ -8,9 +8,12 @@
 mod concentrator;
 mod fault;
 mod files;
+mod host;
 mod ports;
 mod service;
 mod serving;
 
-pub use fault::ServiceFault;
+pub use fault::{LoadFault, ServiceFault};
+pub use files::read_settings_text;
+pub use host::Host;
 pub use service::{Files, serve_merger, serve_node};

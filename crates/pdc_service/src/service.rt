@@ -4,18 +4,14 @@ ghost use Rattle.std.specs.Prelude.{◌≡◌};
 use crate::concentrator::Concentrator;
 use crate::fault::ServiceFault;
 use crate::files::{begin_mark, read_merger_settings, read_node_settings};
+use crate::host::Host;
 use crate::ports::{open_listener, open_sink, open_sources};
-use crate::serving::{new_recent, run_serving};
+use crate::serving::run_serving;
 use pdc_hub::Totals;
 use pdc_network::ClockTicker;
 use pdc_reporting::Reporting;
 use pdc_running::{MAX_LIMIT, Plan};
 use pdc_settings::Service;
-use std::fs::File;
-use std::net::{Net, TcpListener, TcpStream};
-use std::rt::Clock;
-use std::sync::Wait;
-use std::thread::Threads;
 
 /// The files of a concentrator, by their names.
 #[derive(Clone, Copy, Debug)]
@@ -36,16 +32,7 @@ fn plan_of(service: &Service) -> Plan {
 }
 
 /// Runs a concentrator with its mark in this file.
-fn serve_concentrator<
-    R: std::rt::Files<File = File>
-        + AllocGlobal
-        + Clock
-        + Net<Listener = TcpListener, Stream = TcpStream>
-        + Threads
-        + Wait
-        + Sync
-        + Eprint,
->(
+fn serve_concentrator<R: Host>(
     rt: &R,
     concentrator: &Concentrator,
     mark: &str,
@@ -58,7 +45,6 @@ fn serve_concentrator<
     let sources = open_sources(rt, rt.alloc(), concentrator)?;
     let sink = open_sink(rt, service.out_port)?;
     let listener = open_listener(rt, service.session_port)?;
-    let recent = new_recent(rt.alloc(), &output, mark.start())?;
     let ticker = Reporting::new(rt, ClockTicker::new(rt, output.rate, ticks), every);
     let plan = plan_of(&service);
     run_serving(
@@ -70,7 +56,6 @@ fn serve_concentrator<
         sources,
         ticker,
         sink,
-        &recent,
         listener,
     )
 }
@@ -82,17 +67,13 @@ fn serve_concentrator<
 ///
 /// The first fault: of the settings file, the mark file, the start that is stored, the ports in the order of the PMUs, the port of the
 /// frames, the port of the sessions, or the run.
-pub fn serve_node<
-    R: std::rt::Files<File = File>
-        + AllocGlobal
-        + Clock
-        + Net<Listener = TcpListener, Stream = TcpStream>
-        + Threads
-        + Wait
-        + Sync
-        + Eprint,
->(rt: &R, files: &Files<'_>, ticks: u32, every: Option<u32>) -> Result<Totals, ServiceFault> {
-    let settings = read_node_settings(rt, files.settings)?;
+pub fn serve_node<R: Host>(
+    rt: &R,
+    files: &Files<'_>,
+    ticks: u32,
+    every: Option<u32>,
+) -> Result<Totals, ServiceFault> {
+    let settings = read_node_settings(rt, files.settings).map_err(ServiceFault::Settings)?;
     serve_concentrator(rt, &Concentrator::Node(settings), files.mark, ticks, every)
 }
 
@@ -102,17 +83,13 @@ pub fn serve_node<
 ///
 /// The first fault: of the settings file, the mark file, the start that is stored, the ports of node A and node B, the port of the
 /// frames, the port of the sessions, or the run.
-pub fn serve_merger<
-    R: std::rt::Files<File = File>
-        + AllocGlobal
-        + Clock
-        + Net<Listener = TcpListener, Stream = TcpStream>
-        + Threads
-        + Wait
-        + Sync
-        + Eprint,
->(rt: &R, files: &Files<'_>, ticks: u32, every: Option<u32>) -> Result<Totals, ServiceFault> {
-    let settings = read_merger_settings(rt, files.settings)?;
+pub fn serve_merger<R: Host>(
+    rt: &R,
+    files: &Files<'_>,
+    ticks: u32,
+    every: Option<u32>,
+) -> Result<Totals, ServiceFault> {
+    let settings = read_merger_settings(rt, files.settings).map_err(ServiceFault::Settings)?;
     serve_concentrator(
         rt,
         &Concentrator::Merger(settings),

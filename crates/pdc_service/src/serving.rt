@@ -1,7 +1,8 @@
 //! A run with consumers beside it.
 ghost use Rattle.std.specs.Prelude.{◌≡◌, ◌≤◌, ◌<◌, vec_len};
 ghost use Rattle.pdc_frame.specs.declared.limits.TheConstants.{MAX_ID};
-ghost use Rattle.pdc_service.specs.Concentrator.{streams_of};
+ghost use Rattle.pdc_recent.specs.Stream.{stream_of};
+ghost use Rattle.pdc_service.specs.Concentrator.{output_of, streams_of};
 
 use crate::concentrator::{Concentrator, run_concentrator};
 use crate::fault::ServiceFault;
@@ -9,37 +10,25 @@ use pdc_disk::FileDisk;
 use pdc_hub::{HubFault, Ticker, Totals};
 use pdc_mark::DiskMark;
 use pdc_network::{UdpSink, UdpSource};
-use pdc_output::{Output, append_layout};
-use pdc_recent::Recent;
+use pdc_recent::{Naming, Recent};
 use pdc_remembering::RememberingSink;
 use pdc_running::{Begun, Plan};
 use pdc_serving::serve;
 use std::alloc::Global;
+use std::marker::Brand;
 use std::net::TcpListener;
 use std::rt::Clock;
 use std::sync::Wait;
 use std::thread;
 use std::thread::{Scope, Threads};
 
-/// Nothing was sent yet; the layout is the own section alone, as before the first adoption of a life with this start.
-pub fn new_recent(alloc: Global, output: &Output, start: u32) -> Result<Recent, ServiceFault> {
-    let mut layout = Vec::new(alloc);
-    if append_layout(output, start, 0, &[], 0, &mut layout).is_err() {
-        return Err(ServiceFault::Run(HubFault::NoMemory));
-    }
-    match Recent::new(alloc, layout) {
-        Ok(recent) => Ok(recent),
-        Err(_) => Err(ServiceFault::Run(HubFault::NoMemory)),
-    }
-}
-
 /// Starts the thread that serves the consumers, and answers whether it was started.
-fn start_sessions<'s, E: 's, R: Wait + Clock + Sync + 's>(
+fn start_sessions<'s, E: 's, N: Naming + Send + 's, R: Wait + Clock + Sync + 's>(
     scope: &'s Scope<'s, E>,
     rt: &'s R,
     alloc: Global,
     id: u16,
-    recent: &'s Recent,
+    recent: &'s Recent<N>,
     listener: TcpListener,
 ) -> bool
     requires id_low { 0 < id }
@@ -55,7 +44,13 @@ fn start_sessions<'s, E: 's, R: Wait + Clock + Sync + 's>(
 }
 
 /// Starts the sessions, runs, and ends the sessions.
-fn conduct<'s, E: 's, I: Ticker + Drop, R: Threads + Wait + Clock + Sync + 's>(
+fn conduct<
+    's,
+    E: 's,
+    N: Naming + Send + 's,
+    I: Ticker + Drop,
+    R: Threads + Wait + Clock + Sync + 's,
+>(
     scope: &'s Scope<'s, E>,
     rt: &'s R,
     alloc: Global,
@@ -65,10 +60,11 @@ fn conduct<'s, E: 's, I: Ticker + Drop, R: Threads + Wait + Clock + Sync + 's>(
     sources: Vec<UdpSource>,
     ticker: I,
     sink: UdpSink,
-    recent: &'s Recent,
+    recent: &'s Recent<N>,
     listener: TcpListener,
 ) -> Result<Totals, ServiceFault>
-    requires { vec_len sources ≡ streams_of concentrator.now }
+    requires streams { vec_len sources ≡ streams_of concentrator.now }
+    requires named { N.stream ≡ stream_of (output_of concentrator.now) }
 {
     let output = concentrator.output();
     if !start_sessions(scope, rt, alloc, output.id, recent, listener) {
@@ -83,8 +79,13 @@ fn conduct<'s, E: 's, I: Ticker + Drop, R: Threads + Wait + Clock + Sync + 's>(
     }
 }
 
-/// Runs a concentrator, and serves its consumers in a thread beside it for as long as it runs.
-pub fn run_serving<'x, I: Ticker + Drop + 'x, R: Threads + Wait + Clock + Sync + 'x>(
+/// Runs a concentrator that keeps what it sends in `recent`, and serves its consumers in a thread beside it for as long as it runs.
+fn run_keeping<
+    'x,
+    N: Naming + Send + 'x,
+    I: Ticker + Drop + 'x,
+    R: Threads + Wait + Clock + Sync + 'x,
+>(
     rt: &'x R,
     alloc: Global,
     concentrator: &'x Concentrator,
@@ -93,16 +94,18 @@ pub fn run_serving<'x, I: Ticker + Drop + 'x, R: Threads + Wait + Clock + Sync +
     sources: Vec<UdpSource>,
     ticker: I,
     sink: UdpSink,
-    recent: &'x Recent,
+    recent: &'x Recent<N>,
     listener: TcpListener,
 ) -> Result<Totals, ServiceFault>
-    requires { vec_len sources ≡ streams_of concentrator.now }
+    requires streams { vec_len sources ≡ streams_of concentrator.now }
+    requires named { N.stream ≡ stream_of (output_of concentrator.now) }
 {
     thread::scope(
         thread::scope_env(),
         rt,
         |scope| -> Result<Totals, ServiceFault>
             requires streams { vec_len sources ≡ streams_of concentrator.now }
+            requires named { N.stream ≡ stream_of (output_of concentrator.now) }
         {
             conduct(
                 scope,
@@ -118,5 +121,64 @@ pub fn run_serving<'x, I: Ticker + Drop + 'x, R: Threads + Wait + Clock + Sync +
                 listener,
             )
         },
+    )
+}
+
+/// Runs a concentrator of the stream that is named, and serves its consumers.
+fn run_named<N: Naming + Send, I: Ticker + Drop, R: Threads + Wait + Clock + Sync>(
+    rt: &R,
+    alloc: Global,
+    concentrator: &Concentrator,
+    plan: &Plan,
+    mark: Begun<DiskMark<FileDisk>>,
+    sources: Vec<UdpSource>,
+    ticker: I,
+    sink: UdpSink,
+    listener: TcpListener,
+) -> Result<Totals, ServiceFault>
+    requires streams { vec_len sources ≡ streams_of concentrator.now }
+    requires named { N.stream ≡ stream_of (output_of concentrator.now) }
+{
+    let Ok(recent) = Recent::<N>::new(alloc, &concentrator.output(), mark.start()) else {
+        return Err(ServiceFault::Run(HubFault::NoMemory));
+    };
+    run_keeping(
+        rt,
+        alloc,
+        concentrator,
+        plan,
+        mark,
+        sources,
+        ticker,
+        sink,
+        &recent,
+        listener,
+    )
+}
+
+/// Runs a concentrator, and serves its consumers in a thread beside it for as long as it runs.
+pub fn run_serving<I: Ticker + Drop, R: Threads + Wait + Clock + Sync>(
+    rt: &R,
+    alloc: Global,
+    concentrator: &Concentrator,
+    plan: &Plan,
+    mark: Begun<DiskMark<FileDisk>>,
+    sources: Vec<UdpSource>,
+    ticker: I,
+    sink: UdpSink,
+    listener: TcpListener,
+) -> Result<Totals, ServiceFault>
+    requires { vec_len sources ≡ streams_of concentrator.now }
+{
+    run_named::<Brand, I, R>(
+        rt,
+        alloc,
+        concentrator,
+        plan,
+        mark,
+        sources,
+        ticker,
+        sink,
+        listener,
     )
 }

@@ -1,38 +1,26 @@
 //! A session in memory, turn by turn.
+ghost use Rattle.std.specs.Prelude.{◌≡◌};
+ghost use Rattle.pdc_recent.specs.Stream.{stream_of};
 
+use crate::data::{ID, node_a, send_data};
 use crate::line::Line;
 use pdc_command::{Command, read_header, write_command};
 use pdc_frame::{Kind, read_frame};
-use pdc_output::{Nominal, Output, append_layout};
-use pdc_recent::Recent;
+use pdc_output::Output;
+use pdc_recent::{Naming, Recent};
 use pdc_serving::Consumer;
 use std::alloc::{AllocError, Global};
 use std::io;
+use std::marker::Brand;
 use std::rt::Clock;
 use std::sync::Wait;
 
-/// The stream of node A.
-const ID: u16 = 201;
-
-/// What is kept before the first layout of node A's first life.
-pub fn new_recent(alloc: Global) -> Result<Recent, AllocError> {
-    let output = Output {
-        id: ID,
-        rate: 50,
-        nominal: Nominal::Hz50,
-        time_base: 1_000_000,
-    };
-    let mut layout = Vec::new(alloc);
-    append_layout(&output, 1, 0, &[], 0, &mut layout)?;
-    Recent::new(alloc, layout)
-}
-
 /// A consumer, and its end of the connection.
 #[derive(Drop)]
-struct Pair {
+struct Pair<N: Naming> {
     consumer: Consumer,
     line: Line,
-    recent: Recent,
+    recent: Recent<N>,
 }
 
 /// What the bytes are: one frame by its kind and length, or so many bytes.
@@ -53,10 +41,10 @@ fn describe(alloc: Global, bytes: &[u8]) -> Result<String, AllocError> {
 }
 
 /// One turn, and what was written in it.
-fn turn<R: Wait + Clock + Print>(
+fn turn<N: Naming, R: Wait + Clock + Print>(
     rt: &R,
     alloc: Global,
-    pair: &mut Pair,
+    pair: &mut Pair<N>,
     name: &str,
 ) -> io::Result<()> {
     pair.line.written.clear();
@@ -69,10 +57,10 @@ fn turn<R: Wait + Clock + Print>(
 }
 
 /// A turn in which this command comes.
-fn command<R: Wait + Clock + Print>(
+fn command<N: Naming, R: Wait + Clock + Print>(
     rt: &R,
     alloc: Global,
-    pair: &mut Pair,
+    pair: &mut Pair<N>,
     name: &str,
     command: Command,
 ) -> io::Result<()> {
@@ -80,30 +68,38 @@ fn command<R: Wait + Clock + Print>(
     turn(rt, alloc, pair, name)
 }
 
-/// A new consumer.
-fn new_pair(alloc: Global) -> Result<Pair, AllocError> {
+/// A new consumer of a concentrator with this output, in its first life.
+fn new_pair<N: Naming>(alloc: Global, output: &Output) -> Result<Pair<N>, AllocError>
+    requires { N.stream ≡ stream_of output.now }
+{
     Ok(Pair {
-        consumer: Consumer::new(alloc, ID)?,
+        consumer: Consumer::new(alloc, output.id)?,
         line: Line::new(alloc),
-        recent: new_recent(alloc)?,
+        recent: Recent::new(alloc, output, 1)?,
     })
 }
 
 /// What a consumer asks, and data that is sent meanwhile.
-fn play_commands<R: Wait + Clock + Print>(rt: &R, alloc: Global) -> io::Result<()> {
-    let mut pair = new_pair(alloc)?;
+fn play_commands<N: Naming, R: Wait + Clock + Print>(
+    rt: &R,
+    alloc: Global,
+    output: &Output,
+) -> io::Result<()>
+    requires { N.stream ≡ stream_of output.now }
+{
+    let mut pair = new_pair::<N>(alloc, output)?;
     turn(rt, alloc, &mut pair, "nothing came")?;
     command(rt, alloc, &mut pair, "header", Command::SendHeader)?;
     command(rt, alloc, &mut pair, "configuration", Command::SendCfg2)?;
-    pair.recent.push(rt, alloc, 5, &[5, 5, 5])?;
+    send_data(rt, alloc, &pair.recent, output, ID, 5)?;
     turn(rt, alloc, &mut pair, "data off")?;
     command(rt, alloc, &mut pair, "data on", Command::DataOn)?;
-    pair.recent.push(rt, alloc, 6, &[6, 6, 6, 6])?;
-    pair.recent.push(rt, alloc, 7, &[7, 7, 7, 7])?;
+    send_data(rt, alloc, &pair.recent, output, ID, 6)?;
+    send_data(rt, alloc, &pair.recent, output, ID, 7)?;
     turn(rt, alloc, &mut pair, "two more")?;
     turn(rt, alloc, &mut pair, "none more")?;
     command(rt, alloc, &mut pair, "data off", Command::DataOff)?;
-    pair.recent.push(rt, alloc, 8, &[8])?;
+    send_data(rt, alloc, &pair.recent, output, ID, 8)?;
     turn(rt, alloc, &mut pair, "data off")?;
     command(rt, alloc, &mut pair, "data on", Command::DataOn)?;
     let got = pair.consumer.got();
@@ -113,23 +109,44 @@ fn play_commands<R: Wait + Clock + Print>(rt: &R, alloc: Global) -> io::Result<(
 }
 
 /// How sessions end.
-fn play_ends<R: Wait + Clock + Print>(rt: &R, alloc: Global) -> io::Result<()> {
-    let mut pair = new_pair(alloc)?;
+fn play_ends<N: Naming, R: Wait + Clock + Print>(
+    rt: &R,
+    alloc: Global,
+    output: &Output,
+) -> io::Result<()>
+    requires { N.stream ≡ stream_of output.now }
+{
+    let mut pair = new_pair::<N>(alloc, output)?;
     pair.line.input.extend_from_slice(&[0xAA, 0xAA])?;
     turn(rt, alloc, &mut pair, "AA AA")?;
-    let mut pair = new_pair(alloc)?;
+    let mut pair = new_pair::<N>(alloc, output)?;
     pair.line.is_closed = true;
     command(rt, alloc, &mut pair, "a write fails", Command::SendHeader)?;
-    let mut pair = new_pair(alloc)?;
+    let mut pair = new_pair::<N>(alloc, output)?;
+    write_command(ID, 0, Command::SendHeader, &mut pair.line.input)?;
+    pair.recent.close(rt);
+    turn(rt, alloc, &mut pair, "the concentrator has ended")?;
+    let mut pair = new_pair::<N>(alloc, output)?;
     write_command(ID, 0, Command::SendHeader, &mut pair.line.input)?;
     pair.line.input.extend_from_slice(&[0xAA, 0xAA])?;
     turn(rt, alloc, &mut pair, "a header is asked for before AA AA")
 }
 
+/// Sessions of a concentrator with this output.
+fn play_named<N: Naming, R: Wait + Clock + Print>(
+    rt: &R,
+    alloc: Global,
+    output: &Output,
+) -> io::Result<()>
+    requires { N.stream ≡ stream_of output.now }
+{
+    println!(rt; "a session in memory")?;
+    play_commands::<N, R>(rt, alloc, output)?;
+    println!(rt; "ends of sessions")?;
+    play_ends::<N, R>(rt, alloc, output)
+}
+
 /// Sessions in memory.
 pub fn play<R: Wait + Clock + Print>(rt: &R, alloc: Global) -> io::Result<()> {
-    println!(rt; "a session in memory")?;
-    play_commands(rt, alloc)?;
-    println!(rt; "ends of sessions")?;
-    play_ends(rt, alloc)
+    play_named::<Brand, R>(rt, alloc, &node_a())
 }

@@ -1,15 +1,12 @@
 //! What ends a node before it runs, in the order in which it is found, and a short run.
 
 use pdc_mark_files::make_mark;
-use pdc_service::{Files, serve_merger, serve_node};
+use pdc_service::{Files, Host, serve_merger, serve_node};
 use std::alloc::{AllocError, Global};
 use std::env::Env;
 use std::fs::File;
-use std::net::{Net, TcpListener, TcpStream, UdpSocket};
+use std::net::{TcpListener, UdpSocket};
 use std::path::PathBuf;
-use std::rt::Clock;
-use std::sync::Wait;
-use std::thread::Threads;
 use std::{env, fs, io};
 
 /// The settings of a node whose ports begin here.
@@ -25,17 +22,12 @@ fn settings_text(alloc: Global, wait: u32, port: u16) -> Result<String, AllocErr
 }
 
 /// Runs the node with these files for three ticks, and prints what came of it.
-fn play_node<
-    R: std::rt::Files<File = File>
-        + AllocGlobal
-        + Clock
-        + Net<Listener = TcpListener, Stream = TcpStream>
-        + Threads
-        + Wait
-        + Sync
-        + Print
-        + Eprint,
->(rt: &R, name: &str, settings: &PathBuf, mark: &PathBuf) -> io::Result<()> {
+fn play_node<R: Host + Print>(
+    rt: &R,
+    name: &str,
+    settings: &PathBuf,
+    mark: &PathBuf,
+) -> io::Result<()> {
     let files = Files {
         settings: settings.as_str(),
         mark: mark.as_str(),
@@ -96,17 +88,7 @@ fn make_files<R: std::rt::Files<File = File> + AllocGlobal + Env>(
 }
 
 /// The faults in their order, each with all later causes there too where they can be.
-fn play_faults<
-    R: std::rt::Files<File = File>
-        + AllocGlobal
-        + Clock
-        + Net<Listener = TcpListener, Stream = TcpStream>
-        + Threads
-        + Wait
-        + Sync
-        + Print
-        + Eprint,
->(rt: &R, paths: &Paths, port: u16) -> io::Result<()> {
+fn play_faults<R: Host + Print>(rt: &R, paths: &Paths, port: u16) -> io::Result<()> {
     let taken = UdpSocket::bind(rt, ("127.0.0.1", port))?;
     play_node(rt, "no settings file", &paths.missing, &paths.missing)?;
     play_node(rt, "no TOML", &paths.no_toml, &paths.missing)?;
@@ -127,18 +109,12 @@ fn play_faults<
 }
 
 /// What ends a node before it runs, and a short run.
-pub fn play<
-    R: std::rt::Files<File = File>
-        + AllocGlobal
-        + Env
-        + Clock
-        + Net<Listener = TcpListener, Stream = TcpStream>
-        + Threads
-        + Wait
-        + Sync
-        + Print
-        + Eprint,
->(rt: &R, alloc: Global, process: u32, port: u16) -> io::Result<()> {
+pub fn play<R: Host + Env + Print>(
+    rt: &R,
+    alloc: Global,
+    process: u32,
+    port: u16,
+) -> io::Result<()> {
     println!(rt; "files and ports")?;
     let paths = make_files(rt, alloc, process, port)?;
     let played = play_faults(rt, &paths, port);

@@ -3,6 +3,7 @@
 #![tactic(auto)]
 
 mod consumers;
+mod data;
 mod files;
 mod line;
 mod network;

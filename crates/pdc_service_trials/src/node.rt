@@ -1,5 +1,8 @@
 //! A node with two PMUs and its consumers, over the loopback.
+ghost use Rattle.std.specs.Prelude.{◌≡◌};
+ghost use Rattle.pdc_recent.specs.Stream.{stream_of};
 
+use crate::data::ID;
 use crate::network::{connect, is_ended, listen, next_datagram, send};
 use crate::scripted::{Gauges, Paced, Watched};
 use pdc_cfg::read_config;
@@ -9,13 +12,14 @@ use pdc_hub::Totals;
 use pdc_life::Settings;
 use pdc_mark::ModelMark;
 use pdc_network::{UdpSink, UdpSource};
-use pdc_recent::Recent;
+use pdc_recent::{Naming, Recent};
 use pdc_remembering::RememberingSink;
 use pdc_running::{Begun, Plan, run_node};
 use pdc_serving::serve;
 use pdc_settings::NodeSettings;
 use std::alloc::Global;
 use std::io::Write;
+use std::marker::Brand;
 use std::net::{Net, TcpListener, TcpStream, UdpSocket};
 use std::rt::Clock;
 use std::sync::Wait;
@@ -57,23 +61,22 @@ const DATA_11: &str = "aa02001a000b448527f000004e200000392b000009c400002623";
 
 const DATA_12: &str = "aa02001a000c448527f000004e2000001388ec78fffe0000ce65";
 
-/// The stream of node A.
-const ID: u16 = 201;
-
 /// How often the configuration is asked for until it shows both PMUs.
 const TRIES: u32 = 1000;
 
 /// Runs the node, in a life with start 1, until the trial is done.
-fn run_it<R: Threads + Wait + Clock + Sync>(
+fn run_it<N: Naming + Send, R: Threads + Wait + Clock + Sync>(
     rt: &R,
     alloc: Global,
     settings: &Settings,
-    recent: &Recent,
+    recent: &Recent<N>,
     gauges: &Gauges,
     first: UdpSource,
     second: UdpSource,
     sink: UdpSink,
-) -> Option<Totals> {
+) -> Option<Totals>
+    requires { N.stream ≡ stream_of settings.now.output }
+{
     let Ok(mark) = Begun::new(ModelMark::new(0, 0)) else {
         return None;
     };
@@ -252,17 +255,20 @@ fn print_end<R: Print>(rt: &R, ended: Option<Totals>) -> io::Result<()> {
 fn conduct<
     's,
     E: 's,
+    N: Naming + Send + 's,
     R: Threads + Wait + Clock + Net<Listener = TcpListener, Stream = TcpStream> + Print + Sync + 's,
 >(
     scope: &'s Scope<'s, E>,
     rt: &'s R,
     alloc: Global,
     settings: &'s Settings,
-    recent: &'s Recent,
+    recent: &'s Recent<N>,
     gauges: &'s Gauges,
     port: u16,
     sockets: Sockets,
-) -> io::Result<()> {
+) -> io::Result<()>
+    requires { N.stream ≡ stream_of settings.now.output }
+{
     let Sockets {
         first,
         second,
@@ -270,9 +276,11 @@ fn conduct<
         listener,
         frames,
     } = sockets;
-    let node = scope.spawn(move || -> Option<Totals> {
-        run_it(rt, alloc, settings, recent, gauges, first, second, sink)
-    });
+    let node = scope.spawn(
+        move || -> Option<Totals>
+            requires { N.stream ≡ stream_of settings.now.output }
+        { run_it(rt, alloc, settings, recent, gauges, first, second, sink) },
+    );
     let sessions = scope.spawn(move || -> () { serve(rt, alloc, ID, recent, &listener) });
     let driven = drive(rt, alloc, port, &frames);
     gauges.done.store(1, Ordering::SeqCst);
@@ -287,6 +295,44 @@ fn conduct<
     driven
 }
 
+/// Runs the node with its PMUs and its consumers, in a scope of threads.
+fn play_over<
+    'x,
+    N: Naming + Send + 'x,
+    R: Threads + Wait + Clock + Net<Listener = TcpListener, Stream = TcpStream> + Print + Sync + 'x,
+>(
+    rt: &'x R,
+    alloc: Global,
+    settings: &'x Settings,
+    recent: &'x Recent<N>,
+    gauges: &'x Gauges,
+    port: u16,
+    sockets: Sockets,
+) -> io::Result<()>
+    requires { N.stream ≡ stream_of settings.now.output }
+{
+    thread::scope(
+        thread::scope_env(),
+        rt,
+        |scope| -> io::Result<()>
+            requires { N.stream ≡ stream_of settings.now.output }
+        { conduct(scope, rt, alloc, settings, recent, gauges, port, sockets) },
+    )
+}
+
+/// Runs the node of the stream that is named, in its first life.
+fn play_named<
+    N: Naming + Send,
+    R: Threads + Wait + Clock + Net<Listener = TcpListener, Stream = TcpStream> + Print + Sync,
+>(rt: &R, alloc: Global, settings: &Settings, port: u16) -> io::Result<()>
+    requires { N.stream ≡ stream_of settings.now.output }
+{
+    let recent = Recent::<N>::new(alloc, &settings.output, 1)?;
+    let gauges = Gauges::new();
+    let sockets = open_sockets(rt, port)?;
+    play_over(rt, alloc, settings, &recent, &gauges, port, sockets)
+}
+
 /// Runs the node with its PMUs and its consumers.
 pub fn play<
     R: Threads + Wait + Clock + Net<Listener = TcpListener, Stream = TcpStream> + Print + Sync,
@@ -295,26 +341,5 @@ pub fn play<
     let Ok(settings) = NodeSettings::from_toml(alloc, SETTINGS) else {
         return println!(rt; "  the settings are refused");
     };
-    let recent = crate::consumers::new_recent(alloc)?;
-    let gauges = Gauges::new();
-    let sockets = open_sockets(rt, port)?;
-    play_over(rt, alloc, &settings.life, &recent, &gauges, port, sockets)
-}
-
-/// As `play`, of settings that are read.
-fn play_over<
-    'x,
-    R: Threads + Wait + Clock + Net<Listener = TcpListener, Stream = TcpStream> + Print + Sync + 'x,
->(
-    rt: &'x R,
-    alloc: Global,
-    settings: &'x Settings,
-    recent: &'x Recent,
-    gauges: &'x Gauges,
-    port: u16,
-    sockets: Sockets,
-) -> io::Result<()> {
-    thread::scope(thread::scope_env(), rt, |scope| -> io::Result<()> {
-        conduct(scope, rt, alloc, settings, recent, gauges, port, sockets)
-    })
+    play_named::<Brand, R>(rt, alloc, &settings.life, port)
 }

@@ -1,2 +1,3 @@
+mod Layouts
 mod Parts
 mod Turns

@@ -1,6 +1,7 @@
 -- A consumer that is connected (this profile).
 use Rattle.std.specs.Prelude.{ℕ}
 use Rattle.pdc_session.specs.Session.{SessionView}
+use Rattle.pdc_serving.specs.Turn.{Standing}
 use Rattle.pdc_serving.specs.declared.consumer.Consumer.{Consumer}
 
 -- the stream that it asks
@@ -14,3 +15,7 @@ session_in consumer = consumer.session
 -- up to which instant it got data
 abbrev pub got_in : Consumer → ℕ
 got_in consumer = consumer.got
+
+-- where it stands
+abbrev pub standing_in : Consumer → Standing
+standing_in consumer = record { session = consumer.session; got = consumer.got }

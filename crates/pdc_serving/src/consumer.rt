@@ -1,14 +1,14 @@
 //! One session, turn by turn.
-ghost use Rattle.std.specs.Prelude.{◌≡◌, ◌≤◌, ◌<◌, OnOk, IfOk};
+ghost use Rattle.std.specs.Prelude.{◌≡◌, ◌≤◌, ◌<◌, take, Some, None, OnOk, IfOk, IfErr, vec_len};
 ghost use Rattle.pdc_frame.specs.declared.limits.TheConstants.{MAX_ID};
-ghost use Rattle.pdc_serving.specs.Turn.{HasTurned};
+ghost use Rattle.pdc_serving.specs.Turn.{HasEnded, HasTurned, IsMade};
 ghost use Rattle.pdc_session.specs.Served.{IsNew};
 
 use crate::ended::Ended;
 use crate::hearing::{answer, append_data};
 use crate::traffic::{read_once, write_out};
 use pdc_frame::MAX_ID;
-use pdc_recent::Recent;
+use pdc_recent::{Naming, Recent};
 use pdc_session::Session;
 use std::alloc::{AllocError, Global};
 use std::io::{Read, Write};
@@ -28,10 +28,11 @@ pub struct Consumer {
     layout: Vec<u8>,
     out: Vec<u8>,
     pub ghost of_stream: { session.id ≡ id },
+    pub ghost has_room: { 0 < vec_len piece },
 }
 
 impl Consumer {
-    ghost use Rattle.pdc_serving.specs.Consumer.{got_in, id_in, session_in};
+    ghost use Rattle.pdc_serving.specs.Consumer.{got_in, id_in, session_in, standing_in};
 
     /// A consumer of the stream `id`, 1 to 65534, that sent nothing yet.
     ///
@@ -62,24 +63,21 @@ impl Consumer {
         self.got
     }
 
-    /// Reads once what the consumer sends, and writes the replies to the commands that end there; and then, while data is on, the frames
-    /// that were sent last and lie above what it got.
-    ///
-    /// # Errors
-    ///
-    /// Why the session ended. Replies to commands before the fault are written.
-    pub fn turn<S: Read + Write, R: Wait + Clock>(
+    /// Makes what is to be written once so many bytes came: the replies to the commands that end there, and behind them, while data is
+    /// on, the frames that were sent last and lie above what it got.
+    fn make<N: Naming, R: Wait + Clock>(
         &mut self,
         rt: &R,
-        recent: &Recent,
-        stream: &mut S,
+        recent: &Recent<N>,
+        count: usize,
     ) -> Result<(), Ended>
+        requires { count ≤ vec_len self.old.piece }
         ensures id { id_in self.new ≡ id_in self.old }
-        ensures ok { OnOk result (HasTurned S.remaining S.contents (id_in self.old) (session_in self.old) (session_in self.new) (got_in self.old) (got_in self.new) stream.old stream.new) }
+        ensures ok { OnOk result (IsMade None N.stream (id_in self.old) (take count self.old.piece.items) (standing_in self.old) (standing_in self.new) self.new.out.items) }
+        ensures err { IfErr result (λ ended. IsMade (Some ended) N.stream (id_in self.old) (take count self.old.piece.items) (standing_in self.old) (standing_in self.new) self.new.out.items) }
     {
         self.out.clear();
-        let count = read_once(stream, &mut self.piece)?;
-        let heard = answer(
+        answer(
             rt,
             recent,
             self.id,
@@ -87,16 +85,30 @@ impl Consumer {
             &self.piece[..count],
             &mut self.layout,
             &mut self.out,
-        );
-        match heard {
-            Ok(()) => {}
-            Err(ended) => {
-                write_out(rt, recent, stream, &self.out)?;
-                return Err(ended);
-            }
-        }
+        )?;
         self.got = append_data(rt, &self.session, recent, self.got, &mut self.out)?;
-        write_out(rt, recent, stream, &self.out)?;
         Ok(())
+    }
+
+    /// Reads once what the consumer sends, and writes the replies to the commands that end there, and behind them, while data is on, the
+    /// frames that were sent last and lie above what it got.
+    ///
+    /// # Errors
+    ///
+    /// Why the session ended. Replies to commands before a fault of the session, and before a want of memory, are written.
+    pub fn turn<N: Naming, S: Read + Write, R: Wait + Clock>(
+        &mut self,
+        rt: &R,
+        recent: &Recent<N>,
+        stream: &mut S,
+    ) -> Result<(), Ended>
+        ensures id { id_in self.new ≡ id_in self.old }
+        ensures ok { OnOk result (HasTurned S.remaining S.contents N.stream (id_in self.old) (standing_in self.old) (standing_in self.new) stream.old stream.new) }
+        ensures ended { IfErr result (HasEnded S.remaining S.contents N.stream (id_in self.old) (standing_in self.old) (standing_in self.new) stream.old stream.new) }
+    {
+        let count = read_once(stream, &mut self.piece)?;
+        let made = self.make(rt, recent, count);
+        write_out(rt, recent, stream, &self.out)?;
+        made
     }
 }

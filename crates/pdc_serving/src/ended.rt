@@ -15,12 +15,9 @@ pub enum Ended {
     /// The connection failed, or the consumer did not take what was written in time.
     #[error("device fault")]
     Device,
-    /// There was no memory for what is to be written.
+    /// There was no memory for the layout or for data frames.
     #[error("Z1 NoMemory")]
     NoMemory,
-    /// The layout frame that is kept cannot be read.
-    #[error("no layout")]
-    NoLayout,
     /// The concentrator has ended.
     #[error("closed")]
     Closed,

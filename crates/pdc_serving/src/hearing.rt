@@ -1,28 +1,28 @@
 //! What a piece of the consumer's stream is answered.
-ghost use Rattle.std.specs.Prelude.{◌≡◌, ◌≤◌, OnOk, length, true, false, IfOk, OnErr};
+ghost use Rattle.std.specs.Prelude.{◌≡◌, ◌≤◌, length, true, false, Some, IfOk, IfErr, OnErr, OnOk};
+ghost use Rattle.pdc_cfg.specs.Config.{config_fields_of};
 ghost use Rattle.pdc_command.specs.declared.header.TheConstants.{MAX_TEXT};
 ghost use Rattle.pdc_recent.specs.Given.{IsGiven};
-ghost use Rattle.pdc_serving.specs.Turn.{HasHeard, IsAnswered};
+ghost use Rattle.pdc_recent.specs.Stream.{IsLayout, IsLayoutWith};
+ghost use Rattle.pdc_serving.specs.Turn.{HasFailed, HasHeard, IsAnswered, IsUnheard};
 
 use crate::ended::Ended;
 use crate::header::header_of;
 use pdc_cfg::{ConfigView, read_config};
 use pdc_frame::read_frame;
-use pdc_recent::Recent;
-use pdc_session::{Serving, Session};
+use pdc_recent::{Naming, Recent};
+use pdc_session::{Serving, Session, SessionFault};
 use std::rt::Clock;
 use std::sync::Wait;
 use std::time::{Duration, SystemTime};
 
 /// The configuration in the bytes of a layout frame.
-fn config_of(layout: &[u8]) -> Option<ConfigView<'_>> {
-    match read_frame(layout) {
-        Ok(frame) => match read_config(&frame) {
-            Ok(config) => Some(config),
-            Err(_) => None,
-        },
-        Err(_) => None,
-    }
+fn config_of<N: Naming>(layout: &[u8]) -> ConfigView<'_>
+    requires { ∥ IsLayout N.stream layout.now ∥₁ }
+    ensures { ∥ IsLayoutWith N.stream layout.now (config_fields_of result) ∥₁ }
+{
+    let frame = read_frame(layout).unwrap();
+    read_config(&frame).unwrap()
 }
 
 /// The second that the clock shows; 0 where it cannot be read or shows a time before 1970.
@@ -40,31 +40,27 @@ fn second_now<C: Clock>(clock: &C) -> u32 {
 ///
 /// # Errors
 ///
-/// Where the layout cannot be read, and where the session ends. `out` has the replies to the commands before.
-fn hear(
+/// Where the session ends. `out` has the replies to the commands before.
+fn hear<N: Naming>(
     session: &mut Session,
     piece: &[u8],
     soc: u32,
     header: &[u8],
     layout: &[u8],
     out: &mut Vec<u8>,
-) -> Result<(), Ended>
-    requires { length header.now ≤ MAX_TEXT }
+) -> Result<(), SessionFault>
+    requires header { length header.now ≤ MAX_TEXT }
+    requires layout { ∥ IsLayout N.stream layout.now ∥₁ }
     ensures id { session.new.id ≡ session.old.id }
-    ensures ok { OnOk result (IsAnswered header.now piece.now session.old session.new out.old.items out.new.items) }
+    ensures ok { OnOk result (IsAnswered N.stream header.now piece.now session.old session.new out.old.items out.new.items) }
+    ensures failed { IfErr result (λ fault. HasFailed N.stream header.now piece.now session.old session.new out.old.items out.new.items fault) }
 {
-    let Some(layout) = config_of(layout) else {
-        return Err(Ended::NoLayout);
-    };
     let serving = Serving {
         soc,
         header,
-        layout,
+        layout: config_of::<N>(layout),
     };
-    match session.feed(piece, &serving, out) {
-        Ok(()) => Ok(()),
-        Err(fault) => Err(Ended::Session(fault)),
-    }
+    session.feed(piece, &serving, out)
 }
 
 /// Appends the replies of the stream `id` to the commands that end in the piece; nothing where there is no piece. The layout is read into
@@ -72,10 +68,10 @@ fn hear(
 ///
 /// # Errors
 ///
-/// Where the layout cannot be read, where the session ends, and where memory is wanted. `out` has the replies to the commands before.
-pub fn answer<R: Wait + Clock>(
+/// Where the session ends; `out` has the replies to the commands before. And where there is no memory for the layout.
+pub fn answer<N: Naming, R: Wait + Clock>(
     rt: &R,
-    recent: &Recent,
+    recent: &Recent<N>,
     id: u16,
     session: &mut Session,
     piece: &[u8],
@@ -83,33 +79,40 @@ pub fn answer<R: Wait + Clock>(
     out: &mut Vec<u8>,
 ) -> Result<(), Ended>
     ensures id { session.new.id ≡ session.old.id }
-    ensures ok { OnOk result (HasHeard id piece.now session.old session.new out.old.items out.new.items) }
+    ensures ok { OnOk result (HasHeard N.stream id piece.now session.old session.new out.old.items out.new.items) }
+    ensures unheard { IfErr result (λ ended. IsUnheard ended N.stream id piece.now session.old session.new out.old.items out.new.items) }
 {
     if piece.is_empty() {
         return Ok(());
     }
     layout.clear();
-    if recent.layout(rt, layout).is_err() {
-        return Err(Ended::NoMemory);
+    match recent.layout(rt, layout) {
+        Ok(()) => {}
+        Err(_) => return Err(Ended::NoMemory),
     }
-    hear(session, piece, second_now(rt), &header_of(id), layout, out)
+    let heard = hear::<N>(session, piece, second_now(rt), &header_of(id), layout, out);
+    match heard {
+        Ok(()) => Ok(()),
+        Err(fault) => Err(Ended::Session(fault)),
+    }
 }
 
 /// Appends the frames above the instant that the consumer got, where it wants data, and answers the greatest instant that it has then.
 ///
 /// # Errors
 ///
-/// Where there is no memory for them. `out` is unchanged then.
-pub fn append_data<R: Wait>(
+/// Where it wants data, and there is no memory for the frames. `out` is unchanged then.
+pub fn append_data<N: Naming, R: Wait>(
     rt: &R,
     session: &Session,
-    recent: &Recent,
+    recent: &Recent<N>,
     got: u64,
     out: &mut Vec<u8>,
 ) -> Result<u64, Ended>
     ensures off { session.now.told.on ≡ false → IfOk result (λ reached. (reached ≡ got) × (out.new.items ≡ out.old.items)) }
-    ensures on { session.now.told.on ≡ true → IfOk result (λ reached. IsGiven got out.old.items reached out.new.items) }
+    ensures on { session.now.told.on ≡ true → IfOk result (λ reached. IsGiven N.stream got out.old.items reached out.new.items) }
     ensures err { OnErr result (out.new.items ≡ out.old.items) }
+    ensures wanted { IfErr result (λ ended. (ended ≡ Ended.NoMemory) × (session.now.told.on ≡ true)) }
 {
     if !session.on() {
         return Ok(got);

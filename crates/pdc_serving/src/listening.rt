@@ -5,7 +5,7 @@ ghost use Rattle.pdc_frame.specs.declared.limits.TheConstants.{MAX_ID};
 use crate::consumer::Consumer;
 use crate::ended::Ended;
 use pdc_frame::MAX_ID;
-use pdc_recent::Recent;
+use pdc_recent::{Naming, Recent};
 use std::alloc::Global;
 use std::io::{Read, Write};
 use std::net::{OpenListener, OpenStream};
@@ -28,11 +28,11 @@ fn set_up<S: OpenStream>(stream: &S) -> io::Result<()> {
 }
 
 /// Serves one consumer to the end of its session, and answers why it ended.
-fn serve_one<S: Read + Write + OpenStream, R: Wait + Clock>(
+fn serve_one<N: Naming, S: Read + Write + OpenStream, R: Wait + Clock>(
     rt: &R,
     alloc: Global,
     id: u16,
-    recent: &Recent,
+    recent: &Recent<N>,
     stream: &mut S,
 ) -> Ended
     requires id_low { 0 < id }
@@ -56,11 +56,11 @@ fn serve_one<S: Read + Write + OpenStream, R: Wait + Clock>(
 }
 
 /// Serves the consumers that connect, one after the other, until no more is to come. The listener's `accept` is one that does not wait.
-pub fn serve<L: OpenListener, R: Wait + Clock>(
+pub fn serve<N: Naming, L: OpenListener, R: Wait + Clock>(
     rt: &R,
     alloc: Global,
     id: u16,
-    recent: &Recent,
+    recent: &Recent<N>,
     listener: &L,
 )
 where

@@ -1,9 +1,10 @@
 //! Reading from a consumer, and writing to it.
-ghost use Rattle.std.specs.Prelude.{◌≡◌, ◌≤◌, OnOk, IfOk, take, vec_len};
+ghost use Rattle.std.specs.Prelude.{◌≡◌, ◌<◌, ◌≤◌, OnOk, IfOk, IfErr, take, vec_len};
 ghost use Rattle.std.specs.Io.KnownBytes.{Appends, Consumes};
+ghost use Rattle.pdc_serving.specs.Turn.{IsUnread, IsUnwritten};
 
 use crate::ended::Ended;
-use pdc_recent::Recent;
+use pdc_recent::{Naming, Recent};
 use std::io::{ErrorKind, Read, Write};
 use std::sync::Wait;
 
@@ -24,8 +25,11 @@ fn is_idle(kind: ErrorKind) -> bool {
 ///
 /// `EndOfStream` where no more come, and `Device` where the connection failed.
 pub fn read_once<S: Read>(stream: &mut S, piece: &mut Vec<u8>) -> Result<usize, Ended>
+    requires room { 0 < vec_len piece.old }
+    ensures room { vec_len piece.new ≡ vec_len piece.old }
     ensures count { IfOk result (λ count. count ≤ vec_len piece.new) }
     ensures bytes { IfOk result (λ count. Consumes (S.remaining stream.old) (S.remaining stream.new) (take count piece.new.items)) }
+    ensures unread { IfErr result (λ ended. IsUnread ended (S.remaining stream.old) (S.remaining stream.new)) }
 {
     match stream.read(piece.as_mut_slice()) {
         Ok(0) => Err(Ended::EndOfStream),
@@ -37,7 +41,8 @@ pub fn read_once<S: Read>(stream: &mut S, piece: &mut Vec<u8>) -> Result<usize, 
 
 /// Writes a part.
 fn write_part<S: Write>(stream: &mut S, part: &[u8]) -> Result<(), Ended>
-    ensures { OnOk result (Appends (S.contents stream.old) (S.contents stream.new) part.now) }
+    ensures ok { OnOk result (Appends (S.contents stream.old) (S.contents stream.new) part.now) }
+    ensures err { IfErr result (λ ended. ended ≡ Ended.Device) }
 {
     match stream.write_all(part) {
         Ok(()) => Ok(()),
@@ -50,13 +55,14 @@ fn write_part<S: Write>(stream: &mut S, part: &[u8]) -> Result<(), Ended>
 /// # Errors
 ///
 /// `Device` where the connection failed, or did not take a part in time; `Closed` where the concentrator has ended.
-pub fn write_out<S: Write, R: Wait>(
+pub fn write_out<N: Naming, S: Write, R: Wait>(
     rt: &R,
-    recent: &Recent,
+    recent: &Recent<N>,
     stream: &mut S,
     bytes: &[u8],
 ) -> Result<(), Ended>
-    ensures { OnOk result (Appends (S.contents stream.old) (S.contents stream.new) bytes.now) }
+    ensures ok { OnOk result (Appends (S.contents stream.old) (S.contents stream.new) bytes.now) }
+    ensures unwritten { IfErr result (λ ended. IsUnwritten ended (S.contents stream.old) (S.contents stream.new) bytes.now) }
 {
     let mut at = 0;
     while at < bytes.len() {

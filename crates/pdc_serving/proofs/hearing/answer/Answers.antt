@@ -1,9 +1,14 @@
 use Rattle.std.proofs.Common.{List, ℕ, inr, subst}
-use Rattle.pdc_serving.specs.Turn.{IsAnswered}
-use Rattle.pdc_serving.proofs.Turns.{where_ok}
+use Rattle.pdc_serving.specs.Turn.{HasFailed, IsAnswered}
+use Rattle.pdc_serving.proofs.Layouts.{layout_alone}
 use Rattle.pdc_serving.proofs.hearing.answer.Goals as goal
 
-pub returns-clause-ok : goal.returns-clause-ok
-returns-clause-ok g c = where_ok c.hear.result
-    (λ answered. inr (subst (λ (header : List ℕ). IsAnswered header c.args.piece.now c.args.session.now c.hear.new.session c.args.out.now.items c.hear.new.out.items) c.header_of.ensures answered))
-    c.hear.ensures.ok
+pub hear-heard-requires-clause-layout : goal.hear-heard-requires-clause-layout
+hear-heard-requires-clause-layout g c = layout_alone g.N.Naming.stream c.clear.new.self.items c.layout.new.out.items c.deref.result.now c.in-Ok.ensures.ok c.clear.ensures.items c.deref.ensures.value
+
+pub returns-in-Ok-heard-clause-ok : goal.returns-in-Ok-heard-clause-ok
+returns-in-Ok-heard-clause-ok g c = inr (subst (λ (header : List ℕ). IsAnswered g.N.Naming.stream header c.args.piece.now c.args.session.now c.hear-heard.new.session c.args.out.now.items c.hear-heard.new.out.items) c.header_of.ensures c.in-Ok-heard.ensures.ok)
+
+pub returns-in-Err-heard-clause-unheard : goal.returns-in-Err-heard-clause-unheard
+returns-in-Err-heard-clause-unheard g c =
+    subst (λ (header : List ℕ). HasFailed g.N.Naming.stream header c.args.piece.now c.args.session.now c.hear-heard.new.session c.args.out.now.items c.hear-heard.new.out.items c.in-Err-heard.fault) c.header_of.ensures c.in-Err-heard.ensures.failed

@@ -1,18 +1,31 @@
-use Rattle.std.proofs.Common.{ℕ, List, subst, sym, take}
-use Rattle.std.specs.Io.KnownBytes.{Appends, Consumes}
-use Rattle.pdc_serving.specs.Turn.{HasHeard}
-use Rattle.pdc_serving.specs.Consumer.{id_in, session_in}
+use Rattle.std.proofs.Common.{ℕ, List, subst, take}
+use Rattle.std.specs.Io.KnownBytes.{Appends}
+use Rattle.pdc_serving.specs.Consumer.{standing_in}
+use Rattle.pdc_serving.specs.Turn.{HasEnded, IsUnwritten}
+use Rattle.pdc_serving.proofs.Turns.{ended_unwritten, ended_written, of_err, some_made, where_err, where_ok}
 use Rattle.pdc_serving.proofs.consumer.Consumer.turn.Goals as goal
 
+pub returns-in_err-write_out-clause-ended : goal.returns-in_err-write_out-clause-ended
+returns-in_err-write_out-clause-ended g c =
+    let why = c.in_err-write_out.field-0.0 in
+    let some = some_made c.make-made.result g.N.Naming.stream c.args.self.now.id (take c.in_ok-count.count c.read_once.new.piece.items) (standing_in c.args.self.now) (standing_in c.make-made.new.self) c.make-made.new.self.out.items c.make-made.ensures.ok c.make-made.ensures.err in
+    of_err (HasEnded g.S.Read.remaining g.S.Write.contents g.N.Naming.stream c.args.self.now.id (standing_in c.args.self.now) (standing_in c.make-made.new.self) c.args.stream.now c.write_out.new.stream) c.from_residual-in_err-write_out.result why c.from_residual-in_err-write_out.ensures.1
+    (ended_unwritten g.S.Read.remaining g.S.Write.contents g.N.Naming.stream c.args.self.now.id (standing_in c.args.self.now) (standing_in c.make-made.new.self) c.args.stream.now c.write_out.new.stream why some.0
+    (record { read = c.read_once.new.stream; piece = take c.in_ok-count.count c.read_once.new.piece.items; made = c.make-made.new.self.out.items; came = c.in_ok-count.ensures.bytes; is_made = some.1 })
+    (subst (λ (bytes : List ℕ). IsUnwritten why (g.S.Write.contents c.read_once.new.stream) (g.S.Write.contents c.write_out.new.stream) bytes) c.deref.ensures.value c.in_err-write_out.ensures.unwritten))
+
 pub returns-clause-ok : goal.returns-clause-ok
-returns-clause-ok g c = record {
-  read = c.read_once.new.stream;
-  piece = take c.in_ok-count.count c.deref.result.now;
-  replies = c.answer-heard.new.out.items;
-  written = c.append_data.new.out.items;
-  came = subst (λ (bytes : List ℕ). Consumes (g.S.Read.remaining c.args.stream.now) (g.S.Read.remaining c.read_once.new.stream) (take c.in_ok-count.count bytes)) (sym c.deref.ensures.value) c.in_ok-count.ensures.bytes;
-  heard = subst (λ (out : List ℕ). HasHeard (id_in c.args.self.now) (take c.in_ok-count.count c.deref.result.now) (session_in c.args.self.now) c.answer-heard.new.session out c.answer-heard.new.out.items) c.clear.ensures.items c.in-Ok.ensures.ok;
-  off = c.in_ok-self.ensures.off;
-  on = c.in_ok-self.ensures.on;
-  wrote = subst (λ (bytes : List ℕ). Appends (g.S.Write.contents c.read_once.new.stream) (g.S.Write.contents c.write_out-2.new.stream) bytes) c.deref-2.ensures.value c.in_ok-write_out.ensures;
-}
+returns-clause-ok g c = where_ok c.make-made.result
+    (λ made. (
+      record { read = c.read_once.new.stream; piece = take c.in_ok-count.count c.read_once.new.piece.items; made = c.make-made.new.self.out.items; came = c.in_ok-count.ensures.bytes; is_made = made },
+      subst (λ (bytes : List ℕ). Appends (g.S.Write.contents c.read_once.new.stream) (g.S.Write.contents c.write_out.new.stream) bytes) c.deref.ensures.value c.in_ok-write_out.ensures.ok,
+    ))
+    c.make-made.ensures.ok
+
+pub returns-clause-ended : goal.returns-clause-ended
+returns-clause-ended g c = where_err c.make-made.result
+    (λ ended made. ended_written g.S.Read.remaining g.S.Write.contents g.N.Naming.stream c.args.self.now.id (standing_in c.args.self.now) (standing_in c.make-made.new.self) c.args.stream.now c.write_out.new.stream ended (
+      record { read = c.read_once.new.stream; piece = take c.in_ok-count.count c.read_once.new.piece.items; made = c.make-made.new.self.out.items; came = c.in_ok-count.ensures.bytes; is_made = made },
+      subst (λ (bytes : List ℕ). Appends (g.S.Write.contents c.read_once.new.stream) (g.S.Write.contents c.write_out.new.stream) bytes) c.deref.ensures.value c.in_ok-write_out.ensures.ok,
+    ))
+    c.make-made.ensures.err

@@ -1,0 +1,16 @@
+-- What a publisher sends is what is kept (this profile).
+use Rattle.std.specs.Prelude.{◌*◌, ◌^◌, ◌<◌, ◌≤◌, List, length}
+use Rattle.pdc_block.specs.Block.{AreOfShapes}
+use Rattle.pdc_cfg.specs.declared.shape.Shape.{Shape}
+use Rattle.pdc_row.specs.RowView.{RowView}
+use Rattle.pdc_tag.specs.declared.limits.TheConstants.{SECONDS}
+use Rattle.pdc_output.specs.declared.output.Output.{Output}
+use Rattle.pdc_output.specs.Laws.{words_of_row}
+use Rattle.pdc_output.specs.Layout.{wire_of}
+use Rattle.pdc_recent.specs.Stream.{IsData, stream_of}
+
+-- The frame of a row, of at most 16 blocks, is a data frame of the row's instant.
+abbrev pub RowsAreData : Type 0
+RowsAreData =
+    (output : Output) (row : RowView) (shapes : List Shape) → length shapes ≤ 16 → AreOfShapes shapes (words_of_row row) →
+    row.instant < SECONDS * output.rate → row.quality < 2 ^ 8 → IsData (stream_of output) row.instant (wire_of output row)

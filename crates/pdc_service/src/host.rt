@@ -1,0 +1,28 @@
+//! What a concentrator needs of the machine that it runs on.
+
+use std::fs::File;
+use std::net::{Net, TcpListener, TcpStream};
+use std::rt::{Clock, Files};
+use std::sync::Wait;
+use std::thread::Threads;
+
+/// A machine that a concentrator can run on: it has files, memory, a clock, sockets, threads and standard error.
+pub trait Host: Files<File = File>
+    + AllocGlobal
+    + Clock
+    + Net<Listener = TcpListener, Stream = TcpStream>
+    + Threads
+    + Wait
+    + Sync
+    + Eprint {}
+
+impl<
+    R: Files<File = File>
+        + AllocGlobal
+        + Clock
+        + Net<Listener = TcpListener, Stream = TcpStream>
+        + Threads
+        + Wait
+        + Sync
+        + Eprint,
+> Host for R {}
