@@ -1,3 +1,4 @@
 pub mod Align
 pub mod Calls
 pub mod Popped
+pub mod Slot

@@ -18,15 +18,16 @@ ghost use Rattle.pdc_life.specs.Given.{Given};
 ghost use Rattle.pdc_life.specs.Life.{Arrive, Entry, Pop, Tick, changes, held_section, section_in_force};
 ghost use Rattle.pdc_life.specs.Run.{IsRun};
 ghost use Rattle.pdc_life.specs.declared.outcome.Outcome.TheVariants.{Candidate};
-ghost use Rattle.pdc_state.specs.State.{row_layout_of, rule_of};
+ghost use Rattle.pdc_state.specs.State.{row_layout_of, rule_of, shape_in};
 ghost use Rattle.pdc_align.specs.Align.{HasSizes, KeepsSizes, StandsFor, given_by, new_change, ticked_of};
 ghost use Rattle.pdc_align.specs.Popped.{popped_after};
+ghost use Rattle.pdc_align.specs.Slot.{count_in};
 ghost use Rattle.pdc_align.specs.Calls.{after_data, after_adopting, disagreements_at, after_closing, after_tick_of, column_in, told_at, after_hold, after_pop_of, first_content, first_of_plan, put_outcome, row_layout_in, waiting_in};
 
 use crate::adopting::adopt_in;
 use crate::{Column, Plan, Ticked, columns};
 use pdc_block::Body;
-use pdc_cfg::SectionView;
+use pdc_cfg::{SectionView, Shape};
 use pdc_closing::{rows_are_those, tick_is_tick};
 use pdc_life::{MAX_PMUS, Outcome, Refusal, WaitKind};
 use pdc_reading::ColumnSection;
@@ -268,6 +269,22 @@ impl<T: Table> Alignment<T> {
         ensures life { (g : Given) (E : List Entry) → StandsFor g E self.now.state → option_map fields_of_view result ≡ section_in_force g E column }
     {
         self.columns[column].in_force()
+    }
+
+    /// The count of the section in force for the column. It is looked up without the section.
+    pub fn count_in_force(&self, column: usize) -> Option<u16>
+        requires { column < length self.now.state.columns }
+        ensures { result ≡ count_in (column_in self.now.state column).in_force }
+    {
+        self.columns[column].count()
+    }
+
+    /// The shape of the section in force for the column. It is looked up without the section.
+    pub fn shape_in_force(&self, column: usize) -> Option<Shape>
+        requires { column < length self.now.state.columns }
+        ensures { (g : Given) (E : List Entry) → StandsFor g E self.now.state → result ≡ shape_in (section_in_force g E column) }
+    {
+        self.columns[column].shape()
     }
 
     /// The change number.

@@ -1,11 +1,14 @@
 //! What is kept of a column.
-ghost use Rattle.std.specs.Prelude.{◌≡◌, None, option_map};
-ghost use Rattle.pdc_cfg.specs.Section.{fields_of_section, fields_of_view};
-ghost use Rattle.pdc_life.specs.Answer.{greatest_count, is_newer};
-ghost use Rattle.pdc_state.specs.State.{shape_in};
+ghost use Rattle.std.specs.Prelude.{◌≡◌, IfOk, None, option_map};
 ghost use Rattle.pdc_align.specs.Calls.{clear_to, is_ready_in, with_adoption, with_section};
+ghost use Rattle.pdc_align.specs.Slot.{count_in};
+ghost use Rattle.pdc_cfg.specs.Section.{fields_of_view};
+ghost use Rattle.pdc_life.specs.Answer.{greatest_count};
+ghost use Rattle.pdc_state.specs.State.{shape_in};
 
-use pdc_cfg::{Section, SectionView, Shape};
+use crate::slot::Slot;
+use pdc_cfg::{SectionView, Shape};
+use std::alloc::{AllocError, Global};
 use std::marker::Model;
 
 /// What is kept of a column: the sections that are held and in force, and the counts that bound them.
@@ -16,13 +19,11 @@ pub struct Column {
     /// A section up to this count may be adopted.
     cleared: u16,
     /// Of the greatest count that came, the first of that count.
-    held: Option<Section>,
-    in_force: Option<Section>,
+    held: Slot,
+    in_force: Slot,
 }
 
 impl Model for Column {
-    ghost use Rattle.std.specs.Prelude.{option_map};
-    ghost use Rattle.pdc_cfg.specs.Section.{fields_of_section};
     ghost use Rattle.pdc_align.specs.Align.{ColumnState};
 
     ghost Value = { ColumnState };
@@ -30,60 +31,58 @@ impl Model for Column {
     ghost view = { λ column. record {
       opening = column.opening;
       cleared = column.cleared;
-      held = option_map fields_of_section column.held;
-      in_force = option_map fields_of_section column.in_force;
+      held = column.held;
+      in_force = column.in_force;
     } };
 }
 
 impl Column {
-    /// A column for which nothing came; up to its opening count all is cleared.
-    pub(crate) fn new(opening: u16) -> Column
-        ensures { result ≡ record { opening = opening; cleared = opening; held = None; in_force = None } }
+    /// A column for which nothing came; up to its opening count all is cleared. It takes the memory for its sections.
+    pub(crate) fn new(alloc: Global, opening: u16) -> Result<Column, AllocError>
+        ensures { IfOk result (λ column. column ≡ record { opening = opening; cleared = opening; held = None; in_force = None }) }
     {
-        Column {
+        Ok(Column {
             opening,
             cleared: opening,
-            held: None,
-            in_force: None,
-        }
+            held: Slot::new(alloc)?,
+            in_force: Slot::new(alloc)?,
+        })
     }
 
     /// The section that is held.
     pub(crate) fn held(&self) -> Option<SectionView<'_>>
         ensures { option_map fields_of_view result ≡ self.now.held }
     {
-        match &self.held {
-            Some(section) => Some(section.view()),
-            None => None,
-        }
+        self.held.view()
     }
 
     /// The section in force.
     pub(crate) fn in_force(&self) -> Option<SectionView<'_>>
         ensures { option_map fields_of_view result ≡ self.now.in_force }
     {
-        match &self.in_force {
-            Some(section) => Some(section.view()),
-            None => None,
-        }
+        self.in_force.view()
     }
 
     /// The shape in force.
     pub(crate) fn shape(&self) -> Option<Shape>
         ensures { result ≡ shape_in self.now.in_force }
     {
-        match &self.in_force {
-            Some(section) => Some(section.shape),
-            None => None,
-        }
+        self.in_force.shape()
+    }
+
+    /// The count in force.
+    pub(crate) fn count(&self) -> Option<u16>
+        ensures { result ≡ count_in self.now.in_force }
+    {
+        self.in_force.count()
     }
 
     /// The count that waits to be stored: the greater of cleared and held.
     pub(crate) fn waiting(&self) -> u16
         ensures { result ≡ greatest_count self.now.cleared self.now.held }
     {
-        match &self.held {
-            Some(section) => self.cleared.max(section.count),
+        match self.held.count() {
+            Some(count) => self.cleared.max(count),
             None => self.cleared,
         }
     }
@@ -95,12 +94,12 @@ impl Column {
         if section.count < self.opening {
             return;
         }
-        let is_greater = match &self.held {
-            Some(held) => held.count < section.count,
+        let is_greater = match self.held.count() {
+            Some(count) => count < section.count,
             None => true,
         };
         if is_greater {
-            self.held = Some(section.to_section());
+            self.held.set(section);
         }
     }
 
@@ -115,9 +114,10 @@ impl Column {
     pub(crate) fn is_ready(&self) -> bool
         ensures { result ≡ is_ready_in self.now }
     {
-        match &self.held {
-            Some(held) => is_newer(held, &self.in_force) && held.count <= self.cleared,
-            None => false,
+        match (self.held.count(), self.in_force.count()) {
+            (None, _) => false,
+            (Some(count), None) => count <= self.cleared,
+            (Some(count), Some(in_force)) => in_force < count && count <= self.cleared,
         }
     }
 
@@ -128,18 +128,8 @@ impl Column {
         if !self.is_ready() {
             return;
         }
-        if let Some(held) = &self.held {
-            self.in_force = Some(held.view().to_section());
+        if let Some(held) = self.held.view() {
+            self.in_force.set(&held);
         }
-    }
-}
-
-/// Whether the count is greater than the one in force, or the first.
-fn is_newer(held: &Section, in_force: &Option<Section>) -> bool
-    ensures { result ≡ is_newer (fields_of_section held.now) (option_map fields_of_section in_force.now) }
-{
-    match in_force {
-        Some(in_force) => in_force.count < held.count,
-        None => true,
     }
 }

@@ -26,7 +26,7 @@ pub fn new_columns(
 {
     let mut columns = Vec::with_capacity(alloc, count)?;
     for place in 0..count {
-        columns.push_reserved(Column::new(counts[place]));
+        columns.push_reserved(Column::new(alloc, counts[place])?);
     }
     Ok(columns)
 }

@@ -16,6 +16,7 @@ mod in_force;
 mod laws;
 mod layout;
 mod plan;
+mod slot;
 mod ticked;
 
 pub use alignment::Alignment;

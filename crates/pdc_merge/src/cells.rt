@@ -1,11 +1,12 @@
 //! The cells that data of a node gives.
-ghost use Rattle.std.specs.Prelude.{◌≡◌, ℕ, ◌+◌, ◌*◌, ◌<◌, ◌≤◌, ◌++◌, length, option_map, take};
+ghost use Rattle.std.specs.Prelude.{◌≡◌, ℕ, ◌+◌, ◌*◌, ◌<◌, ◌≤◌, ◌++◌, Option, length, take};
 ghost use Rattle.std.specs.List.{AllByRecursion};
 ghost use Rattle.pdc_block.specs.Block.{words_in};
-ghost use Rattle.pdc_cfg.specs.Section.{fields_of_view};
+ghost use Rattle.pdc_cfg.specs.Section.{SectionFields};
 ghost use Rattle.pdc_cfg.specs.Shape.{word_count_of};
 ghost use Rattle.pdc_table.specs.Taking.{body_cells_of};
 ghost use Rattle.pdc_align.specs.Calls.{column_in};
+ghost use Rattle.pdc_align.specs.Slot.{count_in};
 ghost use Rattle.pdc_merge.specs.Cells.{blocks_len, cell_in, cells_in, has_count};
 ghost use Rattle.pdc_merge.specs.declared.held_layout.HeldSection.{HeldSection as HeldSectionData};
 
@@ -13,7 +14,7 @@ use crate::held_layout::HeldSection;
 use pdc_align::Alignment;
 use pdc_answering::words_are_cut;
 use pdc_block::Body;
-use pdc_cfg::{SectionView, Shape};
+use pdc_cfg::Shape;
 use pdc_life::MAX_PMUS;
 use pdc_table::Table;
 
@@ -30,11 +31,11 @@ pub fn new_room<'a>() -> CellRoom<'a> {
 }
 
 /// Whether the section in force has this count.
-fn has_count(in_force: Option<SectionView>, count: u16) -> bool
-    ensures { result ≡ has_count (option_map fields_of_view in_force.entry) count }
+fn has_count(in_force: Option<u16>, count: u16) -> bool
+    ensures { (section : Option SectionFields) → in_force ≡ count_in section → result ≡ has_count section count }
 {
     match in_force {
-        Some(section) => count == section.count,
+        Some(in_force) => count == in_force,
         None => false,
     }
 }
@@ -56,7 +57,7 @@ fn write_cell<'a, T: Table>(
     ensures len { length cells.new ≡ length cells.old }
     ensures grown { result ≤ count + 1 }
 {
-    if !has_count(alignment.in_force(section.column), section.count) {
+    if !has_count(alignment.count_in_force(section.column), section.count) {
         return count;
     }
     let body = Body {

@@ -6,31 +6,19 @@ ghost use Rattle.pdc_cfg.specs.Section.{SectionFields};
 ghost use Rattle.pdc_life.specs.Answer.{answered, ToArrive};
 ghost use Rattle.pdc_life.specs.Arrival.{Data, Layout, Stamp};
 ghost use Rattle.pdc_life.specs.Given.{Given, count_for};
-ghost use Rattle.pdc_life.specs.Life.{Entry, section_in_force};
+ghost use Rattle.pdc_life.specs.Life.{Entry};
 ghost use Rattle.pdc_life.specs.Node.{node_answer};
 ghost use Rattle.pdc_life.specs.Run.{IsRun};
 ghost use Rattle.pdc_node.specs.Node.{IsOwn, IsReady};
 ghost use Rattle.pdc_reading.specs.Views.{arrival_view, section_part};
-ghost use Rattle.pdc_state.specs.State.{shape_in};
 
 use pdc_align::{Alignment, others_are_left};
 use pdc_answering::{count_for, is_candidate, section_answer};
 use pdc_block::Body;
-use pdc_cfg::{CfgFault, Shape};
+use pdc_cfg::CfgFault;
 use pdc_life::{MAX_PMUS, Outcome, Refusal};
 use pdc_reading::{Arrival, ColumnSection};
 use pdc_table::Table;
-
-/// The shape in force for the column.
-fn shape_in_force<T: Table>(alignment: &Alignment<T>, column: usize) -> Option<Shape>
-    requires { column < length alignment.now.state.columns }
-    ensures { (g : Given) (E : List Entry) → StandsFor g E alignment.now.state → result ≡ shape_in (section_in_force g E column) }
-{
-    match alignment.in_force(column) {
-        Some(section) => Some(section.shape),
-        None => None,
-    }
-}
 
 /// Answers data of a PMU, and takes it where it comes in time.
 fn answer_data<T: Table>(
@@ -51,7 +39,7 @@ fn answer_data<T: Table>(
     ensures popped { alignment.new.popped ≡ alignment.old.popped }
 {
     others_are_left();
-    let Some(shape) = shape_in_force(alignment, stream) else {
+    let Some(shape) = alignment.shape_in_force(stream) else {
         return Outcome::Refused(Refusal::NoConfig);
     };
     if payload.len() != 2 * shape.word_count() {

@@ -1,0 +1,76 @@
+//! A place for a section.
+ghost use Rattle.std.specs.Prelude.{◌≡◌, IfOk, None, Some, option_map};
+ghost use Rattle.pdc_cfg.specs.Section.{fields_of_view};
+ghost use Rattle.pdc_align.specs.Slot.{count_in};
+ghost use Rattle.pdc_state.specs.State.{shape_in};
+
+use pdc_cfg::{Section, SectionView, Shape};
+use std::alloc::{AllocError, Global};
+use std::marker::Model;
+
+/// A place for a section. What is asked of it at each tick and for each block stands here; its bytes stand elsewhere, so that the
+/// slots of all columns are a few lines of the cache.
+#[derive(Drop)]
+pub struct Slot {
+    count: Option<u16>,
+    shape: Option<Shape>,
+    section: Box<Option<Section>>,
+}
+
+impl Model for Slot {
+    ghost use Rattle.std.specs.Prelude.{Option, option_map};
+    ghost use Rattle.pdc_cfg.specs.Section.{SectionFields, fields_of_section};
+    ghost use Rattle.pdc_align.specs.Slot.{IsTold};
+
+    ghost Value = { Option SectionFields };
+
+    ghost view = { λ slot. option_map fields_of_section slot.section.value };
+
+    ghost invariant = { λ slot. IsTold slot.count slot.shape (option_map fields_of_section slot.section.value) };
+}
+
+impl Slot {
+    /// A place in which no section stands. It takes the memory for one.
+    pub(crate) fn new(alloc: Global) -> Result<Slot, AllocError>
+        ensures { IfOk result (λ slot. slot ≡ None) }
+    {
+        Ok(Slot {
+            count: None,
+            shape: None,
+            section: Box::new(alloc, None)?,
+        })
+    }
+
+    /// The section.
+    pub(crate) fn view(&self) -> Option<SectionView<'_>>
+        ensures { option_map fields_of_view result ≡ self.now }
+    {
+        match &*self.section {
+            Some(section) => Some(section.view()),
+            None => None,
+        }
+    }
+
+    /// Its count.
+    pub(crate) fn count(&self) -> Option<u16>
+        ensures { result ≡ count_in self.now }
+    {
+        self.count
+    }
+
+    /// Its shape.
+    pub(crate) fn shape(&self) -> Option<Shape>
+        ensures { result ≡ shape_in self.now }
+    {
+        self.shape
+    }
+
+    /// Puts a copy of the section here.
+    pub(crate) fn set(&mut self, section: &SectionView<'_>)
+        ensures { self.new ≡ Some (fields_of_view section.now) }
+    {
+        self.count = Some(section.count);
+        self.shape = Some(section.shape);
+        *self.section = Some(section.to_section());
+    }
+}
