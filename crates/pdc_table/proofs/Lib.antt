@@ -7,6 +7,7 @@ pub mod Closes
 pub mod Keeps
 pub mod Places
 pub mod Highest
+pub mod Remainders
 pub mod RingAges
 pub mod RingClosed
 pub mod RingKept

@@ -1,5 +1,5 @@
 -- A table as a ring: each instant has a place, which is its remainder by the window.
-use Rattle.std.specs.Prelude.{◌≡◌, ◌<◌, ◌≤◌, ◌==◌, true, [], ◌∷◌, length}
+use Rattle.std.specs.Prelude.{◌≡◌, ◌<◌, ◌≤◌, ◌==◌, ◌%◌, true, [], ◌∷◌, length}
 use Rattle.std.specs.List.{All, AllByRecursion, list_any}
 use Rattle.std.specs.Vec.{vec_capacity}
 use Rattle.std.specs.VecDeque.{deque_capacity}
@@ -30,7 +30,7 @@ view_of t = record {
 
 -- There is a place for each instant of the window, and room for each instant that can be held. At the place of an instant that
 -- is held stands its row, and of a closed one the layout that it closed under; a row of an instant above the last closed is
--- that of an open one.
+-- that of an open one. The place of one instant is known.
 pub record IsKept (t : Inside) : Type 0 where
   pub content : IsContent (content_of t)
   pub size : length t.places.items ≡ t.window
@@ -41,4 +41,5 @@ pub record IsKept (t : Inside) : Type 0 where
   pub closed_placed : AllByRecursion (λ i. (row_in t.places.items t.window i).instant ≡ i) t.closed.items
   pub known : All (λ (row : OpenRowView). t.last < row.instant → list_any (λ i. i == row.instant) t.open.items ≡ true) t.places.items
   pub room : t.window ≤ vec_capacity t.open
+  pub near : t.near.place ≡ t.near.instant % t.window
   pub closed_room : t.window ≤ deque_capacity t.closed

@@ -13,6 +13,7 @@ mod closing_layout;
 mod column;
 mod laws;
 mod limits;
+mod near;
 mod open_row;
 mod outcome;
 mod ring;

@@ -20,6 +20,7 @@ ghost use Rattle.pdc_table.specs.Steps.{answer_at, disagreements_in, is_taken};
 ghost use Rattle.pdc_table.specs.Taking.{cells_in, with_frame, without_column, without_stream};
 ghost use Rattle.pdc_table.specs.Views.{OpenRowView, blank_row};
 
+use crate::near::{Near, place_of};
 use crate::open_row::{OpenRow, Places};
 use crate::rows::{is_near, remove_front};
 use crate::{ClosingLayout, MAX_COLUMNS, PutOutcome, RowLayout, WaitRule};
@@ -27,15 +28,6 @@ use arrayvec::ArrayVec;
 use pdc_row::{DueRow, Offered, numbers_rise};
 use std::alloc::{AllocError, Global};
 use std::collections::VecDeque;
-
-/// The place of an instant.
-fn place_of(window: u64, instant: u64) -> usize
-    requires { 0 < window }
-    ensures value { result ≡ instant % window }
-    ensures bound { result < window }
-{
-    (instant % window) as usize
-}
 
 /// So many places, in each of which stands a row of no instant.
 pub fn new_places(alloc: Global, count: usize, sizes: Places) -> Result<Vec<OpenRow>, AllocError>
@@ -96,28 +88,30 @@ fn highest(open: &[u64], closed: &VecDeque<u64>) -> Option<u64>
 const FEW: u64 = 16;
 
 /// Counts one more tick for each open instant.
-pub fn grow_older(ages: &mut Vec<u64>, window: u64, open: &[u64])
+pub fn grow_older(ages: &mut Vec<u64>, window: u64, near: Near, open: &[u64])
     requires least { 0 < window }
+    requires near { near.place ≡ near.instant % window }
     requires size { length ages.old.items ≡ window }
     ensures grown { HaveGrown window open.now ages.old.items ages.new.items }
     ensures capacity { vec_capacity ages.new ≡ vec_capacity ages.old }
 {
     if (open.len() as u64) <= window / FEW {
-        grow_open(ages, window, open);
+        grow_open(ages, window, near, open);
     } else {
         grow_all(ages);
     }
 }
 
 /// Counts one more tick at the place of each of these instants.
-fn grow_open(ages: &mut Vec<u64>, window: u64, open: &[u64])
+fn grow_open(ages: &mut Vec<u64>, window: u64, near: Near, open: &[u64])
     requires least { 0 < window }
+    requires near { near.place ≡ near.instant % window }
     requires size { length ages.old.items ≡ window }
     ensures items { ages.new.items ≡ grown window open.now ages.old.items }
     ensures capacity { vec_capacity ages.new ≡ vec_capacity ages.old }
 {
     for instant in open {
-        let place = place_of(window, *instant);
+        let place = place_of(window, near, *instant);
         ages[place] = ages[place].saturating_add(1);
     }
 }
@@ -136,11 +130,13 @@ fn grow_all(ages: &mut Vec<u64>)
 pub fn drop_stream(
     places: &mut Vec<OpenRow>,
     window: u64,
+    near: Near,
     open: &[u64],
     lanes: usize,
     stream: usize,
 )
     requires least { 0 < window }
+    requires near { near.place ≡ near.instant % window }
     requires size { length places.old.items ≡ window }
     requires taken { All (λ (row : OpenRowView). stream < length row.taken) places.old.items }
     requires column { lanes ≡ 1 → All (λ (row : OpenRowView). stream < length row.columns) places.old.items }
@@ -148,21 +144,22 @@ pub fn drop_stream(
     ensures capacity { vec_capacity places.new ≡ vec_capacity places.old }
 {
     for instant in open {
-        let place = place_of(window, *instant);
+        let place = place_of(window, near, *instant);
         places[place].drop_stream(lanes, stream);
     }
 }
 
 /// Forgets the cells of a column, at each open instant.
-pub fn drop_column(places: &mut Vec<OpenRow>, window: u64, open: &[u64], column: usize)
+pub fn drop_column(places: &mut Vec<OpenRow>, window: u64, near: Near, open: &[u64], column: usize)
     requires least { 0 < window }
+    requires near { near.place ≡ near.instant % window }
     requires size { length places.old.items ≡ window }
     requires column { All (λ (row : OpenRowView). column < length row.columns) places.old.items }
     ensures items { places.new.items ≡ changed (without_column column) window open.now places.old.items }
     ensures capacity { vec_capacity places.new ≡ vec_capacity places.old }
 {
     for instant in open {
-        let place = place_of(window, *instant);
+        let place = place_of(window, near, *instant);
         places[place].drop_column(column);
     }
 }
@@ -196,6 +193,7 @@ pub fn take<B: Offered>(
     ages: &mut Vec<u64>,
     open: &mut Vec<u64>,
     window: u64,
+    near: &mut Near,
     stream: usize,
     lane: usize,
     instant: u64,
@@ -203,6 +201,7 @@ pub fn take<B: Offered>(
     quality: u8,
 ) -> PutOutcome
     requires least { 0 < window }
+    requires near { near.old.place ≡ near.old.instant % window }
     requires size { length places.old.items ≡ window }
     requires ages_size { length ages.old.items ≡ window }
     requires rising { Rises 0 open.old.items }
@@ -219,11 +218,13 @@ pub fn take<B: Offered>(
         else slice_set ages.old.items (instant % window) 0) }
     ensures open { open.new.items ≡ (if (row_in places.old.items window instant).instant == instant then open.old.items
         else place instant open.old.items) }
+    ensures near { near.new.place ≡ near.new.instant % window }
     ensures ages_capacity { vec_capacity ages.new ≡ vec_capacity ages.old }
     ensures capacity { vec_capacity places.new ≡ vec_capacity places.old }
     ensures open_capacity { vec_capacity open.new ≡ vec_capacity open.old }
 {
-    let place = place_of(window, instant);
+    let place = place_of(window, *near, instant);
+    *near = Near { instant, place };
     let row = &mut places[place];
     if row.instant() == instant {
         return row.offer(stream, lane, cells, quality);
@@ -240,11 +241,13 @@ fn count_due(
     places: &[OpenRow],
     ages: &[u64],
     window: u64,
+    near: Near,
     open: &[u64],
     required: &[bool],
     rule: WaitRule,
 ) -> usize
     requires least { 0 < window }
+    requires near { near.place ≡ near.instant % window }
     requires size { length places.now ≡ window }
     requires ages_size { length ages.now ≡ window }
     ensures count { result ≡ prefix_len (is_due required.now rule) (rows_in (with_ages places.now ages.now) window open.now) }
@@ -252,7 +255,7 @@ fn count_due(
 {
     let mut count = 0;
     for instant in open {
-        let place = place_of(window, *instant);
+        let place = place_of(window, near, *instant);
         if !places[place].is_due(ages[place], required, rule) {
             return count;
         }
@@ -265,11 +268,13 @@ fn count_due(
 fn close(
     layouts: &mut Vec<ClosingLayout>,
     window: u64,
+    near: Near,
     due: &[u64],
     layout: &RowLayout,
     closed: &mut VecDeque<u64>,
 )
     requires least { 0 < window }
+    requires near { near.place ≡ near.instant % window }
     requires size { length layouts.old.items ≡ window }
     requires room { deque_len closed.old + length due.now ≤ deque_capacity closed.old }
     ensures layouts { layouts.new.items ≡ laid (layout_view layout.now) window due.now layouts.old.items }
@@ -278,7 +283,7 @@ fn close(
     ensures capacity { deque_capacity closed.new ≡ deque_capacity closed.old }
 {
     for instant in due {
-        let place = place_of(window, *instant);
+        let place = place_of(window, near, *instant);
         layouts[place].set(layout);
         closed.push_back_reserved(*instant);
     }
@@ -297,9 +302,11 @@ pub fn pop(
     places: &[OpenRow],
     layouts: &[ClosingLayout],
     window: u64,
+    near: Near,
     closed: &mut VecDeque<u64>,
 ) -> Option<DueRow>
     requires least { 0 < window }
+    requires near { near.place ≡ near.instant % window }
     requires size { length places.now ≡ window }
     requires layouts_size { length layouts.now ≡ window }
     ensures row { option_map row_view result ≡ slice_get (closed_rows places.now layouts.now window closed.old.items) 0 }
@@ -307,7 +314,7 @@ pub fn pop(
     ensures capacity { deque_capacity closed.new ≡ deque_capacity closed.old }
 {
     let instant = closed.pop_front()?;
-    let place = place_of(window, instant);
+    let place = place_of(window, near, instant);
     let open_row = &places[place];
     let layout = layouts[place].layout();
     let mut row = DueRow {
@@ -326,10 +333,12 @@ pub fn pop_into(
     places: &[OpenRow],
     layouts: &[ClosingLayout],
     window: u64,
+    near: Near,
     closed: &mut VecDeque<u64>,
     row: &mut DueRow,
 ) -> bool
     requires least { 0 < window }
+    requires near { near.place ≡ near.instant % window }
     requires size { length places.now ≡ window }
     requires layouts_size { length layouts.now ≡ window }
     ensures row { popped_into result row.new ≡ slice_get (closed_rows places.now layouts.now window closed.old.items) 0 }
@@ -340,7 +349,7 @@ pub fn pop_into(
     let Some(instant) = closed.pop_front() else {
         return false;
     };
-    let place = place_of(window, instant);
+    let place = place_of(window, near, instant);
     places[place].close_into(layouts[place].layout(), row);
     true
 }
@@ -349,17 +358,19 @@ pub fn pop_into(
 fn count_disagreements(
     places: &[OpenRow],
     window: u64,
+    near: Near,
     due: &[u64],
     layout: &RowLayout,
     so_far: u64,
 ) -> u64
     requires least { 0 < window }
+    requires near { near.place ≡ near.instant % window }
     requires size { length places.now ≡ window }
     ensures { result ≡ counter (so_far + disagreements_in (layout_view layout.now) (rows_in places.now window due.now)) }
 {
     let mut count = so_far;
     for instant in due {
-        let place = place_of(window, *instant);
+        let place = place_of(window, near, *instant);
         count = count.saturating_add(places[place].disagreements(layout));
     }
     count
@@ -382,6 +393,7 @@ pub fn close_due(
     ages: &[u64],
     layouts: &mut Vec<ClosingLayout>,
     window: u64,
+    near: Near,
     open: &mut Vec<u64>,
     required: &[bool],
     rule: WaitRule,
@@ -391,6 +403,7 @@ pub fn close_due(
     disagree: &mut u64,
 ) -> usize
     requires least { 0 < window }
+    requires near { near.place ≡ near.instant % window }
     requires size { length places.now ≡ window }
     requires ages_size { length ages.now ≡ window }
     requires layouts_size { length layouts.old.items ≡ window }
@@ -411,11 +424,11 @@ pub fn close_due(
     ensures capacity { vec_capacity open.new ≡ vec_capacity open.old }
     ensures closed_capacity { deque_capacity closed.new ≡ deque_capacity closed.old }
 {
-    let count = count_due(places, ages, window, open, required, rule);
+    let count = count_due(places, ages, window, near, open, required, rule);
     let due = &open[..count];
-    close(layouts, window, due, layout, closed);
+    close(layouts, window, near, due, layout, closed);
     *last = greatest(due, *last);
-    *disagree = count_disagreements(places, window, due, layout, *disagree);
+    *disagree = count_disagreements(places, window, near, due, layout, *disagree);
     remove_front(open, count);
     count
 }

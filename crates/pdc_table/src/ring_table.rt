@@ -4,6 +4,7 @@ ghost use Rattle.pdc_table.specs.Content.{HasSizesOf, IsContent, IsPut};
 ghost use Rattle.pdc_table.specs.Steps.{after_put, put_answer};
 ghost use Rattle.pdc_table.specs.Taking.{cells_in};
 
+use crate::near::Near;
 use crate::open_row::{OpenRow, Places, falses};
 use crate::sorted_table::{lane_of, stream_count};
 use crate::{ClosingLayout, MAX_COLUMNS, PutOutcome, RowLayout, Table, WaitRule, ring};
@@ -22,6 +23,8 @@ pub struct RingTable {
     columns: usize,
     lanes: usize,
     required: ArrayVec<bool, MAX_COLUMNS>,
+    /// The instant of the put before, and its place.
+    near: Near,
     /// The row of an instant that is held stands at its remainder by the window.
     places: Vec<OpenRow>,
     /// At the same place stands the age of an open row, in ticks.
@@ -75,13 +78,14 @@ impl RingTable {
         let lane = lane_of(self.lanes, stream);
         let RingTable {
             window,
+            near,
             places,
             ages,
             open,
             ..
         } = self;
         ring::take(
-            places, ages, open, *window, stream, lane, instant, cells, quality,
+            places, ages, open, *window, near, stream, lane, instant, cells, quality,
         )
     }
 }
@@ -107,6 +111,10 @@ impl Table for RingTable {
             columns,
             lanes,
             required: falses(streams),
+            near: Near {
+                instant: floor,
+                place: (floor % window) as usize,
+            },
             places: ring::new_places(alloc, room, Places { streams, columns })?,
             ages: vec![in alloc; 0; room]?,
             layouts: ring::new_layouts(alloc, room)?,
@@ -143,9 +151,10 @@ impl Table for RingTable {
 
     fn tick(&mut self, rule: WaitRule, layout: &RowLayout) -> u32 {
         numbers_rise();
-        ring::grow_older(&mut self.ages, self.window, &self.open);
+        ring::grow_older(&mut self.ages, self.window, self.near, &self.open);
         let RingTable {
             window,
+            near,
             required,
             places,
             ages,
@@ -158,7 +167,8 @@ impl Table for RingTable {
         } = self;
         let required = required.as_slice();
         ring::close_due(
-            places, ages, layouts, *window, open, required, rule, layout, closed, last, disagree,
+            places, ages, layouts, *window, *near, open, required, rule, layout, closed, last,
+            disagree,
         ) as u32
     }
 
@@ -167,6 +177,7 @@ impl Table for RingTable {
         ring::drop_stream(
             &mut self.places,
             self.window,
+            self.near,
             &self.open,
             self.lanes,
             stream,
@@ -175,31 +186,33 @@ impl Table for RingTable {
 
     fn drop_column(&mut self, column: usize) {
         numbers_rise();
-        ring::drop_column(&mut self.places, self.window, &self.open, column);
+        ring::drop_column(&mut self.places, self.window, self.near, &self.open, column);
     }
 
     fn pop_due(&mut self) -> Option<DueRow> {
         numbers_rise();
         let RingTable {
             window,
+            near,
             places,
             layouts,
             closed,
             ..
         } = self;
-        ring::pop(places, layouts, *window, closed)
+        ring::pop(places, layouts, *window, *near, closed)
     }
 
     fn pop_into(&mut self, row: &mut DueRow) -> bool {
         numbers_rise();
         let RingTable {
             window,
+            near,
             places,
             layouts,
             closed,
             ..
         } = self;
-        ring::pop_into(places, layouts, *window, closed, row)
+        ring::pop_into(places, layouts, *window, *near, closed, row)
     }
 
     fn next_due(&self) -> Option<u64> {

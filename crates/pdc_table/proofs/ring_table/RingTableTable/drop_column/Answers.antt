@@ -46,6 +46,7 @@ invariant_of-self c =
           c.deref.ensures.value c.drop_column.ensures.items c.self.invariant.size c.self.invariant.closed_placed c.self.invariant.content;
       known = ring.known;
       room = c.self.invariant.room;
+      near = c.self.invariant.near;
       closed_room = c.self.invariant.closed_room;
     }
 

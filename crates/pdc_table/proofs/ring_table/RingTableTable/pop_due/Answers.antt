@@ -28,6 +28,7 @@ invariant_of-self c = record {
   closed_placed = rw c.pop.ensures.rest (placed-less c.self.inside.places.items c.self.inside.window c.self.inside.closed.items c.self.invariant.closed_placed);
   known = c.self.invariant.known;
   room = c.self.invariant.room;
+  near = c.self.invariant.near;
   closed_room = rw c.pop.ensures.capacity c.self.invariant.closed_room;
 }
 

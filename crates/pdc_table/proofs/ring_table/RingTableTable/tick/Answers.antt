@@ -134,5 +134,6 @@ invariant_of-self c =
       closed_placed = rw c.close_due.ensures.closed (placed_more c.self.inside.places.items c.self.inside.window c.close_due.result c.self.inside.closed.items c.self.inside.open.items c.self.invariant.closed_placed c.self.invariant.placed);
       known = ring.known;
       room = rw c.close_due.ensures.capacity c.self.invariant.room;
+      near = c.self.invariant.near;
       closed_room = rw c.close_due.ensures.closed_capacity c.self.invariant.closed_room;
     }
