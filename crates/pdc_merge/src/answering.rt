@@ -77,7 +77,7 @@ fn put_data<T: Table>(
 }
 
 /// Answers data of a node under its layout, and takes it where it comes in time.
-fn answer_data<T: Table>(
+fn answer_under<T: Table>(
     alignment: &mut Alignment<T>,
     layout: &HeldLayout,
     stream: usize,
@@ -199,6 +199,34 @@ fn answer_configuration<T: Table>(
     outcome
 }
 
+/// Answers data of a node, and takes it where a layout of the node is held and it comes in time.
+pub fn answer_data<T: Table>(
+    alignment: &mut Alignment<T>,
+    layouts: &HeldLayouts,
+    stream: usize,
+    instant: u64,
+    quality: u8,
+    payload: &[u8],
+) -> Outcome
+    requires ready { IsReady alignment.old.state layouts.now }
+    requires stream { stream < 2 }
+    ensures answer { (g : Given) (E : List Entry) → StandsFor g E alignment.old.state → layouts.now ≡ layouts_of E →
+        result ≡ (merged_answer g E stream (Data instant quality payload.now)).outcome }
+    ensures stands { (g : Given) (E : List Entry) (bytes : List ℕ) → StandsFor g E alignment.old.state → layouts.now ≡ layouts_of E →
+        IsRun g (answered merged_answer g E (ToArrive stream bytes (Data instant quality payload.now)) ∷ E) →
+        StandsFor g (answered merged_answer g E (ToArrive stream bytes (Data instant quality payload.now)) ∷ E) alignment.new.state }
+    ensures sizes { KeepsSizes alignment.old.state alignment.new.state }
+    ensures memory { alignment.new.memory ≡ alignment.old.memory }
+    ensures popped { alignment.new.popped ≡ alignment.old.popped }
+    ensures disagreements { alignment.new.disagreements ≡ alignment.old.disagreements }
+{
+    others_are_left();
+    match layouts.of(stream) {
+        Some(layout) => answer_under(alignment, layout, stream, instant, quality, payload),
+        None => Outcome::Refused(Refusal::NoConfig),
+    }
+}
+
 /// Answers what arrives from a node.
 pub fn answer<T: Table>(
     alignment: &mut Alignment<T>,
@@ -228,10 +256,7 @@ pub fn answer<T: Table>(
             instant,
             quality,
             payload,
-        } => match layouts.of(stream) {
-            Some(layout) => { answer_data(alignment, layout, stream, *instant, *quality, payload) }
-            None => Outcome::Refused(Refusal::NoConfig),
-        },
+        } => answer_data(alignment, layouts, stream, *instant, *quality, payload),
         Arrival::Layout { stamp, sections } => {
             answer_configuration(alignment, layouts, stream, *stamp, sections)
         }

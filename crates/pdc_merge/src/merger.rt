@@ -1,8 +1,13 @@
 //! The merger.
-ghost use Rattle.std.specs.Prelude.{◌≡◌, ℕ, [], IfOk, List, length};
+ghost use Rattle.std.specs.Prelude.{◌≡◌, ◌<◌, ◌∷◌, ℕ, [], IfOk, List, length};
 ghost use Rattle.pdc_align.specs.Align.{given_by};
+ghost use Rattle.pdc_answering.specs.Counts.{after_answer};
+ghost use Rattle.pdc_life.specs.Answer.{ToArrive, answered};
+ghost use Rattle.pdc_life.specs.Arrival.{Data};
+ghost use Rattle.pdc_life.specs.Given.{Given};
+ghost use Rattle.pdc_life.specs.Life.{Entry};
 ghost use Rattle.pdc_life.specs.Merger.{merged_answer};
-ghost use Rattle.pdc_life.specs.MergerReading.{given_of_merger};
+ghost use Rattle.pdc_life.specs.MergerReading.{ReadsForMerger, given_of_merger};
 ghost use Rattle.pdc_merge.specs.Merger.{StandsFor};
 
 use crate::answering;
@@ -12,7 +17,7 @@ use pdc_answering::Counts;
 use pdc_core::Core;
 use pdc_frame::Buffer;
 use pdc_life::{MAX_PMUS, MergerSettings, Outcome, merger_lives_are_runs, rows_have_tags};
-use pdc_reading::Arrival;
+use pdc_reading::{Arrival, Heard, arrival_from_node, hear_from_node};
 use pdc_table::{DueRow, Table};
 use std::alloc::{AllocError, Global};
 use std::marker::Model;
@@ -97,6 +102,31 @@ impl<T: Table> Merger<T> {
         })
     }
 
+    /// Answers data of a node, and takes it where it is to be taken.
+    fn arrive_data(&mut self, stream: usize, instant: u64, quality: u8, payload: &[u8]) -> Outcome
+        requires { stream < 2 }
+        ensures answer { (g : Given) (E : List Entry) → StandsFor g E self.old →
+            result ≡ (merged_answer g E stream (Data instant quality payload.now)).outcome }
+        ensures stands { (g : Given) (E : List Entry) (bytes : List ℕ) → ReadsForMerger self.old.settings stream bytes (Data instant quality payload.now) →
+            StandsFor g E self.old → StandsFor g (answered merged_answer g E (ToArrive stream bytes (Data instant quality payload.now)) ∷ E) self.new }
+        ensures counts { self.new.counts ≡ after_answer result self.old.counts }
+        ensures popped { self.new.popped ≡ self.old.popped }
+        ensures settings { self.new.settings ≡ self.old.settings }
+        ensures memory { self.new.memory ≡ self.old.memory }
+    {
+        merger_lives_are_runs();
+        let outcome = answering::answer_data(
+            &mut self.alignment,
+            &self.layouts,
+            stream,
+            instant,
+            quality,
+            payload,
+        );
+        self.counts.count(outcome);
+        outcome
+    }
+
     /// How often, at a closing, both nodes had present blocks of a column that differed. Those of node A stay.
     pub fn disagree(&self) -> u64
         ensures { result ≡ self.now.disagreements }
@@ -130,6 +160,21 @@ impl<T: Table> Core for Merger<T> {
         let outcome = answering::answer(&mut self.alignment, &mut self.layouts, stream, arrival);
         self.counts.count(outcome);
         outcome
+    }
+
+    /// Data is answered as it was read: an [`Arrival`] has room for all sections of a layout, and is made for configurations alone.
+    fn put_datagram(&mut self, stream: usize, bytes: &[u8]) -> Outcome {
+        match hear_from_node(&self.settings, stream, bytes) {
+            Heard::Data {
+                instant,
+                quality,
+                payload,
+            } => self.arrive_data(stream, instant, quality, payload),
+            heard => {
+                let arrival = arrival_from_node(&self.settings, stream, heard);
+                self.arrive(stream, &arrival)
+            }
+        }
     }
 
     /// A tick. Rows close under the layout before it, and then what is held comes into force.

@@ -24,9 +24,13 @@ each p (part ∷ sections) h =
 pub passed_own : (settings : Settings) (p : ℕ) (arrival : Arrival) → fits_node settings p arrival ≡ true → IsOwn p arrival
 passed_own settings p arrival h = each p (sections_of arrival) (both (nat_lt p (length settings.pmus.items)) (list_all (is_of p) (sections_of arrival)) h).1
 
-pub passed_ready : (n : NodeView) (p : ℕ) (arrival : Arrival) → fits_node n.settings p arrival ≡ true → HasSizes (length n.settings.pmus.items) 1 n.state → IsReady n.state p
-passed_ready n p arrival h sizes = record {
+-- a stream of the settings has its column
+pub ready : (n : NodeView) (p : ℕ) → p < length n.settings.pmus.items → HasSizes (length n.settings.pmus.items) 1 n.state → IsReady n.state p
+ready n p h sizes = record {
   each = sizes.each_column ∙ sym sizes.column_count;
   lanes = sizes.lane_count;
-  exists = omega (arith, ltb-true p (length n.settings.pmus.items) (both (nat_lt p (length n.settings.pmus.items)) (list_all (is_of p) (sections_of arrival)) h).0, sizes.each_column);
+  exists = omega (arith, h, sizes.each_column);
 }
+
+pub passed_ready : (n : NodeView) (p : ℕ) (arrival : Arrival) → fits_node n.settings p arrival ≡ true → HasSizes (length n.settings.pmus.items) 1 n.state → IsReady n.state p
+passed_ready n p arrival h sizes = ready n p (ltb-true p (length n.settings.pmus.items) (both (nat_lt p (length n.settings.pmus.items)) (list_all (is_of p) (sections_of arrival)) h).0) sizes

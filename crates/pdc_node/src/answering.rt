@@ -21,7 +21,7 @@ use pdc_reading::{Arrival, ColumnSection};
 use pdc_table::Table;
 
 /// Answers data of a PMU, and takes it where it comes in time.
-fn answer_data<T: Table>(
+pub fn answer_data<T: Table>(
     alignment: &mut Alignment<T>,
     stream: usize,
     instant: u64,

@@ -1,8 +1,12 @@
 //! A node.
-ghost use Rattle.std.specs.Prelude.{◌≡◌, ℕ, [], IfOk, List, length};
+ghost use Rattle.std.specs.Prelude.{◌≡◌, ◌<◌, ◌∷◌, ℕ, [], IfOk, List, length};
 ghost use Rattle.pdc_align.specs.Align.{given_by};
-ghost use Rattle.pdc_life.specs.Given.{given_of};
-ghost use Rattle.pdc_life.specs.Node.{node_answer};
+ghost use Rattle.pdc_answering.specs.Counts.{after_answer};
+ghost use Rattle.pdc_life.specs.Answer.{ToArrive, answered};
+ghost use Rattle.pdc_life.specs.Arrival.{Data};
+ghost use Rattle.pdc_life.specs.Given.{Given, given_of};
+ghost use Rattle.pdc_life.specs.Life.{Entry};
+ghost use Rattle.pdc_life.specs.Node.{ReadsFor, node_answer};
 ghost use Rattle.pdc_node.specs.Node.{StandsFor};
 
 use crate::answering;
@@ -10,8 +14,8 @@ use pdc_align::{Alignment, Plan, Ticked, append_layout_frame};
 use pdc_answering::Counts;
 use pdc_core::Core;
 use pdc_frame::Buffer;
-use pdc_life::{MAX_PMUS, Outcome, Settings, lives_are_runs, rows_have_tags};
-use pdc_reading::Arrival;
+use pdc_life::{MAX_PMUS, Outcome, Reading, Settings, lives_are_runs, rows_have_tags};
+use pdc_reading::{Arrival, arrival_from_pmu, hear_from_pmu};
 use pdc_table::{DueRow, Table};
 use std::alloc::{AllocError, Global};
 use std::marker::Model;
@@ -91,6 +95,30 @@ impl<T: Table> Node<T> {
             counts: Counts::new(),
         })
     }
+
+    /// Answers data of a PMU, and takes it where it is to be taken.
+    fn arrive_data(&mut self, stream: usize, instant: u64, quality: u8, payload: &[u8]) -> Outcome
+        requires { stream < length self.old.settings.pmus.items }
+        ensures answer { (g : Given) (E : List Entry) → StandsFor g E self.old →
+            result ≡ (node_answer g E stream (Data instant quality payload.now)).outcome }
+        ensures stands { (g : Given) (E : List Entry) (bytes : List ℕ) → ReadsFor self.old.settings stream bytes (Data instant quality payload.now) →
+            StandsFor g E self.old → StandsFor g (answered node_answer g E (ToArrive stream bytes (Data instant quality payload.now)) ∷ E) self.new }
+        ensures counts { self.new.counts ≡ after_answer result self.old.counts }
+        ensures popped { self.new.popped ≡ self.old.popped }
+        ensures settings { self.new.settings ≡ self.old.settings }
+        ensures memory { self.new.memory ≡ self.old.memory }
+    {
+        lives_are_runs();
+        let outcome = answering::answer_data(
+            &mut self.alignment,
+            stream,
+            instant,
+            quality,
+            payload,
+        );
+        self.counts.count(outcome);
+        outcome
+    }
 }
 
 /// A stream comes from each PMU, and has the column of its number.
@@ -118,6 +146,21 @@ impl<T: Table> Core for Node<T> {
         let outcome = answering::answer(&mut self.alignment, &self.opening, stream, arrival);
         self.counts.count(outcome);
         outcome
+    }
+
+    /// Data is answered as it was read: an [`Arrival`] has room for all sections of a layout, and is made for configurations alone.
+    fn put_datagram(&mut self, stream: usize, bytes: &[u8]) -> Outcome {
+        match hear_from_pmu(&self.settings, stream, bytes) {
+            Reading::Data {
+                instant,
+                quality,
+                payload,
+            } => self.arrive_data(stream, instant, quality, payload),
+            reading => {
+                let arrival = arrival_from_pmu(stream, reading);
+                self.arrive(stream, &arrival)
+            }
+        }
     }
 
     /// A tick. Rows close under the layout before it, and then what is held comes into force.

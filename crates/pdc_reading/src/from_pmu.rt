@@ -13,14 +13,20 @@ pub fn read_from_pmu<'a>(settings: &Settings, stream: usize, bytes: &'a [u8]) ->
     requires { stream < length settings.now.pmus.items }
     ensures { ReadsFor settings.now stream bytes.now (arrival_view result) }
 {
-    of_column(
-        stream,
-        read_arrival(settings, &settings.pmus[stream], bytes),
-    )
+    arrival_from_pmu(stream, hear_from_pmu(settings, stream, bytes))
+}
+
+/// The same as it is read, in less room: a configuration is its one section. It takes no memory.
+#[inline]
+pub fn hear_from_pmu<'a>(settings: &Settings, stream: usize, bytes: &'a [u8]) -> Reading<'a>
+    requires { stream < length settings.now.pmus.items }
+    ensures { ReadsFor settings.now stream bytes.now (reading_view stream result) }
+{
+    read_arrival(settings, &settings.pmus[stream], bytes)
 }
 
 /// What is read of a PMU, whose configuration is of its column.
-fn of_column<'a>(column: usize, reading: Reading<'a>) -> Arrival<'a>
+pub fn arrival_from_pmu<'a>(column: usize, reading: Reading<'a>) -> Arrival<'a>
     ensures { arrival_view result ≡ reading_view column reading.entry }
 {
     match reading {

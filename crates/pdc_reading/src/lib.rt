@@ -15,5 +15,5 @@ mod own_stamp;
 mod placing;
 
 pub use arrival::{Arrival, ColumnSection, Stamp};
-pub use from_node::{NODES, read_from_node};
-pub use from_pmu::read_from_pmu;
+pub use from_node::{Heard, NODES, arrival_from_node, hear_from_node, read_from_node};
+pub use from_pmu::{arrival_from_pmu, hear_from_pmu, read_from_pmu};

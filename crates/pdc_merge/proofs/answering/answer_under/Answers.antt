@@ -11,7 +11,7 @@ use Rattle.pdc_align.specs.Align.{StandsFor, is_left}
 use Rattle.pdc_merge.specs.Cells.{cells_in}
 use Rattle.pdc_merge.proofs.ByLayout.{read_under, refused_under}
 use Rattle.pdc_merge.proofs.Lives.{at_stream}
-use Rattle.pdc_merge.proofs.answering.answer_data.Goals as goal
+use Rattle.pdc_merge.proofs.answering.answer_under.Goals as goal
 
 pub returns-in-Some-clause-answer : goal.returns-in-Some-clause-answer
 returns-in-Some-clause-answer g c life E stands held =
