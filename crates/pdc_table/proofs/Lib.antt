@@ -4,6 +4,7 @@ pub mod Due
 pub mod Follows
 pub mod Given
 pub mod Closes
+pub mod HeldNear
 pub mod Keeps
 pub mod Places
 pub mod Highest

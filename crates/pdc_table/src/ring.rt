@@ -4,12 +4,12 @@
 //! window 8, open 13 14 18     place  0  1  2  3  4  5  6  7
 //!                             row          18       13 14
 //! ```
-ghost use Rattle.std.specs.Prelude.{◌≡◌, ℕ, ◌+◌, ◌%◌, ◌==◌, ◌<◌, ◌≤◌, ◌++◌, drop, false, List, length, map, nat_lt, option_map, replicate, IfOk, slice_set, take, vec_len, if◌then◌else◌};
-ghost use Rattle.std.specs.List.{All, AllByRecursion, list_all, prefix_len, slice_get};
+ghost use Rattle.std.specs.Prelude.{◌≡◌, ℕ, ◌+◌, ◌%◌, ◌==◌, ◌<◌, ◌≤◌, ◌++◌, drop, false, List, length, map, nat_lt, option_map, replicate, IfOk, slice_set, take, true, vec_len, if◌then◌else◌};
+ghost use Rattle.std.specs.List.{All, AllByRecursion, list_all, list_any, prefix_len, slice_get};
 ghost use Rattle.std.specs.Vec.{vec_capacity};
 ghost use Rattle.std.specs.VecDeque.{deque_capacity, deque_len};
 ghost use Rattle.pdc_row.specs.Quality.{greatest};
-ghost use Rattle.pdc_row.specs.Rising.{Rises, highest_of, is_near, place};
+ghost use Rattle.pdc_row.specs.Rising.{AreNear, Rises, highest_of, is_near, place};
 ghost use Rattle.pdc_row.specs.RowView.{row_view};
 ghost use Rattle.pdc_table.specs.Closing.{closing, counter, is_due, staying};
 ghost use Rattle.pdc_table.specs.KeptRow.{popped_into};
@@ -61,6 +61,28 @@ pub fn are_near(open: &[u64], closed: &VecDeque<u64>, window: u64, instant: u64)
     numbers_rise();
     is_near(lowest(open, closed), window, instant)
         && is_near(highest(open, closed), window, instant)
+}
+
+/// The same for an instant whose place may have its row: then it is open, and near all that are held.
+pub fn is_in_window(
+    places: &[OpenRow],
+    window: u64,
+    near: Near,
+    open: &[u64],
+    closed: &VecDeque<u64>,
+    instant: u64,
+) -> bool
+    requires least { 0 < window }
+    requires near { near.place ≡ near.instant % window }
+    requires size { length places.now ≡ window }
+    requires rising { Rises 0 (closed.now.items ++ open.now) }
+    requires held_near { AreNear window (closed.now.items ++ open.now) }
+    requires known { (row_in places.now window instant).instant ≡ instant → list_any (λ i. i == instant) open.now ≡ true }
+    ensures { result ≡ list_all (is_near window instant) (closed.now.items ++ open.now) }
+{
+    numbers_rise();
+    let place = place_of(window, near, instant);
+    places[place].instant() == instant || are_near(open, closed, window, instant)
 }
 
 /// The lowest instant held.
@@ -187,6 +209,24 @@ fn open_instant(open: &mut Vec<u64>, instant: u64)
     open.insert(at, instant).unwrap();
 }
 
+/// Makes this the row of an instant with a frame of a stream.
+#[inline(never)]
+fn begin_with<B: Offered>(
+    row: &mut OpenRow,
+    stream: usize,
+    lane: usize,
+    instant: u64,
+    cells: &[(usize, B)],
+    quality: u8,
+)
+    requires stream { stream < length row.old.taken }
+    requires columns { All (λ (cell : ℕ × B). cell.0 < length row.old.columns) cells.now }
+    ensures { row.new ≡ with_frame stream lane (cells_in B.view cells.now quality) (blank_row (length row.old.taken) (length row.old.columns) instant) }
+{
+    row.begin(instant);
+    row.take(stream, lane, cells, quality);
+}
+
 /// Takes a frame of a stream for an instant, unless the stream was taken there.
 pub fn take<B: Offered>(
     places: &mut Vec<OpenRow>,
@@ -229,8 +269,7 @@ pub fn take<B: Offered>(
     if row.instant() == instant {
         return row.offer(stream, lane, cells, quality);
     }
-    row.begin(instant);
-    row.take(stream, lane, cells, quality);
+    begin_with(row, stream, lane, instant, cells, quality);
     ages[place] = 0;
     open_instant(open, instant);
     PutOutcome::Taken

@@ -72,7 +72,14 @@ impl RingTable {
         if instant <= self.last {
             return PutOutcome::Late;
         }
-        if !ring::are_near(&self.open, &self.closed, self.window, instant) {
+        if !ring::is_in_window(
+            &self.places,
+            self.window,
+            self.near,
+            &self.open,
+            &self.closed,
+            instant,
+        ) {
             return PutOutcome::OutOfWindow;
         }
         let lane = lane_of(self.lanes, stream);

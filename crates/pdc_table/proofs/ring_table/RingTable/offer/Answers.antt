@@ -2,7 +2,7 @@ use Rattle.std.proofs.Common.{arith, eqb, ◌≡◌, ◌<◌, ◌++◌, ◌∙�
 use Rattle.std.specs.List.{All, list_all}
 use Rattle.std.proofs.lemmas.Bool.{ne_eqb}
 use Rattle.std.proofs.lemmas.List.{length-map}
-use Rattle.pdc_row.specs.Rising.{Rises, is_near, place}
+use Rattle.pdc_row.specs.Rising.{AreNear, Rises, is_near, place}
 use Rattle.pdc_table.specs.Content.{HasPlaces, lane_of, streams_of}
 use Rattle.pdc_table.specs.Placing.{row_at, with_row}
 use Rattle.pdc_table.specs.Views.{OpenRowView}
@@ -21,23 +21,28 @@ use Rattle.pdc_table.proofs.RingRows.{ArePlaced, IsApart, near_apart, near_open}
 use Rattle.pdc_table.proofs.ring_table.RingTable.offer.Goals as goal
 use Rattle.pdc_table.proofs.ring_table.RingTable.offer.Given as given
 
-pub are_near-requires : goal.are_near-requires
-are_near-requires g c =
-    subst (λ ns. Rises 0 ns) (sym (ring_held (content_of c.self.inside) (with_ages c.self.inside.places.items c.self.inside.ages.items) c.self.inside.layouts.items c.self.inside.closed.items c.self.inside.open.items c.deref.result.now c.deref.ensures.value (aged_placed c.self.inside.places.items c.self.inside.ages.items c.self.inside.window c.self.inside.closed.items (omega (arith, c.self.invariant.content.window_least)) c.self.invariant.size c.self.invariant.ages c.self.invariant.closed_placed) (aged_placed c.self.inside.places.items c.self.inside.ages.items c.self.inside.window c.self.inside.open.items (omega (arith, c.self.invariant.content.window_least)) c.self.invariant.size c.self.invariant.ages c.self.invariant.placed) refl refl))
+pub is_in_window-requires-clause-rising : goal.is_in_window-requires-clause-rising
+is_in_window-requires-clause-rising g c =
+    subst (λ ns. Rises 0 ns) (sym (ring_held (content_of c.self.inside) (with_ages c.self.inside.places.items c.self.inside.ages.items) c.self.inside.layouts.items c.self.inside.closed.items c.self.inside.open.items c.deref-2.result.now c.deref-2.ensures.value (aged_placed c.self.inside.places.items c.self.inside.ages.items c.self.inside.window c.self.inside.closed.items (omega (arith, c.self.invariant.content.window_least)) c.self.invariant.size c.self.invariant.ages c.self.invariant.closed_placed) (aged_placed c.self.inside.places.items c.self.inside.ages.items c.self.inside.window c.self.inside.open.items (omega (arith, c.self.invariant.content.window_least)) c.self.invariant.size c.self.invariant.ages c.self.invariant.placed) refl refl))
     c.self.invariant.content.held_rise
 
-far : (g : given.Over) (c : goal.Then-not-are_near g) → is_near_all (content_of c.self.inside) c.args.instant ≡ false
-far g c =
-    ap (list_all (is_near c.self.inside.window c.args.instant)) (sym (ring_held (content_of c.self.inside) (with_ages c.self.inside.places.items c.self.inside.ages.items) c.self.inside.layouts.items c.self.inside.closed.items c.self.inside.open.items c.deref.result.now c.deref.ensures.value (aged_placed c.self.inside.places.items c.self.inside.ages.items c.self.inside.window c.self.inside.closed.items (omega (arith, c.self.invariant.content.window_least)) c.self.invariant.size c.self.invariant.ages c.self.invariant.closed_placed) (aged_placed c.self.inside.places.items c.self.inside.ages.items c.self.inside.window c.self.inside.open.items (omega (arith, c.self.invariant.content.window_least)) c.self.invariant.size c.self.invariant.ages c.self.invariant.placed) refl refl))
-    ∙ sym c.are_near.ensures ∙ c.if-not-are_near.true
+pub is_in_window-requires-clause-held_near : goal.is_in_window-requires-clause-held_near
+is_in_window-requires-clause-held_near g c =
+    subst (λ ns. AreNear c.self.inside.window ns) (sym (ring_held (content_of c.self.inside) (with_ages c.self.inside.places.items c.self.inside.ages.items) c.self.inside.layouts.items c.self.inside.closed.items c.self.inside.open.items c.deref-2.result.now c.deref-2.ensures.value (aged_placed c.self.inside.places.items c.self.inside.ages.items c.self.inside.window c.self.inside.closed.items (omega (arith, c.self.invariant.content.window_least)) c.self.invariant.size c.self.invariant.ages c.self.invariant.closed_placed) (aged_placed c.self.inside.places.items c.self.inside.ages.items c.self.inside.window c.self.inside.open.items (omega (arith, c.self.invariant.content.window_least)) c.self.invariant.size c.self.invariant.ages c.self.invariant.placed) refl refl))
+    c.self.invariant.content.held_near
 
-pub returns-then-not-are_near-clause-answer : goal.returns-then-not-are_near-clause-answer
-returns-then-not-are_near-clause-answer g c =
+far : (g : given.Over) (c : goal.Then-not-is_in_window g) → is_near_all (content_of c.self.inside) c.args.instant ≡ false
+far g c =
+    ap (list_all (is_near c.self.inside.window c.args.instant)) (sym (ring_held (content_of c.self.inside) (with_ages c.self.inside.places.items c.self.inside.ages.items) c.self.inside.layouts.items c.self.inside.closed.items c.self.inside.open.items c.deref-2.result.now c.deref-2.ensures.value (aged_placed c.self.inside.places.items c.self.inside.ages.items c.self.inside.window c.self.inside.closed.items (omega (arith, c.self.invariant.content.window_least)) c.self.invariant.size c.self.invariant.ages c.self.invariant.closed_placed) (aged_placed c.self.inside.places.items c.self.inside.ages.items c.self.inside.window c.self.inside.open.items (omega (arith, c.self.invariant.content.window_least)) c.self.invariant.size c.self.invariant.ages c.self.invariant.placed) refl refl))
+    ∙ sym c.is_in_window.ensures ∙ c.if-not-is_in_window.true
+
+pub returns-then-not-is_in_window-clause-answer : goal.returns-then-not-is_in_window-clause-answer
+returns-then-not-is_in_window-clause-answer g c =
     put_far (content_of c.self.inside) c.args.stream c.args.instant (cells_in g.B.Offered.view c.args.cells.now c.args.quality) c.if-instant-self.false (far g c)
     ∙ ap (λ (t : TableView). put_answer t.content c.args.stream c.args.instant (cells_in g.B.Offered.view c.args.cells.now c.args.quality)) c.self.view_is
 
-pub returns-then-not-are_near-clause-content : goal.returns-then-not-are_near-clause-content
-returns-then-not-are_near-clause-content g c =
+pub returns-then-not-is_in_window-clause-content : goal.returns-then-not-is_in_window-clause-content
+returns-then-not-is_in_window-clause-content g c =
     far_content c.args.self.now.content c.args.stream c.args.instant (cells_in g.B.Offered.view c.args.cells.now c.args.quality)
     (put_far (content_of c.self.inside) c.args.stream c.args.instant (cells_in g.B.Offered.view c.args.cells.now c.args.quality) c.if-instant-self.false (far g c)
     ∙ ap (λ (t : TableView). put_answer t.content c.args.stream c.args.instant (cells_in g.B.Offered.view c.args.cells.now c.args.quality)) c.self.view_is)
@@ -50,8 +55,8 @@ take-requires-clause-rising g c =
 pub take-requires-clause-room : goal.take-requires-clause-room
 take-requires-clause-room g c n =
     let near : is_near_all (content_of c.self.inside) c.args.instant ≡ true =
-    ap (list_all (is_near c.self.inside.window c.args.instant)) (sym (ring_held (content_of c.self.inside) (with_ages c.self.inside.places.items c.self.inside.ages.items) c.self.inside.layouts.items c.self.inside.closed.items c.self.inside.open.items c.deref.result.now c.deref.ensures.value (aged_placed c.self.inside.places.items c.self.inside.ages.items c.self.inside.window c.self.inside.closed.items (omega (arith, c.self.invariant.content.window_least)) c.self.invariant.size c.self.invariant.ages c.self.invariant.closed_placed) (aged_placed c.self.inside.places.items c.self.inside.ages.items c.self.inside.window c.self.inside.open.items (omega (arith, c.self.invariant.content.window_least)) c.self.invariant.size c.self.invariant.ages c.self.invariant.placed) refl refl))
-    ∙ sym c.if-not-are_near.ensures in
+    ap (list_all (is_near c.self.inside.window c.args.instant)) (sym (ring_held (content_of c.self.inside) (with_ages c.self.inside.places.items c.self.inside.ages.items) c.self.inside.layouts.items c.self.inside.closed.items c.self.inside.open.items c.deref-2.result.now c.deref-2.ensures.value (aged_placed c.self.inside.places.items c.self.inside.ages.items c.self.inside.window c.self.inside.closed.items (omega (arith, c.self.invariant.content.window_least)) c.self.invariant.size c.self.invariant.ages c.self.invariant.closed_placed) (aged_placed c.self.inside.places.items c.self.inside.ages.items c.self.inside.window c.self.inside.open.items (omega (arith, c.self.invariant.content.window_least)) c.self.invariant.size c.self.invariant.ages c.self.invariant.placed) refl refl))
+    ∙ sym c.if-not-is_in_window.ensures in
     let ring : IsRing c.self.inside.window c.self.inside.last (streams_of (content_of c.self.inside)) c.self.inside.columns (with_ages c.self.inside.places.items c.self.inside.ages.items) c.self.inside.open.items =
     aged_ring c.self.inside.window c.self.inside.last (streams_of (content_of c.self.inside)) c.self.inside.columns c.self.inside.places.items c.self.inside.ages.items c.self.inside.open.items (omega (arith, c.self.invariant.content.window_least)) c.self.invariant.ages
     (record { size = c.self.invariant.size; each = c.self.invariant.each; placed = c.self.invariant.placed; known = c.self.invariant.known }) in
@@ -79,8 +84,8 @@ take-requires-clause-columns g c k d l =
 
 near : (g : given.Over) (c : goal.After-take g) → is_near_all (content_of c.self.inside) c.args.instant ≡ true
 near g c =
-    ap (list_all (is_near c.self.inside.window c.args.instant)) (sym (ring_held (content_of c.self.inside) (with_ages c.self.inside.places.items c.self.inside.ages.items) c.self.inside.layouts.items c.self.inside.closed.items c.self.inside.open.items c.deref.result.now c.deref.ensures.value (aged_placed c.self.inside.places.items c.self.inside.ages.items c.self.inside.window c.self.inside.closed.items (omega (arith, c.self.invariant.content.window_least)) c.self.invariant.size c.self.invariant.ages c.self.invariant.closed_placed) (aged_placed c.self.inside.places.items c.self.inside.ages.items c.self.inside.window c.self.inside.open.items (omega (arith, c.self.invariant.content.window_least)) c.self.invariant.size c.self.invariant.ages c.self.invariant.placed) refl refl))
-    ∙ sym c.if-not-are_near.ensures
+    ap (list_all (is_near c.self.inside.window c.args.instant)) (sym (ring_held (content_of c.self.inside) (with_ages c.self.inside.places.items c.self.inside.ages.items) c.self.inside.layouts.items c.self.inside.closed.items c.self.inside.open.items c.deref-2.result.now c.deref-2.ensures.value (aged_placed c.self.inside.places.items c.self.inside.ages.items c.self.inside.window c.self.inside.closed.items (omega (arith, c.self.invariant.content.window_least)) c.self.invariant.size c.self.invariant.ages c.self.invariant.closed_placed) (aged_placed c.self.inside.places.items c.self.inside.ages.items c.self.inside.window c.self.inside.open.items (omega (arith, c.self.invariant.content.window_least)) c.self.invariant.size c.self.invariant.ages c.self.invariant.placed) refl refl))
+    ∙ sym c.if-not-is_in_window.ensures
 
 into : (g : given.Over) (c : goal.After-take g) → IsPutInto c.self.inside.window c.self.inside.last (streams_of (content_of c.self.inside)) c.self.inside.columns c.args.instant c.args.stream (lane_of (content_of c.self.inside) c.args.stream) (cells_in g.B.Offered.view c.args.cells.now c.args.quality) c.self.inside.places.items c.self.inside.open.items c.take.result c.take.new.places.items c.take.new.open.items
 into g c = record {
@@ -89,7 +94,7 @@ into g c = record {
   above = c.if-instant-self.false;
   rising = (near_open c.numbers_rise.ensures (content_of c.self.inside) (with_ages c.self.inside.places.items c.self.inside.ages.items) c.self.inside.open.items (aged_placed c.self.inside.places.items c.self.inside.ages.items c.self.inside.window c.self.inside.open.items (omega (arith, c.self.invariant.content.window_least)) c.self.invariant.size c.self.invariant.ages c.self.invariant.placed) c.self.invariant.content).0;
   apart = near_apart c.numbers_rise.ensures c.self.inside.window c.args.instant c.self.inside.closed.items c.self.inside.open.items
-      (ap (λ ns. list_all (is_near c.self.inside.window c.args.instant) (c.self.inside.closed.items ++ ns)) (sym c.deref.ensures.value) ∙ sym c.if-not-are_near.ensures);
+      (ap (λ ns. list_all (is_near c.self.inside.window c.args.instant) (c.self.inside.closed.items ++ ns)) (sym c.deref-2.ensures.value) ∙ sym c.if-not-is_in_window.ensures);
   answered = c.take.ensures.answer ∙ ap (λ l. answer_at (met_row c.args.instant (row_in c.self.inside.places.items c.self.inside.window c.args.instant)) c.args.stream l (cells_in g.B.Offered.view c.args.cells.now c.args.quality)) c.lane_of-lane.ensures;
   written = c.take.ensures.places
       ∙ ap (λ l. if is_taken c.take.result then set c.self.inside.places.items (c.args.instant % c.self.inside.window) (with_frame c.args.stream l (cells_in g.B.Offered.view c.args.cells.now c.args.quality) (base_row c.args.instant (row_in c.self.inside.places.items c.self.inside.window c.args.instant))) else c.self.inside.places.items) c.lane_of-lane.ensures;
@@ -124,7 +129,7 @@ answered g c =
 apart : (g : given.Over) (c : goal.After-take g) → IsApart c.self.inside.window c.args.instant c.self.inside.closed.items
 apart g c =
     near_closed c.numbers_rise.ensures (content_of c.self.inside) (with_ages c.self.inside.places.items c.self.inside.ages.items) c.self.inside.layouts.items c.args.instant c.self.inside.closed.items c.self.inside.open.items c.if-instant-self.false (aged_placed c.self.inside.places.items c.self.inside.ages.items c.self.inside.window c.self.inside.closed.items (omega (arith, c.self.invariant.content.window_least)) c.self.invariant.size c.self.invariant.ages c.self.invariant.closed_placed)
-    (ap (λ ns. list_all (is_near c.self.inside.window c.args.instant) (c.self.inside.closed.items ++ ns)) (sym c.deref.ensures.value) ∙ sym c.if-not-are_near.ensures) c.self.invariant.content
+    (ap (λ ns. list_all (is_near c.self.inside.window c.args.instant) (c.self.inside.closed.items ++ ns)) (sym c.deref-2.ensures.value) ∙ sym c.if-not-is_in_window.ensures) c.self.invariant.content
 
 written : (g : given.Over) (c : goal.After-take g) → c.take.new.places.items ≡ (if is_taken c.take.result
     then set c.self.inside.places.items (c.args.instant % c.self.inside.window) (with_frame c.args.stream (lane_of (content_of c.self.inside) c.args.stream) (cells_in g.B.Offered.view c.args.cells.now c.args.quality) (base_row c.args.instant (row_in c.self.inside.places.items c.self.inside.window c.args.instant)))
