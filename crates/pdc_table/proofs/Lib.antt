@@ -5,6 +5,7 @@ pub mod Follows
 pub mod Given
 pub mod Closes
 pub mod Keeps
+pub mod OpenRowParts
 pub mod Places
 pub mod Highest
 pub mod RingAges
