@@ -116,9 +116,14 @@ lane_dropped lane hs lent ws fs ss e k =
     ∙ ap (λ xs. columns_of xs fs ss) (rewritten hs (map (without_lane lane) hs) (length-map hs (without_lane lane)))
     ∙ lane_emptied lane hs fs ss
 
+-- all that are lent are written over
+pub all_rewritten : {X : Type 0} → (hs lent ws : List X) (x : X) → lent ≡ hs → ws ≡ replicate (length lent) x → refill (length hs) hs ws ≡ replicate (length hs) x
+all_rewritten hs lent ws x e k =
+    ap (λ xs. refill (length hs) hs xs) (k ∙ ap (λ xs. replicate (length xs) x) e)
+    ∙ rewritten hs (replicate (length hs) x) (length-replicate (length hs) x)
+
 pub all_dropped : (hs lent ws : List Held) (fs ss : List CellView) → lent ≡ hs → ws ≡ replicate (length lent) nothing → length hs ≤ length fs → length hs ≤ length ss → columns_of (refill (length hs) hs ws) fs ss ≡ replicate (length (columns_of hs fs ss)) empty_column
 all_dropped hs lent ws fs ss e k h m =
-    ap (λ xs. columns_of (refill (length hs) hs xs) fs ss) (k ∙ ap (λ xs. replicate (length xs) nothing) e)
-    ∙ ap (λ xs. columns_of xs fs ss) (rewritten hs (replicate (length hs) nothing) (length-replicate (length hs) nothing))
+    ap (λ xs. columns_of xs fs ss) (all_rewritten hs lent ws nothing e k)
     ∙ columns_emptied (length hs) fs ss h m
     ∙ ap (λ n. replicate n empty_column) (sym (columns_count hs fs ss h m))

@@ -92,7 +92,7 @@ impl OpenRow {
     {
         self.instant = instant;
         self.age = 0;
-        self.taken = falses(self.taken.len());
+        self.taken.as_mut_slice().fill(false);
         forget_all(self.held.as_mut_slice());
     }
 
