@@ -6,6 +6,7 @@ pub mod Given
 pub mod Closes
 pub mod HeldNear
 pub mod Keeps
+pub mod OpenRowParts
 pub mod Places
 pub mod Highest
 pub mod Remainders

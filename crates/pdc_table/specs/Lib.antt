@@ -6,6 +6,7 @@ pub mod Histories
 pub mod KeptRow
 pub mod Layout
 pub mod OpenInstants
+pub mod OpenRowParts
 pub mod Placing
 pub mod Ring
 pub mod RingRows

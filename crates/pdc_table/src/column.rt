@@ -1,106 +1,118 @@
-//! What was taken of one column at one instant.
-ghost use Rattle.std.specs.Prelude.{◌≡◌, ℕ, ◌+◌, ◌<◌, ◌≤◌, ◌++◌, List, length, map, option_copied, take, None, Some, IfSome};
+//! What was taken of one column at one instant, lane by lane. Which lanes hold a cell stands apart from the cells, so that a
+//! look at what is held reads no cell.
+ghost use Rattle.std.specs.Prelude.{◌≡◌, ℕ, ◌+◌, ◌<◌, ◌≤◌, ◌++◌, List, length, map, option_copied, replicate, take, None, Some, IfSome};
 ghost use Rattle.pdc_row.specs.CellView.{block_view};
-ghost use Rattle.pdc_table.specs.Row.{blocks_at, qualities_at};
-ghost use Rattle.pdc_row.specs.Quality.{worst_of};
-ghost use Rattle.pdc_table.specs.Chosen.{chosen_of, disagrees};
 ghost use Rattle.pdc_row.specs.Chosen.{present_of};
+ghost use Rattle.pdc_row.specs.Quality.{worst_of};
+ghost use Rattle.pdc_table.specs.Chosen.{are_different, chosen_of};
+ghost use Rattle.pdc_table.specs.OpenRowParts.{column_of, nothing, without_lane};
+ghost use Rattle.pdc_table.specs.Row.{blocks_at, qualities_at};
 ghost use Rattle.pdc_table.specs.Steps.{disagreement_at};
 ghost use Rattle.pdc_table.specs.Taking.{cell_in, holds_other, with_cell};
-ghost use Rattle.pdc_table.specs.Views.{empty_column};
 
 use pdc_block::Block;
 use pdc_cfg::Shape;
 use pdc_row::{Cell, Offered};
 use pdc_stat::set_absent;
-use std::marker::Model;
 
-/// What was taken of one column at one instant, lane by lane.
-#[derive(Drop)]
-pub struct Column {
-    /// Whether lane 0 holds a cell.
-    has_first: bool,
+/// Which lanes of a column hold a cell.
+#[derive(Clone, Copy)]
+pub struct Held {
+    /// Whether lane 0 holds one.
+    pub first: bool,
     /// Whether lane 1 holds one, in a table of two lanes.
-    has_second: bool,
-    first: Cell,
-    second: Cell,
+    pub second: bool,
 }
 
-impl Model for Column {
-    ghost use Rattle.pdc_table.specs.Views.{ColumnView, kept};
+/// What a column holds in which nothing was taken.
+pub const NOTHING: Held = Held {
+    first: false,
+    second: false,
+};
 
-    ghost Value = { ColumnView };
+/// No lane holds a cell.
+impl Default for Held {
+    ghost is_default = { λ held. held ≡ nothing };
 
-    ghost view = { λ column. record { first = kept column.has_first column.first; second = kept column.has_second column.second } };
-}
-
-/// The column in which nothing was taken.
-impl Default for Column {
-    ghost is_default = { λ column. column ≡ empty_column };
-
-    fn default() -> Column {
-        Column {
-            has_first: false,
-            has_second: false,
-            first: Cell::blank(),
-            second: Cell::blank(),
-        }
+    fn default() -> Held {
+        NOTHING
     }
 }
 
-impl Column {
-    /// The cell of the lowest lane whose block is present.
-    pub(crate) fn chosen(&self) -> Option<&Cell>
-        ensures { option_copied result ≡ chosen_of self.now }
+impl Held {
+    /// The cell of the lowest lane whose block is present, of these of the column.
+    #[inline]
+    pub(crate) fn chosen<'a>(&self, first: &'a Cell, second: &'a Cell) -> Option<&'a Cell>
+        ensures { option_copied result ≡ chosen_of (column_of self.now first.now second.now) }
     {
-        if self.has_first && self.first.is_present() {
-            return Some(&self.first);
+        if self.first && first.is_present() {
+            return Some(first);
         }
-        if self.has_second && self.second.is_present() {
-            return Some(&self.second);
+        if self.second && second.is_present() {
+            return Some(second);
         }
         None
     }
 
-    /// Puts a copy of the block, and the time quality byte of its frame, into the lane, 0 or else 1.
-    pub(crate) fn put<B: Offered>(&mut self, lane: usize, block: &B, quality: u8)
-        ensures { self.new ≡ with_cell lane (Some (record { block = B.view block.now; quality = quality })) self.old }
+    /// Puts a copy of the block, and the time quality byte of its frame, into the lane, 0 or else 1, of these of the column.
+    #[inline]
+    pub(crate) fn put<B: Offered>(
+        &mut self,
+        first: &mut Cell,
+        second: &mut Cell,
+        lane: usize,
+        block: &B,
+        quality: u8,
+    )
+        ensures { column_of self.new first.new second.new
+            ≡ with_cell lane (Some (record { block = B.view block.now; quality = quality })) (column_of self.old first.old second.old) }
     {
         if lane == 0 {
-            self.has_first = true;
-            self.first.set(block, quality);
+            self.first = true;
+            first.set(block, quality);
         } else {
-            self.has_second = true;
-            self.second.set(block, quality);
+            self.second = true;
+            second.set(block, quality);
         }
     }
 
     /// Empties the lane, 0 or else 1.
+    #[inline]
     pub(crate) fn clear(&mut self, lane: usize)
-        ensures { self.new ≡ with_cell lane None self.old }
+        ensures { self.new ≡ without_lane lane self.old }
     {
         if lane == 0 {
-            self.has_first = false;
+            self.first = false;
         } else {
-            self.has_second = false;
+            self.second = false;
         }
     }
 
-    /// Whether the lane, 0 or else 1, holds another block than this; a lane that holds nothing does not.
-    pub(crate) fn holds_other<B: Offered>(&self, lane: usize, block: &B) -> bool
-        ensures { result ≡ holds_other (cell_in lane self.now) (B.view block.now) }
+    /// Whether the lane, 0 or else 1, of these of the column holds another block than this; a lane that holds nothing does not.
+    #[inline]
+    pub(crate) fn holds_other<B: Offered>(
+        &self,
+        first: &Cell,
+        second: &Cell,
+        lane: usize,
+        block: &B,
+    ) -> bool
+        ensures { result ≡ holds_other (cell_in lane (column_of self.now first.now second.now)) (B.view block.now) }
     {
         if lane == 0 {
-            self.has_first && !self.first.holds(block)
+            self.first && !first.holds(block)
         } else {
-            self.has_second && !self.second.holds(block)
+            self.second && !second.holds(block)
         }
     }
 
-    /// Writes what the column gives to a row behind so many blocks, and answers how many there are then: with a shape one more,
-    /// and its time quality if it is present.
+    /// Writes what the column of these cells gives to a row behind so many blocks, and answers how many there are then: with a
+    /// shape one more, and its time quality if it is present.
+    #[inline]
     pub(crate) fn give(
         &self,
+        first: &Cell,
+        second: &Cell,
         shape: Option<Shape>,
         blocks: &mut [Block],
         count: usize,
@@ -108,16 +120,18 @@ impl Column {
     ) -> usize
         requires room { count < length blocks.old }
         requires fits { IfSome quality.old (λ n. n ≤ 15) }
-        ensures blocks { map block_view (take result blocks.new) ≡ map block_view (take count blocks.old) ++ blocks_at shape self.now }
+        ensures blocks { map block_view (take result blocks.new)
+            ≡ map block_view (take count blocks.old) ++ blocks_at shape (column_of self.now first.now second.now) }
         ensures len { length blocks.new ≡ length blocks.old }
         ensures grown { result ≤ count + 1 }
-        ensures quality { (ns : List ℕ) → worst_of quality.new ns ≡ worst_of quality.old (qualities_at shape self.now ++ ns) }
+        ensures quality { (ns : List ℕ) → worst_of quality.new ns
+            ≡ worst_of quality.old (qualities_at shape (column_of self.now first.now second.now) ++ ns) }
         ensures quality_fits { IfSome quality.new (λ n. n ≤ 15) }
     {
         let Some(shape) = shape else {
             return count;
         };
-        let Some(cell) = self.chosen() else {
+        let Some(cell) = self.chosen(first, second) else {
             set_absent(&mut blocks[count], shape);
             return count + 1;
         };
@@ -130,26 +144,39 @@ impl Column {
         count + 1
     }
 
-    /// Whether both lanes hold present blocks, and they differ.
-    pub(crate) fn disagrees(&self) -> bool
-        ensures { result ≡ disagrees self.now }
-    {
-        self.has_second
-            && self.has_first
-            && self.first.is_present()
-            && self.second.is_present()
-            && !self.first.agrees(&self.second)
-    }
-
-    /// One where the column has a shape and its lanes disagree.
-    pub(crate) fn disagreements(&self, shape: Option<Shape>) -> u64
-        ensures value { result ≡ disagreement_at shape self.now }
+    /// One where the column of these cells has a shape, and its lanes hold present blocks that differ.
+    #[inline]
+    pub(crate) fn disagreements(&self, first: &Cell, second: &Cell, shape: Option<Shape>) -> u64
+        ensures value { result ≡ disagreement_at shape (column_of self.now first.now second.now) }
         ensures most { result ≤ 1 }
     {
-        if shape.is_some() && self.disagrees() {
+        if self.second && self.first && shape.is_some() && differ(first, second) {
             1
         } else {
             0
         }
+    }
+}
+
+/// Whether both blocks are present, and they differ.
+fn differ(first: &Cell, second: &Cell) -> bool
+    ensures { result ≡ are_different (present_of (Some first.now)) (present_of (Some second.now)) }
+{
+    first.is_present() && second.is_present() && !first.agrees(second)
+}
+
+/// Empties each column.
+pub(crate) fn forget_all(held: &mut [Held])
+    ensures { held.new ≡ replicate (length held.old) nothing }
+{
+    held.fill(NOTHING);
+}
+
+/// Empties the lane of each column.
+pub(crate) fn forget_lane(held: &mut [Held], lane: usize)
+    ensures { held.new ≡ map (without_lane lane) held.old }
+{
+    for held in held.iter_mut() {
+        held.clear(lane);
     }
 }

@@ -26,7 +26,7 @@ mod table_trait;
 mod wait_rule;
 
 use closing_layout::ClosingLayout;
-use column::Column;
+use column::Held;
 pub use laws::{
     ages_are_ticks, blocks_stand_in_their_columns, cells_are_first_puts, instants_open_where_taken,
     rows_close_where_due, rows_come_out_rising,

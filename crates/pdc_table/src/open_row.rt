@@ -7,17 +7,20 @@ ghost use Rattle.pdc_row.specs.RowView.{row_view};
 ghost use Rattle.pdc_table.specs.RingRows.{at_age};
 ghost use Rattle.pdc_table.specs.Row.{blocks_at, qualities_at, row_of};
 ghost use Rattle.pdc_table.specs.Closing.{aged, all_taken, is_due};
-ghost use Rattle.pdc_table.specs.Steps.{answer_at, disagreements_of, is_taken};
+ghost use Rattle.pdc_table.specs.Steps.{answer_at, disagreement_at, disagreements_of, is_taken};
 ghost use Rattle.pdc_table.specs.Layout.{layout_view};
-ghost use Rattle.pdc_table.specs.Taking.{cells_in, conflicts, with_cell, with_cells, with_frame, without_column, without_stream};
+ghost use Rattle.pdc_table.specs.Taking.{cell_in, cells_in, conflicts, holds_other, with_cells, with_frame, without_column, without_stream};
+ghost use Rattle.pdc_table.specs.OpenRowParts.{columns_of, nothing};
 ghost use Rattle.pdc_table.specs.Views.{blank_row, empty_column};
 
-use crate::{Column, MAX_COLUMNS, PutOutcome, RowLayout, WaitRule};
+use crate::column::{NOTHING, forget_all, forget_lane};
+use crate::{Held, MAX_COLUMNS, PutOutcome, RowLayout, WaitRule};
 use arrayvec::ArrayVec;
 use pdc_block::Block;
 use pdc_cfg::Shape;
-use pdc_row::{DueRow, Offered};
+use pdc_row::{Cell, DueRow, Offered};
 use pdc_stat::set_absent;
+use std::array;
 use std::marker::Model;
 
 /// The quality of a row in which no block is present.
@@ -38,16 +41,32 @@ pub struct OpenRow {
     age: u64,
     /// Which streams were taken.
     taken: ArrayVec<bool, MAX_COLUMNS>,
-    /// What each column holds.
-    columns: ArrayVec<Column, MAX_COLUMNS>,
+    /// Which lanes of each column hold a cell: all that a row that begins writes, and all that most looks at it read.
+    held: ArrayVec<Held, MAX_COLUMNS>,
+    /// The cell of lane 0 of each column, where it is held.
+    first: [Cell; MAX_COLUMNS],
+    /// The cell of lane 1 of each column, where it is held: behind all of lane 0, since a table of one lane has none.
+    second: [Cell; MAX_COLUMNS],
 }
 
 impl Model for OpenRow {
+    ghost use Rattle.std.specs.Prelude.{◌≤◌, length};
+    ghost use Rattle.pdc_table.specs.OpenRowParts.{columns_of};
     ghost use Rattle.pdc_table.specs.Views.{OpenRowView};
 
     ghost Value = { OpenRowView };
 
-    ghost view = { λ row. record { instant = row.instant; age = row.age; taken = row.taken.items; columns = row.columns.items } };
+    ghost view = { λ row. record {
+      instant = row.instant;
+      age = row.age;
+      taken = row.taken.items;
+      columns = columns_of row.held.items row.first row.second;
+    } };
+
+    ghost invariant = { λ row. record {
+      first : length row.held.items ≤ length row.first;
+      second : length row.held.items ≤ length row.second;
+    } };
 }
 
 impl OpenRow {
@@ -57,13 +76,13 @@ impl OpenRow {
         requires columns { places.columns ≤ MAX_COLUMNS }
         ensures { result ≡ blank_row places.streams places.columns instant }
     {
-        let mut columns = ArrayVec::from_array_in((), Default::default());
-        columns.truncate(places.columns);
         OpenRow {
             instant,
             age: 0,
             taken: falses(places.streams),
-            columns,
+            held: nothings(places.columns),
+            first: array::from_fn(|_| Cell::blank()),
+            second: array::from_fn(|_| Cell::blank()),
         }
     }
 
@@ -73,8 +92,8 @@ impl OpenRow {
     {
         self.instant = instant;
         self.age = 0;
-        self.taken = falses(self.taken.len());
-        empty(self.columns.as_mut_slice());
+        self.taken.as_mut_slice().fill(false);
+        forget_all(self.held.as_mut_slice());
     }
 
     /// The instant.
@@ -98,7 +117,14 @@ impl OpenRow {
         ensures { self.new ≡ with_frame stream lane (cells_in B.view cells.now quality) self.old }
     {
         self.taken[stream] = true;
-        put_cells(self.columns.as_mut_slice(), lane, cells, quality);
+        put_cells(
+            self.held.as_mut_slice(),
+            &mut self.first,
+            &mut self.second,
+            lane,
+            cells,
+            quality,
+        );
     }
 
     /// Takes the frame, unless the stream was taken already: then the first stays.
@@ -132,12 +158,7 @@ impl OpenRow {
         requires { All (λ (cell : ℕ × B). cell.0 < length self.now.columns) cells.now }
         ensures { (quality : ℕ) → result ≡ conflicts lane (cells_in B.view cells.now quality) self.now.columns }
     {
-        for (column, block) in cells {
-            if self.columns[*column].holds_other(lane, block) {
-                return true;
-            }
-        }
-        false
+        any_other(self.held.as_slice(), &self.first, &self.second, lane, cells)
     }
 
     /// Forgets what was taken of a stream: with one lane its own column, with two its lane of each column.
@@ -148,9 +169,9 @@ impl OpenRow {
     {
         self.taken[stream] = false;
         if lanes == 1 {
-            self.columns[stream] = Column::default();
+            self.held[stream] = NOTHING;
         } else {
-            clear_lane(self.columns.as_mut_slice(), stream);
+            forget_lane(self.held.as_mut_slice(), stream);
         }
     }
 
@@ -159,7 +180,7 @@ impl OpenRow {
         requires { column < length self.old.columns }
         ensures { self.new ≡ without_column column self.old }
     {
-        self.columns[column] = Column::default();
+        self.held[column] = NOTHING;
     }
 
     /// Counts one more tick.
@@ -180,7 +201,7 @@ impl OpenRow {
     pub(crate) fn is_due(&self, age: u64, required: &[bool], rule: WaitRule) -> bool
         ensures { result ≡ is_due required.now rule (at_age age self.now) }
     {
-        all_taken(required, self.taken.as_slice()) || rule.is_over(age, self.instant)
+        rule.is_over(age, self.instant) || all_taken(required, self.taken.as_slice())
     }
 
     /// How many columns with a shape hold present blocks in both lanes that differ.
@@ -190,9 +211,13 @@ impl OpenRow {
     {
         let mut count = 0;
         for (place, shape) in layout.shapes.as_slice().iter().enumerate() {
-            if let Some(column) = self.columns.as_slice().get(place) {
-                count += column.disagreements(*shape);
-            }
+            count += disagreements_at(
+                self.held.as_slice(),
+                &self.first,
+                &self.second,
+                place,
+                *shape,
+            );
         }
         count
     }
@@ -235,7 +260,9 @@ impl OpenRow {
         for (place, shape) in layout.shapes.as_slice().iter().enumerate() {
             make_slot(blocks, count);
             count = give(
-                self.columns.as_slice(),
+                self.held.as_slice(),
+                &self.first,
+                &self.second,
                 place,
                 *shape,
                 blocks.as_mut_slice(),
@@ -256,6 +283,16 @@ pub fn falses(count: usize) -> ArrayVec<bool, MAX_COLUMNS>
     let mut falses = ArrayVec::from_array_in((), [false; MAX_COLUMNS]);
     falses.truncate(count);
     falses
+}
+
+/// So many columns in which nothing was taken.
+fn nothings(count: usize) -> ArrayVec<Held, MAX_COLUMNS>
+    requires { count ≤ MAX_COLUMNS }
+    ensures { result.items ≡ replicate count nothing }
+{
+    let mut nothings = ArrayVec::from_array_in((), [NOTHING; MAX_COLUMNS]);
+    nothings.truncate(count);
+    nothings
 }
 
 /// Makes a slot behind so many blocks, where there is none.
@@ -282,61 +319,131 @@ fn all_taken(required: &[bool], taken: &[bool]) -> bool
     true
 }
 
-/// Puts the blocks into their columns, in this lane.
-fn put_cells<B: Offered>(columns: &mut [Column], lane: usize, cells: &[(usize, B)], quality: u8)
-    requires { All (λ (cell : ℕ × B). cell.0 < length columns.old) cells.now }
-    ensures { columns.new ≡ with_cells lane (cells_in B.view cells.now quality) columns.old }
+/// Whether the lane of the column holds another block than this; a lane that holds nothing does not.
+#[inline]
+fn holds_other<B: Offered>(
+    held: &[Held],
+    first: &[Cell],
+    second: &[Cell],
+    column: usize,
+    lane: usize,
+    block: &B,
+) -> bool
+    requires column { column < length held.now }
+    requires first { length held.now ≤ length first.now }
+    requires second { length held.now ≤ length second.now }
+    ensures { result ≡ holds_other (cell_in lane (slice_index_or (columns_of held.now first.now second.now) column empty_column))
+        (B.view block.now) }
+{
+    held[column].holds_other(&first[column], &second[column], lane, block)
+}
+
+/// Whether some of these blocks differs from what this lane of its column holds.
+fn any_other<B: Offered>(
+    held: &[Held],
+    first: &[Cell],
+    second: &[Cell],
+    lane: usize,
+    cells: &[(usize, B)],
+) -> bool
+    requires columns { All (λ (cell : ℕ × B). cell.0 < length held.now) cells.now }
+    requires first { length held.now ≤ length first.now }
+    requires second { length held.now ≤ length second.now }
+    ensures { (quality : ℕ) → result ≡ conflicts lane (cells_in B.view cells.now quality) (columns_of held.now first.now second.now) }
 {
     for (column, block) in cells {
-        columns[*column].put(lane, block, quality);
+        if holds_other(held, first, second, *column, lane, block) {
+            return true;
+        }
+    }
+    false
+}
+
+/// Puts the blocks into their columns, in this lane.
+#[inline]
+fn put_cells<B: Offered>(
+    held: &mut [Held],
+    first: &mut [Cell],
+    second: &mut [Cell],
+    lane: usize,
+    cells: &[(usize, B)],
+    quality: u8,
+)
+    requires columns { All (λ (cell : ℕ × B). cell.0 < length held.old) cells.now }
+    requires first { length held.old ≤ length first.old }
+    requires second { length held.old ≤ length second.old }
+    ensures columns { columns_of held.new first.new second.new
+        ≡ with_cells lane (cells_in B.view cells.now quality) (columns_of held.old first.old second.old) }
+    ensures held { length held.new ≡ length held.old }
+    ensures first { length first.new ≡ length first.old }
+    ensures second { length second.new ≡ length second.old }
+{
+    for (column, block) in cells {
+        held[*column].put(
+            &mut first[*column],
+            &mut second[*column],
+            lane,
+            block,
+            quality,
+        );
+    }
+}
+
+/// How many disagreements the column at this place gives, one or none; past the last column there is nothing.
+#[inline]
+#[tactic(auto, using(crate::proofs::OpenRowParts::column_at, crate::proofs::OpenRowParts::column_past))]
+fn disagreements_at(
+    held: &[Held],
+    first: &[Cell],
+    second: &[Cell],
+    place: usize,
+    shape: Option<Shape>,
+) -> u64
+    requires first { length held.now ≤ length first.now }
+    requires second { length held.now ≤ length second.now }
+    ensures value { result ≡ disagreement_at shape (slice_index_or (columns_of held.now first.now second.now) place empty_column) }
+    ensures most { result ≤ 1 }
+{
+    if place < held.len() {
+        held[place].disagreements(&first[place], &second[place], shape)
+    } else {
+        0
     }
 }
 
 /// Writes what the column at this place gives to a row behind so many blocks, and answers how many there are then; past the
 /// last column there is nothing.
+#[tactic(auto, using(crate::proofs::OpenRowParts::column_at, crate::proofs::OpenRowParts::column_past))]
 fn give(
-    columns: &[Column],
+    held: &[Held],
+    first: &[Cell],
+    second: &[Cell],
     place: usize,
     shape: Option<Shape>,
     blocks: &mut [Block],
     count: usize,
     quality: &mut Option<u8>,
 ) -> usize
+    requires first { length held.now ≤ length first.now }
+    requires second { length held.now ≤ length second.now }
     requires room { count < length blocks.old }
     requires fits { IfSome quality.old (λ n. n ≤ 15) }
-    ensures blocks { map block_view (take result blocks.new)
-        ≡ map block_view (take count blocks.old) ++ blocks_at shape (slice_index_or columns.now place empty_column) }
+    ensures blocks { map block_view (take result blocks.new) ≡ map block_view (take count blocks.old)
+        ++ blocks_at shape (slice_index_or (columns_of held.now first.now second.now) place empty_column) }
     ensures len { length blocks.new ≡ length blocks.old }
     ensures grown { result ≤ count + 1 }
-    ensures quality { (ns : List ℕ) → worst_of quality.new ns
-        ≡ worst_of quality.old (qualities_at shape (slice_index_or columns.now place empty_column) ++ ns) }
+    ensures quality { (ns : List ℕ) → worst_of quality.new ns ≡ worst_of quality.old
+        (qualities_at shape (slice_index_or (columns_of held.now first.now second.now) place empty_column) ++ ns) }
     ensures quality_fits { IfSome quality.new (λ n. n ≤ 15) }
 {
-    match columns.get(place) {
-        Some(column) => column.give(shape, blocks, count, quality),
-        None => match shape {
-            Some(shape) => {
-                set_absent(&mut blocks[count], shape);
-                count + 1
-            }
-            None => count,
-        },
+    if place < held.len() {
+        return held[place].give(&first[place], &second[place], shape, blocks, count, quality);
     }
-}
-
-/// Empties each column.
-fn empty(columns: &mut [Column])
-    ensures { columns.new ≡ replicate (length columns.old) empty_column }
-{
-    clear_lane(columns, 0);
-    clear_lane(columns, 1);
-}
-
-/// Empties the lane of each column.
-fn clear_lane(columns: &mut [Column], lane: usize)
-    ensures { columns.new ≡ map (with_cell lane None) columns.old }
-{
-    for column in columns.iter_mut() {
-        column.clear(lane);
+    match shape {
+        Some(shape) => {
+            set_absent(&mut blocks[count], shape);
+            count + 1
+        }
+        None => count,
     }
 }

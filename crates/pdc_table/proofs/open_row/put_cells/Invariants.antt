@@ -1,10 +1,14 @@
 use Rattle.std.proofs.Common.{◌≡◌, drop, length}
+use Rattle.pdc_table.specs.OpenRowParts.{columns_of}
 use Rattle.pdc_table.specs.Taking.{cells_in, with_cells}
 use Rattle.pdc_table.proofs.open_row.put_cells.Given as goal
 
 -- what is left goes into the columns as they are
 abbrev pub invariant-loop-column : goal.invariant-loop-column
 invariant-loop-column g l = record {
-  columns : with_cells l.lane (cells_in g.B.Offered.view (drop l.column-index l.cells) l.quality) l.columns ≡ with_cells l.lane (cells_in g.B.Offered.view l.cells l.quality) l.initial.columns;
-  len : length l.columns ≡ length l.initial.columns;
+  columns : with_cells l.lane (cells_in g.B.Offered.view (drop l.column-index l.cells) l.quality) (columns_of l.held l.first l.second)
+      ≡ with_cells l.lane (cells_in g.B.Offered.view l.cells l.quality) (columns_of l.initial.held l.initial.first l.initial.second);
+  held : length l.held ≡ length l.initial.held;
+  first : length l.first ≡ length l.initial.first;
+  second : length l.second ≡ length l.initial.second;
 }

@@ -1,11 +1,12 @@
-use Rattle.std.proofs.Common.{◌≡◌, replicate, take, ap, refl, ◌∙◌}
-use Rattle.pdc_table.specs.Views.{empty_column}
-use Rattle.pdc_table.proofs.Blank.{front_same}
+use Rattle.std.proofs.Common.{arith, refl}
+use Rattle.pdc_table.proofs.OpenRowParts.{columns_emptied}
 use Rattle.pdc_table.proofs.open_row.OpenRow.blank.Goals as goal
 
 pub returns : goal.returns
 returns c =
-    let columns : c.truncate.new.self.items ≡ replicate c.args.places.columns empty_column =
-    c.truncate.ensures.items ∙ ap (take c.args.places.columns) c.from_array_in-columns.ensures.items
-    ∙ front_same c.default.result c.args.places.columns 16 empty_column c.default.ensures.long c.default.ensures.at c.requires.columns in
-    rw (c.falses.ensures, columns) refl
+    rw (
+      c.falses.ensures,
+      c.nothings.ensures,
+      columns_emptied c.args.places.columns c.from_fn.result c.from_fn-2.result
+          (omega (arith, c.requires.columns, c.from_fn.ensures.items.long)) (omega (arith, c.requires.columns, c.from_fn-2.ensures.items.long)),
+    ) refl

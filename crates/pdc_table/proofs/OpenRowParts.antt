@@ -1,0 +1,129 @@
+-- The columns of an open row whose flags and cells stand in lists of their own.
+use Rattle.std.proofs.Common.{◌≡◌, ℕ, ◌<◌, ◌≤◌, Bool, true, false, cond, eqb, List, [], ◌∷◌, length, get_or, set, replicate, map, None, Option, append-nil, ap, sym, refl, ◌∙◌, arith, zero, suc}
+use Rattle.std.specs.List.{refill}
+use Rattle.std.proofs.lemmas.List.{drop_all, length-map, length-replicate, length-set, take_all}
+use Rattle.pdc_row.specs.CellView.{CellView}
+use Rattle.pdc_table.specs.OpenRowParts.{column_of, columns_of, nothing, without_lane}
+use Rattle.pdc_table.specs.Taking.{with_cell}
+use Rattle.pdc_table.specs.Views.{ColumnView, empty_column}
+use Rattle.pdc_table.specs.declared.column.Held.{Held}
+
+pub columns_count : (hs : List Held) (fs ss : List CellView) → length hs ≤ length fs → length hs ≤ length ss → length (columns_of hs fs ss) ≡ length hs
+columns_count [] fs ss h k = refl
+columns_count (x ∷ hs) [] ss h k = absurd (omega arith)
+columns_count (x ∷ hs) (f ∷ fs) [] h k = absurd (omega arith)
+columns_count (x ∷ hs) (f ∷ fs) (s ∷ ss) h k = ap suc (columns_count hs fs ss (omega arith) (omega arith))
+
+-- one column
+pub column_at : (hs : List Held) (fs ss : List CellView) (i : ℕ) (d : ColumnView) (x : Held) (f s : CellView) → i < length hs → length hs ≤ length fs → length hs ≤ length ss → get_or (columns_of hs fs ss) i d ≡ column_of (get_or hs i x) (get_or fs i f) (get_or ss i s)
+column_at [] fs ss i d x f s l h k = absurd (omega arith)
+column_at (y ∷ hs) [] ss i d x f s l h k = absurd (omega arith)
+column_at (y ∷ hs) (g ∷ fs) [] i d x f s l h k = absurd (omega arith)
+column_at (y ∷ hs) (g ∷ fs) (t ∷ ss) zero d x f s l h k = refl
+column_at (y ∷ hs) (g ∷ fs) (t ∷ ss) (suc i) d x f s l h k = column_at hs fs ss i d x f s (omega arith) (omega arith) (omega arith)
+
+-- past the last column
+pub column_past : (hs : List Held) (fs ss : List CellView) (i : ℕ) (d : ColumnView) → length hs ≤ i → get_or (columns_of hs fs ss) i d ≡ d
+column_past [] fs ss i d l = refl
+column_past (y ∷ hs) [] ss i d l = refl
+column_past (y ∷ hs) (g ∷ fs) [] i d l = refl
+column_past (y ∷ hs) (g ∷ fs) (t ∷ ss) zero d l = absurd (omega arith)
+column_past (y ∷ hs) (g ∷ fs) (t ∷ ss) (suc i) d l = column_past hs fs ss i d (omega arith)
+
+-- what is held of a column is written, and its cells
+pub column_written : (hs : List Held) (fs ss : List CellView) (i : ℕ) (x : Held) (f s : CellView) → i < length hs → length hs ≤ length fs → length hs ≤ length ss → columns_of (set hs i x) (set fs i f) (set ss i s) ≡ set (columns_of hs fs ss) i (column_of x f s)
+column_written [] fs ss i x f s l h k = absurd (omega arith)
+column_written (y ∷ hs) [] ss i x f s l h k = absurd (omega arith)
+column_written (y ∷ hs) (g ∷ fs) [] i x f s l h k = absurd (omega arith)
+column_written (y ∷ hs) (g ∷ fs) (t ∷ ss) zero x f s l h k = refl
+column_written (y ∷ hs) (g ∷ fs) (t ∷ ss) (suc i) x f s l h k = ap (λ cs. column_of y g t ∷ cs) (column_written hs fs ss i x f s (omega arith) (omega arith) (omega arith))
+
+pub first_written : (hs : List Held) (fs ss : List CellView) (i : ℕ) (x : Held) (f s : CellView) → i < length hs → length hs ≤ length fs → length hs ≤ length ss → columns_of (set hs i x) (set fs i f) ss ≡ set (columns_of hs fs ss) i (column_of x f (get_or ss i s))
+first_written [] fs ss i x f s l h k = absurd (omega arith)
+first_written (y ∷ hs) [] ss i x f s l h k = absurd (omega arith)
+first_written (y ∷ hs) (g ∷ fs) [] i x f s l h k = absurd (omega arith)
+first_written (y ∷ hs) (g ∷ fs) (t ∷ ss) zero x f s l h k = refl
+first_written (y ∷ hs) (g ∷ fs) (t ∷ ss) (suc i) x f s l h k = ap (λ cs. column_of y g t ∷ cs) (first_written hs fs ss i x f s (omega arith) (omega arith) (omega arith))
+
+pub second_written : (hs : List Held) (fs ss : List CellView) (i : ℕ) (x : Held) (f s : CellView) → i < length hs → length hs ≤ length fs → length hs ≤ length ss → columns_of (set hs i x) fs (set ss i s) ≡ set (columns_of hs fs ss) i (column_of x (get_or fs i f) s)
+second_written [] fs ss i x f s l h k = absurd (omega arith)
+second_written (y ∷ hs) [] ss i x f s l h k = absurd (omega arith)
+second_written (y ∷ hs) (g ∷ fs) [] i x f s l h k = absurd (omega arith)
+second_written (y ∷ hs) (g ∷ fs) (t ∷ ss) zero x f s l h k = refl
+second_written (y ∷ hs) (g ∷ fs) (t ∷ ss) (suc i) x f s l h k = ap (λ cs. column_of y g t ∷ cs) (second_written hs fs ss i x f s (omega arith) (omega arith) (omega arith))
+
+-- a column is emptied
+pub column_emptied : (hs : List Held) (fs ss : List CellView) (i : ℕ) → i < length hs → length hs ≤ length fs → length hs ≤ length ss → columns_of (set hs i nothing) fs ss ≡ set (columns_of hs fs ss) i empty_column
+column_emptied [] fs ss i l h k = absurd (omega arith)
+column_emptied (y ∷ hs) [] ss i l h k = absurd (omega arith)
+column_emptied (y ∷ hs) (g ∷ fs) [] i l h k = absurd (omega arith)
+column_emptied (y ∷ hs) (g ∷ fs) (t ∷ ss) zero l h k = refl
+column_emptied (y ∷ hs) (g ∷ fs) (t ∷ ss) (suc i) l h k = ap (λ cs. column_of y g t ∷ cs) (column_emptied hs fs ss i (omega arith) (omega arith) (omega arith))
+
+-- all columns are empty
+pub columns_emptied : (n : ℕ) (fs ss : List CellView) → n ≤ length fs → n ≤ length ss → columns_of (replicate n nothing) fs ss ≡ replicate n empty_column
+columns_emptied zero fs ss h k = refl
+columns_emptied (suc n) [] ss h k = absurd (omega arith)
+columns_emptied (suc n) (f ∷ fs) [] h k = absurd (omega arith)
+columns_emptied (suc n) (f ∷ fs) (s ∷ ss) h k = ap (λ cs. empty_column ∷ cs) (columns_emptied n fs ss (omega arith) (omega arith))
+
+lane_emptied_at : (is_first : Bool) (x : Held) (f s : CellView) → column_of (cond is_first (record x { first = false }) (record x { second = false })) f s ≡ cond is_first (record (column_of x f s) { first = None }) (record (column_of x f s) { second = None })
+lane_emptied_at true x f s = refl
+lane_emptied_at false x f s = refl
+
+-- a lane of each column is emptied
+pub lane_emptied : (lane : ℕ) (hs : List Held) (fs ss : List CellView) → columns_of (map (without_lane lane) hs) fs ss ≡ map (with_cell lane None) (columns_of hs fs ss)
+lane_emptied lane [] fs ss = refl
+lane_emptied lane (x ∷ hs) [] ss = refl
+lane_emptied lane (x ∷ hs) (f ∷ fs) [] = refl
+lane_emptied lane (x ∷ hs) (f ∷ fs) (s ∷ ss) = rw (lane_emptied_at (eqb lane 0) x f s, lane_emptied lane hs fs ss) refl
+
+-- one column, of cells that were read
+pub column_read : (hs : List Held) (fs ss : List CellView) (i : ℕ) (d : ColumnView) (x : Held) (f s : CellView) → i < length hs → length hs ≤ length fs → length hs ≤ length ss → f ≡ get_or fs i f → s ≡ get_or ss i s → get_or (columns_of hs fs ss) i d ≡ column_of (get_or hs i x) f s
+column_read hs fs ss i d x f s l h k e m =
+    column_at hs fs ss i d x f s l h k
+    ∙ ap (λ g. column_of (get_or hs i x) g (get_or ss i s)) (sym e)
+    ∙ ap (λ t. column_of (get_or hs i x) f t) (sym m)
+
+-- a cell is put into a column
+pub column_put : (hs : List Held) (fs ss : List CellView) (i lane : ℕ) (cell : Option CellView) (x y : Held) (f s g t : CellView) → i < length hs → length hs ≤ length fs → length hs ≤ length ss → column_of y g t ≡ with_cell lane cell (column_of (get_or hs i x) (get_or fs i f) (get_or ss i s)) → columns_of (set hs i y) (set fs i g) (set ss i t) ≡ set (columns_of hs fs ss) i (with_cell lane cell (get_or (columns_of hs fs ss) i empty_column))
+column_put hs fs ss i lane cell x y f s g t l h k p =
+    column_written hs fs ss i y g t l h k
+    ∙ ap (λ c. set (columns_of hs fs ss) i c) (p ∙ ap (with_cell lane cell) (sym (column_at hs fs ss i empty_column x f s l h k)))
+
+-- how many columns there are
+pub columns_seen : (columns : List ColumnView) (hs : List Held) (fs ss : List CellView) → columns_of hs fs ss ≡ columns → length hs ≤ length fs → length hs ≤ length ss → length columns ≡ length hs
+columns_seen columns hs fs ss e h k = ap length (sym e) ∙ columns_count hs fs ss h k
+
+-- as many again, in place of those that were there
+rewritten : {X : Type 0} → (hs ws : List X) → length ws ≡ length hs → refill (length hs) hs ws ≡ ws
+rewritten hs ws k = rw (drop_all (length ws) hs (omega arith), append-nil ws) (take_all (length hs) ws (omega arith))
+
+-- one of those that are lent is written over
+pub one_rewritten : {X : Type 0} → (hs lent : List X) (i : ℕ) (x : X) → lent ≡ hs → refill (length hs) hs (set lent i x) ≡ set hs i x
+one_rewritten hs lent i x e = ap (λ ws. refill (length hs) hs (set ws i x)) e ∙ rewritten hs (set hs i x) (length-set hs i x)
+
+-- the same in a row: what is lent is written over
+pub one_dropped : (hs lent : List Held) (fs ss : List CellView) (i : ℕ) → lent ≡ hs → i < length hs → length hs ≤ length fs → length hs ≤ length ss → columns_of (refill (length hs) hs (set lent i nothing)) fs ss ≡ set (columns_of hs fs ss) i empty_column
+one_dropped hs lent fs ss i e l h k =
+    ap (λ ws. columns_of (refill (length hs) hs (set ws i nothing)) fs ss) e
+    ∙ ap (λ ws. columns_of ws fs ss) (rewritten hs (set hs i nothing) (length-set hs i nothing))
+    ∙ column_emptied hs fs ss i l h k
+
+pub lane_dropped : (lane : ℕ) (hs lent ws : List Held) (fs ss : List CellView) → lent ≡ hs → ws ≡ map (without_lane lane) lent → columns_of (refill (length hs) hs ws) fs ss ≡ map (with_cell lane None) (columns_of hs fs ss)
+lane_dropped lane hs lent ws fs ss e k =
+    ap (λ xs. columns_of (refill (length hs) hs xs) fs ss) (k ∙ ap (map (without_lane lane)) e)
+    ∙ ap (λ xs. columns_of xs fs ss) (rewritten hs (map (without_lane lane) hs) (length-map hs (without_lane lane)))
+    ∙ lane_emptied lane hs fs ss
+
+-- all that are lent are written over
+pub all_rewritten : {X : Type 0} → (hs lent ws : List X) (x : X) → lent ≡ hs → ws ≡ replicate (length lent) x → refill (length hs) hs ws ≡ replicate (length hs) x
+all_rewritten hs lent ws x e k =
+    ap (λ xs. refill (length hs) hs xs) (k ∙ ap (λ xs. replicate (length xs) x) e)
+    ∙ rewritten hs (replicate (length hs) x) (length-replicate (length hs) x)
+
+pub all_dropped : (hs lent ws : List Held) (fs ss : List CellView) → lent ≡ hs → ws ≡ replicate (length lent) nothing → length hs ≤ length fs → length hs ≤ length ss → columns_of (refill (length hs) hs ws) fs ss ≡ replicate (length (columns_of hs fs ss)) empty_column
+all_dropped hs lent ws fs ss e k h m =
+    ap (λ xs. columns_of xs fs ss) (all_rewritten hs lent ws nothing e k)
+    ∙ columns_emptied (length hs) fs ss h m
+    ∙ ap (λ n. replicate n empty_column) (sym (columns_count hs fs ss h m))

@@ -1,0 +1,12 @@
+use Rattle.std.proofs.Common.{false, refl}
+use Rattle.pdc_table.proofs.OpenRowParts.{all_dropped, all_rewritten}
+use Rattle.pdc_table.proofs.open_row.OpenRow.begin.Goals as goal
+
+pub returns : goal.returns
+returns c =
+    rw (
+      ← c.self.view_is,
+      all_rewritten c.self.inside.taken.items c.as_mut_slice.result.now c.fill.new.self false c.as_mut_slice.ensures.value (c.fill.ensures.after (λ y h. h)),
+      all_dropped c.self.inside.held.items c.as_mut_slice-2.result.now c.forget_all.new.held c.self.inside.first c.self.inside.second
+          c.as_mut_slice-2.ensures.value c.forget_all.ensures c.self.invariant.first c.self.invariant.second,
+    ) refl

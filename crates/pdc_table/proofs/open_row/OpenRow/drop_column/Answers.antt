@@ -1,0 +1,28 @@
+use Rattle.std.proofs.Common.{◌≡◌, ◌∙◌, ap, arith, length}
+use Rattle.pdc_table.specs.Taking.{without_column}
+use Rattle.pdc_table.specs.Views.{OpenRowView}
+use Rattle.pdc_table.proofs.OpenRowParts.{columns_seen, one_dropped}
+use Rattle.pdc_table.proofs.open_row.OpenRow.drop_column.Goals as goal
+
+-- how many columns there are
+count : (c : goal.After-deref_mut) → length c.args.self.now.columns ≡ length c.self.inside.held.items
+count c =
+    columns_seen c.args.self.now.columns c.self.inside.held.items c.self.inside.first c.self.inside.second
+    (ap (λ (row : OpenRowView). row.columns) c.self.view_is) c.self.invariant.first c.self.invariant.second
+
+pub offset_bounds-deref_mut-column : goal.offset_bounds-deref_mut-column
+offset_bounds-deref_mut-column c = omega (arith, c.requires, count c, ap length c.deref_mut.ensures.value, c.deref_mut.ensures.fits)
+
+pub bounds-deref_mut-column : goal.bounds-deref_mut-column
+bounds-deref_mut-column c = omega (arith, c.requires, count c, ap length c.deref_mut.ensures.value)
+
+pub returns : goal.returns
+returns c =
+    ap (λ columns. record { instant = c.self.inside.instant; age = c.self.inside.age; taken = c.self.inside.taken.items; columns = columns }) (one_dropped c.self.inside.held.items c.deref_mut.result.now c.self.inside.first c.self.inside.second c.args.column c.deref_mut.ensures.value
+    (omega (
+      arith,
+      c.requires,
+      columns_seen c.args.self.now.columns c.self.inside.held.items c.self.inside.first c.self.inside.second
+          (ap (λ (row : OpenRowView). row.columns) c.self.view_is) c.self.invariant.first c.self.invariant.second,
+    )) c.self.invariant.first c.self.invariant.second)
+    ∙ ap (without_column c.args.column) c.self.view_is

@@ -1,0 +1,14 @@
+use Rattle.std.proofs.Common.{ap, arith, length}
+use Rattle.pdc_table.specs.Views.{OpenRowView}
+use Rattle.pdc_table.proofs.OpenRowParts.{columns_seen}
+use Rattle.pdc_table.proofs.open_row.OpenRow.take.Goals as goal
+
+pub put_cells-requires-clause-columns : goal.put_cells-requires-clause-columns
+put_cells-requires-clause-columns g c = λ k d h.
+    omega (
+      arith,
+      c.requires.columns k d h,
+      ap length c.as_mut_slice.ensures.value,
+      columns_seen c.args.self.now.columns c.self.inside.held.items c.self.inside.first c.self.inside.second
+          (ap (λ (row : OpenRowView). row.columns) c.self.view_is) c.self.invariant.first c.self.invariant.second,
+    )
