@@ -104,7 +104,7 @@ impl OpenRow {
     }
 
     /// Takes a frame of the stream: its blocks go into their columns, in this lane.
-    #[inline]
+    #[inline(always)]
     pub(crate) fn take<B: Offered>(
         &mut self,
         stream: usize,
@@ -128,7 +128,7 @@ impl OpenRow {
     }
 
     /// Takes the frame, unless the stream was taken already: then the first stays.
-    #[inline]
+    #[inline(always)]
     pub(crate) fn offer<B: Offered>(
         &mut self,
         stream: usize,
@@ -360,7 +360,7 @@ fn any_other<B: Offered>(
 }
 
 /// Puts the blocks into their columns, in this lane.
-#[inline]
+#[inline(always)]
 fn put_cells<B: Offered>(
     held: &mut [Held],
     first: &mut [Cell],
