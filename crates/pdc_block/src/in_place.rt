@@ -12,10 +12,21 @@ pub fn set_words(kept: &mut ArrayVec<u16, MAX_WORDS>, words: &[u16])
     ensures { kept.new.items ≡ words.now }
 {
     if kept.len() == words.len() {
-        kept.as_mut_slice().copy_from_slice(words);
+        write_over(kept.as_mut_slice(), words);
     } else {
         *kept = ArrayVec::new();
         kept.try_extend_from_slice(words).unwrap();
+    }
+}
+
+/// Writes the words over these, a few at a step: most blocks are too short to be worth the call of a copy.
+#[inline]
+fn write_over(kept: &mut [u16], words: &[u16])
+    requires { length words.now ≡ length kept.old }
+    ensures { kept.new ≡ words.now }
+{
+    for place in 0..kept.len() {
+        kept[place] = words[place];
     }
 }
 
