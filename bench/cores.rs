@@ -102,13 +102,13 @@ impl Node {
         }
     }
 
-    pub fn put_datagram(&mut self, stream: usize, bytes: &[u8]) {
-        let answer = self.answer(stream, bytes);
+    pub fn put_datagram(&mut self, stream: usize, bytes: &[u8], check_word: impl Fn(&[u8]) -> u16) {
+        let answer = self.answer(stream, bytes, check_word);
         self.counts[answer as usize] = self.counts[answer as usize].saturating_add(1);
     }
 
-    fn answer(&mut self, stream: usize, bytes: &[u8]) -> Answer {
-        let Ok(frame) = plain::read_frame(bytes) else { return Answer::NoFrame };
+    fn answer(&mut self, stream: usize, bytes: &[u8], check_word: impl Fn(&[u8]) -> u16) -> Answer {
+        let Ok(frame) = plain::read_frame_by(check_word, bytes) else { return Answer::NoFrame };
         if frame.id != self.streams[stream].id {
             return Answer::WrongId;
         }
@@ -182,19 +182,19 @@ impl Node {
     }
 
     /// Publishes the next row: stores its instant, and then appends its data frame.
-    pub fn publish(&mut self, out: &mut Vec<u8>) -> bool {
+    pub fn publish(&mut self, out: &mut Vec<u8>, check_word: impl Fn(&[u8]) -> u16) -> bool {
         if !self.table.pop_into(&mut self.row) || self.row.instant <= self.last {
             return false;
         }
         if self.mark.floor() < self.row.instant {
             self.mark.reserve(self.row.instant);
         }
-        self.write(out);
+        self.write(out, check_word);
         self.last = self.row.instant;
         true
     }
 
-    fn write(&self, out: &mut Vec<u8>) {
+    fn write(&self, out: &mut Vec<u8>, check_word: impl Fn(&[u8]) -> u16) {
         let row = &self.row;
         let (soc, k) = ((row.instant / u64::from(self.rate)) as u32, row.instant % u64::from(self.rate));
         let (rate, base) = (u64::from(self.rate), u64::from(self.time_base));
@@ -207,37 +207,48 @@ impl Node {
             out.extend_from_slice(&word.to_be_bytes());
         }
         plain::join(row.blocks.as_slice(), out);
-        plain::end(start, out);
+        plain::end_by(check_word, start, out);
     }
 }
 
 /// The same run as `dagluwis_node`: the configurations, and then for each instant a datagram of each stream and a tick.
-#[inline(never)]
-pub fn run(rate: u32, time_base: u32, window: u64, configs: &[u8], data: &[u8], len: usize, floor: u64) -> u64 {
+fn run(rate: u32, time_base: u32, window: u64, configs: &[u8], data: &[u8], len: usize, floor: u64, check_word: impl Fn(&[u8]) -> u16) -> u64 {
     let mut node = Node::open(rate, time_base, window, floor);
     let mut out = Vec::new();
     let mut mixed = 0u64;
     let mut publish = |node: &mut Node, out: &mut Vec<u8>| {
         out.clear();
-        if node.publish(out) {
+        if node.publish(out, &check_word) {
             for byte in &out[out.len() - 2..] {
                 mixed = mixed.rotate_left(8) ^ u64::from(*byte);
             }
         }
     };
     for (stream, config) in configs.chunks(configs.len() / STREAMS).enumerate() {
-        node.put_datagram(stream, config);
+        node.put_datagram(stream, config, &check_word);
     }
     node.tick(floor);
     publish(&mut node, &mut out);
     let mut now = floor;
     for frames in data.chunks(len * STREAMS) {
         for (stream, frame) in frames.chunks(len).enumerate() {
-            node.put_datagram(stream, frame);
+            node.put_datagram(stream, frame, &check_word);
         }
         now += 1;
         node.tick(now);
         publish(&mut node, &mut out);
     }
     mixed
+}
+
+/// With the check word eight bytes a step, from tables.
+#[inline(never)]
+pub fn run_by_tables(rate: u32, time_base: u32, window: u64, configs: &[u8], data: &[u8], len: usize, floor: u64) -> u64 {
+    run(rate, time_base, window, configs, data, len, floor, plain::check_word)
+}
+
+/// With the check word as ours, sixteen bytes a step.
+#[inline(never)]
+pub fn run_by_shifts(rate: u32, time_base: u32, window: u64, configs: &[u8], data: &[u8], len: usize, floor: u64) -> u64 {
+    run(rate, time_base, window, configs, data, len, floor, plain::check_word_by_shifts)
 }

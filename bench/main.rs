@@ -266,8 +266,8 @@ fn datagrams(shape: plain::Shape, instants: u32) -> Vec<u8> {
 
 /// A node of 16 PMUs, from datagrams to published frames.
 fn nodes() {
-    println!("\n| a node of 16 PMUs, from datagram to published frame | window | ours, ns a datagram | plain Rust, ns | ours, thousand datagrams/s | plain, thousand/s | ratio ours / plain |");
-    println!("|---|---:|---:|---:|---:|---:|---:|");
+    println!("\n| a node of 16 PMUs, from datagram to published frame | plain check word | window | ours, ns a datagram | plain Rust, ns | ours, thousand datagrams/s | plain, thousand/s | ratio ours / plain |");
+    println!("|---|---|---:|---:|---:|---:|---:|---:|");
     for (phasors, analogs, digitals) in [(1, 0, 0), (8, 4, 1)] {
         let shape = plain::Shape { phasors, analogs, digitals };
         let instants = 2_048;
@@ -278,17 +278,19 @@ fn nodes() {
         for window in [8u64, 64, 256] {
             let text = settings_text(window);
             let turn = 4 * 16 * instants;
-            let (ours, plain) = measure(
-                turn,
-                &mut |_| each(4, || unsafe { ours::dagluwis_node(text.as_ptr(), text.len(), configs.as_ptr(), configs.len(), black_box(data.as_ptr()), data.len(), floor) }),
-                &mut |_| each(4, || cores::run(RATE, TIME_BASE, window, &configs, black_box(&data), len, floor)),
-            );
-            println!(
-                "| {phasors}/{analogs}/{digitals} | {window} | {ours:.1} | {plain:.1} | {:.0} | {:.0} | {:.2} |",
-                1e6 / ours,
-                1e6 / plain,
-                plain / ours
-            );
+            for (name, plain) in [("by tables", cores::run_by_tables as fn(u32, u32, u64, &[u8], &[u8], usize, u64) -> u64), ("as ours", cores::run_by_shifts)] {
+                let (ours, plain) = measure(
+                    turn,
+                    &mut |_| each(4, || unsafe { ours::dagluwis_node(text.as_ptr(), text.len(), configs.as_ptr(), configs.len(), black_box(data.as_ptr()), data.len(), floor) }),
+                    &mut |_| each(4, || plain(RATE, TIME_BASE, window, &configs, black_box(&data), len, floor)),
+                );
+                println!(
+                    "| {phasors}/{analogs}/{digitals} | {name} | {window} | {ours:.1} | {plain:.1} | {:.0} | {:.0} | {:.2} |",
+                    1e6 / ours,
+                    1e6 / plain,
+                    plain / ours
+                );
+            }
         }
     }
 }

@@ -400,6 +400,12 @@ pub fn begin(kind: u8, id: u16, soc: u32, fracsec: u32, payload_len: usize, out:
 }
 
 pub fn end(start: usize, out: &mut Vec<u8>) {
+    end_by(check_word, start, out);
+}
+
+/// Ends a frame, with its check word computed so.
+#[inline]
+pub fn end_by(check_word: impl Fn(&[u8]) -> u16, start: usize, out: &mut Vec<u8>) {
     let check = check_word(&out[start..]);
     out.extend_from_slice(&check.to_be_bytes());
 }
