@@ -1,5 +1,5 @@
 -- What the lists of an open row show together: which lanes hold a cell, and the cells of each lane (this profile).
-use Rattle.std.specs.Prelude.{ℕ, ◌==◌, true, false, if◌then◌else◌, List, [], ◌∷◌}
+use Rattle.std.specs.Prelude.{ℕ, ◌==◌, false, if◌then◌else◌, List, [], ◌∷◌}
 use Rattle.pdc_row.specs.CellView.{CellView}
 use Rattle.pdc_table.specs.Views.{ColumnView, kept}
 use Rattle.pdc_table.specs.declared.column.Held.{Held}
@@ -8,11 +8,7 @@ use Rattle.pdc_table.specs.declared.column.Held.{Held}
 abbrev pub nothing : Held
 nothing = record { first = false; second = false }
 
--- the lane, 0 or else 1, holds a cell
-abbrev pub with_lane : ℕ → Held → Held
-with_lane lane held = if lane == 0 then record held { first = true } else record held { second = true }
-
--- the lane, 0 or else 1, holds none
+-- the lane, 0 or else 1, holds no cell
 abbrev pub without_lane : ℕ → Held → Held
 without_lane lane held = if lane == 0 then record held { first = false } else record held { second = false }
 
