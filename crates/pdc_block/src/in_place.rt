@@ -1,5 +1,5 @@
 //! The words of a block, written over in place.
-ghost use Rattle.std.specs.Prelude.{◌≡◌, ◌*◌, ◌≤◌, length};
+ghost use Rattle.std.specs.Prelude.{◌≡◌, ◌+◌, ◌*◌, ◌<◌, ◌≤◌, length, take};
 ghost use Rattle.pdc_block.specs.Block.{words_in};
 
 use arrayvec::ArrayVec;
@@ -19,15 +19,41 @@ pub fn set_words(kept: &mut ArrayVec<u16, MAX_WORDS>, words: &[u16])
     }
 }
 
-/// Writes the words over these, a few at a step: most blocks are too short to be worth the call of a copy.
+/// Writes the words over these: 64, then 32, and so on down to one, each where so many are left. A copy of words whose number is
+/// fixed costs no call, and most blocks are too short to be worth one.
 #[inline]
 fn write_over(kept: &mut [u16], words: &[u16])
-    requires { length words.now ≡ length kept.old }
+    requires size { length words.now ≡ length kept.old }
+    requires most { length words.now ≤ MAX_WORDS }
     ensures { kept.new ≡ words.now }
 {
-    for place in 0..kept.len() {
-        kept[place] = words[place];
+    let at = write_part(kept, words, 0, 64);
+    let at = write_part(kept, words, at, 32);
+    let at = write_part(kept, words, at, 16);
+    let at = write_part(kept, words, at, 8);
+    let at = write_part(kept, words, at, 4);
+    let at = write_part(kept, words, at, 2);
+    write_part(kept, words, at, 1);
+}
+
+/// Writes so many words from this place on over those there, if so many are left, and answers where the rest begins.
+#[inline(always)]
+fn write_part(kept: &mut [u16], words: &[u16], at: usize, count: usize) -> usize
+    requires size { length words.now ≡ length kept.old }
+    requires at { at ≤ length words.now }
+    requires left { length words.now < at + 2 * count }
+    requires written { take at kept.old ≡ take at words.now }
+    ensures size { length kept.new ≡ length kept.old }
+    ensures at { result ≤ length words.now }
+    ensures left { length words.now < result + count }
+    ensures written { take result kept.new ≡ take result words.now }
+{
+    if words.len() - at < count {
+        return at;
     }
+    let next = at + count;
+    kept[at..next].copy_from_slice(&words[at..next]);
+    next
 }
 
 /// So many words, to be written over.

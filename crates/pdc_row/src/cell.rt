@@ -4,6 +4,7 @@ ghost use Rattle.pdc_cfg.specs.Shape.{word_count_of};
 
 use crate::Offered;
 use crate::present::are_present;
+use crate::same::are_same;
 use pdc_block::Block;
 use pdc_cfg::{MAX_WORDS, Shape};
 use std::marker::Model;
@@ -107,6 +108,6 @@ impl Cell {
     pub fn agrees(&self, other: &Cell) -> bool
         ensures { result ≡ same_block self.now.block other.now.block }
     {
-        other.shape == self.shape && other.words() == self.words()
+        other.shape == self.shape && are_same(self.words(), other.words())
     }
 }

@@ -11,6 +11,7 @@ mod due_row;
 mod laws;
 mod offered;
 mod present;
+mod same;
 
 pub use cell::Cell;
 pub use due_row::DueRow;

@@ -1,11 +1,16 @@
 -- The columns of an open row whose flags and cells stand in lists of their own.
-use Rattle.std.proofs.Common.{◌≡◌, ℕ, ◌<◌, ◌≤◌, Bool, true, false, cond, eqb, List, [], ◌∷◌, length, get_or, set, replicate, map, None, Option, append-nil, ap, sym, refl, ◌∙◌, arith, zero, suc}
-use Rattle.std.specs.List.{refill}
+use Rattle.std.proofs.Common.{◌≡◌, ℕ, ◌<◌, ◌≤◌, Bool, true, false, cond, eqb, ◌||◌, List, [], ◌∷◌, length, get_or, set, replicate, map, None, Some, Option, append-nil, ap, sym, refl, ◌∙◌, arith, zero, suc}
+use Rattle.std.specs.List.{list_any, refill}
+use Rattle.std.proofs.lemmas.Bool.{true≢false}
 use Rattle.std.proofs.lemmas.List.{drop_all, length-map, length-replicate, length-set, take_all}
+use Rattle.pdc_cfg.specs.declared.shape.Shape.{Shape}
 use Rattle.pdc_row.specs.CellView.{CellView}
+use Rattle.pdc_row.specs.Chosen.{present_of}
+use Rattle.pdc_table.specs.Chosen.{are_different}
 use Rattle.pdc_table.specs.OpenRowParts.{column_of, columns_of, nothing, without_lane}
+use Rattle.pdc_table.specs.Steps.{disagreement_at, disagreements_of}
 use Rattle.pdc_table.specs.Taking.{with_cell}
-use Rattle.pdc_table.specs.Views.{ColumnView, empty_column}
+use Rattle.pdc_table.specs.Views.{ColumnView, empty_column, kept}
 use Rattle.pdc_table.specs.declared.column.Held.{Held}
 
 pub columns_count : (hs : List Held) (fs ss : List CellView) → length hs ≤ length fs → length hs ≤ length ss → length (columns_of hs fs ss) ≡ length hs
@@ -127,3 +132,24 @@ all_dropped hs lent ws fs ss e k h m =
     ap (λ xs. columns_of xs fs ss) (all_rewritten hs lent ws nothing e k)
     ∙ columns_emptied (length hs) fs ss h m
     ∙ ap (λ n. replicate n empty_column) (sym (columns_count hs fs ss h m))
+
+-- with nothing in lane 1, no column disagrees
+alone : (shape : Option Shape) (h : Held) (f s : CellView) → h.second ≡ false → disagreement_at shape (column_of h f s) ≡ 0
+alone None h f s e = refl
+alone (Some shape) h f s e = rw e (lone (present_of (kept h.first f)))
+  where
+    lone : (a : Option CellView) → cond {A = ℕ} (are_different a None) 1 0 ≡ 0
+    lone None = refl
+    lone (Some c) = refl
+
+pub none_disagree : (shapes : List (Option Shape)) (hs : List Held) (fs ss : List CellView) → list_any (λ (h : Held). h.second) hs ≡ false → disagreements_of shapes (columns_of hs fs ss) ≡ 0
+none_disagree [] hs fs ss e = refl
+none_disagree (shape ∷ shapes) [] fs ss e = refl
+none_disagree (shape ∷ shapes) (h ∷ hs) [] ss e = refl
+none_disagree (shape ∷ shapes) (h ∷ hs) (f ∷ fs) [] e = refl
+none_disagree (shape ∷ shapes) (h ∷ hs) (f ∷ fs) (s ∷ ss) e =
+    rw (alone shape h f s (neither h.second (list_any (λ (h : Held). h.second) hs) e).0, none_disagree shapes hs fs ss (neither h.second (list_any (λ (h : Held). h.second) hs) e).1) refl
+  where
+    neither : (a b : Bool) → (a || b) ≡ false → (a ≡ false) × (b ≡ false)
+    neither false b e = (refl, e)
+    neither true b e = absurd (true≢false e)

@@ -1,6 +1,6 @@
 //! The row of an instant that is open.
 ghost use Rattle.std.specs.Prelude.{◌≡◌, ℕ, ◌+◌, ◌<◌, ◌≤◌, ◌++◌, List, length, map, replicate, take, false, slice_index_or, Some, IfSome, if◌then◌else◌};
-ghost use Rattle.std.specs.List.{All};
+ghost use Rattle.std.specs.List.{All, list_any};
 ghost use Rattle.pdc_row.specs.CellView.{block_view};
 ghost use Rattle.pdc_row.specs.Quality.{worst_of};
 ghost use Rattle.pdc_row.specs.RowView.{row_view};
@@ -12,6 +12,7 @@ ghost use Rattle.pdc_table.specs.Layout.{layout_view};
 ghost use Rattle.pdc_table.specs.Taking.{cell_in, cells_in, conflicts, holds_other, with_cells, with_frame, without_column, without_stream};
 ghost use Rattle.pdc_table.specs.OpenRowParts.{columns_of, nothing};
 ghost use Rattle.pdc_table.specs.Views.{blank_row, empty_column};
+ghost use Rattle.pdc_table.specs.declared.column.Held.{Held as HeldData};
 
 use crate::column::{NOTHING, forget_all, forget_lane};
 use crate::{Held, MAX_COLUMNS, PutOutcome, RowLayout, WaitRule};
@@ -209,6 +210,9 @@ impl OpenRow {
         ensures value { result ≡ disagreements_of (layout_view layout.now).shapes self.now.columns }
         ensures most { result ≤ MAX_COLUMNS }
     {
+        if !any_second(self.held.as_slice()) {
+            return 0;
+        }
         let mut count = 0;
         for (place, shape) in layout.shapes.as_slice().iter().enumerate() {
             count += disagreements_at(
@@ -387,6 +391,18 @@ fn put_cells<B: Offered>(
             quality,
         );
     }
+}
+
+/// Whether lane 1 of some column holds a cell: the flags are looked at all together, with no test of each.
+#[inline]
+fn any_second(held: &[Held]) -> bool
+    ensures { result ≡ list_any (λ (h : HeldData). h.second) held.now }
+{
+    let mut any = false;
+    for each in held {
+        any |= each.second;
+    }
+    any
 }
 
 /// How many disagreements the column at this place gives, one or none; past the last column there is nothing.
