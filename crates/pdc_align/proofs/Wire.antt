@@ -1,5 +1,5 @@
 -- The frame of the layout in force is that of the life.
-use Rattle.std.proofs.Common.{◌≡◌, ℕ, List, ap, sym, ◌∙◌}
+use Rattle.std.proofs.Common.{◌≡◌, ℕ, List, ap, ◌∙◌}
 use Rattle.std.specs.List.{filter_map, range_with_len}
 use Rattle.pdc_cfg.specs.Section.{SectionFields}
 use Rattle.pdc_output.specs.declared.output.Output.{Output}

@@ -1,6 +1,6 @@
 //! The alignment of a concentrator.
 ghost use Rattle.std.specs.Prelude.{◌≡◌, ◌<◌, ◌-◌, ◌^◌, [], ◌∷◌, ℕ, List, IfOk, IfSome, Option, false, length, map, option_map};
-ghost use Rattle.std.specs.List.{All};
+ghost use Rattle.std.specs.List.{All, list_any};
 ghost use Rattle.pdc_cfg.specs.Section.{fields_of_view};
 ghost use Rattle.pdc_output.specs.declared.output.Output.{Output};
 ghost use Rattle.pdc_row.specs.RowView.{RowView, row_view};
@@ -22,7 +22,7 @@ ghost use Rattle.pdc_state.specs.State.{row_layout_of, rule_of, shape_in};
 ghost use Rattle.pdc_align.specs.Align.{HasSizes, KeepsSizes, StandsFor, given_by, new_change, ticked_of};
 ghost use Rattle.pdc_align.specs.Popped.{popped_after};
 ghost use Rattle.pdc_align.specs.Slot.{count_in};
-ghost use Rattle.pdc_align.specs.Calls.{after_data, after_adopting, disagreements_at, after_closing, after_tick_of, column_in, told_at, after_hold, after_pop_of, first_content, first_of_plan, put_outcome, row_layout_in, waiting_in};
+ghost use Rattle.pdc_align.specs.Calls.{after_data, after_adopting, disagreements_at, after_closing, after_tick_of, column_in, told_at, after_hold, after_pop_of, first_content, first_of_plan, is_ready_in, put_outcome, row_layout_in, waiting_in};
 
 use crate::adopting::adopt_in;
 use crate::{Column, Plan, Ticked, columns};
@@ -375,7 +375,14 @@ impl<T: Table> Alignment<T> {
         ensures disagreements { self.new.disagreements ≡ disagreements_at self.old.disagreements self.old.state now }
         ensures popped { self.new.popped ≡ self.old.popped }
     {
-        let closed = self.close(now, counts);
+        let (closed, any_ready) = self.close(now, counts);
+        if !any_ready {
+            return Ticked {
+                closed,
+                change: None,
+                used_up: false,
+            };
+        }
         let ready = columns::ready(&self.columns);
         if self.change == u32::MAX {
             return Ticked {
@@ -391,9 +398,11 @@ impl<T: Table> Alignment<T> {
         }
     }
 
-    /// Closes the rows that are due, and clears the counts. It answers how many rows.
-    fn close(&mut self, now: u64, counts: &[u16; MAX_PMUS]) -> u32
-        ensures answer { result ≡ table.tick_answer self.old.state.content (rule_of self.old.state.wait_kind self.old.state.wait now) }
+    /// Closes the rows that are due, and clears the counts. It answers how many rows, and whether some column is ready.
+    fn close(&mut self, now: u64, counts: &[u16; MAX_PMUS]) -> (u32, bool)
+        ensures answer { result.0 ≡ table.tick_answer self.old.state.content (rule_of self.old.state.wait_kind self.old.state.wait now) }
+        ensures ready { result.1 ≡ list_any is_ready_in self.new.state.columns }
+        ensures wait { self.old.state.wait < 2 ^ 64 }
         ensures state { self.new.state ≡ after_closing self.old.state now counts.now }
         ensures sizes { KeepsSizes self.old.state self.new.state }
         ensures memory { self.new.memory ≡ self.old.memory }
@@ -403,9 +412,9 @@ impl<T: Table> Alignment<T> {
         let layout = self.layout();
         let rule = rule_of(self.wait_kind, self.wait, now);
         let closed = self.close_rows(rule, &layout);
-        columns::clear(&mut self.columns, counts);
+        let any_ready = columns::clear(&mut self.columns, counts);
         self.current = now;
-        closed
+        (closed, any_ready)
     }
 
     /// Closes the rows that are due by the rule, under the layout. It answers how many.

@@ -1,12 +1,12 @@
 //! All columns of an alignment, one call for each thing that is asked of them.
 ghost use Rattle.std.specs.Prelude.{◌≡◌, ℕ, ◌+◌, ◌-◌, ◌<◌, ◌≤◌, ◌++◌, [], ◌∷◌, if◌then◌else◌, IfOk, length, map, replicate};
-ghost use Rattle.std.specs.List.{All, range_with_len};
+ghost use Rattle.std.specs.List.{All, list_any, range_with_len};
 ghost use Rattle.pdc_life.specs.Answer.{greatest_count};
 ghost use Rattle.pdc_reading.specs.Views.{section_part};
 ghost use Rattle.pdc_reading.specs.declared.arrival.ColumnSection.{ColumnSection as ColumnSectionData};
 ghost use Rattle.pdc_state.specs.State.{shape_in};
 ghost use Rattle.pdc_align.specs.Align.{ColumnState};
-ghost use Rattle.pdc_align.specs.Calls.{cleared_from, new_column, ready_from, with_adoption, with_sections};
+ghost use Rattle.pdc_align.specs.Calls.{cleared_from, is_ready_in, new_column, ready_from, with_adoption, with_sections};
 
 use crate::Column;
 use arrayvec::ArrayVec;
@@ -65,15 +65,20 @@ pub fn waiting(columns: &[Column]) -> [u16; MAX_PMUS]
     counts
 }
 
-/// Clears the count of each column.
-pub fn clear(columns: &mut [Column], counts: &[u16; MAX_PMUS])
+/// Clears the count of each column. Whether some column is ready then.
+pub fn clear(columns: &mut [Column], counts: &[u16; MAX_PMUS]) -> bool
     requires { length columns.old ≤ 16 }
-    ensures { columns.new ≡ cleared_from 0 counts.now columns.old }
+    ensures columns { columns.new ≡ cleared_from 0 counts.now columns.old }
+    ensures ready { result ≡ list_any is_ready_in columns.new }
 {
     let count = columns.len();
+    let mut any_ready = false;
     for place in 0..count {
-        columns[place].clear(counts[place]);
+        let column = &mut columns[place];
+        column.clear(counts[place]);
+        any_ready |= column.is_ready();
     }
+    any_ready
 }
 
 /// The numbers of the columns that are ready, in rising order.

@@ -2,10 +2,7 @@ use Rattle.std.proofs.Common.{◌≡◌, ◌++◌, ◌∙◌, ◌+◌, ◌≤◌
 use Rattle.std.specs.Prelude.{IsOk, OnOk}
 use Rattle.pdc_cfg.specs.Section.{fields_of_view}
 use Rattle.pdc_output.specs.Layout.{layout_wire_of}
-use Rattle.pdc_life.specs.Given.{Given}
-use Rattle.pdc_life.specs.Life.{Entry}
 use Rattle.pdc_life.specs.Published.{layout_wire}
-use Rattle.pdc_align.specs.Align.{StandsFor}
 use Rattle.pdc_align.proofs.Wire.{wire_is}
 use Rattle.pdc_align.proofs.layout.append_layout_frame.Goals as goal
 

@@ -1,4 +1,4 @@
-use Rattle.std.proofs.Common.{ap, arith, get_or, ◌∙◌}
+use Rattle.std.proofs.Common.{ap, get_or, ◌∙◌}
 use Rattle.std.proofs.lemmas.List.{get_or_read}
 use Rattle.pdc_align.specs.Align.{AlignmentView, ColumnState}
 use Rattle.pdc_align.specs.Calls.{no_column}
