@@ -416,8 +416,11 @@ impl<T: Table> Aligner<T> {
 fn mix(row: &DueRow) -> u64 {
     let mut mixed = row.instant ^ u64::from(row.quality) << 60;
     for block in row.blocks.as_slice() {
-        for word in block.words() {
-            mixed = mixed.wrapping_add(u64::from(*word));
+        let words = block.words();
+        for place in 0..3 {
+            if let Some(word) = words.get(place) {
+                mixed = mixed.wrapping_add(u64::from(*word));
+            }
         }
         mixed = mixed.rotate_left(7);
     }

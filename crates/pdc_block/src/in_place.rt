@@ -6,6 +6,9 @@ use arrayvec::ArrayVec;
 use pdc_cfg::MAX_WORDS;
 use pdc_frame::read_word;
 
+/// How many words are written in one step: as many as fill a register of 16 bytes.
+const WORDS_AT_ONCE: usize = 8;
+
 /// Makes these the words of a block. Where there were as many before, they are written over.
 pub fn set_words(kept: &mut ArrayVec<u16, MAX_WORDS>, words: &[u16])
     requires { length words.now ≤ MAX_WORDS }
@@ -19,19 +22,49 @@ pub fn set_words(kept: &mut ArrayVec<u16, MAX_WORDS>, words: &[u16])
     }
 }
 
-/// Writes the words over these: 64, then 32, and so on down to one, each where so many are left. A copy of words whose number is
-/// fixed costs no call, and most blocks are too short to be worth one.
-#[inline]
+/// Writes the words over these, eight at a step, and the last in steps of fixed numbers: most blocks are too short to be worth the call
+/// of a copy.
 fn write_over(kept: &mut [u16], words: &[u16])
-    requires size { length words.now ≡ length kept.old }
-    requires most { length words.now ≤ MAX_WORDS }
+    requires { length words.now ≡ length kept.old }
     ensures { kept.new ≡ words.now }
 {
-    let at = write_part(kept, words, 0, 64);
-    let at = write_part(kept, words, at, 32);
-    let at = write_part(kept, words, at, 16);
-    let at = write_part(kept, words, at, 8);
-    let at = write_part(kept, words, at, 4);
+    if words.len() < WORDS_AT_ONCE {
+        write_few(kept, words);
+        return;
+    }
+    let (front, behind) = kept.split_at_mut(WORDS_AT_ONCE);
+    let (words, left) = words.split_at(WORDS_AT_ONCE);
+    write_eight(front, words);
+    write_over(behind, left);
+}
+
+/// Writes eight words over these: all are read before one is written, so that they are moved in one step.
+#[inline(always)]
+fn write_eight(kept: &mut [u16], words: &[u16])
+    requires kept { length kept.old ≡ 8 }
+    requires words { length words.now ≡ 8 }
+    ensures { kept.new ≡ words.now }
+{
+    let (a, b, c, d) = (words[0], words[1], words[2], words[3]);
+    let (e, f, g, h) = (words[4], words[5], words[6], words[7]);
+    kept[0] = a;
+    kept[1] = b;
+    kept[2] = c;
+    kept[3] = d;
+    kept[4] = e;
+    kept[5] = f;
+    kept[6] = g;
+    kept[7] = h;
+}
+
+/// Writes fewer than eight words over these.
+#[inline(always)]
+fn write_few(kept: &mut [u16], words: &[u16])
+    requires size { length words.now ≡ length kept.old }
+    requires few { length words.now < 8 }
+    ensures { kept.new ≡ words.now }
+{
+    let at = write_part(kept, words, 0, 4);
     let at = write_part(kept, words, at, 2);
     write_part(kept, words, at, 1);
 }
