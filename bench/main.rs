@@ -223,8 +223,8 @@ fn tables() {
         &mut |n| tables::steady::<tables::RingTable>(window, behind, n),
     );
     for window in [8u64, 64, 256] {
-        // As many instants as whole windows have.
-        let instants = 2_048;
+        // As many instants as whole windows have, and so many that the memory of a new table is little beside them.
+        let instants = 16_384;
         rows(
             "fill the window, close it with one tick",
             window,

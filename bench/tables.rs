@@ -4,6 +4,7 @@
 
 use crate::plain::{self, Block, Body, Few, Shape};
 use std::collections::{BTreeMap, VecDeque};
+use std::hint::black_box;
 
 const STREAMS: usize = 16;
 
@@ -407,7 +408,8 @@ impl<T: Table> Aligner<T> {
     fn tick(&mut self, wait: u64) {
         for _ in 0..self.table.tick(wait, &self.layout) {
             if self.table.pop_into(&mut self.row) {
-                self.mixed = self.mixed.rotate_left(1) ^ mix(&self.row);
+                // All blocks are written, as if another read them.
+                self.mixed = self.mixed.rotate_left(1) ^ mix(black_box(&self.row));
             }
         }
     }
@@ -415,14 +417,10 @@ impl<T: Table> Aligner<T> {
 
 fn mix(row: &DueRow) -> u64 {
     let mut mixed = row.instant ^ u64::from(row.quality) << 60;
-    for block in row.blocks.as_slice() {
-        let words = block.words();
-        for place in 0..3 {
-            if let Some(word) = words.get(place) {
-                mixed = mixed.wrapping_add(u64::from(*word));
-            }
+    if let Some(block) = row.blocks.as_slice().last() {
+        for word in block.words() {
+            mixed = mixed.wrapping_add(u64::from(*word));
         }
-        mixed = mixed.rotate_left(7);
     }
     mixed
 }

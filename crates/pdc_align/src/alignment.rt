@@ -430,6 +430,7 @@ impl<T: Table> Alignment<T> {
     }
 
     /// Puts into force what is ready, and adopts these columns in the table. It answers the change number, where there are any.
+    #[inline(never)]
     fn adopt(&mut self, adopted: &[usize]) -> Option<u32>
         requires change { self.old.state.change < 2 ^ 32 - 1 }
         requires exist { All (λ (column : ℕ). column < length self.old.state.columns) adopted.now }

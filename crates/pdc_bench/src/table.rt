@@ -88,18 +88,14 @@ impl<T: Table> Aligner<T> {
     }
 }
 
-/// A number that depends on all of the row that differs from row to row: the first words of its blocks, which hold the instant and
-/// the stream. What is measured is the table, and not a sum of all words.
+/// A number that depends on the row: its instant, its quality and its last block. What is measured is the table, and not a sum of all
+/// words.
 fn mix(row: &DueRow) -> u64 {
     let mut mixed = row.instant ^ u64::from(row.quality) << 60;
-    for block in row.blocks.as_slice() {
-        let words = block.words();
-        for place in 0..3 {
-            if let Some(word) = words.get(place) {
-                mixed = mixed.wrapping_add(u64::from(*word));
-            }
+    if let Some(block) = row.blocks.as_slice().last() {
+        for word in block.words() {
+            mixed = mixed.wrapping_add(u64::from(*word));
         }
-        mixed = mixed.rotate_left(7);
     }
     mixed
 }

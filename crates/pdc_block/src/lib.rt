@@ -20,4 +20,4 @@ pub use fault::BodyFault;
 pub use laws::{bodies_are_their_words, payloads_are_cut_in_one_way};
 pub use pdc_cfg::MAX_WORDS;
 pub use reading::{cut, read_body};
-pub use writing::{append_words, join, joined_len};
+pub use writing::{append_blocks, append_words, join, joined_len};

@@ -70,6 +70,17 @@ pub fn joined_len(blocks: &[Block]) -> usize
     len
 }
 
+/// Appends the bytes of the blocks, one after the other. It takes no memory: there is room for them.
+pub fn append_blocks<B: Buffer>(blocks: &[Block], out: &mut B)
+    requires { length (B.content out.old) + sum_by (λ block. body_len_of (shape_of block)) blocks.now ≤ B.capacity out.old }
+    ensures content { B.content out.new ≡ B.content out.old ++ bytes_of_blocks (map words_of blocks.now) }
+    ensures in_place { B.capacity out.new ≡ B.capacity out.old }
+{
+    for block in blocks {
+        append_words(block.words(), out);
+    }
+}
+
 /// Appends the bytes of the blocks, one after the other, as the payload of a data frame has them.
 ///
 /// # Errors
@@ -88,8 +99,6 @@ pub fn join<B: Buffer>(blocks: &[Block], out: &mut B) -> Result<(), AllocError>
     ensures capacity { B.capacity out.old ≤ B.capacity out.new }
 {
     out.make_room(joined_len(blocks))?;
-    for block in blocks {
-        append_words(block.words(), out);
-    }
+    append_blocks(blocks, out);
     Ok(())
 }

@@ -8,7 +8,7 @@ ghost use Rattle.pdc_output.specs.Layout.{own_block, row_payload, row_fields, wi
 
 use crate::output::Output;
 use crate::stamp::stamp_words;
-use pdc_block::{append_words, join, joined_len};
+use pdc_block::{append_blocks, append_words, joined_len};
 use pdc_frame::{
     Buffer, Frame, Kind, OVERHEAD, begin_frame, end_frame, frames_are_written_in_parts,
 };
@@ -52,7 +52,7 @@ fn append_payload<B: Buffer>(row: &DueRow, out: &mut B)
     ensures in_place { B.capacity out.new ≡ B.capacity out.old }
 {
     append_own_block(row.start, row.change, out);
-    join(row.blocks.as_slice(), out).unwrap();
+    append_blocks(row.blocks.as_slice(), out);
 }
 
 /// Appends the data frame of the row: its instant as a time tag, its time quality, the own block with the stamp that the row

@@ -14,6 +14,5 @@ returns-clause-content g c =
     let blocks : List ℕ = flat_map (λ (b : BlockView). bytes_of_words b.words) (map block_view row.blocks.items) in
     let old : List ℕ = g.B.Buffer.content c.args.out.now in
     let begun : List ℕ = g.B.Buffer.content c.append_own_block.new.out in
-    let joined = rw c.unwrap.ensures at c.join.ensures.ok in
-    joined ∙ ap (λ (bs : List Block). begun ++ bytes_of_blocks (map words_of bs)) c.as_slice.ensures.value ∙ ap (λ (t : List ℕ). begun ++ t) (same_blocks row.blocks.items)
+    c.append_blocks.ensures.content ∙ ap (λ (bs : List Block). begun ++ bytes_of_blocks (map words_of bs)) c.as_slice.ensures.value ∙ ap (λ (t : List ℕ). begun ++ t) (same_blocks row.blocks.items)
     ∙ ap (λ (t : List ℕ). t ++ blocks) c.append_own_block.ensures.content ∙ append_assoc old own blocks

@@ -1,7 +1,7 @@
 use Rattle.std.proofs.Common.{◌≡◌, ◌≤◌, ◌+◌, ◌++◌, length, take, map}
 use Rattle.std.specs.Prelude.{sum_by}
 use Rattle.pdc_block.specs.Block.{bytes_of_blocks, words_of, body_len_of, shape_of}
-use Rattle.pdc_block.proofs.writing.join.Given as goal
+use Rattle.pdc_block.proofs.writing.append_blocks.Given as goal
 
 abbrev pub invariant-loop-block : goal.invariant-loop-block
 invariant-loop-block g l = record {
