@@ -1,13 +1,13 @@
 -- The steps of a core and its replies, beside the steps of lives and their answers (this profile).
 use Rattle.std.specs.Prelude.{◌≡◌, ℕ, Bool, true, false, List, Some, nat_lt, option_map}
-use Rattle.pdc_align.specs.Align.{ticked_of}
-use Rattle.pdc_align.specs.Popped.{popped_after}
+pub use Rattle.pdc_align.specs.Align.{ticked_of}
+pub use Rattle.pdc_align.specs.Popped.{popped_after}
 use Rattle.pdc_life.specs.Answer.{IsReadStep, ReadStep, ToArrive, ToPop, ToTick}
 use Rattle.pdc_life.specs.Life.{Arrive, Entry, Pop, Tick, changes}
 use Rattle.pdc_life.specs.Arrival.{Arrival}
 use Rattle.pdc_row.specs.RowView.{row_view}
-use Rattle.pdc_answering.specs.Counts.{after_answer}
-use Rattle.pdc_answering.specs.declared.counts.Counts.{Counts}
+pub use Rattle.pdc_answering.specs.Counts.{after_answer, next}
+pub use Rattle.pdc_answering.specs.declared.counts.Counts.{Counts}
 use Rattle.pdc_core.specs.Taken.{taken_view}
 use Rattle.pdc_core.specs.declared.step.CoreStep.{CoreStep}
 use Rattle.pdc_core.specs.declared.step.CoreStep.TheVariants as core

@@ -17,6 +17,8 @@ mod taken;
 pub use core_trait::Core;
 pub use kept_layout::{KeptLayout, KeptSection};
 pub use payload::{Payload, SHORT_PAYLOAD};
+pub use pdc_align::Ticked;
+pub use pdc_answering::Counts;
 pub use reads::Reads;
 pub use step::{CoreStep, Reply};
 pub use taken::Taken;

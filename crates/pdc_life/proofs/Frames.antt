@@ -10,8 +10,7 @@ use Rattle.pdc_cfg.specs.Shape.{word_count_of}
 use Rattle.pdc_cfg.specs.declared.shape.Shape.{Shape}
 use Rattle.pdc_cfg.specs.Section.{SectionFields, IsSection}
 use Rattle.pdc_block.specs.Block.{AreOfShapes, AreWords, IsCut}
-use Rattle.pdc_stat.specs.AbsentBlock.{absent_of}
-use Rattle.pdc_row.specs.CellView.{BlockView, CellView}
+use Rattle.pdc_row.specs.CellView.{BlockView, CellView, absent_of}
 use Rattle.pdc_row.specs.Chosen.{block_or_absent}
 use Rattle.pdc_row.specs.Quality.{greatest, quality_of}
 use Rattle.pdc_row.specs.RowView.{RowView, row_instants}

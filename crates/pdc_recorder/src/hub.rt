@@ -1,6 +1,6 @@
 //! The lock round a recorder.
 ghost use Rattle.std.specs.Prelude.{◌≡◌, ◌+◌, ◌*◌, ◌^◌, ◌<◌, ◌≤◌, ◌++◌, ℕ, Err, IfErr, IfOk, IfSome, List, None, Ok, OnErr, OnOk, Option, Some, [], option_map, true, false};
-ghost use Rattle.pdc_align.specs.Align.{ticked_of};
+ghost use Rattle.pdc_core.specs.Step.{ticked_of};
 ghost use Rattle.pdc_core.specs.Taken.{taken_view};
 ghost use Rattle.pdc_life.specs.Answer.{pop_answer, tick_answer, waiting_counts};
 ghost use Rattle.pdc_life.specs.Given.{Given};
@@ -16,9 +16,7 @@ use crate::fault::HubFault;
 use crate::naming::Naming;
 use crate::recorder::Recorder;
 use crate::shares::{Blanks, Books, Shares};
-use pdc_align::Ticked;
-use pdc_answering::Counts;
-use pdc_core::{Core, Taken};
+use pdc_core::{Core, Counts, Taken, Ticked};
 use pdc_frame::Buffer;
 use pdc_life::{MAX_PMUS, Outcome};
 use pdc_row::DueRow;

@@ -1,10 +1,7 @@
 //! A core beside a base from which the steps since lead to it.
 ghost use Rattle.std.specs.Prelude.{◌≡◌, ◌≤◌, ◌<◌, ◌*◌, ◌+◌, ◌∷◌, ◌++◌, ℕ, IfOk, IfSome, List, OnErr, OnOk, Option, Some, [], option_map, true, vec_len};
 ghost use Rattle.std.specs.List.{list_all};
-ghost use Rattle.pdc_align.specs.Align.{ticked_of};
-ghost use Rattle.pdc_answering.specs.Counts.{after_answer};
-ghost use Rattle.pdc_align.specs.Popped.{popped_after};
-ghost use Rattle.pdc_core.specs.Step.{is_allowed};
+ghost use Rattle.pdc_core.specs.Step.{after_answer, is_allowed, popped_after, ticked_of};
 ghost use Rattle.pdc_core.specs.Taken.{taken_view};
 ghost use Rattle.pdc_core.specs.declared.step.CoreStep.TheVariants as step;
 ghost use Rattle.pdc_life.specs.Answer.{ToArrive, ToPop, ToTick, pop_answer, tick_answer};
@@ -15,8 +12,7 @@ ghost use Rattle.pdc_row.specs.RowView.{row_view};
 ghost use Rattle.pdc_tag.specs.declared.limits.TheConstants.{SECONDS};
 
 use crate::naming::Naming;
-use pdc_align::Ticked;
-use pdc_core::{Core, CoreStep, Taken};
+use pdc_core::{Core, CoreStep, Taken, Ticked};
 use pdc_life::{MAX_PMUS, Outcome};
 use pdc_row::DueRow;
 use std::alloc::{AllocError, Global};

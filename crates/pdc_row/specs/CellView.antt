@@ -5,7 +5,7 @@ use Rattle.pdc_cfg.specs.declared.shape.Shape.{Shape}
 use Rattle.pdc_block.specs.declared.block.Block.{Block}
 use Rattle.pdc_block.specs.declared.body.Body.{Body}
 use Rattle.pdc_block.specs.Block.{words_in, words_of}
-use Rattle.pdc_stat.specs.AbsentBlock.{absent_of}
+pub use Rattle.pdc_stat.specs.AbsentBlock.{absent_of}
 
 -- a block: its shape, and its words in wire order
 pub record BlockView : Type 0 where
