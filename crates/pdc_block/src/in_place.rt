@@ -111,8 +111,50 @@ pub fn new_words(count: usize, bytes: &[u8]) -> ArrayVec<u16, MAX_WORDS>
     words
 }
 
-/// Writes the words that the bytes write over these.
+/// Writes the words that the bytes write over these, eight at a step, and the last one by one.
 pub fn read_into(words: &mut [u16], bytes: &[u8])
+    requires { length bytes.now ≡ 2 * length words.old }
+    ensures { words.new ≡ words_in bytes.now }
+{
+    if words.len() < WORDS_AT_ONCE {
+        read_each(words, bytes);
+        return;
+    }
+    let (front, behind) = words.split_at_mut(WORDS_AT_ONCE);
+    let (bytes, left) = bytes.split_at(2 * WORDS_AT_ONCE);
+    read_eight(front, bytes);
+    read_into(behind, left);
+}
+
+/// Writes eight words that the bytes write over these: all are read before one is written, so that they are turned and moved in one
+/// step.
+#[inline(always)]
+fn read_eight(words: &mut [u16], bytes: &[u8])
+    requires words { length words.old ≡ 8 }
+    requires bytes { length bytes.now ≡ 16 }
+    ensures { words.new ≡ words_in bytes.now }
+{
+    let a = read_word(bytes, 0);
+    let b = read_word(bytes, 2);
+    let c = read_word(bytes, 4);
+    let d = read_word(bytes, 6);
+    let e = read_word(bytes, 8);
+    let f = read_word(bytes, 10);
+    let g = read_word(bytes, 12);
+    let h = read_word(bytes, 14);
+    words[0] = a;
+    words[1] = b;
+    words[2] = c;
+    words[3] = d;
+    words[4] = e;
+    words[5] = f;
+    words[6] = g;
+    words[7] = h;
+}
+
+/// Writes the words that the bytes write over these, one by one.
+#[inline(always)]
+fn read_each(words: &mut [u16], bytes: &[u8])
     requires { length bytes.now ≡ 2 * length words.old }
     ensures { words.new ≡ words_in bytes.now }
 {

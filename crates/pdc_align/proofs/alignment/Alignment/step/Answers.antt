@@ -9,12 +9,12 @@ use Rattle.pdc_align.proofs.alignment.Alignment.step.Goals as goal
 pub returns-then-not-any_ready-clause-answer : goal.returns-then-not-any_ready-clause-answer
 returns-then-not-any_ready-clause-answer g c =
     let none : list_any is_ready_in (cleared_from 0 c.args.counts.now c.args.self.now.state.columns) ≡ false =
-        ap (λ (a : State). list_any is_ready_in a.columns) (sym c.close-closed.ensures.state) ∙ sym c.close-closed.ensures.ready ∙ c.if-not-any_ready.true in
+    ap (λ (a : State). list_any is_ready_in a.columns) (sym c.close-closed.ensures.state) ∙ sym c.close-closed.ensures.ready ∙ c.if-not-any_ready.true in
     ap {B = Ticked} (λ closed. record { closed = closed; change = None; used_up = false }) c.close-closed.ensures.answer
     ∙ sym (told_none c.args.self.now.state c.args.now c.args.counts.now none)
 
 pub returns-then-not-any_ready-clause-state : goal.returns-then-not-any_ready-clause-state
 returns-then-not-any_ready-clause-state g c =
     let none : list_any is_ready_in (cleared_from 0 c.args.counts.now c.args.self.now.state.columns) ≡ false =
-        ap (λ (a : State). list_any is_ready_in a.columns) (sym c.close-closed.ensures.state) ∙ sym c.close-closed.ensures.ready ∙ c.if-not-any_ready.true in
+    ap (λ (a : State). list_any is_ready_in a.columns) (sym c.close-closed.ensures.state) ∙ sym c.close-closed.ensures.ready ∙ c.if-not-any_ready.true in
     c.close-closed.ensures.state ∙ sym (state_none c.args.self.now.state c.args.now c.args.counts.now none)

@@ -14,6 +14,6 @@ loop-place-preserved c = grind (arith, common_steps, disagreements_step)
 pub returns-then-not-any_second-clause-value : goal.returns-then-not-any_second-clause-value
 returns-then-not-any_second-clause-value c =
     let none : list_any (λ (h : Held). h.second) c.self.inside.held.items ≡ false =
-        ap (list_any (λ (h : Held). h.second)) (sym c.as_slice.ensures.value) ∙ sym c.any_second.ensures ∙ c.if-not-any_second.true in
+    ap (list_any (λ (h : Held). h.second)) (sym c.as_slice.ensures.value) ∙ sym c.any_second.ensures ∙ c.if-not-any_second.true in
     sym (none_disagree c.args.layout.now.shapes.items c.self.inside.held.items c.self.inside.first c.self.inside.second none)
     ∙ ap (λ (row : OpenRowView). disagreements_of c.args.layout.now.shapes.items row.columns) c.self.view_is
