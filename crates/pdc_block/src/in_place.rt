@@ -64,6 +64,9 @@ fn write_few(kept: &mut [u16], words: &[u16])
     requires few { length words.now < 8 }
     ensures { kept.new ≡ words.now }
 {
+    if words.is_empty() {
+        return;
+    }
     let at = write_part(kept, words, 0, 4);
     let at = write_part(kept, words, at, 2);
     write_part(kept, words, at, 1);

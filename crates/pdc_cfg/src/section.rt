@@ -16,12 +16,12 @@ const NO_CHANNELS: [u8; 30] = [0; 30];
 pub struct SectionView<'a> {
     /// From STN to CFGCNT.
     pub bytes: &'a [u8],
-    /// How many phasors, analog values and digital words its data has.
-    pub shape: Shape,
     /// IDCODE, the id of the data's source.
     pub source: u16,
     /// CFGCNT, the number of changes that the configuration has had.
     pub count: u16,
+    /// How many phasors, analog values and digital words its data has.
+    pub shape: Shape,
     /// Phasors are magnitude and angle, not real and imaginary part.
     pub polar: bool,
     // The bytes are a section that says this.

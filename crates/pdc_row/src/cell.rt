@@ -57,6 +57,7 @@ impl Cell {
     }
 
     /// Makes this the block, copied, and the time quality byte of its frame.
+    #[inline(always)]
     pub fn set<B: Offered>(&mut self, block: &B, quality: u8)
         ensures { self.new ≡ record { block = B.view block.now; quality = quality } }
     {

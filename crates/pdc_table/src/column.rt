@@ -55,7 +55,7 @@ impl Held {
     }
 
     /// Puts a copy of the block, and the time quality byte of its frame, into the lane, 0 or else 1, of these of the column.
-    #[inline]
+    #[inline(always)]
     pub(crate) fn put<B: Offered>(
         &mut self,
         first: &mut Cell,
@@ -113,7 +113,7 @@ impl Held {
         &self,
         first: &Cell,
         second: &Cell,
-        shape: Option<Shape>,
+        shape: &Option<Shape>,
         blocks: &mut [Block],
         count: usize,
         quality: &mut Option<u8>,
@@ -121,18 +121,18 @@ impl Held {
         requires room { count < length blocks.old }
         requires fits { IfSome quality.old (λ n. n ≤ 15) }
         ensures blocks { map block_view (take result blocks.new)
-            ≡ map block_view (take count blocks.old) ++ blocks_at shape (column_of self.now first.now second.now) }
+            ≡ map block_view (take count blocks.old) ++ blocks_at shape.now (column_of self.now first.now second.now) }
         ensures len { length blocks.new ≡ length blocks.old }
         ensures grown { result ≤ count + 1 }
         ensures quality { (ns : List ℕ) → worst_of quality.new ns
-            ≡ worst_of quality.old (qualities_at shape (column_of self.now first.now second.now) ++ ns) }
+            ≡ worst_of quality.old (qualities_at shape.now (column_of self.now first.now second.now) ++ ns) }
         ensures quality_fits { IfSome quality.new (λ n. n ≤ 15) }
     {
         let Some(shape) = shape else {
             return count;
         };
         let Some(cell) = self.chosen(first, second) else {
-            set_absent(&mut blocks[count], shape);
+            set_absent(&mut blocks[count], *shape);
             return count + 1;
         };
         cell.copy_to(&mut blocks[count]);

@@ -17,6 +17,10 @@ pub fn place_of(window: u64, near: Near, instant: u64) -> usize
     ensures value { result ≡ instant % window }
     ensures bound { result < window }
 {
+    // The next instant is often the same.
+    if near.instant == instant {
+        return near.place;
+    }
     if near.instant <= instant {
         place_after(window, near.place as u64, instant - near.instant, instant) as usize
     } else {

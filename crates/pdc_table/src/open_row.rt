@@ -268,7 +268,7 @@ impl OpenRow {
                 &self.first,
                 &self.second,
                 place,
-                *shape,
+                shape,
                 blocks.as_mut_slice(),
                 count,
                 &mut quality,
@@ -435,7 +435,7 @@ fn give(
     first: &[Cell],
     second: &[Cell],
     place: usize,
-    shape: Option<Shape>,
+    shape: &Option<Shape>,
     blocks: &mut [Block],
     count: usize,
     quality: &mut Option<u8>,
@@ -445,11 +445,11 @@ fn give(
     requires room { count < length blocks.old }
     requires fits { IfSome quality.old (λ n. n ≤ 15) }
     ensures blocks { map block_view (take result blocks.new) ≡ map block_view (take count blocks.old)
-        ++ blocks_at shape (slice_index_or (columns_of held.now first.now second.now) place empty_column) }
+        ++ blocks_at shape.now (slice_index_or (columns_of held.now first.now second.now) place empty_column) }
     ensures len { length blocks.new ≡ length blocks.old }
     ensures grown { result ≤ count + 1 }
     ensures quality { (ns : List ℕ) → worst_of quality.new ns ≡ worst_of quality.old
-        (qualities_at shape (slice_index_or (columns_of held.now first.now second.now) place empty_column) ++ ns) }
+        (qualities_at shape.now (slice_index_or (columns_of held.now first.now second.now) place empty_column) ++ ns) }
     ensures quality_fits { IfSome quality.new (λ n. n ≤ 15) }
 {
     if place < held.len() {
@@ -457,7 +457,7 @@ fn give(
     }
     match shape {
         Some(shape) => {
-            set_absent(&mut blocks[count], shape);
+            set_absent(&mut blocks[count], *shape);
             count + 1
         }
         None => count,

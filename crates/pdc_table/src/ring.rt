@@ -233,7 +233,7 @@ pub fn take<B: Offered>(
     ages: &mut Vec<u64>,
     open: &mut Vec<u64>,
     window: u64,
-    near: &mut Near,
+    near: Near,
     stream: usize,
     lane: usize,
     instant: u64,
@@ -241,7 +241,7 @@ pub fn take<B: Offered>(
     quality: u8,
 ) -> PutOutcome
     requires least { 0 < window }
-    requires near { near.old.place ≡ near.old.instant % window }
+    requires near { near.place ≡ near.instant % window }
     requires size { length places.old.items ≡ window }
     requires ages_size { length ages.old.items ≡ window }
     requires rising { Rises 0 open.old.items }
@@ -258,13 +258,11 @@ pub fn take<B: Offered>(
         else slice_set ages.old.items (instant % window) 0) }
     ensures open { open.new.items ≡ (if (row_in places.old.items window instant).instant == instant then open.old.items
         else place instant open.old.items) }
-    ensures near { near.new.place ≡ near.new.instant % window }
     ensures ages_capacity { vec_capacity ages.new ≡ vec_capacity ages.old }
     ensures capacity { vec_capacity places.new ≡ vec_capacity places.old }
     ensures open_capacity { vec_capacity open.new ≡ vec_capacity open.old }
 {
-    let place = place_of(window, *near, instant);
-    *near = Near { instant, place };
+    let place = place_of(window, near, instant);
     let row = &mut places[place];
     if row.instant() == instant {
         return row.offer(stream, lane, cells, quality);

@@ -4,7 +4,7 @@ ghost use Rattle.pdc_table.specs.Content.{HasSizesOf, IsContent, IsPut};
 ghost use Rattle.pdc_table.specs.Steps.{after_put, put_answer};
 ghost use Rattle.pdc_table.specs.Taking.{cells_in};
 
-use crate::near::Near;
+use crate::near::{Near, place_of};
 use crate::open_row::{OpenRow, Places, falses};
 use crate::sorted_table::{lane_of, stream_count};
 use crate::{ClosingLayout, MAX_COLUMNS, PutOutcome, RowLayout, Table, WaitRule, ring};
@@ -72,10 +72,14 @@ impl RingTable {
         if instant <= self.last {
             return PutOutcome::Late;
         }
+        let here = Near {
+            instant,
+            place: place_of(self.window, self.near, instant),
+        };
         if !ring::is_in_window(
             &self.places,
             self.window,
-            self.near,
+            here,
             &self.open,
             &self.closed,
             instant,
@@ -91,8 +95,9 @@ impl RingTable {
             open,
             ..
         } = self;
+        *near = here;
         ring::take(
-            places, ages, open, *window, near, stream, lane, instant, cells, quality,
+            places, ages, open, *window, here, stream, lane, instant, cells, quality,
         )
     }
 }

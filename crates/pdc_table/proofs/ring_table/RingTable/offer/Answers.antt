@@ -202,6 +202,6 @@ invariant_of-self g c =
       closed_placed = stands g c;
       known = ring.known;
       room = rw c.take.ensures.open_capacity c.self.invariant.room;
-      near = c.take.ensures.near;
+      near = c.place_of.ensures.value;
       closed_room = c.self.invariant.closed_room;
     }
