@@ -17,10 +17,10 @@ mod ours {
         pub fn dagluwis_read_config(bytes: *const u8, len: usize) -> u64;
         pub fn dagluwis_read_data(bytes: *const u8, len: usize, phasors: u8, analogs: u8, digitals: u8, time_base: u32, rate: u32) -> u64;
         pub fn dagluwis_write_config(bytes: *const u8, len: usize, rounds: u32) -> u64;
-        pub fn dagluwis_table_steady(window: u64, behind: u64, instants: u32) -> u64;
-        pub fn dagluwis_table_fill(window: u64, rounds: u32) -> u64;
-        pub fn dagluwis_ring_steady(window: u64, behind: u64, instants: u32) -> u64;
-        pub fn dagluwis_ring_fill(window: u64, rounds: u32) -> u64;
+        pub fn dagluwis_table_steady(window: u64, behind: u64, instants: u32, bodies: *const u8, bodies_len: usize) -> u64;
+        pub fn dagluwis_table_fill(window: u64, rounds: u32, bodies: *const u8, bodies_len: usize) -> u64;
+        pub fn dagluwis_ring_steady(window: u64, behind: u64, instants: u32, bodies: *const u8, bodies_len: usize) -> u64;
+        pub fn dagluwis_ring_fill(window: u64, rounds: u32, bodies: *const u8, bodies_len: usize) -> u64;
         pub fn dagluwis_node(text: *const u8, text_len: usize, configs: *const u8, configs_len: usize, data: *const u8, data_len: usize, floor: u64) -> u64;
         pub fn dagluwis_merger(text: *const u8, text_len: usize, configs: *const u8, configs_len: usize, data: *const u8, data_len: usize, floor: u64) -> u64;
         pub fn dagluwis_write_data(bytes: *const u8, len: usize, phasors: u8, analogs: u8, digitals: u8, rounds: u32) -> u64;
@@ -209,6 +209,7 @@ fn tables() {
         }
         line(name, window, "plain, ring", best, ticks, best);
     };
+    let bodies = tables::bodies();
     let (window, behind) = (64, 48);
     rows(
         "16 puts, 4 ticks an instant, one stream 48 behind",
@@ -216,11 +217,11 @@ fn tables() {
         2_000,
         TICKS,
         &mut [
-            ("proved, sorted rows", &mut |n| unsafe { ours::dagluwis_table_steady(window, behind, n) }),
-            ("proved, ring", &mut |n| unsafe { ours::dagluwis_ring_steady(window, behind, n) }),
-            ("plain, `BTreeMap`", &mut |n| tables::steady::<tables::MapTable>(window, behind, n)),
+            ("proved, sorted rows", &mut |n| unsafe { ours::dagluwis_table_steady(window, behind, n, black_box(bodies.as_ptr()), bodies.len()) }),
+            ("proved, ring", &mut |n| unsafe { ours::dagluwis_ring_steady(window, behind, n, black_box(bodies.as_ptr()), bodies.len()) }),
+            ("plain, `BTreeMap`", &mut |n| tables::steady::<tables::MapTable>(window, behind, n, black_box(&bodies))),
         ],
-        &mut |n| tables::steady::<tables::RingTable>(window, behind, n),
+        &mut |n| tables::steady::<tables::RingTable>(window, behind, n, black_box(&bodies)),
     );
     for window in [8u64, 64, 256] {
         // As many instants as whole windows have, and so many that the memory of a new table is little beside them.
@@ -231,11 +232,11 @@ fn tables() {
             instants,
             1.0 / window as f64,
             &mut [
-                ("proved, sorted rows", &mut |n| unsafe { ours::dagluwis_table_fill(window, n / window as u32) }),
-                ("proved, ring", &mut |n| unsafe { ours::dagluwis_ring_fill(window, n / window as u32) }),
-                ("plain, `BTreeMap`", &mut |n| tables::fill::<tables::MapTable>(window, n / window as u32)),
+                ("proved, sorted rows", &mut |n| unsafe { ours::dagluwis_table_fill(window, n / window as u32, black_box(bodies.as_ptr()), bodies.len()) }),
+                ("proved, ring", &mut |n| unsafe { ours::dagluwis_ring_fill(window, n / window as u32, black_box(bodies.as_ptr()), bodies.len()) }),
+                ("plain, `BTreeMap`", &mut |n| tables::fill::<tables::MapTable>(window, n / window as u32, black_box(&bodies))),
             ],
-            &mut |n| tables::fill::<tables::RingTable>(window, n / window as u32),
+            &mut |n| tables::fill::<tables::RingTable>(window, n / window as u32, black_box(&bodies)),
         );
     }
 }

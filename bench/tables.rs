@@ -377,31 +377,39 @@ const SHAPE: Shape = Shape { phasors: 8, analogs: 4, digitals: 1 };
 /// The bytes of a body of this shape.
 const BODY_LEN: usize = 48;
 
-struct Aligner<T: Table> {
+/// The bodies of 16 streams for four instants, one behind the other.
+pub fn bodies() -> Vec<u8> {
+    (0..INSTANTS as usize * STREAMS * BODY_LEN).map(|i| (i * 37 + i / BODY_LEN) as u8).collect()
+}
+
+/// For so many instants the streams have bodies of their own.
+const INSTANTS: u64 = 4;
+
+struct Aligner<'a, T: Table> {
     table: T,
     layout: Layout,
+    /// The bodies that the streams send for four instants, one behind the other: they lie in memory, as those of datagrams do.
+    bodies: &'a [u8],
     row: DueRow,
     mixed: u64,
 }
 
-impl<T: Table> Aligner<T> {
-    fn new(window: u64) -> Self {
+impl<'a, T: Table> Aligner<'a, T> {
+    fn new(window: u64, bodies: &'a [u8]) -> Self {
         let mut shapes = Few::new();
         let mut table = T::new(window);
         for stream in 0..STREAMS {
             shapes.push(Some(SHAPE));
             table.require(stream, true);
         }
-        Aligner { table, layout: Layout { start: 1, change: 0, shapes }, row: DueRow::spare(), mixed: 0 }
+        Aligner { table, layout: Layout { start: 1, change: 0, shapes }, bodies, row: DueRow::spare(), mixed: 0 }
     }
 
     fn put(&mut self, stream: usize, instant: u64) {
-        let mut bytes = [0; BODY_LEN];
-        bytes[2] = (instant / 256) as u8;
-        bytes[3] = instant as u8;
-        bytes[5] = stream as u8;
-        let Ok(body) = plain::read_body(SHAPE, &bytes) else { return };
-        let outcome = self.table.put(stream, instant, &[(stream, SHAPE, body)], 0);
+        let Some(shape) = self.layout.shapes.as_slice()[stream] else { return };
+        let at = ((instant % INSTANTS) as usize * STREAMS + stream) * BODY_LEN;
+        let Ok(body) = plain::read_body(shape, &self.bodies[at..at + BODY_LEN]) else { return };
+        let outcome = self.table.put(stream, instant, &[(stream, shape, body)], 0);
         self.mixed = self.mixed.rotate_left(1) ^ outcome as u64;
     }
 
@@ -427,8 +435,8 @@ fn mix(row: &DueRow) -> u64 {
 
 /// For each instant 16 puts, of which the last is this much behind, and 4 ticks.
 #[inline(never)]
-pub fn steady<T: Table>(window: u64, behind: u64, instants: u32) -> u64 {
-    let mut aligner = Aligner::<T>::new(window);
+pub fn steady<T: Table>(window: u64, behind: u64, instants: u32, bodies: &[u8]) -> u64 {
+    let mut aligner = Aligner::<T>::new(window, bodies);
     for instant in 1..=u64::from(instants) {
         for stream in 0..STREAMS - 1 {
             aligner.put(stream, instant);
@@ -443,8 +451,8 @@ pub fn steady<T: Table>(window: u64, behind: u64, instants: u32) -> u64 {
 
 /// Fills the window with 16 puts an instant, in rising order, and closes it with one tick, so many times.
 #[inline(never)]
-pub fn fill<T: Table>(window: u64, rounds: u32) -> u64 {
-    let mut aligner = Aligner::<T>::new(window);
+pub fn fill<T: Table>(window: u64, rounds: u32, bodies: &[u8]) -> u64 {
+    let mut aligner = Aligner::<T>::new(window, bodies);
     for round in 0..u64::from(rounds) {
         for instant in round * window + 1..=(round + 1) * window {
             for stream in 0..STREAMS {

@@ -1,7 +1,7 @@
 //! From bytes to values.
 
 use pdc_block::Body;
-use pdc_cfg::{MAX_ANALOGS, MAX_DIGITALS, MAX_PHASORS, Shape, read_config};
+use pdc_cfg::{ConfigView, MAX_ANALOGS, MAX_DIGITALS, MAX_PHASORS, Shape, read_config};
 use pdc_frame::{check_word, read_frame};
 use pdc_tag::{COUNT_LIMIT, MAX_RATE, instant};
 
@@ -23,15 +23,8 @@ pub extern "C" fn dagluwis_check_word(bytes: &[u8]) -> u16 {
     check_word(bytes)
 }
 
-/// Reads a configuration frame, and mixes what its sections say; 0 where it is refused.
-#[unsafe(no_mangle)]
-pub extern "C" fn dagluwis_read_config(bytes: &[u8]) -> u64 {
-    let Ok(frame) = read_frame(bytes) else {
-        return 0;
-    };
-    let Ok(config) = read_config(&frame) else {
-        return 0;
-    };
+/// A number that depends on the configuration.
+fn mix(config: &ConfigView<'_>) -> u64 {
     let mut mixed = u64::from(config.time_base);
     for section in config.sections.as_slice() {
         mixed ^= u64::from(section.source) << 32
@@ -39,6 +32,20 @@ pub extern "C" fn dagluwis_read_config(bytes: &[u8]) -> u64 {
             ^ section.bytes.len() as u64;
     }
     mixed
+}
+
+/// Reads a configuration frame, and mixes what its sections say; 0 where it is refused.
+#[unsafe(no_mangle)]
+pub extern "C" fn dagluwis_read_config(bytes: &[u8]) -> u64 {
+    let Ok(frame) = read_frame(bytes) else {
+        return 0;
+    };
+    // It is read where it was made, and not moved.
+    let config = read_config(&frame);
+    match &config {
+        Ok(config) => mix(config),
+        Err(_) => 0,
+    }
 }
 
 /// Reads a data frame of one PMU, and mixes its instant with its words; 0 where it is refused.

@@ -18,11 +18,16 @@ const SHAPE: Shape = Shape {
 /// The bytes of a body of this shape.
 const BODY_LEN: usize = 48;
 
+/// For so many instants the streams have bodies of their own.
+const INSTANTS: u64 = 4;
+
 /// A table of 16 streams, one for each column.
 #[derive(Drop)]
-struct Aligner<T: Table> {
+struct Aligner<'a, T: Table> {
     table: T,
     layout: RowLayout,
+    /// The bodies that the streams send for four instants, one behind the other: they lie in memory, as those of datagrams do.
+    bodies: &'a [u8],
     /// Each row is popped into this one.
     row: DueRow,
     mixed: u64,
@@ -30,8 +35,8 @@ struct Aligner<T: Table> {
     ghost counted: { (T.content table).columns ≡ 16 },
 }
 
-impl<T: Table> Aligner<T> {
-    fn new(alloc: Global, window: u64) -> Result<Self, AllocError>
+impl<'a, T: Table> Aligner<'a, T> {
+    fn new(alloc: Global, window: u64, bodies: &'a [u8]) -> Result<Self, AllocError>
         requires least { 8 ≤ window }
         requires most { window ≤ 256 }
     {
@@ -48,6 +53,7 @@ impl<T: Table> Aligner<T> {
                 change: 0,
                 shapes,
             },
+            bodies,
             row: spare_row(),
             mixed: 0,
         })
@@ -59,16 +65,24 @@ impl<T: Table> Aligner<T> {
         }
     }
 
+    /// The body that the stream sends for the instant.
+    #[inline]
+    fn body(&self, stream: usize, instant: u64) -> Option<Body<'a>>
+        requires { stream < 16 }
+    {
+        let shape = (*self.layout.shapes.as_slice().get(stream)?)?;
+        let at = ((instant % INSTANTS) as usize * STREAMS + stream) * BODY_LEN;
+        if self.bodies.len() < at + BODY_LEN {
+            return None;
+        }
+        Body::new(shape, &self.bodies[at..at + BODY_LEN]).ok()
+    }
+
     fn put(&mut self, stream: usize, instant: u64)
         requires { stream < 16 }
     {
-        let mut bytes = [0; BODY_LEN];
-        bytes[2] = (instant / 256 % 256) as u8;
-        bytes[3] = (instant % 256) as u8;
-        bytes[5] = stream as u8;
-        let body = Body {
-            shape: SHAPE,
-            bytes: &bytes,
+        let Some(body) = self.body(stream, instant) else {
+            return;
         };
         let outcome = self.table.put_bodies(stream, instant, &[(stream, body)], 0);
         self.mixed = self.mixed.rotate_left(1) ^ outcome as u64;
@@ -106,11 +120,12 @@ fn steady<T: Table>(
     window: u64,
     behind: u64,
     instants: u32,
+    bodies: &[u8],
 ) -> Result<u64, AllocError>
     requires least { 8 ≤ window }
     requires most { window ≤ 256 }
 {
-    let mut aligner = Aligner::<T>::new(alloc, window)?;
+    let mut aligner = Aligner::<T>::new(alloc, window, bodies)?;
     aligner.require();
     for instant in 0..instants {
         let instant = u64::from(instant) + 1;
@@ -126,11 +141,11 @@ fn steady<T: Table>(
 }
 
 /// Fills the window with 16 puts an instant, in rising order, and closes it with one tick, so many times.
-fn fill<T: Table>(alloc: Global, window: u64, rounds: u32) -> Result<u64, AllocError>
+fn fill<T: Table>(alloc: Global, window: u64, rounds: u32, bodies: &[u8]) -> Result<u64, AllocError>
     requires least { 8 ≤ window }
     requires most { window ≤ 256 }
 {
-    let mut aligner = Aligner::<T>::new(alloc, window)?;
+    let mut aligner = Aligner::<T>::new(alloc, window, bodies)?;
     aligner.require();
     for round in 0..rounds {
         for place in 0..window {
@@ -145,28 +160,34 @@ fn fill<T: Table>(alloc: Global, window: u64, rounds: u32) -> Result<u64, AllocE
 }
 
 /// Runs a sorted table for so many instants: for each 16 puts, of which the last is `behind` instants behind, 4 ticks, and the
-/// rows that close taken out; 0 where the window is not 8 to 256 or memory runs out.
+/// rows that close taken out; 0 where the window is not 8 to 256 or memory runs out. `bodies` has those of four instants, each of 16 streams.
 #[unsafe(no_mangle)]
 pub extern "C" fn dagluwis_table_steady(
     alloc: Global,
     window: u64,
     behind: u64,
     instants: u32,
+    bodies: &[u8],
 ) -> u64 {
     if window < 8 || window > 256 {
         return 0;
     }
-    steady::<SortedTable>(alloc, window, behind, instants).unwrap_or(0)
+    steady::<SortedTable>(alloc, window, behind, instants, bodies).unwrap_or(0)
 }
 
 /// Fills the window of a sorted table and closes it so many times: 16 puts an instant, one tick, and the rows taken out; 0
 /// where the window is not 8 to 256 or memory runs out.
 #[unsafe(no_mangle)]
-pub extern "C" fn dagluwis_table_fill(alloc: Global, window: u64, rounds: u32) -> u64 {
+pub extern "C" fn dagluwis_table_fill(
+    alloc: Global,
+    window: u64,
+    rounds: u32,
+    bodies: &[u8],
+) -> u64 {
     if window < 8 || window > 256 {
         return 0;
     }
-    fill::<SortedTable>(alloc, window, rounds).unwrap_or(0)
+    fill::<SortedTable>(alloc, window, rounds, bodies).unwrap_or(0)
 }
 
 /// As `dagluwis_table_steady`, with a table kept as a ring.
@@ -176,18 +197,24 @@ pub extern "C" fn dagluwis_ring_steady(
     window: u64,
     behind: u64,
     instants: u32,
+    bodies: &[u8],
 ) -> u64 {
     if window < 8 || window > 256 {
         return 0;
     }
-    steady::<RingTable>(alloc, window, behind, instants).unwrap_or(0)
+    steady::<RingTable>(alloc, window, behind, instants, bodies).unwrap_or(0)
 }
 
 /// As `dagluwis_table_fill`, with a table kept as a ring.
 #[unsafe(no_mangle)]
-pub extern "C" fn dagluwis_ring_fill(alloc: Global, window: u64, rounds: u32) -> u64 {
+pub extern "C" fn dagluwis_ring_fill(
+    alloc: Global,
+    window: u64,
+    rounds: u32,
+    bodies: &[u8],
+) -> u64 {
     if window < 8 || window > 256 {
         return 0;
     }
-    fill::<RingTable>(alloc, window, rounds).unwrap_or(0)
+    fill::<RingTable>(alloc, window, rounds, bodies).unwrap_or(0)
 }
