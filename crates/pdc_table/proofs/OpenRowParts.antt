@@ -1,7 +1,7 @@
 -- The columns of an open row whose flags and cells stand in lists of their own.
 use Rattle.std.proofs.Common.{◌≡◌, ℕ, ◌<◌, ◌≤◌, Bool, true, false, cond, eqb, ◌||◌, List, [], ◌∷◌, length, get_or, set, replicate, map, None, Some, Option, append-nil, ap, sym, refl, ◌∙◌, arith, zero, suc}
 use Rattle.std.specs.List.{list_any, refill}
-use Rattle.std.proofs.lemmas.Bool.{true≢false}
+use Rattle.std.proofs.lemmas.Bool.{or_parts}
 use Rattle.std.proofs.lemmas.List.{drop_all, length-map, length-replicate, length-set, take_all}
 use Rattle.pdc_cfg.specs.declared.shape.Shape.{Shape}
 use Rattle.pdc_row.specs.CellView.{CellView}
@@ -115,10 +115,14 @@ one_dropped hs lent fs ss i e l h k =
     ∙ ap (λ ws. columns_of ws fs ss) (rewritten hs (set hs i nothing) (length-set hs i nothing))
     ∙ column_emptied hs fs ss i l h k
 
+pub lane_rewritten : (lane : ℕ) (hs lent ws : List Held) → lent ≡ hs → ws ≡ map (without_lane lane) lent → refill (length hs) hs ws ≡ map (without_lane lane) hs
+lane_rewritten lane hs lent ws e k =
+    ap (λ xs. refill (length hs) hs xs) (k ∙ ap (map (without_lane lane)) e)
+    ∙ rewritten hs (map (without_lane lane) hs) (length-map hs (without_lane lane))
+
 pub lane_dropped : (lane : ℕ) (hs lent ws : List Held) (fs ss : List CellView) → lent ≡ hs → ws ≡ map (without_lane lane) lent → columns_of (refill (length hs) hs ws) fs ss ≡ map (with_cell lane None) (columns_of hs fs ss)
 lane_dropped lane hs lent ws fs ss e k =
-    ap (λ xs. columns_of (refill (length hs) hs xs) fs ss) (k ∙ ap (map (without_lane lane)) e)
-    ∙ ap (λ xs. columns_of xs fs ss) (rewritten hs (map (without_lane lane) hs) (length-map hs (without_lane lane)))
+    ap (λ xs. columns_of xs fs ss) (lane_rewritten lane hs lent ws e k)
     ∙ lane_emptied lane hs fs ss
 
 -- all that are lent are written over
@@ -133,6 +137,37 @@ all_dropped hs lent ws fs ss e k h m =
     ∙ columns_emptied (length hs) fs ss h m
     ∙ ap (λ n. replicate n empty_column) (sym (columns_count hs fs ss h m))
 
+-- whether lane 1 of some column holds a cell
+abbrev pub any_second : List Held → Bool
+any_second hs = list_any (λ (h : Held). h.second) hs
+
+-- where lane 1 holds nothing, it holds nothing when a column is emptied
+pub none_set : (hs : List Held) (i : ℕ) → any_second hs ≡ false → any_second (set hs i nothing) ≡ false
+none_set [] i e = refl
+none_set (h ∷ hs) zero e = (or_parts h.second (any_second hs) e).1
+none_set (h ∷ hs) (suc i) e = rw ((or_parts h.second (any_second hs) e).0, none_set hs i (or_parts h.second (any_second hs) e).1) refl
+
+without_second : (is_first : Bool) (h : Held) → h.second ≡ false → (cond is_first (record h { first = false }) (record h { second = false })).second ≡ false
+without_second true h e = e
+without_second false h e = refl
+
+-- and when a lane of each column is emptied
+pub none_mapped : (lane : ℕ) (hs : List Held) → any_second hs ≡ false → any_second (map (without_lane lane) hs) ≡ false
+none_mapped lane [] e = refl
+none_mapped lane (h ∷ hs) e =
+    rw (without_second (eqb lane 0) h (or_parts h.second (any_second hs) e).0, none_mapped lane hs (or_parts h.second (any_second hs) e).1) refl
+
+-- a row of empty columns holds nothing in lane 1
+pub none_replicated : (n : ℕ) → any_second (replicate n nothing) ≡ false
+none_replicated zero = refl
+none_replicated (suc n) = none_replicated n
+
+-- a change that leaves lane 1 of a column leaves whether some column holds a cell there
+pub second_kept : (hs : List Held) (i : ℕ) (x y : Held) → i < length hs → y.second ≡ (get_or hs i x).second → any_second (set hs i y) ≡ any_second hs
+second_kept [] i x y l e = absurd (omega arith)
+second_kept (h ∷ hs) zero x y l e = ap (λ b. b || any_second hs) e
+second_kept (h ∷ hs) (suc i) x y l e = ap (λ b. h.second || b) (second_kept hs i x y (omega arith) e)
+
 -- with nothing in lane 1, no column disagrees
 alone : (shape : Option Shape) (h : Held) (f s : CellView) → h.second ≡ false → disagreement_at shape (column_of h f s) ≡ 0
 alone None h f s e = refl
@@ -142,14 +177,10 @@ alone (Some shape) h f s e = rw e (lone (present_of (kept h.first f)))
     lone None = refl
     lone (Some c) = refl
 
-pub none_disagree : (shapes : List (Option Shape)) (hs : List Held) (fs ss : List CellView) → list_any (λ (h : Held). h.second) hs ≡ false → disagreements_of shapes (columns_of hs fs ss) ≡ 0
+pub none_disagree : (shapes : List (Option Shape)) (hs : List Held) (fs ss : List CellView) → any_second hs ≡ false → disagreements_of shapes (columns_of hs fs ss) ≡ 0
 none_disagree [] hs fs ss e = refl
 none_disagree (shape ∷ shapes) [] fs ss e = refl
 none_disagree (shape ∷ shapes) (h ∷ hs) [] ss e = refl
 none_disagree (shape ∷ shapes) (h ∷ hs) (f ∷ fs) [] e = refl
 none_disagree (shape ∷ shapes) (h ∷ hs) (f ∷ fs) (s ∷ ss) e =
-    rw (alone shape h f s (neither h.second (list_any (λ (h : Held). h.second) hs) e).0, none_disagree shapes hs fs ss (neither h.second (list_any (λ (h : Held). h.second) hs) e).1) refl
-  where
-    neither : (a b : Bool) → (a || b) ≡ false → (a ≡ false) × (b ≡ false)
-    neither false b e = (refl, e)
-    neither true b e = absurd (true≢false e)
+    rw (alone shape h f s (or_parts h.second (any_second hs) e).0, none_disagree shapes hs fs ss (or_parts h.second (any_second hs) e).1) refl

@@ -64,8 +64,9 @@ impl Held {
         block: &B,
         quality: u8,
     )
-        ensures { column_of self.new first.new second.new
+        ensures column { column_of self.new first.new second.new
             ≡ with_cell lane (Some (record { block = B.view block.now; quality = quality })) (column_of self.old first.old second.old) }
+        ensures alone { lane ≡ 0 → self.new.second ≡ self.old.second }
     {
         if lane == 0 {
             self.first = true;

@@ -40,6 +40,8 @@ pub struct OpenRow {
     instant: u64,
     /// The ticks since its first take.
     age: u64,
+    /// Whether a cell was put into lane 1 since the row began: where not, no column can disagree.
+    has_second: bool,
     /// Which streams were taken.
     taken: ArrayVec<bool, MAX_COLUMNS>,
     /// Which lanes of each column hold a cell: all that a row that begins writes, and all that most looks at it read.
@@ -51,9 +53,11 @@ pub struct OpenRow {
 }
 
 impl Model for OpenRow {
-    ghost use Rattle.std.specs.Prelude.{◌≤◌, length};
+    ghost use Rattle.std.specs.Prelude.{◌≡◌, ◌≤◌, false, length};
+    ghost use Rattle.std.specs.List.{list_any};
     ghost use Rattle.pdc_table.specs.OpenRowParts.{columns_of};
     ghost use Rattle.pdc_table.specs.Views.{OpenRowView};
+    ghost use Rattle.pdc_table.specs.declared.column.Held.{Held as HeldData};
 
     ghost Value = { OpenRowView };
 
@@ -67,6 +71,7 @@ impl Model for OpenRow {
     ghost invariant = { λ row. record {
       first : length row.held.items ≤ length row.first;
       second : length row.held.items ≤ length row.second;
+      alone : row.has_second ≡ false → list_any (λ (h : HeldData). h.second) row.held.items ≡ false;
     } };
 }
 
@@ -80,6 +85,7 @@ impl OpenRow {
         OpenRow {
             instant,
             age: 0,
+            has_second: false,
             taken: falses(places.streams),
             held: nothings(places.columns),
             first: array::from_fn(|_| Cell::blank()),
@@ -93,6 +99,7 @@ impl OpenRow {
     {
         self.instant = instant;
         self.age = 0;
+        self.has_second = false;
         self.taken.as_mut_slice().fill(false);
         forget_all(self.held.as_mut_slice());
     }
@@ -118,6 +125,7 @@ impl OpenRow {
         ensures { self.new ≡ with_frame stream lane (cells_in B.view cells.now quality) self.old }
     {
         self.taken[stream] = true;
+        self.has_second |= lane != 0;
         put_cells(
             self.held.as_mut_slice(),
             &mut self.first,
@@ -210,7 +218,7 @@ impl OpenRow {
         ensures value { result ≡ disagreements_of (layout_view layout.now).shapes self.now.columns }
         ensures most { result ≤ MAX_COLUMNS }
     {
-        if !any_second(self.held.as_slice()) {
+        if !self.has_second {
             return 0;
         }
         let mut count = 0;
@@ -381,6 +389,7 @@ fn put_cells<B: Offered>(
     ensures held { length held.new ≡ length held.old }
     ensures first { length first.new ≡ length first.old }
     ensures second { length second.new ≡ length second.old }
+    ensures alone { lane ≡ 0 → list_any (λ (h : HeldData). h.second) held.new ≡ list_any (λ (h : HeldData). h.second) held.old }
 {
     for (column, block) in cells {
         held[*column].put(
@@ -391,18 +400,6 @@ fn put_cells<B: Offered>(
             quality,
         );
     }
-}
-
-/// Whether lane 1 of some column holds a cell: the flags are looked at all together, with no test of each.
-#[inline]
-fn any_second(held: &[Held]) -> bool
-    ensures { result ≡ list_any (λ (h : HeldData). h.second) held.now }
-{
-    let mut any = false;
-    for each in held {
-        any |= each.second;
-    }
-    any
 }
 
 /// How many disagreements the column at this place gives, one or none; past the last column there is nothing.

@@ -1,7 +1,7 @@
 use Rattle.std.proofs.Common.{◌∙◌, ◌+◌, ◌<◌, Some, ap, arith, drop, length, sym, rules}
 use Rattle.pdc_table.specs.OpenRowParts.{columns_of, nothing}
 use Rattle.pdc_table.specs.Taking.{cells_in, with_cells}
-use Rattle.pdc_table.proofs.OpenRowParts.{column_put}
+use Rattle.pdc_table.proofs.OpenRowParts.{column_put, second_kept}
 use Rattle.pdc_table.proofs.RowSteps.{cells_step}
 use Rattle.pdc_table.proofs.open_row.put_cells.Goals as goal
 
@@ -16,11 +16,12 @@ loop-column-preserved g c =
           nothing c.put.new.self c.index-first-column.result c.index-second-column.result c.put.new.first c.put.new.second
           here (omega (arith, c.loop-column.invariant.held, c.loop-column.invariant.first, c.requires.first))
           (omega (arith, c.loop-column.invariant.held, c.loop-column.invariant.second, c.requires.second))
-          c.put.ensures)
+          c.put.ensures.column)
           ∙ sym (cells_step g.B.Offered.view c.args.lane c.args.quality c.args.cells.now (columns_of c.loop-column.held c.loop-column.first c.loop-column.second)
           c.loop-column.column-index c.loop-column-item.result (omega arith) c.loop-column-item.is)
           ∙ c.loop-column.invariant.columns;
       held = search (rules, c.loop-column.invariant.held);
       first = search (rules, c.loop-column.invariant.first);
       second = search (rules, c.loop-column.invariant.second);
+      alone = λ e. second_kept c.loop-column.held c.loop-column-item.result.0 nothing c.put.new.self here (c.put.ensures.alone e) ∙ c.loop-column.invariant.alone e;
     }

@@ -1,5 +1,6 @@
 use Rattle.std.proofs.Common.{◌≡◌, drop, length}
 use Rattle.pdc_table.specs.OpenRowParts.{columns_of}
+use Rattle.pdc_table.proofs.OpenRowParts.{any_second}
 use Rattle.pdc_table.specs.Taking.{cells_in, with_cells}
 use Rattle.pdc_table.proofs.open_row.put_cells.Given as goal
 
@@ -11,4 +12,5 @@ invariant-loop-column g l = record {
   held : length l.held ≡ length l.initial.held;
   first : length l.first ≡ length l.initial.first;
   second : length l.second ≡ length l.initial.second;
+  alone : l.lane ≡ 0 → any_second l.held ≡ any_second l.initial.held;
 }

@@ -1,7 +1,9 @@
 use Rattle.std.proofs.Common.{◌≡◌, ◌∙◌, ap, arith, length}
+use Rattle.std.proofs.lemmas.List.{length-set}
+use Rattle.pdc_table.specs.OpenRowParts.{nothing}
 use Rattle.pdc_table.specs.Taking.{without_column}
 use Rattle.pdc_table.specs.Views.{OpenRowView}
-use Rattle.pdc_table.proofs.OpenRowParts.{columns_seen, one_dropped}
+use Rattle.pdc_table.proofs.OpenRowParts.{columns_seen, none_set, one_dropped, one_rewritten}
 use Rattle.pdc_table.proofs.open_row.OpenRow.drop_column.Goals as goal
 
 -- how many columns there are
@@ -26,3 +28,11 @@ returns c =
           (ap (λ (row : OpenRowView). row.columns) c.self.view_is) c.self.invariant.first c.self.invariant.second,
     )) c.self.invariant.first c.self.invariant.second)
     ∙ ap (without_column c.args.column) c.self.view_is
+
+pub invariant_of-self : goal.invariant_of-self
+invariant_of-self c =
+    rw (one_rewritten c.self.inside.held.items c.deref_mut.result.now c.args.column nothing c.deref_mut.ensures.value) (record {
+      first = omega (arith, length-set c.self.inside.held.items c.args.column nothing, c.self.invariant.first);
+      second = omega (arith, length-set c.self.inside.held.items c.args.column nothing, c.self.invariant.second);
+      alone = λ e. none_set c.self.inside.held.items c.args.column (c.self.invariant.alone e);
+    })
