@@ -1,6 +1,6 @@
 -- Where no column is ready, nothing is adopted.
-use Rattle.std.proofs.Common.{◌≡◌, ◌||◌, ◌&&◌, ℕ, ◌+◌, Bool, true, false, cond, not, nat_lt, List, [], ◌∷◌, map, None, ap, refl}
-use Rattle.std.proofs.lemmas.Bool.{true≢false}
+use Rattle.std.proofs.Common.{◌≡◌, ◌&&◌, ℕ, ◌+◌, Bool, true, false, cond, not, nat_lt, List, [], ◌∷◌, map, None, ap, refl}
+use Rattle.std.proofs.lemmas.Bool.{or_parts}
 use Rattle.std.specs.List.{list_any}
 use Rattle.pdc_table.specs.Steps.{tick_answer}
 use Rattle.pdc_state.specs.State.{rule_of}
@@ -8,20 +8,16 @@ use Rattle.pdc_align.specs.Align.{ColumnState, State, new_change}
 use Rattle.pdc_align.specs.Calls.{after_adopting, after_closing, after_tick_of, cleared_from, has_change_in, is_ready_in, ready_from, told_at, with_adoption}
 use Rattle.pdc_align.specs.declared.ticked.Ticked.{Ticked}
 
-neither : (a b : Bool) → (a || b) ≡ false → (a ≡ false) × (b ≡ false)
-neither false b e = (refl, e)
-neither true b e = absurd (true≢false e)
-
 pub none_ready : (first : ℕ) (columns : List ColumnState) → list_any is_ready_in columns ≡ false → ready_from first columns ≡ []
 none_ready first [] e = refl
 none_ready first (column ∷ columns) e =
-    let both = neither (is_ready_in column) (list_any is_ready_in columns) e in
+    let both = or_parts (is_ready_in column) (list_any is_ready_in columns) e in
     rw both.0 (none_ready (first + 1) columns both.1)
 
 pub all_kept : (columns : List ColumnState) → list_any is_ready_in columns ≡ false → map with_adoption columns ≡ columns
 all_kept [] e = refl
 all_kept (column ∷ columns) e =
-    let both = neither (is_ready_in column) (list_any is_ready_in columns) e in
+    let both = or_parts (is_ready_in column) (list_any is_ready_in columns) e in
     rw both.0 (ap (λ cs. column ∷ cs) (all_kept columns both.1))
 
 -- then a tick tells of none,

@@ -3,7 +3,7 @@ use Rattle.std.proofs.Common.{◌≡◌, ℕ, zero, suc, ◌+◌, ◌<◌, ◌�
 use Rattle.std.specs.Prelude.{nat_eq, slice_index_or}
 use Rattle.std.specs.Cmp.Lexicographic.{pointwise, same_text}
 use Rattle.std.specs.List.{AllByRecursion, Contains, flat_map}
-use Rattle.std.proofs.lemmas.Bool.{cases_lt, false≢true}
+use Rattle.std.proofs.lemmas.Bool.{cases_lt, false≢true, or_parts}
 use Rattle.pdc_cfg.specs.Section.{SectionFields}
 use Rattle.pdc_row.specs.Rising.{Rises}
 use Rattle.pdc_life.specs.declared.merging.MergerSettings.{MergerSettings}
@@ -143,10 +143,6 @@ no_conflict_with (Some s) t h = λ same.
     let k : not (pointwise nat_eq s.bytes t.bytes) ≡ false = sym (ap (λ (b : Bool). b && not (pointwise nat_eq s.bytes t.bytes)) e) ∙ h in
     sym (equal_text s.bytes t.bytes (pointwise nat_eq s.bytes t.bytes) refl k)
 
-neither : (a b : Bool) → (a || b) ≡ false → (a ≡ false) × (b ≡ false)
-neither true b h = absurd (false≢true (sym h))
-neither false b h = (refl, h)
-
 in_order : (old same conflicts : Bool) → is_candidate (cond old (Refused OldStamp) (cond same Known (cond conflicts (Refused CountConflict) Candidate))) ≡ true → conflicts ≡ false
 in_order true same conflicts h = absurd (false≢true h)
 in_order false true conflicts h = absurd (false≢true h)
@@ -174,8 +170,8 @@ new_good : (g : Given) (E : List Entry) (r : ℕ) (bytes : List ℕ) (stamp : St
     → AllByRecursion (Alone all) parts → has_count_conflict g E parts ≡ false → AreGood g (Arrive r bytes (Layout (Some stamp) all) answer ∷ E) parts
 new_good g E r bytes stamp all [] answer accepted alone none = tt
 new_good g E r bytes stamp all (part ∷ parts) answer accepted alone none =
-    let apart = neither (differs_from (held_section g E part.0) part.1 || differs_from (section_in_force g E part.0) part.1) (has_count_conflict g E parts) none in
-    let both = neither (differs_from (held_section g E part.0) part.1) (differs_from (section_in_force g E part.0) part.1) apart.0 in (
+    let apart = or_parts (differs_from (held_section g E part.0) part.1 || differs_from (section_in_force g E part.0) part.1) (has_count_conflict g E parts) none in
+    let both = or_parts (differs_from (held_section g E part.0) part.1) (differs_from (section_in_force g E part.0) part.1) apart.0 in (
       (λ low. (
         rw (accepted, alone.0) (new_one (count_for part.0 g.counts) (filter (passes (count_for part.0 g.counts)) (flat_map (sections_at part.0) E)) part.1 (leb (count_for part.0 g.counts) part.1.count) refl low
             (no_conflict_with (held_section g E part.0) part.1 both.0)),

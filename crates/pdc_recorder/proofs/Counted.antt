@@ -1,5 +1,6 @@
 -- What an answer adds to the counters.
-use Rattle.std.proofs.Common.{arith, ◌≡◌, ℕ, ◌+◌, ◌-◌, ◌^◌, ◌<◌, Bool, true, false, true≢false, ◌||◌, refl, ap, ◌∙◌}
+use Rattle.std.proofs.Common.{arith, ◌≡◌, ℕ, ◌+◌, ◌-◌, ◌^◌, ◌<◌, false, ◌||◌, ap, ◌∙◌}
+use Rattle.std.proofs.lemmas.Bool.{or_parts}
 use Rattle.std.proofs.Math.Nat.{min-eq_left}
 use Rattle.pdc_core.specs.Step.{Counts, after_answer, next}
 use Rattle.pdc_life.specs.declared.outcome.Outcome.{Outcome}
@@ -37,13 +38,8 @@ pub record IsFree (taken refused configured : ℕ) : Type 0 where
 free : (n : ℕ) → is_at_greatest n ≡ false → n < 2 ^ 64 - 1
 free n e = grind (arith, e)
 
-neither : (a b : Bool) → a || b ≡ false → (a ≡ false) × (b ≡ false)
-neither false false e = (refl, refl)
-neither true b e = absurd (true≢false e)
-neither false true e = absurd (true≢false e)
-
 pub is_free : (t f c : ℕ) → is_used_up t f c ≡ false → IsFree t f c
 is_free t f c e =
-    let a = neither (is_at_greatest t) (is_at_greatest f || is_at_greatest c) e in
-    let b = neither (is_at_greatest f) (is_at_greatest c) a.1 in
+    let a = or_parts (is_at_greatest t) (is_at_greatest f || is_at_greatest c) e in
+    let b = or_parts (is_at_greatest f) (is_at_greatest c) a.1 in
     record { taken_free = free t a.0; refused_free = free f b.0; configured_free = free c b.1 }

@@ -1,19 +1,14 @@
 //! What was taken of one column at one instant, lane by lane. Which lanes hold a cell stands apart from the cells, so that a
 //! look at what is held reads no cell.
-ghost use Rattle.std.specs.Prelude.{◌≡◌, ℕ, ◌+◌, ◌<◌, ◌≤◌, ◌++◌, List, length, map, option_copied, replicate, take, None, Some, IfSome};
-ghost use Rattle.pdc_row.specs.CellView.{block_view};
+ghost use Rattle.std.specs.Prelude.{◌≡◌, ◌≤◌, length, map, option_copied, replicate, Some};
 ghost use Rattle.pdc_row.specs.Chosen.{present_of};
-ghost use Rattle.pdc_row.specs.Quality.{worst_of};
 ghost use Rattle.pdc_table.specs.Chosen.{are_different, chosen_of};
 ghost use Rattle.pdc_table.specs.OpenRowParts.{column_of, nothing, without_lane};
-ghost use Rattle.pdc_table.specs.Row.{blocks_at, qualities_at};
 ghost use Rattle.pdc_table.specs.Steps.{disagreement_at};
 ghost use Rattle.pdc_table.specs.Taking.{cell_in, holds_other, with_cell};
 
-use pdc_block::Block;
 use pdc_cfg::Shape;
 use pdc_row::{Cell, Offered};
-use pdc_stat::set_absent;
 
 /// Which lanes of a column hold a cell.
 #[derive(Clone, Copy)]
@@ -105,44 +100,6 @@ impl Held {
         } else {
             self.second && !second.holds(block)
         }
-    }
-
-    /// Writes what the column of these cells gives to a row behind so many blocks, and answers how many there are then: with a
-    /// shape one more, and its time quality if it is present.
-    #[inline]
-    pub(crate) fn give(
-        &self,
-        first: &Cell,
-        second: &Cell,
-        shape: &Option<Shape>,
-        blocks: &mut [Block],
-        count: usize,
-        quality: &mut Option<u8>,
-    ) -> usize
-        requires room { count < length blocks.old }
-        requires fits { IfSome quality.old (λ n. n ≤ 15) }
-        ensures blocks { map block_view (take result blocks.new)
-            ≡ map block_view (take count blocks.old) ++ blocks_at shape.now (column_of self.now first.now second.now) }
-        ensures len { length blocks.new ≡ length blocks.old }
-        ensures grown { result ≤ count + 1 }
-        ensures quality { (ns : List ℕ) → worst_of quality.new ns
-            ≡ worst_of quality.old (qualities_at shape.now (column_of self.now first.now second.now) ++ ns) }
-        ensures quality_fits { IfSome quality.new (λ n. n ≤ 15) }
-    {
-        let Some(shape) = shape else {
-            return count;
-        };
-        let Some(cell) = self.chosen(first, second) else {
-            set_absent(&mut blocks[count], *shape);
-            return count + 1;
-        };
-        cell.copy_to(&mut blocks[count]);
-        let given = cell.time_quality();
-        *quality = Some(match *quality {
-            Some(worst) => worst.max(given),
-            None => given,
-        });
-        count + 1
     }
 
     /// One where the column of these cells has a shape, and its lanes hold present blocks that differ.

@@ -1,9 +1,11 @@
 //! The row of an instant that is open.
-ghost use Rattle.std.specs.Prelude.{◌≡◌, ℕ, ◌+◌, ◌<◌, ◌≤◌, ◌++◌, List, length, map, replicate, take, false, slice_index_or, Some, IfSome, if◌then◌else◌};
+ghost use Rattle.std.specs.Prelude.{◌≡◌, ℕ, ◌+◌, ◌<◌, ◌≤◌, ◌++◌, List, length, map, option_copied, replicate, take, false, slice_index_or, Some, IfSome, if◌then◌else◌};
 ghost use Rattle.std.specs.List.{All, list_any};
-ghost use Rattle.pdc_row.specs.CellView.{block_view};
+ghost use Rattle.std.specs.Option.{option_to_list};
+ghost use Rattle.pdc_row.specs.CellView.{absent_view, block_view};
 ghost use Rattle.pdc_row.specs.Quality.{worst_of};
 ghost use Rattle.pdc_row.specs.RowView.{row_view};
+ghost use Rattle.pdc_table.specs.Chosen.{chosen_of};
 ghost use Rattle.pdc_table.specs.RingRows.{at_age};
 ghost use Rattle.pdc_table.specs.Row.{blocks_at, qualities_at, row_of};
 ghost use Rattle.pdc_table.specs.Closing.{aged, all_taken, is_due};
@@ -94,6 +96,7 @@ impl OpenRow {
     }
 
     /// Makes this the row of an instant in which nothing was taken.
+    #[inline(never)]
     pub(crate) fn begin(&mut self, instant: u64)
         ensures { self.new ≡ blank_row (length self.old.taken) (length self.old.columns) instant }
     {
@@ -125,7 +128,6 @@ impl OpenRow {
         ensures { self.new ≡ with_frame stream lane (cells_in B.view cells.now quality) self.old }
     {
         self.taken[stream] = true;
-        self.has_second |= lane != 0;
         put_cells(
             self.held.as_mut_slice(),
             &mut self.first,
@@ -134,6 +136,9 @@ impl OpenRow {
             cells,
             quality,
         );
+        if lane != 0 {
+            self.has_second = true;
+        }
     }
 
     /// Takes the frame, unless the stream was taken already: then the first stays.
@@ -270,8 +275,11 @@ impl OpenRow {
         let mut count = 0;
         let mut quality = None;
         for (place, shape) in layout.shapes.as_slice().iter().enumerate() {
+            let Some(shape) = shape else {
+                continue;
+            };
             make_slot(blocks, count);
-            count = give(
+            let given = give(
                 self.held.as_slice(),
                 &self.first,
                 &self.second,
@@ -279,8 +287,9 @@ impl OpenRow {
                 shape,
                 blocks.as_mut_slice(),
                 count,
-                &mut quality,
             );
+            quality = worst(quality, given);
+            count += 1;
         }
         blocks.truncate(count);
         quality.unwrap_or(WORST_QUALITY)
@@ -424,39 +433,79 @@ fn disagreements_at(
     }
 }
 
-/// Writes what the column at this place gives to a row behind so many blocks, and answers how many there are then; past the
-/// last column there is nothing.
+/// The cell that the column at this place gives; past the last column there is none.
+#[inline]
 #[tactic(auto, using(crate::proofs::OpenRowParts::column_at, crate::proofs::OpenRowParts::column_past))]
+fn chosen_at<'a>(
+    held: &[Held],
+    first: &'a [Cell],
+    second: &'a [Cell],
+    place: usize,
+) -> Option<&'a Cell>
+    requires first { length held.now ≤ length first.now }
+    requires second { length held.now ≤ length second.now }
+    ensures { option_copied result ≡ chosen_of (slice_index_or (columns_of held.now first.now second.now) place empty_column) }
+{
+    if place < held.len() {
+        held[place].chosen(&first[place], &second[place])
+    } else {
+        None
+    }
+}
+
+/// Writes the block that the column at this place gives, which has this shape, behind so many blocks, and answers its time
+/// quality if it is present.
+#[inline]
 fn give(
     held: &[Held],
     first: &[Cell],
     second: &[Cell],
     place: usize,
-    shape: &Option<Shape>,
+    shape: &Shape,
     blocks: &mut [Block],
     count: usize,
-    quality: &mut Option<u8>,
-) -> usize
+) -> Option<u8>
     requires first { length held.now ≤ length first.now }
     requires second { length held.now ≤ length second.now }
     requires room { count < length blocks.old }
-    requires fits { IfSome quality.old (λ n. n ≤ 15) }
-    ensures blocks { map block_view (take result blocks.new) ≡ map block_view (take count blocks.old)
-        ++ blocks_at shape.now (slice_index_or (columns_of held.now first.now second.now) place empty_column) }
+    ensures blocks { map block_view (take (count + 1) blocks.new) ≡ map block_view (take count blocks.old)
+        ++ blocks_at (Some shape.now) (slice_index_or (columns_of held.now first.now second.now) place empty_column) }
     ensures len { length blocks.new ≡ length blocks.old }
-    ensures grown { result ≤ count + 1 }
-    ensures quality { (ns : List ℕ) → worst_of quality.new ns ≡ worst_of quality.old
-        (qualities_at shape.now (slice_index_or (columns_of held.now first.now second.now) place empty_column) ++ ns) }
-    ensures quality_fits { IfSome quality.new (λ n. n ≤ 15) }
+    ensures quality { option_to_list result
+        ≡ qualities_at (Some shape.now) (slice_index_or (columns_of held.now first.now second.now) place empty_column) }
+    ensures fits { IfSome result (λ n. n ≤ 15) }
 {
-    if place < held.len() {
-        return held[place].give(&first[place], &second[place], shape, blocks, count, quality);
-    }
-    match shape {
-        Some(shape) => {
-            set_absent(&mut blocks[count], *shape);
-            count + 1
+    match chosen_at(held, first, second, place) {
+        Some(cell) => {
+            cell.copy_to(&mut blocks[count]);
+            Some(cell.time_quality())
         }
-        None => count,
+        None => {
+            give_absent(&mut blocks[count], shape);
+            None
+        }
+    }
+}
+
+/// Makes this the absent block of the shape. A call of its own, so that the way without it makes no place for a copy of the shape.
+#[inline(never)]
+fn give_absent(block: &mut Block, shape: &Shape)
+    ensures { block_view block.new ≡ absent_view shape.now }
+{
+    set_absent(block, *shape);
+}
+
+/// The worse of the worst quality so far and this one, where they are.
+#[inline]
+fn worst(so_far: Option<u8>, given: Option<u8>) -> Option<u8>
+    requires so_far { IfSome so_far (λ n. n ≤ 15) }
+    requires given { IfSome given (λ n. n ≤ 15) }
+    ensures value { (ns : List ℕ) → worst_of result ns ≡ worst_of so_far (option_to_list given ++ ns) }
+    ensures fits { IfSome result (λ n. n ≤ 15) }
+{
+    match (so_far, given) {
+        (Some(worst), Some(given)) => Some(worst.max(given)),
+        (None, given) => given,
+        (worst, None) => worst,
     }
 }

@@ -209,24 +209,6 @@ fn open_instant(open: &mut Vec<u64>, instant: u64)
     open.insert(at, instant).unwrap();
 }
 
-/// Makes this the row of an instant with a frame of a stream.
-#[inline(never)]
-fn begin_with<B: Offered>(
-    row: &mut OpenRow,
-    stream: usize,
-    lane: usize,
-    instant: u64,
-    cells: &[(usize, B)],
-    quality: u8,
-)
-    requires stream { stream < length row.old.taken }
-    requires columns { All (λ (cell : ℕ × B). cell.0 < length row.old.columns) cells.now }
-    ensures { row.new ≡ with_frame stream lane (cells_in B.view cells.now quality) (blank_row (length row.old.taken) (length row.old.columns) instant) }
-{
-    row.begin(instant);
-    row.take(stream, lane, cells, quality);
-}
-
 /// Takes a frame of a stream for an instant, unless the stream was taken there.
 pub fn take<B: Offered>(
     places: &mut Vec<OpenRow>,
@@ -264,13 +246,12 @@ pub fn take<B: Offered>(
 {
     let place = place_of(window, near, instant);
     let row = &mut places[place];
-    if row.instant() == instant {
-        return row.offer(stream, lane, cells, quality);
+    if row.instant() != instant {
+        row.begin(instant);
+        ages[place] = 0;
+        open_instant(open, instant);
     }
-    begin_with(row, stream, lane, instant, cells, quality);
-    ages[place] = 0;
-    open_instant(open, instant);
-    PutOutcome::Taken
+    row.offer(stream, lane, cells, quality)
 }
 
 /// How many open instants from the front on are due.

@@ -1,6 +1,8 @@
-use Rattle.std.proofs.Common.{◌≡◌, ◌+◌, ◌++◌, ◌∙◌, List, ap, arith, drop, length, map, sym, take, get_or, refl, None}
+use Rattle.std.proofs.Common.{◌≡◌, ◌+◌, ◌++◌, ◌∙◌, List, Option, None, Some, ap, append-nil, arith, drop, get_or, length, map, refl, sym, take}
 use Rattle.std.specs.List.{refill}
+use Rattle.std.specs.Option.{option_to_list}
 use Rattle.std.proofs.lemmas.List.{get_or_default}
+use Rattle.pdc_cfg.specs.declared.shape.Shape.{Shape}
 use Rattle.pdc_row.specs.CellView.{block_view}
 use Rattle.pdc_row.specs.Quality.{worst_of}
 use Rattle.pdc_table.specs.OpenRowParts.{columns_of}
@@ -9,46 +11,64 @@ use Rattle.pdc_table.specs.Views.{ColumnView, OpenRowView, empty_column}
 use Rattle.pdc_table.proofs.RowSteps.{blocks_more, qualities_step, refilled}
 use Rattle.pdc_table.proofs.open_row.OpenRow.fill.Goals as goal
 
-shape : (c : goal.After-blocks-1) → c.shape-item.result ≡ get_or c.as_slice-shape-items.result.now c.loop-place.place None
-shape c = c.shape-item.is ∙ get_or_default c.as_slice-shape-items.result.now c.loop-place.place c.shape-item.result None (omega arith)
+no_shape : (o : Option Shape) → ((s : Shape) → o ≡ Some s → ⊥) → o ≡ None
+no_shape None none = refl
+no_shape (Some s) none = absurd (none s refl)
 
--- the columns as they are lent, and as they are seen
-lent : goal.After-blocks-1 → List ColumnView
-lent c = columns_of c.as_slice.result.now c.self.inside.first c.self.inside.second
-
-columns : (c : goal.After-blocks-1) → lent c ≡ c.args.self.now.columns
-unfolding lent
-columns c =
-    ap (λ held. columns_of held c.self.inside.first c.self.inside.second) c.as_slice.ensures.value
-    ∙ ap (λ (r : OpenRowView). r.columns) c.self.view_is
-
-same : (c : goal.After-blocks-1) → refill (length c.make_slot.new.blocks.items) c.make_slot.new.blocks.items c.give-count.new.blocks ≡ c.give-count.new.blocks
-same c =
-    refilled (length c.make_slot.new.blocks.items) c.make_slot.new.blocks.items c.give-count.new.blocks refl (c.give-count.ensures.len ∙ ap length c.as_mut_slice.ensures.value)
-
--- the blocks before the slot, as they were
-before : (c : goal.After-blocks-1) → map block_view (take c.loop-place.count c.as_mut_slice.result.now) ≡ map block_view (take c.loop-place.count c.loop-place.blocks.items)
-before c =
-    ap (λ bs. map block_view (take c.loop-place.count bs)) c.as_mut_slice.ensures.value
-    ∙ ap (map block_view) c.make_slot.ensures.held
+-- a column without a shape gives nothing
+pub loop-place-preserved-in_default : goal.loop-place-preserved-in_default
+loop-place-preserved-in_default c =
+    let shape : get_or c.as_slice-shape-items.result.now c.loop-place.place None ≡ None =
+    sym (c.shape-item.is ∙ get_or_default c.as_slice-shape-items.result.now c.loop-place.place c.shape-item.result None (omega arith))
+    ∙ no_shape c.shape-item.result c.in_default.not-Some in
+    let front : List _ = map block_view (take c.loop-place.count c.loop-place.blocks.items) in
+    let column : ColumnView = get_or c.args.self.now.columns c.loop-place.place empty_column in
+    let rest : List _ = qualities_of (drop (c.loop-place.place + 1) c.as_slice-shape-items.result.now) (drop (c.loop-place.place + 1) c.args.self.now.columns) in
+    record {
+      few = omega (arith, c.loop-place.invariant.few);
+      held = c.loop-place.invariant.held;
+      blocks = blocks_more c.as_slice-shape-items.result.now c.args.self.now.columns c.loop-place.place front front
+          (blocks_of c.as_slice-shape-items.result.now c.args.self.now.columns) (omega arith)
+          (sym (append-nil front) ∙ ap (λ o. front ++ blocks_at o column) (sym shape)) c.loop-place.invariant.blocks;
+      quality =
+          ap (λ o. worst_of c.loop-place.quality (qualities_at o column ++ rest)) (sym shape)
+          ∙ ap (worst_of c.loop-place.quality) (sym (qualities_step c.as_slice-shape-items.result.now c.args.self.now.columns c.loop-place.place (omega arith)))
+          ∙ c.loop-place.invariant.quality;
+      fits = c.loop-place.invariant.fits;
+    }
 
 pub loop-place-preserved : goal.loop-place-preserved
-unfolding lent
-loop-place-preserved c = record {
-  few = omega arith;
-  held = omega (arith, ap length (same c), c.give-count.ensures.len, ap length c.as_mut_slice.ensures.value, c.give-count.ensures.grown, c.make_slot.ensures.slot);
-  blocks = rw (same c) (blocks_more c.as_slice-shape-items.result.now c.args.self.now.columns c.loop-place.place (map block_view (take c.loop-place.count c.loop-place.blocks.items))
-      (map block_view (take c.give-count.result c.give-count.new.blocks)) (blocks_of c.as_slice-shape-items.result.now c.args.self.now.columns) (omega arith)
-      (c.give-count.ensures.blocks ∙ ap (λ bs. bs ++ blocks_at c.shape-item.result (get_or (lent c) c.loop-place.place empty_column)) (before c)
-      ∙ ap (λ cs. map block_view (take c.loop-place.count c.loop-place.blocks.items) ++ blocks_at c.shape-item.result (get_or cs c.loop-place.place empty_column)) (columns c)
-      ∙ ap (λ o. map block_view (take c.loop-place.count c.loop-place.blocks.items) ++ blocks_at o (get_or c.args.self.now.columns c.loop-place.place empty_column)) (shape c))
-      c.loop-place.invariant.blocks);
-  quality =
-      let rest : List _ = qualities_of (drop (c.loop-place.place + 1) c.as_slice-shape-items.result.now) (drop (c.loop-place.place + 1) c.args.self.now.columns) in
-      c.give-count.ensures.quality rest
-      ∙ ap (λ cs. worst_of c.loop-place.quality (qualities_at c.shape-item.result (get_or cs c.loop-place.place empty_column) ++ rest)) (columns c)
-      ∙ ap (λ o. worst_of c.loop-place.quality (qualities_at o (get_or c.args.self.now.columns c.loop-place.place empty_column) ++ rest)) (shape c)
-      ∙ ap (worst_of c.loop-place.quality) (sym (qualities_step c.as_slice-shape-items.result.now c.args.self.now.columns c.loop-place.place (omega arith)))
-      ∙ c.loop-place.invariant.quality;
-  fits = c.give-count.ensures.quality_fits;
-}
+loop-place-preserved c =
+    let shape : Some c.in-Some.shape ≡ get_or c.as_slice-shape-items.result.now c.loop-place.place None =
+    sym c.in-Some.is ∙ c.shape-item.is ∙ get_or_default c.as_slice-shape-items.result.now c.loop-place.place c.shape-item.result None (omega arith) in
+    -- the columns as they are lent, and as they are seen
+    let lent : List ColumnView = columns_of c.as_slice.result.now c.self.inside.first c.self.inside.second in
+    let columns : lent ≡ c.args.self.now.columns =
+    ap (λ held. columns_of held c.self.inside.first c.self.inside.second) c.as_slice.ensures.value
+    ∙ ap (λ (r : OpenRowView). r.columns) c.self.view_is in
+    let same : refill (length c.make_slot.new.blocks.items) c.make_slot.new.blocks.items c.give-given.new.blocks ≡ c.give-given.new.blocks =
+    refilled (length c.make_slot.new.blocks.items) c.make_slot.new.blocks.items c.give-given.new.blocks refl (c.give-given.ensures.len ∙ ap length c.as_mut_slice.ensures.value) in
+    -- the blocks before the slot, as they were
+    let front : List _ = map block_view (take c.loop-place.count c.loop-place.blocks.items) in
+    let before : map block_view (take c.loop-place.count c.as_mut_slice.result.now) ≡ front =
+    ap (λ bs. map block_view (take c.loop-place.count bs)) c.as_mut_slice.ensures.value
+    ∙ ap (map block_view) c.make_slot.ensures.held in
+    let rest : List _ = qualities_of (drop (c.loop-place.place + 1) c.as_slice-shape-items.result.now) (drop (c.loop-place.place + 1) c.args.self.now.columns) in
+    record {
+      few = omega (arith, c.loop-place.invariant.few);
+      held = omega (arith, ap length same, c.give-given.ensures.len, ap length c.as_mut_slice.ensures.value, c.make_slot.ensures.slot);
+      blocks = rw same (blocks_more c.as_slice-shape-items.result.now c.args.self.now.columns c.loop-place.place front
+          (map block_view (take (c.loop-place.count + 1) c.give-given.new.blocks)) (blocks_of c.as_slice-shape-items.result.now c.args.self.now.columns) (omega arith)
+          (c.give-given.ensures.blocks ∙ ap (λ bs. bs ++ blocks_at (Some c.in-Some.shape) (get_or lent c.loop-place.place empty_column)) before
+          ∙ ap (λ cs. front ++ blocks_at (Some c.in-Some.shape) (get_or cs c.loop-place.place empty_column)) columns
+          ∙ ap (λ o. front ++ blocks_at o (get_or c.args.self.now.columns c.loop-place.place empty_column)) shape)
+          c.loop-place.invariant.blocks);
+      quality =
+          c.worst-quality.ensures.value rest
+          ∙ ap (λ qs. worst_of c.loop-place.quality (qs ++ rest)) c.give-given.ensures.quality
+          ∙ ap (λ cs. worst_of c.loop-place.quality (qualities_at (Some c.in-Some.shape) (get_or cs c.loop-place.place empty_column) ++ rest)) columns
+          ∙ ap (λ o. worst_of c.loop-place.quality (qualities_at o (get_or c.args.self.now.columns c.loop-place.place empty_column) ++ rest)) shape
+          ∙ ap (worst_of c.loop-place.quality) (sym (qualities_step c.as_slice-shape-items.result.now c.args.self.now.columns c.loop-place.place (omega arith)))
+          ∙ c.loop-place.invariant.quality;
+      fits = c.worst-quality.ensures.fits;
+    }
