@@ -17,9 +17,18 @@ pub fn set_words(kept: &mut ArrayVec<u16, MAX_WORDS>, words: &[u16])
     if kept.len() == words.len() {
         write_over(kept.as_mut_slice(), words);
     } else {
-        *kept = ArrayVec::new();
-        kept.try_extend_from_slice(words).unwrap();
+        replace(kept, words);
     }
+}
+
+/// Makes these the words of a block that had another number of them: seldom, and so a call of its own.
+#[inline(never)]
+fn replace(kept: &mut ArrayVec<u16, MAX_WORDS>, words: &[u16])
+    requires { length words.now ≤ MAX_WORDS }
+    ensures { kept.new.items ≡ words.now }
+{
+    *kept = ArrayVec::new();
+    kept.try_extend_from_slice(words).unwrap();
 }
 
 /// Writes the words over these, eight at a step, and the last in steps of fixed numbers: most blocks are too short to be worth the call

@@ -1,5 +1,5 @@
 -- What the lists of an open row show together: which lanes hold a cell, and the cells of each lane (this profile).
-use Rattle.std.specs.Prelude.{ℕ, ◌==◌, false, if◌then◌else◌, List, [], ◌∷◌}
+use Rattle.std.specs.Prelude.{ℕ, zero, suc, ◌==◌, false, if◌then◌else◌, List, [], ◌∷◌, Option, Some, None}
 use Rattle.pdc_row.specs.CellView.{CellView}
 use Rattle.pdc_table.specs.Views.{ColumnView, kept}
 use Rattle.pdc_table.specs.declared.column.Held.{Held}
@@ -22,3 +22,8 @@ columns_of [] first second = []
 columns_of (h ∷ held) [] second = []
 columns_of (h ∷ held) (f ∷ first) [] = []
 columns_of (h ∷ held) (f ∷ first) (s ∷ second) = column_of h f s ∷ columns_of held first second
+
+-- the worst quality so far, kept as the number above it, and none as 0
+abbrev pub worst_kept : ℕ → Option ℕ
+worst_kept zero = None
+worst_kept (suc n) = Some n

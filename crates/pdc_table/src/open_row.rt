@@ -1,7 +1,6 @@
 //! The row of an instant that is open.
-ghost use Rattle.std.specs.Prelude.{◌≡◌, ℕ, ◌+◌, ◌<◌, ◌≤◌, ◌++◌, List, length, map, option_copied, replicate, take, false, slice_index_or, Some, IfSome, if◌then◌else◌};
+ghost use Rattle.std.specs.Prelude.{◌≡◌, ℕ, ◌+◌, ◌<◌, ◌≤◌, ◌++◌, ◌∷◌, List, length, map, option_copied, replicate, take, false, slice_index_or, Some, IfSome, if◌then◌else◌};
 ghost use Rattle.std.specs.List.{All, list_any};
-ghost use Rattle.std.specs.Option.{option_to_list};
 ghost use Rattle.pdc_row.specs.CellView.{absent_view, block_view};
 ghost use Rattle.pdc_row.specs.Quality.{worst_of};
 ghost use Rattle.pdc_row.specs.RowView.{row_view};
@@ -12,7 +11,7 @@ ghost use Rattle.pdc_table.specs.Closing.{aged, all_taken, is_due};
 ghost use Rattle.pdc_table.specs.Steps.{answer_at, disagreement_at, disagreements_of, is_taken};
 ghost use Rattle.pdc_table.specs.Layout.{layout_view};
 ghost use Rattle.pdc_table.specs.Taking.{cell_in, cells_in, conflicts, holds_other, with_cells, with_frame, without_column, without_stream};
-ghost use Rattle.pdc_table.specs.OpenRowParts.{columns_of, nothing};
+ghost use Rattle.pdc_table.specs.OpenRowParts.{columns_of, nothing, worst_kept};
 ghost use Rattle.pdc_table.specs.Views.{blank_row, empty_column};
 ghost use Rattle.pdc_table.specs.declared.column.Held.{Held as HeldData};
 
@@ -273,13 +272,13 @@ impl OpenRow {
         ensures few { length blocks.new.items ≤ 16 }
     {
         let mut count = 0;
-        let mut quality = None;
+        let mut above = 0;
         for (place, shape) in layout.shapes.as_slice().iter().enumerate() {
             let Some(shape) = shape else {
                 continue;
             };
             make_slot(blocks, count);
-            let given = give(
+            above = give(
                 self.held.as_slice(),
                 &self.first,
                 &self.second,
@@ -287,12 +286,12 @@ impl OpenRow {
                 shape,
                 blocks.as_mut_slice(),
                 count,
+                above,
             );
-            quality = worst(quality, given);
             count += 1;
         }
         blocks.truncate(count);
-        quality.unwrap_or(WORST_QUALITY)
+        if above == 0 { WORST_QUALITY } else { above - 1 }
     }
 }
 
@@ -453,8 +452,8 @@ fn chosen_at<'a>(
     }
 }
 
-/// Writes the block that the column at this place gives, which has this shape, behind so many blocks, and answers its time
-/// quality if it is present.
+/// Writes the block that the column at this place gives, which has this shape, behind so many blocks, and answers the number
+/// above the worst quality so far with its own, if it is present: 0 where there is none so far.
 #[inline]
 fn give(
     held: &[Held],
@@ -464,27 +463,40 @@ fn give(
     shape: &Shape,
     blocks: &mut [Block],
     count: usize,
-) -> Option<u8>
+    above: u8,
+) -> u8
     requires first { length held.now ≤ length first.now }
     requires second { length held.now ≤ length second.now }
     requires room { count < length blocks.old }
+    requires above { above ≤ 16 }
     ensures blocks { map block_view (take (count + 1) blocks.new) ≡ map block_view (take count blocks.old)
         ++ blocks_at (Some shape.now) (slice_index_or (columns_of held.now first.now second.now) place empty_column) }
     ensures len { length blocks.new ≡ length blocks.old }
-    ensures quality { option_to_list result
-        ≡ qualities_at (Some shape.now) (slice_index_or (columns_of held.now first.now second.now) place empty_column) }
-    ensures fits { IfSome result (λ n. n ≤ 15) }
+    ensures quality { (ns : List ℕ) → worst_of (worst_kept result) ns ≡ worst_of (worst_kept above)
+        (qualities_at (Some shape.now) (slice_index_or (columns_of held.now first.now second.now) place empty_column) ++ ns) }
+    ensures fits { result ≤ 16 }
 {
     match chosen_at(held, first, second, place) {
         Some(cell) => {
             cell.copy_to(&mut blocks[count]);
-            Some(cell.time_quality())
+            worse(above, cell.time_quality())
         }
         None => {
             give_absent(&mut blocks[count], shape);
-            None
+            above
         }
     }
+}
+
+/// The number above the worst quality so far, where this one is given too.
+#[inline]
+fn worse(above: u8, quality: u8) -> u8
+    requires above { above ≤ 16 }
+    requires quality { quality ≤ 15 }
+    ensures value { (ns : List ℕ) → worst_of (worst_kept result) ns ≡ worst_of (worst_kept above) (quality ∷ ns) }
+    ensures fits { result ≤ 16 }
+{
+    above.max(quality + 1)
 }
 
 /// Makes this the absent block of the shape. A call of its own, so that the way without it makes no place for a copy of the shape.
@@ -493,19 +505,4 @@ fn give_absent(block: &mut Block, shape: &Shape)
     ensures { block_view block.new ≡ absent_view shape.now }
 {
     set_absent(block, *shape);
-}
-
-/// The worse of the worst quality so far and this one, where they are.
-#[inline]
-fn worst(so_far: Option<u8>, given: Option<u8>) -> Option<u8>
-    requires so_far { IfSome so_far (λ n. n ≤ 15) }
-    requires given { IfSome given (λ n. n ≤ 15) }
-    ensures value { (ns : List ℕ) → worst_of result ns ≡ worst_of so_far (option_to_list given ++ ns) }
-    ensures fits { IfSome result (λ n. n ≤ 15) }
-{
-    match (so_far, given) {
-        (Some(worst), Some(given)) => Some(worst.max(given)),
-        (None, given) => given,
-        (worst, None) => worst,
-    }
 }

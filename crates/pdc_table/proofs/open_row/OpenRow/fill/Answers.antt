@@ -1,11 +1,10 @@
 use Rattle.std.proofs.Common.{◌≡◌, ◌+◌, ◌++◌, ◌∙◌, List, Option, None, Some, ap, append-nil, arith, drop, get_or, length, map, refl, sym, take}
 use Rattle.std.specs.List.{refill}
-use Rattle.std.specs.Option.{option_to_list}
 use Rattle.std.proofs.lemmas.List.{get_or_default}
 use Rattle.pdc_cfg.specs.declared.shape.Shape.{Shape}
 use Rattle.pdc_row.specs.CellView.{block_view}
 use Rattle.pdc_row.specs.Quality.{worst_of}
-use Rattle.pdc_table.specs.OpenRowParts.{columns_of}
+use Rattle.pdc_table.specs.OpenRowParts.{columns_of, worst_kept}
 use Rattle.pdc_table.specs.Row.{blocks_at, blocks_of, qualities_at, qualities_of}
 use Rattle.pdc_table.specs.Views.{ColumnView, OpenRowView, empty_column}
 use Rattle.pdc_table.proofs.RowSteps.{blocks_more, qualities_step, refilled}
@@ -31,8 +30,8 @@ loop-place-preserved-in_default c =
           (blocks_of c.as_slice-shape-items.result.now c.args.self.now.columns) (omega arith)
           (sym (append-nil front) ∙ ap (λ o. front ++ blocks_at o column) (sym shape)) c.loop-place.invariant.blocks;
       quality =
-          ap (λ o. worst_of c.loop-place.quality (qualities_at o column ++ rest)) (sym shape)
-          ∙ ap (worst_of c.loop-place.quality) (sym (qualities_step c.as_slice-shape-items.result.now c.args.self.now.columns c.loop-place.place (omega arith)))
+          ap (λ o. worst_of (worst_kept c.loop-place.above) (qualities_at o column ++ rest)) (sym shape)
+          ∙ ap (worst_of (worst_kept c.loop-place.above)) (sym (qualities_step c.as_slice-shape-items.result.now c.args.self.now.columns c.loop-place.place (omega arith)))
           ∙ c.loop-place.invariant.quality;
       fits = c.loop-place.invariant.fits;
     }
@@ -46,8 +45,8 @@ loop-place-preserved c =
     let columns : lent ≡ c.args.self.now.columns =
     ap (λ held. columns_of held c.self.inside.first c.self.inside.second) c.as_slice.ensures.value
     ∙ ap (λ (r : OpenRowView). r.columns) c.self.view_is in
-    let same : refill (length c.make_slot.new.blocks.items) c.make_slot.new.blocks.items c.give-given.new.blocks ≡ c.give-given.new.blocks =
-    refilled (length c.make_slot.new.blocks.items) c.make_slot.new.blocks.items c.give-given.new.blocks refl (c.give-given.ensures.len ∙ ap length c.as_mut_slice.ensures.value) in
+    let same : refill (length c.make_slot.new.blocks.items) c.make_slot.new.blocks.items c.give-above.new.blocks ≡ c.give-above.new.blocks =
+    refilled (length c.make_slot.new.blocks.items) c.make_slot.new.blocks.items c.give-above.new.blocks refl (c.give-above.ensures.len ∙ ap length c.as_mut_slice.ensures.value) in
     -- the blocks before the slot, as they were
     let front : List _ = map block_view (take c.loop-place.count c.loop-place.blocks.items) in
     let before : map block_view (take c.loop-place.count c.as_mut_slice.result.now) ≡ front =
@@ -56,19 +55,18 @@ loop-place-preserved c =
     let rest : List _ = qualities_of (drop (c.loop-place.place + 1) c.as_slice-shape-items.result.now) (drop (c.loop-place.place + 1) c.args.self.now.columns) in
     record {
       few = omega (arith, c.loop-place.invariant.few);
-      held = omega (arith, ap length same, c.give-given.ensures.len, ap length c.as_mut_slice.ensures.value, c.make_slot.ensures.slot);
+      held = omega (arith, ap length same, c.give-above.ensures.len, ap length c.as_mut_slice.ensures.value, c.make_slot.ensures.slot);
       blocks = rw same (blocks_more c.as_slice-shape-items.result.now c.args.self.now.columns c.loop-place.place front
-          (map block_view (take (c.loop-place.count + 1) c.give-given.new.blocks)) (blocks_of c.as_slice-shape-items.result.now c.args.self.now.columns) (omega arith)
-          (c.give-given.ensures.blocks ∙ ap (λ bs. bs ++ blocks_at (Some c.in-Some.shape) (get_or lent c.loop-place.place empty_column)) before
+          (map block_view (take (c.loop-place.count + 1) c.give-above.new.blocks)) (blocks_of c.as_slice-shape-items.result.now c.args.self.now.columns) (omega arith)
+          (c.give-above.ensures.blocks ∙ ap (λ bs. bs ++ blocks_at (Some c.in-Some.shape) (get_or lent c.loop-place.place empty_column)) before
           ∙ ap (λ cs. front ++ blocks_at (Some c.in-Some.shape) (get_or cs c.loop-place.place empty_column)) columns
           ∙ ap (λ o. front ++ blocks_at o (get_or c.args.self.now.columns c.loop-place.place empty_column)) shape)
           c.loop-place.invariant.blocks);
       quality =
-          c.worst-quality.ensures.value rest
-          ∙ ap (λ qs. worst_of c.loop-place.quality (qs ++ rest)) c.give-given.ensures.quality
-          ∙ ap (λ cs. worst_of c.loop-place.quality (qualities_at (Some c.in-Some.shape) (get_or cs c.loop-place.place empty_column) ++ rest)) columns
-          ∙ ap (λ o. worst_of c.loop-place.quality (qualities_at o (get_or c.args.self.now.columns c.loop-place.place empty_column) ++ rest)) shape
-          ∙ ap (worst_of c.loop-place.quality) (sym (qualities_step c.as_slice-shape-items.result.now c.args.self.now.columns c.loop-place.place (omega arith)))
+          c.give-above.ensures.quality rest
+          ∙ ap (λ cs. worst_of (worst_kept c.loop-place.above) (qualities_at (Some c.in-Some.shape) (get_or cs c.loop-place.place empty_column) ++ rest)) columns
+          ∙ ap (λ o. worst_of (worst_kept c.loop-place.above) (qualities_at o (get_or c.args.self.now.columns c.loop-place.place empty_column) ++ rest)) shape
+          ∙ ap (worst_of (worst_kept c.loop-place.above)) (sym (qualities_step c.as_slice-shape-items.result.now c.args.self.now.columns c.loop-place.place (omega arith)))
           ∙ c.loop-place.invariant.quality;
-      fits = c.worst-quality.ensures.fits;
+      fits = c.give-above.ensures.fits;
     }
