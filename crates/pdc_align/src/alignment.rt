@@ -369,6 +369,7 @@ impl<T: Table> Alignment<T> {
     fn step(&mut self, now: u64, counts: &[u16; MAX_PMUS]) -> Ticked
         ensures answer { result ≡ told_at self.old.state now counts.now }
         ensures state { self.new.state ≡ after_tick_of self.old.state now counts.now }
+        // The wait is a number of 64 bits: here `tick` learns it.
         ensures wait { self.old.state.wait < 2 ^ 64 }
         ensures sizes { KeepsSizes self.old.state self.new.state }
         ensures memory { self.new.memory ≡ self.old.memory }
@@ -402,6 +403,7 @@ impl<T: Table> Alignment<T> {
     fn close(&mut self, now: u64, counts: &[u16; MAX_PMUS]) -> (u32, bool)
         ensures answer { result.0 ≡ table.tick_answer self.old.state.content (rule_of self.old.state.wait_kind self.old.state.wait now) }
         ensures ready { result.1 ≡ list_any is_ready_in self.new.state.columns }
+        // And here `step` does.
         ensures wait { self.old.state.wait < 2 ^ 64 }
         ensures state { self.new.state ≡ after_closing self.old.state now counts.now }
         ensures sizes { KeepsSizes self.old.state self.new.state }

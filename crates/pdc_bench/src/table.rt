@@ -176,7 +176,7 @@ pub extern "C" fn dagluwis_table_steady(
 }
 
 /// Fills the window of a sorted table and closes it so many times: 16 puts an instant, one tick, and the rows taken out; 0
-/// where the window is not 8 to 256 or memory runs out.
+/// where the window is not 8 to 256 or memory runs out. `bodies` has those of four instants, each of 16 streams.
 #[unsafe(no_mangle)]
 pub extern "C" fn dagluwis_table_fill(
     alloc: Global,

@@ -7,7 +7,7 @@ use pdc_cfg::MAX_WORDS;
 use pdc_frame::read_word;
 
 /// How many words are written in one step: as many as fill a register of 16 bytes.
-const WORDS_AT_ONCE: usize = 8;
+pub const WORDS_AT_ONCE: usize = 8;
 
 /// Makes these the words of a block. Where there were as many before, they are written over.
 pub fn set_words(kept: &mut ArrayVec<u16, MAX_WORDS>, words: &[u16])

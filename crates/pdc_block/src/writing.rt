@@ -3,12 +3,10 @@ ghost use Rattle.std.specs.Prelude.{◌≡◌, ◌+◌, ◌*◌, ◌≤◌, ◌+
 ghost use Rattle.pdc_block.specs.Block.{IsCut, words_of, shape_of, body_len_of, bytes_of_words, bytes_of_blocks};
 
 use crate::block::Block;
+use crate::in_place::WORDS_AT_ONCE;
 use pdc_cfg::MAX_WORDS;
 use pdc_frame::Buffer;
 use std::alloc::AllocError;
-
-/// How many words are written at once.
-const WORDS_AT_ONCE: usize = 8;
 
 /// The bytes of the eight words from this place on, each with its high byte first.
 #[inline]

@@ -5,7 +5,8 @@ ghost use Rattle.std.specs.Cmp.Lexicographic.{pointwise};
 /// How many words are compared at once: as many as fill a register of 16 bytes.
 const WORDS_AT_ONCE: usize = 8;
 
-/// Whether as many words are the same, one by one.
+/// Whether as many words are the same, one by one. Slices compared by `==` would be a call for each pair, which most blocks are too
+/// short to be worth.
 pub fn are_same(words: &[u16], others: &[u16]) -> bool
     requires { length words.now ≡ length others.now }
     ensures { result ≡ pointwise nat_eq words.now others.now }
