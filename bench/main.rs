@@ -52,11 +52,12 @@ fn plain_read_config(bytes: &[u8]) -> u64 {
     mixed
 }
 
+/// The time base and the rate come with the call, as they come from a configuration: with constants no division would be left.
 #[inline(never)]
-fn plain_read_data(bytes: &[u8], shape: plain::Shape) -> u64 {
+fn plain_read_data(bytes: &[u8], shape: plain::Shape, time_base: u32, rate: u32) -> u64 {
     let Ok(frame) = plain::read_frame(bytes) else { return 0 };
     let Ok(body) = plain::read_body(shape, frame.payload) else { return 0 };
-    let Some(instant) = plain::instant(frame.soc, frame.frac, TIME_BASE, RATE) else { return 0 };
+    let Some(instant) = plain::instant(frame.soc, frame.frac, time_base, rate) else { return 0 };
     let mut mixed = instant;
     for word in body.words() {
         mixed ^= u64::from(word);
@@ -408,7 +409,7 @@ fn main() {
             &mut |n| each(n, || unsafe {
                 ours::dagluwis_read_data(black_box(data.as_ptr()), data.len(), phasors, analogs, digitals, TIME_BASE, RATE)
             }),
-            &mut |n| each(n, || plain_read_data(black_box(&data), shape)),
+            &mut |n| each(n, || plain_read_data(black_box(&data), shape, black_box(TIME_BASE), black_box(RATE))),
         ));
         line("write data", &name, measure(
             rounds,
