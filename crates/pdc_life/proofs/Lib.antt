@@ -1,6 +1,7 @@
 pub mod Adoption
 pub mod Closing
 pub mod Come
+pub mod Exact
 pub mod Frames
 pub mod Genuine
 pub mod Held
@@ -17,7 +18,9 @@ pub mod OneLife
 pub mod OneReading
 pub mod SameCount
 pub mod Tagged
+pub mod TakenIsGiven
 pub mod Vectors
 pub mod Worked
+pub mod WorkedExact
 pub mod WorkedMerger
 pub mod WorkedOrder

@@ -5,6 +5,7 @@ pub mod Cells
 pub mod Counts
 pub mod Distinct
 pub mod Frames
+pub mod Gave
 pub mod Genuine
 pub mod Given
 pub mod InTime
