@@ -11,7 +11,7 @@ use std::hint::black_box;
 use std::time::Instant;
 
 mod ours {
-    // The static library `pdc_bench`: a slice is a pointer and a length.
+    // The static library `bench_cores`: a slice is a pointer and a length.
     extern "C" {
         pub fn dagluwis_check_word(bytes: *const u8, len: usize) -> u16;
         pub fn dagluwis_read_config(bytes: *const u8, len: usize) -> u64;

@@ -5,21 +5,21 @@ use Rattle.std.proofs.lemmas.Bool.{eqb-false, eqb-true, false≢true, ne_eqb}
 use Rattle.std.proofs.lemmas.List.{ext_get_or, get_or-set_other, get_or-set_same}
 use Rattle.std.proofs.lemmas.Simd.{map-map}
 use Rattle.std.proofs.lemmas.List.FromFn.{get_or-map-range_with_len, length-map-range_with_len}
-use Rattle.pdc_cfg.specs.Section.{SectionFields}
-use Rattle.pdc_output.specs.declared.output.Output.{Output}
-use Rattle.pdc_row.specs.CellView.{CellView}
-use Rattle.pdc_row.specs.Rising.{Rises}
+use Rattle.pdc_arrival.specs.pdc_cfg.Section.{SectionFields}
+use Rattle.pdc_arrival.specs.pdc_output.declared.output.Output.{Output}
+use Rattle.pdc_arrival.specs.pdc_row.CellView.{CellView}
+use Rattle.pdc_arrival.specs.pdc_row.Rising.{Rises}
 use Rattle.pdc_table.specs.Content.{IsPut}
 use Rattle.pdc_table.specs.Steps.{after_take}
-use Rattle.pdc_life.specs.declared.outcome.Outcome.{Outcome}
-use Rattle.pdc_life.specs.declared.outcome.Outcome.TheVariants.{Candidate, Known, Refused, Taken}
-use Rattle.pdc_life.specs.Answer.{greatest_count, outcome_in_time, pop_answer, waiting_counts, with_cells}
-use Rattle.pdc_life.specs.Arrival.{BytesRefused, Data, Layout, Stamp}
-use Rattle.pdc_life.specs.Given.{Given, columns_of, count_for}
-use Rattle.pdc_life.specs.Life.{Answer, Arrive, Entry, Pop, changes, cleared_count, first_greatest, greater, is_of_column, is_candidate, is_taken, section_in_force, sections_at}
-use Rattle.pdc_life.specs.Run.{IsRun}
-use Rattle.pdc_state.specs.Follows.{AnswersAgree, OthersLeaveIt, TakeIsTake}
-use Rattle.pdc_state.specs.State.{content_of, row_layout_of, shape_in}
+use Rattle.pdc_arrival.specs.pdc_life.declared.outcome.Outcome.{Outcome}
+use Rattle.pdc_arrival.specs.pdc_life.declared.outcome.Outcome.TheVariants.{Candidate, Known, Refused, Taken}
+use Rattle.pdc_arrival.specs.pdc_life.Answer.{greatest_count, outcome_in_time, pop_answer, waiting_counts, with_cells}
+use Rattle.pdc_arrival.specs.pdc_life.Arrival.{BytesRefused, Data, Layout, Stamp}
+use Rattle.pdc_arrival.specs.pdc_life.Given.{Given, columns_of, count_for}
+use Rattle.pdc_arrival.specs.pdc_life.Life.{Answer, Arrive, Entry, Pop, changes, cleared_count, first_greatest, greater, is_of_column, is_candidate, is_taken, section_in_force, sections_at}
+use Rattle.pdc_arrival.specs.pdc_life.Run.{IsRun}
+use Rattle.pdc_align.specs.Follows.{AnswersAgree, OthersLeaveIt, TakeIsTake}
+use Rattle.pdc_align.specs.State.{content_of, row_layout_of, shape_in}
 use Rattle.pdc_align.specs.Align.{HasSizes, State, LeavesIt, ColumnState, StandsFor, align_of, is_left, column_state_of, given_by}
 use Rattle.pdc_align.specs.Calls.{after_data, after_hold, after_pop_of, first_of_plan, new_column, no_column, put_outcome, row_layout_in, waiting_in, with_section, with_sections}
 use Rattle.pdc_align.specs.declared.plan.Plan.{Plan}

@@ -3,7 +3,7 @@ use Rattle.std.proofs.Common.{◌≡◌, ◌&&◌, ℕ, ◌+◌, Bool, true, fal
 use Rattle.std.proofs.lemmas.Bool.{or_parts}
 use Rattle.std.specs.List.{list_any}
 use Rattle.pdc_table.specs.Steps.{tick_answer}
-use Rattle.pdc_state.specs.State.{rule_of}
+use Rattle.pdc_align.specs.State.{rule_of}
 use Rattle.pdc_align.specs.Align.{ColumnState, State, new_change}
 use Rattle.pdc_align.specs.Calls.{after_adopting, after_closing, after_tick_of, cleared_from, has_change_in, is_ready_in, ready_from, told_at, with_adoption}
 use Rattle.pdc_align.specs.declared.ticked.Ticked.{Ticked}

@@ -2,9 +2,9 @@
 use Rattle.std.proofs.Common.{◌≡◌, ℕ, ◌+◌, ◌<◌, ◌≤◌, Bool, true, false, List, [], ◌∷◌, ◌++◌, map, max, filter, drop, Some, sym, subst, arith, if◌then◌else◌}
 use Rattle.std.specs.List.{AllByRecursion, slice_get}
 use Rattle.std.proofs.lemmas.Option.{none-some, same_Some}
-use Rattle.pdc_row.specs.Quality.{greatest}
-use Rattle.pdc_row.specs.Rising.{AreBelow, Rises}
-use Rattle.pdc_row.specs.RowView.{RowView, row_instants}
+use Rattle.pdc_arrival.specs.pdc_row.Quality.{greatest}
+use Rattle.pdc_arrival.specs.pdc_row.Rising.{AreBelow, Rises}
+use Rattle.pdc_arrival.specs.pdc_row.RowView.{RowView, row_instants}
 use Rattle.pdc_table.specs.Closing.{aged, closes}
 use Rattle.pdc_table.specs.Content.{Content, IsContent}
 use Rattle.pdc_table.specs.Layout.{LayoutView}

@@ -5,14 +5,14 @@ use Rattle.std.proofs.lemmas.Bool.{cases_eq, eq-eqb, lt-ltb, ne_eqb}
 use Rattle.std.proofs.lemmas.List.{ext_get_or, length-map}
 use Rattle.std.proofs.lemmas.List.FromFn.{get_or-map-range_with_len, length-map-range_with_len}
 use Rattle.std.proofs.lemmas.Simd.{map-map}
-use Rattle.pdc_cfg.specs.Section.{SectionFields}
+use Rattle.pdc_arrival.specs.pdc_cfg.Section.{SectionFields}
 use Rattle.pdc_table.specs.Row.{row_of}
 use Rattle.pdc_table.specs.Steps.{after_tick, closed_by, closing_of}
-use Rattle.pdc_life.specs.Answer.{has_change, is_ready, ready_columns, tick_answer}
-use Rattle.pdc_life.specs.Given.{Given, columns_of, count_for}
-use Rattle.pdc_life.specs.Life.{Entry, Tick, TickAnswer, changes, cleared_count, held_section, is_adoption, section_in_force}
-use Rattle.pdc_life.specs.Row.{rows_of}
-use Rattle.pdc_state.specs.State.{after_adoptions, content_of, row_layout_of, rule_of, shape_in}
+use Rattle.pdc_arrival.specs.pdc_life.Answer.{has_change, is_ready, ready_columns, tick_answer}
+use Rattle.pdc_arrival.specs.pdc_life.Given.{Given, columns_of, count_for}
+use Rattle.pdc_arrival.specs.pdc_life.Life.{Entry, Tick, TickAnswer, changes, cleared_count, held_section, is_adoption, section_in_force}
+use Rattle.pdc_arrival.specs.pdc_life.Row.{rows_of}
+use Rattle.pdc_align.specs.State.{after_adoptions, content_of, row_layout_of, rule_of, shape_in}
 use Rattle.pdc_align.specs.Align.{State, ColumnState, StandsFor, align_of, column_state_of, new_change, ticked_of}
 use Rattle.pdc_align.specs.Calls.{after_adopting, after_closing, after_tick_of, change_after, clear_to, cleared_from, is_ready_in, no_column, ready_at, ready_from, row_layout_in, told_at, with_adoption}
 

@@ -1,12 +1,12 @@
 -- The frame of the layout in force is that of the life.
 use Rattle.std.proofs.Common.{◌≡◌, ℕ, List, ap, ◌∙◌}
 use Rattle.std.specs.List.{filter_map, range_with_len}
-use Rattle.pdc_cfg.specs.Section.{SectionFields}
-use Rattle.pdc_output.specs.declared.output.Output.{Output}
-use Rattle.pdc_output.specs.Layout.{layout_wire_of}
-use Rattle.pdc_life.specs.Given.{Given}
-use Rattle.pdc_life.specs.Life.{Entry, changes, section_in_force}
-use Rattle.pdc_life.specs.Published.{layout_wire}
+use Rattle.pdc_arrival.specs.pdc_cfg.Section.{SectionFields}
+use Rattle.pdc_arrival.specs.pdc_output.declared.output.Output.{Output}
+use Rattle.pdc_arrival.specs.pdc_output.Layout.{layout_wire_of}
+use Rattle.pdc_arrival.specs.pdc_life.Given.{Given}
+use Rattle.pdc_arrival.specs.pdc_life.Life.{Entry, changes, section_in_force}
+use Rattle.pdc_arrival.specs.pdc_life.Published.{layout_wire}
 
 pub wire_is : (g : Given) (E : List Entry) (output : Output) (start columns change soc : ℕ) (sections : List SectionFields) → output ≡ g.output → start ≡ g.start → columns ≡ g.columns
     → change ≡ changes E → sections ≡ filter_map (section_in_force g E) (range_with_len 0 columns) → layout_wire_of output start change sections soc ≡ layout_wire g E soc

@@ -1,16 +1,16 @@
 -- What an alignment keeps of a life of a node, worked out. What arrives is given as read.
 use Rattle.std.specs.Prelude.{◌≡◌, ℕ, ◌+◌, true, false, List, [], ◌∷◌, replicate, map, Option, None, Some, refl}
 use Rattle.std.proofs.Common.{arith}
-use Rattle.pdc_cfg.specs.declared.shape.Shape.{Shape}
-use Rattle.pdc_cfg.specs.Section.{SectionFields}
-use Rattle.pdc_output.specs.declared.output.Output.{Output}
-use Rattle.pdc_output.specs.declared.output.Nominal.TheVariants.{Hz50}
-use Rattle.pdc_life.specs.declared.given.WaitKind.TheVariants.{Relative}
-use Rattle.pdc_life.specs.Answer.{ReadStep, ToArrive, ToTick, life_from}
-use Rattle.pdc_life.specs.Arrival.{Layout}
-use Rattle.pdc_life.specs.Given.{Given}
-use Rattle.pdc_life.specs.Life.{Entry}
-use Rattle.pdc_life.specs.Node.{node_answer}
+use Rattle.pdc_arrival.specs.pdc_cfg.declared.shape.Shape.{Shape}
+use Rattle.pdc_arrival.specs.pdc_cfg.Section.{SectionFields}
+use Rattle.pdc_arrival.specs.pdc_output.declared.output.Output.{Output}
+use Rattle.pdc_arrival.specs.pdc_output.declared.output.Nominal.TheVariants.{Hz50}
+use Rattle.pdc_arrival.specs.pdc_life.declared.given.WaitKind.TheVariants.{Relative}
+use Rattle.pdc_arrival.specs.pdc_life.Answer.{ReadStep, ToArrive, ToTick, life_from}
+use Rattle.pdc_arrival.specs.pdc_life.Arrival.{Layout}
+use Rattle.pdc_arrival.specs.pdc_life.Given.{Given}
+use Rattle.pdc_arrival.specs.pdc_life.Life.{Entry}
+use Rattle.pdc_arrival.specs.pdc_life.Node.{node_answer}
 use Rattle.pdc_align.specs.Align.{ColumnState, State, align_of}
 use Rattle.pdc_align.specs.Calls.{after_tick_of, told_at, waiting_in}
 

@@ -1,16 +1,16 @@
 -- What the alignment of a concentrator keeps of a life: a function of the life (this profile).
 use Rattle.std.specs.Prelude.{◌≡◌, ℕ, ◌+◌, Bool, true, false, List, [], ◌∷◌, length, map, Option, None, Some}
-use Rattle.pdc_cfg.specs.Section.{SectionFields}
-use Rattle.pdc_output.specs.declared.output.Output.{Output}
+use Rattle.pdc_arrival.specs.pdc_cfg.Section.{SectionFields}
+use Rattle.pdc_arrival.specs.pdc_output.declared.output.Output.{Output}
 use Rattle.pdc_table.specs.Content.{Content}
-use Rattle.pdc_life.specs.Given.{Given, columns_of, count_for}
-use Rattle.pdc_life.specs.Arrival.{Arrival}
-use Rattle.pdc_life.specs.declared.outcome.Outcome.{Outcome}
-use Rattle.pdc_life.specs.declared.outcome.Outcome.TheVariants.{Known, Refused}
-use Rattle.pdc_life.specs.Life.{Answer, Arrive, Entry, TickAnswer, changes, cleared_count, held_section, now_of, section_in_force}
-use Rattle.pdc_life.specs.Run.{IsRun}
-use Rattle.pdc_life.specs.declared.given.WaitKind.{WaitKind}
-use Rattle.pdc_state.specs.State.{content_of}
+use Rattle.pdc_arrival.specs.pdc_life.Given.{Given, columns_of, count_for}
+use Rattle.pdc_arrival.specs.pdc_life.Arrival.{Arrival}
+use Rattle.pdc_arrival.specs.pdc_life.declared.outcome.Outcome.{Outcome}
+use Rattle.pdc_arrival.specs.pdc_life.declared.outcome.Outcome.TheVariants.{Known, Refused}
+use Rattle.pdc_arrival.specs.pdc_life.Life.{Answer, Arrive, Entry, TickAnswer, changes, cleared_count, held_section, now_of, section_in_force}
+use Rattle.pdc_arrival.specs.pdc_life.Run.{IsRun}
+use Rattle.pdc_arrival.specs.pdc_life.declared.given.WaitKind.{WaitKind}
+use Rattle.pdc_align.specs.State.{content_of}
 use Rattle.pdc_align.specs.declared.plan.Plan.{Plan}
 use Rattle.pdc_align.specs.declared.ticked.Ticked.{Ticked}
 

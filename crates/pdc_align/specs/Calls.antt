@@ -1,19 +1,19 @@
 -- What each call of an alignment answers, and what it makes of what is kept (this profile).
 use Rattle.std.specs.Prelude.{◌≡◌, ◌<◌, ℕ, ◌+◌, ◌-◌, ◌^◌, ◌++◌, ◌==◌, Bool, ◌&&◌, false, true, not, if◌then◌else◌, List, [], ◌∷◌, length, map, max, nat_le, nat_lt, replicate, slice_set, slice_index_or, None}
 use Rattle.std.specs.List.{range_with_len}
-use Rattle.pdc_cfg.specs.Section.{SectionFields}
-use Rattle.pdc_row.specs.CellView.{CellView}
+use Rattle.pdc_arrival.specs.pdc_cfg.Section.{SectionFields}
+use Rattle.pdc_arrival.specs.pdc_row.CellView.{CellView}
 use Rattle.pdc_table.specs.Content.{Content, new_content}
 use Rattle.pdc_table.specs.Layout.{LayoutView}
 use Rattle.pdc_table.specs.Steps.{after_pop, after_take, after_tick, disagreements_after, put_answer, tick_answer}
-use Rattle.pdc_life.specs.declared.outcome.Outcome.{Outcome}
-use Rattle.pdc_life.specs.declared.outcome.Outcome.TheVariants.{Refused}
-use Rattle.pdc_life.specs.declared.outcome.Refusal.TheVariants.{Ahead, Late}
-use Rattle.pdc_life.specs.Answer.{greatest_count, is_ready}
-use Rattle.pdc_life.specs.Given.{Given, count_for}
-use Rattle.pdc_life.specs.Life.{Entry, greater, is_taken}
-use Rattle.pdc_state.specs.Follows.{told_by}
-use Rattle.pdc_state.specs.State.{after_adoptions, rule_of, shape_in}
+use Rattle.pdc_arrival.specs.pdc_life.declared.outcome.Outcome.{Outcome}
+use Rattle.pdc_arrival.specs.pdc_life.declared.outcome.Outcome.TheVariants.{Refused}
+use Rattle.pdc_arrival.specs.pdc_life.declared.outcome.Refusal.TheVariants.{Ahead, Late}
+use Rattle.pdc_arrival.specs.pdc_life.Answer.{greatest_count, is_ready}
+use Rattle.pdc_arrival.specs.pdc_life.Given.{Given, count_for}
+use Rattle.pdc_arrival.specs.pdc_life.Life.{Entry, greater, is_taken}
+use Rattle.pdc_align.specs.Follows.{told_by}
+use Rattle.pdc_align.specs.State.{after_adoptions, rule_of, shape_in}
 use Rattle.pdc_align.specs.Align.{State, ColumnState, StandsFor, column_state_of, new_change}
 use Rattle.pdc_align.specs.declared.plan.Plan.{Plan}
 use Rattle.pdc_align.specs.declared.ticked.Ticked.{Ticked}

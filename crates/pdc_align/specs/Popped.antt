@@ -1,7 +1,7 @@
 -- The instants that were popped, beside what a table contains (this profile).
 use Rattle.std.specs.Prelude.{ℕ, ◌<◌, ◌≤◌, Option, None, Some}
 use Rattle.std.specs.List.{AllByRecursion}
-use Rattle.pdc_row.specs.RowView.{RowView}
+use Rattle.pdc_arrival.specs.pdc_row.RowView.{RowView}
 use Rattle.pdc_table.specs.Content.{Content}
 
 -- the greatest instant popped, after this was popped

@@ -1,8 +1,8 @@
 -- What a place for a section tells of it without a look at its bytes.
 use Rattle.std.specs.Prelude.{◌≡◌, ℕ, Option, option_map}
-use Rattle.pdc_cfg.specs.Section.{SectionFields}
-use Rattle.pdc_cfg.specs.declared.shape.Shape.{Shape}
-use Rattle.pdc_state.specs.State.{shape_in}
+use Rattle.pdc_arrival.specs.pdc_cfg.Section.{SectionFields}
+use Rattle.pdc_arrival.specs.pdc_cfg.declared.shape.Shape.{Shape}
+use Rattle.pdc_align.specs.State.{shape_in}
 
 -- the count of the section, if there is one
 abbrev pub count_in : Option SectionFields → Option ℕ

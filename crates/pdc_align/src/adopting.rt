@@ -2,7 +2,7 @@
 ghost use Rattle.std.specs.Prelude.{◌≡◌, ◌<◌, ℕ};
 ghost use Rattle.std.specs.List.{All};
 ghost use Rattle.pdc_table.specs.Content.{HasSizesOf, IsContent};
-ghost use Rattle.pdc_state.specs.State.{after_adoption, after_adoptions};
+ghost use Rattle.pdc_align.specs.State.{after_adoption, after_adoptions};
 
 use pdc_table::Table;
 

@@ -2,12 +2,12 @@
 ghost use Rattle.std.specs.Prelude.{◌≡◌, IfOk, None, option_map};
 ghost use Rattle.pdc_align.specs.Calls.{clear_to, is_ready_in, with_adoption, with_section};
 ghost use Rattle.pdc_align.specs.Slot.{count_in};
-ghost use Rattle.pdc_cfg.specs.Section.{fields_of_view};
-ghost use Rattle.pdc_life.specs.Answer.{greatest_count};
-ghost use Rattle.pdc_state.specs.State.{shape_in};
+ghost use Rattle.pdc_arrival.specs.pdc_cfg.Section.{fields_of_view};
+ghost use Rattle.pdc_arrival.specs.pdc_life.Answer.{greatest_count};
+ghost use Rattle.pdc_align.specs.State.{shape_in};
 
 use crate::slot::Slot;
-use pdc_cfg::{SectionView, Shape};
+use pdc_arrival::{SectionView, Shape};
 use std::alloc::{AllocError, Global};
 use std::marker::Model;
 

@@ -1,18 +1,16 @@
 //! All columns of an alignment, one call for each thing that is asked of them.
 ghost use Rattle.std.specs.Prelude.{◌≡◌, ℕ, ◌+◌, ◌-◌, ◌<◌, ◌≤◌, ◌++◌, [], ◌∷◌, if◌then◌else◌, IfOk, length, map, replicate};
 ghost use Rattle.std.specs.List.{All, list_any, range_with_len};
-ghost use Rattle.pdc_life.specs.Answer.{greatest_count};
-ghost use Rattle.pdc_reading.specs.Views.{section_part};
-ghost use Rattle.pdc_reading.specs.declared.arrival.ColumnSection.{ColumnSection as ColumnSectionData};
-ghost use Rattle.pdc_state.specs.State.{shape_in};
+ghost use Rattle.pdc_arrival.specs.pdc_life.Answer.{greatest_count};
+ghost use Rattle.pdc_arrival.specs.Views.{section_part};
+ghost use Rattle.pdc_arrival.specs.declared.arrival.ColumnSection.{ColumnSection as ColumnSectionData};
+ghost use Rattle.pdc_align.specs.State.{shape_in};
 ghost use Rattle.pdc_align.specs.Align.{ColumnState};
 ghost use Rattle.pdc_align.specs.Calls.{cleared_from, is_ready_in, new_column, ready_from, with_adoption, with_sections};
 
 use crate::Column;
 use arrayvec::ArrayVec;
-use pdc_cfg::Shape;
-use pdc_life::MAX_PMUS;
-use pdc_reading::ColumnSection;
+use pdc_arrival::{ColumnSection, MAX_PMUS, Shape};
 use std::alloc::{AllocError, Global};
 
 /// So many columns for which nothing came, each with its opening count.

@@ -3,14 +3,13 @@ ghost use Rattle.std.specs.Prelude.{◌≡◌, ℕ, ◌+◌, ◌<◌, ◌≤◌,
 ghost use Rattle.std.specs.List.{filter_map, range_with_len};
 ghost use Rattle.std.specs.Option.{option_to_list};
 ghost use Rattle.pdc_align.specs.Align.{StandsFor};
-ghost use Rattle.pdc_cfg.specs.Section.{fields_of_view};
-ghost use Rattle.pdc_life.specs.Given.{Given};
-ghost use Rattle.pdc_life.specs.Life.{Entry, section_in_force};
+ghost use Rattle.pdc_arrival.specs.pdc_cfg.Section.{fields_of_view};
+ghost use Rattle.pdc_arrival.specs.pdc_life.Given.{Given};
+ghost use Rattle.pdc_arrival.specs.pdc_life.Life.{Entry, section_in_force};
 
 use crate::Alignment;
 use arrayvec::ArrayVec;
-use pdc_cfg::SectionView;
-use pdc_life::MAX_PMUS;
+use pdc_arrival::{MAX_PMUS, SectionView};
 use pdc_table::Table;
 
 /// The sections in force of the first so many columns, in the order of the columns.

@@ -2,7 +2,7 @@
 ghost use Rattle.pdc_align.specs.Align.{LeavesIt};
 ghost use Rattle.pdc_align.specs.Calls.{ColumnsStand};
 
-use pdc_state::others_leave_it;
+use crate::state_laws::others_leave_it;
 
 /// An arrival that was neither taken nor a candidate leaves an alignment as it is.
 pub fn others_are_left()

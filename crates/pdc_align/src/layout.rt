@@ -1,14 +1,13 @@
 //! The frame of the layout in force.
 ghost use Rattle.std.specs.Prelude.{◌≡◌, ◌+◌, ◌≤◌, ◌++◌, IsOk, List, OnErr, OnOk, length};
 ghost use Rattle.pdc_align.specs.Align.{StandsFor};
-ghost use Rattle.pdc_life.specs.Given.{Given};
-ghost use Rattle.pdc_life.specs.Life.{Entry};
-ghost use Rattle.pdc_life.specs.Published.{layout_wire};
+ghost use Rattle.pdc_arrival.specs.pdc_life.Given.{Given};
+ghost use Rattle.pdc_arrival.specs.pdc_life.Life.{Entry};
+ghost use Rattle.pdc_arrival.specs.pdc_life.Published.{layout_wire};
 
 use crate::Alignment;
 use crate::in_force::sections_in_force;
-use pdc_frame::Buffer;
-use pdc_output::{Output, append_layout};
+use pdc_arrival::{Buffer, Output, append_layout};
 use pdc_table::Table;
 use std::alloc::AllocError;
 

@@ -2,7 +2,7 @@
 ghost use Rattle.std.specs.Prelude.{◌≤◌};
 ghost use Rattle.pdc_table.specs.declared.limits.TheConstants.{MAX_COLUMNS, MAX_LANES, MAX_WINDOW, MIN_WINDOW};
 
-use pdc_life::WaitKind;
+use pdc_arrival::WaitKind;
 
 /// How instants are aligned (this profile).
 #[derive(Clone, Copy, Debug)]

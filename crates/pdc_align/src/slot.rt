@@ -1,10 +1,10 @@
 //! A place for a section.
 ghost use Rattle.std.specs.Prelude.{◌≡◌, IfOk, None, Some, option_map};
-ghost use Rattle.pdc_cfg.specs.Section.{fields_of_view};
+ghost use Rattle.pdc_arrival.specs.pdc_cfg.Section.{fields_of_view};
 ghost use Rattle.pdc_align.specs.Slot.{count_in};
-ghost use Rattle.pdc_state.specs.State.{shape_in};
+ghost use Rattle.pdc_align.specs.State.{shape_in};
 
-use pdc_cfg::{Section, SectionView, Shape};
+use pdc_arrival::{Section, SectionView, Shape};
 use std::alloc::{AllocError, Global};
 use std::marker::Model;
 
@@ -19,7 +19,7 @@ pub struct Slot {
 
 impl Model for Slot {
     ghost use Rattle.std.specs.Prelude.{Option, option_map};
-    ghost use Rattle.pdc_cfg.specs.Section.{SectionFields, fields_of_section};
+    ghost use Rattle.pdc_arrival.specs.pdc_cfg.Section.{SectionFields, fields_of_section};
     ghost use Rattle.pdc_align.specs.Slot.{IsTold};
 
     ghost Value = { Option SectionFields };

@@ -11,8 +11,8 @@ use Rattle.pdc_life.specs.Life.{changes}
 use Rattle.pdc_pipe.specs.declared.message.Message.{Message}
 use Rattle.pdc_pipe.specs.declared.message.Message.TheVariants.{Data, Layout, End}
 use Rattle.pdc_publisher.specs.declared.published.Published.{Published}
-use Rattle.pdc_recorder.specs.Replay.{InSomeLife, Lives}
-use Rattle.pdc_recorder.specs.declared.fault.HubFault.{HubFault}
+use Rattle.pdc_hub.specs.Replay.{InSomeLife, Lives}
+use Rattle.pdc_hub.specs.declared.fault.HubFault.{HubFault}
 use Rattle.pdc_aligner.specs.Sequence.{AreData, HasPutData}
 use Rattle.pdc_aligner.specs.Turns.{AreStored, AreTurns, HasGiven, HasPut, HasTurned, IsAligned, IsAnswered, NoneFalls, Turn, has_adopted, is_told, nows_of, second_at, turn_at}
 

@@ -7,7 +7,7 @@ use Rattle.pdc_life.specs.Life.{Entry}
 use Rattle.pdc_life.specs.Published.{layout_wire}
 use Rattle.pdc_row.specs.declared.due_row.DueRow.{DueRow}
 use Rattle.pdc_tag.specs.declared.limits.TheConstants.{SECONDS}
-use Rattle.pdc_recorder.specs.Replay.{InSomeLife, Lives}
+use Rattle.pdc_hub.specs.Replay.{InSomeLife, Lives}
 use Rattle.pdc_pipe.specs.Layout.{IsOfSomeLayout}
 use Rattle.pdc_aligner.specs.Rate.{IsAtRate}
 

@@ -8,8 +8,8 @@ use Rattle.pdc_life.specs.Published.{layout_wire}
 use Rattle.pdc_pipe.specs.declared.message.LayoutFrame.{LayoutFrame}
 use Rattle.pdc_pipe.specs.declared.message.Message.{Message}
 use Rattle.pdc_pipe.specs.declared.message.Message.TheVariants.{Layout, End}
-use Rattle.pdc_recorder.specs.Replay.{InSomeLife, Lives}
-use Rattle.pdc_recorder.specs.declared.fault.HubFault.{HubFault}
+use Rattle.pdc_hub.specs.Replay.{InSomeLife, Lives}
+use Rattle.pdc_hub.specs.declared.fault.HubFault.{HubFault}
 use Rattle.pdc_aligner.specs.Sequence.{HasPutData}
 
 -- A tick of a run: the instant that was now, the counts that it was handed, and whether it adopted.

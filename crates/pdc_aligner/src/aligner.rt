@@ -12,14 +12,15 @@ ghost use Rattle.pdc_publisher.specs.Publisher.{last_in, mark_in, output_in};
 
 use crate::clearing::tick_cleared;
 use crate::layouts::{put_layout_where, second_of};
+use crate::pace::Pace;
 use crate::publishing::publish_due;
-use crate::ticker::{Pace, Ticker, Told};
 use crossbeam_channel::Pass;
 use pdc_core::Core;
+use pdc_hub::{Hub, HubFault, Naming};
 use pdc_mark::Mark;
 use pdc_pipe::{Log, Message, Sender, close};
+use pdc_ports::{Ticker, Told};
 use pdc_publisher::Publisher;
-use pdc_recorder::{Hub, HubFault, Naming};
 use std::alloc::Global;
 use std::sync::Wait;
 use std::sync::ledger::{Ledger, Share};

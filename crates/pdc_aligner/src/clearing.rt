@@ -5,13 +5,13 @@ ghost use Rattle.pdc_aligner.specs.Turns.{NoneFalls};
 ghost use Rattle.pdc_life.specs.Answer.{tick_answer};
 ghost use Rattle.pdc_life.specs.Life.{changes};
 ghost use Rattle.pdc_publisher.specs.Publisher.{last_in, mark_in, output_in};
-ghost use Rattle.pdc_recorder.specs.Replay.{InSomeLife};
+ghost use Rattle.pdc_hub.specs.Replay.{InSomeLife};
 
 use pdc_align::Ticked;
 use pdc_core::Core;
+use pdc_hub::{Hub, HubFault, Naming};
 use pdc_mark::{COUNTS, Mark, raised};
 use pdc_publisher::Publisher;
-use pdc_recorder::{Hub, HubFault, Naming};
 use std::sync::Wait;
 use std::sync::ledger::Ledger;
 

@@ -6,13 +6,13 @@ ghost use Rattle.pdc_aligner.specs.Sequence.{instants_of};
 ghost use Rattle.pdc_aligner.specs.Turns.{HasPutLayout, second_at};
 ghost use Rattle.pdc_life.specs.Published.{layout_wire};
 ghost use Rattle.pdc_pipe.specs.Pipe.{log};
-ghost use Rattle.pdc_recorder.specs.Replay.{InSomeLife};
+ghost use Rattle.pdc_hub.specs.Replay.{InSomeLife};
 
-use crate::ticker::Pace;
+use crate::pace::Pace;
 use crossbeam_channel::Pass;
 use pdc_core::Core;
+use pdc_hub::{Hub, HubFault, Naming};
 use pdc_pipe::{LayoutFrame, Log, Message, Sender, put};
-use pdc_recorder::{Hub, HubFault, Naming};
 use std::alloc::Global;
 use std::sync::Wait;
 use std::sync::ledger::Ledger;

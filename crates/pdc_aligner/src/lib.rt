@@ -1,6 +1,6 @@
 //! The aligner of a running core: it ticks, pops what is due, publishes it, and puts it with the layouts on the channel (this profile).
 //!
-//! The first call to look at is [`align`], which ticks as a [`Ticker`] says, at a [`Pace`].
+//! The first call to look at is [`align`], which ticks as a `Ticker` of `pdc_ports` says, at a [`Pace`].
 //!
 //! The promise to the layers above: at each tick the data frames of what is due are put in rising order, and then the layout where the
 //! tick adopted or its number says so; no count that a tick was handed is above the one that is stored in the end.
@@ -9,10 +9,9 @@
 mod aligner;
 mod clearing;
 mod layouts;
+mod pace;
 mod publishing;
-mod ticker;
 
 pub use aligner::align;
 pub use clearing::tick_cleared;
-pub use pdc_answering::Counts;
-pub use ticker::{Pace, Ticker, Told};
+pub use pace::Pace;

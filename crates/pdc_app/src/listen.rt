@@ -2,8 +2,7 @@
 
 use crate::{DONE, FAILED};
 use pdc_command_line::Listen;
-use pdc_listening::{ListenFault, listen};
-use pdc_network::UdpSource;
+use pdc_network::{ListenFault, UdpSource, listen};
 use std::io;
 use std::io::BufWriter;
 use std::net::Net;

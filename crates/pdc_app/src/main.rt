@@ -13,14 +13,12 @@ use listen::run_listen_command;
 use mark_convert::{mark_convert_status, report_mark_convert};
 use mark_init::{mark_init_status, report_mark_init};
 use pdc_command_line::{MarkConvert, MarkInit, Request, parse};
-use pdc_mark_files::{convert_mark, make_mark};
-use pdc_show::{ShowFault, Shown, run_show};
+use pdc_mark::{convert_mark, make_mark};
+use pdc_show::run_show_command;
 use play::run_play_command;
 use pmu::run_pmu_command;
 use running::{run_merge_command, run_node_command};
-use std::alloc::Global;
 use std::io;
-use std::io::BufWriter;
 use std::process::ExitCode;
 
 /// The exit statuses.
@@ -31,23 +29,6 @@ const REFUSED: u8 = 1;
 const WRONG_ARGUMENTS: u8 = 2;
 
 const FAILED: u8 = 3;
-
-fn show_streams(alloc: Global, rt: &(impl Input + Print)) -> Result<Shown, ShowFault> {
-    let mut reader = rt.reader();
-    let mut writer = BufWriter::new(alloc, io::writer(rt)).map_err(|_| ShowFault::Memory)?;
-    run_show(alloc, &mut reader, &mut writer)
-}
-
-fn run_show_command(rt: &HostRuntime) -> io::Result<u8> {
-    match show_streams(rt.alloc(), rt) {
-        Ok(Shown::All) => Ok(DONE),
-        Ok(Shown::SomeRefused) => Ok(REFUSED),
-        Err(fault) => {
-            eprintln!(rt; "pdc show: {fault}")?;
-            Ok(FAILED)
-        }
-    }
-}
 
 fn run_mark_init_command(rt: &HostRuntime, request: &MarkInit) -> io::Result<u8> {
     match make_mark(rt, request.file, request.id, request.rate) {
@@ -77,7 +58,7 @@ fn main(rt: HostRuntime) -> io::Result<ExitCode> {
     let words: Vec<String> = std::env::args(&rt)?.collect(alloc)?;
     let arguments = words.as_slice().get(1..).unwrap_or(&[]);
     let status = match parse(alloc, arguments) {
-        Ok(Some(Request::Show)) => run_show_command(&rt)?,
+        Ok(Some(Request::Show)) => run_show_command(&rt, alloc)?,
         Ok(Some(Request::Play(request))) => run_play_command(&rt, &request)?,
         Ok(Some(Request::MarkInit(request))) => run_mark_init_command(&rt, &request)?,
         Ok(Some(Request::MarkConvert(request))) => run_mark_convert_command(&rt, &request)?,

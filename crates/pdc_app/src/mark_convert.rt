@@ -2,8 +2,7 @@
 
 use crate::{FAILED, REFUSED};
 use pdc_command_line::MarkConvert;
-use pdc_mark::MarkFault;
-use pdc_mark_files::MarkConvertFault;
+use pdc_mark::{MarkConvertFault, MarkFault};
 use std::io;
 
 /// The exit status that the fault gives.

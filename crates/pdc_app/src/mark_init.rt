@@ -2,7 +2,7 @@
 
 use crate::{FAILED, REFUSED};
 use pdc_command_line::MarkInit;
-use pdc_mark_files::MarkInitFault;
+use pdc_mark::MarkInitFault;
 use std::io;
 
 /// The exit status that the fault gives.

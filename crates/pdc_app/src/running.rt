@@ -3,8 +3,8 @@
 use crate::DONE;
 use crate::loading::report_load;
 use pdc_command_line::Running;
-use pdc_hub::Totals;
 use pdc_service::{Files, Host, ServiceFault, serve_merger, serve_node};
+use pdc_threads::Totals;
 use std::io;
 
 /// Prints what a run counted.

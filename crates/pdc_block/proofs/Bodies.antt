@@ -1,7 +1,7 @@
 -- The words that bytes write.
 use Rattle.std.proofs.Common.{◌≡◌, ℕ, ◌+◌, ◌*◌, List, [], ◌∷◌, ◌++◌, get_or, length, ◌<◌, refl, sym, ap, ◌∙◌, arith, zero, suc}
-use Rattle.pdc_frame.specs.Bytes.{AreBytes, word_at}
-use Rattle.pdc_frame.specs.Parts.{WordsAreTheirBytes}
+use Rattle.pdc_cfg.specs.pdc_frame.Bytes.{AreBytes, word_at}
+use Rattle.pdc_cfg.specs.pdc_frame.Parts.{WordsAreTheirBytes}
 use Rattle.pdc_block.proofs.Words.{length-bytes_of_words, same_words}
 use Rattle.pdc_cfg.specs.Shape.{word_count_of}
 use Rattle.pdc_cfg.specs.declared.shape.Shape.{Shape}

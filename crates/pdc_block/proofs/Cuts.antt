@@ -3,8 +3,8 @@ use Rattle.std.proofs.Common.{◌≡◌, ℕ, ◌+◌, List, [], ◌∷◌, ◌+
 use Rattle.std.specs.Prelude.{sum_by}
 use Rattle.std.proofs.lemmas.List.{take-append-drop, length-take}
 use Rattle.std.proofs.lemmas.List.Sums.{sum_by-cons}
-use Rattle.pdc_frame.specs.Bytes.{AreBytes}
-use Rattle.pdc_frame.specs.Parts.{WordsAreTheirBytes, PartsKeepTheirWords}
+use Rattle.pdc_cfg.specs.pdc_frame.Bytes.{AreBytes}
+use Rattle.pdc_cfg.specs.pdc_frame.Parts.{WordsAreTheirBytes, PartsKeepTheirWords}
 use Rattle.pdc_cfg.specs.declared.shape.Shape.{Shape}
 use Rattle.pdc_block.specs.declared.block.Block.{Block}
 use Rattle.pdc_block.specs.Block.{AreOfShapes, IsCut, body_len_of, bytes_of_blocks, bytes_of_words, shape_of, words_in, words_of}

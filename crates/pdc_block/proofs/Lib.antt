@@ -2,3 +2,5 @@ pub mod Bodies
 pub mod Cuts
 pub mod Words
 pub mod Writes
+pub use Rattle.pdc_cfg.proofs as pdc_cfg
+pub use Rattle.pdc_cfg.proofs.pdc_frame

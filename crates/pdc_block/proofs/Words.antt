@@ -6,8 +6,8 @@ use Rattle.std.proofs.lemmas.List.{append-nil, append_assoc, drop_more, take-app
 use Rattle.std.proofs.lemmas.Grind.{flat_map-append}
 use Rattle.std.proofs.Math.Seq.{take-add}
 use Rattle.std.proofs.lemmas.List.Sums.{sum_by-cons}
-use Rattle.pdc_frame.specs.Bytes.{AreBytes, word_at}
-use Rattle.pdc_frame.specs.Parts.{WordsAreTheirBytes, PartsKeepTheirWords}
+use Rattle.pdc_cfg.specs.pdc_frame.Bytes.{AreBytes, word_at}
+use Rattle.pdc_cfg.specs.pdc_frame.Parts.{WordsAreTheirBytes, PartsKeepTheirWords}
 use Rattle.pdc_cfg.specs.declared.shape.Shape.{Shape}
 use Rattle.pdc_cfg.specs.Shape.{word_count_of}
 use Rattle.pdc_block.specs.Block.{AreWords, bytes_of_words, body_len_of, AreOfShapes, bytes_of_blocks}

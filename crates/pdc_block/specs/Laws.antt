@@ -1,6 +1,6 @@
 -- What holds of the words that bytes write (this profile).
 use Rattle.std.specs.Prelude.{◌≡◌, ℕ, ◌*◌, List, length}
-use Rattle.pdc_frame.specs.Bytes.{AreBytes}
+use Rattle.pdc_cfg.specs.pdc_frame.Bytes.{AreBytes}
 use Rattle.pdc_block.specs.Block.{AreWords, bytes_of_words, words_in}
 
 -- twice as many bytes write these words, each fits, and the bytes are their spelling

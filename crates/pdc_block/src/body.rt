@@ -5,8 +5,7 @@ ghost use Rattle.pdc_block.specs.Block.{IsBody, body_len_of, words_in};
 
 use crate::fault::BodyFault;
 use crate::in_place::read_into;
-use pdc_cfg::Shape;
-use pdc_frame::{read_word, words_are_their_bytes};
+use pdc_cfg::{Shape, read_word, words_are_their_bytes};
 
 /// A block, lent from the payload that has it: its words are read where they are, and none is copied.
 #[derive(Clone, Copy, Debug)]

@@ -3,8 +3,7 @@ ghost use Rattle.std.specs.Prelude.{◌≡◌, ◌+◌, ◌*◌, ◌<◌, ◌≤
 ghost use Rattle.pdc_block.specs.Block.{words_in};
 
 use arrayvec::ArrayVec;
-use pdc_cfg::MAX_WORDS;
-use pdc_frame::read_word;
+use pdc_cfg::{MAX_WORDS, read_word};
 
 /// How many words are written in one step: as many as fill a register of 16 bytes.
 pub const WORDS_AT_ONCE: usize = 8;

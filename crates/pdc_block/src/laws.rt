@@ -1,12 +1,12 @@
 //! Laws of the definitions: each is the contract of a function that does nothing but call the laws that it stands on.
 ghost use Rattle.std.specs.Prelude.{◌≡◌, ◌*◌, List, ℕ, length, sum_by};
-ghost use Rattle.pdc_frame.specs.Bytes.{AreBytes};
+ghost use Rattle.pdc_cfg.specs.pdc_frame.Bytes.{AreBytes};
 ghost use Rattle.pdc_cfg.specs.Shape.{word_count_of};
 ghost use Rattle.pdc_cfg.specs.declared.shape.Shape.{Shape};
 ghost use Rattle.pdc_block.specs.Block.{IsBody, IsCut, body_len_of, words_in};
 ghost use Rattle.pdc_block.specs.Laws.{WordsOfBytes};
 
-use pdc_frame::{parts_keep_their_words, words_are_their_bytes};
+use pdc_cfg::{parts_keep_their_words, words_are_their_bytes};
 
 /// Bytes write words, half as many; bytes of the length of a shape are a body of it, with the words that they write and no
 /// others.

@@ -6,8 +6,7 @@ use crate::block::Block;
 use crate::fault::BodyFault;
 use crate::in_place::new_words;
 use arrayvec::ArrayVec;
-use pdc_cfg::{MAX_SECTIONS, Shape};
-use pdc_frame::{parts_keep_their_words, words_are_their_bytes};
+use pdc_cfg::{MAX_SECTIONS, Shape, parts_keep_their_words, words_are_their_bytes};
 
 /// The block that the bytes are, where there are as many as the shape takes.
 fn body_of(shape: Shape, bytes: &[u8]) -> Block

@@ -4,8 +4,7 @@ ghost use Rattle.pdc_block.specs.Block.{IsCut, words_of, shape_of, body_len_of, 
 
 use crate::block::Block;
 use crate::in_place::WORDS_AT_ONCE;
-use pdc_cfg::MAX_WORDS;
-use pdc_frame::Buffer;
+use pdc_cfg::{Buffer, MAX_WORDS};
 use std::alloc::AllocError;
 
 /// The bytes of the eight words from this place on, each with its high byte first.

@@ -3,3 +3,4 @@ pub mod Sections
 pub mod Configs
 pub mod Faults
 pub mod Parts
+pub use Rattle.pdc_frame.proofs as pdc_frame

@@ -1,10 +1,10 @@
 -- What a core is told by bytes (this profile).
 use Rattle.std.specs.Prelude.{◌≡◌, ℕ, List, ◌∷◌}
-use Rattle.pdc_life.specs.Answer.{Rules, ToArrive, answered}
-use Rattle.pdc_life.specs.Arrival.{Arrival}
-use Rattle.pdc_life.specs.Given.{Given}
-use Rattle.pdc_life.specs.Life.{Entry}
-use Rattle.pdc_life.specs.declared.outcome.Outcome.{Outcome}
+use Rattle.pdc_align.specs.pdc_life.Answer.{Rules, ToArrive, answered}
+use Rattle.pdc_align.specs.pdc_life.Arrival.{Arrival}
+use Rattle.pdc_align.specs.pdc_life.Given.{Given}
+use Rattle.pdc_align.specs.pdc_life.Life.{Entry}
+use Rattle.pdc_align.specs.pdc_life.declared.outcome.Outcome.{Outcome}
 
 -- Bytes that came for a stream say something, and the core answered it as each life does that it stood for: it stands for the life
 -- with that step more. What bytes say is one thing.

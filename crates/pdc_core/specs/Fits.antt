@@ -1,11 +1,11 @@
 -- What can arrive at all, whatever the bytes were: a test of the stream and of the columns (this profile).
 use Rattle.std.specs.Prelude.{ℕ, ◌+◌, ◌==◌, ◌&&◌, Bool, true, false, List, [], ◌∷◌, length, nat_lt, if◌then◌else◌}
 use Rattle.std.specs.List.{list_all}
-use Rattle.pdc_cfg.specs.Section.{SectionFields}
-use Rattle.pdc_life.specs.Arrival.{Arrival}
-use Rattle.pdc_life.specs.Run.{sections_of}
-use Rattle.pdc_life.specs.declared.given.Settings.{Settings}
-use Rattle.pdc_life.specs.declared.merging.MergerSettings.{MergerSettings}
+use Rattle.pdc_align.specs.pdc_cfg.Section.{SectionFields}
+use Rattle.pdc_align.specs.pdc_life.Arrival.{Arrival}
+use Rattle.pdc_align.specs.pdc_life.Run.{sections_of}
+use Rattle.pdc_align.specs.pdc_life.declared.given.Settings.{Settings}
+use Rattle.pdc_align.specs.pdc_life.declared.merging.MergerSettings.{MergerSettings}
 
 -- the part is of this column
 abbrev pub is_of : (column : ℕ) → ℕ × SectionFields → Bool

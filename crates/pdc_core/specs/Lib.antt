@@ -2,4 +2,4 @@ pub mod Core
 pub mod Fits
 pub mod Said
 pub mod Step
-pub mod Taken
+pub mod KeptArrival

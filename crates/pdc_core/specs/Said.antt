@@ -3,14 +3,14 @@ use Rattle.std.proofs.Common.{◌≡◌, ℕ, ◌+◌, ◌<◌, Bool, List, [], 
 use Rattle.std.specs.List.{AllByRecursion, list_all, slice_get}
 use Rattle.std.proofs.lemmas.Bool.{eq-eqb, lt-ltb}
 use Rattle.std.proofs.lemmas.Option.{slice_get_within}
-use Rattle.pdc_cfg.specs.Section.{SectionFields}
-use Rattle.pdc_life.specs.Arrival.{Arrival, BytesRefused, Data, Layout}
-use Rattle.pdc_life.specs.MergerReading.{ReadsForMerger, nodes_of}
-use Rattle.pdc_life.specs.Node.{ReadsFor}
-use Rattle.pdc_life.specs.Run.{sections_of}
-use Rattle.pdc_life.specs.declared.given.Settings.{Settings}
-use Rattle.pdc_life.specs.declared.merging.MergerSettings.{MergerSettings}
-use Rattle.pdc_row.specs.Rising.{Rises}
+use Rattle.pdc_align.specs.pdc_cfg.Section.{SectionFields}
+use Rattle.pdc_align.specs.pdc_life.Arrival.{Arrival, BytesRefused, Data, Layout}
+use Rattle.pdc_align.specs.pdc_life.MergerReading.{ReadsForMerger, nodes_of}
+use Rattle.pdc_align.specs.pdc_life.Node.{ReadsFor}
+use Rattle.pdc_align.specs.pdc_life.Run.{sections_of}
+use Rattle.pdc_align.specs.pdc_life.declared.given.Settings.{Settings}
+use Rattle.pdc_align.specs.pdc_life.declared.merging.MergerSettings.{MergerSettings}
+use Rattle.pdc_align.specs.pdc_row.Rising.{Rises}
 use Rattle.pdc_core.specs.Fits.{are_placed, fits_merger, fits_node, is_of}
 
 -- two tests that passed

@@ -2,13 +2,13 @@
 use Rattle.std.specs.Prelude.{◌≡◌, ℕ, Bool, true, false, List, Some, nat_lt, option_map}
 pub use Rattle.pdc_align.specs.Align.{ticked_of}
 pub use Rattle.pdc_align.specs.Popped.{popped_after}
-use Rattle.pdc_life.specs.Answer.{IsReadStep, ReadStep, ToArrive, ToPop, ToTick}
-use Rattle.pdc_life.specs.Life.{Arrive, Entry, Pop, Tick, changes}
-use Rattle.pdc_life.specs.Arrival.{Arrival}
-use Rattle.pdc_row.specs.RowView.{row_view}
-pub use Rattle.pdc_answering.specs.Counts.{after_answer, next}
-pub use Rattle.pdc_answering.specs.declared.counts.Counts.{Counts}
-use Rattle.pdc_core.specs.Taken.{taken_view}
+use Rattle.pdc_align.specs.pdc_life.Answer.{IsReadStep, ReadStep, ToArrive, ToPop, ToTick}
+use Rattle.pdc_align.specs.pdc_life.Life.{Arrive, Entry, Pop, Tick, changes}
+use Rattle.pdc_align.specs.pdc_life.Arrival.{Arrival}
+use Rattle.pdc_align.specs.pdc_row.RowView.{row_view}
+pub use Rattle.pdc_align.specs.pdc_arrival.Counts.{after_answer, next}
+pub use Rattle.pdc_align.specs.pdc_arrival.declared.counts.Counts.{Counts}
+use Rattle.pdc_core.specs.KeptArrival.{taken_view}
 use Rattle.pdc_core.specs.declared.step.CoreStep.{CoreStep}
 use Rattle.pdc_core.specs.declared.step.CoreStep.TheVariants as core
 use Rattle.pdc_core.specs.declared.step.Reply.{Reply}

@@ -1,28 +1,23 @@
 //! What a node and the merger are to the programs that run them.
 ghost use Rattle.std.specs.Prelude.{◌≡◌, ◌≤◌, ◌<◌, ◌+◌, ◌*◌, ◌++◌, ◌∷◌, ℕ, IfSome, IsOk, List, OnErr, OnOk, false, length, option_map, true};
 ghost use Rattle.pdc_align.specs.Align.{ticked_of};
-ghost use Rattle.pdc_answering.specs.Counts.{after_answer, counts_after};
-ghost use Rattle.pdc_answering.specs.declared.counts.Counts.{Counts as CountsData};
+ghost use Rattle.pdc_align.specs.pdc_arrival.Counts.{after_answer, counts_after};
+ghost use Rattle.pdc_align.specs.pdc_arrival.declared.counts.Counts.{Counts as CountsData};
 ghost use Rattle.pdc_core.specs.Core.{Hears};
 ghost use Rattle.pdc_align.specs.Popped.{popped_after};
 ghost use Rattle.pdc_core.specs.Step.{IsOf, Tells, answers, counted_by, is_allowed, popped_by, rises_by};
-ghost use Rattle.pdc_life.specs.Answer.{IsReadStep, ReadStep, Rules, ToArrive, ToPop, ToTick, answered, pop_answer, tick_answer, waiting_counts};
-ghost use Rattle.pdc_life.specs.Given.{Given};
-ghost use Rattle.pdc_life.specs.Life.{Entry, changes, popped};
-ghost use Rattle.pdc_life.specs.Published.{layout_wire};
-ghost use Rattle.pdc_reading.specs.Views.{arrival_view};
-ghost use Rattle.pdc_row.specs.Rising.{AreBelow};
-ghost use Rattle.pdc_row.specs.RowView.{RowView, row_instants, row_view};
-ghost use Rattle.pdc_table.specs.KeptRow.{popped_into};
-ghost use Rattle.pdc_tag.specs.declared.limits.TheConstants.{SECONDS};
+ghost use Rattle.pdc_align.specs.pdc_life.Answer.{IsReadStep, ReadStep, Rules, ToArrive, ToPop, ToTick, answered, pop_answer, tick_answer, waiting_counts};
+ghost use Rattle.pdc_align.specs.pdc_life.Given.{Given};
+ghost use Rattle.pdc_align.specs.pdc_life.Life.{Entry, changes, popped};
+ghost use Rattle.pdc_align.specs.pdc_life.Published.{layout_wire};
+ghost use Rattle.pdc_align.specs.pdc_arrival.Views.{arrival_view};
+ghost use Rattle.pdc_align.specs.pdc_row.Rising.{AreBelow};
+ghost use Rattle.pdc_align.specs.pdc_row.RowView.{RowView, row_instants, row_view};
+ghost use Rattle.pdc_align.specs.pdc_table.KeptRow.{popped_into};
+ghost use Rattle.pdc_align.specs.pdc_tag.declared.limits.TheConstants.{SECONDS};
 
 use crate::{CoreStep, Reads, Reply};
-use pdc_align::Ticked;
-use pdc_answering::Counts;
-use pdc_frame::Buffer;
-use pdc_life::{MAX_PMUS, Outcome};
-use pdc_reading::Arrival;
-use pdc_row::DueRow;
+use pdc_align::{Arrival, Buffer, Counts, DueRow, MAX_PMUS, Outcome, Ticked};
 use std::alloc::AllocError;
 
 /// The core of a concentrator: for every life that it stands for, each call answers as the life does, and the core then stands for

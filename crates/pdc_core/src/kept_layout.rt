@@ -1,8 +1,7 @@
 //! A layout that is kept.
 ghost use Rattle.std.specs.Prelude.{◌≤◌, length};
 
-use pdc_cfg::Section;
-use pdc_reading::Stamp;
+use pdc_align::{Section, Stamp};
 
 /// A section of a layout that is kept, beside its column.
 #[derive(Debug, Drop)]

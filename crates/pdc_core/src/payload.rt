@@ -1,6 +1,6 @@
 //! The payload of data that is kept.
 ghost use Rattle.std.specs.Prelude.{◌≡◌, ◌≤◌, IfOk, IsOk, length};
-ghost use Rattle.pdc_core.specs.Taken.{bytes_of};
+ghost use Rattle.pdc_core.specs.KeptArrival.{bytes_of};
 
 use arrayvec::ArrayVec;
 use std::alloc::{AllocError, Global};

@@ -1,15 +1,14 @@
 //! Settings by which bytes are read.
 ghost use Rattle.std.specs.Prelude.{◌≡◌, ◌<◌, ℕ, Bool, IfOk, List, length, true};
 ghost use Rattle.pdc_core.specs.Fits.{fits_merger, fits_node};
-ghost use Rattle.pdc_core.specs.Taken.{taken_view};
-ghost use Rattle.pdc_life.specs.Arrival.{Arrival};
-ghost use Rattle.pdc_life.specs.MergerReading.{ReadsForMerger};
-ghost use Rattle.pdc_life.specs.Node.{ReadsFor};
-ghost use Rattle.pdc_reading.specs.Views.{arrival_view};
+ghost use Rattle.pdc_core.specs.KeptArrival.{taken_view};
+ghost use Rattle.pdc_align.specs.pdc_life.Arrival.{Arrival};
+ghost use Rattle.pdc_align.specs.pdc_life.MergerReading.{ReadsForMerger};
+ghost use Rattle.pdc_align.specs.pdc_life.Node.{ReadsFor};
+ghost use Rattle.pdc_align.specs.pdc_arrival.Views.{arrival_view};
 
-use crate::Taken;
-use pdc_life::{MergerSettings, Settings};
-use pdc_reading::{Arrival, read_from_node, read_from_pmu};
+use crate::KeptArrival;
+use pdc_align::{Arrival, MergerSettings, Settings, read_from_node, read_from_pmu};
 use std::alloc::{AllocError, Global};
 
 /// Settings by which the bytes of a datagram are read, whatever came before. It takes no memory.
@@ -34,14 +33,19 @@ pub trait Reads {
     ///
     /// # Errors
     ///
-    /// [`AllocError`] where there is no memory; [`Taken::keep`] tells what takes none.
-    fn read_kept(&self, alloc: Global, stream: usize, bytes: &[u8]) -> Result<Taken, AllocError>
+    /// [`AllocError`] where there is no memory; [`KeptArrival::keep`] tells what takes none.
+    fn read_kept(
+        &self,
+        alloc: Global,
+        stream: usize,
+        bytes: &[u8],
+    ) -> Result<KeptArrival, AllocError>
         requires { stream < streams self.now }
         ensures says { IfOk result (λ taken. says self.now stream bytes.now (taken_view taken)) }
         ensures fits { IfOk result (λ taken. fits self.now stream (taken_view taken) ≡ true) }
     {
         let arrival = self.read(stream, bytes);
-        Taken::keep(alloc, &arrival)
+        KeptArrival::keep(alloc, &arrival)
     }
 }
 
@@ -65,7 +69,7 @@ impl Reads for Settings {
 /// The merger's: a stream comes from each of two nodes.
 impl Reads for MergerSettings {
     ghost use Rattle.pdc_core.specs.Said.{said_fits_merger};
-    ghost use Rattle.pdc_reading.specs.declared.from_node.TheConstants.{NODES};
+    ghost use Rattle.pdc_align.specs.pdc_arrival.declared.from_node.TheConstants.{NODES};
 
     ghost streams = { λ _. NODES };
 

@@ -1,8 +1,6 @@
 //! The steps of a core, as they are handed to it, and what it replies.
-use crate::Taken;
-use pdc_align::Ticked;
-use pdc_life::{MAX_PMUS, Outcome};
-use pdc_row::DueRow;
+use crate::KeptArrival;
+use pdc_align::{DueRow, MAX_PMUS, Outcome, Ticked};
 
 /// A step of a core.
 #[derive(Debug, Drop)]
@@ -12,7 +10,7 @@ pub enum CoreStep {
         /// The number of the stream, from 0.
         stream: usize,
         /// What arrived.
-        taken: Taken,
+        taken: KeptArrival,
     },
     /// A tick.
     Tick {

@@ -3,3 +3,4 @@ pub mod CheckWord
 pub mod Frame
 pub mod Parts
 pub mod Stream
+pub mod Texts

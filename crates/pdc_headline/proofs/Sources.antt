@@ -7,7 +7,7 @@ use Rattle.pdc_cfg.specs.Shape.{word_count_of}
 use Rattle.pdc_cfg.specs.declared.shape.Shape.{Shape}
 use Rattle.pdc_frame.specs.Bytes.{AreBytes}
 use Rattle.pdc_frame.specs.Frame.{Fields}
-use Rattle.pdc_stat.specs.AbsentBlock.{absent_of}
+use Rattle.pdc_block.specs.AbsentBlock.{absent_of}
 use Rattle.pdc_life.specs.Arrival.{Stamp}
 use Rattle.pdc_life.specs.NodeReading.{IsValid, stream_of}
 use Rattle.pdc_life.specs.declared.pmu.Pmu.{Pmu}

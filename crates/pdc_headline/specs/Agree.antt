@@ -4,7 +4,7 @@ use Rattle.std.specs.List.{Contains, slice_get}
 use Rattle.pdc_cfg.specs.Section.{SectionFields}
 use Rattle.pdc_event.specs.Event.{who_of}
 use Rattle.pdc_event.specs.declared.reply.Published.{Published}
-use Rattle.pdc_stat.specs.AbsentBlock.{absent_of}
+use Rattle.pdc_block.specs.AbsentBlock.{absent_of}
 use Rattle.pdc_life.specs.Arrival.{Stamp}
 use Rattle.pdc_life.specs.Reading.{IsData}
 use Rattle.pdc_history.specs.World.{Who}

@@ -4,7 +4,7 @@ use Rattle.std.specs.List.{AllByRecursion, Contains, slice_get}
 use Rattle.pdc_block.specs.Block.{IsBody}
 use Rattle.pdc_cfg.specs.Config.{ConfigFields}
 use Rattle.pdc_cfg.specs.Section.{SectionFields}
-use Rattle.pdc_stat.specs.AbsentBlock.{absent_of}
+use Rattle.pdc_block.specs.AbsentBlock.{absent_of}
 use Rattle.pdc_life.specs.declared.pmu.Pmu.{Pmu}
 use Rattle.pdc_life.specs.Arrival.{Stamp}
 use Rattle.pdc_life.specs.MergerReading.{IsOwn}

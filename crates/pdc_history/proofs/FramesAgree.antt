@@ -6,7 +6,7 @@ use Rattle.pdc_block.specs.Block.{words_in}
 use Rattle.pdc_cfg.specs.Section.{SectionFields}
 use Rattle.pdc_row.specs.RowView.{RowView}
 use Rattle.pdc_output.specs.Layout.{row_payload, wire_of}
-use Rattle.pdc_stat.specs.AbsentBlock.{absent_of}
+use Rattle.pdc_block.specs.AbsentBlock.{absent_of}
 use Rattle.pdc_life.specs.declared.pmu.Pmu.{Pmu}
 use Rattle.pdc_life.specs.NodeReading.{IsValid, stream_of}
 use Rattle.pdc_life.specs.Reading.{IsData}

@@ -5,7 +5,7 @@ use Rattle.pdc_block.specs.Block.{IsBody, IsCut}
 use Rattle.pdc_cfg.specs.Config.{ConfigFields}
 use Rattle.pdc_cfg.specs.Section.{SectionFields}
 use Rattle.pdc_cfg.specs.declared.shape.Shape.{Shape}
-use Rattle.pdc_stat.specs.AbsentBlock.{absent_of}
+use Rattle.pdc_block.specs.AbsentBlock.{absent_of}
 use Rattle.pdc_output.specs.Layout.{own_block}
 use Rattle.pdc_life.specs.declared.pmu.Pmu.{Pmu}
 use Rattle.pdc_life.specs.Arrival.{Stamp}

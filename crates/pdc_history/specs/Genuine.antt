@@ -4,7 +4,7 @@ use Rattle.std.specs.List.{AllByRecursion, Contains, slice_get}
 use Rattle.pdc_cfg.specs.Section.{SectionFields}
 use Rattle.pdc_row.specs.RowView.{RowView}
 use Rattle.pdc_output.specs.Layout.{row_payload, wire_of}
-use Rattle.pdc_stat.specs.AbsentBlock.{absent_of}
+use Rattle.pdc_block.specs.AbsentBlock.{absent_of}
 use Rattle.pdc_life.specs.Arrival.{Stamp}
 use Rattle.pdc_life.specs.Merger.{HeldLayout, held_layout}
 use Rattle.pdc_life.specs.Reading.{IsData}

@@ -1,1 +1,3 @@
-mod Outcomes
+mod Counted
+mod Held
+mod Replays

@@ -1,4 +1,4 @@
--- What a run does.
-pub mod Crew
-pub mod Rate
-pub mod Run
+-- What is under the lock of a running core, and what its steps count.
+pub mod Counted
+pub mod Faults
+pub mod Replay

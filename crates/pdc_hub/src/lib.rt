@@ -1,20 +1,25 @@
-//! The running core of a concentrator, node or merger: receivers side by side round one lock, one aligner that alone owns the mark, and
-//! one sender that alone has the sink (this profile).
+//! What stands under the lock of a running core: a core beside a base and the steps since, with the books of what they counted (this
+//! profile).
 //!
-//! The first call to look at is [`run`]. What goes from the aligner to the sender is a [`Message`], through the channel of `pdc_pipe`.
+//! The first type to look at is [`Recorder`]. Its core is at every moment the replay of the kept steps over the base, and its books
+//! have the core's counters.
 //!
-//! The promise to the layers above: what the sink took is a prefix of what the aligner put, whose instants strictly rise, lie above the
-//! floor that was stored before, and are at most the floor that is stored then.
+//! The promise to the layers above: each call adds exactly the caller's step and answers what the core answers it, or adds none and
+//! says why; what the step counted is in the caller's share.
 #![tactic(auto)]
 
-mod receivers;
-mod runs;
+mod fault;
+mod hub;
+mod naming;
+mod receiver;
+mod recorder;
+mod replayed;
+mod shares;
 
-pub use pdc_aligner::{Counts, Pace, Ticker, Told, align, tick_cleared};
-pub use pdc_pipe::{
-    CAPACITY, Ended, InOrder, LayoutFrame, Log, MemorySink, Message, Receiver, Sender, Sink,
-    SinkFault, send_out,
-};
-pub use pdc_recorder::{Blanks, Hub, HubFault, Naming, Next, Received, Shares, Source, receive};
-pub use receivers::{Counted, Input};
-pub use runs::{Ran, Totals, run};
+pub use fault::HubFault;
+pub use hub::Hub;
+pub use naming::Naming;
+pub use receiver::{Received, receive};
+pub use recorder::Recorder;
+pub use replayed::Replayed;
+pub use shares::{Blanks, Books, Shares};

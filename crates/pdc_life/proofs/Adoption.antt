@@ -3,7 +3,7 @@ use Rattle.std.proofs.Common.{◌≡◌, ℕ, zero, suc, ◌+◌, ◌<◌, ◌�
 use Rattle.std.specs.Prelude.{◌&&◌, ◌||◌, ◌==◌}
 use Rattle.std.specs.List.{list_any, range_with_len}
 use Rattle.std.proofs.lemmas.Bool.{false≢true}
-use Rattle.pdc_cfg.specs.Section.{SectionFields}
+use Rattle.pdc_output.specs.pdc_cfg.Section.{SectionFields}
 use Rattle.pdc_life.specs.Adoption.{IsNewer, ReadyIsAdopted}
 use Rattle.pdc_life.specs.Answer.{has_change, is_newer, is_ready, ready_columns}
 use Rattle.pdc_life.specs.Given.{columns_of, count_for}

@@ -3,7 +3,7 @@ use Rattle.std.proofs.Common.{◌≡◌, ℕ, suc, ◌≤◌, Bool, true, false,
 use Rattle.std.specs.Prelude.{nat_le}
 use Rattle.std.specs.List.{AllByRecursion, Contains, list_all}
 use Rattle.std.proofs.lemmas.Bool.{false≢true}
-use Rattle.pdc_row.specs.RowView.{RowView}
+use Rattle.pdc_output.specs.pdc_row.RowView.{RowView}
 use Rattle.pdc_life.specs.Given.{Given}
 use Rattle.pdc_life.specs.Life.{Entry, Arrive, Tick, TickAnswer, Pop, closed, open_instants}
 use Rattle.pdc_life.specs.Row.{closing, is_due, row_of}

@@ -4,16 +4,16 @@ use Rattle.std.specs.List.{AllByRecursion, cons_option, filter_map}
 use Rattle.std.proofs.lemmas.List.{length-replicate}
 use Rattle.std.proofs.lemmas.List.FromFn.{length-range_with_len}
 use Rattle.std.proofs.lemmas.Option.{same_Some}
-use Rattle.pdc_frame.specs.Frame.{Fields, IsFrame}
-use Rattle.pdc_cfg.specs.Config.{ConfigFields, IsConfig}
-use Rattle.pdc_cfg.specs.Shape.{word_count_of}
-use Rattle.pdc_cfg.specs.declared.shape.Shape.{Shape}
-use Rattle.pdc_cfg.specs.Section.{SectionFields, IsSection}
-use Rattle.pdc_block.specs.Block.{AreOfShapes, AreWords, IsCut}
-use Rattle.pdc_row.specs.CellView.{BlockView, CellView, absent_of}
-use Rattle.pdc_row.specs.Chosen.{block_or_absent}
-use Rattle.pdc_row.specs.Quality.{greatest, quality_of}
-use Rattle.pdc_row.specs.RowView.{RowView, row_instants}
+use Rattle.pdc_output.specs.pdc_frame.Frame.{Fields, IsFrame}
+use Rattle.pdc_output.specs.pdc_cfg.Config.{ConfigFields, IsConfig}
+use Rattle.pdc_output.specs.pdc_cfg.Shape.{word_count_of}
+use Rattle.pdc_output.specs.pdc_cfg.declared.shape.Shape.{Shape}
+use Rattle.pdc_output.specs.pdc_cfg.Section.{SectionFields, IsSection}
+use Rattle.pdc_output.specs.pdc_block.Block.{AreOfShapes, AreWords, IsCut}
+use Rattle.pdc_output.specs.pdc_row.CellView.{BlockView, CellView, absent_of}
+use Rattle.pdc_output.specs.pdc_row.Chosen.{block_or_absent}
+use Rattle.pdc_output.specs.pdc_row.Quality.{greatest, quality_of}
+use Rattle.pdc_output.specs.pdc_row.RowView.{RowView, row_instants}
 use Rattle.pdc_output.specs.Layout.{layout_fields_of, layout_payload_of, own_block, own_bytes, row_payload}
 use Rattle.pdc_output.specs.Laws.{LayoutsAreFrames, OwnSectionsTellStamps, RowsAreCut, RowsAreFrames, words_of_row}
 use Rattle.pdc_life.specs.Answer.{has_change, ready_columns}

@@ -4,10 +4,10 @@ use Rattle.std.specs.Prelude.{◌==◌, if◌then◌else◌}
 use Rattle.std.specs.List.{AllByRecursion, Contains, cons_option, filter_map, find, range_with_len}
 use Rattle.std.proofs.lemmas.Bool.{cases_lt, false≢true}
 use Rattle.std.proofs.lemmas.Option.{none-some, same_Some}
-use Rattle.pdc_cfg.specs.Section.{SectionFields}
-use Rattle.pdc_row.specs.CellView.{BlockView, CellView, is_present}
-use Rattle.pdc_row.specs.Chosen.{block_or_absent, first_of, present_of}
-use Rattle.pdc_row.specs.RowView.{RowView}
+use Rattle.pdc_output.specs.pdc_cfg.Section.{SectionFields}
+use Rattle.pdc_output.specs.pdc_row.CellView.{BlockView, CellView, is_present}
+use Rattle.pdc_output.specs.pdc_row.Chosen.{block_or_absent, first_of, present_of}
+use Rattle.pdc_output.specs.pdc_row.RowView.{RowView}
 use Rattle.pdc_life.specs.declared.outcome.Outcome.{Outcome}
 use Rattle.pdc_life.specs.declared.outcome.Outcome.TheVariants.{Taken, Candidate, Known, Refused}
 use Rattle.pdc_life.specs.Arrival.{BytesRefused, Data, Layout}
@@ -20,7 +20,7 @@ use Rattle.pdc_life.specs.Run.{IsOfSectionInForce}
 use Rattle.pdc_life.proofs.Closing.{rows_are_of_their_ticks}
 use Rattle.pdc_life.proofs.InForce.{cells_are_of_sections}
 use Rattle.pdc_life.proofs.LifeLaws.{rows_come_out_once}
-use Rattle.pdc_block.specs.Laws.{WordsOfBytes}
+use Rattle.pdc_output.specs.pdc_block.Laws.{WordsOfBytes}
 use Rattle.pdc_life.proofs.NodeRuns.{node_lives_are_runs}
 
 -- a take came with data that was taken, and what was in force of the column then is in force still

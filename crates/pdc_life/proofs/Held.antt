@@ -2,7 +2,7 @@
 use Rattle.std.proofs.Common.{◌≡◌, ℕ, ◌<◌, ◌≤◌, Bool, true, false, List, [], ◌∷◌, ◌++◌, cond, ltb, leb, eqb, filter, map, refl, sym, ap, subst, ◌∙◌, arith, rules, Option, Some, None, inl, inr}
 use Rattle.std.specs.List.{AllByRecursion, flat_map}
 use Rattle.std.proofs.lemmas.Bool.{cases_lt, false≢true}
-use Rattle.pdc_cfg.specs.Section.{SectionFields}
+use Rattle.pdc_output.specs.pdc_cfg.Section.{SectionFields}
 use Rattle.pdc_life.specs.declared.given.Settings.{Settings}
 use Rattle.pdc_life.specs.declared.outcome.Outcome.TheVariants.{Refused}
 use Rattle.pdc_life.specs.declared.outcome.Refusal.TheVariants.{StaleCount}

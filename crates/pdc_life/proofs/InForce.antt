@@ -4,10 +4,10 @@ use Rattle.std.specs.Prelude.{◌&&◌, ◌||◌, ◌⊎◌, ◌==◌, find, opt
 use Rattle.std.specs.List.{AllByRecursion, flat_map, list_any}
 use Rattle.std.proofs.lemmas.Bool.{false≢true}
 use Rattle.std.proofs.lemmas.Option.{none-some, same_Some}
-use Rattle.pdc_block.specs.Block.{AreWords}
-use Rattle.pdc_cfg.specs.Shape.{word_count_of}
-use Rattle.pdc_cfg.specs.Section.{SectionFields}
-use Rattle.pdc_row.specs.CellView.{CellView}
+use Rattle.pdc_output.specs.pdc_block.Block.{AreWords}
+use Rattle.pdc_output.specs.pdc_cfg.Shape.{word_count_of}
+use Rattle.pdc_output.specs.pdc_cfg.Section.{SectionFields}
+use Rattle.pdc_output.specs.pdc_row.CellView.{CellView}
 use Rattle.pdc_life.specs.declared.outcome.Outcome.{Outcome}
 use Rattle.pdc_life.specs.declared.outcome.Outcome.TheVariants.{Taken, Candidate, Known, Refused}
 use Rattle.pdc_life.specs.Arrival.{BytesRefused, Data, Layout}

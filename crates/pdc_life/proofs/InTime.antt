@@ -4,15 +4,15 @@ use Rattle.std.specs.Prelude.{nat_le, nat_eq, drop}
 use Rattle.std.specs.List.{list_all, list_any}
 use Rattle.std.specs.Cmp.Lexicographic.{other_text, pointwise, same_text}
 use Rattle.std.proofs.lemmas.Bool.{false≢true}
-use Rattle.pdc_block.specs.Block.{words_in}
-use Rattle.pdc_cfg.specs.Shape.{word_count_of}
-use Rattle.pdc_cfg.specs.Section.{SectionFields}
+use Rattle.pdc_output.specs.pdc_block.Block.{words_in}
+use Rattle.pdc_output.specs.pdc_cfg.Shape.{word_count_of}
+use Rattle.pdc_output.specs.pdc_cfg.Section.{SectionFields}
 use Rattle.pdc_output.specs.Layout.{stamp_words}
-use Rattle.pdc_row.specs.CellView.{CellView}
-use Rattle.pdc_row.specs.Quality.{greatest}
-use Rattle.pdc_row.specs.Rising.{AreBelow, is_near}
-use Rattle.pdc_row.specs.RisingLaws.{RisingLaws}
-use Rattle.pdc_row.specs.RowView.{row_instants}
+use Rattle.pdc_output.specs.pdc_row.CellView.{CellView}
+use Rattle.pdc_output.specs.pdc_row.Quality.{greatest}
+use Rattle.pdc_output.specs.pdc_row.Rising.{AreBelow, is_near}
+use Rattle.pdc_output.specs.pdc_row.RisingLaws.{RisingLaws}
+use Rattle.pdc_output.specs.pdc_row.RowView.{row_instants}
 use Rattle.pdc_life.specs.declared.outcome.Outcome.{Outcome}
 use Rattle.pdc_life.specs.declared.outcome.Outcome.TheVariants.{Taken, Refused}
 use Rattle.pdc_life.specs.declared.outcome.Refusal.{Refusal}

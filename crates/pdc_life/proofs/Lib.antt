@@ -24,3 +24,9 @@ pub mod Worked
 pub mod WorkedExact
 pub mod WorkedMerger
 pub mod WorkedOrder
+pub use Rattle.pdc_output.proofs as pdc_output
+pub use Rattle.pdc_output.proofs.pdc_tag
+pub use Rattle.pdc_output.proofs.pdc_row
+pub use Rattle.pdc_output.proofs.pdc_block
+pub use Rattle.pdc_output.proofs.pdc_cfg
+pub use Rattle.pdc_output.proofs.pdc_frame

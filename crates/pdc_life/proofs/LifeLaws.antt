@@ -3,10 +3,10 @@ use Rattle.std.proofs.Common.{◌≡◌, ℕ, ◌+◌, ◌≤◌, ◌==◌, Bool
 use Rattle.std.proofs.lemmas.List.{append_assoc}
 use Rattle.std.specs.List.{AllByRecursion, list_any, slice_get}
 use Rattle.std.specs.Option.{option_to_list}
-use Rattle.pdc_row.specs.Quality.{greatest}
-use Rattle.pdc_row.specs.Rising.{Rises}
-use Rattle.pdc_row.specs.RisingLaws.{RisingLaws}
-use Rattle.pdc_row.specs.RowView.{RowView, row_instants}
+use Rattle.pdc_output.specs.pdc_row.Quality.{greatest}
+use Rattle.pdc_output.specs.pdc_row.Rising.{Rises}
+use Rattle.pdc_output.specs.pdc_row.RisingLaws.{RisingLaws}
+use Rattle.pdc_output.specs.pdc_row.RowView.{RowView, row_instants}
 use Rattle.pdc_life.specs.Given.{Given}
 use Rattle.pdc_life.specs.Life.{Entry, Arrive, Tick, TickAnswer, Pop, Take, changes, closed, is_adoption, is_adoption_of, last_of, open_instants, popped, takes, waiting}
 use Rattle.pdc_life.specs.Merger.{merged_answer}

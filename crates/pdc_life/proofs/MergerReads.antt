@@ -5,15 +5,15 @@ use Rattle.std.specs.Int.{w16, cast_unsigned}
 use Rattle.std.specs.List.{AllByRecursion, list_any, slice_get}
 use Rattle.std.proofs.lemmas.Bool.{false≢true}
 use Rattle.std.proofs.lemmas.Option.{none-some, same_Some}
-use Rattle.pdc_frame.specs.Frame.{Fields, IsFrame, IsFirstFault}
-use Rattle.pdc_frame.specs.declared.fault.FrameFault.{FrameFault}
-use Rattle.pdc_frame.specs.declared.frame.Kind.{Kind}
-use Rattle.pdc_frame.specs.declared.frame.Kind.TheVariants.{DataFrame, HeaderFrame, Cfg1, Cfg2, CommandFrame, Cfg3}
-use Rattle.pdc_cfg.specs.Section.{SectionFields}
-use Rattle.pdc_cfg.specs.Config.{ConfigFields, IsConfig, IsPayloadFault}
-use Rattle.pdc_cfg.specs.declared.fault.CfgFault.{CfgFault}
-use Rattle.pdc_cfg.specs.declared.fault.CfgFault.TheVariants.{WrongKind, Cut, TooMany, FloatFormat}
-use Rattle.pdc_tag.specs.Instant.{IsInstant, instant_of}
+use Rattle.pdc_output.specs.pdc_frame.Frame.{Fields, IsFrame, IsFirstFault}
+use Rattle.pdc_output.specs.pdc_frame.declared.fault.FrameFault.{FrameFault}
+use Rattle.pdc_output.specs.pdc_frame.declared.frame.Kind.{Kind}
+use Rattle.pdc_output.specs.pdc_frame.declared.frame.Kind.TheVariants.{DataFrame, HeaderFrame, Cfg1, Cfg2, CommandFrame, Cfg3}
+use Rattle.pdc_output.specs.pdc_cfg.Section.{SectionFields}
+use Rattle.pdc_output.specs.pdc_cfg.Config.{ConfigFields, IsConfig, IsPayloadFault}
+use Rattle.pdc_output.specs.pdc_cfg.declared.fault.CfgFault.{CfgFault}
+use Rattle.pdc_output.specs.pdc_cfg.declared.fault.CfgFault.TheVariants.{WrongKind, Cut, TooMany, FloatFormat}
+use Rattle.pdc_output.specs.pdc_tag.Instant.{IsInstant, instant_of}
 use Rattle.pdc_output.specs.declared.output.Nominal.TheVariants.{Hz50, Hz60}
 use Rattle.pdc_output.specs.Layout.{own_bytes}
 use Rattle.pdc_output.specs.Laws.{OwnSectionsTellStamps}

@@ -7,14 +7,14 @@ use Rattle.std.specs.List.{AllByRecursion, Contains, range_with_len, slice_get}
 use Rattle.std.proofs.lemmas.Bool.{false≢true}
 use Rattle.std.proofs.lemmas.List.Sums.{sum_by-cons}
 use Rattle.std.proofs.lemmas.Option.{slice_get_within}
-use Rattle.pdc_frame.specs.Bytes.{AreBytes}
-use Rattle.pdc_block.specs.Block.{AreWords, words_in}
-use Rattle.pdc_block.specs.Laws.{WordsOfBytes}
-use Rattle.pdc_cfg.specs.Config.{ConfigFields, IsConfig, payload_of}
-use Rattle.pdc_cfg.specs.Shape.{word_count_of}
-use Rattle.pdc_cfg.specs.Section.{SectionFields, IsSection}
-use Rattle.pdc_row.specs.CellView.{CellView}
-use Rattle.pdc_row.specs.Rising.{Rises}
+use Rattle.pdc_output.specs.pdc_frame.Bytes.{AreBytes}
+use Rattle.pdc_output.specs.pdc_block.Block.{AreWords, words_in}
+use Rattle.pdc_output.specs.pdc_block.Laws.{WordsOfBytes}
+use Rattle.pdc_output.specs.pdc_cfg.Config.{ConfigFields, IsConfig, payload_of}
+use Rattle.pdc_output.specs.pdc_cfg.Shape.{word_count_of}
+use Rattle.pdc_output.specs.pdc_cfg.Section.{SectionFields, IsSection}
+use Rattle.pdc_output.specs.pdc_row.CellView.{CellView}
+use Rattle.pdc_output.specs.pdc_row.Rising.{Rises}
 use Rattle.pdc_output.specs.Layout.{stamp_words}
 use Rattle.pdc_life.specs.declared.merging.MergedNode.{MergedNode}
 use Rattle.pdc_life.specs.declared.merging.MergerSettings.{MergerSettings}

@@ -7,14 +7,14 @@ use Rattle.std.proofs.Math.Nat.{mul-le-mul_right}
 use Rattle.std.proofs.lemmas.Bool.{cases_lt, false≢true}
 use Rattle.std.proofs.lemmas.List.FromFn.{length-range_with_len}
 use Rattle.std.proofs.lemmas.Option.{slice_get_within}
-use Rattle.pdc_frame.specs.Bytes.{AreBytes}
-use Rattle.pdc_block.specs.Block.{words_in}
-use Rattle.pdc_block.specs.Laws.{WordsOfBytes}
-use Rattle.pdc_cfg.specs.Shape.{word_count_of}
-use Rattle.pdc_cfg.specs.Section.{SectionFields, IsSection}
-use Rattle.pdc_row.specs.CellView.{CellView}
-use Rattle.pdc_tag.specs.Slot.{IsSlot}
-use Rattle.pdc_tag.specs.Instant.{IsInstant}
+use Rattle.pdc_output.specs.pdc_frame.Bytes.{AreBytes}
+use Rattle.pdc_output.specs.pdc_block.Block.{words_in}
+use Rattle.pdc_output.specs.pdc_block.Laws.{WordsOfBytes}
+use Rattle.pdc_output.specs.pdc_cfg.Shape.{word_count_of}
+use Rattle.pdc_output.specs.pdc_cfg.Section.{SectionFields, IsSection}
+use Rattle.pdc_output.specs.pdc_row.CellView.{CellView}
+use Rattle.pdc_output.specs.pdc_tag.Slot.{IsSlot}
+use Rattle.pdc_output.specs.pdc_tag.Instant.{IsInstant}
 use Rattle.pdc_life.specs.declared.given.Settings.{Settings}
 use Rattle.pdc_life.specs.declared.pmu.Pmu.{Pmu}
 use Rattle.pdc_life.specs.declared.outcome.Outcome.{Outcome}

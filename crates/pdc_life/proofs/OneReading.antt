@@ -2,15 +2,15 @@
 -- configuration, and each stage has one input.
 use Rattle.std.proofs.Common.{◌≡◌, ◌↔◌, ◌≢◌, ◌⊎◌, inl, inr, ℕ, List, [], ◌∷◌, length, true, false, cond, eqb, refl, sym, ap, subst, ◌∙◌, arith, rules, Option, Some, None}
 use Rattle.std.specs.Int.{w16, cast_unsigned}
-use Rattle.pdc_frame.specs.Frame.{Fields, IsFrame, IsFirstFault}
-use Rattle.pdc_frame.specs.declared.fault.FrameFault.{FrameFault}
-use Rattle.pdc_frame.specs.declared.frame.Kind.{Kind}
-use Rattle.pdc_frame.specs.declared.frame.Kind.TheVariants.{DataFrame, HeaderFrame, Cfg1, Cfg2, CommandFrame, Cfg3}
-use Rattle.pdc_cfg.specs.Section.{SectionFields}
-use Rattle.pdc_cfg.specs.Config.{ConfigFields, IsConfig, IsPayloadFault}
-use Rattle.pdc_cfg.specs.declared.fault.CfgFault.{CfgFault}
-use Rattle.pdc_cfg.specs.declared.fault.CfgFault.TheVariants.{WrongKind, Cut, TooMany, FloatFormat}
-use Rattle.pdc_tag.specs.Instant.{IsInstant, instant_of}
+use Rattle.pdc_output.specs.pdc_frame.Frame.{Fields, IsFrame, IsFirstFault}
+use Rattle.pdc_output.specs.pdc_frame.declared.fault.FrameFault.{FrameFault}
+use Rattle.pdc_output.specs.pdc_frame.declared.frame.Kind.{Kind}
+use Rattle.pdc_output.specs.pdc_frame.declared.frame.Kind.TheVariants.{DataFrame, HeaderFrame, Cfg1, Cfg2, CommandFrame, Cfg3}
+use Rattle.pdc_output.specs.pdc_cfg.Section.{SectionFields}
+use Rattle.pdc_output.specs.pdc_cfg.Config.{ConfigFields, IsConfig, IsPayloadFault}
+use Rattle.pdc_output.specs.pdc_cfg.declared.fault.CfgFault.{CfgFault}
+use Rattle.pdc_output.specs.pdc_cfg.declared.fault.CfgFault.TheVariants.{WrongKind, Cut, TooMany, FloatFormat}
+use Rattle.pdc_output.specs.pdc_tag.Instant.{IsInstant, instant_of}
 use Rattle.pdc_life.specs.declared.given.Settings.{Settings}
 use Rattle.pdc_life.specs.declared.pmu.Pmu.{Pmu}
 use Rattle.pdc_life.specs.declared.outcome.Refusal.TheVariants.{NoFrame, WrongId, NoConfiguration, WrongTimeBase, WrongRate, WrongSource, BadTag, BadOwnBlock, UnknownSource, OldStamp, OtherStamp, StaleCount, CountConflict, NoConfig, WrongLength, Late, Ahead, OutOfWindow, Duplicate, Conflict}

@@ -4,8 +4,8 @@ use Rattle.std.specs.Prelude.{drop}
 use Rattle.std.specs.List.{AllByRecursion, slice_get}
 use Rattle.std.proofs.lemmas.Bool.{false≢true}
 use Rattle.std.proofs.lemmas.Option.{none-some, same_Some}
-use Rattle.pdc_row.specs.RowView.{RowView, row_instants}
-use Rattle.pdc_row.specs.Rising.{place, rising}
+use Rattle.pdc_output.specs.pdc_row.RowView.{RowView, row_instants}
+use Rattle.pdc_output.specs.pdc_row.Rising.{place, rising}
 use Rattle.pdc_life.specs.declared.outcome.Outcome.{Outcome}
 use Rattle.pdc_life.specs.declared.outcome.Outcome.TheVariants.{Taken, Candidate, Known, Refused}
 use Rattle.pdc_life.specs.Given.{Given}

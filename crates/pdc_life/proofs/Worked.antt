@@ -2,10 +2,10 @@
 -- bytes beside it stand for any that say so.
 use Rattle.std.specs.Prelude.{◌≡◌, ℕ, ◌+◌, List, [], ◌∷◌, length, map, replicate, None, refl}
 use Rattle.std.proofs.Common.{arith}
-use Rattle.pdc_frame.specs.CheckWord.{check_word_of}
-use Rattle.pdc_tag.specs.Nearest.{nearest_of}
-use Rattle.pdc_tag.specs.Tag.{tag_of}
-use Rattle.pdc_row.specs.RowView.{RowView}
+use Rattle.pdc_output.specs.pdc_frame.CheckWord.{check_word_of}
+use Rattle.pdc_output.specs.pdc_tag.Nearest.{nearest_of}
+use Rattle.pdc_output.specs.pdc_tag.Tag.{tag_of}
+use Rattle.pdc_output.specs.pdc_row.RowView.{RowView}
 use Rattle.pdc_life.specs.declared.given.WaitKind.{WaitKind}
 use Rattle.pdc_life.specs.declared.given.WaitKind.TheVariants.{Relative, Absolute}
 use Rattle.pdc_life.specs.declared.outcome.Outcome.{Outcome}

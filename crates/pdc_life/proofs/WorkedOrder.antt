@@ -1,8 +1,8 @@
 -- More lives of a node worked out by computing the definitions: rows in their order, and a PMU that comes later.
 use Rattle.std.specs.Prelude.{◌≡◌, ℕ, List, [], ◌∷◌, map, None, refl}
-use Rattle.pdc_block.specs.Block.{words_in}
-use Rattle.pdc_row.specs.CellView.{BlockView}
-use Rattle.pdc_row.specs.RowView.{RowView}
+use Rattle.pdc_output.specs.pdc_block.Block.{words_in}
+use Rattle.pdc_output.specs.pdc_row.CellView.{BlockView}
+use Rattle.pdc_output.specs.pdc_row.RowView.{RowView}
 use Rattle.std.proofs.Common.{arith}
 use Rattle.pdc_life.specs.declared.given.WaitKind.TheVariants.{Relative}
 use Rattle.pdc_life.specs.declared.outcome.Outcome.TheVariants.{Taken, Candidate, Refused}

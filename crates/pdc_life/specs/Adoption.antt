@@ -1,6 +1,6 @@
 -- What a tick adopts (this profile).
 use Rattle.std.specs.Prelude.{◌≡◌, ℕ, ◌-◌, ◌^◌, ◌<◌, ◌≤◌, List, ◌∷◌, max, Option, None, Some}
-use Rattle.pdc_cfg.specs.Section.{SectionFields}
+use Rattle.pdc_output.specs.pdc_cfg.Section.{SectionFields}
 use Rattle.pdc_life.specs.Given.{Given, count_for}
 use Rattle.pdc_life.specs.Life.{Entry, Tick, TickAnswer, changes, cleared_count, held_section, section_in_force}
 use Rattle.pdc_life.specs.Run.{IsTicked}

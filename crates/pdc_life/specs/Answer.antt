@@ -1,10 +1,10 @@
 -- What a step is answered after a life, and which lives there are (this profile).
 use Rattle.std.specs.Prelude.{◌≡◌, ℕ, ◌+◌, ◌-◌, ◌^◌, Bool, ◌&&◌, true, false, not, List, [], ◌∷◌, ◌++◌, map, max, filter, length, replicate, nat_lt, nat_le, if◌then◌else◌, Option, None, Some}
 use Rattle.std.specs.List.{list_all, list_any, slice_get}
-use Rattle.pdc_cfg.specs.Section.{SectionFields}
-use Rattle.pdc_row.specs.CellView.{CellView, same_block}
-use Rattle.pdc_row.specs.Rising.{is_near}
-use Rattle.pdc_row.specs.RowView.{RowView}
+use Rattle.pdc_output.specs.pdc_cfg.Section.{SectionFields}
+use Rattle.pdc_output.specs.pdc_row.CellView.{CellView, same_block}
+use Rattle.pdc_output.specs.pdc_row.Rising.{is_near}
+use Rattle.pdc_output.specs.pdc_row.RowView.{RowView}
 use Rattle.pdc_life.specs.declared.outcome.Outcome.{Outcome}
 use Rattle.pdc_life.specs.declared.outcome.Outcome.TheVariants.{Taken, Refused}
 use Rattle.pdc_life.specs.declared.outcome.Refusal.TheVariants.{Late, Ahead, OutOfWindow, Duplicate, Conflict}

@@ -1,6 +1,6 @@
 -- What holds of the cells that are taken (this profile).
 use Rattle.std.specs.Prelude.{◌≡◌, ℕ, List, Some}
-use Rattle.pdc_row.specs.CellView.{CellView}
+use Rattle.pdc_output.specs.pdc_row.CellView.{CellView}
 use Rattle.pdc_life.specs.Given.{Given}
 use Rattle.pdc_life.specs.Life.{Entry, cell_of}
 use Rattle.pdc_life.specs.Run.{IsOfSectionInForce, IsRun}

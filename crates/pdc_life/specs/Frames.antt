@@ -1,11 +1,11 @@
 -- The frames of a life (this profile).
 use Rattle.std.specs.Prelude.{◌≡◌, ℕ, ◌^◌, ◌<◌, ◌≤◌, List, ◌∷◌, map}
 use Rattle.std.specs.List.{AllByRecursion}
-use Rattle.pdc_frame.specs.Frame.{IsFrame}
-use Rattle.pdc_cfg.specs.Section.{SectionFields}
-use Rattle.pdc_cfg.specs.declared.shape.Shape.{Shape}
-use Rattle.pdc_block.specs.Block.{IsCut}
-use Rattle.pdc_row.specs.RowView.{RowView}
+use Rattle.pdc_output.specs.pdc_frame.Frame.{IsFrame}
+use Rattle.pdc_output.specs.pdc_cfg.Section.{SectionFields}
+use Rattle.pdc_output.specs.pdc_cfg.declared.shape.Shape.{Shape}
+use Rattle.pdc_output.specs.pdc_block.Block.{IsCut}
+use Rattle.pdc_output.specs.pdc_row.RowView.{RowView}
 use Rattle.pdc_output.specs.Layout.{IsLayout, layout_fields_of, layout_payload_of, own_block, row_fields, row_payload, wire_of}
 use Rattle.pdc_output.specs.Laws.{words_of_row}
 use Rattle.pdc_life.specs.Given.{Given}

@@ -1,10 +1,10 @@
 -- Where the blocks of a row come from, and that what was taken is shown (this profile).
 use Rattle.std.specs.Prelude.{◌≡◌, ◌⊎◌, ℕ, ◌<◌, List, [], ◌∷◌, ◌++◌, Option, Some, true, option_map}
 use Rattle.std.specs.List.{AllByRecursion, Contains, filter_map}
-use Rattle.pdc_cfg.specs.Section.{SectionFields}
-use Rattle.pdc_block.specs.Block.{IsBody}
-use Rattle.pdc_row.specs.CellView.{BlockView, CellView, absent_view, is_present}
-use Rattle.pdc_row.specs.RowView.{RowView}
+use Rattle.pdc_output.specs.pdc_cfg.Section.{SectionFields}
+use Rattle.pdc_output.specs.pdc_block.Block.{IsBody}
+use Rattle.pdc_output.specs.pdc_row.CellView.{BlockView, CellView, absent_view, is_present}
+use Rattle.pdc_output.specs.pdc_row.RowView.{RowView}
 use Rattle.pdc_life.specs.declared.outcome.Outcome.TheVariants.{Taken}
 use Rattle.pdc_life.specs.declared.given.Settings.{Settings}
 use Rattle.pdc_life.specs.Arrival.{Data}

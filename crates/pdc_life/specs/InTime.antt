@@ -1,11 +1,11 @@
 -- Data in time (this profile).
 use Rattle.std.specs.Prelude.{◌≡◌, ◌↔◌, ◌⊎◌, ℕ, ◌+◌, ◌*◌, ◌<◌, ◌≤◌, List, length, true, None, Some}
 use Rattle.std.specs.List.{list_all}
-use Rattle.pdc_cfg.specs.Shape.{word_count_of}
-use Rattle.pdc_cfg.specs.Section.{SectionFields}
-use Rattle.pdc_row.specs.CellView.{CellView}
-use Rattle.pdc_row.specs.Rising.{AreBelow, is_near}
-use Rattle.pdc_row.specs.RowView.{row_instants}
+use Rattle.pdc_output.specs.pdc_cfg.Shape.{word_count_of}
+use Rattle.pdc_output.specs.pdc_cfg.Section.{SectionFields}
+use Rattle.pdc_output.specs.pdc_row.CellView.{CellView}
+use Rattle.pdc_output.specs.pdc_row.Rising.{AreBelow, is_near}
+use Rattle.pdc_output.specs.pdc_row.RowView.{row_instants}
 use Rattle.pdc_output.specs.Layout.{stamp_words}
 use Rattle.pdc_life.specs.declared.outcome.Outcome.TheVariants.{Taken}
 use Rattle.pdc_life.specs.Answer.{outcome_in_time}

@@ -1,9 +1,9 @@
 -- What holds of every life: rows, change numbers and counts (this profile).
 use Rattle.std.specs.Prelude.{◌≡◌, ℕ, ◌≤◌, List, ◌∷◌, ◌++◌, Some, if◌then◌else◌, ◌+◌, true}
 use Rattle.std.specs.List.{AllByRecursion, Contains}
-use Rattle.pdc_cfg.specs.Section.{SectionFields}
-use Rattle.pdc_row.specs.Rising.{Rises}
-use Rattle.pdc_row.specs.RowView.{RowView, row_instants}
+use Rattle.pdc_output.specs.pdc_cfg.Section.{SectionFields}
+use Rattle.pdc_output.specs.pdc_row.Rising.{Rises}
+use Rattle.pdc_output.specs.pdc_row.RowView.{RowView, row_instants}
 use Rattle.pdc_life.specs.declared.given.Settings.{Settings}
 use Rattle.pdc_life.specs.declared.merging.MergerSettings.{MergerSettings}
 use Rattle.pdc_life.specs.Given.{Given, count_for}

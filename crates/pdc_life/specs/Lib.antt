@@ -24,5 +24,12 @@ pub mod Row
 pub mod Run
 pub mod Sections
 pub mod Tagged
+pub mod Texts
 pub mod Vectors
 pub mod Views
+pub use Rattle.pdc_output.specs as pdc_output
+pub use Rattle.pdc_output.specs.pdc_tag
+pub use Rattle.pdc_output.specs.pdc_row
+pub use Rattle.pdc_output.specs.pdc_block
+pub use Rattle.pdc_output.specs.pdc_cfg
+pub use Rattle.pdc_output.specs.pdc_frame

@@ -1,11 +1,11 @@
 -- What a cell of the merger is in the data of its node (this profile).
 use Rattle.std.specs.Prelude.{◌≡◌, ℕ, List, ◌∷◌, ◌++◌, Some, drop, map}
 use Rattle.std.specs.List.{slice_get}
-use Rattle.pdc_block.specs.Block.{IsCut}
-use Rattle.pdc_cfg.specs.Section.{SectionFields}
-use Rattle.pdc_cfg.specs.declared.shape.Shape.{Shape}
+use Rattle.pdc_output.specs.pdc_block.Block.{IsCut}
+use Rattle.pdc_output.specs.pdc_cfg.Section.{SectionFields}
+use Rattle.pdc_output.specs.pdc_cfg.declared.shape.Shape.{Shape}
 use Rattle.pdc_output.specs.Layout.{stamp_words}
-use Rattle.pdc_row.specs.CellView.{CellView}
+use Rattle.pdc_output.specs.pdc_row.CellView.{CellView}
 use Rattle.pdc_life.specs.declared.merging.MergerSettings.{MergerSettings}
 use Rattle.pdc_life.specs.declared.outcome.Outcome.TheVariants.{Taken}
 use Rattle.pdc_life.specs.Arrival.{Data}

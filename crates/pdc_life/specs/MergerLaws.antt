@@ -1,7 +1,7 @@
 -- What holds of every life of the merger (this profile).
 use Rattle.std.specs.Prelude.{◌≡◌, ℕ, List, ◌∷◌, Some}
 use Rattle.std.specs.List.{Contains}
-use Rattle.pdc_cfg.specs.Section.{SectionFields}
+use Rattle.pdc_output.specs.pdc_cfg.Section.{SectionFields}
 use Rattle.pdc_life.specs.declared.merging.MergedNode.{MergedNode}
 use Rattle.pdc_life.specs.declared.merging.MergerSettings.{MergerSettings}
 use Rattle.pdc_life.specs.Answer.{IsLifeOf, Step}

@@ -1,11 +1,11 @@
 -- What the bytes say that arrive from a node at the merger: all that needs no memory of what came before (this profile).
 use Rattle.std.specs.Prelude.{◌≡◌, ◌⊎◌, ℕ, ◌+◌, ◌^◌, ◌<◌, List, [], ◌∷◌, length, map, None, Some}
 use Rattle.std.specs.List.{AllByRecursion, slice_get}
-use Rattle.pdc_frame.specs.Frame as frame
-use Rattle.pdc_cfg.specs.Section.{SectionFields}
-use Rattle.pdc_cfg.specs.Config.{ConfigFields}
-use Rattle.pdc_cfg.specs.declared.fault.CfgFault.TheVariants.{WrongKind}
-use Rattle.pdc_row.specs.Rising.{Rises}
+use Rattle.pdc_output.specs.pdc_frame.Frame as frame
+use Rattle.pdc_output.specs.pdc_cfg.Section.{SectionFields}
+use Rattle.pdc_output.specs.pdc_cfg.Config.{ConfigFields}
+use Rattle.pdc_output.specs.pdc_cfg.declared.fault.CfgFault.TheVariants.{WrongKind}
+use Rattle.pdc_output.specs.pdc_row.Rising.{Rises}
 use Rattle.pdc_output.specs.declared.output.Nominal.TheVariants.{Hz50, Hz60}
 use Rattle.pdc_life.specs.declared.merging.MergedNode.{MergedNode}
 use Rattle.pdc_life.specs.declared.merging.MergerSettings.{MergerSettings}

@@ -2,16 +2,16 @@
 use Rattle.std.specs.Prelude.{◌≡◌, ℕ, ◌*◌, ◌==◌, not, List, [], ◌∷◌, length, nat_eq, nat_lt, if◌then◌else◌, Option, None, Some}
 use Rattle.std.specs.List.{slice_get}
 use Rattle.std.specs.Cmp.Lexicographic.{pointwise}
-use Rattle.pdc_block.specs.Block.{words_in}
-use Rattle.pdc_cfg.specs.Shape.{word_count_of}
-use Rattle.pdc_cfg.specs.Section.{SectionFields}
-use Rattle.pdc_row.specs.CellView.{CellView}
+use Rattle.pdc_output.specs.pdc_block.Block.{words_in}
+use Rattle.pdc_output.specs.pdc_cfg.Shape.{word_count_of}
+use Rattle.pdc_output.specs.pdc_cfg.Section.{SectionFields}
+use Rattle.pdc_output.specs.pdc_row.CellView.{CellView}
 use Rattle.pdc_life.specs.declared.given.Settings.{Settings}
 use Rattle.pdc_life.specs.declared.pmu.Pmu.{Pmu}
 use Rattle.pdc_life.specs.declared.outcome.Outcome.{Outcome}
 use Rattle.pdc_life.specs.declared.outcome.Outcome.TheVariants.{Candidate, Known, Refused}
 use Rattle.pdc_life.specs.declared.outcome.Refusal.TheVariants.{CountConflict, NoConfig, NoConfiguration, StaleCount, WrongLength}
-use Rattle.pdc_cfg.specs.declared.fault.CfgFault.TheVariants.{TooMany}
+use Rattle.pdc_output.specs.pdc_cfg.declared.fault.CfgFault.TheVariants.{TooMany}
 use Rattle.pdc_life.specs.Given.{Given, IsGivenBy, count_for}
 use Rattle.pdc_life.specs.Arrival.{Arrival, BytesRefused, Data, Layout}
 use Rattle.pdc_life.specs.Life.{Answer, Entry, held_section, section_in_force}

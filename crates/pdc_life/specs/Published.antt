@@ -1,7 +1,7 @@
 -- What a life publishes (this profile).
 use Rattle.std.specs.Prelude.{ℕ, List, map}
 use Rattle.std.specs.List.{filter_map}
-use Rattle.pdc_cfg.specs.Section.{SectionFields}
+use Rattle.pdc_output.specs.pdc_cfg.Section.{SectionFields}
 use Rattle.pdc_output.specs.Layout.{layout_wire_of, wire_of}
 use Rattle.pdc_life.specs.Given.{Given, columns_of}
 use Rattle.pdc_life.specs.Life.{Entry, changes, section_in_force, popped}

@@ -1,11 +1,11 @@
 -- When an open instant closes, and the row that it closes to (this profile).
 use Rattle.std.specs.Prelude.{ℕ, ◌+◌, ◌==◌, Bool, true, ◌||◌, not, List, map, filter, nat_le, if◌then◌else◌, Option, None, Some, is_some, option_map}
 use Rattle.std.specs.List.{list_all, filter_map}
-use Rattle.pdc_cfg.specs.Section.{SectionFields}
-use Rattle.pdc_row.specs.CellView.{BlockView, CellView}
-use Rattle.pdc_row.specs.Chosen.{block_or_absent, first_of, present_of}
-use Rattle.pdc_row.specs.Quality.{quality_of, time_quality_of}
-use Rattle.pdc_row.specs.RowView.{RowView}
+use Rattle.pdc_output.specs.pdc_cfg.Section.{SectionFields}
+use Rattle.pdc_output.specs.pdc_row.CellView.{BlockView, CellView}
+use Rattle.pdc_output.specs.pdc_row.Chosen.{block_or_absent, first_of, present_of}
+use Rattle.pdc_output.specs.pdc_row.Quality.{quality_of, time_quality_of}
+use Rattle.pdc_output.specs.pdc_row.RowView.{RowView}
 use Rattle.pdc_life.specs.declared.given.WaitKind.{WaitKind}
 use Rattle.pdc_life.specs.declared.given.WaitKind.TheVariants.{Relative, Absolute}
 use Rattle.pdc_life.specs.Given.{Given, columns_of, streams_of}

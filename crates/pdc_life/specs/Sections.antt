@@ -1,7 +1,7 @@
 -- Where sections come from, and which are held (this profile).
 use Rattle.std.specs.Prelude.{◌≡◌, ℕ, ◌<◌, ◌≤◌, List, [], ◌∷◌, ◌++◌, Option, None, Some, filter, map, nat_le}
 use Rattle.std.specs.List.{AllByRecursion, Contains, flat_map}
-use Rattle.pdc_cfg.specs.Section.{SectionFields, IsSection}
+use Rattle.pdc_output.specs.pdc_cfg.Section.{SectionFields, IsSection}
 use Rattle.pdc_life.specs.declared.outcome.Outcome.TheVariants.{Candidate}
 use Rattle.pdc_life.specs.declared.given.Settings.{Settings}
 use Rattle.pdc_life.specs.Arrival.{Layout, Stamp}

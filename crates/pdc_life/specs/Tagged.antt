@@ -1,8 +1,8 @@
 -- The instants of a life's rows can be tagged (this profile).
 use Rattle.std.specs.Prelude.{◌*◌, ◌<◌, List, ◌∷◌, Some}
 use Rattle.std.specs.List.{AllByRecursion}
-use Rattle.pdc_row.specs.Rising.{AreBelow}
-use Rattle.pdc_row.specs.RowView.{RowView, row_instants}
+use Rattle.pdc_output.specs.pdc_row.Rising.{AreBelow}
+use Rattle.pdc_output.specs.pdc_row.RowView.{RowView, row_instants}
 use Rattle.pdc_life.specs.Given.{Given}
 use Rattle.pdc_life.specs.Life.{Entry, Pop, closed, popped, waiting}
 use Rattle.pdc_life.specs.Run.{IsRun}

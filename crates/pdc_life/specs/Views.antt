@@ -1,6 +1,6 @@
 -- What contracts see of what bytes say, wherever they lie in memory.
 use Rattle.std.specs.Prelude.{ℕ, [], ◌∷◌, None}
-use Rattle.pdc_cfg.specs.Section.{fields_of_view}
+use Rattle.pdc_output.specs.pdc_cfg.Section.{fields_of_view}
 use Rattle.pdc_life.specs.declared.reading.Reading.{Reading}
 use Rattle.pdc_life.specs.declared.reading.Reading.TheVariants as reading
 use Rattle.pdc_life.specs.Arrival.{Arrival, BytesRefused, Data, Layout}

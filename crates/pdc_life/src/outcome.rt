@@ -1,6 +1,8 @@
 //! What an arrival is answered.
-use pdc_cfg::CfgFault;
-use pdc_frame::FrameFault;
+ghost use Rattle.std.specs.Prelude.{◌≡◌};
+ghost use Rattle.pdc_life.specs.Texts.{outcome_of, refusal};
+
+use pdc_output::{CfgFault, FrameFault};
 
 /// What an arrival is answered.
 #[derive(Clone, Copy, Debug, PartialEq, Eq)]
@@ -58,4 +60,48 @@ pub enum Refusal {
     Duplicate,
     /// Data was taken of the stream for the instant, and it was other.
     Conflict,
+}
+
+impl Outcome {
+    /// Its name, or the code and the name of the refusal.
+    pub fn text(self) -> &'static str
+        ensures { result.now ≡ outcome_of self }
+    {
+        match self {
+            Outcome::Taken => "Taken",
+            Outcome::Candidate => "Candidate",
+            Outcome::Known => "Known",
+            Outcome::Refused(cause) => cause.text(),
+        }
+    }
+}
+
+impl Refusal {
+    /// Its code and its name.
+    pub fn text(self) -> &'static str
+        ensures { result.now ≡ refusal self }
+    {
+        match self {
+            Refusal::NoFrame(fault) => fault.text(),
+            Refusal::WrongId => "I1 WrongId",
+            Refusal::NoConfiguration(fault) => fault.text(),
+            Refusal::WrongTimeBase => "C5 WrongTimeBase",
+            Refusal::WrongRate => "C6 WrongRate",
+            Refusal::WrongSource => "C7 WrongSource",
+            Refusal::StaleCount => "C8 StaleCount",
+            Refusal::CountConflict => "C9 CountConflict",
+            Refusal::NoConfig => "B1 NoConfig",
+            Refusal::WrongLength => "B2 WrongLength",
+            Refusal::BadTag => "B3 BadTag",
+            Refusal::Late => "B4 Late",
+            Refusal::Ahead => "B5 Ahead",
+            Refusal::OutOfWindow => "B6 OutOfWindow",
+            Refusal::Duplicate => "B7 Duplicate",
+            Refusal::Conflict => "B8 Conflict",
+            Refusal::OldStamp => "G1 OldStamp",
+            Refusal::OtherStamp => "G2 OtherStamp",
+            Refusal::BadOwnBlock => "G3 BadOwnBlock",
+            Refusal::UnknownSource => "G4 UnknownSource",
+        }
+    }
 }

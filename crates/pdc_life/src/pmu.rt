@@ -1,7 +1,7 @@
 //! What a node is told of a PMU.
 ghost use Rattle.std.specs.Prelude.{◌<◌, ◌≤◌};
-ghost use Rattle.pdc_frame.specs.declared.limits.TheConstants.{MAX_ID};
-ghost use Rattle.pdc_tag.specs.declared.limits.TheConstants.{COUNT_LIMIT};
+ghost use Rattle.pdc_output.specs.pdc_frame.declared.limits.TheConstants.{MAX_ID};
+ghost use Rattle.pdc_output.specs.pdc_tag.declared.limits.TheConstants.{COUNT_LIMIT};
 
 /// A PMU whose stream a node takes.
 #[derive(Clone, Copy, Debug)]

@@ -14,15 +14,18 @@
 //! no further device call is made.
 //!
 //! [`ModelMark`] is the same mark in memory, and [`Mark`] is what both are. [`Store`] is a mark into whose stores a stop
-//! may fall, as a played world wants it. [`DiskMark::convert`] and [`OldMark`] read the file of version 1.
+//! may fall, as a played world wants it. [`DiskMark::convert`] and [`OldMark`] read the file of version 1. [`make_mark`] and
+//! [`convert_mark`] make mark files: a new one is never made over one that exists, and one that could not be filled is taken away again.
 #![tactic(auto)]
 
 mod convert;
 mod disk_mark;
 mod fault;
+mod file_conversion;
 mod find;
 mod greater;
 mod layout;
+mod make;
 mod mark;
 mod mark_file;
 mod model_mark;
@@ -34,8 +37,10 @@ mod version_1;
 
 pub use disk_mark::{DiskMark, Refused};
 pub use fault::MarkFault;
+pub use file_conversion::{MarkConvertFault, convert_mark};
 pub use greater::raised;
 pub use layout::{COUNTS, MARK_LEN};
+pub use make::{MarkInitFault, make_mark};
 pub use mark::Mark;
 pub use model_mark::ModelMark;
 pub use stops::Store;

@@ -11,7 +11,7 @@ use Rattle.pdc_cfg.specs.Shape.{word_count_of}
 use Rattle.pdc_output.specs.Layout.{stamp_words}
 use Rattle.pdc_row.specs.CellView.{CellView}
 use Rattle.pdc_life.specs.Answer.{answer_in_time, bare}
-use Rattle.pdc_answering.specs.Stamps.{stamp_of}
+use Rattle.pdc_arrival.specs.Stamps.{stamp_of}
 use Rattle.pdc_life.specs.Arrival.{Stamp}
 use Rattle.pdc_life.specs.Given.{Given}
 use Rattle.pdc_life.specs.Life.{Answer, Entry, held_section, is_candidate, is_taken, section_in_force}
@@ -21,8 +21,8 @@ use Rattle.pdc_life.specs.declared.outcome.Outcome.{Outcome}
 use Rattle.pdc_life.specs.declared.outcome.Outcome.TheVariants.{Candidate, Known, Refused, Taken}
 use Rattle.pdc_life.specs.declared.outcome.Refusal.{Refusal}
 use Rattle.pdc_life.specs.declared.outcome.Refusal.TheVariants.{CountConflict, OldStamp, OtherStamp, WrongLength}
-use Rattle.pdc_reading.specs.Views.{section_part}
-use Rattle.pdc_reading.specs.declared.arrival.ColumnSection.{ColumnSection}
+use Rattle.pdc_arrival.specs.Views.{section_part}
+use Rattle.pdc_arrival.specs.declared.arrival.ColumnSection.{ColumnSection}
 use Rattle.pdc_align.specs.Align.{ColumnState, State, StandsFor, is_left}
 use Rattle.pdc_align.specs.Calls.{ColumnsStand}
 use Rattle.pdc_merge.specs.Cells.{blocks_len, cells_in, conflicts_in, data_refusal, has_count}

@@ -14,8 +14,8 @@ use Rattle.pdc_life.specs.MergerReading.{IsMergerLife, ReadsForMerger, given_of_
 use Rattle.pdc_life.specs.Run.{IsRun}
 use Rattle.pdc_align.specs.Align.{HasSizes, KeepsSizes, State}
 use Rattle.pdc_align.specs.Align as align
-use Rattle.pdc_answering.specs.declared.counts.Counts.{Counts}
-use Rattle.pdc_answering.specs.Counts.{counts_after}
+use Rattle.pdc_arrival.specs.declared.counts.Counts.{Counts}
+use Rattle.pdc_arrival.specs.Counts.{counts_after}
 use Rattle.pdc_merge.specs.Held.{AreAllInPlace, AreInPlace, LayoutView, LayoutsView, MayBeInPlace, held_section_of, layout_at, layout_of, layouts_of, with_layout}
 use Rattle.pdc_merge.specs.Merger.{IsPlaced, IsReady, IsWhole, MergerView, StandsFor}
 use Rattle.pdc_merge.specs.declared.held_layout.HeldSection.{HeldSection}

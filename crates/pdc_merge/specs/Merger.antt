@@ -14,8 +14,8 @@ use Rattle.pdc_life.specs.MergerReading.{IsMergerLife, ReadsForMerger}
 use Rattle.pdc_life.specs.Run.{sections_of}
 use Rattle.pdc_align.specs.Align.{HasSizes, State}
 use Rattle.pdc_align.specs.Align as align
-use Rattle.pdc_answering.specs.declared.counts.Counts.{Counts}
-use Rattle.pdc_answering.specs.Counts.{counts_after}
+use Rattle.pdc_arrival.specs.declared.counts.Counts.{Counts}
+use Rattle.pdc_arrival.specs.Counts.{counts_after}
 use Rattle.pdc_merge.specs.Held.{AreAllInPlace, LayoutsView, layouts_of}
 
 pub record MergerView : Type 0 where

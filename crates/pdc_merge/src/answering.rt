@@ -11,7 +11,7 @@ ghost use Rattle.pdc_life.specs.Given.{Given};
 ghost use Rattle.pdc_life.specs.Life.{Arrive, Entry};
 ghost use Rattle.pdc_life.specs.Merger.{merged_answer};
 ghost use Rattle.pdc_life.specs.Run.{IsRun};
-ghost use Rattle.pdc_reading.specs.Views.{arrival_view, section_part, stamp_view};
+ghost use Rattle.pdc_arrival.specs.Views.{arrival_view, section_part, stamp_view};
 ghost use Rattle.pdc_merge.specs.Cells.{blocks_len, cells_in, conflicts_in, data_refusal};
 ghost use Rattle.pdc_merge.specs.Held.{AreAllInPlace, AreInPlace, LayoutView, layout_at, layouts_of};
 ghost use Rattle.pdc_merge.specs.Merger.{IsPlaced, IsReady};
@@ -20,9 +20,11 @@ use crate::cells::{new_room, write_cells};
 use crate::held_layout::HeldLayout;
 use crate::layouts::HeldLayouts;
 use pdc_align::{Alignment, columns_stand, others_are_left};
-use pdc_answering::{OWN_BLOCK_LEN, bears, differs, is_candidate, layout_answer, words_are_cut};
+use pdc_arrival::{
+    Arrival, ColumnSection, OWN_BLOCK_LEN, Stamp, bears, differs, is_candidate, layout_answer,
+    words_are_cut,
+};
 use pdc_life::{Outcome, Refusal};
-use pdc_reading::{Arrival, ColumnSection, Stamp};
 use pdc_table::Table;
 
 /// Why data is refused under a layout, if it is: it is too short for an own block, it bears another stamp, or it has another length.

@@ -12,7 +12,7 @@ ghost use Rattle.pdc_merge.specs.declared.held_layout.HeldSection.{HeldSection a
 
 use crate::held_layout::HeldSection;
 use pdc_align::Alignment;
-use pdc_answering::words_are_cut;
+use pdc_arrival::words_are_cut;
 use pdc_block::Body;
 use pdc_cfg::Shape;
 use pdc_life::MAX_PMUS;

@@ -1,15 +1,15 @@
 //! The layout of a node, as far as its data is read by it.
 ghost use Rattle.std.specs.Prelude.{◌≡◌, ◌≤◌, length, map};
 ghost use Rattle.pdc_life.specs.declared.given.TheConstants.{MAX_PMUS};
-ghost use Rattle.pdc_reading.specs.Views.{section_part, stamp_view};
-ghost use Rattle.pdc_reading.specs.declared.arrival.ColumnSection.{ColumnSection as ColumnSectionData};
+ghost use Rattle.pdc_arrival.specs.Views.{section_part, stamp_view};
+ghost use Rattle.pdc_arrival.specs.declared.arrival.ColumnSection.{ColumnSection as ColumnSectionData};
 ghost use Rattle.pdc_merge.specs.Cells.{blocks_len};
 ghost use Rattle.pdc_merge.specs.Held.{held_section_of};
 
 use arrayvec::ArrayVec;
+use pdc_arrival::{ColumnSection, Stamp};
 use pdc_cfg::Shape;
 use pdc_life::MAX_PMUS;
-use pdc_reading::{ColumnSection, Stamp};
 use std::marker::Model;
 
 /// What is kept of a section: where the words of its block go.
@@ -31,7 +31,7 @@ pub struct HeldLayout {
 }
 
 impl Model for HeldLayout {
-    ghost use Rattle.pdc_reading.specs.Views.{stamp_view};
+    ghost use Rattle.pdc_arrival.specs.Views.{stamp_view};
     ghost use Rattle.pdc_merge.specs.Held.{LayoutView};
 
     ghost Value = { LayoutView };

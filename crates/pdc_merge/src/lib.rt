@@ -13,6 +13,8 @@ mod cells;
 mod held_layout;
 mod layouts;
 mod merger;
+mod opens;
 
 pub use merger::Merger;
-pub use pdc_core::{Core, CoreStep, Reads, Reply, Taken};
+pub use opens::copy_of_merger;
+pub use pdc_core::{Core, CoreStep, KeptArrival, Reads, Reply};

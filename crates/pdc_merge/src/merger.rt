@@ -1,7 +1,7 @@
 //! The merger.
 ghost use Rattle.std.specs.Prelude.{◌≡◌, ◌<◌, ◌∷◌, ℕ, [], IfOk, List, length};
 ghost use Rattle.pdc_align.specs.Align.{given_by};
-ghost use Rattle.pdc_answering.specs.Counts.{after_answer};
+ghost use Rattle.pdc_arrival.specs.Counts.{after_answer};
 ghost use Rattle.pdc_life.specs.Answer.{ToArrive, answered};
 ghost use Rattle.pdc_life.specs.Arrival.{Data};
 ghost use Rattle.pdc_life.specs.Given.{Given};
@@ -13,11 +13,10 @@ ghost use Rattle.pdc_merge.specs.Merger.{StandsFor};
 use crate::answering;
 use crate::layouts::HeldLayouts;
 use pdc_align::{Alignment, Plan, Ticked, append_layout_frame};
-use pdc_answering::Counts;
+use pdc_arrival::{Arrival, Counts, Heard, arrival_from_node, hear_from_node};
 use pdc_core::Core;
 use pdc_frame::Buffer;
 use pdc_life::{MAX_PMUS, MergerSettings, Outcome, merger_lives_are_runs, rows_have_tags};
-use pdc_reading::{Arrival, Heard, arrival_from_node, hear_from_node};
 use pdc_table::{DueRow, Table};
 use std::alloc::{AllocError, Global};
 use std::marker::Model;

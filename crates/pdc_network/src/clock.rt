@@ -1,7 +1,7 @@
 //! Ticks by the system's clock.
 ghost use Rattle.std.specs.Prelude.{◌≡◌, ◌≤◌, ◌*◌, ◌/◌, ◌^◌, ◌<◌};
 
-use pdc_hub::Ticker;
+use pdc_ports::Ticker;
 use std::rt::Clock;
 use std::thread;
 use std::time::{Duration, SystemTime};

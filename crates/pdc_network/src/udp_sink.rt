@@ -1,7 +1,7 @@
 //! Frames to a UDP port.
 ghost use Rattle.std.specs.Prelude.{◌≡◌, List, ℕ};
 
-use pdc_hub::{Sink, SinkFault};
+use pdc_ports::{Sink, SinkFault};
 use std::io;
 use std::net::{Net, UdpSocket};
 

@@ -1,7 +1,7 @@
 //! Datagrams from a UDP port.
 ghost use Rattle.std.specs.Prelude.{◌≡◌, IfOk};
 
-use pdc_hub::{Next, Source};
+use pdc_ports::{Next, Source};
 use std::io;
 use std::io::ErrorKind;
 use std::net::{Net, UdpSocket};

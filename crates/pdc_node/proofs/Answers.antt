@@ -12,8 +12,8 @@ use Rattle.pdc_life.specs.Node.{node_answer, section_answer}
 use Rattle.pdc_life.specs.declared.outcome.Outcome.{Outcome}
 use Rattle.pdc_life.specs.declared.outcome.Outcome.TheVariants.{Candidate, Known, Refused, Taken}
 use Rattle.pdc_life.specs.declared.outcome.Refusal.TheVariants.{CountConflict, StaleCount}
-use Rattle.pdc_reading.specs.Views.{section_part}
-use Rattle.pdc_reading.specs.declared.arrival.ColumnSection.{ColumnSection}
+use Rattle.pdc_arrival.specs.Views.{section_part}
+use Rattle.pdc_arrival.specs.declared.arrival.ColumnSection.{ColumnSection}
 use Rattle.pdc_align.specs.Align.{is_left}
 
 -- the only section of a layout

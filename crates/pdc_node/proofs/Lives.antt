@@ -15,8 +15,8 @@ use Rattle.pdc_life.specs.Node.{IsNodeLife, ReadsFor, node_answer}
 use Rattle.pdc_life.specs.Run.{IsRun}
 use Rattle.pdc_align.specs.Align.{HasSizes, KeepsSizes, State}
 use Rattle.pdc_align.specs.Align as align
-use Rattle.pdc_answering.specs.declared.counts.Counts.{Counts}
-use Rattle.pdc_answering.specs.Counts.{counts_after}
+use Rattle.pdc_arrival.specs.declared.counts.Counts.{Counts}
+use Rattle.pdc_arrival.specs.Counts.{counts_after}
 use Rattle.pdc_node.specs.Node.{IsReady, NodeView, StandsFor}
 
 -- ---- the start

@@ -12,8 +12,8 @@ use Rattle.pdc_life.specs.Node.{IsNodeLife, ReadsFor, node_answer}
 use Rattle.pdc_life.specs.Run.{sections_of}
 use Rattle.pdc_align.specs.Align.{State}
 use Rattle.pdc_align.specs.Align as align
-use Rattle.pdc_answering.specs.declared.counts.Counts.{Counts}
-use Rattle.pdc_answering.specs.Counts.{counts_after}
+use Rattle.pdc_arrival.specs.declared.counts.Counts.{Counts}
+use Rattle.pdc_arrival.specs.Counts.{counts_after}
 
 pub record NodeView : Type 0 where
   -- what is fixed: the settings, the number of the start, and for each column the count below which no section is held

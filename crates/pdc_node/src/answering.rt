@@ -10,14 +10,13 @@ ghost use Rattle.pdc_life.specs.Life.{Entry};
 ghost use Rattle.pdc_life.specs.Node.{node_answer};
 ghost use Rattle.pdc_life.specs.Run.{IsRun};
 ghost use Rattle.pdc_node.specs.Node.{IsOwn, IsReady};
-ghost use Rattle.pdc_reading.specs.Views.{arrival_view, section_part};
+ghost use Rattle.pdc_arrival.specs.Views.{arrival_view, section_part};
 
 use pdc_align::{Alignment, others_are_left};
-use pdc_answering::{count_for, is_candidate, section_answer};
+use pdc_arrival::{Arrival, ColumnSection, count_for, is_candidate, section_answer};
 use pdc_block::Body;
 use pdc_cfg::CfgFault;
 use pdc_life::{MAX_PMUS, Outcome, Refusal};
-use pdc_reading::{Arrival, ColumnSection};
 use pdc_table::Table;
 
 /// Answers data of a PMU, and takes it where it comes in time.

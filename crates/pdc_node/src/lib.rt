@@ -10,7 +10,9 @@
 
 mod answering;
 mod node;
+mod opens;
 
 pub use node::Node;
-pub use pdc_answering::{CAUSES, Counts, causes_are_told_apart};
-pub use pdc_core::{Core, CoreStep, Reads, Reply, Taken};
+pub use opens::copy_of;
+pub use pdc_arrival::{CAUSES, Counts, causes_are_told_apart};
+pub use pdc_core::{Core, CoreStep, KeptArrival, Reads, Reply};

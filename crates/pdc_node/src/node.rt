@@ -1,7 +1,7 @@
 //! A node.
 ghost use Rattle.std.specs.Prelude.{◌≡◌, ◌<◌, ◌∷◌, ℕ, [], IfOk, List, length};
 ghost use Rattle.pdc_align.specs.Align.{given_by};
-ghost use Rattle.pdc_answering.specs.Counts.{after_answer};
+ghost use Rattle.pdc_arrival.specs.Counts.{after_answer};
 ghost use Rattle.pdc_life.specs.Answer.{ToArrive, answered};
 ghost use Rattle.pdc_life.specs.Arrival.{Data};
 ghost use Rattle.pdc_life.specs.Given.{Given, given_of};
@@ -11,11 +11,10 @@ ghost use Rattle.pdc_node.specs.Node.{StandsFor};
 
 use crate::answering;
 use pdc_align::{Alignment, Plan, Ticked, append_layout_frame};
-use pdc_answering::Counts;
+use pdc_arrival::{Arrival, Counts, arrival_from_pmu, hear_from_pmu};
 use pdc_core::Core;
 use pdc_frame::Buffer;
 use pdc_life::{MAX_PMUS, Outcome, Reading, Settings, lives_are_runs, rows_have_tags};
-use pdc_reading::{Arrival, arrival_from_pmu, hear_from_pmu};
 use pdc_table::{DueRow, Table};
 use std::alloc::{AllocError, Global};
 use std::marker::Model;

@@ -3,7 +3,7 @@ use Rattle.std.proofs.Common.{◌≡◌, ℕ, zero, suc, ◌+◌, ◌-◌, ◌*�
 use Rattle.std.specs.Int.{w16, w32, to_be_bytes}
 use Rattle.std.specs.List.{flat_map}
 use Rattle.std.proofs.lemmas.List.{get_or-append_right}
-use Rattle.pdc_frame.specs.Bytes.{AreBytes, word_at}
+use Rattle.pdc_row.specs.pdc_frame.Bytes.{AreBytes, word_at}
 
 pub record Bytes (xs : List ℕ) : Type 0 where
   pub all : AreBytes xs

@@ -6,11 +6,11 @@ use Rattle.std.specs.List.{AllByRecursion, flat_map}
 use Rattle.std.proofs.Math.Nat.{mul-le-mul_right}
 use Rattle.std.proofs.lemmas.Bool.{cases_lt}
 use Rattle.std.proofs.lemmas.List.Folds.{flat_map-map}
-use Rattle.pdc_cfg.specs.Section.{SectionFields, IsSection}
-use Rattle.pdc_cfg.specs.Config.{ConfigFields, bytes_of_sections}
-use Rattle.pdc_cfg.specs.declared.shape.Shape.{Shape}
+use Rattle.pdc_row.specs.pdc_cfg.Section.{SectionFields, IsSection}
+use Rattle.pdc_row.specs.pdc_cfg.Config.{ConfigFields, bytes_of_sections}
+use Rattle.pdc_row.specs.pdc_cfg.declared.shape.Shape.{Shape}
 use Rattle.pdc_tag.specs.Tag.{IsTag, tag_of}
-use Rattle.pdc_block.specs.Block.{AreOfShapes, AreWords, bytes_of_words}
+use Rattle.pdc_row.specs.pdc_block.Block.{AreOfShapes, AreWords, bytes_of_words}
 use Rattle.pdc_row.specs.CellView.{BlockView}
 use Rattle.pdc_row.specs.RowView.{RowView}
 use Rattle.pdc_output.specs.declared.output.Output.{Output}

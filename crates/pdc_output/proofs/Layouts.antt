@@ -1,10 +1,10 @@
 -- The payload of a layout's frame, as a configuration.
 use Rattle.std.proofs.Common.{◌≡◌, ℕ, ◌+◌, ◌*◌, ◌^◌, List, ◌∷◌, ◌++◌, length, sym, ap, ◌∙◌, append_assoc, arith}
 use Rattle.std.specs.Int.{w16, w32, to_be_bytes, cast_unsigned}
-use Rattle.pdc_frame.specs.declared.frame.Kind.TheVariants.{Cfg2}
-use Rattle.pdc_frame.specs.Frame.{Fields}
-use Rattle.pdc_cfg.specs.Section.{SectionFields}
-use Rattle.pdc_cfg.specs.Config.{ConfigFields, bytes_of_sections, payload_of, config_frame_of}
+use Rattle.pdc_row.specs.pdc_frame.declared.frame.Kind.TheVariants.{Cfg2}
+use Rattle.pdc_row.specs.pdc_frame.Frame.{Fields}
+use Rattle.pdc_row.specs.pdc_cfg.Section.{SectionFields}
+use Rattle.pdc_row.specs.pdc_cfg.Config.{ConfigFields, bytes_of_sections, payload_of, config_frame_of}
 use Rattle.pdc_output.specs.declared.output.Output.{Output}
 use Rattle.pdc_output.specs.Layout.{own_bytes, layout_fields_of, layout_payload_of}
 

@@ -2,8 +2,8 @@
 use Rattle.std.proofs.Common.{◌≡◌, ℕ, ◌-◌, ◌*◌, ◌/◌, ◌%◌, ◌^◌, ◌<◌, false, List, [], ◌∷◌, ◌++◌, length, replicate, refl, sym, ap, subst, ◌∙◌, arith}
 use Rattle.std.specs.Int.{w16, to_be_bytes}
 use Rattle.std.specs.List.{flat_map}
-use Rattle.pdc_frame.specs.Bytes.{AreBytes, word_at}
-use Rattle.pdc_cfg.specs.Section.{SectionFields, IsSection, source_in, format_in, phasors_in, analogs_in, digitals_in}
+use Rattle.pdc_row.specs.pdc_frame.Bytes.{AreBytes, word_at}
+use Rattle.pdc_row.specs.pdc_cfg.Section.{SectionFields, IsSection, source_in, format_in, phasors_in, analogs_in, digitals_in}
 use Rattle.pdc_output.specs.declared.output.Output.{Output}
 use Rattle.pdc_output.specs.Layout.{own_name, own_bytes, digit, nominal_word, masks_of, stamp_words}
 use Rattle.pdc_output.proofs.Bytes.{Bytes, Bytes-nil, Bytes-cons, Bytes-append, Bytes-replicate, Bytes-word, Bytes-flat_map, word_at-behind}

@@ -3,11 +3,11 @@ use Rattle.std.proofs.Common.{◌≡◌, inr, ℕ, ◌^◌, ◌<◌, ◌≤◌, 
 use Rattle.std.specs.Int.{w16, to_be_bytes}
 use Rattle.std.specs.List.{flat_map}
 use Rattle.std.proofs.lemmas.List.Folds.{flat_map-map}
-use Rattle.pdc_frame.specs.Frame.{Fields, Fits, IsFrame}
-use Rattle.pdc_frame.specs.declared.frame.Kind.TheVariants.{DataFrame}
+use Rattle.pdc_row.specs.pdc_frame.Frame.{Fields, Fits, IsFrame}
+use Rattle.pdc_row.specs.pdc_frame.declared.frame.Kind.TheVariants.{DataFrame}
 use Rattle.pdc_tag.specs.Tag.{tag_of}
-use Rattle.pdc_block.specs.declared.block.Block.{Block}
-use Rattle.pdc_block.specs.Block.{bytes_of_words, bytes_of_blocks, words_of}
+use Rattle.pdc_row.specs.pdc_block.declared.block.Block.{Block}
+use Rattle.pdc_row.specs.pdc_block.Block.{bytes_of_words, bytes_of_blocks, words_of}
 use Rattle.pdc_row.specs.CellView.{BlockView, block_view}
 use Rattle.pdc_row.specs.RowView.{RowView}
 use Rattle.pdc_output.specs.declared.output.Output.{Output}

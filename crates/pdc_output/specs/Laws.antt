@@ -1,10 +1,10 @@
 -- What holds of the frames that go out (this profile).
 use Rattle.std.specs.Prelude.{◌≡◌, ℕ, ◌*◌, ◌^◌, ◌<◌, ◌≤◌, List, ◌∷◌, length, map}
 use Rattle.std.specs.List.{AllByRecursion}
-use Rattle.pdc_frame.specs.Frame.{IsFrame}
-use Rattle.pdc_cfg.specs.Section.{SectionFields, IsSection}
-use Rattle.pdc_cfg.specs.declared.shape.Shape.{Shape}
-use Rattle.pdc_block.specs.Block.{AreOfShapes, IsCut}
+use Rattle.pdc_row.specs.pdc_frame.Frame.{IsFrame}
+use Rattle.pdc_row.specs.pdc_cfg.Section.{SectionFields, IsSection}
+use Rattle.pdc_row.specs.pdc_cfg.declared.shape.Shape.{Shape}
+use Rattle.pdc_row.specs.pdc_block.Block.{AreOfShapes, IsCut}
 use Rattle.pdc_row.specs.CellView.{BlockView}
 use Rattle.pdc_row.specs.RowView.{RowView}
 use Rattle.pdc_tag.specs.declared.limits.TheConstants.{SECONDS}

@@ -3,11 +3,11 @@
 use Rattle.std.specs.Prelude.{◌≡◌, ℕ, ◌*◌, ◌/◌, ◌%◌, ◌^◌, ◌+◌, List, [], ◌∷◌, ◌++◌, length, replicate}
 use Rattle.std.specs.Int.{w16, w32, to_be_bytes, cast_unsigned}
 use Rattle.std.specs.List.{flat_map}
-use Rattle.pdc_frame.specs.Frame.{Fields, spelling_of}
-use Rattle.pdc_frame.specs.declared.frame.Kind.TheVariants.{DataFrame, Cfg2}
-use Rattle.pdc_cfg.specs.Section.{SectionFields}
-use Rattle.pdc_cfg.specs.Config.{ConfigFields, IsConfig, bytes_of_sections}
-use Rattle.pdc_block.specs.Block.{bytes_of_words}
+use Rattle.pdc_row.specs.pdc_frame.Frame.{Fields, spelling_of}
+use Rattle.pdc_row.specs.pdc_frame.declared.frame.Kind.TheVariants.{DataFrame, Cfg2}
+use Rattle.pdc_row.specs.pdc_cfg.Section.{SectionFields}
+use Rattle.pdc_row.specs.pdc_cfg.Config.{ConfigFields, IsConfig, bytes_of_sections}
+use Rattle.pdc_row.specs.pdc_block.Block.{bytes_of_words}
 use Rattle.pdc_row.specs.CellView.{BlockView}
 use Rattle.pdc_tag.specs.Tag.{tag_of}
 use Rattle.pdc_output.specs.declared.output.Output.{Output}

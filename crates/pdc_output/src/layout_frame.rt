@@ -1,15 +1,14 @@
 //! The configuration frame of a layout (this profile; C37.118.2-2011, 6.4).
 ghost use Rattle.std.specs.Prelude.{◌≡◌, ◌+◌, ◌≤◌, ◌++◌, ◌∷◌, map, length, IsOk, OnOk, OnErr};
 ghost use Rattle.std.specs.Int.{w16, cast_unsigned};
-ghost use Rattle.pdc_frame.specs.Frame.{IsFrame};
-ghost use Rattle.pdc_cfg.specs.Section.{fields_of_view, fields_of_section};
+ghost use Rattle.pdc_row.specs.pdc_frame.Frame.{IsFrame};
+ghost use Rattle.pdc_row.specs.pdc_cfg.Section.{fields_of_view, fields_of_section};
 ghost use Rattle.pdc_output.specs.Layout.{IsLayout, layout_fields_of, layout_payload_of, layout_wire_of};
 
 use crate::output::Output;
 use crate::section::own_section;
 use arrayvec::ArrayVec;
-use pdc_cfg::{ConfigView, Section, SectionView, write_config};
-use pdc_frame::{Buffer, Kind};
+use pdc_row::{Buffer, ConfigView, Kind, Section, SectionView, write_config};
 use std::alloc::AllocError;
 
 /// The most sections of a layout beside the own one.

@@ -1,6 +1,6 @@
 //! What a concentrator says of itself, beside the stamp of a layout.
 ghost use Rattle.std.specs.Prelude.{◌<◌, ◌≤◌};
-ghost use Rattle.pdc_frame.specs.declared.limits.TheConstants.{MAX_ID};
+ghost use Rattle.pdc_row.specs.pdc_frame.declared.limits.TheConstants.{MAX_ID};
 ghost use Rattle.pdc_tag.specs.declared.limits.TheConstants.{COUNT_LIMIT, MAX_RATE};
 
 /// The nominal frequency of the grid.

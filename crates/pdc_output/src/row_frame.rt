@@ -1,18 +1,17 @@
 //! The data frame of a closed row (this profile; C37.118.2-2011, 6.3).
 ghost use Rattle.std.specs.Prelude.{◌≡◌, ◌+◌, ◌*◌, ◌<◌, ◌≤◌, ◌++◌, length, sum_by, IsOk, OnOk, OnErr};
-ghost use Rattle.pdc_frame.specs.Frame.{IsFrame};
-ghost use Rattle.pdc_block.specs.Block.{bytes_of_words, body_len_of, shape_of};
+ghost use Rattle.pdc_row.specs.pdc_frame.Frame.{IsFrame};
+ghost use Rattle.pdc_row.specs.pdc_block.Block.{bytes_of_words, body_len_of, shape_of};
 ghost use Rattle.pdc_tag.specs.declared.limits.TheConstants.{SECONDS};
 ghost use Rattle.pdc_row.specs.RowView.{row_view};
 ghost use Rattle.pdc_output.specs.Layout.{own_block, row_payload, row_fields, wire_of};
 
 use crate::output::Output;
 use crate::stamp::stamp_words;
-use pdc_block::{append_blocks, append_words, joined_len};
-use pdc_frame::{
-    Buffer, Frame, Kind, OVERHEAD, begin_frame, end_frame, frames_are_written_in_parts,
+use pdc_row::{
+    Buffer, DueRow, Frame, Kind, OVERHEAD, append_blocks, append_words, begin_frame, end_frame,
+    frames_are_written_in_parts, joined_len,
 };
-use pdc_row::DueRow;
 use pdc_tag::tag_of;
 use std::alloc::AllocError;
 

@@ -3,13 +3,13 @@ ghost use Rattle.std.specs.Prelude.{◌≡◌, ◌+◌, ◌*◌, ◌/◌, ◌%�
 ghost use Rattle.std.specs.Int.{w16, to_be_bytes};
 ghost use Rattle.std.specs.List.{flat_map};
 ghost use Rattle.arrayvec.specs.ArrayVec.{array_vec_len};
-ghost use Rattle.pdc_cfg.specs.Section.{IsSection, fields_of_section};
+ghost use Rattle.pdc_row.specs.pdc_cfg.Section.{IsSection, fields_of_section};
 ghost use Rattle.pdc_output.specs.Layout.{digit, own_name, nominal_word, masks_of, stamp_words, own_bytes};
 
 use crate::output::{Nominal, Output};
 use crate::stamp::{low_word, stamp_words};
 use arrayvec::ArrayVec;
-use pdc_cfg::{MAX_SECTION_LEN, Section, Shape};
+use pdc_row::{MAX_SECTION_LEN, Section, Shape};
 
 /// The stamp has four words, and each goes out as a digital word.
 const DIGITALS: u8 = 4;

@@ -12,10 +12,8 @@ mod ends;
 mod message;
 mod pipe;
 mod senders;
-mod sink;
 
 pub use ends::{Ends, HandsOn, Sent, channel, send_owned, settle};
 pub use message::{LayoutFrame, Message};
 pub use pipe::{CAPACITY, InOrder, Log, Receiver, Sender, close, put, take_next};
 pub use senders::{Ended, send_out};
-pub use sink::{MemorySink, Sink, SinkFault};

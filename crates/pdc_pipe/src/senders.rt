@@ -6,12 +6,12 @@ ghost use Rattle.pdc_pipe.specs.Pipe.{log};
 ghost use Rattle.pdc_pipe.specs.Sequence.{bytes_of};
 ghost use Rattle.pdc_pipe.specs.declared.message.Message.{Message};
 ghost use Rattle.pdc_pipe.specs.declared.message.Message.TheVariants.{End};
-ghost use Rattle.pdc_recorder.specs.Failures.{HasRisen};
+ghost use Rattle.pdc_ports.specs.Failures.{HasRisen};
 
 use crate::message::Message;
 use crate::pipe::{Log, Receiver, take_next};
-use crate::sink::Sink;
 use crossbeam_channel::Pass;
+use pdc_ports::Sink;
 use std::sync::Wait;
 
 /// How the sender ended.

@@ -1,6 +1,6 @@
 -- What contracts see of what lives begin with and of held layouts, wherever they lie in memory, and which lives they are.
 use Rattle.std.specs.Prelude.{List, map}
-use Rattle.pdc_reading.specs.Views.{section_part, stamp_view}
+use Rattle.pdc_arrival.specs.Views.{section_part, stamp_view}
 use Rattle.pdc_plain.specs.declared.held_layout.HeldLayout.{HeldLayout as LayoutData}
 use Rattle.pdc_plain.specs.declared.opening.Opening.{Opening}
 use Rattle.pdc_life.specs.declared.given.Settings.{Settings}

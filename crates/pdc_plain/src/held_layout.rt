@@ -2,7 +2,7 @@
 ghost use Rattle.std.specs.Prelude.{◌≤◌, length};
 ghost use Rattle.pdc_life.specs.declared.given.TheConstants.{MAX_PMUS};
 
-use pdc_reading::{ColumnSection, Stamp};
+use pdc_arrival::{ColumnSection, Stamp};
 
 /// The layout of a node that was accepted last.
 #[derive(Clone, Copy, Debug)]

@@ -1,15 +1,14 @@
 //! The layouts of the nodes, asked of the whole list. A life is kept newest first.
 ghost use Rattle.std.specs.Prelude.{◌≡◌, map, option_map};
 ghost use Rattle.pdc_life.specs.Merger.{has_count_conflict, held_layout};
-ghost use Rattle.pdc_reading.specs.Views.{section_part};
-ghost use Rattle.pdc_past.specs.Views.{given_view, life_view};
+ghost use Rattle.pdc_arrival.specs.Views.{section_part};
+ghost use Rattle.pdc_plain_steps.specs.Views.{given_view, life_view};
 ghost use Rattle.pdc_plain.specs.Views.{layout_view};
 
 use crate::held_layout::HeldLayout;
-use pdc_answering::differs;
+use pdc_arrival::{Arrival, ColumnSection, differs};
 use pdc_life::Outcome;
-use pdc_past::{Answer, Answered, Given, held_section, section_in_force};
-use pdc_reading::{Arrival, ColumnSection};
+use pdc_plain_steps::{Answer, Answered, Given, held_section, section_in_force};
 
 /// The layout held of a node: the last that was accepted.
 pub fn held_layout<'l, 'a>(life: &'l [Answered<'a>], stream: usize) -> Option<HeldLayout<'l, 'a>>

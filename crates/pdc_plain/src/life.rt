@@ -5,13 +5,12 @@ ghost use Rattle.pdc_row.specs.RowView.{row_instants, row_view};
 ghost use Rattle.pdc_life.specs.Answer.{waiting_counts};
 ghost use Rattle.pdc_life.specs.Life.{changes, closed, popped};
 ghost use Rattle.pdc_life.specs.Published.{layout_wire, published};
-ghost use Rattle.pdc_past.specs.Views.{given_view, life_view};
+ghost use Rattle.pdc_plain_steps.specs.Views.{given_view, life_view};
 
 use crate::publishing::{append_layout_of, closed, frames_of};
 use pdc_life::MAX_PMUS;
-use pdc_past::{Answered, Given};
+use pdc_plain_steps::{Answered, Given, waiting_counts};
 use pdc_row::DueRow;
-use pdc_ticking::waiting_counts;
 use std::alloc::{AllocError, Global};
 
 /// A life of a node or of the merger.

@@ -5,21 +5,20 @@ ghost use Rattle.pdc_life.specs.Answer.{step_of};
 ghost use Rattle.pdc_life.specs.MergerReading.{IsMergerLife};
 ghost use Rattle.pdc_life.specs.Node.{IsNodeLife};
 ghost use Rattle.pdc_life.specs.Run.{IsRun};
-ghost use Rattle.pdc_reading.specs.declared.from_node.TheConstants.{NODES};
-ghost use Rattle.pdc_past.specs.Views.{IsForStream, entry_view, given_view, life_view, step_view};
+ghost use Rattle.pdc_arrival.specs.declared.from_node.TheConstants.{NODES};
+ghost use Rattle.pdc_plain_steps.specs.Views.{IsForStream, entry_view, given_view, life_view, step_view};
 ghost use Rattle.pdc_plain.specs.Views.{IsMergerLifeOf, IsNodeLifeOf, given_to_merger, given_to_node};
 
 use crate::life::Life;
 use crate::merger::merged_answer;
 use crate::node::node_answer;
 use crate::opening::{Opening, given_to_merger, given_to_node};
+use pdc_arrival::{read_from_node, read_from_pmu};
 use pdc_life::{
     MergerSettings, Settings, closed_rows_are_frames, lives_are_runs, merger_lives_are_runs,
     rows_have_tags,
 };
-use pdc_past::{Answered, Given, LifeStep};
-use pdc_reading::{read_from_node, read_from_pmu};
-use pdc_ticking::{pop, tick};
+use pdc_plain_steps::{Answered, Given, LifeStep, pop, tick};
 use std::alloc::{AllocError, Global};
 
 /// The life that was given this and has these entries.

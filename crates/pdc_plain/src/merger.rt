@@ -8,18 +8,21 @@ ghost use Rattle.pdc_cfg.specs.declared.shape.TheConstants.{MAX_WORDS};
 ghost use Rattle.pdc_life.specs.declared.given.TheConstants.{MAX_PMUS};
 ghost use Rattle.pdc_life.specs.Merger.{has_count_conflict, held_layout, is_in_force, layout_answer, merged_answer, merged_cells, merged_data_answer};
 ghost use Rattle.pdc_life.specs.Node.{cell_under};
-ghost use Rattle.pdc_reading.specs.Views.{arrival_view, section_part, stamp_view};
-ghost use Rattle.pdc_answering.specs.Stamps.{stamp_of};
-ghost use Rattle.pdc_past.specs.Views.{answer_view, given_view, life_view, part_view};
+ghost use Rattle.pdc_arrival.specs.Views.{arrival_view, section_part, stamp_view};
+ghost use Rattle.pdc_arrival.specs.Stamps.{stamp_of};
+ghost use Rattle.pdc_plain_steps.specs.Views.{answer_view, given_view, life_view, part_view};
 ghost use Rattle.pdc_plain.specs.Views.{layout_view};
 
 use crate::held_layout::HeldLayout;
 use crate::layouts::{has_count_conflict, held_layout};
-use pdc_answering::{OWN_BLOCK_LEN, bears, body, layout_answer, words_are_cut};
+use pdc_arrival::{
+    Arrival, ColumnSection, OWN_BLOCK_LEN, Stamp, bears, body, layout_answer, words_are_cut,
+};
 use pdc_cfg::SectionView;
 use pdc_life::{Outcome, Refusal};
-use pdc_past::{Answer, Answered, ColumnCell, Given, answer_in_time, bare, section_in_force};
-use pdc_reading::{Arrival, ColumnSection, Stamp};
+use pdc_plain_steps::{
+    Answer, Answered, ColumnCell, Given, answer_in_time, bare, section_in_force,
+};
 use std::alloc::{AllocError, Global};
 
 /// The answer to an arrival from a node.

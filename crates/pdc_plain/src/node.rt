@@ -4,16 +4,15 @@ ghost use Rattle.pdc_life.specs.Answer.{bare};
 ghost use Rattle.pdc_life.specs.Arrival.{Layout, Stamp};
 ghost use Rattle.pdc_life.specs.Life.{section_in_force};
 ghost use Rattle.pdc_life.specs.Node.{data_answer, node_answer};
-ghost use Rattle.pdc_reading.specs.Views.{arrival_view, section_part};
-ghost use Rattle.pdc_past.specs.Views.{answer_view, given_view, life_view, part_view};
+ghost use Rattle.pdc_arrival.specs.Views.{arrival_view, section_part};
+ghost use Rattle.pdc_plain_steps.specs.Views.{answer_view, given_view, life_view, part_view};
 
-use pdc_answering::{body, count_for, section_answer};
+use pdc_arrival::{Arrival, ColumnSection, body, count_for, section_answer};
 use pdc_cfg::CfgFault;
 use pdc_life::{Outcome, Refusal};
-use pdc_past::{
+use pdc_plain_steps::{
     Answer, Answered, ColumnCell, Given, answer_in_time, bare, held_section, section_in_force,
 };
-use pdc_reading::{Arrival, ColumnSection};
 use std::alloc::{AllocError, Global};
 
 /// The answer to an arrival for a PMU.

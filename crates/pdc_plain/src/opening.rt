@@ -1,10 +1,10 @@
 //! What a life begins with, and so what is given to it.
 ghost use Rattle.std.specs.Prelude.{◌≡◌};
-ghost use Rattle.pdc_past.specs.Views.{given_view};
+ghost use Rattle.pdc_plain_steps.specs.Views.{given_view};
 ghost use Rattle.pdc_plain.specs.Views.{given_to_merger, given_to_node};
 
 use pdc_life::{MAX_PMUS, MergerSettings, Settings};
-use pdc_past::Given;
+use pdc_plain_steps::Given;
 
 /// What a life begins with, beside its settings.
 #[derive(Clone, Copy, Debug)]

@@ -3,8 +3,6 @@ use Rattle.std.specs.Prelude.{◌≡◌, refl, ℕ, Bool, true, false, List, [],
 use Rattle.std.specs.Fmt.{decimal, digits}
 use Rattle.hex.specs.Hex.{encode_upper, encode_with}
 use Rattle.pdc_align.specs.declared.ticked.Ticked.{Ticked}
-use Rattle.pdc_cfg.specs.declared.fault.CfgFault.{CfgFault}
-use Rattle.pdc_cfg.specs.declared.fault.CfgFault.TheVariants as cfg
 use Rattle.pdc_event.specs.declared.fault.Fault.{Fault}
 use Rattle.pdc_event.specs.declared.fault.Fault.TheVariants.{PremiseBroken, NoSuchFrame, NoMemory, StartsUsedUp}
 use Rattle.pdc_event.specs.declared.fault.Premise.{Premise}
@@ -14,12 +12,10 @@ use Rattle.pdc_event.specs.declared.reply.Reply.{Reply}
 use Rattle.pdc_event.specs.declared.reply.Reply.TheVariants.{Sent, Came, Ticked as Tick, Published, Stopped}
 use Rattle.pdc_event.specs.declared.who.Who.{Who}
 use Rattle.pdc_event.specs.declared.who.Who.TheVariants.{A, B, M}
-use Rattle.pdc_frame.specs.declared.fault.FrameFault.{FrameFault}
-use Rattle.pdc_frame.specs.declared.fault.FrameFault.TheVariants as frame
+use Rattle.pdc_life.specs.Texts.{outcome_of}
 use Rattle.pdc_life.specs.declared.outcome.Outcome.{Outcome}
 use Rattle.pdc_life.specs.declared.outcome.Outcome.TheVariants.{Taken, Candidate, Known, Refused}
-use Rattle.pdc_life.specs.declared.outcome.Refusal.{Refusal}
-use Rattle.pdc_life.specs.declared.outcome.Refusal.TheVariants.{NoFrame, WrongId, NoConfiguration, WrongTimeBase, WrongRate, WrongSource, BadOwnBlock, UnknownSource, OldStamp, StaleCount, CountConflict, BadTag, NoConfig, WrongLength, OtherStamp, Late, Ahead, OutOfWindow, Duplicate, Conflict}
+use Rattle.pdc_life.specs.declared.outcome.Refusal.TheVariants.{StaleCount}
 
 -- ---- words
 
@@ -27,49 +23,6 @@ abbrev pub name_of : Who → List ℕ
 name_of A = codes "A"
 name_of B = codes "B"
 name_of M = codes "M"
-
--- why bytes are no frame, by its code and name
-abbrev pub frame_fault : FrameFault → List ℕ
-frame_fault frame.Short = codes "F1 Short"
-frame_fault frame.BadSync = codes "F2 BadSync"
-frame_fault frame.SizeMismatch = codes "F3 SizeMismatch"
-frame_fault frame.BadCheck = codes "F4 BadCheck"
-frame_fault frame.BadId = codes "F5 BadId"
-
-abbrev pub cfg_fault : CfgFault → List ℕ
-cfg_fault cfg.WrongKind = codes "C1 WrongKind"
-cfg_fault cfg.Cut = codes "C2 Cut"
-cfg_fault cfg.TooMany = codes "C3 TooMany"
-cfg_fault cfg.FloatFormat = codes "C4 FloatFormat"
-
--- why an arrival is refused
-abbrev pub refusal : Refusal → List ℕ
-refusal (NoFrame fault) = frame_fault fault
-refusal WrongId = codes "I1 WrongId"
-refusal (NoConfiguration fault) = cfg_fault fault
-refusal WrongTimeBase = codes "C5 WrongTimeBase"
-refusal WrongRate = codes "C6 WrongRate"
-refusal WrongSource = codes "C7 WrongSource"
-refusal StaleCount = codes "C8 StaleCount"
-refusal CountConflict = codes "C9 CountConflict"
-refusal NoConfig = codes "B1 NoConfig"
-refusal WrongLength = codes "B2 WrongLength"
-refusal BadTag = codes "B3 BadTag"
-refusal Late = codes "B4 Late"
-refusal Ahead = codes "B5 Ahead"
-refusal OutOfWindow = codes "B6 OutOfWindow"
-refusal Duplicate = codes "B7 Duplicate"
-refusal Conflict = codes "B8 Conflict"
-refusal OldStamp = codes "G1 OldStamp"
-refusal OtherStamp = codes "G2 OtherStamp"
-refusal BadOwnBlock = codes "G3 BadOwnBlock"
-refusal UnknownSource = codes "G4 UnknownSource"
-
-abbrev pub outcome_of : Outcome → List ℕ
-outcome_of Taken = codes "Taken"
-outcome_of Candidate = codes "Candidate"
-outcome_of Known = codes "Known"
-outcome_of (Refused fault) = refusal fault
 
 -- a premise, by its number
 abbrev pub premise : Premise → List ℕ

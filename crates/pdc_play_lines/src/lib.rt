@@ -15,5 +15,4 @@ mod written;
 
 pub use line::{NotRead, read_event};
 pub use printed::{fault_line, not_an_event_line, reply_line};
-pub use texts::outcome_text;
 pub use written::Written;

@@ -3,7 +3,7 @@ ghost use Rattle.std.specs.Prelude.{◌≡◌, IfOk};
 ghost use Rattle.std.specs.String.{string_bytes};
 ghost use Rattle.pdc_play_lines.specs.Printed as printed;
 
-use crate::texts::{name_text, outcome_text, premise_text};
+use crate::texts::{name_text, premise_text};
 use pdc_align::Ticked;
 use pdc_event::{Fault, Published, Reply};
 use pdc_life::Outcome;
@@ -15,7 +15,7 @@ fn came_text(outcome: Option<Outcome>) -> &'static str
 {
     match outcome {
         None => "none",
-        Some(outcome) => outcome_text(outcome),
+        Some(outcome) => outcome.text(),
     }
 }
 

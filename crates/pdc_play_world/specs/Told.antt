@@ -16,7 +16,7 @@ use Rattle.pdc_play.specs.Run.{HasEnded}
 use Rattle.pdc_play.specs.declared.ending.Ending.{Ending}
 use Rattle.pdc_play.specs.declared.ending.Ending.TheVariants.{Refused}
 use Rattle.pdc_play_lines.specs.Printed.{fault_line}
-use Rattle.pdc_play_settings.specs.declared.any.Roles.{Roles}
+use Rattle.pdc_play_world.specs.declared.any.Roles.{Roles}
 use Rattle.pdc_world.specs.Acts.{IsWhy}
 use Rattle.pdc_world.specs.Opening.{IsWhyNot, world_of}
 use Rattle.pdc_world.specs.Replies.{reply_of}

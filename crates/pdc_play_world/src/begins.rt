@@ -3,14 +3,14 @@ ghost use Rattle.std.specs.Prelude.{◌≡◌, IfOk, Ok, Some};
 ghost use Rattle.std.specs.Io.KnownBytes.{IsAtEnd};
 ghost use Rattle.pdc_mark.specs.Stored.{first_stored};
 ghost use Rattle.pdc_play.specs.declared.ending.Ending.TheVariants.{Played};
-ghost use Rattle.pdc_play_settings.specs.Roles.{roles_of};
+ghost use Rattle.pdc_play_world.specs.Roles.{roles_of};
 ghost use Rattle.pdc_play_world.specs.Told.{IsPlayedBy, IsPlayedOn, world_over};
 
+use crate::any::{AnySettings, Roles, roles_of_three};
 use crate::on_world::OnWorld;
 use pdc_event::{Fault, Premise};
 use pdc_mark::{ModelMark, Store};
 use pdc_play::{Ending, PlayFault, run_script, tell_unbegun};
-use pdc_play_settings::{AnySettings, Roles, roles_of_three};
 use pdc_world::{Leads, World};
 use std::alloc::Global;
 use std::io::{Read, Write};

@@ -1,11 +1,11 @@
 -- What contracts see of a block and of a cell (this profile).
 use Rattle.std.specs.Prelude.{ℕ, ◌==◌, Bool, ◌&&◌, not, List, nat_eq}
 use Rattle.std.specs.Cmp.Lexicographic.{pointwise}
-use Rattle.pdc_cfg.specs.declared.shape.Shape.{Shape}
+use Rattle.pdc_block.specs.pdc_cfg.declared.shape.Shape.{Shape}
 use Rattle.pdc_block.specs.declared.block.Block.{Block}
 use Rattle.pdc_block.specs.declared.body.Body.{Body}
 use Rattle.pdc_block.specs.Block.{words_in, words_of}
-pub use Rattle.pdc_stat.specs.AbsentBlock.{absent_of}
+pub use Rattle.pdc_block.specs.AbsentBlock.{absent_of}
 
 -- a block: its shape, and its words in wire order
 pub record BlockView : Type 0 where

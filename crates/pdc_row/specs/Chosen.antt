@@ -1,6 +1,6 @@
 -- The block that is chosen among those that were taken (this profile).
 use Rattle.std.specs.Prelude.{Option, Some, None, if◌then◌else◌}
-use Rattle.pdc_cfg.specs.declared.shape.Shape.{Shape}
+use Rattle.pdc_block.specs.pdc_cfg.declared.shape.Shape.{Shape}
 use Rattle.pdc_row.specs.CellView.{BlockView, CellView, absent_view, is_present}
 
 -- the cell, where its block is present

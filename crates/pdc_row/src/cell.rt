@@ -1,12 +1,11 @@
 //! A block that was taken.
 ghost use Rattle.std.specs.Prelude.{◌≡◌, ◌%◌, length};
-ghost use Rattle.pdc_cfg.specs.Shape.{word_count_of};
+ghost use Rattle.pdc_block.specs.pdc_cfg.Shape.{word_count_of};
 
 use crate::Offered;
 use crate::present::are_present;
 use crate::same::are_same;
-use pdc_block::Block;
-use pdc_cfg::{MAX_WORDS, Shape};
+use pdc_block::{Block, MAX_WORDS, Shape};
 use std::marker::Model;
 
 /// A block that was taken, and the time quality byte of its frame. Its words are kept in place: [`Cell::set`] copies as many
@@ -23,7 +22,7 @@ pub struct Cell {
 
 impl Model for Cell {
     ghost use Rattle.std.specs.Prelude.{◌≡◌, take};
-    ghost use Rattle.pdc_cfg.specs.Shape.{word_count_of};
+    ghost use Rattle.pdc_block.specs.pdc_cfg.Shape.{word_count_of};
     ghost use Rattle.pdc_row.specs.CellView.{CellView, is_present};
 
     ghost Value = { CellView };

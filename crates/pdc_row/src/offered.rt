@@ -2,11 +2,10 @@
 ghost use Rattle.std.specs.Prelude.{◌≡◌, length, nat_eq};
 ghost use Rattle.std.specs.Cmp.Lexicographic.{pointwise};
 ghost use Rattle.pdc_block.specs.Block.{words_in};
-ghost use Rattle.pdc_cfg.specs.Shape.{word_count_of};
+ghost use Rattle.pdc_block.specs.pdc_cfg.Shape.{word_count_of};
 ghost use Rattle.pdc_row.specs.CellView.{BlockView};
 
-use pdc_block::{Block, Body};
-use pdc_cfg::Shape;
+use pdc_block::{Block, Body, Shape};
 
 /// A block that is offered to a table: kept in a [`Block`], or lent from the payload that brought it, as a [`Body`]. Its words are
 /// copied once, to where the table keeps them.

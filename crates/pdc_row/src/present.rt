@@ -1,11 +1,9 @@
 //! Which blocks count as data that came.
 ghost use Rattle.std.specs.Prelude.{◌≡◌, length};
-ghost use Rattle.pdc_cfg.specs.Shape.{word_count_of};
+ghost use Rattle.pdc_block.specs.pdc_cfg.Shape.{word_count_of};
 ghost use Rattle.pdc_row.specs.CellView.{block_view, is_present};
 
-use pdc_block::Block;
-use pdc_cfg::Shape;
-use pdc_stat::are_absent;
+use pdc_block::{Block, Shape, are_absent};
 
 /// Whether the block is any other than the absent block of its shape, whoever sent it (this profile).
 pub fn is_present(block: &Block) -> bool

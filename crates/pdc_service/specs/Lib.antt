@@ -1,1 +1,2 @@
 pub mod Concentrator
+pub mod Begun

@@ -2,11 +2,13 @@
 ghost use Rattle.std.specs.Prelude.{◌≡◌, IfOk, map, sum, vec_len};
 ghost use Rattle.pdc_service.specs.Concentrator.{output_of, streams_of};
 
-use pdc_hub::{HubFault, Sink, Source, Ticker, Totals};
+use crate::begun::Begun;
+use crate::plan::Plan;
+use crate::running_concentrator::{run_merger, run_node};
 use pdc_mark::Mark;
 use pdc_output::Output;
-use pdc_running::{Begun, Plan, run_merger, run_node};
 use pdc_settings::{MergerSettings, NodeSettings, Service};
+use pdc_threads::{HubFault, Sink, Source, Ticker, Totals};
 use std::alloc::Global;
 use std::sync::Wait;
 use std::thread::Threads;

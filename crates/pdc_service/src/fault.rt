@@ -1,8 +1,8 @@
 //! Why a node or the merger did not run to its end.
 
-use pdc_hub::HubFault;
 use pdc_mark::MarkFault;
 use pdc_settings::SettingsFault;
+use pdc_threads::HubFault;
 use std::io;
 use thiserror::Error;
 

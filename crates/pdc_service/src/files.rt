@@ -1,9 +1,9 @@
 //! The files of a concentrator.
 
+use crate::begun::Begun;
 use crate::fault::{LoadFault, ServiceFault};
 use pdc_disk::FileDisk;
 use pdc_mark::DiskMark;
-use pdc_running::Begun;
 use pdc_settings::{MergerSettings, NodeSettings, SettingsFault};
 use std::alloc::Global;
 use std::fs;

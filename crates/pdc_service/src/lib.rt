@@ -1,19 +1,29 @@
 //! A node and the merger as programs: their settings and mark files are read, their ports opened, and they run for a number of ticks,
 //! while consumers are served beside them (this profile).
 //!
-//! The first calls to look at are [`serve_node`] and [`serve_merger`]. Faults are found in this order: the settings file, the mark
+//! The first calls to look at are [`serve_node`] and [`serve_merger`], [`run_node`] and [`run_merger`] are the runs without files and ports.
+//! A run begins with a mark whose next start is stored ([`Begun`]),
+//! so each has a start number of its own. To the programs this crate promises that what the sink took are the first of the frames that
+//! were published, in order and whole, with instants that strictly rise above the floor that was stored before the run, and are at most
+//! the floor that is stored after it. Faults are found in this order: the settings file, the mark
 //! file, the start that is stored, the ports, and then the run. The port of the sessions is the last that is opened.
 #![tactic(auto)]
 
+mod begun;
 mod concentrator;
 mod fault;
 mod files;
 mod host;
+mod plan;
 mod ports;
+mod running_concentrator;
 mod service;
 mod serving;
 
+pub use begun::Begun;
 pub use fault::{LoadFault, ServiceFault};
 pub use files::read_settings_text;
 pub use host::Host;
+pub use plan::{MAX_LIMIT, Plan};
+pub use running_concentrator::{run_merger, run_node};
 pub use service::{Files, serve_merger, serve_node};

@@ -4,8 +4,8 @@ ghost use Rattle.pdc_service.specs.Concentrator.{streams_of};
 
 use crate::concentrator::Concentrator;
 use crate::fault::ServiceFault;
-use pdc_hub::HubFault;
 use pdc_network::{UdpSink, UdpSource};
+use pdc_threads::HubFault;
 use std::alloc::Global;
 use std::net::{Net, TcpListener, TcpStream};
 

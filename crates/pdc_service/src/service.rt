@@ -5,13 +5,12 @@ use crate::concentrator::Concentrator;
 use crate::fault::ServiceFault;
 use crate::files::{begin_mark, read_merger_settings, read_node_settings};
 use crate::host::Host;
+use crate::plan::{MAX_LIMIT, Plan};
 use crate::ports::{open_listener, open_sink, open_sources};
 use crate::serving::run_serving;
-use pdc_hub::Totals;
-use pdc_network::ClockTicker;
-use pdc_reporting::Reporting;
-use pdc_running::{MAX_LIMIT, Plan};
+use pdc_network::{ClockTicker, Reporting};
 use pdc_settings::Service;
+use pdc_threads::Totals;
 
 /// The files of a concentrator, by their names.
 #[derive(Clone, Copy, Debug)]

@@ -4,9 +4,9 @@ ghost use Rattle.pdc_frame.specs.declared.limits.TheConstants.{MAX_ID};
 ghost use Rattle.pdc_tag.specs.declared.limits.TheConstants.{MAX_RATE};
 
 use crate::section::{config_of, payload_of};
-use pdc_hub::Sink;
 use pdc_network::{UdpSink, instant_at};
 use pdc_pmu::{Pmu, PmuFault};
+use pdc_ports::Sink;
 use pdc_tag::SECONDS;
 use std::alloc::Global;
 use std::net::Net;

@@ -2,9 +2,9 @@
 ghost use Rattle.std.specs.Prelude.{◌≡◌, ◌<◌, [], IfOk};
 ghost use Rattle.pdc_mark.specs.Stored.{with_next_start};
 
-use crate::opens::Opens;
 use crate::station::Station;
 use crate::stores::begin_next;
+use pdc_core::Opens;
 use pdc_mark::Store;
 use std::alloc::{AllocError, Global};
 

@@ -2,24 +2,20 @@
 //!
 //! The first type to look at is [`Station`]: it hears, ticks and publishes as the present life of its core does, and raises its mark
 //! before each tick and each publish that needs it. A stop ends the life, and the station goes on with the next one. Each life, the
-//! first one too, begins with what the mark then stores, and that is a start number of its own ([`Opens`]).
+//! first one too, begins with what the mark then stores, and that is a start number of its own (`Opens` of `pdc_core`).
 //!
 //! To the layers above this crate promises that each call leaves the life and the mark that the definitions of the world have: a
 //! tick is handed the counts of the raised mark, and a row goes out only once its instant is stored.
 #![tactic(auto)]
 
 mod begins;
-mod copies;
 mod fault;
 mod laws;
 mod next_row;
-mod opens;
 mod station;
 mod stops;
 mod stores;
 
-pub use copies::{copy_of, copy_of_merger};
 pub use fault::StopFault;
 pub use laws::rows_are_published;
-pub use opens::Opens;
 pub use station::Station;

@@ -8,7 +8,7 @@ ghost use Rattle.pdc_row.specs.RowView.{row_view};
 ghost use Rattle.pdc_station.specs.Station.{IsOfSomeLife, wire_of_some};
 ghost use Rattle.pdc_tag.specs.declared.limits.TheConstants.{MAX_RATE, SECONDS};
 
-use crate::opens::Opens;
+use pdc_core::Opens;
 use pdc_frame::Buffer;
 use pdc_output::{Output, append_row};
 use pdc_row::DueRow;

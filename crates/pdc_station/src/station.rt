@@ -11,9 +11,9 @@ ghost use Rattle.pdc_row.specs.RowView.{row_view};
 ghost use Rattle.pdc_station.specs.Station.{IsOfSomeLife, wire_of_some, with_waiting};
 
 use crate::next_row::{append_some, next_row};
-use crate::opens::Opens;
 use crate::stores::{raise_to, reserve_for};
 use pdc_align::Ticked;
+use pdc_core::Opens;
 use pdc_frame::Buffer;
 use pdc_life::Outcome;
 use pdc_mark::Store;

@@ -10,9 +10,9 @@ ghost use Rattle.pdc_station.specs.Station.{IsOfSomeLife, with_waiting};
 
 use crate::fault::StopFault;
 use crate::next_row::next_instant;
-use crate::opens::Opens;
 use crate::station::Station;
 use crate::stores::{begin_next, counts_after, floor_after, stop_in_raise, stop_in_reserve};
+use pdc_core::Opens;
 use pdc_life::MAX_PMUS;
 use pdc_mark::Store;
 use std::alloc::{AllocError, Global};

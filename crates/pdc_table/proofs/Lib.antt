@@ -7,7 +7,6 @@ pub mod Closes
 pub mod HeldNear
 pub mod Keeps
 pub mod OpenRowParts
-pub mod Places
 pub mod Highest
 pub mod Remainders
 pub mod RingAges

@@ -3,8 +3,8 @@ use Rattle.std.proofs.Common.{◌≡◌, ℕ, ◌+◌, ◌<◌, Bool, true, fals
 use Rattle.std.proofs.lemmas.Bool.{cases_lt}
 use Rattle.std.specs.List.{refill}
 use Rattle.std.proofs.lemmas.List.{drop_all, get_or_past, take_all}
-use Rattle.pdc_block.specs.declared.block.Block.{Block}
-use Rattle.pdc_cfg.specs.declared.shape.Shape.{Shape}
+use Rattle.pdc_row.specs.pdc_block.declared.block.Block.{Block}
+use Rattle.pdc_row.specs.pdc_cfg.declared.shape.Shape.{Shape}
 use Rattle.pdc_row.specs.CellView.{BlockView}
 use Rattle.pdc_table.specs.Row.{blocks_at, blocks_of, qualities_at, qualities_of}
 use Rattle.pdc_table.specs.Closing.{all_taken}

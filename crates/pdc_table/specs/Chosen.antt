@@ -1,6 +1,6 @@
 -- The block that a column gives to the row of its instant (this profile).
 use Rattle.std.specs.Prelude.{Bool, not, false, Option, Some, None}
-use Rattle.pdc_cfg.specs.declared.shape.Shape.{Shape}
+use Rattle.pdc_row.specs.pdc_cfg.declared.shape.Shape.{Shape}
 use Rattle.pdc_row.specs.Chosen.{block_or_absent, first_of, present_of}
 use Rattle.pdc_row.specs.CellView.{BlockView, CellView, same_block}
 use Rattle.pdc_table.specs.Views.{ColumnView}

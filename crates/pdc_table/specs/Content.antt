@@ -1,7 +1,7 @@
 -- What a table contains, however it is kept (this profile).
 use Rattle.std.specs.Prelude.{◌≡◌, ◌≢◌, ℕ, ◌+◌, ◌<◌, ◌≤◌, ◌++◌, ◌==◌, Bool, false, if◌then◌else◌, List, [], ◌∷◌, length, replicate, Option, Some, None}
 use Rattle.std.specs.List.{All, AllByRecursion}
-use Rattle.pdc_cfg.specs.declared.shape.Shape.{Shape}
+use Rattle.pdc_row.specs.pdc_cfg.declared.shape.Shape.{Shape}
 use Rattle.pdc_row.specs.CellView.{CellView}
 use Rattle.pdc_row.specs.RowView.{RowView, row_instants}
 use Rattle.pdc_row.specs.Rising.{Rises, AreBelow, AreNear}

@@ -1,6 +1,6 @@
 -- The layout under which rows close (this profile).
 use Rattle.std.specs.Prelude.{ℕ, List, Option}
-use Rattle.pdc_cfg.specs.declared.shape.Shape.{Shape}
+use Rattle.pdc_row.specs.pdc_cfg.declared.shape.Shape.{Shape}
 use Rattle.pdc_table.specs.declared.row_layout.RowLayout.{RowLayout}
 
 -- its stamp, and a shape or nothing for each column

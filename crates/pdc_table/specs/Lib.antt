@@ -11,7 +11,6 @@ pub mod Placing
 pub mod Ring
 pub mod RingRows
 pub mod Row
-pub mod SortedTable
 pub mod Steps
 pub mod TableView
 pub mod Taking

@@ -1,7 +1,7 @@
 -- The row of an instant: what a closed row shows (this profile).
 use Rattle.std.specs.Prelude.{ℕ, ◌++◌, List, [], ◌∷◌, Option, Some, None}
 use Rattle.std.specs.Option.{option_map, option_to_list}
-use Rattle.pdc_cfg.specs.declared.shape.Shape.{Shape}
+use Rattle.pdc_row.specs.pdc_cfg.declared.shape.Shape.{Shape}
 use Rattle.pdc_row.specs.CellView.{BlockView}
 use Rattle.pdc_row.specs.RowView.{RowView}
 use Rattle.pdc_row.specs.Quality.{quality_of, time_quality_of}

@@ -1,7 +1,7 @@
 -- What each call of a table answers, and what it makes of the content (this profile).
 use Rattle.std.specs.Prelude.{ℕ, ◌+◌, ◌++◌, nat_le, Bool, true, false, not, if◌then◌else◌, List, [], ◌∷◌, length, map, drop, Option, Some, None, option_map, slice_set, slice_index_or}
 use Rattle.std.specs.List.{list_all, slice_get}
-use Rattle.pdc_cfg.specs.declared.shape.Shape.{Shape}
+use Rattle.pdc_row.specs.pdc_cfg.declared.shape.Shape.{Shape}
 use Rattle.pdc_row.specs.CellView.{BlockView, CellView}
 use Rattle.pdc_row.specs.Quality.{greatest}
 use Rattle.pdc_row.specs.Rising.{is_near}

@@ -1,8 +1,8 @@
 -- What a frame that is taken makes of the row of its instant (this profile).
 use Rattle.std.specs.Prelude.{ℕ, ◌==◌, Bool, true, false, not, if◌then◌else◌, List, [], ◌∷◌, map, Option, Some, None, slice_set, slice_index_or}
 use Rattle.std.specs.List.{list_any}
-use Rattle.pdc_block.specs.declared.block.Block.{Block}
-use Rattle.pdc_block.specs.declared.body.Body.{Body}
+use Rattle.pdc_row.specs.pdc_block.declared.block.Block.{Block}
+use Rattle.pdc_row.specs.pdc_block.declared.body.Body.{Body}
 use Rattle.pdc_row.specs.CellView.{BlockView, CellView, body_view, cell_view, same_block}
 use Rattle.pdc_table.specs.Views.{ColumnView, OpenRowView, empty_column}
 

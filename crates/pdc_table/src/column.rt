@@ -7,8 +7,7 @@ ghost use Rattle.pdc_table.specs.OpenRowParts.{column_of, nothing, without_lane}
 ghost use Rattle.pdc_table.specs.Steps.{disagreement_at};
 ghost use Rattle.pdc_table.specs.Taking.{cell_in, holds_other, with_cell};
 
-use pdc_cfg::Shape;
-use pdc_row::{Cell, Offered};
+use pdc_row::{Cell, Offered, Shape};
 
 /// Which lanes of a column hold a cell.
 #[derive(Clone, Copy)]

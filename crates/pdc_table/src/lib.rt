@@ -2,8 +2,8 @@
 //! (this profile).
 //!
 //! `Table` is the contract of every table: what each call answers, and what it makes of the table's content, which is a
-//! finite record that knows nothing of how the rows are kept. `SortedTable` keeps them as a sorted vector, `RingTable` each at
-//! the remainder of its instant by the window.
+//! finite record that knows nothing of how the rows are kept. `RingTable` keeps each at the remainder of its instant by the window.
+//! `OpenRow` is one row, for other tables as well.
 //!
 //! To the layers above this crate promises that a row closes exactly when every open instant up to its own is due, that
 //! it holds the first block taken for each column, and that no call but `new` takes memory.
@@ -11,6 +11,7 @@
 
 mod closing_layout;
 mod column;
+mod front;
 mod laws;
 mod limits;
 mod near;
@@ -19,25 +20,25 @@ mod outcome;
 mod ring;
 mod ring_table;
 mod row_layout;
-mod rows;
-mod sorted_table;
 mod spare;
+mod streams;
 mod table_trait;
 mod wait_rule;
 
 use closing_layout::ClosingLayout;
 use column::Held;
+pub use front::{is_near, remove_front};
 pub use laws::{
     ages_are_ticks, blocks_stand_in_their_columns, cells_are_first_puts, instants_open_where_taken,
     rows_close_where_due, rows_come_out_rising,
 };
 pub use limits::{MAX_COLUMNS, MAX_LANES, MAX_WINDOW, MIN_WINDOW};
-use open_row::OpenRow;
+pub use open_row::{OpenRow, Places};
 pub use outcome::PutOutcome;
 pub use pdc_row::DueRow;
 pub use ring_table::RingTable;
 pub use row_layout::RowLayout;
-pub use sorted_table::SortedTable;
 pub use spare::spare_row;
+pub use streams::{falses, lane_of, stream_count};
 pub use table_trait::Table;
 pub use wait_rule::WaitRule;

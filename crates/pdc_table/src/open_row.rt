@@ -7,7 +7,7 @@ ghost use Rattle.pdc_row.specs.RowView.{row_view};
 ghost use Rattle.pdc_table.specs.Chosen.{chosen_of};
 ghost use Rattle.pdc_table.specs.RingRows.{at_age};
 ghost use Rattle.pdc_table.specs.Row.{blocks_at, qualities_at, row_of};
-ghost use Rattle.pdc_table.specs.Closing.{aged, all_taken, is_due};
+ghost use Rattle.pdc_table.specs.Closing.{all_taken, is_due};
 ghost use Rattle.pdc_table.specs.Steps.{answer_at, disagreement_at, disagreements_of, is_taken};
 ghost use Rattle.pdc_table.specs.Layout.{layout_view};
 ghost use Rattle.pdc_table.specs.Taking.{cell_in, cells_in, conflicts, holds_other, with_cells, with_frame, without_column, without_stream};
@@ -16,12 +16,10 @@ ghost use Rattle.pdc_table.specs.Views.{blank_row, empty_column};
 ghost use Rattle.pdc_table.specs.declared.column.Held.{Held as HeldData};
 
 use crate::column::{NOTHING, forget_all, forget_lane};
+use crate::streams::falses;
 use crate::{Held, MAX_COLUMNS, PutOutcome, RowLayout, WaitRule};
 use arrayvec::ArrayVec;
-use pdc_block::Block;
-use pdc_cfg::Shape;
-use pdc_row::{Cell, DueRow, Offered};
-use pdc_stat::set_absent;
+use pdc_row::{Block, Cell, DueRow, Offered, Shape, set_absent};
 use std::array;
 use std::marker::Model;
 
@@ -35,12 +33,10 @@ pub struct Places {
     pub columns: usize,
 }
 
-/// The row of an instant that is open.
+/// The row of an instant that is open. It counts no ticks: its age stands with whoever keeps it.
 #[derive(Drop)]
 pub struct OpenRow {
     instant: u64,
-    /// The ticks since its first take.
-    age: u64,
     /// Whether a cell was put into lane 1 since the row began: where not, no column can disagree.
     has_second: bool,
     /// Which streams were taken.
@@ -64,7 +60,7 @@ impl Model for OpenRow {
 
     ghost view = { λ row. record {
       instant = row.instant;
-      age = row.age;
+      age = 0;
       taken = row.taken.items;
       columns = columns_of row.held.items row.first row.second;
     } };
@@ -78,14 +74,13 @@ impl Model for OpenRow {
 
 impl OpenRow {
     /// The row of an instant in which nothing was taken.
-    pub(crate) fn blank(instant: u64, places: Places) -> OpenRow
+    pub fn blank(instant: u64, places: Places) -> OpenRow
         requires streams { places.streams ≤ MAX_COLUMNS }
         requires columns { places.columns ≤ MAX_COLUMNS }
         ensures { result ≡ blank_row places.streams places.columns instant }
     {
         OpenRow {
             instant,
-            age: 0,
             has_second: false,
             taken: falses(places.streams),
             held: nothings(places.columns),
@@ -100,14 +95,13 @@ impl OpenRow {
         ensures { self.new ≡ blank_row (length self.old.taken) (length self.old.columns) instant }
     {
         self.instant = instant;
-        self.age = 0;
         self.has_second = false;
         self.taken.as_mut_slice().fill(false);
         forget_all(self.held.as_mut_slice());
     }
 
     /// The instant.
-    pub(crate) fn instant(&self) -> u64
+    pub fn instant(&self) -> u64
         ensures { result ≡ self.now.instant }
     {
         self.instant
@@ -115,7 +109,7 @@ impl OpenRow {
 
     /// Takes a frame of the stream: its blocks go into their columns, in this lane.
     #[inline(always)]
-    pub(crate) fn take<B: Offered>(
+    pub fn take<B: Offered>(
         &mut self,
         stream: usize,
         lane: usize,
@@ -142,7 +136,7 @@ impl OpenRow {
 
     /// Takes the frame, unless the stream was taken already: then the first stays.
     #[inline(always)]
-    pub(crate) fn offer<B: Offered>(
+    pub fn offer<B: Offered>(
         &mut self,
         stream: usize,
         lane: usize,
@@ -175,7 +169,7 @@ impl OpenRow {
     }
 
     /// Forgets what was taken of a stream: with one lane its own column, with two its lane of each column.
-    pub(crate) fn drop_stream(&mut self, lanes: usize, stream: usize)
+    pub fn drop_stream(&mut self, lanes: usize, stream: usize)
         requires taken { stream < length self.old.taken }
         requires column { lanes ≡ 1 → stream < length self.old.columns }
         ensures { self.new ≡ without_stream lanes stream self.old }
@@ -189,36 +183,22 @@ impl OpenRow {
     }
 
     /// Forgets the cells of a column; the streams stay taken.
-    pub(crate) fn drop_column(&mut self, column: usize)
+    pub fn drop_column(&mut self, column: usize)
         requires { column < length self.old.columns }
         ensures { self.new ≡ without_column column self.old }
     {
         self.held[column] = NOTHING;
     }
 
-    /// Counts one more tick.
-    pub(crate) fn grow_older(&mut self)
-        ensures { self.new ≡ aged self.old }
-    {
-        self.age = self.age.saturating_add(1);
-    }
-
-    /// Its age, in ticks.
-    pub(crate) fn age(&self) -> u64
-        ensures { result ≡ self.now.age }
-    {
-        self.age
-    }
-
     /// Whether every required stream was taken, or the wait is over, at this age.
-    pub(crate) fn is_due(&self, age: u64, required: &[bool], rule: WaitRule) -> bool
+    pub fn is_due(&self, age: u64, required: &[bool], rule: WaitRule) -> bool
         ensures { result ≡ is_due required.now rule (at_age age self.now) }
     {
         rule.is_over(age, self.instant) || all_taken(required, self.taken.as_slice())
     }
 
     /// How many columns with a shape hold present blocks in both lanes that differ.
-    pub(crate) fn disagreements(&self, layout: &RowLayout) -> u64
+    pub fn disagreements(&self, layout: &RowLayout) -> u64
         ensures value { result ≡ disagreements_of (layout_view layout.now).shapes self.now.columns }
         ensures most { result ≤ MAX_COLUMNS }
     {
@@ -239,7 +219,7 @@ impl OpenRow {
     }
 
     /// The row that it closes to.
-    pub(crate) fn close(&self, layout: &RowLayout) -> DueRow
+    pub fn close(&self, layout: &RowLayout) -> DueRow
         ensures { row_view result ≡ row_of (layout_view layout.now) self.now }
     {
         let mut blocks = ArrayVec::from_array_in((), Default::default());
@@ -293,16 +273,6 @@ impl OpenRow {
         blocks.truncate(count);
         if above == 0 { WORST_QUALITY } else { above - 1 }
     }
-}
-
-/// So many times false.
-pub fn falses(count: usize) -> ArrayVec<bool, MAX_COLUMNS>
-    requires { count ≤ MAX_COLUMNS }
-    ensures { result.items ≡ replicate count false }
-{
-    let mut falses = ArrayVec::from_array_in((), [false; MAX_COLUMNS]);
-    falses.truncate(count);
-    falses
 }
 
 /// So many columns in which nothing was taken.

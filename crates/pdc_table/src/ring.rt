@@ -20,9 +20,9 @@ ghost use Rattle.pdc_table.specs.Steps.{answer_at, disagreements_in, is_taken};
 ghost use Rattle.pdc_table.specs.Taking.{cells_in, with_frame, without_column, without_stream};
 ghost use Rattle.pdc_table.specs.Views.{OpenRowView, blank_row};
 
+use crate::front::{is_near, remove_front};
 use crate::near::{Near, place_of};
 use crate::open_row::{OpenRow, Places};
-use crate::rows::{is_near, remove_front};
 use crate::{ClosingLayout, MAX_COLUMNS, PutOutcome, RowLayout, WaitRule};
 use arrayvec::ArrayVec;
 use pdc_row::{DueRow, Offered, numbers_rise};

@@ -5,12 +5,11 @@ ghost use Rattle.pdc_table.specs.Steps.{after_put, put_answer};
 ghost use Rattle.pdc_table.specs.Taking.{cells_in};
 
 use crate::near::{Near, place_of};
-use crate::open_row::{OpenRow, Places, falses};
-use crate::sorted_table::{lane_of, stream_count};
+use crate::open_row::{OpenRow, Places};
+use crate::streams::{falses, lane_of, stream_count};
 use crate::{ClosingLayout, MAX_COLUMNS, PutOutcome, RowLayout, Table, WaitRule, ring};
 use arrayvec::ArrayVec;
-use pdc_block::{Block, Body};
-use pdc_row::{DueRow, Offered, numbers_rise};
+use pdc_row::{Block, Body, DueRow, Offered, numbers_rise};
 use std::alloc::{AllocError, Global};
 use std::collections::VecDeque;
 use std::marker::Model;

@@ -1,6 +1,6 @@
 //! The layout under which rows close.
 use arrayvec::ArrayVec;
-use pdc_cfg::Shape;
+use pdc_row::Shape;
 
 /// The layout under which rows close (this profile): its stamp, and a shape or nothing for each column.
 #[derive(Debug, Drop)]

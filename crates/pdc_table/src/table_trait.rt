@@ -9,8 +9,7 @@ ghost use Rattle.pdc_table.specs.Steps.{after_drop_column, after_drop_stream, af
 ghost use Rattle.pdc_table.specs.Taking.{body_cells_of, cells_of};
 
 use crate::{MAX_COLUMNS, MAX_LANES, MAX_WINDOW, MIN_WINDOW, PutOutcome, RowLayout, WaitRule};
-use pdc_block::{Block, Body};
-use pdc_row::DueRow;
+use pdc_row::{Block, Body, DueRow};
 use std::alloc::{AllocError, Global};
 
 /// A table that aligns the streams of a concentrator by instant (this profile).

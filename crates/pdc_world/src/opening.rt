@@ -12,7 +12,8 @@ use crate::world::World;
 use pdc_event::{Fault, Premise, WorldFault};
 use pdc_life::{MergerSettings, Settings};
 use pdc_mark::{ModelMark, Store};
-use pdc_station::{Station, copy_of};
+use pdc_node::copy_of;
+use pdc_station::Station;
 use std::alloc::{AllocError, Global};
 
 /// How many instants each core reserves ahead.

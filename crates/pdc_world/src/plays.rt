@@ -6,11 +6,10 @@ ghost use Rattle.pdc_life.specs.declared.pmu.Pmu.{Pmu as PmuData};
 ghost use Rattle.pdc_history.specs.Agree.{ids_of};
 ghost use Rattle.pdc_world.specs.Named.{node_ids};
 
-use pdc_core::Core;
+use pdc_core::{Core, Opens};
 use pdc_life::{MergerSettings, Pmu, Settings};
 use pdc_merge::Merger;
 use pdc_node::Node;
-use pdc_station::Opens;
 use pdc_table::Table;
 
 /// A core whose streams are named by ids.

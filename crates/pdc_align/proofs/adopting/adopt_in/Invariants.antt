@@ -1,6 +1,6 @@
 use Rattle.std.proofs.Common.{◌≡◌, drop}
 use Rattle.pdc_table.specs.Content.{HasSizesOf, IsContent}
-use Rattle.pdc_state.specs.State.{after_adoptions}
+use Rattle.pdc_align.specs.State.{after_adoptions}
 use Rattle.pdc_align.proofs.adopting.adopt_in.Given as goal
 
 -- what is left is adopted in the table as it is

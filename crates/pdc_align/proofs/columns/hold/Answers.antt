@@ -1,8 +1,8 @@
 use Rattle.std.proofs.Common.{◌≡◌, ◌+◌, ◌∷◌, drop, get_or, length-set, map, set, arith, sym, ◌∙◌, ap}
 use Rattle.std.proofs.lemmas.List.{drop_more, get_or_default}
-use Rattle.pdc_cfg.specs.Section.{fields_of_view}
-use Rattle.pdc_reading.specs.Views.{section_part}
-use Rattle.pdc_reading.specs.declared.arrival.ColumnSection.{ColumnSection}
+use Rattle.pdc_arrival.specs.pdc_cfg.Section.{fields_of_view}
+use Rattle.pdc_arrival.specs.Views.{section_part}
+use Rattle.pdc_arrival.specs.declared.arrival.ColumnSection.{ColumnSection}
 use Rattle.pdc_align.specs.Calls.{no_column, with_section, with_sections}
 use Rattle.pdc_align.proofs.columns.hold.Goals as goal
 

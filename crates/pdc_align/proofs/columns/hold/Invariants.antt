@@ -1,5 +1,5 @@
 use Rattle.std.proofs.Common.{◌≡◌, drop, length, map}
-use Rattle.pdc_reading.specs.Views.{section_part}
+use Rattle.pdc_arrival.specs.Views.{section_part}
 use Rattle.pdc_align.specs.Calls.{with_sections}
 use Rattle.pdc_align.proofs.columns.hold.Given as goal
 

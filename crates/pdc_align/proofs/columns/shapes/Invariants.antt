@@ -1,5 +1,5 @@
 use Rattle.std.proofs.Common.{◌≡◌, map, take}
-use Rattle.pdc_state.specs.State.{shape_in}
+use Rattle.pdc_align.specs.State.{shape_in}
 use Rattle.pdc_align.specs.Align.{ColumnState}
 use Rattle.pdc_align.proofs.columns.shapes.Given as goal
 

@@ -1,7 +1,7 @@
 use Rattle.std.proofs.Common.{arith, ◌∙◌, ap}
-use Rattle.pdc_life.specs.Answer.{greatest_count}
+use Rattle.pdc_arrival.specs.pdc_life.Answer.{greatest_count}
 use Rattle.pdc_align.specs.Align.{ColumnState}
-use Rattle.pdc_align.proofs.Counts.{one_more_set}
+use Rattle.pdc_align.proofs.CountsHandedIn.{one_more_set}
 use Rattle.pdc_align.proofs.columns.waiting.Goals as goal
 
 pub loop-place-preserved : goal.loop-place-preserved

@@ -1,5 +1,5 @@
 use Rattle.std.proofs.Common.{◌≡◌, ◌-◌, ◌++◌, map, replicate, take}
-use Rattle.pdc_life.specs.Answer.{greatest_count}
+use Rattle.pdc_arrival.specs.pdc_life.Answer.{greatest_count}
 use Rattle.pdc_align.specs.Align.{ColumnState}
 use Rattle.pdc_align.proofs.columns.waiting.Given as goal
 

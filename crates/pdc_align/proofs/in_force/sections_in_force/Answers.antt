@@ -1,5 +1,5 @@
 use Rattle.std.proofs.Common.{arith}
-use Rattle.pdc_life.specs.Life.{section_in_force}
+use Rattle.pdc_arrival.specs.pdc_life.Life.{section_in_force}
 use Rattle.pdc_align.proofs.InOrder.{one_more}
 use Rattle.pdc_align.proofs.in_force.sections_in_force.Goals as goal
 

@@ -1,9 +1,9 @@
 use Rattle.std.proofs.Common.{◌≡◌, ◌≤◌, ◌-◌, ◌++◌, List, length, map}
 use Rattle.std.specs.List.{filter_map, range_with_len}
 use Rattle.pdc_align.specs.Align.{StandsFor}
-use Rattle.pdc_cfg.specs.Section.{fields_of_view}
-use Rattle.pdc_life.specs.Given.{Given}
-use Rattle.pdc_life.specs.Life.{Entry, section_in_force}
+use Rattle.pdc_arrival.specs.pdc_cfg.Section.{fields_of_view}
+use Rattle.pdc_arrival.specs.pdc_life.Given.{Given}
+use Rattle.pdc_arrival.specs.pdc_life.Life.{Entry, section_in_force}
 use Rattle.pdc_align.proofs.in_force.sections_in_force.Given as goal
 
 -- the sections so far, and those of the columns that are left

@@ -1,7 +1,7 @@
 use Rattle.std.proofs.Common.{rules, ◌≡◌, ◌++◌, ◌∷◌, []}
 use Rattle.crossbeam_channel.specs.Claims.{view}
 use Rattle.pdc_pipe.specs.declared.message.Message.TheVariants.{End}
-use Rattle.pdc_recorder.specs.declared.fault.HubFault.TheVariants.{Stuck}
+use Rattle.pdc_hub.specs.declared.fault.HubFault.TheVariants.{Stuck}
 use Rattle.pdc_publisher.specs.Publisher.{mark_in}
 use Rattle.pdc_aligner.specs.Turns.{HasGiven}
 use Rattle.pdc_aligner.proofs.Laying.{aligned_ended, aligned_open}

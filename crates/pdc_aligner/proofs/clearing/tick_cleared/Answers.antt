@@ -2,7 +2,7 @@ use Rattle.std.proofs.Common.{◌≡◌, List, ℕ, IfOk, subst}
 use Rattle.pdc_align.specs.Align.{ticked_of}
 use Rattle.pdc_life.specs.Answer.{tick_answer}
 use Rattle.pdc_life.specs.Life.{changes}
-use Rattle.pdc_recorder.specs.Replay.{InSomeLife}
+use Rattle.pdc_hub.specs.Replay.{InSomeLife}
 use Rattle.pdc_aligner.proofs.clearing.tick_cleared.Goals as goal
 
 pub returns-in-Ok-clause-stored : goal.returns-in-Ok-clause-stored

@@ -1,5 +1,5 @@
 use Rattle.std.proofs.Common.{◌∙◌, List, arith, subst, sym, ℕ}
-use Rattle.pdc_frame.specs.Bytes.{AreBytes}
+use Rattle.pdc_cfg.specs.pdc_frame.Bytes.{AreBytes}
 use Rattle.pdc_block.specs.Block.{AreWords, IsBody}
 use Rattle.pdc_block.proofs.Bodies.{body_of_bytes, words_fit}
 use Rattle.pdc_block.proofs.reading.body_of.Goals as goal

@@ -1,7 +1,7 @@
 use Rattle.std.proofs.Common.{ap}
 use Rattle.pdc_life.specs.Merger.{merged_answer}
-use Rattle.pdc_reading.specs.Views.{arrival_view}
-use Rattle.pdc_reading.specs.declared.arrival.Arrival.{Arrival}
+use Rattle.pdc_arrival.specs.Views.{arrival_view}
+use Rattle.pdc_arrival.specs.declared.arrival.Arrival.{Arrival}
 use Rattle.pdc_align.specs.Align.{is_left}
 use Rattle.pdc_merge.proofs.answering.answer.Goals as goal
 

@@ -2,8 +2,8 @@ use Rattle.std.proofs.Common.{List, Option, ap, length, map, subst, sym}
 use Rattle.std.specs.Prelude.{option_map}
 use Rattle.pdc_life.specs.Arrival.{Layout}
 use Rattle.pdc_life.specs.Merger.{merged_answer}
-use Rattle.pdc_reading.specs.Views.{section_part, stamp_view}
-use Rattle.pdc_reading.specs.declared.arrival.Stamp.{Stamp}
+use Rattle.pdc_arrival.specs.Views.{section_part, stamp_view}
+use Rattle.pdc_arrival.specs.declared.arrival.Stamp.{Stamp}
 use Rattle.pdc_align.specs.Align.{is_left}
 use Rattle.pdc_merge.specs.Held.{AreAllInPlace, AreInPlace, LayoutView, LayoutsView}
 use Rattle.pdc_merge.specs.declared.held_layout.HeldSection.{HeldSection}

@@ -6,7 +6,7 @@ use Rattle.pdc_life.specs.Life.{Answer, Arrive}
 use Rattle.pdc_life.specs.Merger.{has_count_conflict, held_layout, layout_answer}
 use Rattle.pdc_life.specs.Run.{IsRun}
 use Rattle.pdc_life.specs.declared.outcome.Outcome.{Outcome}
-use Rattle.pdc_reading.specs.Views.{section_part, stamp_view}
+use Rattle.pdc_arrival.specs.Views.{section_part, stamp_view}
 use Rattle.pdc_align.specs.Align.{StandsFor}
 use Rattle.pdc_merge.proofs.ByLayout.{columns_are, is_new, layout_left, layout_same}
 use Rattle.pdc_merge.proofs.Lives.{at_stream}

@@ -3,9 +3,9 @@ use Rattle.std.specs.Prelude.{option_map}
 use Rattle.pdc_life.specs.Arrival.{Layout}
 use Rattle.pdc_life.specs.Given.{count_for}
 use Rattle.pdc_life.specs.Node.{node_answer}
-use Rattle.pdc_reading.specs.Views.{arrival_view, section_part, stamp_view}
-use Rattle.pdc_reading.specs.declared.arrival.Arrival.{Arrival}
-use Rattle.pdc_reading.specs.declared.arrival.ColumnSection.{ColumnSection}
+use Rattle.pdc_arrival.specs.Views.{arrival_view, section_part, stamp_view}
+use Rattle.pdc_arrival.specs.declared.arrival.Arrival.{Arrival}
+use Rattle.pdc_arrival.specs.declared.arrival.ColumnSection.{ColumnSection}
 use Rattle.pdc_align.specs.Align.{is_left}
 use Rattle.pdc_node.proofs.answering.answer.Goals as goal
 

@@ -6,7 +6,7 @@ use Rattle.pdc_life.specs.Arrival.{Layout}
 use Rattle.pdc_life.specs.Life.{Answer, Arrive}
 use Rattle.pdc_life.specs.Node.{node_answer}
 use Rattle.pdc_life.specs.Run.{IsRun}
-use Rattle.pdc_reading.specs.Views.{section_part}
+use Rattle.pdc_arrival.specs.Views.{section_part}
 use Rattle.std.proofs.Common.{map}
 use Rattle.pdc_align.specs.Align.{StandsFor, is_left}
 use Rattle.pdc_node.proofs.Answers.{is_new, one_answer, only_one, section_left}

@@ -1,8 +1,8 @@
 use Rattle.std.proofs.Common.{◌≡◌, ℕ, ◌+◌, ◌≤◌, List, ◌++◌, length, map, subst}
 use Rattle.std.specs.Prelude.{IsOk, OnOk, Ok, Err}
-use Rattle.pdc_frame.specs.Frame.{Fields, IsFrame, spelling_of}
-use Rattle.pdc_cfg.specs.Section.{fields_of_view, fields_of_section}
-use Rattle.pdc_cfg.specs.Config.{IsConfig, config_fields_of}
+use Rattle.pdc_row.specs.pdc_frame.Frame.{Fields, IsFrame, spelling_of}
+use Rattle.pdc_row.specs.pdc_cfg.Section.{fields_of_view, fields_of_section}
+use Rattle.pdc_row.specs.pdc_cfg.Config.{IsConfig, config_fields_of}
 use Rattle.std.specs.declared.alloc.AllocError.{AllocError}
 use Rattle.std.specs.declared.result.Result.{Result}
 use Rattle.pdc_output.proofs.Layouts.{same_fields, same_payload}

@@ -1,5 +1,5 @@
 use Rattle.std.proofs.Common.{◌≡◌, ◌+◌, ◌∷◌, length, take, map}
-use Rattle.pdc_cfg.specs.Section.{fields_of_view, fields_of_section}
+use Rattle.pdc_row.specs.pdc_cfg.Section.{fields_of_view, fields_of_section}
 use Rattle.pdc_output.proofs.layout_frame.config_of.Given as goal
 
 abbrev pub invariant-loop-section : goal.invariant-loop-section

@@ -1,5 +1,5 @@
 use Rattle.std.proofs.Common.{List, ℕ, [], ◌∷◌, ◌++◌, ap, ◌∙◌, append_assoc}
-use Rattle.pdc_block.specs.Block.{bytes_of_words}
+use Rattle.pdc_row.specs.pdc_block.Block.{bytes_of_words}
 use Rattle.pdc_output.specs.Layout.{stamp_words}
 use Rattle.pdc_output.proofs.row_frame.append_own_block.Goals as goal
 

@@ -1,6 +1,6 @@
 use Rattle.std.proofs.lemmas.Bool.{false≢true}
 use Rattle.std.proofs.Common.{ℕ, ◌+◌, List, ◌++◌, length, ap, ◌∙◌, arith}
-use Rattle.pdc_frame.specs.Frame.{Fields, header_of}
+use Rattle.pdc_row.specs.pdc_frame.Frame.{Fields, header_of}
 use Rattle.pdc_row.specs.RowView.{RowView, row_view}
 use Rattle.pdc_tag.specs.Tag.{tag_of}
 use Rattle.pdc_output.specs.Layout.{row_fields}

@@ -1,7 +1,7 @@
 use Rattle.std.proofs.Common.{List, ℕ, length, map, ap, arith, length-append}
 use Rattle.std.specs.List.{flat_map}
-use Rattle.pdc_block.specs.declared.block.Block.{Block}
-use Rattle.pdc_block.specs.Block.{bytes_of_blocks, bytes_of_words, words_of}
+use Rattle.pdc_row.specs.pdc_block.declared.block.Block.{Block}
+use Rattle.pdc_row.specs.pdc_block.Block.{bytes_of_blocks, bytes_of_words, words_of}
 use Rattle.pdc_row.specs.CellView.{BlockView, block_view}
 use Rattle.pdc_output.specs.Layout.{own_block}
 use Rattle.pdc_output.proofs.RowFrames.{same_blocks}

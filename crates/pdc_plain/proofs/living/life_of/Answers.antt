@@ -2,7 +2,7 @@ use Rattle.std.proofs.Common.{◌*◌, ◌<◌}
 use Rattle.std.proofs.lemmas.List.Elements.{All-from_recursion}
 use Rattle.pdc_row.specs.RowView.{row_instants}
 use Rattle.pdc_life.specs.Life.{popped}
-use Rattle.pdc_past.specs.Views.{given_view, life_view}
+use Rattle.pdc_plain_steps.specs.Views.{given_view, life_view}
 use Rattle.pdc_plain.proofs.living.life_of.Goals as goal
 
 pub invariant_of-result : goal.invariant_of-result

@@ -1,5 +1,5 @@
 use Rattle.std.proofs.Common.{map, take}
-use Rattle.pdc_past.specs.Views.{life_view, step_view}
+use Rattle.pdc_plain_steps.specs.Views.{life_view, step_view}
 use Rattle.pdc_plain.specs.Views.{IsMergerLifeOf}
 use Rattle.pdc_plain.proofs.living.live_merger.Given as goal
 

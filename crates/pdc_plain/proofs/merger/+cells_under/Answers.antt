@@ -6,9 +6,9 @@ use Rattle.pdc_cfg.specs.Section.{SectionFields, fields_of_view}
 use Rattle.pdc_row.specs.CellView.{CellView}
 use Rattle.pdc_life.specs.Merger.{is_in_force, merged_cells}
 use Rattle.pdc_life.specs.Node.{cell_under}
-use Rattle.pdc_past.specs.Views.{given_view, life_view, part_view}
-use Rattle.pdc_reading.specs.Views.{section_part}
-use Rattle.pdc_reading.specs.declared.arrival.ColumnSection.{ColumnSection}
+use Rattle.pdc_plain_steps.specs.Views.{given_view, life_view, part_view}
+use Rattle.pdc_arrival.specs.Views.{section_part}
+use Rattle.pdc_arrival.specs.declared.arrival.ColumnSection.{ColumnSection}
 use Rattle.pdc_plain.proofs.Merged.{merged_step}
 use Rattle.pdc_plain.proofs.merger.+cells_under.Goals as goal
 

@@ -3,7 +3,7 @@ use Rattle.std.specs.Prelude.{IfOk}
 use Rattle.pdc_life.specs.Answer.{answer_in_time}
 use Rattle.pdc_life.specs.Life.{Answer}
 use Rattle.pdc_life.specs.Merger.{HeldLayout, merged_data_answer}
-use Rattle.pdc_past.specs.Views.{answer_view, given_view, life_view}
+use Rattle.pdc_plain_steps.specs.Views.{answer_view, given_view, life_view}
 use Rattle.pdc_plain.specs.Views.{layout_view}
 use Rattle.pdc_plain.proofs.Merged.{merged_taken}
 use Rattle.pdc_plain.proofs.merger.data_answer.Goals as goal

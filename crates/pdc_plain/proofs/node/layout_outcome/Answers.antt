@@ -5,9 +5,9 @@ use Rattle.pdc_life.specs.Answer.{bare}
 use Rattle.pdc_life.specs.Arrival.{Layout}
 use Rattle.pdc_life.specs.Given.{count_for}
 use Rattle.pdc_life.specs.Node.{node_answer, section_answer}
-use Rattle.pdc_past.specs.Views.{given_view, life_view}
-use Rattle.pdc_reading.specs.Views.{section_part}
-use Rattle.pdc_reading.specs.declared.arrival.ColumnSection.{ColumnSection}
+use Rattle.pdc_plain_steps.specs.Views.{given_view, life_view}
+use Rattle.pdc_arrival.specs.Views.{section_part}
+use Rattle.pdc_arrival.specs.declared.arrival.ColumnSection.{ColumnSection}
 use Rattle.pdc_plain.proofs.node.layout_outcome.Goals as goal
 
 -- the only section of a layout

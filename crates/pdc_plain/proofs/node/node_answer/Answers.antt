@@ -2,10 +2,10 @@ use Rattle.std.proofs.Common.{◌∙◌, List, ap, map, sym}
 use Rattle.std.specs.Prelude.{option_map}
 use Rattle.pdc_life.specs.Arrival.{Layout}
 use Rattle.pdc_life.specs.Node.{node_answer}
-use Rattle.pdc_past.specs.Views.{given_view, life_view}
-use Rattle.pdc_reading.specs.Views.{arrival_view, section_part, stamp_view}
-use Rattle.pdc_reading.specs.declared.arrival.Arrival.{Arrival}
-use Rattle.pdc_reading.specs.declared.arrival.ColumnSection.{ColumnSection}
+use Rattle.pdc_plain_steps.specs.Views.{given_view, life_view}
+use Rattle.pdc_arrival.specs.Views.{arrival_view, section_part, stamp_view}
+use Rattle.pdc_arrival.specs.declared.arrival.Arrival.{Arrival}
+use Rattle.pdc_arrival.specs.declared.arrival.ColumnSection.{ColumnSection}
 use Rattle.pdc_plain.proofs.node.node_answer.Goals as goal
 
 pub returns-in-Layout : goal.returns-in-Layout

@@ -4,7 +4,7 @@ use Rattle.pdc_cfg.specs.Section.{SectionFields, fields_of_view}
 use Rattle.pdc_output.specs.Layout.{layout_wire_of}
 use Rattle.pdc_life.specs.Life.{changes}
 use Rattle.pdc_life.specs.Published.{sections_in_force}
-use Rattle.pdc_past.specs.Views.{given_view, life_view}
+use Rattle.pdc_plain_steps.specs.Views.{given_view, life_view}
 use Rattle.pdc_plain.proofs.publishing.append_layout_of.Goals as goal
 
 pub returns-clause-ok : goal.returns-clause-ok

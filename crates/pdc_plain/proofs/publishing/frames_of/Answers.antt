@@ -6,7 +6,7 @@ use Rattle.pdc_row.specs.declared.due_row.DueRow.{DueRow}
 use Rattle.pdc_output.specs.declared.output.Output.{Output}
 use Rattle.pdc_output.specs.Layout.{wire_of}
 use Rattle.pdc_life.specs.Published.{published}
-use Rattle.pdc_past.specs.Views.{given_view, life_view}
+use Rattle.pdc_plain_steps.specs.Views.{given_view, life_view}
 use Rattle.pdc_plain.proofs.publishing.frames_of.Goals as goal
 
 low_at : (top : ℕ) (rows : List DueRow) (k : ℕ) (d : DueRow) → All (λ n. n < top) (row_instants (map row_view rows)) → k < length rows → (slice_index_or rows k d).instant < top

@@ -4,7 +4,7 @@ use Rattle.std.proofs.lemmas.Bool.{eq-eqb}
 use Rattle.std.proofs.lemmas.List.{drop_all}
 use Rattle.pdc_block.specs.Block.{words_in}
 use Rattle.pdc_block.proofs.Bodies.{word_in, words_count}
-use Rattle.pdc_cfg.specs.Shape.{word_count_of}
+use Rattle.pdc_block.specs.pdc_cfg.Shape.{word_count_of}
 use Rattle.pdc_row.proofs.SameWords.{none, rest}
 use Rattle.pdc_row.proofs.offered.have_words.Goals as goal
 

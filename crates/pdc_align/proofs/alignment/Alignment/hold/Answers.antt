@@ -1,5 +1,5 @@
 use Rattle.std.proofs.Common.{map}
-use Rattle.pdc_reading.specs.Views.{section_part}
+use Rattle.pdc_arrival.specs.Views.{section_part}
 use Rattle.pdc_align.proofs.Follows.{layout_follows}
 use Rattle.pdc_align.proofs.alignment.Alignment.hold.Goals as goal
 

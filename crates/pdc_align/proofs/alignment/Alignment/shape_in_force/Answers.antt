@@ -2,7 +2,7 @@ use Rattle.std.proofs.Common.{ap, get_or, ◌∙◌}
 use Rattle.pdc_align.specs.Align.{AlignmentView, ColumnState}
 use Rattle.pdc_align.proofs.Follows.{column_at}
 use Rattle.pdc_align.proofs.alignment.Alignment.shape_in_force.Goals as goal
-use Rattle.pdc_state.specs.State.{shape_in}
+use Rattle.pdc_align.specs.State.{shape_in}
 
 pub returns : goal.returns
 returns g c life E stands =

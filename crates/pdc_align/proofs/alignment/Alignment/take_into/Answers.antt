@@ -1,5 +1,5 @@
 use Rattle.std.proofs.Common.{◌∙◌, sym, ap}
-use Rattle.pdc_row.specs.RowView.{row_view}
+use Rattle.pdc_arrival.specs.pdc_row.RowView.{row_view}
 use Rattle.pdc_table.specs.KeptRow.{popped_into}
 use Rattle.pdc_align.proofs.Popped.{popped_rest}
 use Rattle.pdc_align.proofs.alignment.Alignment.take_into.Goals as goal

@@ -1,6 +1,6 @@
 use Rattle.std.proofs.Common.{List, ap, sym, ◌∙◌}
 use Rattle.std.proofs.lemmas.Simd.{map-map}
-use Rattle.pdc_reading.specs.Views.{section_part, stamp_view}
+use Rattle.pdc_arrival.specs.Views.{section_part, stamp_view}
 use Rattle.pdc_merge.specs.Held.{LayoutView, held_section_of}
 use Rattle.pdc_merge.specs.declared.held_layout.HeldSection.{HeldSection}
 use Rattle.pdc_merge.proofs.held_layout.HeldLayout.new.Goals as goal

@@ -2,7 +2,7 @@ use Rattle.std.proofs.Common.{◌≡◌, length, subst, sym, true}
 use Rattle.pdc_core.specs.Fits.{fits_merger}
 use Rattle.pdc_life.specs.Merger.{merged_answer}
 use Rattle.pdc_life.specs.MergerReading.{ReadsForMerger}
-use Rattle.pdc_reading.specs.Views.{arrival_view}
+use Rattle.pdc_arrival.specs.Views.{arrival_view}
 use Rattle.pdc_merge.specs.Merger.{MergerView, StandsFor}
 use Rattle.pdc_merge.proofs.Lives.{arrives, is_ready, is_whole, same_place}
 use Rattle.pdc_merge.proofs.Passed.{passed}

@@ -3,9 +3,9 @@ use Rattle.pdc_core.specs.Fits.{fits_merger}
 use Rattle.pdc_core.specs.Said.{said_fits_merger}
 use Rattle.pdc_life.specs.Arrival.{Data}
 use Rattle.pdc_life.specs.MergerReading.{ReadsForMerger}
-use Rattle.pdc_reading.specs.Heard.{SaysData}
-use Rattle.pdc_reading.specs.Views.{arrival_view}
-use Rattle.pdc_reading.specs.declared.from_node.Heard.{Heard}
+use Rattle.pdc_arrival.specs.Heard.{SaysData}
+use Rattle.pdc_arrival.specs.Views.{arrival_view}
+use Rattle.pdc_arrival.specs.declared.from_node.Heard.{Heard}
 use Rattle.pdc_merge.specs.Merger.{MergerView}
 use Rattle.pdc_merge.proofs.merger.MergerCore.put_datagram.Goals as goal
 

@@ -1,7 +1,7 @@
 use Rattle.std.proofs.Common.{◌≡◌, length, subst, sym, true}
 use Rattle.pdc_core.specs.Fits.{fits_node}
 use Rattle.pdc_life.specs.Node.{ReadsFor, node_answer}
-use Rattle.pdc_reading.specs.Views.{arrival_view}
+use Rattle.pdc_arrival.specs.Views.{arrival_view}
 use Rattle.pdc_node.specs.Node.{NodeView, StandsFor}
 use Rattle.pdc_node.proofs.Lives.{arrives, same_sizes}
 use Rattle.pdc_node.proofs.Passed.{passed_own, passed_ready}

@@ -3,7 +3,7 @@ use Rattle.pdc_life.specs.Arrival.{Arrival, Data}
 use Rattle.pdc_life.specs.Node.{ReadsFor}
 use Rattle.pdc_life.specs.Views.{arrival_view as reading_view}
 use Rattle.pdc_life.specs.declared.reading.Reading.{Reading}
-use Rattle.pdc_reading.specs.Views.{arrival_view}
+use Rattle.pdc_arrival.specs.Views.{arrival_view}
 use Rattle.pdc_node.specs.Node.{NodeView}
 use Rattle.pdc_node.proofs.node.NodeCore.put_datagram.Goals as goal
 

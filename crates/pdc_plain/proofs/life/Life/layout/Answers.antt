@@ -1,8 +1,8 @@
 use Rattle.std.proofs.Common.{◌≡◌, ◌++◌, List, subst}
 use Rattle.std.specs.Prelude.{OnOk}
 use Rattle.pdc_life.specs.Published.{layout_wire}
-use Rattle.pdc_past.specs.Views.{given_view, life_view}
-use Rattle.pdc_past.specs.declared.steps.Answered.{Answered}
+use Rattle.pdc_plain_steps.specs.Views.{given_view, life_view}
+use Rattle.pdc_plain_steps.specs.declared.steps.Answered.{Answered}
 use Rattle.pdc_plain.proofs.life.Life.layout.Goals as goal
 
 pub returns-clause-ok : goal.returns-clause-ok

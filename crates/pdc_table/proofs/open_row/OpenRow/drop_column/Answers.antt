@@ -20,7 +20,7 @@ bounds-deref_mut-column c = omega (arith, c.requires, count c, ap length c.deref
 
 pub returns : goal.returns
 returns c =
-    ap (λ columns. record { instant = c.self.inside.instant; age = c.self.inside.age; taken = c.self.inside.taken.items; columns = columns }) (one_dropped c.self.inside.held.items c.deref_mut.result.now c.self.inside.first c.self.inside.second c.args.column c.deref_mut.ensures.value
+    ap (λ columns. record { instant = c.self.inside.instant; age = 0; taken = c.self.inside.taken.items; columns = columns }) (one_dropped c.self.inside.held.items c.deref_mut.result.now c.self.inside.first c.self.inside.second c.args.column c.deref_mut.ensures.value
     (omega (
       arith,
       c.requires,

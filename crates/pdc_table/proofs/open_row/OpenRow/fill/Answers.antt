@@ -1,7 +1,7 @@
 use Rattle.std.proofs.Common.{◌≡◌, ◌+◌, ◌++◌, ◌∙◌, List, Option, None, Some, ap, append-nil, arith, drop, get_or, length, map, refl, sym, take}
 use Rattle.std.specs.List.{refill}
 use Rattle.std.proofs.lemmas.List.{get_or_default}
-use Rattle.pdc_cfg.specs.declared.shape.Shape.{Shape}
+use Rattle.pdc_row.specs.pdc_cfg.declared.shape.Shape.{Shape}
 use Rattle.pdc_row.specs.CellView.{block_view}
 use Rattle.pdc_row.specs.Quality.{worst_of}
 use Rattle.pdc_table.specs.OpenRowParts.{columns_of, worst_kept}

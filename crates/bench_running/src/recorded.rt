@@ -1,0 +1,115 @@
+//! What a hub does for each datagram, on one thread: it is read and kept, and then, under the lock, taken by the core and recorded.
+ghost use Rattle.std.specs.Prelude.{◌≡◌, Some, [], length};
+ghost use Rattle.pdc_life.specs.Given.{given_of};
+ghost use Rattle.pdc_node.specs.Node.{StandsFor};
+
+use crate::frames::{FLOOR, Frames};
+use pdc_core::Reads;
+use pdc_hub::{Naming, Replayed};
+use pdc_life::{MAX_PMUS, Settings};
+use pdc_node::{Node, copy_of};
+use pdc_service::MAX_LIMIT;
+use pdc_table::RingTable;
+use std::alloc::Global;
+use std::marker::Brand;
+use std::rt::Clock;
+use std::time::{Duration, Instant};
+
+/// All counts may be adopted.
+const CLEARED: [u16; MAX_PMUS] = [u16::MAX; MAX_PMUS];
+
+/// Reads and keeps each frame, and answers how many there were.
+fn keep_all(alloc: Global, settings: &Settings, frames: &Frames) -> u64 {
+    let mut kept = 0u64;
+    for number in 0..=frames.count as usize {
+        for (stream, list) in frames.streams.iter().enumerate() {
+            if stream < settings.pmus.len() && number < list.len() {
+                if settings.read_kept(alloc, stream, &list[number]).is_ok() {
+                    kept = kept.saturating_add(1);
+                }
+            }
+        }
+    }
+    kept
+}
+
+/// Takes the frame with this number of each PMU, ticks and pops; false where memory runs out.
+fn take_instant<N: Naming<Settings>>(
+    alloc: Global,
+    settings: &Settings,
+    core: &mut Replayed<Node<RingTable>, N>,
+    frames: &Frames,
+    number: u32,
+) -> bool
+    requires { N.settings ≡ Some settings.now }
+{
+    for (stream, list) in frames.streams.iter().enumerate() {
+        if stream < settings.pmus.len() && (number as usize) < list.len() {
+            let Ok(taken) = settings.read_kept(alloc, stream, &list[number as usize]) else {
+                return false;
+            };
+            if core.arrive(stream, taken).is_err() {
+                return false;
+            }
+        }
+    }
+    let now = FLOOR.saturating_add(u64::from(number));
+    if core.tick(now, &CLEARED).is_err() {
+        return false;
+    }
+    core.pop().is_ok()
+}
+
+/// The same over two nodes that were opened alike: one is the base, the other the state. False where memory runs out.
+fn record_all<N: Naming<Settings>>(
+    alloc: Global,
+    settings: &Settings,
+    counts: &[u16; MAX_PMUS],
+    base: Node<RingTable>,
+    state: Node<RingTable>,
+    frames: &Frames,
+) -> bool
+    requires given { N.given ≡ Some (given_of settings.now 1 FLOOR counts.now 0) }
+    requires alike { StandsFor (given_of settings.now 1 FLOOR counts.now 0) [] base × StandsFor (given_of settings.now 1 FLOOR counts.now 0) [] state }
+    requires settings { (N.settings ≡ Some settings.now) × (base.settings ≡ settings.now) × (state.settings ≡ settings.now) }
+{
+    let mut core = Replayed::<Node<RingTable>, N>::new(alloc, base, state, MAX_LIMIT);
+    for number in 0..=frames.count {
+        if !take_instant(alloc, settings, &mut core, frames, number) {
+            return false;
+        }
+    }
+    true
+}
+
+/// The same over a node of these settings; false where memory runs out.
+fn open_and_record(alloc: Global, settings: &Settings, frames: &Frames) -> bool {
+    let counts = [0; MAX_PMUS];
+    let Ok(base) = Node::open(alloc, copy_of(settings), 1, FLOOR, &counts, 0) else {
+        return false;
+    };
+    let Ok(state) = Node::open(alloc, copy_of(settings), 1, FLOOR, &counts, 0) else {
+        return false;
+    };
+    record_all::<Brand>(alloc, settings, &counts, base, state, frames)
+}
+
+/// How long it took to read and keep all frames, and to record them besides; none where memory runs out or the clock cannot be read.
+pub fn run_recorded<R: Clock>(
+    rt: &R,
+    alloc: Global,
+    settings: &Settings,
+    frames: &Frames,
+) -> Option<(Duration, Duration)> {
+    let begun = Instant::now(rt).ok()?;
+    let kept = keep_all(alloc, settings, frames);
+    let reading = begun.elapsed(rt).ok()?;
+    let begun = Instant::now(rt).ok()?;
+    let is_whole = open_and_record(alloc, settings, frames);
+    let recording = begun.elapsed(rt).ok()?;
+    if kept > 0 && is_whole {
+        Some((reading, recording))
+    } else {
+        None
+    }
+}

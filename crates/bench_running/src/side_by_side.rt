@@ -1,0 +1,73 @@
+//! The run of a node with a thread for each of sixteen sources.
+ghost use Rattle.std.specs.Prelude.{◌≡◌, vec_len, IfSome};
+
+use crate::feed::{Discard, Feed, Following};
+use crate::frames::{FLOOR, Frames};
+use pdc_life::Settings;
+use pdc_mark::ModelMark;
+use pdc_service::{Begun, MAX_LIMIT, Plan, run_node};
+use pdc_threads::Totals;
+use std::alloc::Global;
+use std::sync::Wait;
+use std::sync::atomic::AtomicU64;
+use std::thread::Threads;
+
+/// How a run is paced.
+fn plan() -> Plan {
+    Plan {
+        lead: 0,
+        layout_every: 1000,
+        limit: MAX_LIMIT,
+    }
+}
+
+/// A counter for each stream.
+fn counters(alloc: Global, count: usize) -> Option<Vec<AtomicU64>> {
+    let mut counters = Vec::new(alloc);
+    for _ in 0..count {
+        if counters.push(AtomicU64::new(0)).is_err() {
+            return None;
+        }
+    }
+    Some(counters)
+}
+
+/// A source for each stream.
+fn feeds<'a>(
+    alloc: Global,
+    frames: &'a Frames,
+    delivered: &'a [AtomicU64],
+    released: &'a AtomicU64,
+) -> Option<Vec<Feed<'a>>> {
+    let mut feeds = Vec::new(alloc);
+    for (stream, counter) in frames.streams.iter().zip(delivered) {
+        if feeds.push(Feed::new(stream, counter, released)).is_err() {
+            return None;
+        }
+    }
+    Some(feeds)
+}
+
+/// Runs the node over all frames, and answers its totals; none where it ended early.
+pub fn run_side_by_side<R: Threads + Wait + Sync>(
+    rt: &R,
+    alloc: Global,
+    settings: &Settings,
+    frames: &Frames,
+) -> Option<Totals> {
+    let delivered = counters(alloc, frames.streams.len())?;
+    let released = AtomicU64::new(0);
+    let sources = feeds(alloc, frames, &delivered, &released)?;
+    if sources.len() != settings.pmus.len() {
+        return None;
+    }
+    let Ok(mark) = Begun::new(ModelMark::new(0, FLOOR)) else {
+        return None;
+    };
+    let ticker = Following::new(&delivered, &released, u64::from(frames.count) + 1);
+    let ran = run_node(rt, alloc, settings, &plan(), mark, sources, ticker, Discard);
+    match ran.outcome {
+        Ok(totals) => Some(totals),
+        Err(_) => None,
+    }
+}

@@ -1,3 +1,0 @@
-mod Counting
-mod Words
-mod Worked

@@ -1,3 +1,0 @@
-pub mod Counts
-pub mod Stamps
-pub mod Words

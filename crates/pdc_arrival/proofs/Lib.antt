@@ -1,0 +1,13 @@
+pub mod Beside
+pub mod Listed
+pub mod OwnStamp
+mod Counting
+mod Words
+mod Worked
+pub use Rattle.pdc_life.proofs as pdc_life
+pub use Rattle.pdc_life.proofs.pdc_output
+pub use Rattle.pdc_life.proofs.pdc_row
+pub use Rattle.pdc_life.proofs.pdc_block
+pub use Rattle.pdc_life.proofs.pdc_cfg
+pub use Rattle.pdc_life.proofs.pdc_frame
+pub use Rattle.pdc_life.proofs.pdc_tag

@@ -1,0 +1,28 @@
+-- What contracts see of an arrival that was kept (this profile).
+use Rattle.std.specs.Prelude.{ℕ, Bool, true, false, List, length, map, nat_le, option_map}
+use Rattle.pdc_align.specs.pdc_cfg.Section.{SectionFields, fields_of_section}
+use Rattle.pdc_core.specs.declared.payload.Payload.{Payload}
+use Rattle.pdc_core.specs.declared.payload.Payload.TheVariants as payload
+use Rattle.pdc_core.specs.declared.kept_layout.KeptSection.{KeptSection}
+use Rattle.pdc_core.specs.declared.kept_arrival.KeptArrival.{KeptArrival as KeptArrivalData}
+use Rattle.pdc_core.specs.declared.kept_arrival.KeptArrival.TheVariants as taken
+use Rattle.pdc_align.specs.pdc_life.Arrival.{Arrival, BytesRefused, Data, Layout}
+use Rattle.pdc_align.specs.pdc_arrival.Views.{stamp_view}
+
+abbrev pub bytes_of : Payload → List ℕ
+bytes_of (payload.Short bytes) = bytes.items
+bytes_of (payload.Long bytes) = bytes.items
+
+abbrev pub kept_part : KeptSection → ℕ × SectionFields
+kept_part kept = (kept.column, fields_of_section kept.section)
+
+abbrev pub taken_view : KeptArrivalData → Arrival
+taken_view (taken.BytesRefused refusal) = BytesRefused refusal
+taken_view (taken.Data instant quality bytes) = Data instant quality (bytes_of bytes)
+taken_view (taken.Layout kept) = Layout (option_map stamp_view kept.stamp) (map kept_part kept.sections.items)
+
+-- a copy of it lies in place: refused bytes, and data that is no longer than a PMU's
+abbrev pub takes_no_memory : Arrival → Bool
+takes_no_memory (BytesRefused refusal) = true
+takes_no_memory (Data instant quality payload) = nat_le (length payload) 214
+takes_no_memory (Layout stamp sections) = false

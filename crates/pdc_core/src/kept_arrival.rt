@@ -1,0 +1,107 @@
+//! What arrived, with its bytes kept: it can be handed on where what was read would not live.
+ghost use Rattle.std.specs.Prelude.{◌≡◌, ◌≤◌, IfOk, IsOk, length, map, true};
+ghost use Rattle.pdc_core.specs.KeptArrival.{kept_part, taken_view, takes_no_memory};
+ghost use Rattle.pdc_align.specs.pdc_arrival.Views.{arrival_view, section_part};
+
+use crate::{KeptLayout, KeptSection, Payload};
+use arrayvec::ArrayVec;
+use pdc_align::{Arrival, ColumnSection, MAX_PMUS, Refusal};
+use std::alloc::{AllocError, Global};
+
+/// What bytes said that arrived for a stream.
+#[derive(Debug, Drop)]
+pub enum KeptArrival {
+    /// They are refused.
+    BytesRefused(Refusal),
+    /// A data frame of the stream.
+    Data {
+        /// The instant of its tag.
+        instant: u64,
+        /// Its time quality byte.
+        quality: u8,
+        /// What stands between FRACSEC and CHK.
+        payload: Payload,
+    },
+    /// A configuration of the stream.
+    Layout(KeptLayout),
+}
+
+/// Copies of the sections.
+fn kept(alloc: Global, sections: &[ColumnSection<'_>]) -> Result<Vec<KeptSection>, AllocError>
+    ensures { IfOk result (λ copies. map kept_part copies.items ≡ map section_part sections.now) }
+{
+    let mut copies = Vec::with_capacity(alloc, sections.len())?;
+    for part in sections {
+        copies.push_reserved(KeptSection {
+            column: part.column,
+            section: part.section.to_section(),
+        });
+    }
+    Ok(copies)
+}
+
+/// The sections as they were read.
+fn lent(sections: &[KeptSection]) -> ArrayVec<ColumnSection<'_>, MAX_PMUS>
+    requires { length sections.now ≤ 16 }
+    ensures { map section_part result.items ≡ map kept_part sections.now }
+{
+    let mut parts = ArrayVec::new();
+    for kept in sections {
+        parts.push(ColumnSection {
+            column: kept.column,
+            section: kept.section.view(),
+        });
+    }
+    parts
+}
+
+impl KeptArrival {
+    /// A copy of what arrived.
+    ///
+    /// # Errors
+    ///
+    /// [`AllocError`] where there is no memory. Refused bytes and data of at most 214 bytes take none.
+    pub fn keep(alloc: Global, arrival: &Arrival<'_>) -> Result<KeptArrival, AllocError>
+        ensures same { IfOk result (λ taken. taken_view taken ≡ arrival_view arrival.now) }
+        ensures in_place { takes_no_memory (arrival_view arrival.now) ≡ true → IsOk result }
+    {
+        match arrival {
+            Arrival::BytesRefused(refusal) => Ok(KeptArrival::BytesRefused(*refusal)),
+            Arrival::Data {
+                instant,
+                quality,
+                payload,
+            } => Ok(KeptArrival::Data {
+                instant: *instant,
+                quality: *quality,
+                payload: Payload::of(alloc, payload)?,
+            }),
+            Arrival::Layout { stamp, sections } => Ok(KeptArrival::Layout(KeptLayout {
+                stamp: *stamp,
+                sections: kept(alloc, sections.as_slice())?,
+            })),
+        }
+    }
+
+    /// What arrived.
+    pub fn view(&self) -> Arrival<'_>
+        ensures { arrival_view result ≡ taken_view self.now }
+    {
+        match self {
+            KeptArrival::BytesRefused(refusal) => Arrival::BytesRefused(*refusal),
+            KeptArrival::Data {
+                instant,
+                quality,
+                payload,
+            } => Arrival::Data {
+                instant: *instant,
+                quality: *quality,
+                payload: payload.as_slice(),
+            },
+            KeptArrival::Layout(layout) => Arrival::Layout {
+                stamp: layout.stamp,
+                sections: lent(layout.sections.as_slice()),
+            },
+        }
+    }
+}

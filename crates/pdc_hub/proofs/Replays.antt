@@ -1,0 +1,96 @@
+-- Steps of a recorder, on plain variables.
+use Rattle.std.proofs.Common.{arith, ◌≡◌, ℕ, Bool, true, List, [], ◌∷◌, ◌++◌, Option, Some, refl, sym, ap, ◌∙◌, subst}
+use Rattle.std.proofs.Math.Logic.{∥∥₁_map}
+use Rattle.std.proofs.lemmas.Option.{same_Some}
+use Rattle.std.proofs.lemmas.Grind.{common_steps}
+use Rattle.std.specs.List.{list_all}
+use Rattle.pdc_core.specs.Step.{IsOf}
+use Rattle.pdc_core.specs.declared.step.CoreStep.{CoreStep}
+use Rattle.pdc_life.specs.Answer.{IsReadStep, ReadStep, Rules, answered, life_from}
+use Rattle.pdc_life.specs.Arrival.{Arrival}
+use Rattle.pdc_life.specs.Given.{Given}
+use Rattle.pdc_life.specs.Life.{Entry}
+use Rattle.pdc_hub.specs.Replay.{AreRead, Follows, InSomeLife, Lives, Replaying, Replays, Sayings, WasRead}
+
+-- one step more, at the end
+life_after : (rules : Rules) (g : Given) (E : List Entry) (reads : List ReadStep) (read : ReadStep)
+    → life_from rules g E (reads ++ read ∷ []) ≡ answered rules g (life_from rules g E reads) read ∷ life_from rules g E reads
+life_after rules g E [] read = refl
+life_after rules g E (r ∷ reads) read = life_after rules g (answered rules g E r ∷ E) reads read
+
+read_after : (Says : Sayings) (steps : List CoreStep) (reads : List ReadStep) (step : CoreStep) (read : ReadStep)
+    → IsOf step read → IsReadStep Says read → AreRead Says steps reads → AreRead Says (steps ++ step ∷ []) (reads ++ read ∷ [])
+read_after Says [] [] step read is says h = (is, says, tt)
+read_after Says [] (r ∷ reads) step read is says h = absurd h
+read_after Says (s ∷ steps) [] step read is says h = absurd h
+read_after Says (s ∷ steps) (r ∷ reads) step read is says h = (h.0, h.1, read_after Says steps reads step read is says h.2)
+
+-- the step that was added comes last
+pub extended : (rules : Rules) (Says : Sayings) (Before Middle After : Lives) (steps : List CoreStep) (step : CoreStep)
+    → Replaying rules Says Before Middle steps
+    → ((g : Given) (E : List Entry) (read : ReadStep) → IsOf step read → IsReadStep Says read → Middle g E → After g (answered rules g E read ∷ E))
+    → Replaying rules Says Before After (steps ++ step ∷ [])
+extended rules Says Before Middle After [] step before makes g E [] read b = absurd read
+extended rules Says Before Middle After [] step before makes g E (r ∷ []) read b = makes g E r read.0 read.1 (before g E [] tt b)
+extended rules Says Before Middle After [] step before makes g E (r ∷ s ∷ reads) read b = absurd read.2
+extended rules Says Before Middle After (x ∷ steps) step before makes g E [] read b = absurd read
+extended rules Says Before Middle After (x ∷ steps) step before makes g E (r ∷ reads) read b =
+    extended rules Says (λ h F. (h ≡ g) × (F ≡ answered rules g E r ∷ E)) Middle After steps step
+    (λ h F rs are at. subst (λ (y : Given × List Entry). Middle y.0 (life_from rules y.0 y.1 rs)) (λ i. (sym at.0 i, sym at.1 i))
+    (before g E (r ∷ rs) (read.0, read.1, are) b)) makes g (answered rules g E r ∷ E) reads read.2 (refl, refl)
+
+pub replays_nothing : (rules : Rules) (Says : Sayings) (Before : Lives) → Replaying rules Says Before Before []
+replays_nothing rules Says Before g E [] read b = b
+replays_nothing rules Says Before g E (r ∷ reads) read b = absurd read
+
+-- at the start nothing is replayed
+pub opened : (rules : Rules) (Says : Sayings) (named : Option Given) (Base State : Lives) (steps : List CoreStep) → steps ≡ [] → (g : Given) → named ≡ Some g → Base g [] → State g []
+    → Replays rules Says named Base State steps
+opened rules Says named Base State steps e g is b s = record { given = g; is_named = is; life = []; based = b; reads = []; read = subst (λ (l : List CoreStep). AreRead Says l []) (sym e) tt; reached = s }
+
+-- a step that the state follows is replayed too
+pub grown : (rules : Rules) (Says : Sayings) (named : Option Given) (Base State After : Lives) (steps more : List CoreStep) (step : CoreStep) (read : ReadStep)
+    → more ≡ steps ++ step ∷ [] → IsOf step read → IsReadStep Says read → Follows rules State After read
+    → Replays rules Says named Base State steps → Replays rules Says named Base After more
+grown rules Says named Base State After steps more step read e is says follows r = record {
+  given = r.given;
+  is_named = r.is_named;
+  life = r.life;
+  based = r.based;
+  reads = r.reads ++ read ∷ [];
+  read = subst (λ (l : List CoreStep). AreRead Says l (r.reads ++ read ∷ [])) (sym e) (read_after Says steps r.reads step read is says r.read);
+  reached = subst (λ (l : List Entry). After r.given l) (sym (life_after rules r.given r.life r.reads read)) (follows r.given (life_from rules r.given r.life r.reads) r.reached);
+}
+
+-- the base is brought up by all steps
+pub rebased : (rules : Rules) (Says Now : Sayings) (named : Option Given) (Base State After : Lives) (steps none : List CoreStep)
+    → none ≡ [] → Replaying rules Says Base After steps → Replays rules Says named Base State steps → Replays rules Now named After State none
+rebased rules Says Now named Base State After steps none e replaying r = record {
+  given = r.given;
+  is_named = r.is_named;
+  life = life_from rules r.given r.life r.reads;
+  based = replaying r.given r.life r.reads r.read r.based;
+  reads = [];
+  read = subst (λ (l : List CoreStep). AreRead Now l []) (sym e) tt;
+  reached = r.reached;
+}
+
+-- what is named is one thing
+pub here : {S : Type 0} (named : Option S) (a b : S) → named ≡ Some a → named ≡ Some b → a ≡ b
+here named a b p q = same_Some a b (sym p ∙ q)
+
+-- what is true of whatever life the core stands for was true of one
+pub in_some_life : {C : Type 0} (rules : Rules) (Says : Sayings) (Stands : C → Lives) (named : Option Given) (Base : Lives) (core : C) (steps : List CoreStep)
+    (Fact : C → Given → List Entry → Type 0) → ((g : Given) (E : List Entry) → Stands core g E → Fact core g E)
+    → Replays rules Says named Base (Stands core) steps → InSomeLife Stands named Fact
+in_some_life rules Says Stands named Base core steps Fact holds r = record {
+  core = core;
+  given = r.given;
+  is_named = r.is_named;
+  life = life_from rules r.given r.life r.reads;
+  stands = r.reached;
+  fact = holds r.given (life_from rules r.given r.life r.reads) r.reached;
+}
+
+pub all_more : {E : Type 0} (test : E → Bool) (es more : List E) (e : E) → more ≡ es ++ e ∷ [] → list_all test es ≡ true → test e ≡ true → list_all test more ≡ true
+all_more test es more e is h may = grind (arith, common_steps)

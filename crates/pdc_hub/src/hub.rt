@@ -1,0 +1,200 @@
+//! The lock round a recorder.
+ghost use Rattle.std.specs.Prelude.{◌≡◌, ◌+◌, ◌*◌, ◌^◌, ◌<◌, ◌≤◌, ◌++◌, ℕ, Err, IfErr, IfOk, IfSome, List, None, Ok, OnErr, OnOk, Option, Some, [], option_map, true, false};
+ghost use Rattle.pdc_core.specs.Step.{ticked_of};
+ghost use Rattle.pdc_core.specs.KeptArrival.{taken_view};
+ghost use Rattle.pdc_life.specs.Answer.{pop_answer, tick_answer, waiting_counts};
+ghost use Rattle.pdc_life.specs.Given.{Given};
+ghost use Rattle.pdc_life.specs.Life.{Entry, changes};
+ghost use Rattle.pdc_life.specs.Published.{layout_wire};
+ghost use Rattle.pdc_hub.specs.Counted.{CountsAtLeast, configurations, configured_by, refused_by, taken_by};
+ghost use Rattle.pdc_hub.specs.Faults.{IsOfDelivery};
+ghost use Rattle.pdc_hub.specs.Replay.{InSomeLife, WasRead};
+ghost use Rattle.pdc_row.specs.RowView.{row_view};
+ghost use Rattle.pdc_tag.specs.declared.limits.TheConstants.{SECONDS};
+
+use crate::fault::HubFault;
+use crate::naming::Naming;
+use crate::recorder::Recorder;
+use crate::shares::{Blanks, Books, Shares};
+use pdc_core::{Core, Counts, KeptArrival, Ticked};
+use pdc_frame::Buffer;
+use pdc_life::{MAX_PMUS, Outcome};
+use pdc_row::DueRow;
+use std::alloc::Global;
+use std::sync::ledger::{Ledger, Share};
+use std::sync::{Mutex, Wait};
+
+/// The lock round a recorder. Each call takes it once, and may wait for it.
+#[derive(Drop)]
+pub struct Hub<C: Core + Drop, N: Naming<C::Settings>, T: Ledger, F: Ledger, G: Ledger, P: Ledger> {
+    table: Mutex<Recorder<C, N, T, F, G, P>>,
+}
+
+impl<C: Core + Drop, N: Naming<C::Settings>, T: Ledger, F: Ledger, G: Ledger, P: Ledger> Hub<
+    C,
+    N,
+    T,
+    F,
+    G,
+    P,
+> {
+    /// A hub over two cores that were opened alike with this floor, with no step taken since; the shares with all parts; and the
+    /// aligner's share. The base is brought up each time that so many steps are kept.
+    pub fn new(
+        alloc: Global,
+        base: C,
+        now: C,
+        limit: usize,
+        floor: u64,
+        blanks: Blanks,
+    ) -> (Self, Shares<T, F, G>, Share<P>)
+        requires alike { (g : Given) × (N.given ≡ Some g) × C.stands_for base g [] × C.stands_for now g [] }
+        requires settings { (N.settings ≡ Some (C.settings_of base)) × (N.settings ≡ Some (C.settings_of now)) }
+        requires limit { 1 ≤ limit }
+        requires floor { C.popped_of now ≡ floor }
+        requires names { (blanks.taken.name ≡ T.name) × (blanks.refused.name ≡ F.name) × (blanks.configured.name ≡ G.name) × (blanks.top.name ≡ P.name) }
+        requires blank { (blanks.taken.parts ≡ T.parts) × (blanks.refused.parts ≡ F.parts) × (blanks.configured.parts ≡ G.parts) × (blanks.top.parts ≡ P.parts) × (0 < P.parts) }
+        ensures parts { (result.1.taken.parts ≡ T.parts) × (result.1.refused.parts ≡ F.parts) × (result.1.configured.parts ≡ G.parts) × (result.2.parts ≡ P.parts) }
+        ensures amounts { (result.1.taken.amount ≡ 0) × (result.1.refused.amount ≡ 0) × (result.1.configured.amount ≡ 0) × (result.2.amount ≡ floor) }
+    {
+        let Blanks {
+            taken,
+            refused,
+            configured,
+            top,
+        } = blanks;
+        let (taken, mine_taken) = taken.open::<T>();
+        let (refused, mine_refused) = refused.open::<F>();
+        let (configured, mine_configured) = configured.open::<G>();
+        let (mut top, mut mine_top) = top.open::<P>();
+        top.add(&mut mine_top, floor);
+        let books = Books {
+            taken,
+            refused,
+            configured,
+            top,
+        };
+        (
+            Hub {
+                table: Mutex::new(Recorder::new(alloc, base, now, limit, floor, books)),
+            },
+            Shares {
+                taken: mine_taken,
+                refused: mine_refused,
+                configured: mine_configured,
+            },
+            mine_top,
+        )
+    }
+
+    /// Adds what arrived for a stream, and counts its answer in the caller's shares. The answer is the core's in some life of what is
+    /// named, and the core had counted at least what the shares had.
+    ///
+    /// # Errors
+    ///
+    /// `CountsUsedUp` where one of the three totals is at its greatest value; `NoMemory` where there is no memory for the step. Nothing is
+    /// added then.
+    pub fn deliver<R: Wait>(
+        &self,
+        rt: &R,
+        stream: usize,
+        datagram: KeptArrival,
+        mine: &mut Shares<T, F, G>,
+    ) -> Result<Outcome, HubFault>
+        requires read { WasRead C.Settings.says C.Settings.fits N.settings stream (taken_view datagram) }
+        requires parts { (0 < mine.old.taken.parts) × (0 < mine.old.refused.parts) × (0 < mine.old.configured.parts) }
+        ensures some { IfOk result (λ outcome. ∥ InSomeLife C.stands_for N.given (λ state g E.
+            (outcome ≡ (C.rules g E stream (taken_view datagram)).outcome)
+            × CountsAtLeast (C.counts_of state) mine.old.taken.amount mine.old.refused.amount mine.old.configured.amount) ∥₁) }
+        ensures taken { IfOk result (λ outcome. mine.new.taken.amount ≡ mine.old.taken.amount + taken_by outcome) }
+        ensures refused { IfOk result (λ outcome. mine.new.refused.amount ≡ mine.old.refused.amount + refused_by outcome) }
+        ensures configured { IfOk result (λ outcome. mine.new.configured.amount ≡ mine.old.configured.amount + configured_by outcome) }
+        ensures most { (mine.new.taken.amount < 2 ^ 64) × (mine.new.refused.amount < 2 ^ 64) }
+        ensures parts { (mine.new.taken.parts ≡ mine.old.taken.parts) × (mine.new.refused.parts ≡ mine.old.refused.parts) × (mine.new.configured.parts ≡ mine.old.configured.parts) }
+        ensures causes { IfErr result IsOfDelivery }
+        ensures err { OnErr result ((mine.new.taken.amount ≡ mine.old.taken.amount) × (mine.new.refused.amount ≡ mine.old.refused.amount)
+            × (mine.new.configured.amount ≡ mine.old.configured.amount)) }
+    {
+        self.table.lock(rt).deliver(stream, datagram, mine)
+    }
+
+    /// Ticks: the instant that is now, and for each column the count up to which a section may be adopted. The answer is that of some
+    /// life of what is named.
+    ///
+    /// # Errors
+    ///
+    /// `NoMemory` where there is no memory for the step. Nothing is added then.
+    pub fn tick<R: Wait>(
+        &self,
+        rt: &R,
+        now: u64,
+        counts: &[u16; MAX_PMUS],
+    ) -> Result<Ticked, HubFault>
+        ensures some { IfOk result (λ ticked. ∥ InSomeLife C.stands_for N.given (λ state g E.
+            ticked ≡ ticked_of (changes E) (tick_answer g E now counts.now)) ∥₁) }
+        ensures causes { OnErr result (result ≡ Err HubFault.NoMemory) }
+    {
+        self.table.lock(rt).tick(now, counts)
+    }
+
+    /// Pops the lowest row that closed and was not popped. It lies above all rows popped before, and its instant can be tagged.
+    ///
+    /// # Errors
+    ///
+    /// `NoMemory` where there is no memory for the step. Nothing is added then.
+    pub fn pop<R: Wait>(&self, rt: &R, all: &mut Share<P>) -> Result<Option<DueRow>, HubFault>
+        requires { (all.old.parts ≡ P.parts) × (0 < all.old.parts) }
+        ensures some { IfOk result (λ row. ∥ InSomeLife C.stands_for N.given (λ state g E. option_map row_view row ≡ pop_answer E) ∥₁) }
+        ensures row { IfOk result (λ popped. IfSome popped (λ row. (all.old.amount < row.instant) × (all.new.amount ≡ row.instant))) }
+        ensures tagged { IfOk result (λ popped. IfSome popped (λ row. (g : Given) → N.given ≡ Some g → row.instant < SECONDS * g.output.rate)) }
+        ensures none { result ≡ Ok None → all.new.amount ≡ all.old.amount }
+        ensures parts { all.new.parts ≡ all.old.parts }
+        ensures causes { OnErr result (result ≡ Err HubFault.NoMemory) }
+        ensures err { OnErr result (all.new.amount ≡ all.old.amount) }
+    {
+        self.table.lock(rt).pop(all)
+    }
+
+    /// Appends the frame of the layout in force, dated with this second.
+    ///
+    /// # Errors
+    ///
+    /// `NoMemory` where `out` has no room and gets none; it is as it was.
+    pub fn layout<B: Buffer, R: Wait>(&self, rt: &R, soc: u32, out: &mut B) -> Result<(), HubFault>
+        ensures some { OnOk result ∥ InSomeLife C.stands_for N.given (λ state g E. B.content out.new ≡ B.content out.old ++ layout_wire g E soc) ∥₁ }
+        ensures causes { OnErr result (result ≡ Err HubFault.NoMemory) }
+        ensures err { OnErr result (B.content out.new ≡ B.content out.old) }
+    {
+        self.table.lock(rt).layout(soc, out)
+    }
+
+    /// How arrivals were answered.
+    pub fn counts<R: Wait>(&self, rt: &R) -> Counts {
+        self.table.lock(rt).counts()
+    }
+
+    /// How arrivals were answered. Who has all parts learns that these are the amounts of the shares.
+    pub fn totals<R: Wait>(&self, rt: &R, all: &mut Shares<T, F, G>) -> Counts
+        requires { (all.old.taken.parts ≡ T.parts) × (all.old.refused.parts ≡ F.parts) × (all.old.configured.parts ≡ G.parts) }
+        ensures { (result.taken ≡ all.old.taken.amount) × (result.refused ≡ all.old.refused.amount) × (configurations result ≡ all.old.configured.amount) }
+    {
+        self.table.lock(rt).totals(all)
+    }
+
+    /// For each column the count that waits to be stored.
+    pub fn waiting<R: Wait>(&self, rt: &R) -> [u16; MAX_PMUS]
+        ensures some { ∥ InSomeLife C.stands_for N.given (λ state g E. result ≡ waiting_counts g E) ∥₁ }
+    {
+        self.table.lock(rt).waiting()
+    }
+
+    /// No more is to be delivered.
+    pub fn close<R: Wait>(&self, rt: &R) {
+        self.table.lock(rt).close();
+    }
+
+    /// Whether no more is to be delivered.
+    pub fn closed<R: Wait>(&self, rt: &R) -> bool {
+        self.table.lock(rt).closed()
+    }
+}

@@ -1,0 +1,147 @@
+//! One receiver: what it reads of its source, outside the lock, it delivers.
+ghost use Rattle.std.specs.Prelude.{◌≡◌, ◌<◌, ◌≤◌, ◌+◌, ◌^◌, ℕ, IfErr, IfOk, OnErr, Some, length};
+ghost use Rattle.pdc_hub.specs.Counted.{refused_by, taken_by};
+ghost use Rattle.pdc_ports.specs.Failures.{HasRisen};
+ghost use Rattle.pdc_hub.specs.Faults.{IsOfDelivery};
+
+use crate::fault::HubFault;
+use crate::hub::Hub;
+use crate::naming::Naming;
+use crate::shares::Shares;
+use pdc_core::{Core, Reads};
+use pdc_life::Outcome;
+use pdc_ports::{Next, Source};
+use std::alloc::Global;
+use std::sync::Wait;
+use std::sync::ledger::Ledger;
+
+/// What a receiver hands back: its shares, what they count, and why it ended, if by a fault.
+#[derive(Drop)]
+pub struct Received<T: Ledger, F: Ledger, G: Ledger> {
+    /// Its shares, of one part each.
+    pub shares: Shares<T, F, G>,
+    /// How many of its datagrams were taken.
+    pub taken: u64,
+    /// How many were refused.
+    pub refused: u64,
+    /// Why it ended, if not with its source or at the close.
+    pub fault: Option<HubFault>,
+    pub ghost one_part: { (shares.taken.parts ≡ 1) × (shares.refused.parts ≡ 1) × (shares.configured.parts ≡ 1) },
+    pub ghost same: { (shares.taken.amount ≡ taken) × (shares.refused.amount ≡ refused) },
+}
+
+/// Reads a datagram, outside the lock, and delivers it.
+fn hand_in<
+    C: Core + Drop,
+    N: Naming<C::Settings>,
+    T: Ledger,
+    F: Ledger,
+    G: Ledger,
+    P: Ledger,
+    R: Wait,
+>(
+    rt: &R,
+    alloc: Global,
+    settings: &C::Settings,
+    stream: usize,
+    bytes: &[u8],
+    hub: &Hub<C, N, T, F, G, P>,
+    shares: &mut Shares<T, F, G>,
+) -> Result<Outcome, HubFault>
+    requires settings { N.settings ≡ Some settings.now }
+    requires stream { stream < C.Settings.streams settings.now }
+    requires parts { (0 < shares.old.taken.parts) × (0 < shares.old.refused.parts) × (0 < shares.old.configured.parts) }
+    ensures taken { IfOk result (λ outcome. shares.new.taken.amount ≡ shares.old.taken.amount + taken_by outcome) }
+    ensures refused { IfOk result (λ outcome. shares.new.refused.amount ≡ shares.old.refused.amount + refused_by outcome) }
+    ensures most { IfOk result (λ _. (shares.new.taken.amount < 2 ^ 64) × (shares.new.refused.amount < 2 ^ 64)) }
+    ensures parts { (shares.new.taken.parts ≡ shares.old.taken.parts) × (shares.new.refused.parts ≡ shares.old.refused.parts) × (shares.new.configured.parts ≡ shares.old.configured.parts) }
+    ensures causes { IfErr result IsOfDelivery }
+    ensures err { OnErr result ((shares.new.taken.amount ≡ shares.old.taken.amount) × (shares.new.refused.amount ≡ shares.old.refused.amount)) }
+{
+    match settings.read_kept(alloc, stream, bytes) {
+        Ok(datagram) => hub.deliver(rt, stream, datagram, shares),
+        Err(_) => Err(HubFault::NoMemory),
+    }
+}
+
+/// Reads a source to its end, or to the first idle turn after the close. What is read is read, checked and kept outside the lock.
+pub fn receive<
+    C: Core + Drop,
+    N: Naming<C::Settings>,
+    T: Ledger,
+    F: Ledger,
+    G: Ledger,
+    P: Ledger,
+    S: Source,
+    R: Wait,
+>(
+    rt: &R,
+    alloc: Global,
+    settings: &C::Settings,
+    stream: usize,
+    source: &mut S,
+    buffer: Vec<u8>,
+    hub: &Hub<C, N, T, F, G, P>,
+    shares: Shares<T, F, G>,
+) -> Received<T, F, G>
+    requires settings { N.settings ≡ Some settings.now }
+    requires stream { stream < C.Settings.streams settings.now }
+    requires parts { (shares.taken.parts ≡ 1) × (shares.refused.parts ≡ 1) × (shares.configured.parts ≡ 1) }
+    requires amounts { (shares.taken.amount ≡ 0) × (shares.refused.amount ≡ 0) }
+    ensures fault { result.fault ≡ Some HubFault.SourceFault → HasRisen (S.failures_of source.old) (S.failures_of source.new) }
+{
+    let mut shares = shares;
+    let mut buffer = buffer;
+    let mut taken = 0u64;
+    let mut refused = 0u64;
+    for _ in rt.forever() {
+        match source.next(buffer.as_mut_slice()) {
+            Next::Datagram(len) => {
+                match hand_in(
+                    rt,
+                    alloc,
+                    settings,
+                    stream,
+                    &buffer[..len],
+                    hub,
+                    &mut shares,
+                ) {
+                    Ok(Outcome::Taken) => taken += 1,
+                    Ok(Outcome::Refused(_)) => refused += 1,
+                    Ok(_) => {}
+                    Err(fault) => return handed_back(shares, taken, refused, Some(fault)),
+                }
+            }
+            Next::Idle => {
+                if hub.closed(rt) {
+                    return handed_back(shares, taken, refused, None);
+                }
+            }
+            Next::End => return handed_back(shares, taken, refused, None),
+            Next::Fault => {
+                return handed_back(shares, taken, refused, Some(HubFault::SourceFault));
+            }
+            Next::Stuck => return handed_back(shares, taken, refused, Some(HubFault::Stuck)),
+        }
+    }
+    unreachable!()
+}
+
+/// What is handed back.
+fn handed_back<T: Ledger, F: Ledger, G: Ledger>(
+    shares: Shares<T, F, G>,
+    taken: u64,
+    refused: u64,
+    fault: Option<HubFault>,
+) -> Received<T, F, G>
+    requires parts { (shares.taken.parts ≡ 1) × (shares.refused.parts ≡ 1) × (shares.configured.parts ≡ 1) }
+    requires amounts { (shares.taken.amount ≡ taken) × (shares.refused.amount ≡ refused) }
+    ensures { result.fault ≡ fault }
+{
+    Received {
+        shares,
+        taken,
+        refused,
+        fault,
+    }
+}

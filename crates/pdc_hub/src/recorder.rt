@@ -1,0 +1,368 @@
+//! The value under the lock.
+ghost use Rattle.std.specs.Prelude.{◌≡◌, ◌+◌, ◌*◌, ◌-◌, ◌^◌, ◌<◌, ◌≤◌, ◌∷◌, ◌++◌, ℕ, Bool, Err, IfErr, IfOk, IfSome, List, None, Ok, OnErr, OnOk, Option, Some, [], length, option_map, true, false};
+ghost use Rattle.pdc_core.specs.Step.{ticked_of};
+ghost use Rattle.pdc_core.specs.KeptArrival.{taken_view};
+ghost use Rattle.pdc_core.specs.declared.step.CoreStep.TheVariants as step;
+ghost use Rattle.pdc_life.specs.Answer.{ToArrive, ToPop, ToTick, pop_answer, tick_answer, waiting_counts};
+ghost use Rattle.pdc_life.specs.Given.{Given};
+ghost use Rattle.pdc_life.specs.Life.{Entry, changes};
+ghost use Rattle.pdc_life.specs.Published.{layout_wire};
+ghost use Rattle.pdc_hub.specs.Counted.{CountsAtLeast, configurations, configured_by, is_used_up, refused_by, taken_by};
+ghost use Rattle.pdc_hub.specs.Faults.{IsOfDelivery};
+ghost use Rattle.pdc_hub.specs.Replay.{Follows, InSomeLife, WasRead, since};
+ghost use Rattle.pdc_row.specs.RowView.{row_view};
+ghost use Rattle.pdc_tag.specs.declared.limits.TheConstants.{SECONDS};
+
+use crate::fault::HubFault;
+use crate::naming::Naming;
+use crate::replayed::Replayed;
+use crate::shares::{Books, Shares};
+use pdc_core::{Core, Counts, KeptArrival, Ticked};
+use pdc_frame::Buffer;
+use pdc_life::{MAX_PMUS, Outcome};
+use pdc_row::DueRow;
+use std::alloc::{AllocError, Global};
+use std::sync::ledger::{Book, Ledger, Share};
+
+/// The value under the lock: a core beside its base and the steps since, and the books of what it counted.
+#[derive(Drop)]
+pub struct Recorder<
+    C: Core + Drop,
+    N: Naming<C::Settings>,
+    T: Ledger,
+    F: Ledger,
+    G: Ledger,
+    P: Ledger,
+> {
+    /// The core, with its base and the steps since.
+    pub core: Replayed<C, N>,
+    /// The book of data that was taken.
+    pub taken: Book<T>,
+    /// The book of what was refused.
+    pub refused: Book<F>,
+    /// The book of configurations that were new or held already.
+    pub configured: Book<G>,
+    /// The book whose total is the greatest instant popped, at first the floor.
+    pub top: Book<P>,
+    /// That instant.
+    pub popped: u64,
+    /// No more is to be delivered.
+    pub closed: bool,
+    pub ghost taken_is: { (C.counts_of core.state).taken ≡ taken.total },
+    pub ghost refused_is: { (C.counts_of core.state).refused ≡ refused.total },
+    pub ghost configured_is: { configurations (C.counts_of core.state) ≡ configured.total },
+    pub ghost top_is: { C.popped_of core.state ≡ top.total },
+    pub ghost popped_is: { top.total ≡ popped },
+}
+
+impl<C: Core + Drop, N: Naming<C::Settings>, T: Ledger, F: Ledger, G: Ledger, P: Ledger> Recorder<
+    C,
+    N,
+    T,
+    F,
+    G,
+    P,
+> {
+    /// A recorder over two cores that were opened alike, with no step taken since, and with its books. Its base is brought up each time
+    /// that so many steps are kept.
+    pub fn new(
+        alloc: Global,
+        base: C,
+        now: C,
+        limit: usize,
+        floor: u64,
+        books: Books<T, F, G, P>,
+    ) -> Self
+        requires alike { (g : Given) × (N.given ≡ Some g) × C.stands_for base g [] × C.stands_for now g [] }
+        requires settings { (N.settings ≡ Some (C.settings_of base)) × (N.settings ≡ Some (C.settings_of now)) }
+        requires limit { 1 ≤ limit }
+        requires floor { C.popped_of now ≡ floor }
+        requires books { (books.taken.total ≡ 0) × (books.refused.total ≡ 0) × (books.configured.total ≡ 0) × (books.top.total ≡ floor) }
+        ensures base { result.core.base ≡ base }
+        ensures state { result.core.state ≡ now }
+        ensures events { result.core.events.items ≡ [] }
+        ensures limit { result.core.limit ≡ limit }
+        ensures goes { result.closed ≡ false }
+    {
+        let Books {
+            taken,
+            refused,
+            configured,
+            top,
+        } = books;
+        let _counts = now.counts();
+        Recorder {
+            core: Replayed::new(alloc, base, now, limit),
+            taken,
+            refused,
+            configured,
+            top,
+            popped: floor,
+            closed: false,
+        }
+    }
+
+    /// Adds what arrived for a stream, and counts its answer in the caller's shares.
+    ///
+    /// # Errors
+    ///
+    /// `CountsUsedUp` where one of the three totals is at its greatest value; `NoMemory` where there is no memory for the step. Nothing is
+    /// added then.
+    pub fn deliver(
+        &mut self,
+        stream: usize,
+        datagram: KeptArrival,
+        mine: &mut Shares<T, F, G>,
+    ) -> Result<Outcome, HubFault>
+        requires read { WasRead C.Settings.says C.Settings.fits N.settings stream (taken_view datagram) }
+        requires parts { (0 < mine.old.taken.parts) × (0 < mine.old.refused.parts) × (0 < mine.old.configured.parts) }
+        // The answer is the core's.
+        ensures answer { IfOk result (λ outcome. (g : Given) (E : List Entry) → C.stands_for self.old.core.state g E →
+            outcome ≡ (C.rules g E stream (taken_view datagram)).outcome) }
+        ensures stands { OnOk result ((bytes : List ℕ) → C.Settings.says (C.settings_of self.old.core.state) stream bytes (taken_view datagram) →
+            Follows C.rules (C.stands_for self.old.core.state) (C.stands_for self.new.core.state) (ToArrive stream bytes (taken_view datagram))) }
+        // Exactly this step is added.
+        ensures event { OnOk result (self.new.core.events.items ≡ since self.old.core.limit self.old.core.events.items ++ step.Arrive stream datagram ∷ []) }
+        // There was such a life, and the core had counted at least what the caller's shares had.
+        ensures some { IfOk result (λ outcome. ∥ InSomeLife C.stands_for N.given (λ state g E.
+            (outcome ≡ (C.rules g E stream (taken_view datagram)).outcome)
+            × CountsAtLeast (C.counts_of state) mine.old.taken.amount mine.old.refused.amount mine.old.configured.amount) ∥₁) }
+        // The shares rise by what is counted,
+        ensures taken { IfOk result (λ outcome. mine.new.taken.amount ≡ mine.old.taken.amount + taken_by outcome) }
+        ensures refused { IfOk result (λ outcome. mine.new.refused.amount ≡ mine.old.refused.amount + refused_by outcome) }
+        ensures configured { IfOk result (λ outcome. mine.new.configured.amount ≡ mine.old.configured.amount + configured_by outcome) }
+        // stay below 2^64, and keep their parts.
+        ensures most { (mine.new.taken.amount < 2 ^ 64) × (mine.new.refused.amount < 2 ^ 64) }
+        ensures parts { (mine.new.taken.parts ≡ mine.old.taken.parts) × (mine.new.refused.parts ≡ mine.old.refused.parts) × (mine.new.configured.parts ≡ mine.old.configured.parts) }
+        ensures used_up { (result ≡ Err HubFault.CountsUsedUp → is_used_up self.old.taken.total self.old.refused.total self.old.configured.total ≡ true)
+            × (is_used_up self.old.taken.total self.old.refused.total self.old.configured.total ≡ true → result ≡ Err HubFault.CountsUsedUp) }
+        ensures causes { IfErr result IsOfDelivery }
+        ensures err { OnErr result ((self.new.core.state ≡ self.old.core.state) × (mine.new.taken.amount ≡ mine.old.taken.amount)
+            × (mine.new.refused.amount ≡ mine.old.refused.amount) × (mine.new.configured.amount ≡ mine.old.configured.amount)) }
+        ensures goes { self.new.closed ≡ self.old.closed }
+    {
+        self.audit(mine);
+        if self.is_used_up() {
+            return Err(HubFault::CountsUsedUp);
+        }
+        self.add(stream, datagram, mine)
+    }
+
+    /// The caller's shares count no more than the core did.
+    fn audit(&mut self, mine: &mut Shares<T, F, G>)
+        ensures core { self.new.core ≡ self.old.core }
+        ensures totals { (self.new.taken.total ≡ self.old.taken.total) × (self.new.refused.total ≡ self.old.refused.total)
+            × (self.new.configured.total ≡ self.old.configured.total) }
+        ensures goes { self.new.closed ≡ self.old.closed }
+        ensures counted { CountsAtLeast (C.counts_of self.old.core.state) mine.old.taken.amount mine.old.refused.amount mine.old.configured.amount }
+        ensures most { (mine.new.taken.amount < 2 ^ 64) × (mine.new.refused.amount < 2 ^ 64) }
+        ensures amounts { (mine.new.taken.amount ≡ mine.old.taken.amount) × (mine.new.refused.amount ≡ mine.old.refused.amount)
+            × (mine.new.configured.amount ≡ mine.old.configured.amount) }
+        ensures parts { (mine.new.taken.parts ≡ mine.old.taken.parts) × (mine.new.refused.parts ≡ mine.old.refused.parts) × (mine.new.configured.parts ≡ mine.old.configured.parts) }
+    {
+        let _counts = self.core.state.counts();
+        self.taken.audit(&mut mine.taken);
+        self.refused.audit(&mut mine.refused);
+        self.configured.audit(&mut mine.configured);
+    }
+
+    /// One of the three totals is at its greatest value.
+    fn is_used_up(&self) -> bool
+        ensures { result ≡ is_used_up self.now.taken.total self.now.refused.total self.now.configured.total }
+    {
+        let counts = self.core.state.counts();
+        counts.taken == u64::MAX
+            || counts.refused == u64::MAX
+            || counts.candidate.saturating_add(counts.known) == u64::MAX
+    }
+
+    /// Adds what arrived, where no total is at its greatest value.
+    fn add(
+        &mut self,
+        stream: usize,
+        datagram: KeptArrival,
+        mine: &mut Shares<T, F, G>,
+    ) -> Result<Outcome, HubFault>
+        requires read { WasRead C.Settings.says C.Settings.fits N.settings stream (taken_view datagram) }
+        requires parts { (0 < mine.old.taken.parts) × (0 < mine.old.refused.parts) × (0 < mine.old.configured.parts) }
+        requires free { is_used_up self.old.taken.total self.old.refused.total self.old.configured.total ≡ false }
+        requires counted { CountsAtLeast (C.counts_of self.old.core.state) mine.old.taken.amount mine.old.refused.amount mine.old.configured.amount }
+        ensures answer { IfOk result (λ outcome. (g : Given) (E : List Entry) → C.stands_for self.old.core.state g E →
+            outcome ≡ (C.rules g E stream (taken_view datagram)).outcome) }
+        ensures stands { OnOk result ((bytes : List ℕ) → C.Settings.says (C.settings_of self.old.core.state) stream bytes (taken_view datagram) →
+            Follows C.rules (C.stands_for self.old.core.state) (C.stands_for self.new.core.state) (ToArrive stream bytes (taken_view datagram))) }
+        ensures event { OnOk result (self.new.core.events.items ≡ since self.old.core.limit self.old.core.events.items ++ step.Arrive stream datagram ∷ []) }
+        ensures some { IfOk result (λ outcome. ∥ InSomeLife C.stands_for N.given (λ state g E.
+            (outcome ≡ (C.rules g E stream (taken_view datagram)).outcome)
+            × CountsAtLeast (C.counts_of state) mine.old.taken.amount mine.old.refused.amount mine.old.configured.amount) ∥₁) }
+        ensures taken { IfOk result (λ outcome. mine.new.taken.amount ≡ mine.old.taken.amount + taken_by outcome) }
+        ensures refused { IfOk result (λ outcome. mine.new.refused.amount ≡ mine.old.refused.amount + refused_by outcome) }
+        ensures configured { IfOk result (λ outcome. mine.new.configured.amount ≡ mine.old.configured.amount + configured_by outcome) }
+        ensures parts { (mine.new.taken.parts ≡ mine.old.taken.parts) × (mine.new.refused.parts ≡ mine.old.refused.parts) × (mine.new.configured.parts ≡ mine.old.configured.parts) }
+        ensures causes { OnErr result (result ≡ Err HubFault.NoMemory) }
+        ensures err { OnErr result ((self.new.core.state ≡ self.old.core.state) × (mine.new.taken.amount ≡ mine.old.taken.amount)
+            × (mine.new.refused.amount ≡ mine.old.refused.amount) × (mine.new.configured.amount ≡ mine.old.configured.amount)) }
+        ensures goes { self.new.closed ≡ self.old.closed }
+    {
+        let Recorder {
+            core,
+            taken,
+            refused,
+            configured,
+            ..
+        } = self;
+        let Ok(outcome) = core.arrive(stream, datagram) else {
+            return Err(HubFault::NoMemory);
+        };
+        count(outcome, taken, refused, configured, mine);
+        Ok(outcome)
+    }
+
+    /// Ticks: the instant that is now, and for each column the count up to which a section may be adopted.
+    ///
+    /// # Errors
+    ///
+    /// `NoMemory` where there is no memory for the step. Nothing is added then.
+    pub fn tick(&mut self, now: u64, counts: &[u16; MAX_PMUS]) -> Result<Ticked, HubFault>
+        ensures answer { IfOk result (λ ticked. (g : Given) (E : List Entry) → C.stands_for self.old.core.state g E →
+            ticked ≡ ticked_of (changes E) (tick_answer g E now counts.now)) }
+        ensures stands { OnOk result (Follows C.rules (C.stands_for self.old.core.state) (C.stands_for self.new.core.state) (ToTick now counts.now)) }
+        ensures event { OnOk result (self.new.core.events.items ≡ since self.old.core.limit self.old.core.events.items ++ step.Tick now counts.now ∷ []) }
+        ensures some { IfOk result (λ ticked. ∥ InSomeLife C.stands_for N.given (λ state g E.
+            ticked ≡ ticked_of (changes E) (tick_answer g E now counts.now)) ∥₁) }
+        ensures causes { OnErr result (result ≡ Err HubFault.NoMemory) }
+        ensures err { OnErr result (self.new.core.state ≡ self.old.core.state) }
+        ensures goes { self.new.closed ≡ self.old.closed }
+    {
+        let Recorder { core, .. } = self;
+        match core.tick(now, counts) {
+            Ok(ticked) => Ok(ticked),
+            Err(_) => Err(HubFault::NoMemory),
+        }
+    }
+
+    /// Pops the lowest row that closed and was not popped. It lies above all rows popped before, and its instant can be tagged.
+    ///
+    /// # Errors
+    ///
+    /// `NoMemory` where there is no memory for the step. Nothing is added then.
+    pub fn pop(&mut self, all: &mut Share<P>) -> Result<Option<DueRow>, HubFault>
+        requires { (all.old.parts ≡ P.parts) × (0 < all.old.parts) }
+        ensures answer { IfOk result (λ row. (g : Given) (E : List Entry) → C.stands_for self.old.core.state g E → option_map row_view row ≡ pop_answer E) }
+        ensures stands { OnOk result (Follows C.rules (C.stands_for self.old.core.state) (C.stands_for self.new.core.state) ToPop) }
+        ensures event { OnOk result (self.new.core.events.items ≡ since self.old.core.limit self.old.core.events.items ++ step.Pop ∷ []) }
+        ensures some { IfOk result (λ row. ∥ InSomeLife C.stands_for N.given (λ state g E. option_map row_view row ≡ pop_answer E) ∥₁) }
+        ensures row { IfOk result (λ popped. IfSome popped (λ row. (all.old.amount < row.instant) × (all.new.amount ≡ row.instant))) }
+        ensures tagged { IfOk result (λ popped. IfSome popped (λ row. (g : Given) → N.given ≡ Some g → row.instant < SECONDS * g.output.rate)) }
+        ensures none { result ≡ Ok None → all.new.amount ≡ all.old.amount }
+        ensures parts { all.new.parts ≡ all.old.parts }
+        ensures causes { OnErr result (result ≡ Err HubFault.NoMemory) }
+        ensures err { OnErr result ((self.new.core.state ≡ self.old.core.state) × (all.new.amount ≡ all.old.amount)) }
+        ensures goes { self.new.closed ≡ self.old.closed }
+    {
+        let Recorder {
+            core,
+            top,
+            popped,
+            ..
+        } = self;
+        top.audit(all);
+        match core.pop() {
+            Err(_) => Err(HubFault::NoMemory),
+            Ok(None) => Ok(None),
+            Ok(Some(row)) => {
+                top.add(all, row.instant - *popped);
+                *popped = row.instant;
+                Ok(Some(row))
+            }
+        }
+    }
+
+    /// Appends the frame of the layout in force, dated with this second.
+    ///
+    /// # Errors
+    ///
+    /// `NoMemory` where `out` has no room and gets none; it is as it was.
+    pub fn layout<B: Buffer>(&self, soc: u32, out: &mut B) -> Result<(), HubFault>
+        ensures ok { OnOk result ((g : Given) (E : List Entry) → C.stands_for self.now.core.state g E → B.content out.new ≡ B.content out.old ++ layout_wire g E soc) }
+        ensures some { OnOk result ∥ InSomeLife C.stands_for N.given (λ state g E. B.content out.new ≡ B.content out.old ++ layout_wire g E soc) ∥₁ }
+        ensures causes { OnErr result (result ≡ Err HubFault.NoMemory) }
+        ensures err { OnErr result (B.content out.new ≡ B.content out.old) }
+    {
+        match self.core.state.layout_frame(soc, out) {
+            Ok(()) => Ok(()),
+            Err(_) => Err(HubFault::NoMemory),
+        }
+    }
+
+    /// How arrivals were answered.
+    pub fn counts(&self) -> Counts
+        ensures value { result ≡ C.counts_of self.now.core.state }
+        ensures totals { (result.taken ≡ self.now.taken.total) × (result.refused ≡ self.now.refused.total) × (configurations result ≡ self.now.configured.total) }
+    {
+        self.core.state.counts()
+    }
+
+    /// How arrivals were answered. Who has all parts learns that these are the amounts of the shares.
+    pub fn totals(&mut self, all: &mut Shares<T, F, G>) -> Counts
+        requires { (all.old.taken.parts ≡ T.parts) × (all.old.refused.parts ≡ F.parts) × (all.old.configured.parts ≡ G.parts) }
+        ensures { (result.taken ≡ all.old.taken.amount) × (result.refused ≡ all.old.refused.amount) × (configurations result ≡ all.old.configured.amount) }
+    {
+        let counts = self.counts();
+        let Recorder {
+            taken,
+            refused,
+            configured,
+            ..
+        } = self;
+        taken.audit(&mut all.taken);
+        refused.audit(&mut all.refused);
+        configured.audit(&mut all.configured);
+        counts
+    }
+
+    /// For each column the count that waits to be stored.
+    pub fn waiting(&self) -> [u16; MAX_PMUS]
+        ensures value { (g : Given) (E : List Entry) → C.stands_for self.now.core.state g E → result ≡ waiting_counts g E }
+        ensures some { ∥ InSomeLife C.stands_for N.given (λ state g E. result ≡ waiting_counts g E) ∥₁ }
+    {
+        self.core.state.waiting()
+    }
+
+    /// No more is to be delivered.
+    pub fn close(&mut self)
+        ensures core { self.new.core ≡ self.old.core }
+        ensures closed { self.new.closed ≡ true }
+    {
+        self.closed = true;
+    }
+
+    /// Whether no more is to be delivered.
+    pub fn closed(&self) -> bool
+        ensures { result ≡ self.now.closed }
+    {
+        self.closed
+    }
+}
+
+/// Counts an answer in the caller's shares.
+fn count<T: Ledger, F: Ledger, G: Ledger>(
+    outcome: Outcome,
+    taken: &mut Book<T>,
+    refused: &mut Book<F>,
+    configured: &mut Book<G>,
+    mine: &mut Shares<T, F, G>,
+)
+    requires { (0 < mine.old.taken.parts) × (0 < mine.old.refused.parts) × (0 < mine.old.configured.parts) }
+    ensures taken { (taken.new.total ≡ taken.old.total + taken_by outcome) × (mine.new.taken.amount ≡ mine.old.taken.amount + taken_by outcome) }
+    ensures refused { (refused.new.total ≡ refused.old.total + refused_by outcome) × (mine.new.refused.amount ≡ mine.old.refused.amount + refused_by outcome) }
+    ensures configured { (configured.new.total ≡ configured.old.total + configured_by outcome)
+        × (mine.new.configured.amount ≡ mine.old.configured.amount + configured_by outcome) }
+    ensures parts { (mine.new.taken.parts ≡ mine.old.taken.parts) × (mine.new.refused.parts ≡ mine.old.refused.parts) × (mine.new.configured.parts ≡ mine.old.configured.parts) }
+{
+    match outcome {
+        Outcome::Taken => taken.add(&mut mine.taken, 1),
+        Outcome::Refused(_) => refused.add(&mut mine.refused, 1),
+        _ => configured.add(&mut mine.configured, 1),
+    }
+}

@@ -1,0 +1,212 @@
+//! A core beside a base from which the steps since lead to it.
+ghost use Rattle.std.specs.Prelude.{◌≡◌, ◌≤◌, ◌<◌, ◌*◌, ◌+◌, ◌∷◌, ◌++◌, ℕ, IfOk, IfSome, List, OnErr, OnOk, Option, Some, [], option_map, true, vec_len};
+ghost use Rattle.std.specs.List.{list_all};
+ghost use Rattle.pdc_core.specs.Step.{after_answer, is_allowed, popped_after, ticked_of};
+ghost use Rattle.pdc_core.specs.KeptArrival.{taken_view};
+ghost use Rattle.pdc_core.specs.declared.step.CoreStep.TheVariants as step;
+ghost use Rattle.pdc_life.specs.Answer.{ToArrive, ToPop, ToTick, pop_answer, tick_answer};
+ghost use Rattle.pdc_life.specs.Given.{Given};
+ghost use Rattle.pdc_life.specs.Life.{Entry, changes};
+ghost use Rattle.pdc_hub.specs.Replay.{Follows, InSomeLife, Replaying, Replays, WasRead, since};
+ghost use Rattle.pdc_row.specs.RowView.{row_view};
+ghost use Rattle.pdc_tag.specs.declared.limits.TheConstants.{SECONDS};
+
+use crate::naming::Naming;
+use pdc_core::{Core, CoreStep, KeptArrival, Ticked};
+use pdc_life::{MAX_PMUS, Outcome};
+use pdc_row::DueRow;
+use std::alloc::{AllocError, Global};
+use std::marker::PhantomData;
+
+/// A core beside a base from which the steps since lead to it.
+#[derive(Drop)]
+pub struct Replayed<C: Core + Drop, N: Naming<C::Settings>> {
+    pub base: C,
+    pub events: Vec<CoreStep>,
+    pub state: C,
+    pub limit: usize,
+    of: PhantomData<N>,
+    pub ghost replays: { ∥ Replays C.rules (C.Settings.says (C.settings_of base)) N.given (C.stands_for base) (C.stands_for state) events.items ∥₁ },
+    pub ghost base_settings: { ∥ (N.settings ≡ Some (C.settings_of base)) ∥₁ },
+    pub ghost state_settings: { ∥ (N.settings ≡ Some (C.settings_of state)) ∥₁ },
+    pub ghost allowed: { list_all (is_allowed (C.Settings.fits (C.settings_of base))) events.items ≡ true },
+    pub ghost bounded: { vec_len events ≤ limit },
+    pub ghost some: { 1 ≤ limit },
+}
+
+impl<C: Core + Drop, N: Naming<C::Settings>> Replayed<C, N> {
+    /// Two cores that were opened alike.
+    pub fn new(alloc: Global, base: C, state: C, limit: usize) -> Self
+        requires alike { (g : Given) × (N.given ≡ Some g) × C.stands_for base g [] × C.stands_for state g [] }
+        requires settings { (N.settings ≡ Some (C.settings_of base)) × (N.settings ≡ Some (C.settings_of state)) }
+        requires limit { 1 ≤ limit }
+        ensures { (result.base ≡ base) × (result.state ≡ state) × (result.events.items ≡ []) × (result.limit ≡ limit) }
+    {
+        Replayed {
+            base,
+            events: Vec::new(alloc),
+            state,
+            limit,
+            of: PhantomData,
+        }
+    }
+
+    /// Where the list is full, the base is brought up by it.
+    fn bring_up(&mut self)
+        ensures state { self.new.state ≡ self.old.state }
+        ensures events { self.new.events.items ≡ since self.old.limit self.old.events.items }
+        ensures limit { self.new.limit ≡ self.old.limit }
+        ensures room { vec_len self.new.events < self.new.limit }
+    {
+        if self.events.len() < self.limit {
+            return;
+        }
+        let Replayed { base, events, .. } = self;
+        replay(base, events);
+        events.clear();
+    }
+
+    /// Answers what arrived for a stream, and keeps the step. Where the list is full, the base is brought up first.
+    ///
+    /// # Errors
+    ///
+    /// [`AllocError`] where there is no memory for the step; the state is as it was.
+    pub fn arrive(&mut self, stream: usize, taken: KeptArrival) -> Result<Outcome, AllocError>
+        requires read { WasRead C.Settings.says C.Settings.fits N.settings stream (taken_view taken) }
+        ensures answer { IfOk result (λ outcome. (g : Given) (E : List Entry) → C.stands_for self.old.state g E → outcome ≡ (C.rules g E stream (taken_view taken)).outcome) }
+        ensures stands { OnOk result ((bytes : List ℕ) → C.Settings.says (C.settings_of self.old.state) stream bytes (taken_view taken) →
+            Follows C.rules (C.stands_for self.old.state) (C.stands_for self.new.state) (ToArrive stream bytes (taken_view taken))) }
+        ensures counts { IfOk result (λ outcome. C.counts_of self.new.state ≡ after_answer outcome (C.counts_of self.old.state)) }
+        ensures popped { C.popped_of self.new.state ≡ C.popped_of self.old.state }
+        ensures event { OnOk result (self.new.events.items ≡ since self.old.limit self.old.events.items ++ step.Arrive stream taken ∷ []) }
+        ensures limit { self.new.limit ≡ self.old.limit }
+        ensures err { OnErr result (self.new.state ≡ self.old.state) }
+    {
+        self.bring_up();
+        self.add_arrival(stream, taken)
+    }
+
+    /// Ticks, and keeps the step. Where the list is full, the base is brought up first.
+    ///
+    /// # Errors
+    ///
+    /// [`AllocError`] where there is no memory for the step; the state is as it was.
+    pub fn tick(&mut self, now: u64, counts: &[u16; MAX_PMUS]) -> Result<Ticked, AllocError>
+        ensures answer { IfOk result (λ ticked. (g : Given) (E : List Entry) → C.stands_for self.old.state g E → ticked ≡ ticked_of (changes E) (tick_answer g E now counts.now)) }
+        ensures stands { OnOk result (Follows C.rules (C.stands_for self.old.state) (C.stands_for self.new.state) (ToTick now counts.now)) }
+        ensures counts { C.counts_of self.new.state ≡ C.counts_of self.old.state }
+        ensures popped { C.popped_of self.new.state ≡ C.popped_of self.old.state }
+        ensures event { OnOk result (self.new.events.items ≡ since self.old.limit self.old.events.items ++ step.Tick now counts.now ∷ []) }
+        ensures limit { self.new.limit ≡ self.old.limit }
+        ensures err { OnErr result (self.new.state ≡ self.old.state) }
+    {
+        self.bring_up();
+        self.add_tick(now, counts)
+    }
+
+    /// Pops a row, and keeps the step. Where the list is full, the base is brought up first.
+    ///
+    /// # Errors
+    ///
+    /// [`AllocError`] where there is no memory for the step; the state is as it was.
+    pub fn pop(&mut self) -> Result<Option<DueRow>, AllocError>
+        ensures answer { IfOk result (λ row. (g : Given) (E : List Entry) → C.stands_for self.old.state g E → option_map row_view row ≡ pop_answer E) }
+        ensures stands { OnOk result (Follows C.rules (C.stands_for self.old.state) (C.stands_for self.new.state) ToPop) }
+        ensures rises { IfOk result (λ popped. IfSome popped (λ row. C.popped_of self.old.state < row.instant)) }
+        ensures tagged { IfOk result (λ popped. IfSome popped (λ row. (g : Given) → N.given ≡ Some g → row.instant < SECONDS * g.output.rate)) }
+        ensures popped { IfOk result (λ row. C.popped_of self.new.state ≡ popped_after (option_map row_view row) (C.popped_of self.old.state)) }
+        ensures counts { C.counts_of self.new.state ≡ C.counts_of self.old.state }
+        ensures event { OnOk result (self.new.events.items ≡ since self.old.limit self.old.events.items ++ step.Pop ∷ []) }
+        ensures limit { self.new.limit ≡ self.old.limit }
+        ensures err { OnErr result (self.new.state ≡ self.old.state) }
+    {
+        self.bring_up();
+        self.add_pop()
+    }
+
+    /// Answers what arrived, and keeps the step, for which there is a place below the limit.
+    fn add_arrival(&mut self, stream: usize, taken: KeptArrival) -> Result<Outcome, AllocError>
+        requires read { WasRead C.Settings.says C.Settings.fits N.settings stream (taken_view taken) }
+        requires room { vec_len self.old.events < self.old.limit }
+        ensures answer { IfOk result (λ outcome. (g : Given) (E : List Entry) → C.stands_for self.old.state g E → outcome ≡ (C.rules g E stream (taken_view taken)).outcome) }
+        ensures stands { OnOk result ((bytes : List ℕ) → C.Settings.says (C.settings_of self.old.state) stream bytes (taken_view taken) →
+            Follows C.rules (C.stands_for self.old.state) (C.stands_for self.new.state) (ToArrive stream bytes (taken_view taken))) }
+        ensures counts { IfOk result (λ outcome. C.counts_of self.new.state ≡ after_answer outcome (C.counts_of self.old.state)) }
+        ensures popped { C.popped_of self.new.state ≡ C.popped_of self.old.state }
+        ensures event { OnOk result (self.new.events.items ≡ self.old.events.items ++ step.Arrive stream taken ∷ []) }
+        ensures limit { self.new.limit ≡ self.old.limit }
+        ensures err { OnErr result (self.new.state ≡ self.old.state) }
+    {
+        let Replayed { events, state, .. } = self;
+        events.reserve(1)?;
+        let outcome = answered(state, stream, &taken);
+        events.push_reserved(CoreStep::Arrive { stream, taken });
+        Ok(outcome)
+    }
+
+    /// Ticks, and keeps the step, for which there is a place below the limit.
+    fn add_tick(&mut self, now: u64, counts: &[u16; MAX_PMUS]) -> Result<Ticked, AllocError>
+        requires room { vec_len self.old.events < self.old.limit }
+        ensures answer { IfOk result (λ ticked. (g : Given) (E : List Entry) → C.stands_for self.old.state g E → ticked ≡ ticked_of (changes E) (tick_answer g E now counts.now)) }
+        ensures stands { OnOk result (Follows C.rules (C.stands_for self.old.state) (C.stands_for self.new.state) (ToTick now counts.now)) }
+        ensures counts { C.counts_of self.new.state ≡ C.counts_of self.old.state }
+        ensures popped { C.popped_of self.new.state ≡ C.popped_of self.old.state }
+        ensures event { OnOk result (self.new.events.items ≡ self.old.events.items ++ step.Tick now counts.now ∷ []) }
+        ensures limit { self.new.limit ≡ self.old.limit }
+        ensures err { OnErr result (self.new.state ≡ self.old.state) }
+    {
+        let Replayed { events, state, .. } = self;
+        events.reserve(1)?;
+        let ticked = state.tick(now, counts);
+        events.push_reserved(CoreStep::Tick {
+            now,
+            counts: *counts,
+        });
+        Ok(ticked)
+    }
+
+    /// Pops a row, and keeps the step, for which there is a place below the limit.
+    fn add_pop(&mut self) -> Result<Option<DueRow>, AllocError>
+        requires room { vec_len self.old.events < self.old.limit }
+        ensures answer { IfOk result (λ row. (g : Given) (E : List Entry) → C.stands_for self.old.state g E → option_map row_view row ≡ pop_answer E) }
+        ensures stands { OnOk result (Follows C.rules (C.stands_for self.old.state) (C.stands_for self.new.state) ToPop) }
+        ensures rises { IfOk result (λ popped. IfSome popped (λ row. C.popped_of self.old.state < row.instant)) }
+        ensures tagged { IfOk result (λ popped. IfSome popped (λ row. (g : Given) → N.given ≡ Some g → row.instant < SECONDS * g.output.rate)) }
+        ensures popped { IfOk result (λ row. C.popped_of self.new.state ≡ popped_after (option_map row_view row) (C.popped_of self.old.state)) }
+        ensures counts { C.counts_of self.new.state ≡ C.counts_of self.old.state }
+        ensures event { OnOk result (self.new.events.items ≡ self.old.events.items ++ step.Pop ∷ []) }
+        ensures limit { self.new.limit ≡ self.old.limit }
+        ensures err { OnErr result (self.new.state ≡ self.old.state) }
+    {
+        let Replayed { events, state, .. } = self;
+        events.reserve(1)?;
+        let row = state.pop_due();
+        events.push_reserved(CoreStep::Pop);
+        Ok(row)
+    }
+}
+
+/// Answers what was kept.
+fn answered<C: Core>(state: &mut C, stream: usize, taken: &KeptArrival) -> Outcome
+    requires { C.Settings.fits (C.settings_of state.old) stream (taken_view taken.now) ≡ true }
+    ensures answer { (g : Given) (E : List Entry) → C.stands_for state.old g E → result ≡ (C.rules g E stream (taken_view taken.now)).outcome }
+    ensures stands { (bytes : List ℕ) → C.Settings.says (C.settings_of state.old) stream bytes (taken_view taken.now) →
+        Follows C.rules (C.stands_for state.old) (C.stands_for state.new) (ToArrive stream bytes (taken_view taken.now)) }
+    ensures counts { C.counts_of state.new ≡ after_answer result (C.counts_of state.old) }
+    ensures popped { C.popped_of state.new ≡ C.popped_of state.old }
+    ensures settings { C.settings_of state.new ≡ C.settings_of state.old }
+{
+    let arrival = taken.view();
+    state.arrive(stream, &arrival)
+}
+
+/// Makes the steps in order.
+fn replay<C: Core>(base: &mut C, events: &[CoreStep])
+    requires { list_all (is_allowed (C.Settings.fits (C.settings_of base.old))) events.now ≡ true }
+    ensures settings { C.settings_of base.new ≡ C.settings_of base.old }
+    ensures replayed { Replaying C.rules (C.Settings.says (C.settings_of base.old)) (C.stands_for base.old) (C.stands_for base.new) events.now }
+{
+    for event in events {
+        let _ = base.apply(event);
+    }
+}

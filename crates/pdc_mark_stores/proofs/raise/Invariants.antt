@@ -1,7 +1,0 @@
-use Rattle.std.proofs.Common.{◌≡◌}
-use Rattle.pdc_mark.specs.DiskMark.{stored_of}
-use Rattle.pdc_mark.specs.Stored.{with_floor}
-use Rattle.pdc_mark_stores.proofs.raise.Given as goal
-
-abbrev pub invariant-loop-floor : goal.invariant-loop-floor
-invariant-loop-floor l = stored_of l.mark ≡ with_floor (stored_of l.initial.mark) l.floor

@@ -1,5 +1,0 @@
-//! Tests of nodes, over both tables.
-#![tactic(auto)]
-
-#[cfg(test)]
-mod tests;

@@ -1,2 +1,0 @@
-pub mod ChangeNumbers
-pub mod Held

@@ -1,5 +1,0 @@
-use Rattle.std.proofs.Common.{length}
-use Rattle.pdc_past.proofs.instants.+waiting.Given as goal
-
-abbrev pub decreases-waiting : goal.decreases-waiting
-decreases-waiting l = length l.life.now

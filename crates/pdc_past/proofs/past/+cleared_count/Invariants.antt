@@ -1,5 +1,0 @@
-use Rattle.std.proofs.Common.{length}
-use Rattle.pdc_past.proofs.past.+cleared_count.Given as goal
-
-abbrev pub decreases-cleared_count : goal.decreases-cleared_count
-decreases-cleared_count l = length l.life.now

@@ -1,5 +1,0 @@
-use Rattle.std.proofs.Common.{length}
-use Rattle.pdc_past.proofs.past.+section_in_force.Given as goal
-
-abbrev pub decreases-section_in_force : goal.decreases-section_in_force
-decreases-section_in_force l = length l.life.now

@@ -1,5 +1,0 @@
-use Rattle.std.proofs.Common.{length}
-use Rattle.pdc_past.proofs.taking.+was_taken.Given as goal
-
-abbrev pub decreases-was_taken : goal.decreases-was_taken
-decreases-was_taken l = length l.life.now

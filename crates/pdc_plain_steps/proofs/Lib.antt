@@ -1,0 +1,3 @@
+pub mod ChangeNumbers
+pub mod Held
+pub mod Ranges

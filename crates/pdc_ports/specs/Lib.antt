@@ -1,0 +1,2 @@
+-- What a device that failed leaves.
+pub mod Failures

@@ -1,0 +1,36 @@
+//! When a running concentrator ticks, and who is told how it stands.
+ghost use Rattle.std.specs.Prelude.{◌++◌, ◌∷◌, ℕ, IfNone, IfSome, List, []};
+
+use pdc_arrival::Counts;
+
+/// How a run stands once all rows of a tick were published.
+#[derive(Clone, Copy, Debug)]
+pub struct Told {
+    /// How arrivals were answered since the core was opened.
+    pub counts: Counts,
+    /// How many rows were published in this run so far.
+    pub published: u64,
+    /// The last instant that was published, or the floor that the run began with.
+    pub last: u64,
+}
+
+/// When the aligner ticks, and who is told how the run stands. It may tell what it gave: where `gave ticker nows`, it gave exactly these
+/// instants, in order. A ticker that tells nothing says that of any.
+pub trait Ticker {
+    ghost gave: { Self → List ℕ → Type 0 } = { λ ticker nows. Unit {0} };
+
+    /// The instant that is now, at the next tick; none at the end.
+    fn next(&mut self) -> Option<u64>
+        ensures some { IfSome result (λ now. (nows : List ℕ) → gave self.old nows → gave self.new (nows ++ now ∷ [])) }
+        ensures none { IfNone result ((nows : List ℕ) → gave self.old nows → gave self.new nows) };
+
+    /// Whether it wants to be told how the run stands, after the tick that it gave last. One that says nothing of it never does.
+    fn wants_counts(&self) -> bool {
+        false
+    }
+
+    /// Takes how the run stands. Whoever calls it waits for its return: no tick comes before.
+    fn tell(&mut self, _told: &Told)
+        ensures { (nows : List ℕ) → gave self.old nows → gave self.new nows }
+    {}
+}

@@ -1,3 +1,0 @@
-pub mod Beside
-pub mod Listed
-pub mod OwnStamp

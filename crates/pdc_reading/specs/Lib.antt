@@ -1,3 +1,0 @@
-pub mod Heard
-pub mod Placing
-pub mod Views

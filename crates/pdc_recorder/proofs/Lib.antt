@@ -1,3 +1,0 @@
-mod Counted
-mod Held
-mod Replays

@@ -1,7 +1,0 @@
-use Rattle.std.proofs.Common.{◌≡◌, ◌≤◌}
-use Rattle.pdc_recorder.proofs.receiver.receive.Given as goal
-
-abbrev pub invariant-loop : goal.invariant-loop
-invariant-loop g l =
-    (l.shares.taken.parts ≡ 1) × (l.shares.refused.parts ≡ 1) × (l.shares.configured.parts ≡ 1) × (l.shares.taken.amount ≡ l.taken) × (l.shares.refused.amount ≡ l.refused)
-    × (g.S.Source.failures_of l.initial.source ≤ g.S.Source.failures_of l.source)

@@ -1,5 +1,0 @@
--- What is under the lock of a running core, and what its steps count.
-pub mod Counted
-pub mod Failures
-pub mod Faults
-pub mod Replay

@@ -1,8 +1,0 @@
-use Rattle.std.proofs.Common.{Some}
-use Rattle.pdc_life.specs.Given.{given_of}
-use Rattle.pdc_running_bench.specs.declared.frames.TheConstants.{FLOOR}
-use Rattle.pdc_running_bench.proofs.recorded.open_and_record.Given as goal
-
--- the life that is recorded, and its settings
-abbrev pub ghosts-record_all : goal.ghosts-record_all
-ghosts-record_all a = record { given = Some (given_of a.settings.now 1 FLOOR a.counts.now 0); settings = Some a.settings.now }

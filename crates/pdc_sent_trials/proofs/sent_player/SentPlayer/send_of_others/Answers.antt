@@ -1,4 +1,0 @@
-use Rattle.pdc_sent_trials.proofs.sent_player.SentPlayer.send_of_others.Goals as goal
-
-pub push_reserved-requires-clause-of_none : goal.push_reserved-requires-clause-of_none
-push_reserved-requires-clause-of_none c = c.is_of_no_pmu.ensures.0 c.if-is_of_no_pmu.true

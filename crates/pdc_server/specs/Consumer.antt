@@ -1,0 +1,21 @@
+-- A consumer that is connected (this profile).
+use Rattle.std.specs.Prelude.{ℕ}
+use Rattle.pdc_session.specs.Session.{SessionView}
+use Rattle.pdc_server.specs.Turn.{Standing}
+use Rattle.pdc_server.specs.declared.consumer.Consumer.{Consumer}
+
+-- the stream that it asks
+abbrev pub id_in : Consumer → ℕ
+id_in consumer = consumer.id
+
+-- its session
+abbrev pub session_in : Consumer → SessionView
+session_in consumer = consumer.session
+
+-- up to which instant it got data
+abbrev pub got_in : Consumer → ℕ
+got_in consumer = consumer.got
+
+-- where it stands
+abbrev pub standing_in : Consumer → Standing
+standing_in consumer = record { session = consumer.session; got = consumer.got }

@@ -1,0 +1,114 @@
+//! One session, turn by turn.
+ghost use Rattle.std.specs.Prelude.{◌≡◌, ◌≤◌, ◌<◌, take, Some, None, OnOk, IfOk, IfErr, vec_len};
+ghost use Rattle.pdc_frame.specs.declared.limits.TheConstants.{MAX_ID};
+ghost use Rattle.pdc_server.specs.Turn.{HasEnded, HasTurned, IsMade};
+ghost use Rattle.pdc_session.specs.Served.{IsNew};
+
+use crate::ended::Ended;
+use crate::hearing::{answer, append_data};
+use crate::traffic::{read_once, write_out};
+use pdc_frame::MAX_ID;
+use pdc_recent::{Naming, Recent};
+use pdc_session::Session;
+use std::alloc::{AllocError, Global};
+use std::io::{Read, Write};
+use std::rt::Clock;
+use std::sync::Wait;
+
+/// The most bytes that are read in one turn.
+const PIECE_LEN: usize = 4096;
+
+/// A consumer that is connected: its session, and up to which instant it got data, at first 0.
+#[derive(Drop)]
+pub struct Consumer {
+    session: Session,
+    id: u16,
+    got: u64,
+    piece: Vec<u8>,
+    layout: Vec<u8>,
+    out: Vec<u8>,
+    pub ghost of_stream: { session.id ≡ id },
+    pub ghost has_room: { 0 < vec_len piece },
+}
+
+impl Consumer {
+    ghost use Rattle.pdc_server.specs.Consumer.{got_in, id_in, session_in, standing_in};
+
+    /// A consumer of the stream `id`, 1 to 65534, that sent nothing yet.
+    ///
+    /// # Errors
+    ///
+    /// [`AllocError`] where there is no memory for the longest frame and for a read.
+    pub fn new(alloc: Global, id: u16) -> Result<Consumer, AllocError>
+        requires id_low { 0 < id }
+        requires id_high { id ≤ MAX_ID }
+        ensures id { IfOk result (λ consumer. id_in consumer ≡ id) }
+        ensures is_new { IfOk result (λ consumer. IsNew (session_in consumer)) }
+        ensures got { IfOk result (λ consumer. got_in consumer ≡ 0) }
+    {
+        Ok(Consumer {
+            session: Session::new(alloc, id)?,
+            id,
+            got: 0,
+            piece: vec![in alloc; 0u8; PIECE_LEN]?,
+            layout: Vec::new(alloc),
+            out: Vec::new(alloc),
+        })
+    }
+
+    /// Up to which instant it got data.
+    pub fn got(&self) -> u64
+        ensures { result ≡ got_in self.now }
+    {
+        self.got
+    }
+
+    /// Makes what is to be written once so many bytes came: the replies to the commands that end there, and behind them, while data is
+    /// on, the frames that were sent last and lie above what it got.
+    fn make<N: Naming, R: Wait + Clock>(
+        &mut self,
+        rt: &R,
+        recent: &Recent<N>,
+        count: usize,
+    ) -> Result<(), Ended>
+        requires { count ≤ vec_len self.old.piece }
+        ensures id { id_in self.new ≡ id_in self.old }
+        ensures ok { OnOk result (IsMade None N.stream (id_in self.old) (take count self.old.piece.items) (standing_in self.old) (standing_in self.new) self.new.out.items) }
+        ensures err { IfErr result (λ ended. IsMade (Some ended) N.stream (id_in self.old) (take count self.old.piece.items) (standing_in self.old) (standing_in self.new) self.new.out.items) }
+    {
+        self.out.clear();
+        answer(
+            rt,
+            recent,
+            self.id,
+            &mut self.session,
+            &self.piece[..count],
+            &mut self.layout,
+            &mut self.out,
+        )?;
+        self.got = append_data(rt, &self.session, recent, self.got, &mut self.out)?;
+        Ok(())
+    }
+
+    /// Reads once what the consumer sends, and writes the replies to the commands that end there, and behind them, while data is on, the
+    /// frames that were sent last and lie above what it got.
+    ///
+    /// # Errors
+    ///
+    /// Why the session ended. Replies to commands before a fault of the session, and before a want of memory, are written.
+    pub fn turn<N: Naming, S: Read + Write, R: Wait + Clock>(
+        &mut self,
+        rt: &R,
+        recent: &Recent<N>,
+        stream: &mut S,
+    ) -> Result<(), Ended>
+        ensures id { id_in self.new ≡ id_in self.old }
+        ensures ok { OnOk result (HasTurned S.remaining S.contents N.stream (id_in self.old) (standing_in self.old) (standing_in self.new) stream.old stream.new) }
+        ensures ended { IfErr result (HasEnded S.remaining S.contents N.stream (id_in self.old) (standing_in self.old) (standing_in self.new) stream.old stream.new) }
+    {
+        let count = read_once(stream, &mut self.piece)?;
+        let made = self.make(rt, recent, count);
+        write_out(rt, recent, stream, &self.out)?;
+        made
+    }
+}

@@ -1,0 +1,124 @@
+//! What a piece of the consumer's stream is answered.
+ghost use Rattle.std.specs.Prelude.{◌≡◌, ◌≤◌, length, true, false, Some, IfOk, IfErr, OnErr, OnOk};
+ghost use Rattle.pdc_cfg.specs.Config.{config_fields_of};
+ghost use Rattle.pdc_command.specs.declared.header.TheConstants.{MAX_TEXT};
+ghost use Rattle.pdc_recent.specs.Given.{IsGiven};
+ghost use Rattle.pdc_recent.specs.Stream.{IsLayout, IsLayoutWith};
+ghost use Rattle.pdc_server.specs.Turn.{HasFailed, HasHeard, IsAnswered, IsUnheard};
+
+use crate::ended::Ended;
+use crate::header::header_of;
+use pdc_cfg::{ConfigView, read_config};
+use pdc_frame::read_frame;
+use pdc_recent::{Naming, Recent};
+use pdc_session::{Serving, Session, SessionFault};
+use std::rt::Clock;
+use std::sync::Wait;
+use std::time::{Duration, SystemTime};
+
+/// The configuration in the bytes of a layout frame.
+fn config_of<N: Naming>(layout: &[u8]) -> ConfigView<'_>
+    requires { ∥ IsLayout N.stream layout.now ∥₁ }
+    ensures { ∥ IsLayoutWith N.stream layout.now (config_fields_of result) ∥₁ }
+{
+    let frame = read_frame(layout).unwrap();
+    read_config(&frame).unwrap()
+}
+
+/// The second that the clock shows; 0 where it cannot be read or shows a time before 1970.
+fn second_now<C: Clock>(clock: &C) -> u32 {
+    let Ok(now) = SystemTime::now(clock) else {
+        return 0;
+    };
+    let since = now
+        .duration_since(SystemTime::UNIX_EPOCH)
+        .unwrap_or(Duration::ZERO);
+    u32::try_from(since.as_secs()).unwrap_or(u32::MAX)
+}
+
+/// Appends the replies to the commands that end in the piece, dated with this second, of this header and layout.
+///
+/// # Errors
+///
+/// Where the session ends. `out` has the replies to the commands before.
+fn hear<N: Naming>(
+    session: &mut Session,
+    piece: &[u8],
+    soc: u32,
+    header: &[u8],
+    layout: &[u8],
+    out: &mut Vec<u8>,
+) -> Result<(), SessionFault>
+    requires header { length header.now ≤ MAX_TEXT }
+    requires layout { ∥ IsLayout N.stream layout.now ∥₁ }
+    ensures id { session.new.id ≡ session.old.id }
+    ensures ok { OnOk result (IsAnswered N.stream header.now piece.now session.old session.new out.old.items out.new.items) }
+    ensures failed { IfErr result (λ fault. HasFailed N.stream header.now piece.now session.old session.new out.old.items out.new.items fault) }
+{
+    let serving = Serving {
+        soc,
+        header,
+        layout: config_of::<N>(layout),
+    };
+    session.feed(piece, &serving, out)
+}
+
+/// Appends the replies of the stream `id` to the commands that end in the piece; nothing where there is no piece. The layout is read into
+/// `layout`.
+///
+/// # Errors
+///
+/// Where the session ends; `out` has the replies to the commands before. And where there is no memory for the layout.
+pub fn answer<N: Naming, R: Wait + Clock>(
+    rt: &R,
+    recent: &Recent<N>,
+    id: u16,
+    session: &mut Session,
+    piece: &[u8],
+    layout: &mut Vec<u8>,
+    out: &mut Vec<u8>,
+) -> Result<(), Ended>
+    ensures id { session.new.id ≡ session.old.id }
+    ensures ok { OnOk result (HasHeard N.stream id piece.now session.old session.new out.old.items out.new.items) }
+    ensures unheard { IfErr result (λ ended. IsUnheard ended N.stream id piece.now session.old session.new out.old.items out.new.items) }
+{
+    if piece.is_empty() {
+        return Ok(());
+    }
+    layout.clear();
+    match recent.layout(rt, layout) {
+        Ok(()) => {}
+        Err(_) => return Err(Ended::NoMemory),
+    }
+    let heard = hear::<N>(session, piece, second_now(rt), &header_of(id), layout, out);
+    match heard {
+        Ok(()) => Ok(()),
+        Err(fault) => Err(Ended::Session(fault)),
+    }
+}
+
+/// Appends the frames above the instant that the consumer got, where it wants data, and answers the greatest instant that it has then.
+///
+/// # Errors
+///
+/// Where it wants data, and there is no memory for the frames. `out` is unchanged then.
+pub fn append_data<N: Naming, R: Wait>(
+    rt: &R,
+    session: &Session,
+    recent: &Recent<N>,
+    got: u64,
+    out: &mut Vec<u8>,
+) -> Result<u64, Ended>
+    ensures off { session.now.told.on ≡ false → IfOk result (λ reached. (reached ≡ got) × (out.new.items ≡ out.old.items)) }
+    ensures on { session.now.told.on ≡ true → IfOk result (λ reached. IsGiven N.stream got out.old.items reached out.new.items) }
+    ensures err { OnErr result (out.new.items ≡ out.old.items) }
+    ensures wanted { IfErr result (λ ended. (ended ≡ Ended.NoMemory) × (session.now.told.on ≡ true)) }
+{
+    if !session.on() {
+        return Ok(got);
+    }
+    match recent.after(rt, got, out) {
+        Ok(reached) => Ok(reached),
+        Err(_) => Err(Ended::NoMemory),
+    }
+}

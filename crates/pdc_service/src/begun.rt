@@ -1,0 +1,46 @@
+//! A mark that has begun.
+ghost use Rattle.std.specs.Prelude.{◌≡◌, ◌⊎◌, IfOk, IsErrOf, OnErr};
+ghost use Rattle.pdc_mark.specs.Stored.{with_next_start};
+ghost use Rattle.pdc_service.specs.Begun.{begun_mark};
+
+use pdc_mark::{Mark, MarkFault};
+
+/// A mark whose next start number was stored: one life may begin with what it stores, and no other will have this start.
+#[derive(Drop)]
+pub struct Begun<M: Mark> {
+    mark: M,
+}
+
+impl<M: Mark + Drop> Begun<M> {
+    ghost use Rattle.pdc_service.specs.Begun.{begun_mark};
+
+    /// Stores the next start number.
+    ///
+    /// # Errors
+    ///
+    /// `Device` where the device failed, and `StartsUsedUp` where no start number is left.
+    pub fn new(mark: M) -> Result<Begun<M>, MarkFault>
+        ensures begun { IfOk result (λ begun. M.stored (begun_mark begun) ≡ with_next_start (M.stored mark)) }
+        ensures faults { OnErr result (IsErrOf result MarkFault.Device ⊎ IsErrOf result MarkFault.StartsUsedUp) }
+        ensures safe { M.is_safe → IsErrOf result MarkFault.Device → ⊥ }
+    {
+        let mut mark = mark;
+        mark.begin()?;
+        Ok(Begun { mark })
+    }
+
+    /// The start number of the life.
+    pub fn start(&self) -> u32
+        ensures { result ≡ (M.stored (begun_mark self.now)).start }
+    {
+        let (start, _) = self.mark.stored();
+        start
+    }
+
+    /// The mark.
+    pub fn into_mark(self) -> M
+        ensures { result ≡ begun_mark self }
+    {
+        self.mark
+    }
+}

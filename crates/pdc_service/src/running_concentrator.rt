@@ -1,0 +1,232 @@
+//! Runs of a node and of the merger.
+ghost use Rattle.std.specs.Prelude.{◌≡◌, ◌≤◌, ◌<◌, ◌+◌, ℕ, IfOk, List, Some, [], length, map, sum, vec_len};
+ghost use Rattle.pdc_threads.specs.Rate.{IsAtRate};
+ghost use Rattle.pdc_threads.specs.Run.{HasRun, IsSummed};
+ghost use Rattle.pdc_life.specs.Given.{Given};
+ghost use Rattle.pdc_publisher.specs.Publisher.{last_in, mark_in, output_in};
+ghost use Rattle.pdc_service.specs.Begun.{begun_mark};
+
+use crate::begun::Begun;
+use crate::plan::Plan;
+use pdc_core::{Core, Opens, Reads};
+use pdc_life::{MAX_PMUS, MergerSettings, Settings};
+use pdc_mark::Mark;
+use pdc_merge::{Merger, copy_of_merger};
+use pdc_node::{Node, copy_of};
+use pdc_output::Output;
+use pdc_publisher::Publisher;
+use pdc_table::RingTable;
+use pdc_threads::{Blanks, Hub, HubFault, Naming, Pace, Ran, Sink, Source, Ticker, run};
+use std::alloc::Global;
+use std::marker::Brand;
+use std::sync::Wait;
+use std::sync::ledger::{Blank, Ledger};
+use std::thread::Threads;
+
+/// Runs a core at the start of its life, the base of the recorder, with another one that is opened like it, its present state.
+fn opened<
+    C: Opens + Send,
+    N: Naming<C::Settings> + Send,
+    T: Ledger + Send + Sync,
+    F: Ledger + Send + Sync,
+    G: Ledger + Send + Sync,
+    P: Ledger + Send + Sync,
+    S: Source + Send + Drop,
+    M: Mark + Drop,
+    I: Ticker + Drop,
+    K: Sink + Send + Drop,
+    R: Threads + Wait + Sync,
+>(
+    rt: &R,
+    alloc: Global,
+    settings: &C::Settings,
+    base: C,
+    start: u32,
+    counts: &[u16; MAX_PMUS],
+    limit: usize,
+    pace: Pace,
+    blanks: Blanks,
+    sources: Vec<S>,
+    publisher: Publisher<M>,
+    ticker: I,
+    sink: K,
+) -> Ran<M, K>
+where
+    C::Settings: Sync,
+    requires given { N.given ≡ Some (C.given_with settings.now start (last_in publisher) counts.now) }
+    requires stands { C.stands_for base (C.given_with settings.now start (last_in publisher) counts.now) [] }
+    requires settings { (N.settings ≡ Some settings.now) × (C.settings_of base ≡ settings.now) }
+    requires limit { 1 ≤ limit }
+    requires names { (blanks.taken.name ≡ T.name) × (blanks.refused.name ≡ F.name) × (blanks.configured.name ≡ G.name) × (blanks.top.name ≡ P.name) }
+    requires parts { (blanks.taken.parts ≡ T.parts) × (blanks.refused.parts ≡ F.parts) × (blanks.configured.parts ≡ G.parts) × (blanks.top.parts ≡ P.parts) }
+    requires count { (T.parts ≡ vec_len sources + 1) × (F.parts ≡ vec_len sources + 1) × (G.parts ≡ vec_len sources + 1) × (P.parts ≡ 1) }
+    requires streams { (vec_len sources ≡ C.Settings.streams settings.now) × (vec_len sources ≤ MAX_PMUS) }
+    requires floor { last_in publisher ≡ (M.stored (mark_in publisher)).floor }
+    requires rate { IsAtRate N.given (output_in publisher).rate }
+    ensures totals { IsSummed result.outcome }
+    ensures sent { HasRun (K.took sink result.sink) (last_in publisher) (M.stored (mark_in result.publisher)).floor result.outcome }
+{
+    let floor = publisher.last();
+    let Ok(state) = base.open_next(alloc, start, floor, counts) else {
+        return not_run(publisher, sink);
+    };
+    let (hub, shares, top) = Hub::<C, N, T, F, G, P>::new(alloc, base, state, limit, floor, blanks);
+    run(
+        rt, alloc, &hub, settings, shares, top, sources, publisher, ticker, pace, sink,
+    )
+}
+
+/// A ledger of so many parts for each of the three totals, and one for the greatest instant popped.
+fn blanks(parts: u64) -> Blanks
+    ensures parts { (result.taken.parts ≡ parts) × (result.refused.parts ≡ parts) × (result.configured.parts ≡ parts) × (result.top.parts ≡ 1) }
+{
+    Blanks {
+        taken: Blank::new(parts),
+        refused: Blank::new(parts),
+        configured: Blank::new(parts),
+        top: Blank::new(1),
+    }
+}
+
+/// Nothing was run, for want of memory.
+fn not_run<M: Mark, K: Sink>(publisher: Publisher<M>, sink: K) -> Ran<M, K>
+    requires floor { last_in publisher ≡ (M.stored (mark_in publisher)).floor }
+    ensures totals { IsSummed result.outcome }
+    ensures sent { HasRun (K.took sink result.sink) (last_in publisher) (M.stored (mark_in result.publisher)).floor result.outcome }
+{
+    Ran {
+        publisher,
+        sink,
+        outcome: Err(HubFault::NoMemory),
+    }
+}
+
+/// Runs a core whose life begins with what the mark stores. The copy of the settings goes into the core.
+fn run_begun<
+    C: Opens + Send,
+    S: Source + Send + Drop,
+    M: Mark + Drop,
+    I: Ticker + Drop,
+    K: Sink + Send + Drop,
+    R: Threads + Wait + Sync,
+>(
+    rt: &R,
+    alloc: Global,
+    settings: &C::Settings,
+    copy: C::Settings,
+    output: Output,
+    plan: &Plan,
+    mark: Begun<M>,
+    sources: Vec<S>,
+    ticker: I,
+    sink: K,
+) -> Ran<M, K>
+where
+    C::Settings: Sync,
+    requires copy { copy ≡ settings.now }
+    requires output { (start floor : ℕ) (counts : List ℕ) → (C.given_with settings.now start floor counts).output ≡ output }
+    requires streams { (vec_len sources ≡ C.Settings.streams settings.now) × (vec_len sources ≤ MAX_PMUS) }
+    ensures totals { IsSummed result.outcome }
+    ensures sent { HasRun (K.took sink result.sink) (M.stored (begun_mark mark)).floor (M.stored (mark_in result.publisher)).floor result.outcome }
+{
+    let mark = mark.into_mark();
+    let (start, floor) = mark.stored();
+    let counts = mark.counts();
+    let publisher = Publisher::new(mark, output, plan.lead);
+    let Ok(core) = C::open_first(alloc, copy, start, floor, &counts) else {
+        return not_run(publisher, sink);
+    };
+    let pace = Pace {
+        rate: output.rate,
+        layout_every: plan.layout_every,
+    };
+    let blanks = blanks(sources.len() as u64 + 1);
+    opened::<C, Brand, Brand, Brand, Brand, Brand, S, M, I, K, R>(
+        rt, alloc, settings, core, start, &counts, plan.limit, pace, blanks, sources, publisher,
+        ticker, sink,
+    )
+}
+
+/// Runs a node: a receiver for each PMU, in the order of the settings, the aligner and the sender. Its life begins with what the mark
+/// stores, with nothing taken, and its now is 0 until the first tick.
+///
+/// # Errors
+///
+/// As `pdc_threads`'s `run`; the publisher and the sink are handed back.
+pub fn run_node<
+    S: Source + Send + Drop,
+    M: Mark + Drop,
+    I: Ticker + Drop,
+    K: Sink + Send + Drop,
+    R: Threads + Wait + Sync,
+>(
+    rt: &R,
+    alloc: Global,
+    settings: &Settings,
+    plan: &Plan,
+    mark: Begun<M>,
+    sources: Vec<S>,
+    ticker: I,
+    sink: K,
+) -> Ran<M, K>
+    // Each PMU has a source.
+    requires { vec_len sources ≡ length settings.now.pmus.items }
+    // The totals are the sums over the receivers.
+    ensures totals { IfOk result.outcome (λ t. (t.taken ≡ sum (map (λ c. c.taken) t.receivers.items)) × (t.refused ≡ sum (map (λ c. c.refused) t.receivers.items))) }
+    // What the sink took are the first of the frames put, whose instants strictly rise above the floor that was stored, and are at most the
+    // one that is stored then; all of them where the run was Ok, and then so many rows were published.
+    ensures sent { HasRun (K.took sink result.sink) (M.stored (begun_mark mark)).floor (M.stored (mark_in result.publisher)).floor result.outcome }
+{
+    run_begun::<Node<RingTable>, S, M, I, K, R>(
+        rt,
+        alloc,
+        settings,
+        copy_of(settings),
+        settings.output,
+        plan,
+        mark,
+        sources,
+        ticker,
+        sink,
+    )
+}
+
+/// Runs the merger: a receiver for each node, the aligner and the sender, as [`run_node`].
+///
+/// # Errors
+///
+/// As `pdc_threads`'s `run`; the publisher and the sink are handed back.
+pub fn run_merger<
+    S: Source + Send + Drop,
+    M: Mark + Drop,
+    I: Ticker + Drop,
+    K: Sink + Send + Drop,
+    R: Threads + Wait + Sync,
+>(
+    rt: &R,
+    alloc: Global,
+    settings: &MergerSettings,
+    plan: &Plan,
+    mark: Begun<M>,
+    sources: Vec<S>,
+    ticker: I,
+    sink: K,
+) -> Ran<M, K>
+    // Node A and node B have a source each.
+    requires { vec_len sources ≡ 2 }
+    ensures totals { IfOk result.outcome (λ t. (t.taken ≡ sum (map (λ c. c.taken) t.receivers.items)) × (t.refused ≡ sum (map (λ c. c.refused) t.receivers.items))) }
+    ensures sent { HasRun (K.took sink result.sink) (M.stored (begun_mark mark)).floor (M.stored (mark_in result.publisher)).floor result.outcome }
+{
+    run_begun::<Merger<RingTable>, S, M, I, K, R>(
+        rt,
+        alloc,
+        settings,
+        copy_of_merger(settings),
+        settings.output,
+        plan,
+        mark,
+        sources,
+        ticker,
+        sink,
+    )
+}

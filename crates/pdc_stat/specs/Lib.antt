@@ -1,2 +1,0 @@
-pub mod AbsentBlock
-pub mod Stat

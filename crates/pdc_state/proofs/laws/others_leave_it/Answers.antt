@@ -1,5 +1,0 @@
-use Rattle.pdc_state.proofs.Arrivals.{others_leave_it}
-use Rattle.pdc_state.proofs.laws.others_leave_it.Goals as goal
-
-pub returns : goal.returns
-returns c g E e arrives h = others_leave_it g E e arrives h

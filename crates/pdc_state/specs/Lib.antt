@@ -1,2 +1,0 @@
-pub mod State
-pub mod Follows

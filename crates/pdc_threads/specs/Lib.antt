@@ -1,0 +1,4 @@
+-- What a run does.
+pub mod Crew
+pub mod Rate
+pub mod Run

@@ -1,0 +1,38 @@
+-- What a run of the receivers, the aligner and the sender did.
+use Rattle.std.specs.Prelude.{◌≡◌, ℕ, Option, List, [], ◌++◌, length, map, sum, IfOk, OnOk, Result}
+use Rattle.pdc_aligner.specs.declared.pace.Pace.{Pace}
+use Rattle.pdc_aligner.specs.Sequence.{Rises, instants_of}
+use Rattle.pdc_aligner.specs.Turns.{HasGiven, IsAligned}
+use Rattle.pdc_life.specs.Given.{Given}
+use Rattle.pdc_mark.specs.declared.stored.Stored.{Stored}
+use Rattle.pdc_hub.specs.declared.fault.HubFault.{HubFault}
+use Rattle.pdc_hub.specs.Replay.{Lives}
+use Rattle.pdc_pipe.specs.declared.message.Message.{Message}
+use Rattle.pdc_pipe.specs.Sequence.{bytes_of}
+use Rattle.pdc_threads.specs.declared.runs.Totals.{Totals}
+
+-- The totals are the sums over the receivers.
+abbrev pub IsSummed : Result Totals HubFault → Type 0
+IsSummed outcome = IfOk outcome (λ t. (t.taken ≡ sum (map (λ c. c.taken) t.receivers.items)) × (t.refused ≡ sum (map (λ c. c.refused) t.receivers.items)))
+
+-- The instants of what was put strictly rise, lie above `low` and are at most `high`. What the sink took are the first of the frames
+-- that were put; all of them where the run was Ok, and then as many rows were published as it tells.
+pub record HasRun (Took : List (List ℕ) → Type 0) (low high : ℕ) (outcome : Result Totals HubFault) : Type 0 where
+  pub put : List Message
+  pub given : List (List ℕ)
+  pub rest : List (List ℕ)
+  pub took : Took given
+  pub first : bytes_of put ≡ given ++ rest
+  pub rising : Rises low (instants_of put) high
+  pub whole : OnOk outcome (rest ≡ [])
+  pub published : IfOk outcome (λ totals. totals.published ≡ length (instants_of put))
+
+-- From this state on a ticker gave these instants, in order.
+abbrev pub GivesFrom : {I : Type 0} (gave : I → List ℕ → Type 0) (ticker : I) → List ℕ → Type 0
+GivesFrom {I} gave ticker nows = (after : I) × HasGiven gave ticker after nows
+
+-- It ran so above the last instant that was published, with the mark that was stored before and the one that is stored then, and what was
+-- put was put tick by tick of those that the ticker gave.
+pub record HasRunInTurns {C : Type 0} (Stands : C → Lives) (named : Option Given) (pace : Pace) (Gave : List ℕ → Type 0) (Took : List (List ℕ) → Type 0) (last : ℕ) (before after : Stored) (outcome : Result Totals HubFault) : Type 0 where
+  pub run : HasRun Took last after.floor outcome
+  pub aligned : IsAligned Stands named pace.rate pace.layout_every before.counts after.counts Gave outcome run.put

@@ -1,0 +1,20 @@
+//! The running core of a concentrator, node or merger: receivers side by side round one lock, one aligner that alone owns the mark, and
+//! one sender that alone has the sink (this profile).
+//!
+//! The first call to look at is [`run`]. What goes from the aligner to the sender is a [`Message`], through the channel of `pdc_pipe`.
+//!
+//! The promise to the layers above: what the sink took is a prefix of what the aligner put, whose instants strictly rise, lie above the
+//! floor that was stored before, and are at most the floor that is stored then.
+#![tactic(auto)]
+
+mod receivers;
+mod runs;
+
+pub use pdc_aligner::{Pace, align, tick_cleared};
+pub use pdc_hub::{Blanks, Hub, HubFault, Naming, Received, Shares, receive};
+pub use pdc_pipe::{
+    CAPACITY, Ended, InOrder, LayoutFrame, Log, Message, Receiver, Sender, send_out,
+};
+pub use pdc_ports::{Counts, MemorySink, Next, Sink, SinkFault, Source, Ticker, Told};
+pub use receivers::{Counted, Input};
+pub use runs::{Ran, Totals, run};

@@ -1,0 +1,27 @@
+//! What the line of counters says.
+
+use super::same::is;
+use pdc_frame::FrameFault;
+use pdc_life::{Outcome, Refusal};
+use pdc_network::counters_line;
+use pdc_ports::{Counts, Told};
+use std::test::Fail;
+
+#[test]
+fn causes_that_refused_are_told(rt: HostRuntime) -> Result<(), Fail> {
+    let mut counts = Counts::new();
+    counts.count(Outcome::Taken);
+    counts.count(Outcome::Taken);
+    counts.count(Outcome::Refused(Refusal::Late));
+    counts.count(Outcome::Refused(Refusal::NoFrame(FrameFault::BadCheck)));
+    counts.count(Outcome::Refused(Refusal::Late));
+    counts.count(Outcome::Candidate);
+    let told = Told {
+        counts,
+        published: 1,
+        last: 57_478_860_001,
+    };
+    let line = counters_line(rt.alloc(), &told)?;
+    is!(&rt; line.as_str(), "taken=2 refused=3 published=1 last=57478860001, F4 BadCheck 1, B4 Late 2");
+    Ok(())
+}

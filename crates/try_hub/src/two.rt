@@ -1,0 +1,157 @@
+//! Each call twice: through a hub that brings its base up now and then, and on the bare core.
+ghost use Rattle.std.specs.Prelude.{◌≡◌, ◌<◌, ◌≤◌, Some};
+ghost use Rattle.try_hub.specs.Mine.{IsFit};
+
+use pdc_core::{Core, Reads};
+use pdc_life::MAX_PMUS;
+use pdc_row::DueRow;
+use pdc_threads::{Hub, Naming, Shares};
+use std::alloc::Global;
+use std::sync::Wait;
+use std::sync::ledger::{Ledger, Share};
+
+/// The bare core, the shares of the hub's caller, and what was seen so far.
+#[derive(Drop)]
+pub struct Mine<C, T: Ledger, F: Ledger, G: Ledger, P: Ledger> {
+    pub bare: C,
+    pub shares: Shares<T, F, G>,
+    pub top: Share<P>,
+    /// How many calls were made.
+    pub calls: u32,
+    /// How many rows were popped.
+    pub rows: u32,
+    /// Whether all answers were alike.
+    pub alike: bool,
+}
+
+impl<C, T: Ledger, F: Ledger, G: Ledger, P: Ledger> Mine<C, T, F, G, P> {
+    /// Adds a call, and whether its answers were alike.
+    fn saw(&mut self, is_alike: bool)
+        ensures bare { self.new.bare ≡ self.old.bare }
+        ensures shares { self.new.shares ≡ self.old.shares }
+        ensures top { self.new.top ≡ self.old.top }
+    {
+        self.calls = self.calls.saturating_add(1);
+        self.alike = self.alike && is_alike;
+    }
+}
+
+/// Delivers these bytes to both. None where memory was wanted.
+pub fn deliver<
+    C: Core + Drop,
+    N: Naming<C::Settings>,
+    T: Ledger,
+    F: Ledger,
+    G: Ledger,
+    P: Ledger,
+    R: Wait,
+>(
+    rt: &R,
+    alloc: Global,
+    settings: &C::Settings,
+    hub: &Hub<C, N, T, F, G, P>,
+    mine: &mut Mine<C, T, F, G, P>,
+    stream: usize,
+    bytes: &[u8],
+) -> Option<()>
+    requires settings { (N.settings ≡ Some settings.now) × (C.settings_of mine.old.bare ≡ settings.now) }
+    requires stream { stream < C.Settings.streams settings.now }
+    requires fit { IsFit mine.old P.parts }
+    ensures settings { C.settings_of mine.new.bare ≡ C.settings_of mine.old.bare }
+    ensures fit { IsFit mine.new P.parts }
+{
+    let Ok(datagram) = settings.read_kept(alloc, stream, bytes) else {
+        return None;
+    };
+    let Ok(answer) = hub.deliver(rt, stream, datagram, &mut mine.shares) else {
+        return None;
+    };
+    let bare_answer = mine.bare.put_datagram(stream, bytes);
+    mine.saw(answer == bare_answer);
+    Some(())
+}
+
+/// Ticks both. None where memory was wanted.
+pub fn tick<
+    C: Core + Drop,
+    N: Naming<C::Settings>,
+    T: Ledger,
+    F: Ledger,
+    G: Ledger,
+    P: Ledger,
+    R: Wait,
+>(rt: &R, hub: &Hub<C, N, T, F, G, P>, mine: &mut Mine<C, T, F, G, P>, now: u64) -> Option<()>
+    requires fit { IsFit mine.old P.parts }
+    ensures settings { C.settings_of mine.new.bare ≡ C.settings_of mine.old.bare }
+    ensures fit { IsFit mine.new P.parts }
+{
+    let counts = [u16::MAX; MAX_PMUS];
+    let Ok(answer) = hub.tick(rt, now, &counts) else {
+        return None;
+    };
+    let bare_answer = mine.bare.tick(now, &counts);
+    mine.saw(answer == bare_answer);
+    Some(())
+}
+
+/// Whether the rows are the same, block by block.
+fn are_same(one: &DueRow, other: &DueRow) -> bool {
+    one.instant == other.instant
+        && one.start == other.start
+        && one.change == other.change
+        && one.quality == other.quality
+        && one.blocks.len() == other.blocks.len()
+        && one
+            .blocks
+            .iter()
+            .zip(other.blocks.iter())
+            .all(|(a, b)| a.words() == b.words())
+}
+
+/// Pops from both. None where memory was wanted.
+pub fn pop<
+    C: Core + Drop,
+    N: Naming<C::Settings>,
+    T: Ledger,
+    F: Ledger,
+    G: Ledger,
+    P: Ledger,
+    R: Wait,
+>(rt: &R, hub: &Hub<C, N, T, F, G, P>, mine: &mut Mine<C, T, F, G, P>) -> Option<()>
+    requires fit { IsFit mine.old P.parts }
+    ensures settings { C.settings_of mine.new.bare ≡ C.settings_of mine.old.bare }
+    ensures fit { IsFit mine.new P.parts }
+{
+    let Ok(answer) = hub.pop(rt, &mut mine.top) else {
+        return None;
+    };
+    let is_alike = match (&answer, &mine.bare.pop_due()) {
+        (Some(row), Some(bare_row)) => are_same(row, bare_row),
+        (None, None) => true,
+        _ => false,
+    };
+    if answer.is_some() {
+        mine.rows = mine.rows.saturating_add(1);
+    }
+    mine.saw(is_alike);
+    Some(())
+}
+
+/// Whether both show the same: the counts, the counts that wait, and the layout.
+pub fn shows_same<
+    C: Core + Drop,
+    N: Naming<C::Settings>,
+    T: Ledger,
+    F: Ledger,
+    G: Ledger,
+    P: Ledger,
+    R: Wait,
+>(rt: &R, alloc: Global, hub: &Hub<C, N, T, F, G, P>, bare: &C, soc: u32) -> bool {
+    let mut layout = Vec::new(alloc);
+    let mut bare_layout = Vec::new(alloc);
+    hub.layout(rt, soc, &mut layout).is_ok()
+        && bare.layout_frame(soc, &mut bare_layout).is_ok()
+        && layout.as_slice() == bare_layout.as_slice()
+        && hub.counts(rt) == bare.counts()
+        && hub.waiting(rt) == bare.waiting()
+}

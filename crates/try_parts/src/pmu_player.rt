@@ -1,0 +1,190 @@
+//! A simulated PMU.
+//!
+//! | Call | Answer |
+//! |---|---|
+//! | `new ID RATE TIME_BASE` | `ok`; the calls below go to this PMU |
+//! | `set_id ID` | `ok`, or the fault |
+//! | `shape` | its phasors, analog values and digital words, or `none` |
+//! | `header SOC TEXT` | the frame, or the fault |
+//! | `config SOC FRAME` | the frame with the first section of this configuration frame, or the fault |
+//! | `configs TIMES FRAME` | how many of so many configurations it sent |
+//! | `send INSTANT WORD..` | the frame, or the fault |
+//!
+//! Frames are in hexadecimal. What is none of these, or what the PMU cannot be asked, is answered `no such call`.
+ghost use Rattle.std.specs.Prelude.{◌≡◌};
+
+use arrayvec::ArrayVec;
+use pdc_cfg::{Shape, read_config};
+use pdc_command::MAX_TEXT;
+use pdc_frame::{MAX_ID, read_frame};
+use pdc_pmu::{Pmu, PmuFault};
+use pdc_tag::{COUNT_LIMIT, MAX_RATE, SECONDS};
+use std::alloc::{AllocError, Global};
+use try_script::Player;
+
+/// The most words of a block.
+const MAX_WORDS: usize = 107;
+
+/// A PMU that a script plays on.
+#[derive(Debug, Drop)]
+pub struct PmuPlayer {
+    pmu: Pmu,
+    rate: u16,
+    ghost rate_kept: { pmu.rate ≡ rate },
+}
+
+impl PmuPlayer {
+    /// With PMU 1 of one frame a second.
+    pub fn new() -> PmuPlayer {
+        PmuPlayer {
+            pmu: Pmu::new(1, 1, 1),
+            rate: 1,
+        }
+    }
+
+    /// Begins another PMU.
+    fn begin(&mut self, id: &str, rate: &str, time_base: &str) -> Option<()> {
+        let (id, rate): (u16, u16) = (id.parse().ok()?, rate.parse().ok()?);
+        let time_base: u32 = time_base.parse().ok()?;
+        if id == 0 || id > MAX_ID || rate == 0 || u32::from(rate) > MAX_RATE {
+            return None;
+        }
+        if time_base < u32::from(rate) || time_base >= COUNT_LIMIT {
+            return None;
+        }
+        *self = PmuPlayer {
+            pmu: Pmu::new(id, rate, time_base),
+            rate,
+        };
+        Some(())
+    }
+
+    /// Gives the PMU another id.
+    fn set_id(&mut self, id: &str) -> Option<Result<(), PmuFault>> {
+        let id: u16 = id.parse().ok()?;
+        if id == 0 || id > MAX_ID {
+            return None;
+        }
+        Some(self.pmu.set_id(id))
+    }
+
+    /// Sends data, where the words fit the shape.
+    fn send(
+        &mut self,
+        instant: &str,
+        words: &ArrayVec<u16, MAX_WORDS>,
+        out: &mut Vec<u8>,
+    ) -> Option<Result<(), PmuFault>> {
+        let instant: u64 = instant.parse().ok()?;
+        let shape = self.pmu.shape()?;
+        if instant >= SECONDS * u64::from(self.rate) || words.len() != shape.word_count() {
+            return None;
+        }
+        Some(self.pmu.send(instant, words, out))
+    }
+
+    /// Sends the configuration of the first section of a frame.
+    fn configure(
+        &mut self,
+        soc: u32,
+        frame: &[u8],
+        out: &mut Vec<u8>,
+    ) -> Option<Result<(), PmuFault>> {
+        let frame = read_frame(frame).ok()?;
+        let config = read_config(&frame).ok()?;
+        let section = config.sections.first()?;
+        Some(self.pmu.set_configuration(soc, section, out))
+    }
+}
+
+/// The words of a call.
+fn words_of(text: &str) -> Option<ArrayVec<u16, MAX_WORDS>> {
+    let mut words = ArrayVec::new();
+    for word in text.split(' ') {
+        words.try_push(word.parse().ok()?).ok()?;
+    }
+    Some(words)
+}
+
+/// The frame, or why there is none.
+fn told(
+    alloc: Global,
+    answer: Option<Result<(), PmuFault>>,
+    frame: &[u8],
+) -> Result<String, AllocError> {
+    match answer {
+        Some(Ok(())) if frame.is_empty() => "ok".to_string(alloc),
+        Some(Ok(())) => hex::encode_upper(alloc, frame),
+        Some(Err(fault)) => format!(in alloc; "{fault}"),
+        None => "no such call".to_string(alloc),
+    }
+}
+
+/// How many of so many configurations are sent.
+fn configs(
+    alloc: Global,
+    player: &mut PmuPlayer,
+    times: u32,
+    frame: &[u8],
+) -> Result<String, AllocError> {
+    let mut sent: u32 = 0;
+    let mut out = Vec::new(alloc);
+    for _ in 0..times {
+        out.clear();
+        if let Some(Ok(())) = player.configure(0, frame, &mut out) {
+            sent = sent.saturating_add(1);
+        }
+    }
+    sent.to_string(alloc)
+}
+
+/// The shape of the last configuration.
+fn shape_text(alloc: Global, shape: Option<Shape>) -> Result<String, AllocError> {
+    match shape {
+        Some(shape) => format!(in alloc; "{} {} {}", shape.phasors, shape.analogs, shape.digitals),
+        None => "none".to_string(alloc),
+    }
+}
+
+impl Player for PmuPlayer {
+    fn play(&mut self, alloc: Global, call: &str) -> Result<String, AllocError> {
+        let (word, rest) = call.split_once(' ').unwrap_or((call, ""));
+        let (first, second) = rest.split_once(' ').unwrap_or((rest, ""));
+        let mut out = Vec::new(alloc);
+        match word {
+            "new" => {
+                let (rate, time_base) = second.split_once(' ').unwrap_or((second, ""));
+                let answer = self.begin(first, rate, time_base).map(Ok);
+                told(alloc, answer, &[])
+            }
+            "set_id" => told(alloc, self.set_id(first), &[]),
+            "shape" => shape_text(alloc, self.pmu.shape()),
+            "header" => {
+                let (Ok(soc), true) = (first.parse::<u32>(), second.len() <= MAX_TEXT) else {
+                    return "no such call".to_string(alloc);
+                };
+                let answer = self.pmu.set_header(soc, second.as_bytes(), &mut out);
+                told(alloc, Some(answer), &out)
+            }
+            "config" | "configs" => {
+                let (Ok(number), Ok(frame)) = (first.parse::<u32>(), hex::decode(alloc, second))
+                else {
+                    return "no such call".to_string(alloc);
+                };
+                if word == "configs" {
+                    return configs(alloc, self, number, &frame);
+                }
+                let answer = self.configure(number, &frame, &mut out);
+                told(alloc, answer, &out)
+            }
+            "send" => {
+                let answer = match words_of(second) {
+                    Some(words) => self.send(first, &words, &mut out),
+                    None => None,
+                };
+                told(alloc, answer, &out)
+            }
+            _ => "no such call".to_string(alloc),
+        }
+    }
+}

@@ -1,0 +1,97 @@
+//! What the PMUs 11 and 12 sent.
+//!
+//! | Call | Answer |
+//! |---|---|
+//! | `new` | `ok`; nothing was sent |
+//! | `send FRAME` | `ok`, or why no PMU sends it |
+//! | `others FRAME` | `ok`; a frame of no PMU was sent |
+//! | `has FRAME` | `yes` or `no` |
+//! | `len` | how many frames were sent |
+//! | `get NUMBER` | the frame, in hexadecimal, or `none` |
+//!
+//! A frame is one of the names. What is none of these is answered `no such call`.
+
+use pdc_frame::MAX_SIZE;
+use pdc_life::WaitKind;
+use pdc_sent::Sent;
+use std::alloc::{AllocError, Global};
+use try_script::{Frames, Player, node};
+
+/// All that was sent.
+#[derive(Drop)]
+pub struct SentPlayer<'a> {
+    sent: Sent,
+    frames: &'a Frames,
+}
+
+impl<'a> SentPlayer<'a> {
+    /// Nothing.
+    ///
+    /// # Errors
+    ///
+    /// [`AllocError`] where there is no room and none is got.
+    pub fn new(alloc: Global, frames: &'a Frames) -> Result<SentPlayer<'a>, AllocError> {
+        Ok(SentPlayer {
+            sent: Sent::new(alloc, node(64, 2, WaitKind::Relative, false))?,
+            frames,
+        })
+    }
+
+    /// A PMU sends these bytes.
+    fn send(&mut self, alloc: Global, bytes: &[u8]) -> Result<String, AllocError> {
+        match self.sent.send(bytes) {
+            Ok(()) => "ok".to_string(alloc),
+            Err(fault) => format!(in alloc; "{fault}"),
+        }
+    }
+
+    /// Another one sends them.
+    fn send_of_others(&mut self, alloc: Global, bytes: &[u8]) -> Result<String, AllocError> {
+        self.sent.reserve()?;
+        if bytes.len() <= MAX_SIZE && self.sent.is_of_no_pmu(bytes) {
+            self.sent.push_reserved(bytes);
+            return "ok".to_string(alloc);
+        }
+        "no such call".to_string(alloc)
+    }
+
+    /// The frame with this number.
+    fn frame_text(&self, alloc: Global, number: &str) -> Result<String, AllocError> {
+        let Ok(number) = number.parse::<usize>() else {
+            return "no such call".to_string(alloc);
+        };
+        match self.sent.get(number) {
+            Some(bytes) => hex::encode_upper(alloc, bytes),
+            None => "none".to_string(alloc),
+        }
+    }
+
+    /// Plays a call that names a frame.
+    fn play_frame(&mut self, alloc: Global, word: &str, name: &str) -> Result<String, AllocError> {
+        let Some(bytes) = self.frames.named(name) else {
+            return "no such call".to_string(alloc);
+        };
+        match word {
+            "send" => self.send(alloc, bytes),
+            "others" => self.send_of_others(alloc, bytes),
+            "has" if self.sent.has(bytes) => "yes".to_string(alloc),
+            "has" => "no".to_string(alloc),
+            _ => "no such call".to_string(alloc),
+        }
+    }
+}
+
+impl Player for SentPlayer<'_> {
+    fn play(&mut self, alloc: Global, call: &str) -> Result<String, AllocError> {
+        let (word, rest) = call.split_once(' ').unwrap_or((call, ""));
+        match word {
+            "new" => {
+                *self = SentPlayer::new(alloc, self.frames)?;
+                "ok".to_string(alloc)
+            }
+            "len" => self.sent.len().to_string(alloc),
+            "get" => self.frame_text(alloc, rest),
+            _ => self.play_frame(alloc, word, rest),
+        }
+    }
+}

@@ -1,0 +1,151 @@
+//! Settings out of texts.
+//!
+//! | Call | Answer |
+//! |---|---|
+//! | `begin TEXT` | `ok`: the text to read, its lines apart by a bar |
+//! | `node` or `node OLD / NEW` | what a node is told by it, NEW, with bars as above, in the place of the first OLD; or why it is none |
+//! | `merger` or `merger OLD / NEW` | the same of the merger |
+//! | `kind` or `kind OLD / NEW` | whose it is, by the key `node` |
+//!
+//! What is none of these, or where OLD is not found, is answered `no such call`.
+
+use pdc_life::WaitKind;
+use pdc_output::Output;
+use pdc_settings::{MergerSettings, NodeSettings, Service, SettingsFault, is_of_merger};
+use std::alloc::{AllocError, Global};
+use try_script::Player;
+
+/// Who reads settings.
+#[derive(Debug, Drop)]
+pub struct SettingsPlayer {
+    text: String,
+}
+
+impl SettingsPlayer {
+    /// With no text.
+    pub fn new(alloc: Global) -> SettingsPlayer {
+        SettingsPlayer {
+            text: String::new(alloc),
+        }
+    }
+}
+
+/// The lines of a text that a bar holds apart.
+fn lines_of(alloc: Global, text: &str) -> Result<String, AllocError> {
+    let mut lines = String::new(alloc);
+    for line in text.split('|') {
+        lines.push_str(line)?;
+        lines.push('\n')?;
+    }
+    Ok(lines)
+}
+
+/// The text with a change, if its place is found.
+fn changed(alloc: Global, text: &str, change: &str) -> Result<Option<String>, AllocError> {
+    if change.is_empty() {
+        return Ok(Some(text.to_string(alloc)?));
+    }
+    let Some((old, new)) = change.split_once(" / ") else {
+        return Ok(None);
+    };
+    let Some((before, after)) = text.split_once(old) else {
+        return Ok(None);
+    };
+    let new = lines_of(alloc, new)?;
+    Ok(Some(format!(in alloc; "{before}{new}{after}")?))
+}
+
+/// Why the text is no settings.
+fn fault_text(alloc: Global, fault: SettingsFault) -> Result<String, AllocError> {
+    match fault {
+        SettingsFault::Range(wanted) => format!(in alloc; "{fault}, {wanted}"),
+        _ => format!(in alloc; "{fault}"),
+    }
+}
+
+/// What a node and the merger are both told: the output, how instants are aligned, and the service.
+fn common_text(
+    alloc: Global,
+    output: &Output,
+    timing: (u64, WaitKind, u64, u64),
+    service: &Service,
+) -> Result<String, AllocError> {
+    let mut text = format!(in alloc;
+        "{} {} {:?} {}",
+        output.id, output.rate, output.nominal, output.time_base
+    )?;
+    let (wait, kind, window, ahead) = timing;
+    text.push_str(&format!(in alloc; ", {wait} {kind:?} {window} {ahead}")?)?;
+    text.push_str(&format!(in alloc;
+        ", {} {} {} {}",
+        service.lead, service.layout_every, service.out_port, service.session_port
+    )?)?;
+    Ok(text)
+}
+
+/// What a node is told.
+fn node_text(alloc: Global, settings: &NodeSettings) -> Result<String, AllocError> {
+    let life = &settings.life;
+    let timing = (life.wait, life.wait_kind, life.window, life.ahead);
+    let mut text = common_text(alloc, &life.output, timing, &settings.service)?;
+    for (pmu, port) in life.pmus.iter().zip(settings.ports.iter()) {
+        text.push_str(&format!(in alloc;
+            ", {} {} {} {port}",
+            pmu.stream, pmu.source, pmu.time_base
+        )?)?;
+    }
+    Ok(text)
+}
+
+/// What the merger is told.
+fn merger_text(alloc: Global, settings: &MergerSettings) -> Result<String, AllocError> {
+    let life = &settings.life;
+    let timing = (life.wait, life.wait_kind, life.window, life.ahead);
+    let mut text = common_text(alloc, &life.output, timing, &settings.service)?;
+    text.push_str(&format!(in alloc;
+        ", {} {} {}",
+        life.first.id, life.first.time_base, settings.first_port
+    )?)?;
+    text.push_str(&format!(in alloc;
+        ", {} {} {}",
+        life.second.id, life.second.time_base, settings.second_port
+    )?)?;
+    for source in &life.sources {
+        text.push_str(&format!(in alloc; ", {source}")?)?;
+    }
+    Ok(text)
+}
+
+/// What a text is read as.
+fn read(alloc: Global, reader: &str, text: &str) -> Result<String, AllocError> {
+    match reader {
+        "node" => match NodeSettings::from_toml(alloc, text) {
+            Ok(settings) => node_text(alloc, &settings),
+            Err(fault) => fault_text(alloc, fault),
+        },
+        "merger" => match MergerSettings::from_toml(alloc, text) {
+            Ok(settings) => merger_text(alloc, &settings),
+            Err(fault) => fault_text(alloc, fault),
+        },
+        "kind" => match is_of_merger(alloc, text) {
+            Ok(true) => "a merger's".to_string(alloc),
+            Ok(false) => "a node's".to_string(alloc),
+            Err(fault) => fault_text(alloc, fault),
+        },
+        _ => "no such call".to_string(alloc),
+    }
+}
+
+impl Player for SettingsPlayer {
+    fn play(&mut self, alloc: Global, call: &str) -> Result<String, AllocError> {
+        let (word, rest) = call.split_once(' ').unwrap_or((call, ""));
+        if word == "begin" {
+            self.text = lines_of(alloc, rest)?;
+            return "ok".to_string(alloc);
+        }
+        match changed(alloc, &self.text, rest)? {
+            Some(text) => read(alloc, word, &text),
+            None => "no such call".to_string(alloc),
+        }
+    }
+}

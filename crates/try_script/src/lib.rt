@@ -1,0 +1,17 @@
+//! Scripts of calls with their answers, for the programs that try the libraries: who plays a script, the frames that it calls by name,
+//! and of scripts of lives the settings of their concentrators, their counts and the texts of what is answered.
+#![tactic(auto)]
+
+mod concentrators;
+mod frames;
+mod script;
+mod stage;
+mod texts;
+mod words;
+
+pub use concentrators::{merger, node};
+pub use frames::Frames;
+pub use script::{Played, Player, play_script};
+pub use stage::{Stage, play_all};
+pub use texts::{bytes_of, row_text, tick_text};
+pub use words::{counts_of, opening_counts, wait_kind};

@@ -1,0 +1,129 @@
+//! An open row and its age.
+ghost use Rattle.std.specs.Prelude.{◌≡◌, ℕ, ◌<◌, ◌≤◌, length, Some, if◌then◌else◌};
+ghost use Rattle.std.specs.List.{All};
+ghost use Rattle.pdc_row.specs.RowView.{row_view};
+ghost use Rattle.pdc_table.specs.Closing.{aged, is_due};
+ghost use Rattle.pdc_table.specs.Layout.{layout_view};
+ghost use Rattle.pdc_table.specs.Row.{row_of};
+ghost use Rattle.pdc_table.specs.Steps.{answer_at, disagreements_of, is_taken};
+ghost use Rattle.pdc_table.specs.Taking.{cells_in, with_frame, without_column, without_stream};
+ghost use Rattle.pdc_table.specs.Views.{blank_row};
+
+use pdc_row::{DueRow, Offered};
+use pdc_table::{MAX_COLUMNS, OpenRow, Places, PutOutcome, RowLayout, WaitRule};
+use std::marker::Model;
+
+/// The row of an instant that is open, and the ticks since its first take.
+#[derive(Drop)]
+pub struct AgedRow {
+    row: OpenRow,
+    age: u64,
+}
+
+impl Model for AgedRow {
+    ghost use Rattle.pdc_table.specs.RingRows.{at_age};
+    ghost use Rattle.pdc_table.specs.Views.{OpenRowView};
+
+    ghost Value = { OpenRowView };
+
+    ghost view = { λ aged. at_age aged.age aged.row };
+}
+
+impl AgedRow {
+    /// The row of an instant in which nothing was taken.
+    pub fn blank(instant: u64, places: Places) -> AgedRow
+        requires streams { places.streams ≤ MAX_COLUMNS }
+        requires columns { places.columns ≤ MAX_COLUMNS }
+        ensures { result ≡ blank_row places.streams places.columns instant }
+    {
+        AgedRow {
+            row: OpenRow::blank(instant, places),
+            age: 0,
+        }
+    }
+
+    /// The instant.
+    pub fn instant(&self) -> u64
+        ensures { result ≡ self.now.instant }
+    {
+        self.row.instant()
+    }
+
+    /// Takes a frame of the stream: its blocks go into their columns, in this lane.
+    pub fn take<B: Offered>(
+        &mut self,
+        stream: usize,
+        lane: usize,
+        cells: &[(usize, B)],
+        quality: u8,
+    )
+        requires stream { stream < length self.old.taken }
+        requires columns { All (λ (cell : ℕ × B). cell.0 < length self.old.columns) cells.now }
+        ensures { self.new ≡ with_frame stream lane (cells_in B.view cells.now quality) self.old }
+    {
+        self.row.take(stream, lane, cells, quality);
+    }
+
+    /// Takes the frame, unless the stream was taken already: then the first stays.
+    pub fn offer<B: Offered>(
+        &mut self,
+        stream: usize,
+        lane: usize,
+        cells: &[(usize, B)],
+        quality: u8,
+    ) -> PutOutcome
+        requires stream { stream < length self.old.taken }
+        requires columns { All (λ (cell : ℕ × B). cell.0 < length self.old.columns) cells.now }
+        ensures answer { result ≡ answer_at (Some self.old) stream lane (cells_in B.view cells.now quality) }
+        ensures row { self.new ≡ (if is_taken (answer_at (Some self.old) stream lane (cells_in B.view cells.now quality))
+            then with_frame stream lane (cells_in B.view cells.now quality) self.old else self.old) }
+    {
+        self.row.offer(stream, lane, cells, quality)
+    }
+
+    /// Forgets what was taken of a stream: with one lane its own column, with two its lane of each column.
+    pub fn drop_stream(&mut self, lanes: usize, stream: usize)
+        requires taken { stream < length self.old.taken }
+        requires column { lanes ≡ 1 → stream < length self.old.columns }
+        ensures { self.new ≡ without_stream lanes stream self.old }
+    {
+        self.row.drop_stream(lanes, stream);
+    }
+
+    /// Forgets the cells of a column; the streams stay taken.
+    pub fn drop_column(&mut self, column: usize)
+        requires { column < length self.old.columns }
+        ensures { self.new ≡ without_column column self.old }
+    {
+        self.row.drop_column(column);
+    }
+
+    /// Counts one more tick.
+    pub fn grow_older(&mut self)
+        ensures { self.new ≡ aged self.old }
+    {
+        self.age = self.age.saturating_add(1);
+    }
+
+    /// Whether every required stream was taken, or the wait is over.
+    pub fn is_due(&self, required: &[bool], rule: WaitRule) -> bool
+        ensures { result ≡ is_due required.now rule self.now }
+    {
+        self.row.is_due(self.age, required, rule)
+    }
+
+    /// How many columns with a shape hold present blocks in both lanes that differ.
+    pub fn disagreements(&self, layout: &RowLayout) -> u64
+        ensures value { result ≡ disagreements_of (layout_view layout.now).shapes self.now.columns }
+        ensures most { result ≤ MAX_COLUMNS }
+    {
+        self.row.disagreements(layout)
+    }
+
+    /// The row that it closes to.
+    pub fn close(&self, layout: &RowLayout) -> DueRow
+        ensures { row_view result ≡ row_of (layout_view layout.now) self.now }
+    {
+        self.row.close(layout)
+    }
+}

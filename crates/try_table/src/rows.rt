@@ -1,0 +1,222 @@
+//! Open rows in rising order.
+ghost use Rattle.std.specs.Prelude.{◌≡◌, ℕ, ◌+◌, ◌<◌, ◌≤◌, ◌++◌, length, map, vec_len, None, if◌then◌else◌};
+ghost use Rattle.std.specs.Vec.{vec_capacity};
+ghost use Rattle.std.specs.List.{All, AllByRecursion, list_all, prefix_len, slice_get};
+ghost use Rattle.std.specs.Result.{MatchResult};
+ghost use Rattle.std.specs.VecDeque.{deque_capacity, deque_len};
+ghost use Rattle.pdc_table.specs.Closing.{aged, closing, counter, is_due, staying};
+ghost use Rattle.pdc_row.specs.RowView.{row_instants, row_view};
+ghost use Rattle.pdc_table.specs.Placing.{place_of, row_at, with_row, IsGap, IsRowPlace};
+ghost use Rattle.pdc_row.specs.Rising.{Rises, highest_of, is_near};
+ghost use Rattle.pdc_table.specs.OpenInstants.{instants_of};
+ghost use Rattle.pdc_table.specs.Row.{row_of};
+ghost use Rattle.pdc_row.specs.Quality.{greatest};
+ghost use Rattle.pdc_table.specs.Steps.{answer_at, disagreements_in, is_taken};
+ghost use Rattle.pdc_table.specs.Taking.{cells_in, with_frame, without_column, without_stream};
+ghost use Rattle.pdc_table.specs.Content.{HasPlaces};
+ghost use Rattle.pdc_table.specs.Layout.{layout_view};
+ghost use Rattle.pdc_table.specs.Views.{OpenRowView, blank_row};
+
+use crate::aged_row::AgedRow;
+use pdc_row::{DueRow, Offered, numbers_rise};
+use pdc_table::{MAX_COLUMNS, Places, PutOutcome, RowLayout, WaitRule, is_near, remove_front};
+use std::collections::VecDeque;
+
+/// How many rows stand below the instant.
+pub fn place(rows: &[AgedRow], instant: u64) -> usize
+    requires { Rises 0 (instants_of rows.now) }
+    ensures place { result ≡ place_of instant rows.now }
+    ensures bound { result ≤ length rows.now }
+{
+    rows.partition_point(|row| row.instant() < instant)
+}
+
+/// Where the row of the instant stands, or where it would stand.
+pub fn find(rows: &[AgedRow], instant: u64, places: Places) -> Result<usize, usize>
+    requires { Rises 0 (instants_of rows.now) }
+    ensures { MatchResult result (IsRowPlace (blank_row places.streams places.columns instant) rows.now)
+        (IsGap (blank_row places.streams places.columns instant) rows.now) }
+{
+    let place = place(rows, instant);
+    if place == rows.len() {
+        return Err(place);
+    }
+    if rows[place].instant() == instant {
+        Ok(place)
+    } else {
+        Err(place)
+    }
+}
+
+/// Counts one more tick for each row.
+pub fn grow_older(rows: &mut Vec<AgedRow>)
+    ensures items { rows.new.items ≡ map aged rows.old.items }
+    ensures capacity { vec_capacity rows.new ≡ vec_capacity rows.old }
+{
+    for row in rows.iter_mut() {
+        row.grow_older();
+    }
+}
+
+/// How many rows from the front on are due.
+pub fn count_due(rows: &[AgedRow], required: &[bool], rule: WaitRule) -> usize
+    ensures count { result ≡ prefix_len (is_due required.now rule) rows.now }
+    ensures bound { result ≤ length rows.now }
+{
+    rows.iter()
+        .take_while(|row| row.is_due(required, rule))
+        .count()
+}
+
+/// Forgets what was taken of a stream, in each row.
+pub fn drop_stream(rows: &mut Vec<AgedRow>, lanes: usize, stream: usize)
+    requires taken { AllByRecursion (λ (row : OpenRowView). stream < length row.taken) rows.old.items }
+    requires column { lanes ≡ 1 → AllByRecursion (λ (row : OpenRowView). stream < length row.columns) rows.old.items }
+    ensures items { rows.new.items ≡ map (without_stream lanes stream) rows.old.items }
+    ensures capacity { vec_capacity rows.new ≡ vec_capacity rows.old }
+{
+    for row in rows.iter_mut() {
+        row.drop_stream(lanes, stream);
+    }
+}
+
+/// Forgets the cells of a column, in each row.
+pub fn drop_column(rows: &mut Vec<AgedRow>, column: usize)
+    requires { AllByRecursion (λ (row : OpenRowView). column < length row.columns) rows.old.items }
+    ensures items { rows.new.items ≡ map (without_column column) rows.old.items }
+    ensures capacity { vec_capacity rows.new ≡ vec_capacity rows.old }
+{
+    for row in rows.iter_mut() {
+        row.drop_column(column);
+    }
+}
+
+/// Closes each of these rows under a layout, in order.
+pub fn close(rows: &[AgedRow], layout: &RowLayout, closed: &mut VecDeque<DueRow>)
+    requires { deque_len closed.old + length rows.now ≤ deque_capacity closed.old }
+    ensures items { map row_view closed.new.items ≡ map row_view closed.old.items ++ map (row_of (layout_view layout.now)) rows.now }
+    ensures capacity { deque_capacity closed.new ≡ deque_capacity closed.old }
+{
+    for row in rows {
+        closed.push_back_reserved(row.close(layout));
+    }
+}
+
+/// The count of disagreements after these rows closed.
+pub fn count_disagreements(rows: &[AgedRow], layout: &RowLayout, so_far: u64) -> u64
+    ensures { result ≡ counter (so_far + disagreements_in (layout_view layout.now) rows.now) }
+{
+    let mut count = so_far;
+    for row in rows {
+        count = count.saturating_add(row.disagreements(layout));
+    }
+    count
+}
+
+/// The greatest instant of these rows and this one.
+pub fn greatest(rows: &[AgedRow], last: u64) -> u64
+    ensures { result ≡ greatest last (instants_of rows.now) }
+{
+    let mut greatest = last;
+    for row in rows {
+        greatest = greatest.max(row.instant());
+    }
+    greatest
+}
+
+/// Takes a frame of a stream for an instant, unless the stream was taken there.
+pub fn take<B: Offered>(
+    rows: &mut Vec<AgedRow>,
+    places: Places,
+    stream: usize,
+    lane: usize,
+    instant: u64,
+    cells: &[(usize, B)],
+    quality: u8,
+) -> PutOutcome
+    requires rising { Rises 0 (instants_of rows.old.items) }
+    requires each { AllByRecursion (HasPlaces places.streams places.columns) rows.old.items }
+    requires room { row_at instant rows.old.items ≡ None → vec_len rows.old < vec_capacity rows.old }
+    requires streams_fit { places.streams ≤ MAX_COLUMNS }
+    requires columns_fit { places.columns ≤ MAX_COLUMNS }
+    requires stream { stream < places.streams }
+    requires columns { All (λ (cell : ℕ × B). cell.0 < places.columns) cells.now }
+    ensures answer { result ≡ answer_at (row_at instant rows.old.items) stream lane (cells_in B.view cells.now quality) }
+    ensures items { rows.new.items ≡ (if is_taken (answer_at (row_at instant rows.old.items) stream lane (cells_in B.view cells.now quality))
+        then with_row (with_frame stream lane (cells_in B.view cells.now quality)) (blank_row places.streams places.columns instant) rows.old.items
+        else rows.old.items) }
+    ensures capacity { vec_capacity rows.new ≡ vec_capacity rows.old }
+{
+    match find(rows, instant, places) {
+        Ok(place) => rows[place].offer(stream, lane, cells, quality),
+        Err(place) => {
+            let mut row = AgedRow::blank(instant, places);
+            row.take(stream, lane, cells, quality);
+            rows.insert(place, row).unwrap();
+            PutOutcome::Taken
+        }
+    }
+}
+
+/// Whether each held instant is less than the window away.
+pub fn are_near(rows: &[AgedRow], closed: &VecDeque<DueRow>, window: u64, instant: u64) -> bool
+    requires { Rises 0 (row_instants (map row_view closed.now.items) ++ instants_of rows.now) }
+    ensures { result ≡ list_all (is_near window instant)
+        (row_instants (map row_view closed.now.items) ++ instants_of rows.now) }
+{
+    numbers_rise();
+    is_near(lowest(rows, closed), window, instant)
+        && is_near(highest(rows, closed), window, instant)
+}
+
+/// The lowest instant held.
+fn lowest(rows: &[AgedRow], closed: &VecDeque<DueRow>) -> Option<u64>
+    ensures { result ≡ slice_get (row_instants (map row_view closed.now.items) ++ instants_of rows.now) 0 }
+{
+    match closed.front() {
+        Some(row) => Some(row.instant),
+        None => Some(rows.first()?.instant()),
+    }
+}
+
+/// The highest instant held.
+fn highest(rows: &[AgedRow], closed: &VecDeque<DueRow>) -> Option<u64>
+    ensures { result ≡ highest_of (row_instants (map row_view closed.now.items) ++ instants_of rows.now) }
+{
+    match (rows.last(), closed.back()) {
+        (Some(row), _) => Some(row.instant()),
+        (None, Some(row)) => Some(row.instant),
+        (None, None) => None,
+    }
+}
+
+/// Closes the rows for which every row up to them is due, and answers how many.
+pub fn close_due(
+    rows: &mut Vec<AgedRow>,
+    required: &[bool],
+    rule: WaitRule,
+    layout: &RowLayout,
+    closed: &mut VecDeque<DueRow>,
+    last: &mut u64,
+    disagree: &mut u64,
+) -> usize
+    requires rising { Rises last.old (instants_of rows.old.items) }
+    requires room { deque_len closed.old + vec_len rows.old ≤ deque_capacity closed.old }
+    ensures answer { result ≡ length (closing required.now rule rows.old.items) }
+    ensures rows { rows.new.items ≡ staying required.now rule rows.old.items }
+    ensures closed { map row_view closed.new.items ≡ map row_view closed.old.items
+        ++ map (row_of (layout_view layout.now)) (closing required.now rule rows.old.items) }
+    ensures last { last.new ≡ greatest last.old (instants_of (closing required.now rule rows.old.items)) }
+    ensures disagree { disagree.new ≡ counter
+        (disagree.old + disagreements_in (layout_view layout.now) (closing required.now rule rows.old.items)) }
+    ensures capacity { vec_capacity rows.new ≡ vec_capacity rows.old }
+    ensures closed_capacity { deque_capacity closed.new ≡ deque_capacity closed.old }
+{
+    let count = count_due(rows, required, rule);
+    let due = &rows[..count];
+    close(due, layout, closed);
+    *last = greatest(due, *last);
+    *disagree = count_disagreements(due, layout, *disagree);
+    remove_front(rows, count);
+    count
+}

@@ -1,0 +1,214 @@
+//! One run, and what is printed of it.
+ghost use Rattle.std.specs.Prelude.{◌≡◌, ◌≤◌, ◌<◌, ◌+◌, Some, [], length, vec_len};
+ghost use Rattle.pdc_life.specs.Given.{given_of};
+ghost use Rattle.pdc_node.specs.Node.{StandsFor};
+ghost use Rattle.pdc_publisher.specs.Publisher.{last_in, mark_in, output_in};
+
+use crate::scripted::{Act, Following, Scripted, Shown};
+use crate::sinks::Fused;
+use pdc_life::{MAX_PMUS, Settings};
+use pdc_mark::Mark;
+use pdc_node::{Node, copy_of};
+use pdc_publisher::Publisher;
+use pdc_table::RingTable;
+use pdc_threads::{Blanks, Hub, MemorySink, Naming, Pace, Ran, run};
+use std::alloc::Global;
+use std::io;
+use std::marker::Brand;
+use std::sync::Wait;
+use std::sync::atomic::Ordering;
+use std::sync::ledger::{Blank, Ledger};
+use std::thread::Threads;
+
+/// The first instant that the ticker gives.
+const FIRST: u64 = 57_478_860_000;
+
+/// A run of node A.
+#[derive(Clone, Copy)]
+pub struct Scene<'a> {
+    pub name: &'a str,
+    /// After how many steps the base is brought up.
+    pub limit: usize,
+    /// After how many ticks the layout goes out again.
+    pub layout_every: u32,
+    /// What the source of each PMU does.
+    pub first: &'a [Act<'a>],
+    pub second: &'a [Act<'a>],
+    /// How many data frames the second tick waits for.
+    pub taken: u64,
+    /// What sources and ticker show.
+    pub shown: &'a Shown,
+    /// The number of the frame at which the sink fails, from 1.
+    pub sink_fails_at: u32,
+}
+
+/// What came of a run, how much data the core had taken, and what the ticker was told last: how many rows were published, and the last
+/// instant of them.
+#[derive(Drop)]
+struct Played<M: Mark> {
+    ran: Ran<M, Fused>,
+    taken: u64,
+    published: u64,
+    last: u64,
+}
+
+/// Runs two nodes that were opened alike: one is the base, the other the state.
+fn opened<
+    'h,
+    N: Naming<Settings> + Send + Sync,
+    T: Ledger + Send + Sync,
+    F: Ledger + Send + Sync,
+    G: Ledger + Send + Sync,
+    P: Ledger + Send + Sync,
+    M: Mark + Drop,
+    R: Threads + Wait + Sync,
+>(
+    rt: &'h R,
+    alloc: Global,
+    settings: &Settings,
+    counts: &[u16; MAX_PMUS],
+    base: Node<RingTable>,
+    state: Node<RingTable>,
+    scene: &Scene<'h>,
+    blanks: Blanks,
+    publisher: Publisher<M>,
+    sink: Fused,
+) -> Option<Played<M>>
+    requires given { N.given ≡ Some (given_of settings.now 1 0 counts.now 0) }
+    requires alike { StandsFor (given_of settings.now 1 0 counts.now 0) [] base × StandsFor (given_of settings.now 1 0 counts.now 0) [] state }
+    requires settings { (N.settings ≡ Some settings.now) × (base.settings ≡ settings.now) × (state.settings ≡ settings.now) }
+    requires popped { state.popped ≡ 0 }
+    requires limit { 1 ≤ scene.now.limit }
+    requires pace { 1 ≤ scene.now.layout_every }
+    requires names { (blanks.taken.name ≡ T.name) × (blanks.refused.name ≡ F.name) × (blanks.configured.name ≡ G.name) × (blanks.top.name ≡ P.name) }
+    requires parts { (blanks.taken.parts ≡ T.parts) × (blanks.refused.parts ≡ F.parts) × (blanks.configured.parts ≡ G.parts) × (blanks.top.parts ≡ P.parts) }
+    requires count { (T.parts ≡ 3) × (F.parts ≡ 3) × (G.parts ≡ 3) × (P.parts ≡ 1) }
+    requires streams { length settings.now.pmus.items ≡ 2 }
+    requires publisher { (last_in publisher ≡ 0) × ((M.stored (mark_in publisher)).floor ≡ 0) × (output_in publisher ≡ settings.now.output) }
+{
+    let (hub, shares, top) = Hub::<Node<RingTable>, N, T, F, G, P>::new(
+        alloc,
+        base,
+        state,
+        scene.limit,
+        0,
+        blanks,
+    );
+    let shared = &hub;
+    let mut sources = Vec::new(alloc);
+    let one = Scripted::new(rt, alloc, shared, scene.shown, false, scene.first);
+    sources.push(one).ok()?;
+    let other = Scripted::new(rt, alloc, shared, scene.shown, true, scene.second);
+    sources.push(other).ok()?;
+    let ticker = Following {
+        rt,
+        hub: shared,
+        first: FIRST,
+        taken: scene.taken,
+        given: 0,
+        shown: scene.shown,
+    };
+    let pace = Pace {
+        rate: settings.output.rate,
+        layout_every: scene.layout_every,
+    };
+    let ran = run(
+        rt, alloc, shared, settings, shares, top, sources, publisher, ticker, pace, sink,
+    );
+    let taken = hub.counts(rt).taken;
+    let published = scene.shown.published.load(Ordering::SeqCst);
+    let last = scene.shown.last.load(Ordering::SeqCst);
+    Some(Played {
+        ran,
+        taken,
+        published,
+        last,
+    })
+}
+
+/// Runs node A over this mark, if there is memory for it.
+fn run_scene<M: Mark + Drop, R: Threads + Wait + Sync>(
+    rt: &R,
+    alloc: Global,
+    settings: &Settings,
+    mark: M,
+    scene: &Scene<'_>,
+) -> Option<Played<M>>
+    requires floor { (M.stored mark).floor ≡ 0 }
+    requires limit { 1 ≤ scene.now.limit }
+    requires pace { 1 ≤ scene.now.layout_every }
+    requires streams { length settings.now.pmus.items ≡ 2 }
+{
+    let counts = [0; MAX_PMUS];
+    let Ok(base) = Node::open(alloc, copy_of(settings), 1, 0, &counts, 0) else {
+        return None;
+    };
+    let Ok(state) = Node::open(alloc, copy_of(settings), 1, 0, &counts, 0) else {
+        return None;
+    };
+    let publisher = Publisher::new(mark, settings.output, 0);
+    let blanks = Blanks {
+        taken: Blank::new(3),
+        refused: Blank::new(3),
+        configured: Blank::new(3),
+        top: Blank::new(1),
+    };
+    let sink = Fused {
+        inner: MemorySink::new(alloc),
+        fails_at: scene.sink_fails_at,
+        sent: 0,
+        failures: 0,
+    };
+    opened::<Brand, Brand, Brand, Brand, Brand, M, R>(
+        rt, alloc, settings, &counts, base, state, scene, blanks, publisher, sink,
+    )
+}
+
+/// Prints how a run ended, and each frame that the sink took: a layout by its length, data whole.
+fn print_played<M: Mark, R: Print>(rt: &R, alloc: Global, played: &Played<M>) -> io::Result<()> {
+    match &played.ran.outcome {
+        Ok(totals) => {
+            let (taken, refused, published) = (totals.taken, totals.refused, totals.published);
+            println!(rt; "  taken={taken} refused={refused} published={published}")?;
+            for counted in &totals.receivers {
+                let (taken, refused) = (counted.taken, counted.refused);
+                println!(rt; "  receiver: taken={taken} refused={refused}")?;
+            }
+        }
+        Err(fault) => println!(rt; "  {fault}")?,
+    }
+    let taken = played.taken;
+    println!(rt; "  core: taken={taken}")?;
+    let (published, last) = (played.published, played.last);
+    println!(rt; "  told: published={published} last={last}")?;
+    for frame in &played.ran.sink.inner.frames {
+        let len = frame.len();
+        if len > 100 {
+            println!(rt; "  frame of {len} bytes")?;
+        } else {
+            let text = hex::encode(alloc, frame)?;
+            println!(rt; "  {text}")?;
+        }
+    }
+    Ok(())
+}
+
+/// Runs node A over a mark that stores no instant, and prints what came of it.
+pub fn play<M: Mark + Drop, R: Threads + Wait + Sync + Print>(
+    rt: &R,
+    alloc: Global,
+    settings: &Settings,
+    mark: M,
+    scene: &Scene<'_>,
+) -> io::Result<()> {
+    let name = scene.name;
+    println!(rt; "{name}")?;
+    let (_, floor) = mark.stored();
+    if scene.limit == 0 || scene.layout_every == 0 || settings.pmus.len() != 2 || floor != 0 {
+        return println!(rt; "  no such run");
+    }
+    match run_scene(rt, alloc, settings, mark, scene) {
+        Some(played) => print_played(rt, alloc, &played),
+        None => println!(rt; "  out of memory"),
+    }
+}
