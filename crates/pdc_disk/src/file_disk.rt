@@ -5,6 +5,7 @@ ghost use Rattle.pdc_disk.specs.Disk.{written, AllSettled, HasCause, HasFailed, 
 ghost use Rattle.pdc_disk.specs.MemoryDisk as memory;
 
 use crate::disk::{Disk, DiskFault};
+use crate::locked_file::LockedFile;
 use crate::memory_disk::{MEMORY_LEN, MemoryDisk};
 use std::fs::{File, OpenOptions};
 use std::os::fd::AsRawFd;
@@ -13,14 +14,15 @@ use std::path::{AsPath, Path};
 use std::rt::Files;
 use std::{fs, io};
 
-/// A real file, of which the first 256 bytes can be read and written.
+/// A real file, of which the first 256 bytes can be read and written. Nobody else has it meanwhile: its exclusive lock is held for as
+/// long as the disk lives.
 ///
 /// A read of other bytes than were last read or written here is a fault, and so is an access past those
 /// 256. `sync` reaches the device (fdatasync). After a fault each further call is a fault, since it isn't
 /// known what the file holds: open the file again.
 #[derive(Drop)]
 pub struct FileDisk {
-    file: File,
+    file: LockedFile,
     known: MemoryDisk,
     untold: u64,
     is_lost: bool,
@@ -32,22 +34,23 @@ pub struct FileDisk {
 impl FileDisk {
     ghost use Rattle.pdc_disk.specs.FileDisk.{failures_of, is_lost_of, is_settled_at, seen_of};
 
-    /// Opens a file that exists for reading and writing. What it then reads is what the device holds.
+    /// Opens a file that exists for reading and writing, and locks it. What it then reads is what the device holds.
     ///
     /// # Errors
     ///
-    /// The system can't open, sync or read it.
+    /// The system can't open it; somebody else has it (`WouldBlock`); the system can't lock, sync or read it.
     pub fn open<R: Files<File = File>, P: AsPath>(files: &R, path: P) -> io::Result<FileDisk>
         ensures settled { IfOk result (λ disk. AllSettled (is_settled_at disk)) }
         ensures whole { IfOk result (λ disk. is_lost_of disk ≡ false) }
         ensures failures { IfOk result (λ disk. failures_of disk ≡ 0) }
     {
         let file = OpenOptions::new().read(true).write(true).open(files, path)?;
-        settle(&file)?;
-        let len = file.metadata()?.len();
+        let file = LockedFile::new(file)?;
+        settle(file.file())?;
+        let len = file.file().metadata()?.len();
         let mut first = [0; MEMORY_LEN];
         let told = len.min(MEMORY_LEN as u64) as usize;
-        file.read_exact_at(&mut first[..told], 0)?;
+        file.file().read_exact_at(&mut first[..told], 0)?;
         Ok(FileDisk {
             file,
             known: MemoryDisk::new(&first[..told]),
@@ -57,11 +60,11 @@ impl FileDisk {
         })
     }
 
-    /// Makes an empty file, whose name outlasts a stop too.
+    /// Makes an empty file, locks it, and sees to it that its name outlasts a stop too.
     ///
     /// # Errors
     ///
-    /// `AlreadyExists` where there is a file, which is left as it is; else the system can't make it or bring it to the
+    /// `AlreadyExists` where there is a file, which is left as it is; else the system can't make it, lock it or bring it to the
     /// device, and takes it away again if it can.
     pub fn create<R: Files<File = File>, P: AsPath>(files: &R, path: P) -> io::Result<FileDisk>
         ensures empty { IfOk result (λ disk. seen_of disk ≡ []) }
@@ -70,10 +73,13 @@ impl FileDisk {
         ensures failures { IfOk result (λ disk. failures_of disk ≡ 0) }
     {
         let file = File::create_new(files, path.path_text())?;
-        if let Err(error) = settle_new(files, &file, path.path_text()) {
-            let _ = fs::remove_file(files, path.path_text());
-            return Err(error);
-        }
+        let file = match settled_new(files, file, path.path_text()) {
+            Ok(file) => file,
+            Err(error) => {
+                let _ = fs::remove_file(files, path.path_text());
+                return Err(error);
+            }
+        };
         Ok(FileDisk {
             file,
             known: MemoryDisk::new(&[]),
@@ -94,10 +100,12 @@ fn settle(file: &File) -> io::Result<()> {
     }
 }
 
-/// Brings a new file to the device, and its name.
-fn settle_new<R: Files<File = File>>(files: &R, file: &File, path: &str) -> io::Result<()> {
-    file.sync_all()?;
-    File::open(files, folder_of(path))?.sync_all()
+/// Locks a new file, and brings it and its name to the device.
+fn settled_new<R: Files<File = File>>(files: &R, file: File, path: &str) -> io::Result<LockedFile> {
+    let file = LockedFile::new(file)?;
+    file.file().sync_all()?;
+    File::open(files, folder_of(path))?.sync_all()?;
+    Ok(file)
 }
 
 /// The folder in which a file's name stands.
@@ -145,7 +153,7 @@ impl Disk for FileDisk {
         ensures cause { HasCause (failures_of self.old) (failures_of self.new) result }
     {
         let expected = self.known.bytes().len() as u64 + self.untold;
-        match self.file.metadata() {
+        match self.file.file().metadata() {
             Ok(metadata) if !self.is_lost && metadata.len() == expected => Ok(expected),
             _ => Err(lose(&mut self.is_lost, &mut self.failures)),
         }
@@ -163,7 +171,7 @@ impl Disk for FileDisk {
         let start = at as usize;
         let end = start + out.len();
         let is_told = !self.is_lost && end <= self.known.bytes().len();
-        if is_told && reads(&self.file, at, out, &self.known.bytes()[start..end]) {
+        if is_told && reads(self.file.file(), at, out, &self.known.bytes()[start..end]) {
             return Ok(());
         }
         Err(lose(&mut self.is_lost, &mut self.failures))
@@ -187,7 +195,7 @@ impl Disk for FileDisk {
         }
         // Whatever becomes of the write, the range isn't settled from here on.
         self.known.write_at(at, bytes).unwrap();
-        if self.file.write_all_at(bytes, at).is_err() {
+        if self.file.file().write_all_at(bytes, at).is_err() {
             return Err(lose(&mut self.is_lost, &mut self.failures));
         }
         Ok(())
@@ -200,7 +208,7 @@ impl Disk for FileDisk {
         ensures settled { StaySettled (is_settled_at self.old) (is_settled_at self.new) }
         ensures cause { HasCause (failures_of self.old) (failures_of self.new) result }
     {
-        if self.is_lost || !syncs(&self.file) {
+        if self.is_lost || !syncs(self.file.file()) {
             return Err(lose(&mut self.is_lost, &mut self.failures));
         }
         self.known.sync()

@@ -8,8 +8,9 @@
 //! - [`MemoryDisk`] holds at most 256 bytes in arrays, and shows what a stop would leave of it.
 //! - [`FuseDisk`] passes a number of calls on and then fails, for tests of each place at which a device may
 //!   fail.
-//! - [`FileDisk`] is a real file. That a file keeps what it was told to sync is the system's promise, and
-//!   isn't proved.
+//! - [`FileDisk`] is a real file, whose exclusive lock it holds for as long as it lives: who opens it again meanwhile, in this process
+//!   or another, is refused. That a file keeps what it was told to sync, and that the lock keeps others out, is the system's promise,
+//!   and isn't proved.
 //!
 //! No call of a disk takes memory.
 #![tactic(auto)]
@@ -17,6 +18,7 @@
 mod disk;
 mod file_disk;
 mod fuse_disk;
+mod locked_file;
 mod memory_disk;
 
 pub use disk::{Disk, DiskFault};

@@ -69,7 +69,17 @@ fn written_again(rt: &(impl Abort + Alloc + Files<File = File>), name: &str) {
     is!(rt; write(&mut made, 0, &HELD), Ok(()));
     is!(rt; write(&mut made, 3, &[5, 6]), Ok(()));
     is!(rt; not_made(rt, name), Some(ErrorKind::AlreadyExists));
+    is!(rt; not_opened(rt, name), Some(ErrorKind::WouldBlock));
+    drop(made);
     is!(rt; read(&mut disk(rt, name), 1, 4), Ok([2, 3, 5, 6]));
+}
+
+/// The file of a disk is opened by nobody else, until the disk is gone.
+fn in_use(rt: &(impl Abort + Alloc + Files<File = File>), name: &str) {
+    let first = file_of(rt, name, &HELD);
+    is!(rt; not_opened(rt, name), Some(ErrorKind::WouldBlock));
+    drop(first);
+    is!(rt; not_opened(rt, name), None);
 }
 
 /// Whoever else writes to the file is found out at the next call that can tell, and each call fails from then on.
@@ -132,6 +142,7 @@ fn disks_in_real_files(rt: HostRuntime) -> Result<(), Fail> {
     let path = folder.join(rt.alloc(), "disk")?;
     written_again(&rt, path.as_str());
     cut_short(&rt, path.as_str());
+    in_use(&rt, path.as_str());
     changed(&rt, path.as_str());
     longer(&rt, path.as_str());
     refused_by_the_device(&rt, path.as_str());
@@ -173,6 +184,7 @@ fn converted(rt: &(impl Abort + Alloc + Files<File = File>), old: &str, new: &st
     let mut made = FileDisk::create(rt, new).expect(rt, "a new file");
     let answer = DiskMark::convert(&mut file_of(rt, old, &old_file()), &mut made);
     is!(rt; answer, Ok((1, FLOOR)));
+    drop(made);
     is!(rt; raise(&mut opened(rt, disk(rt, new)), counts(1, 1)), Ok(()));
     holds(rt, new, &raised_file());
 }
