@@ -40,7 +40,11 @@ impl<'a> Feed<'a> {
 }
 
 impl<'a> Source for Feed<'a> {
+    ghost use Rattle.std.specs.Prelude.{◌-◌, length};
+
     ghost failures_of = { λ _. 0 };
+
+    ghost row_left = { λ s. length s.frames.now - s.given };
 
     fn next(&mut self, buffer: &mut [u8]) -> Next {
         // What was given before was delivered, since more is asked for.

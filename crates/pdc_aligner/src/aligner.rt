@@ -2,6 +2,7 @@
 ghost use Rattle.std.specs.Prelude.{◌≡◌, ◌<◌, ◌≤◌, ◌||◌, ◌++◌, ◌∷◌, ℕ, Bool, IfOk, List, OnErr, OnOk, [], false, length, true};
 ghost use Rattle.crossbeam_channel.specs.Claims.{IsSeatAt, view};
 ghost use Rattle.crossbeam_channel.specs.Ends.{sends_on};
+ghost use Rattle.pdc_aligner.specs.Opened.{IsOpenedWith};
 ghost use Rattle.pdc_aligner.specs.Rate.{IsAtRate};
 ghost use Rattle.pdc_aligner.specs.Sequence.{HasPutData, IsCounted, Rises, instants_of};
 ghost use Rattle.pdc_aligner.specs.Turns.{HasGiven, HasPut, HasTurned, IsAligned, IsAnswered, NoneFalls, turn_at};
@@ -218,6 +219,8 @@ pub fn align<
 ) -> Result<u64, HubFault>
     requires top { (top.old.parts ≡ P.parts) × (0 < top.old.parts) × (top.old.amount ≡ last_in publisher.old) }
     requires rate { IsAtRate N.given (output_in publisher.old).rate }
+    // The core was opened with the start, the floor and the counts that the publisher's mark stores.
+    requires opened { IsOpenedWith N.given (M.stored (mark_in publisher.old)) }
     requires seat { IsSeatAt (sends_on sender.now) pass.old × (view pass.old ≡ log true false false [] []) }
     requires stored { last_in publisher.old ≤ (M.stored (mark_in publisher.old)).floor }
     ensures seat { IsSeatAt (sends_on sender.now) pass.new × ((closed : Bool) × (view pass.new ≡ log true false closed (view pass.new).put [])) }

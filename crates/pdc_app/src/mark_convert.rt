@@ -4,6 +4,7 @@ use crate::{FAILED, REFUSED};
 use pdc_command_line::MarkConvert;
 use pdc_mark::{MarkConvertFault, MarkFault};
 use std::io;
+use std::io::ErrorKind;
 
 /// The exit status that the fault gives.
 pub fn mark_convert_status(fault: &MarkConvertFault) -> u8 {
@@ -25,6 +26,9 @@ pub fn report_mark_convert(
     eprintln!(rt; "{fault}")?;
     match fault {
         MarkConvertFault::Exists => eprintln!(rt; "pdc mark-convert: {new}: it is left as it is"),
+        MarkConvertFault::NotRead(error) if error.kind() == ErrorKind::WouldBlock => {
+            eprintln!(rt; "pdc mark-convert: {old}: in use by another process")
+        }
         MarkConvertFault::NotRead(error) => eprintln!(rt; "pdc mark-convert: {old}: {error}"),
         MarkConvertFault::NotMade(error) => eprintln!(rt; "pdc mark-convert: {new}: {error}"),
         MarkConvertFault::Refused(_) => {

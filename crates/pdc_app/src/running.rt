@@ -3,7 +3,7 @@
 use crate::DONE;
 use crate::loading::report_load;
 use pdc_command_line::Running;
-use pdc_service::{Files, Host, ServiceFault, serve_merger, serve_node};
+use pdc_service::{Files, Host, RunOptions, ServiceFault, serve_merger, serve_node};
 use pdc_threads::Totals;
 use std::io;
 
@@ -26,11 +26,15 @@ fn report_fault(
     match fault {
         ServiceFault::Settings(fault) => report_load(rt, command, request.settings, fault)?,
         ServiceFault::MarkUnopened(error) => eprintln!(rt; "pdc {command}: {mark}: {error}")?,
+        ServiceFault::MarkInUse => {
+            eprintln!(rt; "pdc {command}: {mark}: in use by another process")?
+        }
         ServiceFault::Mark(_) => eprintln!(rt; "pdc {command}: {mark}: the mark is not begun")?,
         ServiceFault::Port(port, error) => {
             eprintln!(rt; "pdc {command}: port {port} of 127.0.0.1: {error}")?
         }
         ServiceFault::Run(_) => eprintln!(rt; "pdc {command}: the run ended early")?,
+        ServiceFault::Clock => eprintln!(rt; "pdc {command}: the clock cannot be read")?,
     }
     Ok(fault.status())
 }
@@ -56,14 +60,23 @@ fn files_of<'a>(request: &Running<'a>) -> Files<'a> {
     }
 }
 
+/// For how long it runs, and what it tells.
+fn options_of(request: &Running) -> RunOptions {
+    RunOptions {
+        ticks: request.ticks,
+        every: request.every,
+        is_quiet: request.is_quiet,
+    }
+}
+
 /// Runs a node, and answers the exit status.
 pub fn run_node_command<R: Host + Print>(rt: &R, request: &Running) -> io::Result<u8> {
-    let outcome = serve_node(rt, &files_of(request), request.ticks, request.every);
+    let outcome = serve_node(rt, &files_of(request), &options_of(request));
     report_run(rt, "node", request, outcome)
 }
 
 /// Runs the merger, and answers the exit status.
 pub fn run_merge_command<R: Host + Print>(rt: &R, request: &Running) -> io::Result<u8> {
-    let outcome = serve_merger(rt, &files_of(request), request.ticks, request.every);
+    let outcome = serve_merger(rt, &files_of(request), &options_of(request));
     report_run(rt, "merge", request, outcome)
 }

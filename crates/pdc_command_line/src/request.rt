@@ -76,10 +76,12 @@ pub struct Running<'a> {
     pub settings: &'a str,
     /// The name of the mark file.
     pub mark: &'a str,
-    /// After how many ticks it ends, at least 1.
-    pub ticks: u32,
-    /// After how many seconds a line of counters is printed again; where there is none, no such line is.
+    /// After how many ticks it ends, at least 1; where there is none, it goes on until it is stopped.
+    pub ticks: Option<u32>,
+    /// After how many seconds counters are told again; where there is none, they are not.
     pub every: Option<u32>,
+    /// Whether faults alone are told, and counters where they are asked for.
+    pub is_quiet: bool,
 }
 
 /// A UDP port that is to be listened at.

@@ -24,15 +24,23 @@ however often it is started again, the instants that it publishes strictly rise.
 
 It runs for TICKS ticks, one for each frame time, then prints
   taken=N refused=N published=N
-and ends: data frames that were taken, datagrams that were refused, rows that were published. With --every it
-prints on standard error, each time that so many seconds have gone by, what it counted until then: the same, the
-instant that was published last, and how many datagrams each cause refused.
+and ends: data frames that were taken, datagrams that were refused, rows that were published. Without TICKS it
+runs until it is stopped.
+
+On standard error it tells, with the time in front, how it begins, each layout that it adopts, a PMU that is
+silent for 5 seconds or whose data has no configuration, and a port that is read no more; --quiet leaves out all
+but faults. With --every it tells besides, each time that so many seconds have gone by, what it counted until
+then: the same as at the end, the instant that was published last, how many frames could not be sent, and how
+many datagrams each cause refused, in all and of each PMU. A reader that stops holds nothing up: lines are
+dropped then, and their number is told.
 
 Consumers ask for its header, configuration and data over TCP at `session_port`, by the commands of the standard.
 
 Faults, on standard error, with status 1: S1 Toml, S2 Range and S3 DoubledId of the settings; M1 NoMark,
 M2 Damaged, M3 OtherOwner, M5 StartsUsedUp and M6 OldMark of the mark. With status 3: `device fault` where
-a file or a port cannot be opened, and what stops a run: H1 SourceFault, H2 SinkFault, H3 NoMemory, M4 Device.
+a file or a port cannot be opened, where another process has the mark, and where the clock cannot be read; and
+what stops a run: H1 SourceFault, H2 SinkFault, H3 NoMemory, M4 Device. A frame that the system does not send is
+lost for its reader alone: it is counted, and the run goes on.
 
 Example, a minute at 50 frames a second:
   pdc node a.toml a.mark 3000";
@@ -45,7 +53,8 @@ them, and one data frame for each instant goes out to 127.0.0.1 at `out_port`, s
 and no reader downstream sees it.
 
 SETTINGS is a TOML file with two tables `node`, MARK the mark file that `pdc mark-init` made for the merger.
-It runs for TICKS ticks, prints what `pdc node` prints, and has the same options, sessions and faults.
+It runs for TICKS ticks or until it is stopped, prints what `pdc node` prints, and has the same options, sessions
+and faults.
 
 Example, a minute at 50 frames a second:
   pdc merge m.toml m.mark 3000";
@@ -64,17 +73,25 @@ fn with_words<'a>(alloc: Global, command: Command<'a>) -> Result<Command<'a>, Al
     command
         .arg(word(alloc, "SETTINGS", "The settings file"))?
         .arg(word(alloc, "MARK", "The mark file"))?
-        .arg(word(
-            alloc,
-            "TICKS",
-            "After how many ticks it ends, 1 to 4294967295",
-        ))?
+        .arg(
+            Arg::new(alloc, "TICKS").action(ArgAction::Set).help(
+                "After how many ticks it ends, 1 to 4294967295; left out, it runs until it is stopped",
+            ),
+        )?
         .arg(
             Arg::new(alloc, "every")
                 .long("every")
                 .value_name("SECONDS")
                 .action(ArgAction::Set)
-                .help("Print counters on standard error every so many seconds, 1 to 86400"),
+                .help("Tell counters on standard error every so many seconds, 1 to 86400"),
+        )?
+        .arg(
+            Arg::new(alloc, "quiet")
+                .long("quiet")
+                .action(ArgAction::SetTrue)
+                .help(
+                    "Tell faults alone on standard error, and counters where --every asks for them",
+                ),
         )
 }
 
@@ -124,15 +141,15 @@ pub fn running_request<'a>(
     asked: Concentrator,
     matches: &ArgMatches<'a>,
 ) -> Result<Option<Running<'a>>, Error> {
-    let (Some(settings), Some(mark), Some(ticks_text)) = (
-        matches.get_str("SETTINGS"),
-        matches.get_str("MARK"),
-        matches.get_str("TICKS"),
-    ) else {
+    let (Some(settings), Some(mark)) = (matches.get_str("SETTINGS"), matches.get_str("MARK")) else {
         return Ok(None);
     };
-    let Some(ticks) = number(ticks_text, 1, u32::MAX) else {
-        return Err(out_of_range(alloc, asked, "<TICKS>", ticks_text, u32::MAX)?);
+    let ticks = match matches.get_str("TICKS") {
+        None => None,
+        Some(text) => match number(text, 1, u32::MAX) {
+            Some(ticks) => Some(ticks),
+            None => return Err(out_of_range(alloc, asked, "[TICKS]", text, u32::MAX)?),
+        },
     };
     let every = match matches.get_str("every") {
         None => None,
@@ -148,5 +165,6 @@ pub fn running_request<'a>(
         mark,
         ticks,
         every,
+        is_quiet: matches.get_flag("quiet"),
     }))
 }

@@ -106,10 +106,18 @@ pub fn receive<
                     hub,
                     &mut shares,
                 ) {
-                    Ok(Outcome::Taken) => taken += 1,
-                    Ok(Outcome::Refused(_)) => refused += 1,
-                    Ok(_) => {}
-                    Err(fault) => return handed_back(shares, taken, refused, Some(fault)),
+                    Ok(outcome) => {
+                        match outcome {
+                            Outcome::Taken => taken += 1,
+                            Outcome::Refused(_) => refused += 1,
+                            Outcome::Candidate | Outcome::Known => {}
+                        }
+                        source.answered(Some(outcome));
+                    }
+                    Err(fault) => {
+                        source.answered(None);
+                        return handed_back(shares, taken, refused, Some(fault));
+                    }
                 }
             }
             Next::Idle => {

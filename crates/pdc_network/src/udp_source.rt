@@ -10,10 +10,16 @@ use std::time::Duration;
 /// How long it waits for a datagram, in milliseconds.
 const IDLE_AFTER: u64 = 20;
 
-/// The datagrams that come to a UDP port of the loopback. It is idle where none came for 20 ms.
+/// How many datagrams it gives in a row.
+const MOST_IN_A_ROW: u32 = 64;
+
+/// The datagrams that come to a UDP port of the loopback. It is idle where none came for 20 ms, and once after each 64 that came one
+/// behind the other: so whoever reads it sees that it is to end, however fast they come.
 #[derive(Drop)]
 pub struct UdpSource {
     socket: UdpSocket,
+    /// How many datagrams it gave since it was idle last.
+    in_a_row: u32,
     failures: u64,
 }
 
@@ -28,6 +34,7 @@ impl UdpSource {
         socket.set_read_timeout(Some(Duration::from_millis(IDLE_AFTER)))?;
         Ok(UdpSource {
             socket,
+            in_a_row: 0,
             failures: 0,
         })
     }
@@ -42,12 +49,27 @@ fn is_idle(kind: ErrorKind) -> bool {
 }
 
 impl Source for UdpSource {
+    ghost use Rattle.std.specs.Prelude.{◌-◌};
+    ghost use Rattle.pdc_network.specs.declared.udp_source.TheConstants.{MOST_IN_A_ROW};
+
     ghost failures_of = { λ s. s.failures };
 
+    ghost row_left = { λ s. MOST_IN_A_ROW - s.in_a_row };
+
     fn next(&mut self, buffer: &mut [u8]) -> Next {
+        if self.in_a_row >= MOST_IN_A_ROW {
+            self.in_a_row = 0;
+            return Next::Idle;
+        }
         match self.socket.recv(buffer) {
-            Ok(len) => Next::Datagram(len),
-            Err(error) if is_idle(error.kind()) => Next::Idle,
+            Ok(len) => {
+                self.in_a_row += 1;
+                Next::Datagram(len)
+            }
+            Err(error) if is_idle(error.kind()) => {
+                self.in_a_row = 0;
+                Next::Idle
+            }
             Err(_) => {
                 self.failures = self.failures.saturating_add(1);
                 Next::Fault

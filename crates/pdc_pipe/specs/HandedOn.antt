@@ -3,7 +3,8 @@ use Rattle.std.specs.Prelude.{◌≡◌, ℕ, List, [], ◌∷◌, ◌++◌}
 use Rattle.pdc_pipe.specs.declared.message.Message.{Message}
 use Rattle.pdc_pipe.specs.declared.message.Message.TheVariants.{End}
 use Rattle.pdc_pipe.specs.declared.senders.Ended.{Ended}
-use Rattle.pdc_pipe.specs.declared.senders.Ended.TheVariants.{AtEndMark}
+use Rattle.pdc_pipe.specs.declared.senders.Ended.TheVariants.{AtEndMark, SinkFault}
+use Rattle.pdc_ports.specs.Failures.{HasRisen}
 use Rattle.pdc_pipe.specs.Sequence.{bytes_of}
 
 -- the end mark stands last
@@ -17,3 +18,7 @@ pub record HasHandedOn (Took : List (List ℕ) → Type 0) (listed : List Messag
   pub took : Took given
   pub first : bytes_of listed ≡ given ++ rest
   pub whole : ended ≡ AtEndMark → (rest ≡ []) × EndsThere listed
+
+-- Where the sender ended by the sink's fault, the sink's failures rose from the one number to the other.
+abbrev pub HasSinkCause : (ended : Ended) (before after : ℕ) → Type 0
+HasSinkCause ended before after = ended ≡ SinkFault → HasRisen before after

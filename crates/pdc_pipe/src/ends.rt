@@ -2,7 +2,7 @@
 ghost use Rattle.std.specs.Prelude.{◌≡◌, ◌++◌, IfOk, List, [], false, true};
 ghost use Rattle.crossbeam_channel.specs.Claims.{IsSeatAt, view};
 ghost use Rattle.crossbeam_channel.specs.Ends.{receives_on, sends_on};
-ghost use Rattle.pdc_pipe.specs.HandedOn.{HasHandedOn};
+ghost use Rattle.pdc_pipe.specs.HandedOn.{HasHandedOn, HasSinkCause};
 ghost use Rattle.pdc_pipe.specs.Pipe.{log};
 
 use crate::message::Message;
@@ -72,10 +72,11 @@ impl<'a, K: Sink> Promise<Sent<K>> for HandsOn<'a, K> {
     ghost use Rattle.std.specs.Prelude.{◌≡◌, ℕ, List, [], ◌++◌, true, false};
     ghost use Rattle.crossbeam_channel.specs.Claims.{view, IsSeatAt};
     ghost use Rattle.crossbeam_channel.specs.Ends.{receives_on};
-    ghost use Rattle.pdc_pipe.specs.HandedOn.{HasHandedOn};
+    ghost use Rattle.pdc_pipe.specs.HandedOn.{HasHandedOn, HasSinkCause};
     ghost use Rattle.pdc_pipe.specs.Pipe.{log};
 
-    ghost kept_by = { λ p r. IsSeatAt (receives_on p.from.now) r.pass × (view r.pass ≡ log false true false [] (view r.pass).taken) × HasHandedOn (K.took p.sink.value r.sink) (view r.pass).taken r.ended };
+    ghost kept_by = { λ p r. IsSeatAt (receives_on p.from.now) r.pass × (view r.pass ≡ log false true false [] (view r.pass).taken) × HasHandedOn (K.took p.sink.value r.sink) (view r.pass).taken r.ended
+        × HasSinkCause r.ended (K.failures_of p.sink.value) (K.failures_of r.sink) };
 }
 
 /// As [`send_out`], of a sink that is its own.
@@ -86,7 +87,8 @@ pub fn send_owned<K: Sink, R: Wait>(
     sink: K,
 ) -> Sent<K>
     requires { IsSeatAt (receives_on from.now) pass × (view pass ≡ log false true false [] []) }
-    ensures { IsSeatAt (receives_on from.now) result.pass × (view result.pass ≡ log false true false [] (view result.pass).taken) × HasHandedOn (K.took sink result.sink) (view result.pass).taken result.ended }
+    ensures { IsSeatAt (receives_on from.now) result.pass × (view result.pass ≡ log false true false [] (view result.pass).taken) × HasHandedOn (K.took sink result.sink) (view result.pass).taken result.ended
+        × HasSinkCause result.ended (K.failures_of sink) (K.failures_of result.sink) }
 {
     let mut pass = pass;
     let mut sink = sink;

@@ -1,6 +1,8 @@
 //! Where datagrams come from.
-ghost use Rattle.std.specs.Prelude.{◌≡◌, ◌≤◌, ℕ, length};
+ghost use Rattle.std.specs.Prelude.{◌≡◌, ◌≤◌, ◌<◌, ℕ, length};
 ghost use Rattle.pdc_ports.specs.Failures.{HasRisen};
+
+use pdc_arrival::Outcome;
 
 /// What a source gives.
 #[derive(Clone, Copy, Debug, PartialEq, Eq)]
@@ -17,17 +19,29 @@ pub enum Next {
     Stuck,
 }
 
-/// Where datagrams come from.
+/// Where datagrams come from. However fast they come, a source gives only so many in a row: then it says once that nothing came, so that
+/// whoever reads it looks whether it is to end.
 pub trait Source {
     // how often its device failed, a counter
     ghost failures_of: { Self → ℕ };
+
+    // how many datagrams it gives in a row at most, from now on
+    ghost row_left: { Self → ℕ };
 
     /// The next datagram, written to the front of the buffer.
     fn next(&mut self, buffer: &mut [u8]) -> Next
         ensures kept { length buffer.new ≡ length buffer.old }
         ensures more { failures_of self.old ≤ failures_of self.new }
         ensures datagram { (n : ℕ) → result ≡ Next.Datagram n → n ≤ length buffer.new }
+        ensures row { (n : ℕ) → result ≡ Next.Datagram n → row_left self.new < row_left self.old }
         ensures fault { result ≡ Next.Fault → HasRisen (failures_of self.old) (failures_of self.new) };
+
+    /// Takes how the datagram was answered that it gave last; none where it was not, for want of memory or of room in a counter, and then
+    /// nothing more is asked of it. A source that wants to know nothing of it passes it over.
+    fn answered(&mut self, _outcome: Option<Outcome>)
+        ensures failures { failures_of self.old ≤ failures_of self.new }
+        ensures row { row_left self.new ≤ row_left self.old }
+    {}
 
     /// How often its device failed. It stays at its greatest value.
     fn failures(&self) -> u64

@@ -1,6 +1,7 @@
 //! The publisher of one concentrator.
 ghost use Rattle.std.specs.Prelude.{◌≡◌, ◌⊎◌, ◌+◌, ◌*◌, ◌<◌, ◌≤◌, ◌++◌, true, false, length, IsTrue, IsErrOf, IfOk, IfErr, OnOk, OnErr};
 ghost use Rattle.pdc_tag.specs.declared.limits.TheConstants.{SECONDS};
+ghost use Rattle.pdc_disk.specs.Disk.{HasFailed};
 ghost use Rattle.pdc_mark.specs.Counts.{IsRaise};
 ghost use Rattle.pdc_mark.specs.Faults.{HasDeviceCause};
 ghost use Rattle.pdc_mark.specs.Stored.{with_counts};
@@ -111,6 +112,7 @@ impl<M: Mark> Publisher<M> {
         ensures spared { instant ≤ (M.stored (mark_in self.old)).floor → (mark_in self.new ≡ mark_in self.old) × OnErr result ⊥ }
         ensures failed { OnErr result (has_failed_in self.new ≡ true) }
         ensures works { OnOk result (has_failed_in self.new ≡ has_failed_in self.old) }
+        ensures cause { OnErr result (IsTrue (M.is_broken (mark_in self.old)) ⊎ HasFailed (M.failures (mark_in self.old)) (M.failures (mark_in self.new))) }
         ensures safe { M.is_safe → OnErr result ⊥ }
         ensures kept { (output_in self.new ≡ output_in self.old) × (lead_in self.new ≡ lead_in self.old) × (last_in self.new ≡ last_in self.old) }
     {
@@ -160,6 +162,8 @@ impl<M: Mark> Publisher<M> {
             → B.capacity out.new ≡ B.capacity out.old }
         // A device fault stands, and has its cause.
         ensures device { IfErr result (λ fault. IsDevice fault → has_failed_in self.new ≡ true) }
+        ensures cause { IfErr result (λ fault. IsDevice fault → (has_failed_in self.old ≡ true)
+            ⊎ (IsTrue (M.is_broken (mark_in self.old)) ⊎ HasFailed (M.failures (mark_in self.old)) (M.failures (mark_in self.new)))) }
         ensures failed { has_failed_in self.old ≡ true → IfErr result IsDevice × OnOk result ⊥ }
         ensures works { OnOk result (has_failed_in self.new ≡ false) }
         ensures safe { M.is_safe → has_failed_in self.old ≡ false → IfErr result (λ fault. IsDevice fault → ⊥) }
@@ -205,6 +209,8 @@ impl<M: Mark> Publisher<M> {
         ensures faults { OnErr result (IsErrOf result MarkFault.Device) }
         // A device fault stands, and has its cause.
         ensures device { OnErr result (has_failed_in self.new ≡ true) }
+        ensures cause { OnErr result ((has_failed_in self.old ≡ true)
+            ⊎ (IsTrue (M.is_broken (mark_in self.old)) ⊎ HasFailed (M.failures (mark_in self.old)) (M.failures (mark_in self.new)))) }
         ensures failed { has_failed_in self.old ≡ true → OnOk result ⊥ }
         ensures works { OnOk result (has_failed_in self.new ≡ false) }
         ensures safe { M.is_safe → has_failed_in self.old ≡ false → OnErr result ⊥ }

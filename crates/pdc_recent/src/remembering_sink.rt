@@ -14,8 +14,8 @@ use pdc_tag::instant;
 use std::alloc::{AllocError, Global};
 use std::sync::Wait;
 
-/// Sends each frame by another sink, and then keeps it: a data frame under the instant of its time tag, a layout frame in place of the one
-/// before. A frame that cannot be kept for want of memory is a fault; it was sent all the same. Each is read before it is kept, since a
+/// Sends each frame by another sink, and then keeps it, whether or not it was sent: a data frame under the instant of its time tag, a layout
+/// frame in place of the one before. A frame that cannot be sent, or not be kept for want of memory, is a fault. Each is read before it is kept, since a
 /// sink is given bytes alone.
 #[derive(Drop)]
 pub struct RememberingSink<'a, N: Naming, K: Sink + Drop, R: Wait> {
@@ -105,7 +105,9 @@ impl<'a, N: Naming, K: Sink + Drop, R: Wait> Sink for RememberingSink<'a, N, K, 
     ghost failures_of = { λ s. s.failures };
 
     fn send(&mut self, bytes: &[u8]) -> Result<(), SinkFault> {
-        if self.inner.send(bytes).is_ok() && self.keep(bytes).is_ok() {
+        let is_sent = self.inner.send(bytes).is_ok();
+        let is_kept = self.keep(bytes).is_ok();
+        if is_sent && is_kept {
             return Ok(());
         }
         self.failures = self.failures.saturating_add(1);

@@ -1,2 +1,3 @@
 pub mod Concentrator
 pub mod Begun
+pub mod Status

@@ -37,6 +37,14 @@ impl<M: Mark + Drop> Begun<M> {
         start
     }
 
+    /// The instant up to which all was published or given up before this life.
+    pub fn floor(&self) -> u64
+        ensures { result ≡ (M.stored (begun_mark self.now)).floor }
+    {
+        let (_, floor) = self.mark.stored();
+        floor
+    }
+
     /// The mark.
     pub fn into_mark(self) -> M
         ensures { result ≡ begun_mark self }

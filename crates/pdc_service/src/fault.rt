@@ -1,4 +1,6 @@
 //! Why a node or the merger did not run to its end.
+ghost use Rattle.std.specs.Prelude.{◌≡◌};
+ghost use Rattle.pdc_service.specs.Status.{status_of, status_of_load};
 
 use pdc_mark::MarkFault;
 use pdc_settings::SettingsFault;
@@ -26,6 +28,9 @@ pub enum ServiceFault {
     /// The mark file cannot be opened.
     #[error("device fault")]
     MarkUnopened(io::Error),
+    /// Another process has the mark file.
+    #[error("device fault")]
+    MarkInUse,
     /// The mark file is refused, or no start can be stored.
     #[error("{0}")]
     Mark(MarkFault),
@@ -35,6 +40,9 @@ pub enum ServiceFault {
     /// The run ended by a fault.
     #[error("{0}")]
     Run(HubFault),
+    /// The run ended since the clock could not be read.
+    #[error("device fault")]
+    Clock,
 }
 
 /// The exit status of input that was refused.
@@ -45,7 +53,9 @@ const FAILED: u8 = 3;
 
 impl LoadFault {
     /// The exit status: 1 where the settings are refused, 3 where the file cannot be read or memory ran out.
-    pub fn status(&self) -> u8 {
+    pub fn status(&self) -> u8
+        ensures { result ≡ status_of_load self.now }
+    {
         match self {
             LoadFault::Unread(_) | LoadFault::Refused(SettingsFault::NoMemory) => FAILED,
             LoadFault::Refused(_) => REFUSED,
@@ -55,12 +65,18 @@ impl LoadFault {
 
 impl ServiceFault {
     /// The exit status: 1 where settings or mark are refused, 3 where a device failed or memory ran out.
-    pub fn status(&self) -> u8 {
+    pub fn status(&self) -> u8
+        ensures { result ≡ status_of self.now }
+    {
         match self {
             ServiceFault::Settings(fault) => fault.status(),
             ServiceFault::Mark(MarkFault::Device) => FAILED,
             ServiceFault::Mark(_) => REFUSED,
-            ServiceFault::MarkUnopened(_) | ServiceFault::Port(..) | ServiceFault::Run(_) => FAILED,
+            ServiceFault::MarkUnopened(_)
+            | ServiceFault::MarkInUse
+            | ServiceFault::Port(..)
+            | ServiceFault::Run(_)
+            | ServiceFault::Clock => FAILED,
         }
     }
 }

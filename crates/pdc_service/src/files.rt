@@ -6,9 +6,10 @@ use pdc_disk::FileDisk;
 use pdc_mark::DiskMark;
 use pdc_settings::{MergerSettings, NodeSettings, SettingsFault};
 use std::alloc::Global;
-use std::fs;
 use std::fs::File;
+use std::io::ErrorKind;
 use std::rt::Files;
+use std::{fs, io};
 
 /// The text of a settings file; one that is not UTF-8 is no TOML.
 pub fn read_settings_text<R: Files<File = File> + AllocGlobal>(
@@ -37,6 +38,15 @@ pub fn read_merger_settings<R: Files<File = File> + AllocGlobal>(
     MergerSettings::from_toml(rt.alloc(), &text).map_err(LoadFault::Refused)
 }
 
+/// Why a mark file was not opened: one whose lock another process has is in use.
+fn unopened(error: io::Error) -> ServiceFault {
+    if error.kind() == ErrorKind::WouldBlock {
+        ServiceFault::MarkInUse
+    } else {
+        ServiceFault::MarkUnopened(error)
+    }
+}
+
 /// The mark in this file, of the concentrator with this id and rate, with its next start stored.
 pub fn begin_mark<R: Files<File = File>>(
     rt: &R,
@@ -44,7 +54,7 @@ pub fn begin_mark<R: Files<File = File>>(
     id: u16,
     rate: u16,
 ) -> Result<Begun<DiskMark<FileDisk>>, ServiceFault> {
-    let disk = FileDisk::open(rt, file).map_err(ServiceFault::MarkUnopened)?;
+    let disk = FileDisk::open(rt, file).map_err(unopened)?;
     match DiskMark::open(disk, id, rate) {
         Ok(mark) => Begun::new(mark).map_err(ServiceFault::Mark),
         Err(refused) => Err(ServiceFault::Mark(refused.fault)),

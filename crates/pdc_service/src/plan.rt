@@ -3,6 +3,8 @@ ghost use Rattle.std.specs.Prelude.{◌≤◌};
 ghost use Rattle.pdc_publisher.specs.declared.publisher.TheConstants.{MAX_LEAD};
 ghost use Rattle.pdc_service.specs.declared.plan.TheConstants.{MAX_LIMIT};
 
+use pdc_settings::Service;
+
 /// The most steps that are kept over a base.
 pub const MAX_LIMIT: usize = 1024;
 
@@ -19,4 +21,13 @@ pub struct Plan {
     pub ghost layout_every_low: { 1 ≤ layout_every },
     pub ghost limit_low: { 1 ≤ limit },
     pub ghost limit_high: { limit ≤ MAX_LIMIT },
+}
+
+/// How a concentrator with these settings runs.
+pub fn plan_of(service: &Service) -> Plan {
+    Plan {
+        lead: service.lead,
+        layout_every: u32::from(service.layout_every),
+        limit: MAX_LIMIT,
+    }
 }

@@ -1,7 +1,8 @@
 //! Runs of a node and of the merger.
 ghost use Rattle.std.specs.Prelude.{◌≡◌, ◌≤◌, ◌<◌, ◌+◌, ℕ, IfOk, List, Some, [], length, map, sum, vec_len};
+ghost use Rattle.pdc_threads.specs.Opened.{IsOpenedWith};
 ghost use Rattle.pdc_threads.specs.Rate.{IsAtRate};
-ghost use Rattle.pdc_threads.specs.Run.{HasRun, IsSummed};
+ghost use Rattle.pdc_threads.specs.Run.{HasRun, IsCausedBySink, IsSummed};
 ghost use Rattle.pdc_life.specs.Given.{Given};
 ghost use Rattle.pdc_publisher.specs.Publisher.{last_in, mark_in, output_in};
 ghost use Rattle.pdc_service.specs.Begun.{begun_mark};
@@ -63,7 +64,9 @@ where
     requires streams { (vec_len sources ≡ C.Settings.streams settings.now) × (vec_len sources ≤ MAX_PMUS) }
     requires floor { last_in publisher ≡ (M.stored (mark_in publisher)).floor }
     requires rate { IsAtRate N.given (output_in publisher).rate }
+    requires opened { IsOpenedWith N.given (M.stored (mark_in publisher)) }
     ensures totals { IsSummed result.outcome }
+    ensures sink { IsCausedBySink result.outcome (K.failures_of sink) (K.failures_of result.sink) }
     ensures sent { HasRun (K.took sink result.sink) (last_in publisher) (M.stored (mark_in result.publisher)).floor result.outcome }
 {
     let floor = publisher.last();
@@ -92,6 +95,7 @@ fn blanks(parts: u64) -> Blanks
 fn not_run<M: Mark, K: Sink>(publisher: Publisher<M>, sink: K) -> Ran<M, K>
     requires floor { last_in publisher ≡ (M.stored (mark_in publisher)).floor }
     ensures totals { IsSummed result.outcome }
+    ensures sink { IsCausedBySink result.outcome (K.failures_of sink) (K.failures_of result.sink) }
     ensures sent { HasRun (K.took sink result.sink) (last_in publisher) (M.stored (mark_in result.publisher)).floor result.outcome }
 {
     Ran {
@@ -125,8 +129,12 @@ where
     C::Settings: Sync,
     requires copy { copy ≡ settings.now }
     requires output { (start floor : ℕ) (counts : List ℕ) → (C.given_with settings.now start floor counts).output ≡ output }
+    requires start { (start floor : ℕ) (counts : List ℕ) → (C.given_with settings.now start floor counts).start ≡ start }
+    requires floor { (start floor : ℕ) (counts : List ℕ) → (C.given_with settings.now start floor counts).floor ≡ floor }
+    requires counts { (start floor : ℕ) (counts : List ℕ) → (C.given_with settings.now start floor counts).counts ≡ counts }
     requires streams { (vec_len sources ≡ C.Settings.streams settings.now) × (vec_len sources ≤ MAX_PMUS) }
     ensures totals { IsSummed result.outcome }
+    ensures sink { IsCausedBySink result.outcome (K.failures_of sink) (K.failures_of result.sink) }
     ensures sent { HasRun (K.took sink result.sink) (M.stored (begun_mark mark)).floor (M.stored (mark_in result.publisher)).floor result.outcome }
 {
     let mark = mark.into_mark();
@@ -173,6 +181,8 @@ pub fn run_node<
     requires { vec_len sources ≡ length settings.now.pmus.items }
     // The totals are the sums over the receivers.
     ensures totals { IfOk result.outcome (λ t. (t.taken ≡ sum (map (λ c. c.taken) t.receivers.items)) × (t.refused ≡ sum (map (λ c. c.refused) t.receivers.items))) }
+    // Only a sink that failed ends it by the sink's fault.
+    ensures sink { IsCausedBySink result.outcome (K.failures_of sink) (K.failures_of result.sink) }
     // What the sink took are the first of the frames put, whose instants strictly rise above the floor that was stored, and are at most the
     // one that is stored then; all of them where the run was Ok, and then so many rows were published.
     ensures sent { HasRun (K.took sink result.sink) (M.stored (begun_mark mark)).floor (M.stored (mark_in result.publisher)).floor result.outcome }
@@ -215,6 +225,7 @@ pub fn run_merger<
     // Node A and node B have a source each.
     requires { vec_len sources ≡ 2 }
     ensures totals { IfOk result.outcome (λ t. (t.taken ≡ sum (map (λ c. c.taken) t.receivers.items)) × (t.refused ≡ sum (map (λ c. c.refused) t.receivers.items))) }
+    ensures sink { IsCausedBySink result.outcome (K.failures_of sink) (K.failures_of result.sink) }
     ensures sent { HasRun (K.took sink result.sink) (M.stored (begun_mark mark)).floor (M.stored (mark_in result.publisher)).floor result.outcome }
 {
     run_begun::<Merger<RingTable>, S, M, I, K, R>(

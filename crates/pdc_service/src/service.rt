@@ -5,12 +5,12 @@ use crate::concentrator::Concentrator;
 use crate::fault::ServiceFault;
 use crate::files::{begin_mark, read_merger_settings, read_node_settings};
 use crate::host::Host;
-use crate::plan::{MAX_LIMIT, Plan};
+use crate::observing::Observed;
+use crate::options::RunOptions;
 use crate::ports::{open_listener, open_sink, open_sources};
-use crate::serving::run_serving;
-use pdc_network::{ClockTicker, Reporting};
-use pdc_settings::Service;
-use pdc_threads::Totals;
+use crate::serving::{Opened, run_serving};
+use crate::telling::begun_text;
+use pdc_threads::{HubFault, Totals};
 
 /// The files of a concentrator, by their names.
 #[derive(Clone, Copy, Debug)]
@@ -21,46 +21,43 @@ pub struct Files<'a> {
     pub mark: &'a str,
 }
 
-/// How it runs.
-fn plan_of(service: &Service) -> Plan {
-    Plan {
-        lead: service.lead,
-        layout_every: u32::from(service.layout_every),
-        limit: MAX_LIMIT,
-    }
-}
-
 /// Runs a concentrator with its mark in this file.
 fn serve_concentrator<R: Host>(
     rt: &R,
     concentrator: &Concentrator,
     mark: &str,
-    ticks: u32,
-    every: Option<u32>,
+    options: &RunOptions,
 ) -> Result<Totals, ServiceFault> {
+    let alloc = rt.alloc();
     let output = concentrator.output();
     let service = concentrator.service_settings();
     let mark = begin_mark(rt, mark, output.id, output.rate)?;
-    let sources = open_sources(rt, rt.alloc(), concentrator)?;
-    let sink = open_sink(rt, service.out_port)?;
+    let (start, floor) = (mark.start(), mark.floor());
+    let opened = Opened {
+        mark,
+        sources: open_sources(rt, alloc, concentrator)?,
+        sink: open_sink(rt, service.out_port)?,
+    };
     let listener = open_listener(rt, service.session_port)?;
-    let ticker = Reporting::new(rt, ClockTicker::new(rt, output.rate, ticks), every);
-    let plan = plan_of(&service);
+    let Ok(observed) = Observed::new(alloc, concentrator, options.is_quiet) else {
+        return Err(ServiceFault::Run(HubFault::NoMemory));
+    };
+    observed
+        .journal
+        .note(rt, begun_text(alloc, concentrator, start, floor));
     run_serving(
         rt,
-        rt.alloc(),
+        alloc,
         concentrator,
-        &plan,
-        mark,
-        sources,
-        ticker,
-        sink,
-        listener,
+        options,
+        opened,
+        &listener,
+        &observed,
     )
 }
 
-/// Runs a node for so many ticks, and serves its consumers as long. Each time that so many seconds have gone by it prints a line of counters
-/// on standard error, if any are asked for.
+/// Runs a node, and serves its consumers as long. On standard error it tells what happens to it, and counters where they are asked for; a
+/// thread of its own prints them, so that nobody who does not read them holds up the run.
 ///
 /// # Errors
 ///
@@ -69,14 +66,13 @@ fn serve_concentrator<R: Host>(
 pub fn serve_node<R: Host>(
     rt: &R,
     files: &Files<'_>,
-    ticks: u32,
-    every: Option<u32>,
+    options: &RunOptions,
 ) -> Result<Totals, ServiceFault> {
     let settings = read_node_settings(rt, files.settings).map_err(ServiceFault::Settings)?;
-    serve_concentrator(rt, &Concentrator::Node(settings), files.mark, ticks, every)
+    serve_concentrator(rt, &Concentrator::Node(settings), files.mark, options)
 }
 
-/// Runs the merger for so many ticks, serves its consumers as long, and prints counters as [`serve_node`] does.
+/// Runs the merger, serves its consumers as long, and tells what [`serve_node`] does.
 ///
 /// # Errors
 ///
@@ -85,15 +81,8 @@ pub fn serve_node<R: Host>(
 pub fn serve_merger<R: Host>(
     rt: &R,
     files: &Files<'_>,
-    ticks: u32,
-    every: Option<u32>,
+    options: &RunOptions,
 ) -> Result<Totals, ServiceFault> {
     let settings = read_merger_settings(rt, files.settings).map_err(ServiceFault::Settings)?;
-    serve_concentrator(
-        rt,
-        &Concentrator::Merger(settings),
-        files.mark,
-        ticks,
-        every,
-    )
+    serve_concentrator(rt, &Concentrator::Merger(settings), files.mark, options)
 }

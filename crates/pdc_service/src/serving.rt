@@ -7,29 +7,45 @@ ghost use Rattle.pdc_service.specs.Concentrator.{output_of, streams_of};
 use crate::begun::Begun;
 use crate::concentrator::{Concentrator, run_concentrator};
 use crate::fault::ServiceFault;
-use crate::plan::Plan;
+use crate::observing::{Observed, observe_all};
+use crate::options::RunOptions;
+use crate::plan::plan_of;
+use crate::telling::unsent_text;
 use pdc_disk::FileDisk;
+use pdc_journal::{AnnouncingSink, CountingSink, Journal, Reporting};
 use pdc_mark::DiskMark;
-use pdc_network::{UdpSink, UdpSource};
+use pdc_network::{ClockTicker, UdpSink, UdpSource};
 use pdc_recent::{Naming, Recent, RememberingSink};
 use pdc_server::serve;
-use pdc_threads::{HubFault, Ticker, Totals};
+use pdc_threads::{HubFault, Totals};
 use std::alloc::Global;
 use std::marker::Brand;
 use std::net::TcpListener;
 use std::rt::Clock;
 use std::sync::Wait;
+use std::sync::atomic::Ordering;
 use std::thread;
 use std::thread::{Scope, Threads};
 
-/// Starts the thread that serves the consumers, and answers whether it was started.
-fn start_sessions<'s, E: 's, N: Naming + Send + 's, R: Wait + Clock + Sync + 's>(
+/// How many consumers are served at once.
+const SESSIONS: u32 = 8;
+
+/// What is open for a run: its mark, a source for each stream, and where frames go.
+#[derive(Drop)]
+pub struct Opened {
+    pub mark: Begun<DiskMark<FileDisk>>,
+    pub sources: Vec<UdpSource>,
+    pub sink: UdpSink,
+}
+
+/// Starts a thread that serves consumers, one after the other, and answers whether it was started.
+fn start_session<'s, E: 's, N: Naming + Send + 's, R: Wait + Clock + Sync + 's>(
     scope: &'s Scope<'s, E>,
     rt: &'s R,
     alloc: Global,
     id: u16,
     recent: &'s Recent<N>,
-    listener: TcpListener,
+    listener: &'s TcpListener,
 ) -> bool
     requires id_low { 0 < id }
     requires id_high { id ≤ MAX_ID }
@@ -38,73 +54,150 @@ fn start_sessions<'s, E: 's, N: Naming + Send + 's, R: Wait + Clock + Sync + 's>
         .spawn(
             move || -> ()
                 requires { (0 < id) × (id ≤ MAX_ID) }
-            { serve(rt, alloc, id, recent, &listener) },
+            { serve(rt, alloc, id, recent, listener) },
         )
         .is_ok()
 }
 
-/// Starts the sessions, runs, and ends the sessions.
-fn conduct<
-    's,
-    E: 's,
-    N: Naming + Send + 's,
-    I: Ticker + Drop,
-    R: Threads + Wait + Clock + Sync + 's,
->(
+/// Starts the threads that serve consumers, and answers whether all were started.
+fn start_sessions<'s, E: 's, N: Naming + Send + 's, R: Wait + Clock + Sync + 's>(
     scope: &'s Scope<'s, E>,
     rt: &'s R,
     alloc: Global,
+    id: u16,
+    recent: &'s Recent<N>,
+    listener: &'s TcpListener,
+) -> bool
+    requires id_low { 0 < id }
+    requires id_high { id ≤ MAX_ID }
+{
+    for _ in 0..SESSIONS {
+        if !start_session(scope, rt, alloc, id, recent, listener) {
+            return false;
+        }
+    }
+    true
+}
+
+/// Starts the thread that prints what is told, and answers whether it was started.
+fn start_journal<'s, E: 's, R: Wait + Clock + Eprint + Sync + 's>(
+    scope: &'s Scope<'s, E>,
+    rt: &'s R,
+    journal: &'s Journal,
+) -> bool {
+    scope.spawn(move || -> () { journal.print_all(rt) }).is_ok()
+}
+
+/// Runs, and tells at the end how many frames could not be sent.
+fn run_observed<'s, N: Naming + Send + 's, R: Threads + Wait + Clock + Sync + 's>(
+    rt: &'s R,
+    alloc: Global,
     concentrator: &Concentrator,
-    plan: &Plan,
+    options: &RunOptions,
     mark: Begun<DiskMark<FileDisk>>,
     sources: Vec<UdpSource>,
-    ticker: I,
     sink: UdpSink,
+    observed: &'s Observed,
     recent: &'s Recent<N>,
-    listener: TcpListener,
 ) -> Result<Totals, ServiceFault>
     requires streams { vec_len sources ≡ streams_of concentrator.now }
     requires named { N.stream ≡ stream_of (output_of concentrator.now) }
 {
     let output = concentrator.output();
-    if !start_sessions(scope, rt, alloc, output.id, recent, listener) {
+    let plan = plan_of(&concentrator.service_settings());
+    let (journal, signs) = (&observed.journal, &observed.signs);
+    let Some(sources) = observe_all(rt, alloc, observed, sources) else {
         return Err(ServiceFault::Run(HubFault::NoMemory));
-    }
+    };
+    let clock = ClockTicker::new(rt, output.rate, options.ticks, &signs.is_clock_unreadable);
+    let ticker = Reporting::new(
+        rt,
+        alloc,
+        journal,
+        observed.tallies.as_slice(),
+        &signs.unsent,
+        observed.left_out.as_ref(),
+        clock,
+        options.every,
+    );
     let sink = RememberingSink::new(rt, alloc, recent, output, sink);
-    let outcome = run_concentrator(rt, alloc, concentrator, plan, mark, sources, ticker, sink);
-    recent.close(rt);
+    let sink = CountingSink::new(sink, &signs.unsent);
+    let sink = AnnouncingSink::new(rt, alloc, journal, observed.left_out.as_ref(), sink);
+    let outcome = run_concentrator(rt, alloc, concentrator, &plan, mark, sources, ticker, sink);
+    let unsent = signs.unsent.load(Ordering::Relaxed);
+    if unsent > 0 {
+        journal.tell(rt, unsent_text(alloc, unsent));
+    }
     match outcome {
+        Ok(_) if signs.is_clock_unreadable.load(Ordering::Relaxed) => Err(ServiceFault::Clock),
         Ok(totals) => Ok(totals),
         Err(fault) => Err(ServiceFault::Run(fault)),
     }
 }
 
-/// Runs a concentrator that keeps what it sends in `recent`, and serves its consumers in a thread beside it for as long as it runs.
-fn run_keeping<
-    'x,
-    N: Naming + Send + 'x,
-    I: Ticker + Drop + 'x,
-    R: Threads + Wait + Clock + Sync + 'x,
->(
+/// Starts the sessions and the journal, runs, and ends both.
+fn conduct<'s, E: 's, N: Naming + Send + 's, R: Threads + Wait + Clock + Eprint + Sync + 's>(
+    scope: &'s Scope<'s, E>,
+    rt: &'s R,
+    alloc: Global,
+    concentrator: &Concentrator,
+    options: &RunOptions,
+    opened: Opened,
+    listener: &'s TcpListener,
+    observed: &'s Observed,
+    recent: &'s Recent<N>,
+) -> Result<Totals, ServiceFault>
+    requires streams { vec_len opened.sources ≡ streams_of concentrator.now }
+    requires named { N.stream ≡ stream_of (output_of concentrator.now) }
+{
+    let Opened {
+        mark,
+        sources,
+        sink,
+    } = opened;
+    let id = concentrator.output().id;
+    let is_begun = start_journal(scope, rt, &observed.journal)
+        && start_sessions(scope, rt, alloc, id, recent, listener);
+    let outcome = if is_begun {
+        run_observed(
+            rt,
+            alloc,
+            concentrator,
+            options,
+            mark,
+            sources,
+            sink,
+            observed,
+            recent,
+        )
+    } else {
+        Err(ServiceFault::Run(HubFault::NoMemory))
+    };
+    recent.close(rt);
+    observed.journal.close(rt);
+    outcome
+}
+
+/// Runs a concentrator that keeps what it sends in `recent`. Its consumers are served, and what it tells is printed, in threads beside it,
+/// for as long as it runs.
+fn run_keeping<'x, N: Naming + Send + 'x, R: Threads + Wait + Clock + Eprint + Sync + 'x>(
     rt: &'x R,
     alloc: Global,
     concentrator: &'x Concentrator,
-    plan: &'x Plan,
-    mark: Begun<DiskMark<FileDisk>>,
-    sources: Vec<UdpSource>,
-    ticker: I,
-    sink: UdpSink,
+    options: &'x RunOptions,
+    opened: Opened,
+    listener: &'x TcpListener,
+    observed: &'x Observed,
     recent: &'x Recent<N>,
-    listener: TcpListener,
 ) -> Result<Totals, ServiceFault>
-    requires streams { vec_len sources ≡ streams_of concentrator.now }
+    requires streams { vec_len opened.sources ≡ streams_of concentrator.now }
     requires named { N.stream ≡ stream_of (output_of concentrator.now) }
 {
     thread::scope(
         thread::scope_env(),
         rt,
         |scope| -> Result<Totals, ServiceFault>
-            requires streams { vec_len sources ≡ streams_of concentrator.now }
+            requires streams { vec_len opened.sources ≡ streams_of concentrator.now }
             requires named { N.stream ≡ stream_of (output_of concentrator.now) }
         {
             conduct(
@@ -112,73 +205,55 @@ fn run_keeping<
                 rt,
                 alloc,
                 concentrator,
-                plan,
-                mark,
-                sources,
-                ticker,
-                sink,
-                recent,
+                options,
+                opened,
                 listener,
+                observed,
+                recent,
             )
         },
     )
 }
 
 /// Runs a concentrator of the stream that is named, and serves its consumers.
-fn run_named<N: Naming + Send, I: Ticker + Drop, R: Threads + Wait + Clock + Sync>(
+fn run_named<N: Naming + Send, R: Threads + Wait + Clock + Eprint + Sync>(
     rt: &R,
     alloc: Global,
     concentrator: &Concentrator,
-    plan: &Plan,
-    mark: Begun<DiskMark<FileDisk>>,
-    sources: Vec<UdpSource>,
-    ticker: I,
-    sink: UdpSink,
-    listener: TcpListener,
+    options: &RunOptions,
+    opened: Opened,
+    listener: &TcpListener,
+    observed: &Observed,
 ) -> Result<Totals, ServiceFault>
-    requires streams { vec_len sources ≡ streams_of concentrator.now }
+    requires streams { vec_len opened.sources ≡ streams_of concentrator.now }
     requires named { N.stream ≡ stream_of (output_of concentrator.now) }
 {
-    let Ok(recent) = Recent::<N>::new(alloc, &concentrator.output(), mark.start()) else {
+    let Ok(recent) = Recent::<N>::new(alloc, &concentrator.output(), opened.mark.start()) else {
         return Err(ServiceFault::Run(HubFault::NoMemory));
     };
     run_keeping(
         rt,
         alloc,
         concentrator,
-        plan,
-        mark,
-        sources,
-        ticker,
-        sink,
-        &recent,
+        options,
+        opened,
         listener,
+        observed,
+        &recent,
     )
 }
 
-/// Runs a concentrator, and serves its consumers in a thread beside it for as long as it runs.
-pub fn run_serving<I: Ticker + Drop, R: Threads + Wait + Clock + Sync>(
+/// Runs a concentrator, serves its consumers and prints what is told, for as long as it runs.
+pub fn run_serving<R: Threads + Wait + Clock + Eprint + Sync>(
     rt: &R,
     alloc: Global,
     concentrator: &Concentrator,
-    plan: &Plan,
-    mark: Begun<DiskMark<FileDisk>>,
-    sources: Vec<UdpSource>,
-    ticker: I,
-    sink: UdpSink,
-    listener: TcpListener,
+    options: &RunOptions,
+    opened: Opened,
+    listener: &TcpListener,
+    observed: &Observed,
 ) -> Result<Totals, ServiceFault>
-    requires { vec_len sources ≡ streams_of concentrator.now }
+    requires { vec_len opened.sources ≡ streams_of concentrator.now }
 {
-    run_named::<Brand, I, R>(
-        rt,
-        alloc,
-        concentrator,
-        plan,
-        mark,
-        sources,
-        ticker,
-        sink,
-        listener,
-    )
+    run_named::<Brand, R>(rt, alloc, concentrator, options, opened, listener, observed)
 }

@@ -1,4 +1,5 @@
 -- What a run does.
 pub mod Crew
+pub mod Opened
 pub mod Rate
 pub mod Run

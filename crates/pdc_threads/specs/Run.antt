@@ -1,14 +1,16 @@
 -- What a run of the receivers, the aligner and the sender did.
-use Rattle.std.specs.Prelude.{◌≡◌, ℕ, Option, List, [], ◌++◌, length, map, sum, IfOk, OnOk, Result}
+use Rattle.std.specs.Prelude.{◌≡◌, ℕ, Option, List, [], ◌++◌, length, map, sum, IfOk, IsErrOf, OnOk, Result}
 use Rattle.pdc_aligner.specs.declared.pace.Pace.{Pace}
 use Rattle.pdc_aligner.specs.Sequence.{Rises, instants_of}
 use Rattle.pdc_aligner.specs.Turns.{HasGiven, IsAligned}
 use Rattle.pdc_life.specs.Given.{Given}
 use Rattle.pdc_mark.specs.declared.stored.Stored.{Stored}
 use Rattle.pdc_hub.specs.declared.fault.HubFault.{HubFault}
+use Rattle.pdc_hub.specs.declared.fault.HubFault.TheVariants.{SinkFault}
 use Rattle.pdc_hub.specs.Replay.{Lives}
 use Rattle.pdc_pipe.specs.declared.message.Message.{Message}
 use Rattle.pdc_pipe.specs.Sequence.{bytes_of}
+use Rattle.pdc_ports.specs.Failures.{HasRisen}
 use Rattle.pdc_threads.specs.declared.runs.Totals.{Totals}
 
 -- The totals are the sums over the receivers.
@@ -36,3 +38,7 @@ GivesFrom {I} gave ticker nows = (after : I) × HasGiven gave ticker after nows
 pub record HasRunInTurns {C : Type 0} (Stands : C → Lives) (named : Option Given) (pace : Pace) (Gave : List ℕ → Type 0) (Took : List (List ℕ) → Type 0) (last : ℕ) (before after : Stored) (outcome : Result Totals HubFault) : Type 0 where
   pub run : HasRun Took last after.floor outcome
   pub aligned : IsAligned Stands named pace.rate pace.layout_every before.counts after.counts Gave outcome run.put
+
+-- Where the run ended by the sink's fault, the sink's failures rose from the one number to the other.
+abbrev pub IsCausedBySink : (outcome : Result Totals HubFault) (before after : ℕ) → Type 0
+IsCausedBySink outcome before after = IsErrOf outcome SinkFault → HasRisen before after

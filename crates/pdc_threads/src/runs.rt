@@ -1,15 +1,16 @@
 //! A run of all receivers beside the aligner and the sender.
-ghost use Rattle.std.specs.Prelude.{◌≡◌, ◌≤◌, ◌<◌, ◌+◌, ◌++◌, ◌∷◌, ℕ, Bool, IfOk, IfSome, List, None, Ok, OnOk, Option, Some, [], false, length, map, sum, true, vec_len};
+ghost use Rattle.std.specs.Prelude.{◌≡◌, ◌≤◌, ◌<◌, ◌+◌, ◌++◌, ◌∷◌, ℕ, Bool, IfOk, IfSome, IsErrOf, List, None, Ok, OnOk, Option, Some, [], false, length, map, sum, true, vec_len};
 ghost use Rattle.crossbeam_channel.specs.Claims.{IsSeatAt, view};
 ghost use Rattle.crossbeam_channel.specs.Ends.{receives_on, sends_on};
 ghost use Rattle.pdc_pipe.specs.Pipe.{log};
+ghost use Rattle.pdc_aligner.specs.Opened.{IsOpenedWith};
 ghost use Rattle.pdc_aligner.specs.Rate.{IsAtRate};
 ghost use Rattle.pdc_threads.specs.Crew.{CanRun};
-ghost use Rattle.pdc_threads.specs.Run.{GivesFrom, HasRun, HasRunInTurns, IsSummed};
+ghost use Rattle.pdc_threads.specs.Run.{GivesFrom, HasRun, HasRunInTurns, IsCausedBySink, IsSummed};
 ghost use Rattle.pdc_aligner.specs.Sequence.{Rises, instants_of};
 ghost use Rattle.pdc_aligner.specs.Turns.{IsAligned};
 ghost use Rattle.pdc_pipe.specs.declared.message.Message.{Message};
-ghost use Rattle.pdc_pipe.specs.HandedOn.{HasHandedOn};
+ghost use Rattle.pdc_pipe.specs.HandedOn.{HasHandedOn, HasSinkCause};
 ghost use Rattle.pdc_publisher.specs.Publisher.{last_in, mark_in, output_in};
 
 use crate::receivers::{Counted, Input, Joined, buffered, join_all, start_all};
@@ -40,6 +41,17 @@ pub struct Totals {
     pub published: u64,
 }
 
+/// The fault of a receiver or of the aligner. None of them has the sink's, which the sender alone tells.
+fn not_of_sink(cause: HubFault) -> HubFault
+    ensures other { result ≡ HubFault.SinkFault → ⊥ }
+    ensures same { (cause ≡ HubFault.SinkFault → ⊥) → result ≡ cause }
+{
+    match cause {
+        HubFault::SinkFault => HubFault::Stuck,
+        other => other,
+    }
+}
+
 /// The first fault in the order receivers, aligner, sender, or the totals.
 fn outcome<
     C: Core + Drop,
@@ -61,6 +73,7 @@ fn outcome<
     ensures totals { IsSummed result }
     ensures ended { OnOk result (ended ≡ Ended.AtEndMark) }
     ensures published { IfOk result (λ totals. aligned ≡ Ok totals.published) }
+    ensures sink { IsErrOf result HubFault.SinkFault → ended ≡ Ended.SinkFault }
 {
     let Joined {
         all,
@@ -70,14 +83,14 @@ fn outcome<
     } = joined;
     let mut all = all;
     if let Some(cause) = fault {
-        return Err(cause);
+        return Err(not_of_sink(cause));
     }
     if !complete {
         return Err(HubFault::NoMemory);
     }
     let published = match aligned {
         Ok(published) => published,
-        Err(cause) => return Err(cause),
+        Err(cause) => return Err(not_of_sink(cause)),
     };
     match ended {
         Ended::AtEndMark => {}
@@ -148,10 +161,12 @@ where
     requires settings { N.settings ≡ Some settings.now }
     requires can { CanRun crew (C.Settings.streams settings.now) T.parts F.parts G.parts P.parts (M.stored (mark_in crew.publisher)).floor }
     requires rate { IsAtRate N.given (output_in crew.publisher).rate }
+    requires opened { IsOpenedWith N.given (M.stored (mark_in crew.publisher)) }
     requires ends { receives_on from.now ≡ sends_on to.now }
     requires writer { IsSeatAt (sends_on to.now) writer × (view writer ≡ log true false false [] []) }
     requires reader { IsSeatAt (receives_on from.now) reader × (view reader ≡ log false true false [] []) }
     ensures totals { IsSummed result.outcome }
+    ensures sink { IsCausedBySink result.outcome (K.failures_of crew.sink) (K.failures_of result.sink) }
     ensures turned { HasRunInTurns C.stands_for N.given crew.pace (GivesFrom I.gave crew.ticker) (K.took crew.sink result.sink) (last_in crew.publisher) (M.stored (mark_in crew.publisher)) (M.stored (mark_in result.publisher)) result.outcome }
 {
     let Crew {
@@ -170,7 +185,7 @@ where
         HandsOn { sink: was, from },
         move || -> Sent<K>
             requires { IsSeatAt (receives_on from.now) reader × (view reader ≡ log false true false [] []) }
-            ensures { IsSeatAt (receives_on from.entry.now) result.pass × (view result.pass ≡ log false true false [] (view result.pass).taken) × HasHandedOn (K.took sink result.sink) (view result.pass).taken result.ended }
+            ensures { IsSeatAt (receives_on from.entry.now) result.pass × (view result.pass ≡ log false true false [] (view result.pass).taken) × HasHandedOn (K.took sink result.sink) (view result.pass).taken result.ended × HasSinkCause result.ended (K.failures_of sink) (K.failures_of result.sink) }
         { send_owned(rt, from, reader, sink) },
     ) {
         Ok(child) => child,
@@ -234,6 +249,7 @@ fn align_or_close<
 ) -> Result<u64, HubFault>
     requires top { (top.parts ≡ P.parts) × (0 < top.parts) × (top.amount ≡ last_in publisher.old) × (last_in publisher.old ≤ (M.stored (mark_in publisher.old)).floor) }
     requires rate { IsAtRate N.given (output_in publisher.old).rate }
+    requires opened { IsOpenedWith N.given (M.stored (mark_in publisher.old)) }
     requires seat { IsSeatAt (sends_on to.now) writer.old × (view writer.old ≡ log true false false [] []) }
     ensures seat { IsSeatAt (sends_on to.now) writer.new × ((view writer.new).puts ≡ true) }
     ensures rising { Rises (last_in publisher.old) (instants_of (view writer.new).put) ((M.stored (mark_in publisher.new)).floor) }
@@ -291,10 +307,12 @@ where
     requires settings { N.settings ≡ Some settings.now }
     requires can { CanRun crew (C.Settings.streams settings.now) T.parts F.parts G.parts P.parts (M.stored (mark_in crew.publisher)).floor }
     requires rate { IsAtRate N.given (output_in crew.publisher).rate }
+    requires opened { IsOpenedWith N.given (M.stored (mark_in crew.publisher)) }
     requires ends { receives_on from.now ≡ sends_on to.now }
     requires writer { IsSeatAt (sends_on to.now) writer × (view writer ≡ log true false false [] []) }
     requires reader { IsSeatAt (receives_on from.now) reader × (view reader ≡ log false true false [] []) }
     ensures totals { IsSummed result.outcome }
+    ensures sink { IsCausedBySink result.outcome (K.failures_of crew.sink) (K.failures_of result.sink) }
     ensures turned { HasRunInTurns C.stands_for N.given crew.pace (GivesFrom I.gave crew.ticker) (K.took crew.sink result.sink) (last_in crew.publisher) (M.stored (mark_in crew.publisher)) (M.stored (mark_in result.publisher)) result.outcome }
 {
     thread::scope(
@@ -304,10 +322,12 @@ where
             requires settings { N.settings ≡ Some settings.now }
             requires can { CanRun crew (C.Settings.streams settings.now) T.parts F.parts G.parts P.parts (M.stored (mark_in crew.publisher)).floor }
             requires rate { IsAtRate N.given (output_in crew.publisher).rate }
+            requires opened { IsOpenedWith N.given (M.stored (mark_in crew.publisher)) }
             requires ends { receives_on from.now ≡ sends_on to.now }
             requires writer { IsSeatAt (sends_on to.now) writer × (view writer ≡ log true false false [] []) }
             requires reader { IsSeatAt (receives_on from.now) reader × (view reader ≡ log false true false [] []) }
             ensures totals { IsSummed result.outcome }
+            ensures sink { IsCausedBySink result.outcome (K.failures_of crew.sink) (K.failures_of result.sink) }
             ensures turned { HasRunInTurns C.stands_for N.given crew.pace (GivesFrom I.gave crew.ticker) (K.took crew.sink result.sink) (last_in crew.publisher) (M.stored (mark_in crew.publisher)) (M.stored (mark_in result.publisher)) result.outcome }
         {
             conduct(
@@ -342,7 +362,9 @@ where
     requires settings { N.settings ≡ Some settings.now }
     requires can { CanRun crew (C.Settings.streams settings.now) T.parts F.parts G.parts P.parts (M.stored (mark_in crew.publisher)).floor }
     requires rate { IsAtRate N.given (output_in crew.publisher).rate }
+    requires opened { IsOpenedWith N.given (M.stored (mark_in crew.publisher)) }
     ensures totals { IsSummed result.outcome }
+    ensures sink { IsCausedBySink result.outcome (K.failures_of crew.sink) (K.failures_of result.sink) }
     ensures turned { HasRunInTurns C.stands_for N.given crew.pace (GivesFrom I.gave crew.ticker) (K.took crew.sink result.sink) (last_in crew.publisher) (M.stored (mark_in crew.publisher)) (M.stored (mark_in result.publisher)) result.outcome }
 {
     let Ok(ends) = channel(alloc) else {
@@ -405,8 +427,11 @@ where
     requires amounts { (shares.taken.amount ≡ 0) × (shares.refused.amount ≡ 0) × (shares.configured.amount ≡ 0) }
     requires top { (top.parts ≡ P.parts) × (0 < top.parts) × (top.amount ≡ last_in publisher) × (last_in publisher ≤ (M.stored (mark_in publisher)).floor) }
     requires rate { IsAtRate N.given (output_in publisher).rate }
+    requires opened { IsOpenedWith N.given (M.stored (mark_in publisher)) }
     // The totals are the sums over the receivers.
     ensures totals { IfOk result.outcome (λ t. (t.taken ≡ sum (map (λ c. c.taken) t.receivers.items)) × (t.refused ≡ sum (map (λ c. c.refused) t.receivers.items))) }
+    // Only a sink that failed ends it by the sink's fault.
+    ensures sink { IsCausedBySink result.outcome (K.failures_of sink) (K.failures_of result.sink) }
     // What the sink took is a prefix of what was put, whose instants strictly rise, lie above the last one published before, and are at most
     // the floor that is stored then; all of it where the run was Ok, and then so many rows were published.
     ensures sent { HasRun (K.took sink result.sink) (last_in publisher) (M.stored (mark_in result.publisher)).floor result.outcome }

@@ -1,31 +1,23 @@
 //! Plays scripts of calls on the finished libraries, and complains of each line whose answer is not the wanted one.
 //!
 //! The arguments are pairs: who plays, and the script. `names` reads the frames that scripts call by name, `calls` makes single
-//! calls, `table` and `ring` play on an alignment table that is kept as sorted rows or as a ring, `twins` on both at once, `life`
-//! on the plain program of lives of a node and of the merger; `shown` and `refused` show captured
+//! calls, `life` plays on the plain program of lives of a node and of the merger; `shown` and `refused` show captured
 //! frames, each of which is shown, or some of which are refused. `try_script` tells how a script is written.
 #![tactic(auto)]
 
-mod blocks;
 mod calls_player;
 mod life_player;
 mod shown;
-mod table_player;
-mod twins;
 
 use calls_player::CallsPlayer;
 use life_player::LifePlayer;
 use pdc_show::Shown;
-use pdc_table::RingTable;
 use shown::play_shown;
 use std::alloc::Global;
 use std::io;
 use std::process::ExitCode;
 use std::rt::Files;
-use table_player::TablePlayer;
 use try_script::{Frames, Played, Stage, play_all, play_script};
-use try_table::SortedTable;
-use twins::Twins;
 
 /// The players, and the frames that scripts call by name.
 #[derive(Drop)]
@@ -46,18 +38,6 @@ impl Stage for Trials {
             "shown" => play_shown(rt, alloc, script, Shown::All),
             "refused" => play_shown(rt, alloc, script, Shown::SomeRefused),
             "calls" => play_script(rt, alloc, script, &mut CallsPlayer),
-            "table" => {
-                let mut table = TablePlayer::<SortedTable>::new(alloc)?;
-                play_script(rt, alloc, script, &mut table)
-            }
-            "ring" => {
-                let mut table = TablePlayer::<RingTable>::new(alloc)?;
-                play_script(rt, alloc, script, &mut table)
-            }
-            "twins" => {
-                let mut twins = Twins::new(alloc)?;
-                play_script(rt, alloc, script, &mut twins)
-            }
             "life" => {
                 let mut life = LifePlayer::new(alloc, &self.frames);
                 play_script(rt, alloc, script, &mut life)

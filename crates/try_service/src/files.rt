@@ -1,7 +1,7 @@
 //! What ends a node before it runs, in the order in which it is found, and a short run.
 
 use pdc_mark::make_mark;
-use pdc_service::{Files, Host, serve_merger, serve_node};
+use pdc_service::{Files, Host, RunOptions, serve_merger, serve_node};
 use std::alloc::{AllocError, Global};
 use std::env::Env;
 use std::fs::File;
@@ -21,6 +21,15 @@ fn settings_text(alloc: Global, wait: u32, port: u16) -> Result<String, AllocErr
     )
 }
 
+/// A run of so many ticks that tells no more than faults.
+fn ticks(count: u32) -> RunOptions {
+    RunOptions {
+        ticks: Some(count),
+        every: None,
+        is_quiet: true,
+    }
+}
+
 /// Runs the node with these files for three ticks, and prints what came of it.
 fn play_node<R: Host + Print>(
     rt: &R,
@@ -32,7 +41,7 @@ fn play_node<R: Host + Print>(
         settings: settings.as_str(),
         mark: mark.as_str(),
     };
-    match serve_node(rt, &files, 3, None) {
+    match serve_node(rt, &files, &ticks(3)) {
         Ok(totals) => {
             let (taken, refused, published) = (totals.taken, totals.refused, totals.published);
             println!(rt; "  {name}: taken={taken} refused={refused} published={published}")
@@ -122,7 +131,7 @@ pub fn play<R: Host + Env + Print>(
         settings: paths.good.as_str(),
         mark: paths.mark.as_str(),
     };
-    if let Err(fault) = serve_merger(rt, &files, 1, None) {
+    if let Err(fault) = serve_merger(rt, &files, &ticks(1)) {
         let status = fault.status();
         println!(rt; "  a node's settings to the merger: {fault}, status {status}")?;
     }

@@ -1,15 +1,11 @@
-//! Plays sessions in memory, a node with its PMUs and its consumers over the loopback, a simulated PMU, and the faults that end a node
-//! before it runs, and prints what came of each.
+//! Plays a node with its PMUs and its consumers over the loopback, a simulated PMU, and the faults that end a node before it runs, and
+//! prints what came of each.
 #![tactic(auto)]
 
-mod consumers;
-mod data;
 mod files;
-mod line;
 mod network;
 mod node;
 mod pmu;
-mod recents;
 mod scripted;
 
 use std::process::ExitCode;
@@ -24,8 +20,6 @@ fn main(rt: HostRuntime) -> io::Result<ExitCode> {
     let alloc = rt.alloc();
     let process = process::id(rt.process());
     let port = first_port(process);
-    recents::play(&rt, alloc)?;
-    consumers::play(&rt, alloc)?;
     node::play(&rt, alloc, port)?;
     pmu::play(&rt, alloc, port)?;
     files::play(&rt, alloc, process, port)?;

@@ -2,7 +2,6 @@
 ghost use Rattle.std.specs.Prelude.{◌≡◌};
 ghost use Rattle.pdc_recent.specs.Stream.{stream_of};
 
-use crate::data::ID;
 use crate::network::{connect, is_ended, listen, next_datagram, send};
 use crate::scripted::{Gauges, Paced, Watched};
 use pdc_cfg::read_config;
@@ -26,6 +25,9 @@ use std::sync::atomic::Ordering;
 use std::thread::{Scope, Threads};
 use std::time::Duration;
 use std::{io, thread};
+
+/// The stream of node A.
+const ID: u16 = 201;
 
 /// Node A of the worked scenarios: PMUs 11 and 12, at 50 frames a second. Its ports are not those of the settings.
 const SETTINGS: &str = "id = 201

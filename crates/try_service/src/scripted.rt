@@ -56,6 +56,8 @@ pub struct Watched<'a, S: Source + Drop> {
 impl<'a, S: Source + Drop> Source for Watched<'a, S> {
     ghost failures_of = { λ s. S.failures_of s.inner };
 
+    ghost row_left = { λ s. S.row_left s.inner };
+
     fn next(&mut self, buffer: &mut [u8]) -> Next {
         if self.gave {
             self.delivered.fetch_add(1, Ordering::SeqCst);

@@ -66,6 +66,7 @@ fn opened<
     rt: &'h R,
     alloc: Global,
     settings: &Settings,
+    start: u32,
     counts: &[u16; MAX_PMUS],
     base: Node<RingTable>,
     state: Node<RingTable>,
@@ -74,8 +75,8 @@ fn opened<
     publisher: Publisher<M>,
     sink: Fused,
 ) -> Option<Played<M>>
-    requires given { N.given ≡ Some (given_of settings.now 1 0 counts.now 0) }
-    requires alike { StandsFor (given_of settings.now 1 0 counts.now 0) [] base × StandsFor (given_of settings.now 1 0 counts.now 0) [] state }
+    requires given { N.given ≡ Some (given_of settings.now start 0 counts.now 0) }
+    requires alike { StandsFor (given_of settings.now start 0 counts.now 0) [] base × StandsFor (given_of settings.now start 0 counts.now 0) [] state }
     requires settings { (N.settings ≡ Some settings.now) × (base.settings ≡ settings.now) × (state.settings ≡ settings.now) }
     requires popped { state.popped ≡ 0 }
     requires limit { 1 ≤ scene.now.limit }
@@ -85,6 +86,7 @@ fn opened<
     requires count { (T.parts ≡ 3) × (F.parts ≡ 3) × (G.parts ≡ 3) × (P.parts ≡ 1) }
     requires streams { length settings.now.pmus.items ≡ 2 }
     requires publisher { (last_in publisher ≡ 0) × ((M.stored (mark_in publisher)).floor ≡ 0) × (output_in publisher ≡ settings.now.output) }
+    requires begins { ((M.stored (mark_in publisher)).start ≡ start) × ((M.stored (mark_in publisher)).counts ≡ counts.now) }
 {
     let (hub, shares, top) = Hub::<Node<RingTable>, N, T, F, G, P>::new(
         alloc,
@@ -139,11 +141,12 @@ fn run_scene<M: Mark + Drop, R: Threads + Wait + Sync>(
     requires pace { 1 ≤ scene.now.layout_every }
     requires streams { length settings.now.pmus.items ≡ 2 }
 {
-    let counts = [0; MAX_PMUS];
-    let Ok(base) = Node::open(alloc, copy_of(settings), 1, 0, &counts, 0) else {
+    let (start, _) = mark.stored();
+    let counts = mark.counts();
+    let Ok(base) = Node::open(alloc, copy_of(settings), start, 0, &counts, 0) else {
         return None;
     };
-    let Ok(state) = Node::open(alloc, copy_of(settings), 1, 0, &counts, 0) else {
+    let Ok(state) = Node::open(alloc, copy_of(settings), start, 0, &counts, 0) else {
         return None;
     };
     let publisher = Publisher::new(mark, settings.output, 0);
@@ -160,7 +163,7 @@ fn run_scene<M: Mark + Drop, R: Threads + Wait + Sync>(
         failures: 0,
     };
     opened::<Brand, Brand, Brand, Brand, Brand, M, R>(
-        rt, alloc, settings, &counts, base, state, scene, blanks, publisher, sink,
+        rt, alloc, settings, start, &counts, base, state, scene, blanks, publisher, sink,
     )
 }
 

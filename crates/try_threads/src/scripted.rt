@@ -4,7 +4,7 @@ ghost use Rattle.std.specs.Prelude.{◌≡◌, ◌≤◌, ℕ, length};
 use pdc_cfg::read_config;
 use pdc_core::Core;
 use pdc_frame::read_frame;
-use pdc_threads::{Hub, Naming, Next, Source, Ticker, Told};
+use pdc_threads::{Hub, Naming, Next, Outcome, Source, Ticker, Told};
 use std::alloc::Global;
 use std::sync::Wait;
 use std::sync::atomic::{AtomicBool, AtomicU64, Ordering};
@@ -183,7 +183,11 @@ impl<
     P: Ledger,
     R: Wait,
 > Source for Scripted<'h, 'r, C, N, T, F, G, P, R> {
+    ghost use Rattle.std.specs.Prelude.{◌-◌, length};
+
     ghost failures_of = { λ s. s.failures };
+
+    ghost row_left = { λ s. length s.acts.now - s.done };
 
     fn next(&mut self, buffer: &mut [u8]) -> Next {
         match self.acts.get(self.done).copied() {
@@ -211,6 +215,8 @@ impl<
             None => Next::End,
         }
     }
+
+    fn answered(&mut self, _outcome: Option<Outcome>) {}
 
     fn failures(&self) -> u64 {
         self.failures

@@ -6,7 +6,7 @@ use std::process::Abort;
 use std::test::Fail;
 
 /// Words, with a bar between two, and what they ask for. What is no command is status 2, and help is status 0.
-const CASES: [(&str, &str); 60] = [
+const CASES: [(&str, &str); 62] = [
     ("show", "show"),
     ("mark-init|a.mark|65534|240", "mark-init a.mark 65534 240"),
     ("mark-convert|a.mark|a2.mark", "mark-convert a.mark a2.mark"),
@@ -52,7 +52,12 @@ const CASES: [(&str, &str); 60] = [
         "node|a.toml|a.mark|4294967295",
         "node a.toml a.mark 4294967295",
     ),
-    ("node|a.toml|a.mark", "status 2"),
+    ("node|a.toml|a.mark", "node a.toml a.mark on and on"),
+    ("node|a.toml", "status 2"),
+    (
+        "merge|m.toml|m.mark|--quiet|--every|10",
+        "merge m.toml m.mark on and on every 10 quiet",
+    ),
     ("node|a.toml|a.mark|0", "status 2"),
     ("node|a.toml|a.mark|4294967296", "status 2"),
     ("merge|m.toml|m.mark|1", "merge m.toml m.mark 1"),
@@ -90,13 +95,19 @@ fn words(alloc: Global, line: &str) -> Result<Vec<String>, AllocError> {
 
 /// What a node or the merger is asked to do.
 fn asked_to_run(alloc: Global, command: &str, running: &Running) -> Result<String, AllocError> {
-    let (settings, mark, ticks) = (running.settings, running.mark, running.ticks);
-    match running.every {
-        None => format!(in alloc; "{command} {settings} {mark} {ticks}"),
-        Some(seconds) => {
-            format!(in alloc; "{command} {settings} {mark} {ticks} every {seconds}")
-        }
+    let (settings, mark) = (running.settings, running.mark);
+    let mut text = match running.ticks {
+        None => format!(in alloc; "{command} {settings} {mark} on and on")?,
+        Some(ticks) => format!(in alloc; "{command} {settings} {mark} {ticks}")?,
+    };
+    if let Some(seconds) = running.every {
+        let more = format!(in alloc; " every {seconds}")?;
+        text.push_str(more.as_str())?;
     }
+    if running.is_quiet {
+        text.push_str(" quiet")?;
+    }
+    Ok(text)
 }
 
 /// What these words ask for, or the exit status with which they are refused.

@@ -2,8 +2,8 @@
 
 use super::same::is;
 use pdc_frame::FrameFault;
+use pdc_journal::counters_line;
 use pdc_life::{Outcome, Refusal};
-use pdc_network::counters_line;
 use pdc_ports::{Counts, Told};
 use std::test::Fail;
 
@@ -21,7 +21,7 @@ fn causes_that_refused_are_told(rt: HostRuntime) -> Result<(), Fail> {
         published: 1,
         last: 57_478_860_001,
     };
-    let line = counters_line(rt.alloc(), &told)?;
-    is!(&rt; line.as_str(), "taken=2 refused=3 published=1 last=57478860001, F4 BadCheck 1, B4 Late 2");
+    let line = counters_line(rt.alloc(), &told, 4)?;
+    is!(&rt; line.as_str(), "taken=2 refused=3 published=1 last=57478860001 unsent=4, F4 BadCheck 1, B4 Late 2");
     Ok(())
 }

@@ -5,9 +5,9 @@ ghost use Rattle.pdc_recent.specs.Stream.{stream_of};
 
 use pdc_frame::{Frame, Kind, write_frame};
 use pdc_output::{Nominal, Output};
+use pdc_ports::{MemorySink, Sink};
 use pdc_recent::{Naming, Recent, RememberingSink};
 use pdc_tag::tag_of;
-use pdc_threads::{MemorySink, Sink};
 use std::alloc::Global;
 use std::io;
 use std::sync::Wait;

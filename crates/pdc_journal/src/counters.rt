@@ -1,0 +1,97 @@
+//! The lines of counters.
+
+use crate::left_out::MergedSource;
+use crate::tally::Of;
+use pdc_cfg::CfgFault;
+use pdc_frame::FrameFault;
+use pdc_ports::{Counts, Refusal, Told};
+use std::alloc::{AllocError, Global};
+
+/// The causes of refusals, in the order in which they are printed.
+const CAUSES: [Refusal; 27] = [
+    Refusal::NoFrame(FrameFault::Short),
+    Refusal::NoFrame(FrameFault::BadSync),
+    Refusal::NoFrame(FrameFault::SizeMismatch),
+    Refusal::NoFrame(FrameFault::BadCheck),
+    Refusal::NoFrame(FrameFault::BadId),
+    Refusal::WrongId,
+    Refusal::NoConfiguration(CfgFault::WrongKind),
+    Refusal::NoConfiguration(CfgFault::Cut),
+    Refusal::NoConfiguration(CfgFault::TooMany),
+    Refusal::NoConfiguration(CfgFault::FloatFormat),
+    Refusal::WrongTimeBase,
+    Refusal::WrongRate,
+    Refusal::WrongSource,
+    Refusal::StaleCount,
+    Refusal::CountConflict,
+    Refusal::NoConfig,
+    Refusal::WrongLength,
+    Refusal::BadTag,
+    Refusal::Late,
+    Refusal::Ahead,
+    Refusal::OutOfWindow,
+    Refusal::Duplicate,
+    Refusal::Conflict,
+    Refusal::OldStamp,
+    Refusal::OtherStamp,
+    Refusal::BadOwnBlock,
+    Refusal::UnknownSource,
+];
+
+/// Appends for each cause that refused any its code, its name and how many, as `, B4 Late 3`.
+fn push_causes(alloc: Global, counts: &Counts, line: &mut String) -> Result<(), AllocError> {
+    for cause in CAUSES {
+        let count = counts.refused_as(cause);
+        if count > 0 {
+            let name = cause.text();
+            let more = format!(in alloc; ", {name} {count}")?;
+            line.push_str(more.as_str())?;
+        }
+    }
+    Ok(())
+}
+
+/// The line of these counters: `taken=N refused=N published=N last=INSTANT unsent=N`, with how many frames could not be sent, and then for
+/// each cause that refused any its code, its name and how many, as `, B4 Late 3`.
+///
+/// # Errors
+///
+/// [`AllocError`] where there is no memory for it.
+pub fn counters_line(alloc: Global, told: &Told, unsent: u64) -> Result<String, AllocError> {
+    let counts = &told.counts;
+    let (taken, refused, published, last) = (
+        counts.taken,
+        counts.refused,
+        told.published,
+        told.last,
+    );
+    let mut line = format!(in alloc;
+        "taken={taken} refused={refused} published={published} last={last} unsent={unsent}"
+    )?;
+    push_causes(alloc, counts, &mut line)?;
+    Ok(line)
+}
+
+/// The line of one stream: whose it is, `taken=N refused=N`, and the causes as above.
+///
+/// # Errors
+///
+/// [`AllocError`] where there is no memory for it.
+pub fn tally_line(alloc: Global, of: Of, counts: &Counts) -> Result<String, AllocError> {
+    let (taken, refused) = (counts.taken, counts.refused);
+    let mut line = format!(in alloc; "{of}: taken={taken} refused={refused}")?;
+    push_causes(alloc, counts, &mut line)?;
+    Ok(line)
+}
+
+/// The line of a PMU of which the merger left out blocks: `PMU 11: left_out=N, blocks under a count that was not in force`.
+///
+/// # Errors
+///
+/// [`AllocError`] where there is no memory for it.
+pub fn left_out_line(alloc: Global, merged: &MergedSource) -> Result<String, AllocError> {
+    let (source, left_out) = (merged.source, merged.left_out);
+    format!(in alloc;
+        "PMU {source}: left_out={left_out}, blocks under a count that was not in force"
+    )
+}

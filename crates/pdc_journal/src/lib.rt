@@ -1,0 +1,29 @@
+//! What a running concentrator tells of itself on standard error while it runs (this profile).
+//!
+//! The first type to look at is [`Journal`]: a queue of lines that a thread of its own prints, so that whoever does not read standard error
+//! holds up nobody else. [`ObservedSource`] tells when a stream falls silent, comes again or is not understood, and counts its answers in
+//! its [`Tally`]; [`CountingSink`] counts what could not be sent, and goes on; [`AnnouncingSink`] tells each layout that was adopted;
+//! [`LeftOut`] counts what the merger leaves out; [`Reporting`] tells the counters now and then.
+//!
+//! The promise to the layers above: none of them changes what it is put around. A source gives what the inner one gave, a sink is handed
+//! what the inner one is, a ticker ticks as the inner one does; what becomes of the lines no clause says.
+#![tactic(auto)]
+
+mod announcing_sink;
+mod counters;
+mod counting_sink;
+mod journal;
+mod left_out;
+mod observed_source;
+mod reporting;
+mod spell;
+mod tally;
+
+pub use announcing_sink::AnnouncingSink;
+pub use counters::counters_line;
+pub use counting_sink::CountingSink;
+pub use journal::Journal;
+pub use left_out::{Compared, LeftOut, MAX_SOURCES, MergedSource};
+pub use observed_source::ObservedSource;
+pub use reporting::Reporting;
+pub use tally::{Of, Tally};

@@ -1,0 +1,189 @@
+//! A source that is watched.
+ghost use Rattle.std.specs.Prelude.{◌≡◌, ◌≤◌, ◌<◌, ℕ, length};
+
+use crate::journal::Journal;
+use crate::left_out::Compared;
+use crate::spell::{LONG, Spell};
+use crate::tally::Tally;
+use pdc_ports::{Next, Outcome, Refusal, Source};
+use std::alloc::{AllocError, Global};
+use std::rt::Clock;
+use std::sync::Wait;
+
+/// Gives what the inner source gives. It counts the answers, and tells when nothing came for five seconds, and when something comes again;
+/// when data has come for five seconds and no configuration is in force, and when it is taken then; and when the stream is read no more,
+/// and why.
+#[derive(Drop)]
+pub struct ObservedSource<'a, S: Source + Drop, R: Wait + Clock> {
+    rt: &'a R,
+    alloc: Global,
+    journal: &'a Journal,
+    tally: &'a Tally,
+    inner: S,
+    silence: Spell,
+    /// Since when data was refused for want of a configuration.
+    unread: Option<Spell>,
+    compared: Option<Compared<'a>>,
+}
+
+impl<'a, S: Source + Drop, R: Wait + Clock> ObservedSource<'a, S, R> {
+    /// Watches a source, whose silence begins now; of a node's stream the blocks are compared with what the merger has in force.
+    pub fn new(
+        rt: &'a R,
+        alloc: Global,
+        journal: &'a Journal,
+        tally: &'a Tally,
+        compared: Option<Compared<'a>>,
+        inner: S,
+    ) -> ObservedSource<'a, S, R> {
+        ObservedSource {
+            rt,
+            alloc,
+            journal,
+            tally,
+            inner,
+            silence: Spell::begun(rt),
+            unread: None,
+            compared,
+        }
+    }
+}
+
+/// What is told of a silence.
+fn silence_text(alloc: Global, tally: &Tally) -> Result<String, AllocError> {
+    let of = tally.of;
+    format!(in alloc; "no datagram of {of} for {LONG} seconds")
+}
+
+/// What is told of its end.
+fn again_text(alloc: Global, tally: &Tally) -> Result<String, AllocError> {
+    let of = tally.of;
+    format!(in alloc; "{of} sends again")
+}
+
+/// What is told of data without a configuration.
+fn unread_text(alloc: Global, tally: &Tally) -> Result<String, AllocError> {
+    let of = tally.of;
+    format!(in alloc;
+        "data of {of} for {LONG} seconds and no configuration: it is refused until its CFG-2 frame comes"
+    )
+}
+
+/// What is told once such data is taken.
+fn taken_text(alloc: Global, tally: &Tally) -> Result<String, AllocError> {
+    let of = tally.of;
+    format!(in alloc; "data of {of} is taken")
+}
+
+/// What is told where the stream is read no more.
+fn ended_text(alloc: Global, tally: &Tally, why: &str) -> Result<String, AllocError> {
+    let of = tally.of;
+    format!(in alloc; "{of} is not read any more: {why}")
+}
+
+/// A datagram came: its silence is over.
+fn hear<R: Wait + Clock>(
+    rt: &R,
+    alloc: Global,
+    journal: &Journal,
+    tally: &Tally,
+    silence: &mut Spell,
+) {
+    if silence.is_told() {
+        journal.note(rt, again_text(alloc, tally));
+    }
+    *silence = Spell::begun(rt);
+}
+
+/// Data was refused for want of a configuration.
+fn miss<R: Wait + Clock>(
+    rt: &R,
+    alloc: Global,
+    journal: &Journal,
+    tally: &Tally,
+    unread: &mut Option<Spell>,
+) {
+    match unread {
+        Some(spell) => {
+            if spell.is_due(rt) {
+                journal.tell(rt, unread_text(alloc, tally));
+            }
+        }
+        None => *unread = Some(Spell::begun(rt)),
+    }
+}
+
+/// Data was taken.
+fn take<R: Wait + Clock>(
+    rt: &R,
+    alloc: Global,
+    journal: &Journal,
+    tally: &Tally,
+    unread: &mut Option<Spell>,
+) {
+    if let Some(spell) = unread {
+        if spell.is_told() {
+            journal.note(rt, taken_text(alloc, tally));
+        }
+        *unread = None;
+    }
+}
+
+impl<'a, S: Source + Drop, R: Wait + Clock> Source for ObservedSource<'a, S, R> {
+    ghost failures_of = { λ s. S.failures_of s.inner };
+
+    ghost row_left = { λ s. S.row_left s.inner };
+
+    fn next(&mut self, buffer: &mut [u8]) -> Next {
+        let next = self.inner.next(buffer);
+        let (rt, alloc, journal, tally) = (self.rt, self.alloc, self.journal, self.tally);
+        match next {
+            Next::Datagram(len) => {
+                hear(rt, alloc, journal, tally, &mut self.silence);
+                if let Some(compared) = &mut self.compared {
+                    compared.see(&buffer[..len]);
+                }
+            }
+            Next::Idle => {
+                if self.silence.is_due(rt) {
+                    journal.tell(rt, silence_text(alloc, tally));
+                }
+            }
+            Next::Fault => journal.tell(rt, ended_text(alloc, tally, "its port failed")),
+            Next::Stuck => journal.tell(rt, ended_text(alloc, tally, "it gave up")),
+            Next::End => {}
+        }
+        next
+    }
+
+    fn answered(&mut self, outcome: Option<Outcome>) {
+        let (rt, alloc, journal, tally) = (self.rt, self.alloc, self.journal, self.tally);
+        self.inner.answered(outcome);
+        let Some(outcome) = outcome else {
+            journal.tell(
+                rt,
+                ended_text(
+                    alloc,
+                    tally,
+                    "memory ran out, or a counter is at its greatest value",
+                ),
+            );
+            return;
+        };
+        tally.count(rt, outcome);
+        if let Some(compared) = &mut self.compared {
+            compared.answered(rt, outcome);
+        }
+        match outcome {
+            Outcome::Refused(Refusal::NoConfig) => {
+                miss(rt, alloc, journal, tally, &mut self.unread);
+            }
+            Outcome::Taken => take(rt, alloc, journal, tally, &mut self.unread),
+            _ => {}
+        }
+    }
+
+    fn failures(&self) -> u64 {
+        self.inner.failures()
+    }
+}

@@ -1,0 +1,102 @@
+//! A ticker that tells counters.
+
+use crate::counters::{counters_line, left_out_line, tally_line};
+use crate::journal::Journal;
+use crate::left_out::LeftOut;
+use crate::tally::Tally;
+use pdc_ports::{Ticker, Told};
+use std::alloc::Global;
+use std::rt::Clock;
+use std::sync::Wait;
+use std::sync::atomic::{AtomicU64, Ordering};
+use std::time::{Duration, Instant};
+
+/// Ticks as another ticker does. Each time that so many seconds have gone by, if any are asked for, it tells a line of counters, and one
+/// more for each stream of which anything was refused, and for each PMU of which the merger left out blocks. Where the clock cannot be read there is no line.
+#[derive(Drop)]
+pub struct Reporting<'a, T: Ticker + Drop, R: Clock + Wait> {
+    rt: &'a R,
+    alloc: Global,
+    journal: &'a Journal,
+    tallies: &'a [Tally],
+    unsent: &'a AtomicU64,
+    left_out: Option<&'a LeftOut>,
+    ticker: T,
+    every: Option<Duration>,
+    /// When the last line was told, or else the ticker was made.
+    since: Option<Instant>,
+}
+
+impl<'a, T: Ticker + Drop, R: Clock + Wait> Reporting<'a, T, R> {
+    /// Ticks as this ticker, and tells each time that so many seconds have gone by: what the run counted, what could not be sent, and what
+    /// was refused of each stream.
+    pub fn new(
+        rt: &'a R,
+        alloc: Global,
+        journal: &'a Journal,
+        tallies: &'a [Tally],
+        unsent: &'a AtomicU64,
+        left_out: Option<&'a LeftOut>,
+        ticker: T,
+        every: Option<u32>,
+    ) -> Reporting<'a, T, R> {
+        let (every, since) = match every {
+            None => (None, None),
+            Some(seconds) => (
+                Some(Duration::from_secs(u64::from(seconds))),
+                Instant::now(rt).ok(),
+            ),
+        };
+        Reporting {
+            rt,
+            alloc,
+            journal,
+            tallies,
+            unsent,
+            left_out,
+            ticker,
+            every,
+            since,
+        }
+    }
+}
+
+impl<'a, T: Ticker + Drop, R: Clock + Wait> Ticker for Reporting<'a, T, R> {
+    ghost gave = { λ s nows. T.gave s.ticker nows };
+
+    fn next(&mut self) -> Option<u64> {
+        self.ticker.next()
+    }
+
+    fn wants_counts(&self) -> bool {
+        match (self.every, self.since) {
+            (Some(every), Some(since)) => match since.elapsed(self.rt) {
+                Ok(gone) => gone >= every,
+                Err(_) => false,
+            },
+            _ => false,
+        }
+    }
+
+    fn tell(&mut self, told: &Told) {
+        self.since = Instant::now(self.rt).ok();
+        let unsent = self.unsent.load(Ordering::Relaxed);
+        self.journal
+            .tell(self.rt, counters_line(self.alloc, told, unsent));
+        for tally in self.tallies {
+            let counts = tally.counts(self.rt);
+            if counts.refused > 0 {
+                self.journal
+                    .tell(self.rt, tally_line(self.alloc, tally.of, &counts));
+            }
+        }
+        if let Some(left_out) = self.left_out {
+            for merged in left_out.sources(self.rt) {
+                if merged.left_out > 0 {
+                    self.journal
+                        .tell(self.rt, left_out_line(self.alloc, &merged));
+                }
+            }
+        }
+    }
+}

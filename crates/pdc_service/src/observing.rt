@@ -1,0 +1,86 @@
+//! What is watched of a run.
+ghost use Rattle.std.specs.Prelude.{◌≡◌, IfSome, vec_len};
+
+use crate::concentrator::Concentrator;
+use crate::signs::Signs;
+use pdc_journal::{Compared, Journal, LeftOut, ObservedSource, Of, Tally};
+use pdc_threads::Source;
+use std::alloc::{AllocError, Global};
+use std::rt::Clock;
+use std::sync::Wait;
+
+/// What is watched of a run: the lines that it tells, the tally of each stream, in their order, what its threads say, and what the merger
+/// leaves out.
+#[derive(Drop)]
+pub struct Observed {
+    pub journal: Journal,
+    pub tallies: Vec<Tally>,
+    pub signs: Signs,
+    pub left_out: Option<LeftOut>,
+}
+
+/// The tally of each stream of the concentrator, in their order.
+fn tallies_of(alloc: Global, concentrator: &Concentrator) -> Result<Vec<Tally>, AllocError> {
+    let mut tallies = Vec::new(alloc);
+    match concentrator {
+        Concentrator::Node(settings) => {
+            for pmu in settings.life.pmus.iter() {
+                tallies.push(Tally::new(Of::Pmu(pmu.stream)))?;
+            }
+        }
+        Concentrator::Merger(settings) => {
+            tallies.push(Tally::new(Of::Node(settings.life.first.id)))?;
+            tallies.push(Tally::new(Of::Node(settings.life.second.id)))?;
+        }
+    }
+    Ok(tallies)
+}
+
+impl Observed {
+    /// Nothing was told and counted yet.
+    ///
+    /// # Errors
+    ///
+    /// [`AllocError`] where there is no memory for it.
+    pub fn new(
+        alloc: Global,
+        concentrator: &Concentrator,
+        is_quiet: bool,
+    ) -> Result<Observed, AllocError> {
+        Ok(Observed {
+            journal: Journal::new(alloc, is_quiet)?,
+            tallies: tallies_of(alloc, concentrator)?,
+            signs: Signs::new(),
+            left_out: match concentrator {
+                Concentrator::Node(_) => None,
+                Concentrator::Merger(settings) => Some(LeftOut::new(&settings.life.sources)),
+            },
+        })
+    }
+}
+
+/// The sources, each watched; none where there is no memory for them.
+pub fn observe_all<'a, S: Source + Drop, R: Wait + Clock>(
+    rt: &'a R,
+    alloc: Global,
+    observed: &'a Observed,
+    sources: Vec<S>,
+) -> Option<Vec<ObservedSource<'a, S, R>>>
+    ensures { IfSome result (λ watched. vec_len watched ≡ vec_len sources) }
+{
+    let mut watched = Vec::new(alloc);
+    for source in sources {
+        let Some(tally) = observed.tallies.get(watched.len()) else {
+            return None;
+        };
+        let compared = match &observed.left_out {
+            Some(left_out) => Some(Compared::new(left_out)),
+            None => None,
+        };
+        let source = ObservedSource::new(rt, alloc, &observed.journal, tally, compared, source);
+        if watched.push(source).is_err() {
+            return None;
+        }
+    }
+    Some(watched)
+}

@@ -1,0 +1,51 @@
+//! What a concentrator tells at its begin and its end.
+
+use crate::concentrator::Concentrator;
+use std::alloc::{AllocError, Global};
+
+/// Appends where the frames of a stream come.
+fn push_input(
+    alloc: Global,
+    kind: &str,
+    id: u16,
+    port: u16,
+    text: &mut String,
+) -> Result<(), AllocError> {
+    let more = format!(in alloc; ", {kind} {id} at port {port}")?;
+    text.push_str(more.as_str())
+}
+
+/// What is told at the begin of a life: the id, the start, the floor, and the ports.
+pub fn begun_text(
+    alloc: Global,
+    concentrator: &Concentrator,
+    start: u32,
+    floor: u64,
+) -> Result<String, AllocError> {
+    let id = concentrator.output().id;
+    let mut text = format!(in alloc; "{id} begins: start={start} floor={floor}")?;
+    match concentrator {
+        Concentrator::Node(settings) => {
+            for (pmu, port) in settings.life.pmus.iter().zip(settings.ports.iter()) {
+                push_input(alloc, "PMU", pmu.stream, *port, &mut text)?;
+            }
+        }
+        Concentrator::Merger(settings) => {
+            let (first, second) = (settings.life.first.id, settings.life.second.id);
+            push_input(alloc, "node", first, settings.first_port, &mut text)?;
+            push_input(alloc, "node", second, settings.second_port, &mut text)?;
+        }
+    }
+    let service = concentrator.service_settings();
+    let (out, session) = (service.out_port, service.session_port);
+    let more = format!(in alloc; ", frames to port {out}, sessions at port {session}")?;
+    text.push_str(more.as_str())?;
+    Ok(text)
+}
+
+/// What is told at the end where frames could not be sent.
+pub fn unsent_text(alloc: Global, unsent: u64) -> Result<String, AllocError> {
+    format!(in alloc;
+        "unsent={unsent}: so many frames could not be sent, or not be kept for the sessions"
+    )
+}

@@ -1,0 +1,10 @@
+//! Tests by what they are of.
+mod blocks;
+mod commands;
+mod configurations;
+mod frames;
+mod refused_memory;
+mod same;
+mod show_failures;
+mod vectors;
+mod written_again;
