@@ -30,8 +30,13 @@ fn report_fault(
             eprintln!(rt; "pdc {command}: {mark}: in use by another process")?
         }
         ServiceFault::Mark(_) => eprintln!(rt; "pdc {command}: {mark}: the mark is not begun")?,
-        ServiceFault::Port(port, error) => {
-            eprintln!(rt; "pdc {command}: port {port} of 127.0.0.1: {error}")?
+        ServiceFault::Port(at, error) => {
+            let (port, address) = (at.port(), at.ip());
+            eprintln!(rt; "pdc {command}: port {port} of {address}: {error}")?
+        }
+        ServiceFault::Output(number, error) => {
+            let settings = request.settings;
+            eprintln!(rt; "pdc {command}: {settings}: outputs, number {number}: {error}")?
         }
         ServiceFault::Run(_) => eprintln!(rt; "pdc {command}: the run ended early")?,
         ServiceFault::Clock => eprintln!(rt; "pdc {command}: the clock cannot be read")?,

@@ -31,23 +31,38 @@ const EXAMPLES: &str = "Examples:
 
 Exit status: 0 done, 1 refused input, 2 wrong arguments, 3 a device failed or memory ran out";
 
-fn pdc<'a>(alloc: Global) -> Result<Command<'a>, AllocError> {
+/// The program without its commands.
+fn program<'a>(alloc: Global) -> Result<Command<'a>, AllocError> {
     Command::new(alloc, "pdc")
         .about(ABOUT)
         .version(VERSION)
         .after_help(EXAMPLES)
         .no_binary_name(true)
-        .bin_name("pdc")?
         .subcommand_required(true)
         .arg_required_else_help(true)
+        .bin_name("pdc")
+}
+
+/// The program with the commands that read and make files.
+fn with_files<'a>(alloc: Global, program: Command<'a>) -> Result<Command<'a>, AllocError> {
+    program
         .subcommand(show(alloc))?
         .subcommand(play(alloc)?)?
         .subcommand(mark_init(alloc)?)?
-        .subcommand(mark_convert(alloc)?)?
+        .subcommand(mark_convert(alloc)?)
+}
+
+/// The program with the commands that run on the network.
+fn with_network<'a>(alloc: Global, program: Command<'a>) -> Result<Command<'a>, AllocError> {
+    program
         .subcommand(node(alloc)?)?
         .subcommand(merge(alloc)?)?
         .subcommand(pmu(alloc)?)?
         .subcommand(listen(alloc)?)
+}
+
+fn pdc<'a>(alloc: Global) -> Result<Command<'a>, AllocError> {
+    with_network(alloc, with_files(alloc, program(alloc)?)?)
 }
 
 /// The request that the words after the program's name make; `None` where no command is named, which the parser

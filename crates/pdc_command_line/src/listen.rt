@@ -2,8 +2,7 @@
 
 use crate::number::{number, short_number};
 use crate::request::Listen;
-use crate::words::word;
-use clap::error::ErrorKind;
+use crate::words::{out_of_range, word};
 use clap::{Arg, ArgAction, ArgMatches, Command, Error};
 use std::alloc::{AllocError, Global};
 
@@ -33,14 +32,6 @@ pub fn listen<'a>(alloc: Global) -> Result<Command<'a>, AllocError> {
         )
 }
 
-/// What is wrong with a number.
-fn out_of_range(alloc: Global, name: &str, text: &str, most: u32) -> Result<Error, AllocError> {
-    let message = format!(in alloc;
-        "invalid value '{text}' for '<{name}>': a whole number from 1 to {most} is wanted"
-    )?;
-    listen(alloc)?.error(ErrorKind::ValueValidation, message.as_str())
-}
-
 /// What is asked by these words; `None` where one is missing, which the parser refuses before.
 ///
 /// # Errors
@@ -54,13 +45,19 @@ pub fn listen_request<'a>(
         return Ok(None);
     };
     let Some(port) = short_number(port_text, 1, u16::MAX) else {
-        return Err(out_of_range(alloc, "PORT", port_text, u32::from(u16::MAX))?);
+        return Err(out_of_range(
+            alloc,
+            listen(alloc)?,
+            "<PORT>",
+            port_text,
+            u32::from(u16::MAX),
+        )?);
     };
     let count = match matches.get_str("COUNT") {
         None => None,
         Some(text) => match number(text, 1, u32::MAX) {
             Some(count) => Some(count),
-            None => return Err(out_of_range(alloc, "COUNT", text, u32::MAX)?),
+            None => return Err(out_of_range(alloc, listen(alloc)?, "<COUNT>", text, u32::MAX)?),
         },
     };
     Ok(Some(Listen { port, count }))

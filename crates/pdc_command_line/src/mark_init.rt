@@ -5,8 +5,7 @@ ghost use Rattle.pdc_command_line.specs.MarkInit.{AsksFor, HasWrongNumber, Lacks
 
 use crate::number::short_number;
 use crate::request::{MAX_ID, MAX_RATE, MarkInit};
-use crate::words::word;
-use clap::error::ErrorKind;
+use crate::words::{out_of_range, word};
 use clap::{ArgMatches, Command, Error};
 use std::alloc::{AllocError, Global};
 
@@ -34,14 +33,6 @@ pub fn mark_init<'a>(alloc: Global) -> Result<Command<'a>, AllocError> {
         .arg(word(alloc, "RATE", "The data rate, 1 to 240 frames a second"))
 }
 
-/// What is wrong with a number.
-fn out_of_range(alloc: Global, name: &str, text: &str, most: u16) -> Result<Error, AllocError> {
-    let message = format!(in alloc;
-        "invalid value '{text}' for '<{name}>': a whole number from 1 to {most} is wanted"
-    )?;
-    mark_init(alloc)?.error(ErrorKind::ValueValidation, message.as_str())
-}
-
 /// What is asked by these words; `None` where one is missing, which the parser refuses before.
 ///
 /// # Errors
@@ -63,10 +54,16 @@ pub fn mark_init_request<'a>(
         return Ok(None);
     };
     let Some(id) = short_number(id_text, 1, MAX_ID) else {
-        return Err(out_of_range(alloc, "ID", id_text, MAX_ID)?);
+        return Err(out_of_range(alloc, mark_init(alloc)?, "<ID>", id_text, u32::from(MAX_ID))?);
     };
     let Some(rate) = short_number(rate_text, 1, MAX_RATE) else {
-        return Err(out_of_range(alloc, "RATE", rate_text, MAX_RATE)?);
+        return Err(out_of_range(
+            alloc,
+            mark_init(alloc)?,
+            "<RATE>",
+            rate_text,
+            u32::from(MAX_RATE),
+        )?);
     };
     Ok(Some(MarkInit { file, id, rate }))
 }

@@ -2,7 +2,7 @@
 
 use crate::number::{number, short_number};
 use crate::request::{MAX_ID, MAX_PORTS, MAX_RATE, Simulated};
-use crate::words::word;
+use crate::words::{out_of_range, word};
 use arrayvec::ArrayVec;
 use clap::error::ErrorKind;
 use clap::{Arg, ArgAction, ArgMatches, Command, Error};
@@ -38,20 +38,12 @@ pub fn pmu<'a>(alloc: Global) -> Result<Command<'a>, AllocError> {
         )
 }
 
-/// What is wrong with a number.
-fn out_of_range(alloc: Global, name: &str, text: &str, most: u32) -> Result<Error, AllocError> {
-    let message = format!(in alloc;
-        "invalid value '{text}' for '<{name}>': a whole number from 1 to {most} is wanted"
-    )?;
-    pmu(alloc)?.error(ErrorKind::ValueValidation, message.as_str())
-}
-
 /// The ports that these words say.
 fn ports_of(alloc: Global, words: &[&str]) -> Result<ArrayVec<u16, MAX_PORTS>, Error> {
     let mut ports = ArrayVec::new();
     for word in words {
         let Some(port) = short_number(word, 1, u16::MAX) else {
-            return Err(out_of_range(alloc, "PORT", word, u32::from(u16::MAX))?);
+            return Err(out_of_range(alloc, pmu(alloc)?, "<PORT>", word, u32::from(u16::MAX))?);
         };
         if ports.try_push(port).is_err() {
             let message = "at most 16 values of '<PORT>' are wanted";
@@ -79,13 +71,13 @@ pub fn pmu_request<'a>(
         return Ok(None);
     };
     let Some(id) = short_number(id_text, 1, MAX_ID) else {
-        return Err(out_of_range(alloc, "ID", id_text, u32::from(MAX_ID))?);
+        return Err(out_of_range(alloc, pmu(alloc)?, "<ID>", id_text, u32::from(MAX_ID))?);
     };
     let Some(rate) = short_number(rate_text, 1, MAX_RATE) else {
-        return Err(out_of_range(alloc, "RATE", rate_text, u32::from(MAX_RATE))?);
+        return Err(out_of_range(alloc, pmu(alloc)?, "<RATE>", rate_text, u32::from(MAX_RATE))?);
     };
     let Some(count) = number(count_text, 1, u32::MAX) else {
-        return Err(out_of_range(alloc, "COUNT", count_text, u32::MAX)?);
+        return Err(out_of_range(alloc, pmu(alloc)?, "<COUNT>", count_text, u32::MAX)?);
     };
     let ports = ports_of(alloc, port_words)?;
     Ok(Some(Simulated {

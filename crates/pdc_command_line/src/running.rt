@@ -2,8 +2,7 @@
 
 use crate::number::number;
 use crate::request::Running;
-use crate::words::word;
-use clap::error::ErrorKind;
+use crate::words::{out_of_range, word};
 use clap::{Arg, ArgAction, ArgMatches, Command, Error};
 use std::alloc::{AllocError, Global};
 
@@ -113,22 +112,12 @@ pub fn merge<'a>(alloc: Global) -> Result<Command<'a>, AllocError> {
     with_words(alloc, command)
 }
 
-/// What is wrong with a number.
-fn out_of_range(
-    alloc: Global,
-    asked: Concentrator,
-    name: &str,
-    text: &str,
-    most: u32,
-) -> Result<Error, AllocError> {
-    let message = format!(in alloc;
-        "invalid value '{text}' for '{name}': a whole number from 1 to {most} is wanted"
-    )?;
-    let mut command = match asked {
-        Concentrator::Node => node(alloc)?,
-        Concentrator::Merger => merge(alloc)?,
-    };
-    command.error(ErrorKind::ValueValidation, message.as_str())
+/// The command and its help.
+fn command<'a>(alloc: Global, asked: Concentrator) -> Result<Command<'a>, AllocError> {
+    match asked {
+        Concentrator::Node => node(alloc),
+        Concentrator::Merger => merge(alloc),
+    }
 }
 
 /// What is asked by these words; `None` where one is missing, which the parser refuses before.
@@ -148,7 +137,13 @@ pub fn running_request<'a>(
         None => None,
         Some(text) => match number(text, 1, u32::MAX) {
             Some(ticks) => Some(ticks),
-            None => return Err(out_of_range(alloc, asked, "[TICKS]", text, u32::MAX)?),
+            None => return Err(out_of_range(
+                alloc,
+                command(alloc, asked)?,
+                "[TICKS]",
+                text,
+                u32::MAX,
+            )?),
         },
     };
     let every = match matches.get_str("every") {
@@ -156,7 +151,13 @@ pub fn running_request<'a>(
         Some(text) => match number(text, 1, MAX_SECONDS) {
             Some(seconds) => Some(seconds),
             None => {
-                return Err(out_of_range(alloc, asked, "--every <SECONDS>", text, MAX_SECONDS)?);
+                return Err(out_of_range(
+                    alloc,
+                    command(alloc, asked)?,
+                    "--every <SECONDS>",
+                    text,
+                    MAX_SECONDS,
+                )?);
             }
         },
     };

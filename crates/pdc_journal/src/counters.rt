@@ -1,6 +1,7 @@
 //! The lines of counters.
 
 use crate::left_out::MergedSource;
+use crate::output_tally::OutputTally;
 use crate::tally::Of;
 use pdc_cfg::CfgFault;
 use pdc_frame::FrameFault;
@@ -94,4 +95,14 @@ pub fn left_out_line(alloc: Global, merged: &MergedSource) -> Result<String, All
     format!(in alloc;
         "PMU {source}: left_out={left_out}, blocks under a count that was not in force"
     )
+}
+
+/// The line of a destination to which frames could not be sent: `output 10.0.1.5:4741: unsent=N`.
+///
+/// # Errors
+///
+/// [`AllocError`] where there is no memory for it.
+pub fn output_line(alloc: Global, output: &OutputTally) -> Result<String, AllocError> {
+    let (to, unsent) = (output.to.as_str(), output.unsent());
+    format!(in alloc; "output {to}: unsent={unsent}")
 }

@@ -1,8 +1,9 @@
 //! A ticker that tells counters.
 
-use crate::counters::{counters_line, left_out_line, tally_line};
+use crate::counters::{counters_line, left_out_line, output_line, tally_line};
 use crate::journal::Journal;
 use crate::left_out::LeftOut;
+use crate::output_tally::OutputTally;
 use crate::tally::Tally;
 use pdc_ports::{Ticker, Told};
 use std::alloc::Global;
@@ -12,7 +13,8 @@ use std::sync::atomic::{AtomicU64, Ordering};
 use std::time::{Duration, Instant};
 
 /// Ticks as another ticker does. Each time that so many seconds have gone by, if any are asked for, it tells a line of counters, and one
-/// more for each stream of which anything was refused, and for each PMU of which the merger left out blocks. Where the clock cannot be read there is no line.
+/// more for each stream of which anything was refused, for each destination that frames could not be sent to, and for each PMU of which the
+/// merger left out blocks. Where the clock cannot be read there is no line.
 #[derive(Drop)]
 pub struct Reporting<'a, T: Ticker + Drop, R: Clock + Wait> {
     rt: &'a R,
@@ -20,6 +22,7 @@ pub struct Reporting<'a, T: Ticker + Drop, R: Clock + Wait> {
     journal: &'a Journal,
     tallies: &'a [Tally],
     unsent: &'a AtomicU64,
+    outputs: &'a [OutputTally],
     left_out: Option<&'a LeftOut>,
     ticker: T,
     every: Option<Duration>,
@@ -36,6 +39,7 @@ impl<'a, T: Ticker + Drop, R: Clock + Wait> Reporting<'a, T, R> {
         journal: &'a Journal,
         tallies: &'a [Tally],
         unsent: &'a AtomicU64,
+        outputs: &'a [OutputTally],
         left_out: Option<&'a LeftOut>,
         ticker: T,
         every: Option<u32>,
@@ -53,6 +57,7 @@ impl<'a, T: Ticker + Drop, R: Clock + Wait> Reporting<'a, T, R> {
             journal,
             tallies,
             unsent,
+            outputs,
             left_out,
             ticker,
             every,
@@ -88,6 +93,11 @@ impl<'a, T: Ticker + Drop, R: Clock + Wait> Ticker for Reporting<'a, T, R> {
             if counts.refused > 0 {
                 self.journal
                     .tell(self.rt, tally_line(self.alloc, tally.of, &counts));
+            }
+        }
+        for output in self.outputs {
+            if output.unsent() > 0 {
+                self.journal.tell(self.rt, output_line(self.alloc, output));
             }
         }
         if let Some(left_out) = self.left_out {

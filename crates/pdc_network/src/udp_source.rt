@@ -1,10 +1,11 @@
 //! Datagrams from a UDP port.
 ghost use Rattle.std.specs.Prelude.{◌≡◌, IfOk};
 
+use crate::receive_buffer::{receive_buffer, set_receive_buffer};
 use pdc_ports::{Next, Source};
 use std::io;
 use std::io::ErrorKind;
-use std::net::{Net, UdpSocket};
+use std::net::{IpAddr, Net, UdpSocket};
 use std::time::Duration;
 
 /// How long it waits for a datagram, in milliseconds.
@@ -13,7 +14,10 @@ const IDLE_AFTER: u64 = 20;
 /// How many datagrams it gives in a row.
 const MOST_IN_A_ROW: u32 = 64;
 
-/// The datagrams that come to a UDP port of the loopback. It is idle where none came for 20 ms, and once after each 64 that came one
+/// The address of the loopback.
+const LOOPBACK: [u8; 4] = [127, 0, 0, 1];
+
+/// The datagrams that come to a UDP port. It is idle where none came for 20 ms, and once after each 64 that came one
 /// behind the other: so whoever reads it sees that it is to end, however fast they come.
 #[derive(Drop)]
 pub struct UdpSource {
@@ -30,13 +34,32 @@ impl UdpSource {
     ///
     /// Where the port cannot be opened, as one that is taken.
     pub fn open<R: Net>(net: &R, port: u16) -> io::Result<UdpSource> {
-        let socket = UdpSocket::bind(net, ("127.0.0.1", port))?;
+        UdpSource::open_at(net, IpAddr::from(LOOPBACK), port)
+    }
+
+    /// Opens the port at this address of the machine; at 0.0.0.0 it is open at each.
+    ///
+    /// # Errors
+    ///
+    /// Where the port cannot be opened, as one that is taken, or where the machine has no such address.
+    pub fn open_at<R: Net>(net: &R, address: IpAddr, port: u16) -> io::Result<UdpSource> {
+        let socket = UdpSocket::bind(net, (address, port))?;
         socket.set_read_timeout(Some(Duration::from_millis(IDLE_AFTER)))?;
         Ok(UdpSource {
             socket,
             in_a_row: 0,
             failures: 0,
         })
+    }
+
+    /// Asks the system for a buffer of so many bytes, in which datagrams wait that were not read yet. It may grant less, or more.
+    pub fn ask_for_buffer(&self, bytes: u32) {
+        set_receive_buffer(&self.socket, bytes);
+    }
+
+    /// How many bytes the buffer has, where the system tells it.
+    pub fn buffer(&self) -> Option<u32> {
+        receive_buffer(&self.socket)
     }
 }
 

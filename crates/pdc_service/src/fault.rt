@@ -6,6 +6,7 @@ use pdc_mark::MarkFault;
 use pdc_settings::SettingsFault;
 use pdc_threads::HubFault;
 use std::io;
+use std::net::SocketAddr;
 use thiserror::Error;
 
 /// Why there are no settings in a file. Each prints as its code and its name, or as `device fault`.
@@ -34,9 +35,12 @@ pub enum ServiceFault {
     /// The mark file is refused, or no start can be stored.
     #[error("{0}")]
     Mark(MarkFault),
-    /// The port with this number cannot be opened.
+    /// The port at this address cannot be opened.
     #[error("device fault")]
-    Port(u16, io::Error),
+    Port(SocketAddr, io::Error),
+    /// The further destination with this number, counted from 1, is not known, or no socket can be opened for it.
+    #[error("device fault")]
+    Output(usize, io::Error),
     /// The run ended by a fault.
     #[error("{0}")]
     Run(HubFault),
@@ -75,6 +79,7 @@ impl ServiceFault {
             ServiceFault::MarkUnopened(_)
             | ServiceFault::MarkInUse
             | ServiceFault::Port(..)
+            | ServiceFault::Output(..)
             | ServiceFault::Run(_)
             | ServiceFault::Clock => FAILED,
         }

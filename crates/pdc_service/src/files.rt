@@ -1,10 +1,11 @@
 //! The files of a concentrator.
 
 use crate::begun::Begun;
+use crate::concentrator::Concentrator;
 use crate::fault::{LoadFault, ServiceFault};
 use pdc_disk::FileDisk;
 use pdc_mark::DiskMark;
-use pdc_settings::{MergerSettings, NodeSettings, SettingsFault};
+use pdc_settings::{MergerSettings, Network, NodeSettings, SettingsFault};
 use std::alloc::Global;
 use std::fs::File;
 use std::io::ErrorKind;
@@ -20,22 +21,26 @@ pub fn read_settings_text<R: Files<File = File> + AllocGlobal>(
     String::from_utf8(bytes).map_err(|_| LoadFault::Refused(SettingsFault::Toml))
 }
 
-/// The settings of a node in this file.
-pub fn read_node_settings<R: Files<File = File> + AllocGlobal>(
+/// The node that the settings in this file describe, and where it is on the network.
+pub fn read_node<R: Files<File = File> + AllocGlobal>(
     rt: &R,
     file: &str,
-) -> Result<NodeSettings, LoadFault> {
+) -> Result<(Concentrator, Network), LoadFault> {
     let text = read_settings_text(rt, file)?;
-    NodeSettings::from_toml(rt.alloc(), &text).map_err(LoadFault::Refused)
+    let settings = NodeSettings::from_toml(rt.alloc(), &text).map_err(LoadFault::Refused)?;
+    let network = Network::from_toml(rt.alloc(), &text).map_err(LoadFault::Refused)?;
+    Ok((Concentrator::Node(settings), network))
 }
 
-/// The settings of the merger in this file.
-pub fn read_merger_settings<R: Files<File = File> + AllocGlobal>(
+/// The merger that the settings in this file describe, and where it is on the network.
+pub fn read_merger<R: Files<File = File> + AllocGlobal>(
     rt: &R,
     file: &str,
-) -> Result<MergerSettings, LoadFault> {
+) -> Result<(Concentrator, Network), LoadFault> {
     let text = read_settings_text(rt, file)?;
-    MergerSettings::from_toml(rt.alloc(), &text).map_err(LoadFault::Refused)
+    let settings = MergerSettings::from_toml(rt.alloc(), &text).map_err(LoadFault::Refused)?;
+    let network = Network::from_toml(rt.alloc(), &text).map_err(LoadFault::Refused)?;
+    Ok((Concentrator::Merger(settings), network))
 }
 
 /// Why a mark file was not opened: one whose lock another process has is in use.

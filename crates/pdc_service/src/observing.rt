@@ -3,18 +3,20 @@ ghost use Rattle.std.specs.Prelude.{◌≡◌, IfSome, vec_len};
 
 use crate::concentrator::Concentrator;
 use crate::signs::Signs;
-use pdc_journal::{Compared, Journal, LeftOut, ObservedSource, Of, Tally};
+use pdc_journal::{Compared, Journal, LeftOut, ObservedSource, Of, OutputTally, Tally};
+use pdc_settings::Network;
 use pdc_threads::Source;
 use std::alloc::{AllocError, Global};
 use std::rt::Clock;
 use std::sync::Wait;
 
-/// What is watched of a run: the lines that it tells, the tally of each stream, in their order, what its threads say, and what the merger
-/// leaves out.
+/// What is watched of a run: the lines that it tells, the tally of each stream, in their order, and of each further destination, what its
+/// threads say, and what the merger leaves out.
 #[derive(Drop)]
 pub struct Observed {
     pub journal: Journal,
     pub tallies: Vec<Tally>,
+    pub outputs: Vec<OutputTally>,
     pub signs: Signs,
     pub left_out: Option<LeftOut>,
 }
@@ -36,6 +38,15 @@ fn tallies_of(alloc: Global, concentrator: &Concentrator) -> Result<Vec<Tally>, 
     Ok(tallies)
 }
 
+/// The tally of each further destination, in their order.
+fn outputs_of(alloc: Global, network: &Network) -> Result<Vec<OutputTally>, AllocError> {
+    let mut outputs = Vec::new(alloc);
+    for output in &network.outputs {
+        outputs.push(OutputTally::new(alloc, output.as_str())?)?;
+    }
+    Ok(outputs)
+}
+
 impl Observed {
     /// Nothing was told and counted yet.
     ///
@@ -45,11 +56,13 @@ impl Observed {
     pub fn new(
         alloc: Global,
         concentrator: &Concentrator,
+        network: &Network,
         is_quiet: bool,
     ) -> Result<Observed, AllocError> {
         Ok(Observed {
             journal: Journal::new(alloc, is_quiet)?,
             tallies: tallies_of(alloc, concentrator)?,
+            outputs: outputs_of(alloc, network)?,
             signs: Signs::new(),
             left_out: match concentrator {
                 Concentrator::Node(_) => None,

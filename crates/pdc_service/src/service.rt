@@ -3,13 +3,14 @@ ghost use Rattle.std.specs.Prelude.{◌≡◌};
 
 use crate::concentrator::Concentrator;
 use crate::fault::ServiceFault;
-use crate::files::{begin_mark, read_merger_settings, read_node_settings};
+use crate::files::{begin_mark, read_merger, read_node};
 use crate::host::Host;
 use crate::observing::Observed;
 use crate::options::RunOptions;
 use crate::ports::{open_listener, open_sink, open_sources};
-use crate::serving::{Opened, run_serving};
+use crate::serving::{Consumers, Opened, run_serving};
 use crate::telling::begun_text;
+use pdc_settings::Network;
 use pdc_threads::{HubFault, Totals};
 
 /// The files of a concentrator, by their names.
@@ -25,6 +26,7 @@ pub struct Files<'a> {
 fn serve_concentrator<R: Host>(
     rt: &R,
     concentrator: &Concentrator,
+    network: &Network,
     mark: &str,
     options: &RunOptions,
 ) -> Result<Totals, ServiceFault> {
@@ -32,26 +34,38 @@ fn serve_concentrator<R: Host>(
     let output = concentrator.output();
     let service = concentrator.service_settings();
     let mark = begin_mark(rt, mark, output.id, output.rate)?;
-    let (start, floor) = (mark.start(), mark.floor());
-    let opened = Opened {
-        mark,
-        sources: open_sources(rt, alloc, concentrator)?,
-        sink: open_sink(rt, service.out_port)?,
-    };
-    let listener = open_listener(rt, service.session_port)?;
-    let Ok(observed) = Observed::new(alloc, concentrator, options.is_quiet) else {
+    let Ok(observed) = Observed::new(alloc, concentrator, network, options.is_quiet) else {
         return Err(ServiceFault::Run(HubFault::NoMemory));
     };
-    observed
-        .journal
-        .note(rt, begun_text(alloc, concentrator, start, floor));
+    let (start, floor) = (mark.start(), mark.floor());
+    let sources = open_sources(rt, alloc, network, concentrator)?;
+    let buffer = sources.first().and_then(|source| source.buffer());
+    let opened = Opened {
+        mark,
+        sources,
+        sink: open_sink(
+            rt,
+            alloc,
+            network,
+            service.out_port,
+            observed.outputs.as_slice(),
+        )?,
+    };
+    let consumers = Consumers {
+        listener: open_listener(rt, network, service.session_port)?,
+        most: network.sessions,
+    };
+    observed.journal.note(
+        rt,
+        begun_text(alloc, concentrator, network, start, floor, buffer),
+    );
     run_serving(
         rt,
         alloc,
         concentrator,
         options,
         opened,
-        &listener,
+        &consumers,
         &observed,
     )
 }
@@ -62,14 +76,14 @@ fn serve_concentrator<R: Host>(
 /// # Errors
 ///
 /// The first fault: of the settings file, the mark file, the start that is stored, the ports in the order of the PMUs, the port of the
-/// frames, the port of the sessions, or the run.
+/// frames, the further destinations in their order, the port of the sessions, or the run.
 pub fn serve_node<R: Host>(
     rt: &R,
     files: &Files<'_>,
     options: &RunOptions,
 ) -> Result<Totals, ServiceFault> {
-    let settings = read_node_settings(rt, files.settings).map_err(ServiceFault::Settings)?;
-    serve_concentrator(rt, &Concentrator::Node(settings), files.mark, options)
+    let (node, network) = read_node(rt, files.settings).map_err(ServiceFault::Settings)?;
+    serve_concentrator(rt, &node, &network, files.mark, options)
 }
 
 /// Runs the merger, serves its consumers as long, and tells what [`serve_node`] does.
@@ -77,12 +91,12 @@ pub fn serve_node<R: Host>(
 /// # Errors
 ///
 /// The first fault: of the settings file, the mark file, the start that is stored, the ports of node A and node B, the port of the
-/// frames, the port of the sessions, or the run.
+/// frames, the further destinations in their order, the port of the sessions, or the run.
 pub fn serve_merger<R: Host>(
     rt: &R,
     files: &Files<'_>,
     options: &RunOptions,
 ) -> Result<Totals, ServiceFault> {
-    let settings = read_merger_settings(rt, files.settings).map_err(ServiceFault::Settings)?;
-    serve_concentrator(rt, &Concentrator::Merger(settings), files.mark, options)
+    let (merger, network) = read_merger(rt, files.settings).map_err(ServiceFault::Settings)?;
+    serve_concentrator(rt, &merger, &network, files.mark, options)
 }

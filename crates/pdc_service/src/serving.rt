@@ -14,7 +14,7 @@ use crate::telling::unsent_text;
 use pdc_disk::FileDisk;
 use pdc_journal::{AnnouncingSink, CountingSink, Journal, Reporting};
 use pdc_mark::DiskMark;
-use pdc_network::{ClockTicker, UdpSink, UdpSource};
+use pdc_network::{ClockTicker, OutputsSink, UdpSource};
 use pdc_recent::{Naming, Recent, RememberingSink};
 use pdc_server::serve;
 use pdc_threads::{HubFault, Totals};
@@ -27,15 +27,19 @@ use std::sync::atomic::Ordering;
 use std::thread;
 use std::thread::{Scope, Threads};
 
-/// How many consumers are served at once.
-const SESSIONS: u32 = 8;
-
 /// What is open for a run: its mark, a source for each stream, and where frames go.
 #[derive(Drop)]
-pub struct Opened {
+pub struct Opened<'a> {
     pub mark: Begun<DiskMark<FileDisk>>,
     pub sources: Vec<UdpSource>,
-    pub sink: UdpSink,
+    pub sink: OutputsSink<'a>,
+}
+
+/// Where consumers come, and how many are served at once.
+#[derive(Drop)]
+pub struct Consumers {
+    pub listener: TcpListener,
+    pub most: u8,
 }
 
 /// Starts a thread that serves consumers, one after the other, and answers whether it was started.
@@ -66,13 +70,13 @@ fn start_sessions<'s, E: 's, N: Naming + Send + 's, R: Wait + Clock + Sync + 's>
     alloc: Global,
     id: u16,
     recent: &'s Recent<N>,
-    listener: &'s TcpListener,
+    consumers: &'s Consumers,
 ) -> bool
     requires id_low { 0 < id }
     requires id_high { id ≤ MAX_ID }
 {
-    for _ in 0..SESSIONS {
-        if !start_session(scope, rt, alloc, id, recent, listener) {
+    for _ in 0..consumers.most {
+        if !start_session(scope, rt, alloc, id, recent, &consumers.listener) {
             return false;
         }
     }
@@ -96,7 +100,7 @@ fn run_observed<'s, N: Naming + Send + 's, R: Threads + Wait + Clock + Sync + 's
     options: &RunOptions,
     mark: Begun<DiskMark<FileDisk>>,
     sources: Vec<UdpSource>,
-    sink: UdpSink,
+    sink: OutputsSink<'s>,
     observed: &'s Observed,
     recent: &'s Recent<N>,
 ) -> Result<Totals, ServiceFault>
@@ -116,6 +120,7 @@ fn run_observed<'s, N: Naming + Send + 's, R: Threads + Wait + Clock + Sync + 's
         journal,
         observed.tallies.as_slice(),
         &signs.unsent,
+        observed.outputs.as_slice(),
         observed.left_out.as_ref(),
         clock,
         options.every,
@@ -142,8 +147,8 @@ fn conduct<'s, E: 's, N: Naming + Send + 's, R: Threads + Wait + Clock + Eprint 
     alloc: Global,
     concentrator: &Concentrator,
     options: &RunOptions,
-    opened: Opened,
-    listener: &'s TcpListener,
+    opened: Opened<'s>,
+    consumers: &'s Consumers,
     observed: &'s Observed,
     recent: &'s Recent<N>,
 ) -> Result<Totals, ServiceFault>
@@ -157,7 +162,7 @@ fn conduct<'s, E: 's, N: Naming + Send + 's, R: Threads + Wait + Clock + Eprint 
     } = opened;
     let id = concentrator.output().id;
     let is_begun = start_journal(scope, rt, &observed.journal)
-        && start_sessions(scope, rt, alloc, id, recent, listener);
+        && start_sessions(scope, rt, alloc, id, recent, consumers);
     let outcome = if is_begun {
         run_observed(
             rt,
@@ -185,8 +190,8 @@ fn run_keeping<'x, N: Naming + Send + 'x, R: Threads + Wait + Clock + Eprint + S
     alloc: Global,
     concentrator: &'x Concentrator,
     options: &'x RunOptions,
-    opened: Opened,
-    listener: &'x TcpListener,
+    opened: Opened<'x>,
+    consumers: &'x Consumers,
     observed: &'x Observed,
     recent: &'x Recent<N>,
 ) -> Result<Totals, ServiceFault>
@@ -207,7 +212,7 @@ fn run_keeping<'x, N: Naming + Send + 'x, R: Threads + Wait + Clock + Eprint + S
                 concentrator,
                 options,
                 opened,
-                listener,
+                consumers,
                 observed,
                 recent,
             )
@@ -221,8 +226,8 @@ fn run_named<N: Naming + Send, R: Threads + Wait + Clock + Eprint + Sync>(
     alloc: Global,
     concentrator: &Concentrator,
     options: &RunOptions,
-    opened: Opened,
-    listener: &TcpListener,
+    opened: Opened<'_>,
+    consumers: &Consumers,
     observed: &Observed,
 ) -> Result<Totals, ServiceFault>
     requires streams { vec_len opened.sources ≡ streams_of concentrator.now }
@@ -237,7 +242,7 @@ fn run_named<N: Naming + Send, R: Threads + Wait + Clock + Eprint + Sync>(
         concentrator,
         options,
         opened,
-        listener,
+        consumers,
         observed,
         &recent,
     )
@@ -249,11 +254,19 @@ pub fn run_serving<R: Threads + Wait + Clock + Eprint + Sync>(
     alloc: Global,
     concentrator: &Concentrator,
     options: &RunOptions,
-    opened: Opened,
-    listener: &TcpListener,
+    opened: Opened<'_>,
+    consumers: &Consumers,
     observed: &Observed,
 ) -> Result<Totals, ServiceFault>
     requires { vec_len opened.sources ≡ streams_of concentrator.now }
 {
-    run_named::<Brand, R>(rt, alloc, concentrator, options, opened, listener, observed)
+    run_named::<Brand, R>(
+        rt,
+        alloc,
+        concentrator,
+        options,
+        opened,
+        consumers,
+        observed,
+    )
 }

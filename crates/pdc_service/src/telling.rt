@@ -1,6 +1,7 @@
 //! What a concentrator tells at its begin and its end.
 
 use crate::concentrator::Concentrator;
+use pdc_settings::Network;
 use std::alloc::{AllocError, Global};
 
 /// Appends where the frames of a stream come.
@@ -15,12 +16,34 @@ fn push_input(
     text.push_str(more.as_str())
 }
 
-/// What is told at the begin of a life: the id, the start, the floor, and the ports.
+/// Appends where frames go, and where consumers are served.
+fn push_outputs(
+    alloc: Global,
+    concentrator: &Concentrator,
+    network: &Network,
+    text: &mut String,
+) -> Result<(), AllocError> {
+    let service = concentrator.service_settings();
+    let (out, session) = (service.out_port, service.session_port);
+    let more = format!(in alloc; ", frames to port {out}")?;
+    text.push_str(more.as_str())?;
+    for output in &network.outputs {
+        text.push_str(" and ")?;
+        text.push_str(output.as_str())?;
+    }
+    let more = format!(in alloc; ", sessions at port {session}")?;
+    text.push_str(more.as_str())
+}
+
+/// What is told at the begin of a life: the id, the start, the floor, the ports, and how many bytes of datagrams wait at a port at most,
+/// where the system tells it.
 pub fn begun_text(
     alloc: Global,
     concentrator: &Concentrator,
+    network: &Network,
     start: u32,
     floor: u64,
+    buffer: Option<u32>,
 ) -> Result<String, AllocError> {
     let id = concentrator.output().id;
     let mut text = format!(in alloc; "{id} begins: start={start} floor={floor}")?;
@@ -36,10 +59,11 @@ pub fn begun_text(
             push_input(alloc, "node", second, settings.second_port, &mut text)?;
         }
     }
-    let service = concentrator.service_settings();
-    let (out, session) = (service.out_port, service.session_port);
-    let more = format!(in alloc; ", frames to port {out}, sessions at port {session}")?;
-    text.push_str(more.as_str())?;
+    push_outputs(alloc, concentrator, network, &mut text)?;
+    if let Some(bytes) = buffer {
+        let more = format!(in alloc; ", receive buffers of {bytes} bytes")?;
+        text.push_str(more.as_str())?;
+    }
     Ok(text)
 }
 

@@ -49,4 +49,14 @@ pub enum Wanted {
     NodeTimeBase,
     #[error("port of a node: a whole number from 1 to 65535")]
     NodePort,
+    #[error("address: an IP address, as \"10.0.1.5\", or left out")]
+    Address,
+    #[error("outputs: at most 8 texts HOST:PORT, or left out")]
+    Outputs,
+    #[error("ttl: a whole number from 1 to 255, or left out")]
+    Ttl,
+    #[error("receive_buffer: a whole number from 1 to 1073741824, or left out")]
+    ReceiveBuffer,
+    #[error("sessions: a whole number from 1 to 64, or left out")]
+    Sessions,
 }

@@ -1,0 +1,31 @@
+//! What could not be sent to one destination.
+
+use std::alloc::{AllocError, Global};
+use std::sync::atomic::{AtomicU64, Ordering};
+
+/// A further destination of frames, and how many could not be sent to it.
+#[derive(Drop)]
+pub struct OutputTally {
+    /// The destination, as the settings name it.
+    pub to: String,
+    pub unsent: AtomicU64,
+}
+
+impl OutputTally {
+    /// All was sent so far.
+    ///
+    /// # Errors
+    ///
+    /// [`AllocError`] where there is no memory for it.
+    pub fn new(alloc: Global, to: &str) -> Result<OutputTally, AllocError> {
+        Ok(OutputTally {
+            to: String::from_str(alloc, to)?,
+            unsent: AtomicU64::new(0),
+        })
+    }
+
+    /// How many frames could not be sent to it until now.
+    pub fn unsent(&self) -> u64 {
+        self.unsent.load(Ordering::Relaxed)
+    }
+}

@@ -1,0 +1,40 @@
+//! Where a concentrator is on the network.
+ghost use Rattle.std.specs.Prelude.{◌≤◌};
+ghost use Rattle.pdc_settings.specs.declared.network.TheConstants.{MAX_SESSIONS};
+
+use std::net::IpAddr;
+
+/// The most destinations of a frame beside the loopback.
+pub const MAX_OUTPUTS: usize = 8;
+
+/// The greatest number of hops of a frame to a group of receivers, and how many it takes where the key is left out.
+pub const MAX_TTL: u8 = 255;
+
+pub const TTL: u8 = 1;
+
+/// The largest buffer of a port that can be asked for, in bytes, and what is asked for where the key is left out.
+pub const MAX_RECEIVE_BUFFER: u32 = 1_073_741_824;
+
+pub const RECEIVE_BUFFER: u32 = 4_194_304;
+
+/// The most consumers that are served at once, and how many where the key is left out.
+pub const MAX_SESSIONS: u8 = 64;
+
+pub const SESSIONS: u8 = 8;
+
+/// Where a concentrator is on the network. Each key may be left out of its settings.
+#[derive(Debug, Drop)]
+pub struct Network {
+    /// The address that data comes to, and where consumers are served; left out, 127.0.0.1.
+    pub address: IpAddr,
+    /// Further destinations of each frame, each as `HOST:PORT`, at most 8.
+    pub outputs: Vec<String>,
+    /// How many hops a frame to a group of receivers takes, 1 to 255; left out, 1.
+    pub ttl: u8,
+    /// The bytes of the buffer of each port that data comes to, 1 to 1073741824; left out, 4194304.
+    pub receive_buffer: u32,
+    /// How many consumers are served at once, 1 to 64; left out, 8.
+    pub sessions: u8,
+    pub ghost sessions_low: { 1 ≤ sessions },
+    pub ghost sessions_high: { sessions ≤ MAX_SESSIONS },
+}

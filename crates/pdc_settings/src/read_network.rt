@@ -1,0 +1,183 @@
+//! Reading where a concentrator is on the network.
+ghost use Rattle.std.specs.Prelude.{◌≡◌, ◌≤◌, IfOk, IfErr, IfSome, IsSomeAnd, None, OnErr, Some, codes, map, nat_le, option_and_then, option_map, length, string_bytes};
+ghost use Rattle.std.specs.declared.net.ip_addr.IpAddr.{IpAddr};
+ghost use Rattle.toml.specs.Data.{as_array, as_str, get_member};
+ghost use Rattle.toml.specs.Parse.{parse_document};
+ghost use Rattle.toml.specs.View.{items_view, table_view, view};
+ghost use Rattle.pdc_settings.specs.Entries.{each_of};
+ghost use Rattle.pdc_settings.specs.Network.{IsAddress, IsNetwork, IsNetworkFault, IsUnread, WritesIp, number_or, few_outputs, fault_of, outputs_of, receive_buffer_in, sessions_in, ttl_in};
+ghost use Rattle.pdc_settings.specs.Settings.{IsFaultOf};
+
+use crate::document::document;
+use crate::fault::SettingsFault;
+use crate::keys::{number_in, value_at};
+use crate::network::{
+    MAX_OUTPUTS, MAX_RECEIVE_BUFFER, MAX_SESSIONS, MAX_TTL, Network, RECEIVE_BUFFER, SESSIONS, TTL,
+};
+use crate::unread::Unread;
+use crate::wanted::Wanted;
+use std::alloc::Global;
+use std::net::IpAddr;
+use toml::{Table, Value};
+
+/// The number at a key that may be left out, and is `usual` then.
+fn number_or(table: &Table, key: &str, usual: u64, least: u64, most: u64) -> Option<u64>
+    requires low { least ≤ usual }
+    requires high { usual ≤ most }
+    ensures value { result ≡ number_or usual least most (get_member key.now (table_view table.now)) }
+    ensures low { IfSome result (λ n. least ≤ n) }
+    ensures high { IfSome result (λ n. n ≤ most) }
+{
+    match value_at(table, key) {
+        Some(value) => number_in(value, least, most),
+        None => Some(usual),
+    }
+}
+
+/// The address that a value writes.
+fn ip_of(value: &Value) -> Option<IpAddr>
+    ensures some { IfSome result (WritesIp (view value.now)) }
+    ensures none { result ≡ None → (ip : IpAddr) → WritesIp (view value.now) ip → ⊥ }
+{
+    match value.as_str() {
+        Some(text) => text.parse::<IpAddr>().ok(),
+        None => None,
+    }
+}
+
+/// The address at the key `address`.
+fn address(table: &Table) -> Result<IpAddr, Wanted>
+    ensures value { IfOk result (IsAddress (get_member (codes "address") (table_view table.now))) }
+    ensures none { OnErr result ((ip : IpAddr) → IsAddress (get_member (codes "address") (table_view table.now)) ip → ⊥) }
+    ensures wanted { IfErr result (λ w. w ≡ Wanted.Address) }
+{
+    match value_at(table, "address") {
+        Some(value) => ip_of(value).ok_or(Wanted::Address),
+        None => Ok(IpAddr::from([127u8, 0, 0, 1])),
+    }
+}
+
+/// The text that a value is.
+fn text_of(alloc: Global, value: &Value) -> Result<String, Unread>
+    ensures value { IfOk result (λ text. as_str (view value.now) ≡ Some (string_bytes text)) }
+    ensures fault { IfErr result (IsUnread (as_str (view value.now) ≡ None)) }
+{
+    let Some(text) = value.as_str() else {
+        return Err(Unread::NoText);
+    };
+    String::from_str(alloc, text).map_err(|_| Unread::NoMemory)
+}
+
+/// The texts that values are, in their order.
+fn texts_of(alloc: Global, values: &[Value]) -> Result<Vec<String>, Unread>
+    ensures value { IfOk result (λ texts. each_of as_str (items_view values.now) ≡ Some (map string_bytes texts.items)) }
+    ensures fault { IfErr result (IsUnread (each_of as_str (items_view values.now) ≡ None)) }
+{
+    let mut texts = Vec::new(alloc);
+    for value in values {
+        let text = match text_of(alloc, value) {
+            Ok(text) => text,
+            Err(unread) => return Err(unread),
+        };
+        if texts.push(text).is_err() {
+            return Err(Unread::NoMemory);
+        }
+    }
+    Ok(texts)
+}
+
+/// Whether there are at most 8 of them.
+fn are_few(values: &[Value]) -> bool
+    ensures { result ≡ nat_le (length values.now) MAX_OUTPUTS }
+{
+    values.len() <= MAX_OUTPUTS
+}
+
+/// The values of a list.
+fn values_of(value: &Value) -> Option<&[Value]>
+    ensures { option_map (λ v. items_view v.now) result ≡ as_array (view value.now) }
+{
+    match value.as_array() {
+        Some(list) => Some(list.as_slice()),
+        None => None,
+    }
+}
+
+/// The texts of a list, at most 8.
+fn few_texts(alloc: Global, value: &Value) -> Result<Vec<String>, Unread>
+    ensures value { IfOk result (λ texts. option_and_then few_outputs (as_array (view value.now)) ≡ Some (map string_bytes texts.items)) }
+    ensures fault { IfErr result (IsUnread (option_and_then few_outputs (as_array (view value.now)) ≡ None)) }
+{
+    let Some(values) = values_of(value) else {
+        return Err(Unread::NoText);
+    };
+    if !are_few(values) {
+        return Err(Unread::NoText);
+    }
+    let texts = texts_of(alloc, values)?;
+    Ok(texts)
+}
+
+/// The destinations at the key `outputs`.
+fn outputs(alloc: Global, table: &Table) -> Result<Vec<String>, Unread>
+    ensures value { IfOk result (λ texts. outputs_of (get_member (codes "outputs") (table_view table.now)) ≡ Some (map string_bytes texts.items)) }
+    ensures fault { IfErr result (IsUnread (outputs_of (get_member (codes "outputs") (table_view table.now)) ≡ None)) }
+{
+    match value_at(table, "outputs") {
+        Some(value) => few_texts(alloc, value),
+        None => Ok(Vec::new(alloc)),
+    }
+}
+
+/// The fault of a document whose destinations were not read.
+fn outputs_fault(unread: Unread) -> SettingsFault
+    ensures { result ≡ fault_of unread }
+{
+    match unread {
+        Unread::NoText => SettingsFault::Range(Wanted::Outputs),
+        Unread::NoMemory => SettingsFault::NoMemory,
+    }
+}
+
+/// What a document says of the network.
+fn read_network(alloc: Global, table: &Table) -> Result<Network, SettingsFault>
+    ensures value { IfOk result (IsNetwork (table_view table.now)) }
+    ensures fault { IfErr result (IsNetworkFault (table_view table.now)) }
+{
+    let address = address(table).map_err(SettingsFault::Range)?;
+    let outputs = outputs(alloc, table).map_err(outputs_fault)?;
+    let Some(ttl) = number_or(table, "ttl", u64::from(TTL), 1, u64::from(MAX_TTL)) else {
+        return Err(SettingsFault::Range(Wanted::Ttl));
+    };
+    let (usual, most) = (u64::from(RECEIVE_BUFFER), u64::from(MAX_RECEIVE_BUFFER));
+    let Some(receive_buffer) = number_or(table, "receive_buffer", usual, 1, most) else {
+        return Err(SettingsFault::Range(Wanted::ReceiveBuffer));
+    };
+    let (usual, most) = (u64::from(SESSIONS), u64::from(MAX_SESSIONS));
+    let Some(sessions) = number_or(table, "sessions", usual, 1, most) else {
+        return Err(SettingsFault::Range(Wanted::Sessions));
+    };
+    Ok(Network {
+        address,
+        outputs,
+        ttl: ttl as u8,
+        receive_buffer: receive_buffer as u32,
+        sessions: sessions as u8,
+    })
+}
+
+impl Network {
+    /// Reads where a concentrator is on the network out of its settings.
+    ///
+    /// # Errors
+    ///
+    /// `Toml` where the text is no TOML; else `Range`, with the key, where the value at one is of another type or out of its range;
+    /// `NoMemory` where memory was wanted.
+    pub fn from_toml(alloc: Global, text: &str) -> Result<Network, SettingsFault>
+        ensures value { IfOk result (λ network. IsSomeAnd (parse_document text.now) (λ members. IsNetwork members network)) }
+        ensures fault { IfErr result (IsFaultOf IsNetworkFault text.now) }
+    {
+        let table = document(alloc, text)?;
+        read_network(alloc, &table)
+    }
+}
