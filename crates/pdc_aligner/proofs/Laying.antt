@@ -10,29 +10,30 @@ use Rattle.pdc_life.specs.Given.{Given}
 use Rattle.pdc_life.specs.Life.{changes}
 use Rattle.pdc_pipe.specs.declared.message.Message.{Message}
 use Rattle.pdc_pipe.specs.declared.message.Message.TheVariants.{Data, Layout, End}
-use Rattle.pdc_publisher.specs.declared.published.Published.{Published}
 use Rattle.pdc_hub.specs.Replay.{InSomeLife, Lives}
 use Rattle.pdc_hub.specs.declared.fault.HubFault.{HubFault}
-use Rattle.pdc_aligner.specs.Sequence.{AreData, HasPutData}
+use Rattle.pdc_output.specs.declared.output.Output.{Output}
+use Rattle.pdc_row.specs.RowView.{RowView}
+use Rattle.pdc_aligner.specs.Sequence.{AreData, HasPutData, HasPutRow, IsPopped}
 use Rattle.pdc_aligner.specs.Turns.{AreStored, AreTurns, HasGiven, HasPut, HasTurned, IsAligned, IsAnswered, NoneFalls, Turn, has_adopted, is_told, nows_of, second_at, turn_at}
 
-pub are_data-append : (xs ys : List Message) → AreData xs → AreData ys → AreData (xs ++ ys)
-are_data-append [] ys x y = y
-are_data-append (Data p ∷ ms) ys x y = are_data-append ms ys x y
-are_data-append (Layout b ∷ ms) ys x y = absurd x
-are_data-append (End ∷ ms) ys x y = absurd x
+pub are_data-append : {C : Type 0} (Stands : C → Lives) (named : Option Given) (output : Output) (xs ys : List Message) → AreData Stands named output xs → AreData Stands named output ys → AreData Stands named output (xs ++ ys)
+are_data-append Stands named output [] ys x y = y
+are_data-append Stands named output (Data p ∷ ms) ys x y = (x.0, are_data-append Stands named output ms ys x.1 y)
+are_data-append Stands named output (Layout b ∷ ms) ys x y = absurd x
+are_data-append Stands named output (End ∷ ms) ys x y = absurd x
 
 -- nothing more is no frame more
-pub same_put : (before put : List Message) → put ≡ before → HasPutData before put
-same_put before put e = record { frames = []; are_data = tt; behind = e ∙ sym (append-nil before) }
+pub same_put : {C : Type 0} (Stands : C → Lives) (named : Option Given) (output : Output) (before put : List Message) → put ≡ before → HasPutData Stands named output before put
+same_put Stands named output before put e = record { frames = []; are_data = tt; behind = e ∙ sym (append-nil before) }
 
-pub one_put : (before put : List Message) (p : Published) → put ≡ before ++ Data p ∷ [] → HasPutData before put
-one_put before put p e = record { frames = Data p ∷ []; are_data = tt; behind = e }
+pub one_put : {C : Type 0} (Stands : C → Lives) (named : Option Given) (output : Output) (row : RowView) (before put : List Message) → IsPopped Stands named row → HasPutRow output row before put → HasPutData Stands named output before put
+one_put Stands named output row before put popped h = record { frames = Data h.frame ∷ []; are_data = ((row, popped, h.framed), tt); behind = h.behind }
 
-pub more_put : (before middle put : List Message) → HasPutData before middle → HasPutData middle put → HasPutData before put
-more_put before middle put x y = record {
+pub more_put : {C : Type 0} (Stands : C → Lives) (named : Option Given) (output : Output) (before middle put : List Message) → HasPutData Stands named output before middle → HasPutData Stands named output middle put → HasPutData Stands named output before put
+more_put Stands named output before middle put x y = record {
   frames = x.frames ++ y.frames;
-  are_data = are_data-append x.frames y.frames x.are_data y.are_data;
+  are_data = are_data-append Stands named output x.frames y.frames x.are_data y.are_data;
   behind = y.behind ∙ (ap (λ l. l ++ y.frames) x.behind ∙ append_assoc before x.frames y.frames);
 }
 
@@ -65,9 +66,9 @@ given_none : {K : Type 0} (gave : K → List ℕ → Type 0) (old : K) → HasGi
 given_none gave old before g = subst (λ (ns : List ℕ). gave old ns) (sym (append-nil before)) g
 
 -- How the ticks of a run stand between two of them: whether one adopted, and the number of the last one, modulo `every`.
-pub record IsTurning {C : Type 0} (Stands : C → Lives) (named : Option Given) (rate every : ℕ) (first last : List ℕ) (Gave : List ℕ → Type 0) (put : List Message) (adopted : Bool) (place : ℕ) : Type 0 where
+pub record IsTurning {C : Type 0} (Stands : C → Lives) (named : Option Given) (output : Output) (rate every : ℕ) (first last : List ℕ) (Gave : List ℕ → Type 0) (put : List Message) (adopted : Bool) (place : ℕ) : Type 0 where
   pub turns : List Turn
-  pub are_turns : AreTurns Stands named rate every first last turns put
+  pub are_turns : AreTurns Stands named output rate every first last turns put
   pub given : Gave (nows_of turns)
   pub has : adopted ≡ has_adopted turns
   pub at : place ≡ length turns % every
@@ -79,9 +80,9 @@ either true false = refl
 either true true = refl
 
 -- before the first
-pub turning_begins : {C K : Type 0} (Stands : C → Lives) (named : Option Given) (gave : K → List ℕ → Type 0) (ticker : K) (rate every : ℕ) (first : List ℕ) (put : List Message) → put ≡ [] → (place : ℕ) → place ≡ 0 % every
-    → IsTurning Stands named rate every first first (HasGiven gave ticker ticker) put false place
-turning_begins Stands named gave ticker rate every first put none place at = record {
+pub turning_begins : {C K : Type 0} (Stands : C → Lives) (named : Option Given) (output : Output) (gave : K → List ℕ → Type 0) (ticker : K) (rate every : ℕ) (first : List ℕ) (put : List Message) → put ≡ [] → (place : ℕ) → place ≡ 0 % every
+    → IsTurning Stands named output rate every first first (HasGiven gave ticker ticker) put false place
+turning_begins Stands named output gave ticker rate every first put none place at = record {
   turns = [];
   are_turns = record { answered = tt; stored = none_falls first first refl; laid = none };
   given = given_none gave ticker;
@@ -90,24 +91,24 @@ turning_begins Stands named gave ticker rate every first put none place at = rec
 }
 
 -- after one more
-pub turning_on : {C : Type 0} (Stands : C → Lives) (named : Option Given) (rate every : ℕ) (first last stored : List ℕ) (Gave Gives : List ℕ → Type 0) (before put : List Message) (place now second : ℕ) (adopted adopts repeat after : Bool)
-    → (h : IsTurning Stands named rate every first last Gave before adopted place) → IsAnswered Stands named (turn_at now stored adopts) → NoneFalls last stored
+pub turning_on : {C : Type 0} (Stands : C → Lives) (named : Option Given) (output : Output) (rate every : ℕ) (first last stored : List ℕ) (Gave Gives : List ℕ → Type 0) (before put : List Message) (place now second : ℕ) (adopted adopts repeat after : Bool)
+    → (h : IsTurning Stands named output rate every first last Gave before adopted place) → IsAnswered Stands named (turn_at now stored adopts) → NoneFalls last stored
     → ((nows : List ℕ) → Gave nows → Gives (nows ++ now ∷ []))
     → second ≡ second_at rate now → repeat ≡ adopted && ((place + 1) % every == 0) → after ≡ adopted || adopts
-    → HasPut Stands named second (adopts || repeat) before put
-    → IsTurning Stands named rate every first stored Gives put after ((place + 1) % every)
-turning_on Stands named rate every first last stored Gave Gives before put place now second adopted adopts repeat after h answered rises gives dated repeats has p =
+    → HasPut Stands named output second (adopts || repeat) before put
+    → IsTurning Stands named output rate every first stored Gives put after ((place + 1) % every)
+turning_on Stands named output rate every first last stored Gave Gives before put place now second adopted adopts repeat after h answered rises gives dated repeats has p =
     let t = turn_at now stored adopts in
     let next : (place + 1) % every ≡ (length h.turns + 1) % every = ap (λ n. (n + 1) % every) h.at ∙ mod-add-mod (length h.turns) every 1 in
     let same : adopts || repeat ≡ is_told every t h.turns =
     ap (λ b. adopts || b) (repeats ∙ (ap (λ n. adopted && (n == 0)) next ∙ ap (λ b. b && ((length h.turns + 1) % every == 0)) h.has)) in
-    let dated_so : HasPut Stands named (second_at rate now) (adopts || repeat) before put = subst (λ n. HasPut Stands named n (adopts || repeat) before put) dated p in
+    let dated_so : HasPut Stands named output (second_at rate now) (adopts || repeat) before put = subst (λ n. HasPut Stands named output n (adopts || repeat) before put) dated p in
     record {
       turns = t ∷ h.turns;
       are_turns = record {
         answered = (answered, h.are_turns.answered);
         stored = (none_falls stored stored refl, stored_on first h.turns last stored h.are_turns.stored rises);
-        laid = (before, h.are_turns.laid, subst (λ b. HasPut Stands named (second_at rate now) b before put) same dated_so);
+        laid = (before, h.are_turns.laid, subst (λ b. HasPut Stands named output (second_at rate now) b before put) same dated_so);
       };
       given = gives (nows_of h.turns) h.given;
       has = has ∙ (either adopted adopts ∙ ap (λ b. adopts || b) h.has);
@@ -115,23 +116,23 @@ turning_on Stands named rate every first last stored Gave Gives before put place
     }
 
 -- where it ends, and where a tick fails
-pub turned_all : {C A : Type 0} (Stands : C → Lives) (named : Option Given) (rate every : ℕ) (first last : List ℕ) (Gave Gives : List ℕ → Type 0) (put : List Message) (adopted : Bool) (place : ℕ) (answer : A)
-    → IsTurning Stands named rate every first last Gave put adopted place → ((nows : List ℕ) → Gave nows → Gives nows) → HasTurned Stands named rate every first last Gives (Ok answer) put
-turned_all Stands named rate every first last Gave Gives put adopted place answer h same = record {
+pub turned_all : {C A : Type 0} (Stands : C → Lives) (named : Option Given) (output : Output) (rate every : ℕ) (first last : List ℕ) (Gave Gives : List ℕ → Type 0) (put : List Message) (adopted : Bool) (place : ℕ) (answer : A)
+    → IsTurning Stands named output rate every first last Gave put adopted place → ((nows : List ℕ) → Gave nows → Gives nows) → HasTurned Stands named output rate every first last Gives (Ok answer) put
+turned_all Stands named output rate every first last Gave Gives put adopted place answer h same = record {
   turns = h.turns;
   laid = put;
   failed = [];
   are_turns = h.are_turns;
   given = subst (λ (ns : List ℕ). Gives ns) (sym (append-nil (nows_of h.turns))) (same (nows_of h.turns) h.given);
   one_failed = omega arith;
-  rows_last = same_put put put refl;
+  rows_last = same_put Stands named output put put refl;
   whole = (refl, refl);
 }
 
-pub turned_in_part : {C A : Type 0} (Stands : C → Lives) (named : Option Given) (rate every : ℕ) (first last stored : List ℕ) (Gave Gives : List ℕ → Type 0) (before put : List Message) (adopted : Bool) (place now : ℕ) (fault : HubFault)
-    → IsTurning Stands named rate every first last Gave before adopted place → NoneFalls last stored → ((nows : List ℕ) → Gave nows → Gives (nows ++ now ∷ []))
-    → HasPutData before put → HasTurned {A = A} Stands named rate every first stored Gives (Err fault) put
-turned_in_part Stands named rate every first last stored Gave Gives before put adopted place now fault h rises gives more = record {
+pub turned_in_part : {C A : Type 0} (Stands : C → Lives) (named : Option Given) (output : Output) (rate every : ℕ) (first last stored : List ℕ) (Gave Gives : List ℕ → Type 0) (before put : List Message) (adopted : Bool) (place now : ℕ) (fault : HubFault)
+    → IsTurning Stands named output rate every first last Gave before adopted place → NoneFalls last stored → ((nows : List ℕ) → Gave nows → Gives (nows ++ now ∷ []))
+    → HasPutData Stands named output before put → HasTurned {A = A} Stands named output rate every first stored Gives (Err fault) put
+turned_in_part Stands named output rate every first last stored Gave Gives before put adopted place now fault h rises gives more = record {
   turns = h.turns;
   laid = before;
   failed = now ∷ [];
@@ -143,14 +144,14 @@ turned_in_part Stands named rate every first last stored Gave Gives before put a
 }
 
 -- the end mark behind it, or none
-pub aligned_ended : {C A : Type 0} (Stands : C → Lives) (named : Option Given) (rate every : ℕ) (first last : List ℕ) (Gave : List ℕ → Type 0) (outcome : Result A HubFault) (before put : List Message)
-    → HasTurned Stands named rate every first last Gave outcome before → put ≡ before ++ End ∷ [] → IsAligned Stands named rate every first last Gave outcome put
-aligned_ended Stands named rate every first last Gave (Ok x) before put h e = record { before = before; turned = h; has_ended = true; ended = e; whole = refl }
-aligned_ended Stands named rate every first last Gave (Err f) before put h e = record { before = before; turned = h; has_ended = true; ended = e; whole = tt }
+pub aligned_ended : {C A : Type 0} (Stands : C → Lives) (named : Option Given) (output : Output) (rate every : ℕ) (first last : List ℕ) (Gave : List ℕ → Type 0) (outcome : Result A HubFault) (before put : List Message)
+    → HasTurned Stands named output rate every first last Gave outcome before → put ≡ before ++ End ∷ [] → IsAligned Stands named output rate every first last Gave outcome put
+aligned_ended Stands named output rate every first last Gave (Ok x) before put h e = record { before = before; turned = h; has_ended = true; ended = e; whole = refl }
+aligned_ended Stands named output rate every first last Gave (Err f) before put h e = record { before = before; turned = h; has_ended = true; ended = e; whole = tt }
 
-pub aligned_open : {C A : Type 0} (Stands : C → Lives) (named : Option Given) (rate every : ℕ) (first last : List ℕ) (Gave : List ℕ → Type 0) (outcome : Result A HubFault) (before put : List Message) (fault : HubFault)
-    → HasTurned Stands named rate every first last Gave outcome before → put ≡ before → IsAligned {A = A} Stands named rate every first last Gave (Err fault) put
-aligned_open Stands named rate every first last Gave outcome before put fault h e = record {
+pub aligned_open : {C A : Type 0} (Stands : C → Lives) (named : Option Given) (output : Output) (rate every : ℕ) (first last : List ℕ) (Gave : List ℕ → Type 0) (outcome : Result A HubFault) (before put : List Message) (fault : HubFault)
+    → HasTurned Stands named output rate every first last Gave outcome before → put ≡ before → IsAligned {A = A} Stands named output rate every first last Gave (Err fault) put
+aligned_open Stands named output rate every first last Gave outcome before put fault h e = record {
   before = before;
   turned = record { turns = h.turns; laid = h.laid; failed = h.failed; are_turns = h.are_turns; given = h.given; one_failed = h.one_failed; rows_last = h.rows_last; whole = tt };
   has_ended = false;

@@ -1,3 +1,4 @@
+mod Devices
 mod Laying
 mod Rates
 mod Sequences

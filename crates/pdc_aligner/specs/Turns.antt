@@ -8,6 +8,7 @@ use Rattle.pdc_life.specs.Published.{layout_wire}
 use Rattle.pdc_pipe.specs.declared.message.LayoutFrame.{LayoutFrame}
 use Rattle.pdc_pipe.specs.declared.message.Message.{Message}
 use Rattle.pdc_pipe.specs.declared.message.Message.TheVariants.{Layout, End}
+use Rattle.pdc_output.specs.declared.output.Output.{Output}
 use Rattle.pdc_hub.specs.Replay.{InSomeLife, Lives}
 use Rattle.pdc_hub.specs.declared.fault.HubFault.{HubFault}
 use Rattle.pdc_aligner.specs.Sequence.{HasPutData}
@@ -51,16 +52,16 @@ HasPutLayout Stands named second true before put = (frame : LayoutFrame) × (put
 HasPutLayout Stands named second false before put = put ≡ before
 
 -- What a tick puts behind what was there: data frames, and then the layout where it is told.
-pub record HasPut {C : Type 0} (Stands : C → Lives) (named : Option Given) (second : ℕ) (told : Bool) (before put : List Message) : Type 0 where
+pub record HasPut {C : Type 0} (Stands : C → Lives) (named : Option Given) (output : Output) (second : ℕ) (told : Bool) (before put : List Message) : Type 0 where
   pub middle : List Message
-  pub rows_first : HasPutData before middle
+  pub rows_first : HasPutData Stands named output before middle
   pub layout_last : HasPutLayout Stands named second told middle put
 
 -- What was put at these ticks, the latest first, from nothing on.
-abbrev pub IsLaid : {C : Type 0} (Stands : C → Lives) (named : Option Given) (rate every : ℕ) → List Turn → List Message → Type 0
-IsLaid Stands named rate every [] put = put ≡ []
-IsLaid Stands named rate every (t ∷ earlier) put =
-    (before : List Message) × IsLaid Stands named rate every earlier before × HasPut Stands named (second_at rate t.now) (is_told every t earlier) before put
+abbrev pub IsLaid : {C : Type 0} (Stands : C → Lives) (named : Option Given) (output : Output) (rate every : ℕ) → List Turn → List Message → Type 0
+IsLaid Stands named output rate every [] put = put ≡ []
+IsLaid Stands named output rate every (t ∷ earlier) put =
+    (before : List Message) × IsLaid Stands named output rate every earlier before × HasPut Stands named output (second_at rate t.now) (is_told every t earlier) before put
 
 -- The tick was answered in some life, with the counts that it was handed: it adopted where the answer has a change number.
 abbrev pub IsAnswered : {C : Type 0} (Stands : C → Lives) (named : Option Given) → Turn → Type 0
@@ -82,21 +83,21 @@ AreAnswered Stands named [] = Unit {0}
 AreAnswered Stands named (t ∷ earlier) = IsAnswered Stands named t × AreAnswered Stands named earlier
 
 -- These ticks were answered with counts that rise to the stored ones, and this was put at them.
-pub record AreTurns {C : Type 0} (Stands : C → Lives) (named : Option Given) (rate every : ℕ) (first last : List ℕ) (turns : List Turn) (put : List Message) : Type 0 where
+pub record AreTurns {C : Type 0} (Stands : C → Lives) (named : Option Given) (output : Output) (rate every : ℕ) (first last : List ℕ) (turns : List Turn) (put : List Message) : Type 0 where
   pub answered : AreAnswered Stands named turns
   pub stored : AreStored first turns last
-  pub laid : IsLaid Stands named rate every turns put
+  pub laid : IsLaid Stands named output rate every turns put
 
 -- What was put is what was put at these ticks, and then the data frames of one that failed; where it is Ok, none did. The ticker gave the
 -- instants of all of them, and no more.
-pub record HasTurned {C A : Type 0} (Stands : C → Lives) (named : Option Given) (rate every : ℕ) (first last : List ℕ) (Gave : List ℕ → Type 0) (outcome : Result A HubFault) (put : List Message) : Type 0 where
+pub record HasTurned {C A : Type 0} (Stands : C → Lives) (named : Option Given) (output : Output) (rate every : ℕ) (first last : List ℕ) (Gave : List ℕ → Type 0) (outcome : Result A HubFault) (put : List Message) : Type 0 where
   pub turns : List Turn
   pub laid : List Message
   pub failed : List ℕ
-  pub are_turns : AreTurns Stands named rate every first last turns laid
+  pub are_turns : AreTurns Stands named output rate every first last turns laid
   pub given : Gave (nows_of turns ++ failed)
   pub one_failed : length failed ≤ 1
-  pub rows_last : HasPutData laid put
+  pub rows_last : HasPutData Stands named output laid put
   pub whole : OnOk outcome ((put ≡ laid) × (failed ≡ []))
 
 -- the end mark, where it was put
@@ -105,9 +106,9 @@ end_mark ended = if ended then End ∷ [] else []
 
 -- What was put is what was put at the ticks, the data frames of a tick that failed, and the end mark. Where it is Ok, no tick failed and the
 -- end mark was put.
-pub record IsAligned {C A : Type 0} (Stands : C → Lives) (named : Option Given) (rate every : ℕ) (first last : List ℕ) (Gave : List ℕ → Type 0) (outcome : Result A HubFault) (put : List Message) : Type 0 where
+pub record IsAligned {C A : Type 0} (Stands : C → Lives) (named : Option Given) (output : Output) (rate every : ℕ) (first last : List ℕ) (Gave : List ℕ → Type 0) (outcome : Result A HubFault) (put : List Message) : Type 0 where
   pub before : List Message
-  pub turned : HasTurned Stands named rate every first last Gave outcome before
+  pub turned : HasTurned Stands named output rate every first last Gave outcome before
   pub has_ended : Bool
   pub ended : put ≡ before ++ end_mark has_ended
   pub whole : OnOk outcome (has_ended ≡ true)

@@ -1,7 +1,8 @@
 //! The aligner: ticks, pops, publishes, and puts on the channel. It alone owns the mark.
-ghost use Rattle.std.specs.Prelude.{◌≡◌, ◌<◌, ◌≤◌, ◌||◌, ◌++◌, ◌∷◌, ℕ, Bool, IfOk, List, OnErr, OnOk, [], false, length, true};
+ghost use Rattle.std.specs.Prelude.{◌≡◌, ◌<◌, ◌≤◌, ◌||◌, ◌++◌, ◌∷◌, ℕ, Bool, IfErr, IfOk, List, OnErr, OnOk, [], false, length, true};
 ghost use Rattle.crossbeam_channel.specs.Claims.{IsSeatAt, view};
 ghost use Rattle.crossbeam_channel.specs.Ends.{sends_on};
+ghost use Rattle.pdc_aligner.specs.Device.{HasDevice, IsOfAligner, standing_of};
 ghost use Rattle.pdc_aligner.specs.Opened.{IsOpenedWith};
 ghost use Rattle.pdc_aligner.specs.Rate.{IsAtRate};
 ghost use Rattle.pdc_aligner.specs.Sequence.{HasPutData, IsCounted, Rises, instants_of};
@@ -50,7 +51,7 @@ fn turn<
     soc: u32,
     repeat: bool,
 ) -> Result<bool, HubFault>
-    requires top { (top.old.parts ≡ P.parts) × (0 < top.old.parts) × (last_in publisher.old ≤ top.old.amount) }
+    requires top { (top.old.parts ≡ P.parts) × (0 < top.old.parts) × (last_in publisher.old ≡ top.old.amount) }
     requires rate { IsAtRate N.given (output_in publisher.old).rate }
     requires seat { IsSeatAt (sends_on sender.now) pass.old × (view pass.old ≡ log true false false (view pass.old).put []) }
     requires stored { last_in publisher.old ≤ (M.stored (mark_in publisher.old)).floor }
@@ -61,10 +62,13 @@ fn turn<
     ensures stored { last_in publisher.new ≤ (M.stored (mark_in publisher.new)).floor }
     ensures rising { (low : ℕ) → Rises low (instants_of (view pass.old).put) (last_in publisher.old) → Rises low (instants_of (view pass.new).put) (last_in publisher.new) }
     ensures answered { IfOk result (λ adopts. IsAnswered C.stands_for N.given (turn_at now (M.stored (mark_in publisher.new)).counts adopts)) }
-    ensures laid { IfOk result (λ adopts. HasPut C.stands_for N.given soc (adopts || repeat) (view pass.old).put (view pass.new).put) }
-    ensures failed { OnErr result (HasPutData (view pass.old).put (view pass.new).put) }
+    ensures laid { IfOk result (λ adopts. HasPut C.stands_for N.given (output_in publisher.old) soc (adopts || repeat) (view pass.old).put (view pass.new).put) }
+    ensures failed { OnErr result (HasPutData C.stands_for N.given (output_in publisher.old) (view pass.old).put (view pass.new).put) }
     ensures none_falls { NoneFalls (M.stored (mark_in publisher.old)).counts (M.stored (mark_in publisher.new)).counts }
     ensures output { output_in publisher.new ≡ output_in publisher.old }
+    ensures out { OnOk result (last_in publisher.new ≡ top.new.amount) }
+    ensures causes { IfErr result IsOfAligner }
+    ensures device { HasDevice (standing_of publisher.old) (standing_of publisher.new) result }
 {
     let ticked = match tick_cleared(rt, hub, publisher, now) {
         Ok(ticked) => ticked,
@@ -143,7 +147,7 @@ fn turns<
     sender: &Sender,
     pass: &mut Pass<Message, Log>,
 ) -> Result<u64, HubFault>
-    requires top { (top.old.parts ≡ P.parts) × (0 < top.old.parts) × (last_in publisher.old ≤ top.old.amount) }
+    requires top { (top.old.parts ≡ P.parts) × (0 < top.old.parts) × (last_in publisher.old ≡ top.old.amount) }
     requires rate { IsAtRate N.given (output_in publisher.old).rate }
     requires seat { IsSeatAt (sends_on sender.now) pass.old × (view pass.old ≡ log true false false [] []) }
     requires stored { last_in publisher.old ≤ (M.stored (mark_in publisher.old)).floor }
@@ -151,8 +155,11 @@ fn turns<
     ensures stored { last_in publisher.new ≤ (M.stored (mark_in publisher.new)).floor }
     ensures rising { Rises (last_in publisher.old) (instants_of (view pass.new).put) (last_in publisher.new) }
     ensures counted { IfOk result (λ published. published ≡ length (instants_of (view pass.new).put)) }
-    ensures turned { HasTurned C.stands_for N.given pace.now.rate pace.now.layout_every (M.stored (mark_in publisher.old)).counts (M.stored (mark_in publisher.new)).counts (HasGiven K.gave ticker.old ticker.new) result (view pass.new).put }
+    ensures turned { HasTurned C.stands_for N.given (output_in publisher.old) pace.now.rate pace.now.layout_every (M.stored (mark_in publisher.old)).counts (M.stored (mark_in publisher.new)).counts (HasGiven K.gave ticker.old ticker.new) result (view pass.new).put }
     ensures output { output_in publisher.new ≡ output_in publisher.old }
+    ensures out { OnOk result (last_in publisher.new ≡ top.new.amount) }
+    ensures causes { IfErr result IsOfAligner }
+    ensures device { HasDevice (standing_of publisher.old) (standing_of publisher.new) result }
 {
     let every = pace.layout_every;
     let mut published = 0u64;
@@ -229,10 +236,15 @@ pub fn align<
     // Where it is Ok, all that were published were put, and so many they are; and the end mark was put last.
     ensures published { IfOk result (λ published. published ≡ length (instants_of (view pass.new).put)) }
     ensures closed { OnOk result ((body : List Message) × ((view pass.new).put ≡ body ++ End ∷ [])) }
-    // Tick by tick of those that the ticker gave: the data frames, and then the layout where it is told. The counts that ticks were handed
+    // Tick by tick of those that the ticker gave: the data frames of rows as they were popped, and then the layout where it is told. The counts that ticks were handed
     // never fall, from those that were stored before to those that are stored then.
-    ensures laid { IsAligned C.stands_for N.given pace.now.rate pace.now.layout_every (M.stored (mark_in publisher.old)).counts (M.stored (mark_in publisher.new)).counts (HasGiven K.gave ticker.old ticker.new) result (view pass.new).put }
+    ensures laid { IsAligned C.stands_for N.given (output_in publisher.old) pace.now.rate pace.now.layout_every (M.stored (mark_in publisher.old)).counts (M.stored (mark_in publisher.new)).counts (HasGiven K.gave ticker.old ticker.new) result (view pass.new).put }
     ensures output { output_in publisher.new ≡ output_in publisher.old }
+    // Where it is Ok, the greatest instant that was popped is the last one that was published.
+    ensures out { OnOk result (last_in publisher.new ≡ top.new.amount) }
+    // It fails only so, and by the device only where that failed.
+    ensures causes { IfErr result IsOfAligner }
+    ensures device { HasDevice (standing_of publisher.old) (standing_of publisher.new) result }
 {
     let done = turns(rt, alloc, hub, top, publisher, ticker, pace, sender, pass);
     hub.close(rt);

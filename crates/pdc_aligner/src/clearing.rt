@@ -1,6 +1,7 @@
 //! What comes before a tick and the tick itself: the mark is raised to the counts that wait.
-ghost use Rattle.std.specs.Prelude.{◌≡◌, ◌≤◌, ℕ, IfOk, slice_index};
+ghost use Rattle.std.specs.Prelude.{◌≡◌, ◌≤◌, ℕ, Err, IfErr, IfOk, OnErr, slice_index};
 ghost use Rattle.pdc_align.specs.Align.{ticked_of};
+ghost use Rattle.pdc_aligner.specs.Device.{HasDevice, IsOfAligner, standing_of};
 ghost use Rattle.pdc_aligner.specs.Turns.{NoneFalls};
 ghost use Rattle.pdc_life.specs.Answer.{tick_answer};
 ghost use Rattle.pdc_life.specs.Life.{changes};
@@ -26,6 +27,8 @@ fn clear_counts<M: Mark>(
     ensures floor { (M.stored (mark_in publisher.new)).floor ≡ (M.stored (mark_in publisher.old)).floor }
     ensures last { last_in publisher.new ≡ last_in publisher.old }
     ensures output { output_in publisher.new ≡ output_in publisher.old }
+    ensures causes { OnErr result (result ≡ Err HubFault.Device) }
+    ensures device { HasDevice (standing_of publisher.old) (standing_of publisher.new) result }
 {
     if let Some(counts) = raised(&publisher.counts(), waiting) {
         if publisher.raise(&counts).is_err() {
@@ -64,6 +67,9 @@ pub fn tick_cleared<
     ensures floor { (M.stored (mark_in publisher.new)).floor ≡ (M.stored (mark_in publisher.old)).floor }
     ensures last { last_in publisher.new ≡ last_in publisher.old }
     ensures output { output_in publisher.new ≡ output_in publisher.old }
+    ensures causes { IfErr result IsOfAligner }
+    // Only a device that failed ends it so.
+    ensures device { HasDevice (standing_of publisher.old) (standing_of publisher.new) result }
 {
     let waiting = hub.waiting(rt);
     match clear_counts(publisher, &waiting) {

@@ -1,7 +1,8 @@
 //! Layouts are put on the channel.
-ghost use Rattle.std.specs.Prelude.{◌≡◌, IfOk, OnErr, OnOk, [], false, true};
+ghost use Rattle.std.specs.Prelude.{◌≡◌, IfErr, IfOk, OnErr, OnOk, [], false, true};
 ghost use Rattle.crossbeam_channel.specs.Claims.{IsSeatAt, view};
 ghost use Rattle.crossbeam_channel.specs.Ends.{sends_on};
+ghost use Rattle.pdc_aligner.specs.Device.{IsOfLayout};
 ghost use Rattle.pdc_aligner.specs.Sequence.{instants_of};
 ghost use Rattle.pdc_aligner.specs.Turns.{HasPutLayout, second_at};
 ghost use Rattle.pdc_life.specs.Published.{layout_wire};
@@ -34,7 +35,8 @@ fn layout_of<
     P: Ledger,
     R: Wait,
 >(rt: &R, alloc: Global, hub: &Hub<C, N, T, F, G, P>, soc: u32) -> Result<LayoutFrame, HubFault>
-    ensures { IfOk result (λ frame. ∥ InSomeLife C.stands_for N.given (λ state g E. frame.bytes.items ≡ layout_wire g E soc) ∥₁) }
+    ensures layout { IfOk result (λ frame. ∥ InSomeLife C.stands_for N.given (λ state g E. frame.bytes.items ≡ layout_wire g E soc) ∥₁) }
+    ensures causes { IfErr result IsOfLayout }
 {
     let mut bytes = Vec::new(alloc);
     if let Err(fault) = hub.layout(rt, soc, &mut bytes) {
@@ -65,6 +67,7 @@ fn put_layout<
     ensures layout { OnOk result (HasPutLayout C.stands_for N.given soc true (view pass.old).put (view pass.new).put) }
     ensures err { OnErr result ((view pass.new).put ≡ (view pass.old).put) }
     ensures instants { instants_of (view pass.new).put ≡ instants_of (view pass.old).put }
+    ensures causes { IfErr result IsOfLayout }
 {
     let frame = match layout_of(rt, alloc, hub, soc) {
         Ok(frame) => frame,
@@ -99,6 +102,7 @@ pub fn put_layout_where<
     ensures layout { OnOk result (HasPutLayout C.stands_for N.given soc is_wanted (view pass.old).put (view pass.new).put) }
     ensures err { OnErr result ((view pass.new).put ≡ (view pass.old).put) }
     ensures instants { instants_of (view pass.new).put ≡ instants_of (view pass.old).put }
+    ensures causes { IfErr result IsOfLayout }
 {
     if !is_wanted {
         return Ok(());

@@ -1,11 +1,13 @@
 //! What is due is published, and put on the channel.
-ghost use Rattle.std.specs.Prelude.{◌≡◌, ◌<◌, ◌≤◌, ◌*◌, ℕ, IfOk, IfSome, None, Ok, OnErr, [], false, true};
+ghost use Rattle.std.specs.Prelude.{◌≡◌, ◌<◌, ◌≤◌, ◌*◌, ℕ, Err, IfErr, IfOk, IfSome, None, Ok, OnErr, OnOk, [], false, true};
 ghost use Rattle.crossbeam_channel.specs.Claims.{IsSeatAt, view};
 ghost use Rattle.crossbeam_channel.specs.Ends.{sends_on};
 ghost use Rattle.pdc_aligner.specs.Rate.{IsAtRate};
-ghost use Rattle.pdc_aligner.specs.Sequence.{HasPutData, IsCounted, Rises, instants_of};
+ghost use Rattle.pdc_aligner.specs.Device.{HasDevice, IsOfAligner, standing_of};
+ghost use Rattle.pdc_aligner.specs.Sequence.{HasPutData, HasPutRow, IsCounted, IsPopped, Rises, instants_of};
 ghost use Rattle.pdc_pipe.specs.Pipe.{log};
 ghost use Rattle.pdc_publisher.specs.Publisher.{last_in, mark_in, output_in};
+ghost use Rattle.pdc_row.specs.RowView.{row_view};
 ghost use Rattle.pdc_tag.specs.declared.limits.TheConstants.{SECONDS};
 
 use arrayvec::ArrayVec;
@@ -39,7 +41,12 @@ fn publish_one<M: Mark, R: Wait>(
     ensures last { last_in publisher.new ≤ row.instant }
     ensures stored { last_in publisher.new ≤ (M.stored (mark_in publisher.new)).floor }
     ensures rising { (low : ℕ) → Rises low (instants_of (view pass.old).put) (last_in publisher.old) → Rises low (instants_of (view pass.new).put) (last_in publisher.new) }
-    ensures frames { HasPutData (view pass.old).put (view pass.new).put }
+    // Where it is Ok, its frame was put, and else none was.
+    ensures frame { OnOk result (HasPutRow (output_in publisher.old) (row_view row) (view pass.old).put (view pass.new).put) }
+    ensures none { OnErr result ((view pass.new).put ≡ (view pass.old).put) }
+    ensures out { OnOk result (last_in publisher.new ≡ row.instant) }
+    ensures causes { IfErr result IsOfAligner }
+    ensures device { HasDevice (standing_of publisher.old) (standing_of publisher.new) result }
     ensures counts { (M.stored (mark_in publisher.new)).counts ≡ (M.stored (mark_in publisher.old)).counts }
     ensures output { output_in publisher.new ≡ output_in publisher.old }
 {
@@ -75,7 +82,9 @@ fn next_row<
     requires top { (top.old.parts ≡ P.parts) × (0 < top.old.parts) }
     requires rate { IsAtRate N.given (output_in publisher.now).rate }
     ensures row { IfOk result (λ popped. IfSome popped (λ row. (top.old.amount < row.instant) × (top.new.amount ≡ row.instant))) }
+    ensures popped { IfOk result (λ popped. IfSome popped (λ row. IsPopped C.stands_for N.given (row_view row))) }
     ensures tagged { IfOk result (λ popped. IfSome popped (λ row. row.instant < SECONDS * (output_in publisher.now).rate)) }
+    ensures causes { OnErr result (result ≡ Err HubFault.NoMemory) }
     ensures none { result ≡ Ok None → top.new.amount ≡ top.old.amount }
     ensures parts { top.new.parts ≡ top.old.parts }
     ensures err { OnErr result (top.new.amount ≡ top.old.amount) }
@@ -102,7 +111,7 @@ pub fn publish_due<
     pass: &mut Pass<Message, Log>,
     published: &mut u64,
 ) -> Result<(), HubFault>
-    requires top { (top.old.parts ≡ P.parts) × (0 < top.old.parts) × (last_in publisher.old ≤ top.old.amount) }
+    requires top { (top.old.parts ≡ P.parts) × (0 < top.old.parts) × (last_in publisher.old ≡ top.old.amount) }
     requires rate { IsAtRate N.given (output_in publisher.old).rate }
     requires seat { IsSeatAt (sends_on sender.now) pass.old × (view pass.old ≡ log true false false (view pass.old).put []) }
     requires stored { last_in publisher.old ≤ (M.stored (mark_in publisher.old)).floor }
@@ -112,7 +121,11 @@ pub fn publish_due<
     ensures seat { IsSeatAt (sends_on sender.now) pass.new × (view pass.new ≡ log true false false (view pass.new).put []) }
     ensures stored { last_in publisher.new ≤ (M.stored (mark_in publisher.new)).floor }
     ensures rising { (low : ℕ) → Rises low (instants_of (view pass.old).put) (last_in publisher.old) → Rises low (instants_of (view pass.new).put) (last_in publisher.new) }
-    ensures frames { HasPutData (view pass.old).put (view pass.new).put }
+    // Each row that was popped was published and put, but the last one where it failed.
+    ensures frames { HasPutData C.stands_for N.given (output_in publisher.old) (view pass.old).put (view pass.new).put }
+    ensures out { OnOk result (last_in publisher.new ≡ top.new.amount) }
+    ensures causes { IfErr result IsOfAligner }
+    ensures device { HasDevice (standing_of publisher.old) (standing_of publisher.new) result }
     ensures counts { (M.stored (mark_in publisher.new)).counts ≡ (M.stored (mark_in publisher.old)).counts }
     ensures output { output_in publisher.new ≡ output_in publisher.old }
 {

@@ -1,3 +1,4 @@
 mod Counted
 mod Held
+mod Receiving
 mod Replays

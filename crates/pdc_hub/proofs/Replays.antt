@@ -1,16 +1,14 @@
 -- Steps of a recorder, on plain variables.
-use Rattle.std.proofs.Common.{arith, ◌≡◌, ℕ, Bool, true, List, [], ◌∷◌, ◌++◌, Option, Some, refl, sym, ap, ◌∙◌, subst}
-use Rattle.std.proofs.Math.Logic.{∥∥₁_map}
+use Rattle.std.proofs.Common.{arith, ◌≡◌, Bool, true, List, [], ◌∷◌, ◌++◌, Option, Some, refl, sym, ◌∙◌, subst}
 use Rattle.std.proofs.lemmas.Option.{same_Some}
 use Rattle.std.proofs.lemmas.Grind.{common_steps}
 use Rattle.std.specs.List.{list_all}
 use Rattle.pdc_core.specs.Step.{IsOf}
 use Rattle.pdc_core.specs.declared.step.CoreStep.{CoreStep}
 use Rattle.pdc_life.specs.Answer.{IsReadStep, ReadStep, Rules, answered, life_from}
-use Rattle.pdc_life.specs.Arrival.{Arrival}
 use Rattle.pdc_life.specs.Given.{Given}
 use Rattle.pdc_life.specs.Life.{Entry}
-use Rattle.pdc_hub.specs.Replay.{AreRead, Follows, InSomeLife, Lives, Replaying, Replays, Sayings, WasRead}
+use Rattle.pdc_hub.specs.Replay.{AreRead, Follows, InSomeLife, Lives, Replaying, Replays, Sayings}
 
 -- one step more, at the end
 life_after : (rules : Rules) (g : Given) (E : List Entry) (reads : List ReadStep) (read : ReadStep)

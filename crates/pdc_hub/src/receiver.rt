@@ -1,8 +1,10 @@
 //! One receiver: what it reads of its source, outside the lock, it delivers.
-ghost use Rattle.std.specs.Prelude.{◌≡◌, ◌<◌, ◌≤◌, ◌+◌, ◌^◌, ℕ, IfErr, IfOk, OnErr, Some, length};
+ghost use Rattle.std.specs.Prelude.{◌≡◌, ◌<◌, ◌≤◌, ◌+◌, ◌^◌, ℕ, IfErr, IfOk, IfSome, OnErr, Some, length};
 ghost use Rattle.pdc_hub.specs.Counted.{refused_by, taken_by};
 ghost use Rattle.pdc_ports.specs.Failures.{HasRisen};
-ghost use Rattle.pdc_hub.specs.Faults.{IsOfDelivery};
+ghost use Rattle.pdc_ports.specs.Heard.{HasTold};
+ghost use Rattle.pdc_hub.specs.Faults.{IsOfDelivery, IsOfReceiver};
+ghost use Rattle.pdc_hub.specs.Received.{HasReceived, IsAnswerFor};
 
 use crate::fault::HubFault;
 use crate::hub::Hub;
@@ -51,6 +53,7 @@ fn hand_in<
     requires settings { N.settings ≡ Some settings.now }
     requires stream { stream < C.Settings.streams settings.now }
     requires parts { (0 < shares.old.taken.parts) × (0 < shares.old.refused.parts) × (0 < shares.old.configured.parts) }
+    ensures answer { IfOk result (λ outcome. IsAnswerFor C.rules C.stands_for N.given (C.Settings.says settings.now) stream bytes.now outcome) }
     ensures taken { IfOk result (λ outcome. shares.new.taken.amount ≡ shares.old.taken.amount + taken_by outcome) }
     ensures refused { IfOk result (λ outcome. shares.new.refused.amount ≡ shares.old.refused.amount + refused_by outcome) }
     ensures most { IfOk result (λ _. (shares.new.taken.amount < 2 ^ 64) × (shares.new.refused.amount < 2 ^ 64)) }
@@ -64,7 +67,8 @@ fn hand_in<
     }
 }
 
-/// Reads a source to its end, or to the first idle turn after the close. What is read is read, checked and kept outside the lock.
+/// Reads a source to its end, or to the first idle turn after the close, and delivers each datagram whole, for the stream. What is read is
+/// read, checked and kept outside the lock.
 pub fn receive<
     C: Core + Drop,
     N: Naming<C::Settings>,
@@ -88,6 +92,10 @@ pub fn receive<
     requires stream { stream < C.Settings.streams settings.now }
     requires parts { (shares.taken.parts ≡ 1) × (shares.refused.parts ≡ 1) × (shares.configured.parts ≡ 1) }
     requires amounts { (shares.taken.amount ≡ 0) × (shares.refused.amount ≡ 0) }
+    // Each datagram that the source gave was delivered whole, for this stream, and answered, but for one by which it ended; it ended by the
+    // last thing that it heard.
+    ensures received { HasReceived (HasTold S.told source.old source.new) (IsAnswerFor C.rules C.stands_for N.given (C.Settings.says settings.now) stream) result.taken result.refused result.fault }
+    ensures causes { IfSome result.fault IsOfReceiver }
     ensures fault { result.fault ≡ Some HubFault.SourceFault → HasRisen (S.failures_of source.old) (S.failures_of source.new) }
 {
     let mut shares = shares;
@@ -144,7 +152,7 @@ fn handed_back<T: Ledger, F: Ledger, G: Ledger>(
 ) -> Received<T, F, G>
     requires parts { (shares.taken.parts ≡ 1) × (shares.refused.parts ≡ 1) × (shares.configured.parts ≡ 1) }
     requires amounts { (shares.taken.amount ≡ taken) × (shares.refused.amount ≡ refused) }
-    ensures { result.fault ≡ fault }
+    ensures { (result.fault ≡ fault) × (result.taken ≡ taken) × (result.refused ≡ refused) }
 {
     Received {
         shares,

@@ -1,2 +1,3 @@
 -- What a device that failed leaves.
 pub mod Failures
+pub mod Heard

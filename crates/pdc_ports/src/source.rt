@@ -1,6 +1,7 @@
 //! Where datagrams come from.
-ghost use Rattle.std.specs.Prelude.{◌≡◌, ◌≤◌, ◌<◌, ℕ, length};
+ghost use Rattle.std.specs.Prelude.{◌≡◌, ◌≤◌, ◌<◌, ◌++◌, ◌∷◌, ℕ, List, [], length};
 ghost use Rattle.pdc_ports.specs.Failures.{HasRisen};
+ghost use Rattle.pdc_ports.specs.Heard.{Heard, heard_by};
 
 use pdc_arrival::Outcome;
 
@@ -20,8 +21,11 @@ pub enum Next {
 }
 
 /// Where datagrams come from. However fast they come, a source gives only so many in a row: then it says once that nothing came, so that
-/// whoever reads it looks whether it is to end.
+/// whoever reads it looks whether it is to end. It may tell what it said: where `told source heard`, it said exactly this, in order. A
+/// source that tells nothing says that of any.
 pub trait Source {
+    ghost told: { Self → List Heard → Type 0 } = { λ source heard. Unit {0} };
+
     // how often its device failed, a counter
     ghost failures_of: { Self → ℕ };
 
@@ -31,6 +35,7 @@ pub trait Source {
     /// The next datagram, written to the front of the buffer.
     fn next(&mut self, buffer: &mut [u8]) -> Next
         ensures kept { length buffer.new ≡ length buffer.old }
+        ensures tells { (heard : List Heard) → told self.old heard → told self.new (heard ++ heard_by result buffer.new ∷ []) }
         ensures more { failures_of self.old ≤ failures_of self.new }
         ensures datagram { (n : ℕ) → result ≡ Next.Datagram n → n ≤ length buffer.new }
         ensures row { (n : ℕ) → result ≡ Next.Datagram n → row_left self.new < row_left self.old }
@@ -39,6 +44,7 @@ pub trait Source {
     /// Takes how the datagram was answered that it gave last; none where it was not, for want of memory or of room in a counter, and then
     /// nothing more is asked of it. A source that wants to know nothing of it passes it over.
     fn answered(&mut self, _outcome: Option<Outcome>)
+        ensures tells { (heard : List Heard) → told self.old heard → told self.new heard }
         ensures failures { failures_of self.old ≤ failures_of self.new }
         ensures row { row_left self.new ≤ row_left self.old }
     {}

@@ -113,6 +113,8 @@ impl<M: Mark> Publisher<M> {
         ensures failed { OnErr result (has_failed_in self.new ≡ true) }
         ensures works { OnOk result (has_failed_in self.new ≡ has_failed_in self.old) }
         ensures cause { OnErr result (IsTrue (M.is_broken (mark_in self.old)) ⊎ HasFailed (M.failures (mark_in self.old)) (M.failures (mark_in self.new))) }
+        ensures failures { M.failures (mark_in self.old) ≤ M.failures (mark_in self.new) }
+        ensures mark { OnOk result (M.is_broken (mark_in self.new) ≡ M.is_broken (mark_in self.old)) }
         ensures safe { M.is_safe → OnErr result ⊥ }
         ensures kept { (output_in self.new ≡ output_in self.old) × (lead_in self.new ≡ lead_in self.old) × (last_in self.new ≡ last_in self.old) }
     {
@@ -164,6 +166,9 @@ impl<M: Mark> Publisher<M> {
         ensures device { IfErr result (λ fault. IsDevice fault → has_failed_in self.new ≡ true) }
         ensures cause { IfErr result (λ fault. IsDevice fault → (has_failed_in self.old ≡ true)
             ⊎ (IsTrue (M.is_broken (mark_in self.old)) ⊎ HasFailed (M.failures (mark_in self.old)) (M.failures (mark_in self.new)))) }
+        // No failure is forgotten, and a mark is broken after it only where it was before.
+        ensures failures { M.failures (mark_in self.old) ≤ M.failures (mark_in self.new) }
+        ensures mark { OnOk result (M.is_broken (mark_in self.new) ≡ M.is_broken (mark_in self.old)) }
         ensures failed { has_failed_in self.old ≡ true → IfErr result IsDevice × OnOk result ⊥ }
         ensures works { OnOk result (has_failed_in self.new ≡ false) }
         ensures safe { M.is_safe → has_failed_in self.old ≡ false → IfErr result (λ fault. IsDevice fault → ⊥) }
@@ -211,6 +216,9 @@ impl<M: Mark> Publisher<M> {
         ensures device { OnErr result (has_failed_in self.new ≡ true) }
         ensures cause { OnErr result ((has_failed_in self.old ≡ true)
             ⊎ (IsTrue (M.is_broken (mark_in self.old)) ⊎ HasFailed (M.failures (mark_in self.old)) (M.failures (mark_in self.new)))) }
+        // No failure is forgotten, and a mark is broken after it only where it was before.
+        ensures failures { M.failures (mark_in self.old) ≤ M.failures (mark_in self.new) }
+        ensures mark { OnOk result (M.is_broken (mark_in self.new) ≡ M.is_broken (mark_in self.old)) }
         ensures failed { has_failed_in self.old ≡ true → OnOk result ⊥ }
         ensures works { OnOk result (has_failed_in self.new ≡ false) }
         ensures safe { M.is_safe → has_failed_in self.old ≡ false → OnErr result ⊥ }

@@ -1,8 +1,9 @@
 -- What a run tells of what was put.
-use Rattle.std.proofs.Common.{arith, ◌≡◌, ℕ, Option, Result, Ok, Err, IfOk, OnOk, Bool, true, false, List, [], ◌∷◌, ◌++◌, refl, sym, ap, ◌∙◌, subst, append-nil}
+use Rattle.std.proofs.Common.{arith, ◌≡◌, ℕ, Option, Result, Ok, Err, IfOk, OnOk, Bool, true, false, List, [], ◌∷◌, ◌++◌, refl, sym, ap, ◌∙◌, subst, append-nil, vec_len}
 use Rattle.pdc_aligner.specs.Sequence.{instants_of}
 use Rattle.pdc_aligner.specs.Turns.{HasGiven, IsAligned, end_mark}
 use Rattle.pdc_life.specs.Given.{Given}
+use Rattle.pdc_output.specs.declared.output.Output.{Output}
 use Rattle.pdc_hub.specs.Replay.{Lives}
 use Rattle.pdc_pipe.specs.declared.message.Message.{Message}
 use Rattle.pdc_pipe.specs.declared.message.Message.TheVariants.{End}
@@ -11,7 +12,7 @@ use Rattle.pdc_pipe.specs.declared.senders.Ended.TheVariants.{AtEndMark}
 use Rattle.pdc_pipe.specs.HandedOn.{HasHandedOn}
 use Rattle.pdc_hub.specs.declared.fault.HubFault.{HubFault}
 use Rattle.pdc_threads.specs.declared.runs.Totals.{Totals}
-use Rattle.pdc_threads.specs.Run.{GivesFrom}
+use Rattle.pdc_threads.specs.Run.{GivesFrom, HasEach}
 
 -- what is put alone, where there was nothing before, is the end mark at most
 pub ended_alone : (put after : List Message) (r : Bool) → put ≡ [] → (r ≡ true → after ≡ put ++ End ∷ []) → (r ≡ false → after ≡ put) → instants_of after ≡ []
@@ -30,10 +31,10 @@ all_published (Ok totals) aligned count same is = subst (λ r. IfOk r (λ publis
 all_published (Err fault) aligned count same is = tt
 
 -- the ticks of what was aligned are those of the run
-pub all_aligned : {C : Type 0} (Stands : C → Lives) (named : Option Given) (rate every : ℕ) (first last : List ℕ) (Gave : List ℕ → Type 0) (outcome : Result Totals HubFault) (aligned : Result ℕ HubFault) (put : List Message)
-    → IfOk outcome (λ totals. aligned ≡ Ok totals.published) → IsAligned Stands named rate every first last Gave aligned put → IsAligned Stands named rate every first last Gave outcome put
-all_aligned Stands named rate every first last Gave (Ok totals) aligned put same h =
-    let t : IsAligned {A = ℕ} Stands named rate every first last Gave (Ok totals.published) put = subst (λ r. IsAligned Stands named rate every first last Gave r put) same h in
+pub all_aligned : {C : Type 0} (Stands : C → Lives) (named : Option Given) (output : Output) (rate every : ℕ) (first last : List ℕ) (Gave : List ℕ → Type 0) (outcome : Result Totals HubFault) (aligned : Result ℕ HubFault) (put : List Message)
+    → IfOk outcome (λ totals. aligned ≡ Ok totals.published) → IsAligned Stands named output rate every first last Gave aligned put → IsAligned Stands named output rate every first last Gave outcome put
+all_aligned Stands named output rate every first last Gave (Ok totals) aligned put same h =
+    let t : IsAligned {A = ℕ} Stands named output rate every first last Gave (Ok totals.published) put = subst (λ r. IsAligned Stands named output rate every first last Gave r put) same h in
     let w = t.turned in
     record {
       before = t.before;
@@ -42,7 +43,7 @@ all_aligned Stands named rate every first last Gave (Ok totals) aligned put same
       ended = t.ended;
       whole = t.whole;
     }
-all_aligned Stands named rate every first last Gave (Err fault) aligned put same h =
+all_aligned Stands named output rate every first last Gave (Err fault) aligned put same h =
     let w = h.turned in
     record {
       before = h.before;
@@ -53,9 +54,9 @@ all_aligned Stands named rate every first last Gave (Err fault) aligned put same
     }
 
 -- Where nothing was aligned, nothing was put but the end mark at most, and the ticker was not asked.
-pub none_aligned : {C I A : Type 0} (Stands : C → Lives) (named : Option Given) (rate every : ℕ) (first : List ℕ) (gave : I → List ℕ → Type 0) (ticker : I) (fault : HubFault) (ended : Bool) (put : List Message)
-    → put ≡ end_mark ended → IsAligned {A = A} Stands named rate every first first (GivesFrom gave ticker) (Err fault) put
-none_aligned Stands named rate every first gave ticker fault ended put e = record {
+pub none_aligned : {C I A : Type 0} (Stands : C → Lives) (named : Option Given) (output : Output) (rate every : ℕ) (first : List ℕ) (gave : I → List ℕ → Type 0) (ticker : I) (fault : HubFault) (ended : Bool) (put : List Message)
+    → put ≡ end_mark ended → IsAligned {A = A} Stands named output rate every first first (GivesFrom gave ticker) (Err fault) put
+none_aligned Stands named output rate every first gave ticker fault ended put e = record {
   before = [];
   turned = record {
     turns = [];
@@ -76,3 +77,8 @@ none_aligned Stands named rate every first gave ticker fault ended put e = recor
 pub ended_or_not : (put after : List Message) (r : Bool) → put ≡ [] → (r ≡ true → after ≡ put ++ End ∷ []) → (r ≡ false → after ≡ put) → after ≡ end_mark r
 ended_or_not put after true e h k = h refl ∙ ap (λ l. l ++ End ∷ []) e
 ended_or_not put after false e h k = k refl ∙ e
+
+-- an Ok run has an entry for each that was joined
+pub all_each : (outcome : Result Totals HubFault) (receivers count : ℕ) (complete : Bool) → IfOk outcome (λ totals. (vec_len totals.receivers ≡ receivers) × (complete ≡ true)) → (complete ≡ true → receivers ≡ count) → HasEach outcome count
+all_each (Ok totals) receivers count complete same h = same.0 ∙ h same.1
+all_each (Err fault) receivers count complete same h = tt

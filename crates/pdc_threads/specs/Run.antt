@@ -1,12 +1,14 @@
 -- What a run of the receivers, the aligner and the sender did.
-use Rattle.std.specs.Prelude.{◌≡◌, ℕ, Option, List, [], ◌++◌, length, map, sum, IfOk, IsErrOf, OnOk, Result}
+use Rattle.std.specs.Prelude.{◌≡◌, ℕ, Option, List, [], ◌++◌, length, map, sum, IfOk, IsErrOf, OnOk, Result, vec_len}
 use Rattle.pdc_aligner.specs.declared.pace.Pace.{Pace}
 use Rattle.pdc_aligner.specs.Sequence.{Rises, instants_of}
 use Rattle.pdc_aligner.specs.Turns.{HasGiven, IsAligned}
+use Rattle.pdc_aligner.specs.Device.{IsDown, Standing}
 use Rattle.pdc_life.specs.Given.{Given}
+use Rattle.pdc_output.specs.declared.output.Output.{Output}
 use Rattle.pdc_mark.specs.declared.stored.Stored.{Stored}
 use Rattle.pdc_hub.specs.declared.fault.HubFault.{HubFault}
-use Rattle.pdc_hub.specs.declared.fault.HubFault.TheVariants.{SinkFault}
+use Rattle.pdc_hub.specs.declared.fault.HubFault.TheVariants.{Device, SinkFault}
 use Rattle.pdc_hub.specs.Replay.{Lives}
 use Rattle.pdc_pipe.specs.declared.message.Message.{Message}
 use Rattle.pdc_pipe.specs.Sequence.{bytes_of}
@@ -35,10 +37,18 @@ GivesFrom {I} gave ticker nows = (after : I) × HasGiven gave ticker after nows
 
 -- It ran so above the last instant that was published, with the mark that was stored before and the one that is stored then, and what was
 -- put was put tick by tick of those that the ticker gave.
-pub record HasRunInTurns {C : Type 0} (Stands : C → Lives) (named : Option Given) (pace : Pace) (Gave : List ℕ → Type 0) (Took : List (List ℕ) → Type 0) (last : ℕ) (before after : Stored) (outcome : Result Totals HubFault) : Type 0 where
+pub record HasRunInTurns {C : Type 0} (Stands : C → Lives) (named : Option Given) (output : Output) (pace : Pace) (Gave : List ℕ → Type 0) (Took : List (List ℕ) → Type 0) (last : ℕ) (before after : Stored) (outcome : Result Totals HubFault) : Type 0 where
   pub run : HasRun Took last after.floor outcome
-  pub aligned : IsAligned Stands named pace.rate pace.layout_every before.counts after.counts Gave outcome run.put
+  pub aligned : IsAligned Stands named output pace.rate pace.layout_every before.counts after.counts Gave outcome run.put
 
 -- Where the run ended by the sink's fault, the sink's failures rose from the one number to the other.
 abbrev pub IsCausedBySink : (outcome : Result Totals HubFault) (before after : ℕ) → Type 0
 IsCausedBySink outcome before after = IsErrOf outcome SinkFault → HasRisen before after
+
+-- Where the run ended by the mark's device, a fault stood on it before, or it failed since.
+abbrev pub IsCausedByMark : (outcome : Result Totals HubFault) (before after : Standing) → Type 0
+IsCausedByMark outcome before after = IsErrOf outcome Device → IsDown before after
+
+-- Where the run was Ok, there is an entry for each of so many sources.
+abbrev pub HasEach : (outcome : Result Totals HubFault) (sources : ℕ) → Type 0
+HasEach outcome sources = IfOk outcome (λ t. vec_len t.receivers ≡ sources)

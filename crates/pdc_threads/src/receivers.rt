@@ -1,4 +1,5 @@
 //! The receivers: each in a thread of its own, started and joined.
+ghost use Rattle.pdc_hub.specs.Faults.{IsOfReceiver};
 ghost use Rattle.std.specs.Prelude.{◌≡◌, ◌≤◌, ◌<◌, ◌+◌, ℕ, IfSome, List, Some, length, map, sum, true, vec_len};
 
 use pdc_core::Core;
@@ -8,7 +9,7 @@ use pdc_ports::Source;
 use std::alloc::{AllocError, Global};
 use std::sync::Wait;
 use std::sync::ledger::Ledger;
-use std::thread::{JoinHandle, Scope, Threads};
+use std::thread::{Promise, PromisedHandle, Scope, Threads};
 
 /// A source beside its buffer.
 #[derive(Drop)]
@@ -45,10 +46,21 @@ pub fn buffered<S: Source + Drop>(alloc: Global, sources: Vec<S>) -> Option<Vec<
     Some(inputs)
 }
 
+/// What a receiver's thread promises: that it fails as a receiver does.
+#[derive(Clone, Copy, Drop)]
+pub struct EndsAsReceiver;
+
+impl<T: Ledger, F: Ledger, G: Ledger> Promise<Received<T, F, G>> for EndsAsReceiver {
+    ghost use Rattle.std.specs.Prelude.{IfSome};
+    ghost use Rattle.pdc_hub.specs.Faults.{IsOfReceiver};
+
+    ghost kept_by = { λ p r. IfSome r.fault IsOfReceiver };
+}
+
 /// The receivers that were started, and the shares that are left.
 #[derive(Drop)]
 pub struct Started<T: Ledger, F: Ledger, G: Ledger> {
-    running: Vec<JoinHandle<Received<T, F, G>>>,
+    running: Vec<PromisedHandle<Received<T, F, G>, EndsAsReceiver>>,
     left: Shares<T, F, G>,
     /// Whether all were started.
     pub complete: bool,
@@ -94,9 +106,11 @@ where
         }
         let Input { source, buffer } = input;
         let mine = split_one(&mut left);
-        match scope.spawn(
+        match scope.spawn_with(
+            EndsAsReceiver,
             move || -> Received<T, F, G>
                 requires { (N.settings ≡ Some settings.now) × (stream < C.Settings.streams settings.now) × ((mine.taken.parts ≡ 1) × (mine.refused.parts ≡ 1) × (mine.configured.parts ≡ 1)) × ((mine.taken.amount ≡ 0) × (mine.refused.amount ≡ 0)) }
+                ensures { IfSome result.fault IsOfReceiver }
             { receive_owned(rt, alloc, hub, settings, stream, source, buffer, mine) },
         ) {
             Ok(handle) => complete = running.push(handle).is_ok(),
@@ -152,6 +166,7 @@ fn receive_owned<
     requires stream { stream < C.Settings.streams settings.now }
     requires parts { (shares.taken.parts ≡ 1) × (shares.refused.parts ≡ 1) × (shares.configured.parts ≡ 1) }
     requires amounts { (shares.taken.amount ≡ 0) × (shares.refused.amount ≡ 0) }
+    ensures causes { IfSome result.fault IsOfReceiver }
 {
     let mut source = source;
     receive(
@@ -188,6 +203,9 @@ pub fn join_all<T: Ledger, F: Ledger, G: Ledger, R: Threads>(
     requires parts { started.complete ≡ true → (started.left.taken.parts + vec_len started.running ≡ T.parts) × (started.left.refused.parts + vec_len started.running ≡ F.parts) × (started.left.configured.parts + vec_len started.running ≡ G.parts) }
     requires amounts { started.complete ≡ true → (started.left.taken.amount ≡ 0) × (started.left.refused.amount ≡ 0) }
     ensures parts { result.complete ≡ true → (result.all.taken.parts ≡ T.parts) × (result.all.refused.parts ≡ F.parts) × (result.all.configured.parts ≡ G.parts) }
+    ensures started { result.complete ≡ true → started.complete ≡ true }
+    ensures each { result.complete ≡ true → vec_len result.receivers ≡ vec_len started.running }
+    ensures fault { IfSome result.fault IsOfReceiver }
     ensures sums { result.complete ≡ true → (result.all.taken.amount ≡ sum (map (λ c. c.taken) result.receivers.items)) × (result.all.refused.amount ≡ sum (map (λ c. c.refused) result.receivers.items)) }
 {
     let Started {

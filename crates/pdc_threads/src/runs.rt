@@ -1,12 +1,14 @@
 //! A run of all receivers beside the aligner and the sender.
-ghost use Rattle.std.specs.Prelude.{◌≡◌, ◌≤◌, ◌<◌, ◌+◌, ◌++◌, ◌∷◌, ℕ, Bool, IfOk, IfSome, IsErrOf, List, None, Ok, OnOk, Option, Some, [], false, length, map, sum, true, vec_len};
+ghost use Rattle.std.specs.Prelude.{◌≡◌, ◌≤◌, ◌<◌, ◌+◌, ◌++◌, ◌∷◌, ℕ, Bool, Err, IfErr, IfOk, IfSome, IsErrOf, List, None, Ok, OnOk, Option, Some, [], false, length, map, sum, true, vec_len};
 ghost use Rattle.crossbeam_channel.specs.Claims.{IsSeatAt, view};
 ghost use Rattle.crossbeam_channel.specs.Ends.{receives_on, sends_on};
 ghost use Rattle.pdc_pipe.specs.Pipe.{log};
+ghost use Rattle.pdc_aligner.specs.Device.{HasDevice, IsOfAligner, standing_of};
+ghost use Rattle.pdc_hub.specs.Faults.{IsOfReceiver};
 ghost use Rattle.pdc_aligner.specs.Opened.{IsOpenedWith};
 ghost use Rattle.pdc_aligner.specs.Rate.{IsAtRate};
 ghost use Rattle.pdc_threads.specs.Crew.{CanRun};
-ghost use Rattle.pdc_threads.specs.Run.{GivesFrom, HasRun, HasRunInTurns, IsCausedBySink, IsSummed};
+ghost use Rattle.pdc_threads.specs.Run.{GivesFrom, HasEach, HasRun, HasRunInTurns, IsCausedByMark, IsCausedBySink, IsSummed};
 ghost use Rattle.pdc_aligner.specs.Sequence.{Rises, instants_of};
 ghost use Rattle.pdc_aligner.specs.Turns.{IsAligned};
 ghost use Rattle.pdc_pipe.specs.declared.message.Message.{Message};
@@ -41,17 +43,6 @@ pub struct Totals {
     pub published: u64,
 }
 
-/// The fault of a receiver or of the aligner. None of them has the sink's, which the sender alone tells.
-fn not_of_sink(cause: HubFault) -> HubFault
-    ensures other { result ≡ HubFault.SinkFault → ⊥ }
-    ensures same { (cause ≡ HubFault.SinkFault → ⊥) → result ≡ cause }
-{
-    match cause {
-        HubFault::SinkFault => HubFault::Stuck,
-        other => other,
-    }
-}
-
 /// The first fault in the order receivers, aligner, sender, or the totals.
 fn outcome<
     C: Core + Drop,
@@ -70,10 +61,17 @@ fn outcome<
 ) -> Result<Totals, HubFault>
     requires parts { joined.complete ≡ true → (joined.all.taken.parts ≡ T.parts) × (joined.all.refused.parts ≡ F.parts) × (joined.all.configured.parts ≡ G.parts) }
     requires sums { joined.complete ≡ true → (joined.all.taken.amount ≡ sum (map (λ c. c.taken) joined.receivers.items)) × (joined.all.refused.amount ≡ sum (map (λ c. c.refused) joined.receivers.items)) }
+    requires receiver { IfSome joined.fault IsOfReceiver }
+    requires aligner { IfErr aligned IsOfAligner }
     ensures totals { IsSummed result }
+    ensures receivers { IfOk result (λ totals. (vec_len totals.receivers ≡ vec_len joined.receivers) × (joined.complete ≡ true)) }
     ensures ended { OnOk result (ended ≡ Ended.AtEndMark) }
     ensures published { IfOk result (λ totals. aligned ≡ Ok totals.published) }
     ensures sink { IsErrOf result HubFault.SinkFault → ended ≡ Ended.SinkFault }
+    ensures mark { IsErrOf result HubFault.Device → IsErrOf aligned HubFault.Device }
+    // The first fault in the order receivers, aligner, sender.
+    ensures first { IfSome joined.fault (λ cause. result ≡ Err cause) }
+    ensures second { joined.fault ≡ None → joined.complete ≡ true → IfErr aligned (λ cause. result ≡ Err cause) }
 {
     let Joined {
         all,
@@ -83,14 +81,14 @@ fn outcome<
     } = joined;
     let mut all = all;
     if let Some(cause) = fault {
-        return Err(not_of_sink(cause));
+        return Err(cause);
     }
     if !complete {
         return Err(HubFault::NoMemory);
     }
     let published = match aligned {
         Ok(published) => published,
-        Err(cause) => return Err(not_of_sink(cause)),
+        Err(cause) => return Err(cause),
     };
     match ended {
         Ended::AtEndMark => {}
@@ -166,8 +164,10 @@ where
     requires writer { IsSeatAt (sends_on to.now) writer × (view writer ≡ log true false false [] []) }
     requires reader { IsSeatAt (receives_on from.now) reader × (view reader ≡ log false true false [] []) }
     ensures totals { IsSummed result.outcome }
+    ensures each { HasEach result.outcome (vec_len crew.inputs) }
+    ensures mark { IsCausedByMark result.outcome (standing_of crew.publisher) (standing_of result.publisher) }
     ensures sink { IsCausedBySink result.outcome (K.failures_of crew.sink) (K.failures_of result.sink) }
-    ensures turned { HasRunInTurns C.stands_for N.given crew.pace (GivesFrom I.gave crew.ticker) (K.took crew.sink result.sink) (last_in crew.publisher) (M.stored (mark_in crew.publisher)) (M.stored (mark_in result.publisher)) result.outcome }
+    ensures turned { HasRunInTurns C.stands_for N.given (output_in crew.publisher) crew.pace (GivesFrom I.gave crew.ticker) (K.took crew.sink result.sink) (last_in crew.publisher) (M.stored (mark_in crew.publisher)) (M.stored (mark_in result.publisher)) result.outcome }
 {
     let Crew {
         shares,
@@ -254,8 +254,10 @@ fn align_or_close<
     ensures seat { IsSeatAt (sends_on to.now) writer.new × ((view writer.new).puts ≡ true) }
     ensures rising { Rises (last_in publisher.old) (instants_of (view writer.new).put) ((M.stored (mark_in publisher.new)).floor) }
     ensures published { IfOk result (λ published. published ≡ length (instants_of (view writer.new).put)) }
-    ensures laid { IsAligned C.stands_for N.given pace.rate pace.layout_every (M.stored (mark_in publisher.old)).counts (M.stored (mark_in publisher.new)).counts (GivesFrom I.gave ticker) result (view writer.new).put }
+    ensures laid { IsAligned C.stands_for N.given (output_in publisher.old) pace.rate pace.layout_every (M.stored (mark_in publisher.old)).counts (M.stored (mark_in publisher.new)).counts (GivesFrom I.gave ticker) result (view writer.new).put }
     ensures complete { OnOk result (complete ≡ true) }
+    ensures causes { IfErr result IsOfAligner }
+    ensures device { HasDevice (standing_of publisher.old) (standing_of publisher.new) result }
 {
     let mut top = top;
     let mut ticker = ticker;
@@ -312,8 +314,10 @@ where
     requires writer { IsSeatAt (sends_on to.now) writer × (view writer ≡ log true false false [] []) }
     requires reader { IsSeatAt (receives_on from.now) reader × (view reader ≡ log false true false [] []) }
     ensures totals { IsSummed result.outcome }
+    ensures each { HasEach result.outcome (vec_len crew.inputs) }
+    ensures mark { IsCausedByMark result.outcome (standing_of crew.publisher) (standing_of result.publisher) }
     ensures sink { IsCausedBySink result.outcome (K.failures_of crew.sink) (K.failures_of result.sink) }
-    ensures turned { HasRunInTurns C.stands_for N.given crew.pace (GivesFrom I.gave crew.ticker) (K.took crew.sink result.sink) (last_in crew.publisher) (M.stored (mark_in crew.publisher)) (M.stored (mark_in result.publisher)) result.outcome }
+    ensures turned { HasRunInTurns C.stands_for N.given (output_in crew.publisher) crew.pace (GivesFrom I.gave crew.ticker) (K.took crew.sink result.sink) (last_in crew.publisher) (M.stored (mark_in crew.publisher)) (M.stored (mark_in result.publisher)) result.outcome }
 {
     thread::scope(
         thread::scope_env(),
@@ -327,8 +331,10 @@ where
             requires writer { IsSeatAt (sends_on to.now) writer × (view writer ≡ log true false false [] []) }
             requires reader { IsSeatAt (receives_on from.now) reader × (view reader ≡ log false true false [] []) }
             ensures totals { IsSummed result.outcome }
+            ensures each { HasEach result.outcome (vec_len crew.inputs) }
+            ensures mark { IsCausedByMark result.outcome (standing_of crew.publisher) (standing_of result.publisher) }
             ensures sink { IsCausedBySink result.outcome (K.failures_of crew.sink) (K.failures_of result.sink) }
-            ensures turned { HasRunInTurns C.stands_for N.given crew.pace (GivesFrom I.gave crew.ticker) (K.took crew.sink result.sink) (last_in crew.publisher) (M.stored (mark_in crew.publisher)) (M.stored (mark_in result.publisher)) result.outcome }
+            ensures turned { HasRunInTurns C.stands_for N.given (output_in crew.publisher) crew.pace (GivesFrom I.gave crew.ticker) (K.took crew.sink result.sink) (last_in crew.publisher) (M.stored (mark_in crew.publisher)) (M.stored (mark_in result.publisher)) result.outcome }
         {
             conduct(
                 scope, rt, alloc, hub, settings, to, from, writer, reader, crew,
@@ -364,8 +370,10 @@ where
     requires rate { IsAtRate N.given (output_in crew.publisher).rate }
     requires opened { IsOpenedWith N.given (M.stored (mark_in crew.publisher)) }
     ensures totals { IsSummed result.outcome }
+    ensures each { HasEach result.outcome (vec_len crew.inputs) }
+    ensures mark { IsCausedByMark result.outcome (standing_of crew.publisher) (standing_of result.publisher) }
     ensures sink { IsCausedBySink result.outcome (K.failures_of crew.sink) (K.failures_of result.sink) }
-    ensures turned { HasRunInTurns C.stands_for N.given crew.pace (GivesFrom I.gave crew.ticker) (K.took crew.sink result.sink) (last_in crew.publisher) (M.stored (mark_in crew.publisher)) (M.stored (mark_in result.publisher)) result.outcome }
+    ensures turned { HasRunInTurns C.stands_for N.given (output_in crew.publisher) crew.pace (GivesFrom I.gave crew.ticker) (K.took crew.sink result.sink) (last_in crew.publisher) (M.stored (mark_in crew.publisher)) (M.stored (mark_in result.publisher)) result.outcome }
 {
     let Ok(ends) = channel(alloc) else {
         return Ran {
@@ -430,14 +438,17 @@ where
     requires opened { IsOpenedWith N.given (M.stored (mark_in publisher)) }
     // The totals are the sums over the receivers.
     ensures totals { IfOk result.outcome (λ t. (t.taken ≡ sum (map (λ c. c.taken) t.receivers.items)) × (t.refused ≡ sum (map (λ c. c.refused) t.receivers.items))) }
-    // Only a sink that failed ends it by the sink's fault.
+    // Each source has an entry.
+    ensures each { HasEach result.outcome (vec_len sources) }
+    // Only a sink that failed ends it by the sink's fault, and only the mark's device by the device's.
     ensures sink { IsCausedBySink result.outcome (K.failures_of sink) (K.failures_of result.sink) }
+    ensures mark { IsCausedByMark result.outcome (standing_of publisher) (standing_of result.publisher) }
     // What the sink took is a prefix of what was put, whose instants strictly rise, lie above the last one published before, and are at most
     // the floor that is stored then; all of it where the run was Ok, and then so many rows were published.
     ensures sent { HasRun (K.took sink result.sink) (last_in publisher) (M.stored (mark_in result.publisher)).floor result.outcome }
     // And tick by tick of those that the ticker gave: what was put are the data frames of each, and then its layout where it is told. The
     // counts that ticks were handed never fall, from those that were stored before to those that are stored then.
-    ensures turned { HasRunInTurns C.stands_for N.given pace (GivesFrom I.gave ticker) (K.took sink result.sink) (last_in publisher) (M.stored (mark_in publisher)) (M.stored (mark_in result.publisher)) result.outcome }
+    ensures turned { HasRunInTurns C.stands_for N.given (output_in publisher) pace (GivesFrom I.gave ticker) (K.took sink result.sink) (last_in publisher) (M.stored (mark_in publisher)) (M.stored (mark_in result.publisher)) result.outcome }
 {
     let Some(inputs) = buffered(alloc, sources) else {
         return Ran {

@@ -2,7 +2,7 @@ use Rattle.std.proofs.Common.{rules, ◌≡◌, ◌++◌, ◌∷◌, []}
 use Rattle.crossbeam_channel.specs.Claims.{view}
 use Rattle.pdc_pipe.specs.declared.message.Message.TheVariants.{End}
 use Rattle.pdc_hub.specs.declared.fault.HubFault.TheVariants.{Stuck}
-use Rattle.pdc_publisher.specs.Publisher.{mark_in}
+use Rattle.pdc_publisher.specs.Publisher.{mark_in, output_in}
 use Rattle.pdc_aligner.specs.Turns.{HasGiven}
 use Rattle.pdc_aligner.proofs.Laying.{aligned_ended, aligned_open}
 use Rattle.pdc_aligner.proofs.Sequences.{put_end, rises_on}
@@ -26,11 +26,11 @@ returns-clause-published g c =
 pub returns-then-not-close-clause-laid : goal.returns-then-not-close-clause-laid
 returns-then-not-close-clause-laid g c =
     let same : (view c.close-2.new.pass).put ≡ (view c.turns-done.new.pass).put = search rules in
-    aligned_open g.C.Core.stands_for g.N.Naming.given c.args.pace.now.rate c.args.pace.now.layout_every (g.M.Mark.stored (mark_in c.args.publisher.now)).counts (g.M.Mark.stored (mark_in c.turns-done.new.publisher)).counts (HasGiven g.K.Ticker.gave c.args.ticker.now c.turns-done.new.ticker)
+    aligned_open g.C.Core.stands_for g.N.Naming.given (output_in c.args.publisher.now) c.args.pace.now.rate c.args.pace.now.layout_every (g.M.Mark.stored (mark_in c.args.publisher.now)).counts (g.M.Mark.stored (mark_in c.turns-done.new.publisher)).counts (HasGiven g.K.Ticker.gave c.args.ticker.now c.turns-done.new.ticker)
     c.turns-done.result (view c.turns-done.new.pass).put (view c.close-2.new.pass).put Stuck c.turns-done.ensures.turned same
 
 pub returns-clause-laid : goal.returns-clause-laid
 returns-clause-laid g c =
     let more : (view c.close-2.new.pass).put ≡ (view c.turns-done.new.pass).put ++ End ∷ [] = search rules in
-    aligned_ended g.C.Core.stands_for g.N.Naming.given c.args.pace.now.rate c.args.pace.now.layout_every (g.M.Mark.stored (mark_in c.args.publisher.now)).counts (g.M.Mark.stored (mark_in c.turns-done.new.publisher)).counts (HasGiven g.K.Ticker.gave c.args.ticker.now c.turns-done.new.ticker)
+    aligned_ended g.C.Core.stands_for g.N.Naming.given (output_in c.args.publisher.now) c.args.pace.now.rate c.args.pace.now.layout_every (g.M.Mark.stored (mark_in c.args.publisher.now)).counts (g.M.Mark.stored (mark_in c.turns-done.new.publisher)).counts (HasGiven g.K.Ticker.gave c.args.ticker.now c.turns-done.new.ticker)
     c.turns-done.result (view c.turns-done.new.pass).put (view c.close-2.new.pass).put c.turns-done.ensures.turned more

@@ -5,16 +5,19 @@ use Rattle.pdc_pipe.specs.Pipe.{log}
 use Rattle.pdc_aligner.specs.Sequence.{instants_of, IsCounted, Rises}
 use Rattle.pdc_aligner.specs.Turns.{HasGiven}
 use Rattle.pdc_publisher.specs.Publisher.{last_in, mark_in, output_in}
+use Rattle.pdc_aligner.specs.Device.{standing_of}
+use Rattle.pdc_aligner.proofs.Devices.{IsSound}
 use Rattle.pdc_aligner.proofs.Laying.{IsTurning}
 use Rattle.pdc_aligner.proofs.aligner.turns.Given as goal
 
 abbrev pub invariant-loop : goal.invariant-loop
 invariant-loop g l =
     IsSeatAt (sends_on l.sender) l.pass × (view l.pass ≡ log true false false (view l.pass).put [])
-    × (l.top.parts ≡ l.initial.top.parts) × (last_in l.publisher ≤ l.top.amount)
+    × (l.top.parts ≡ l.initial.top.parts) × (last_in l.publisher ≡ l.top.amount)
     × (last_in l.publisher ≤ (g.M.Mark.stored (mark_in l.publisher)).floor)
     × (output_in l.publisher ≡ output_in l.initial.publisher)
     × IsCounted l.published (view l.pass).put (last_in l.publisher)
     × Rises (last_in l.initial.publisher) (instants_of (view l.pass).put) (last_in l.publisher)
     × (l.place < l.every)
-    × IsTurning {C = g.row.C.Denot} g.C.Core.stands_for g.N.Naming.given l.pace.rate l.every (g.M.Mark.stored (mark_in l.initial.publisher)).counts (g.M.Mark.stored (mark_in l.publisher)).counts (HasGiven g.K.Ticker.gave l.initial.ticker l.ticker) (view l.pass).put l.adopted l.place
+    × IsTurning {C = g.row.C.Denot} g.C.Core.stands_for g.N.Naming.given (output_in l.initial.publisher) l.pace.rate l.every (g.M.Mark.stored (mark_in l.initial.publisher)).counts (g.M.Mark.stored (mark_in l.publisher)).counts (HasGiven g.K.Ticker.gave l.initial.ticker l.ticker) (view l.pass).put l.adopted l.place
+    × IsSound (standing_of l.initial.publisher) (standing_of l.publisher)

@@ -7,5 +7,5 @@ invariant_of-result g c = record {
   of_some_layout = of_some g.C.Core.stands_for g.N.Naming.given c.args.soc c.new-bytes.result.items c.layout.new.out.items (search rules) (search rules);
 }
 
-pub returns : goal.returns
-returns g c = behind_none g.C.Core.stands_for g.N.Naming.given c.args.soc c.new-bytes.result.items c.layout.new.out.items (search rules) (search rules)
+pub returns-clause-layout : goal.returns-clause-layout
+returns-clause-layout g c = behind_none g.C.Core.stands_for g.N.Naming.given c.args.soc c.new-bytes.result.items c.layout.new.out.items (search rules) (search rules)

@@ -1,10 +1,30 @@
-use Rattle.std.proofs.Common.{rules}
-use Rattle.pdc_aligner.proofs.Laying.{more_put}
+use Rattle.std.proofs.Common.{rules, subst}
+use Rattle.crossbeam_channel.specs.Claims.{view}
+use Rattle.pdc_output.specs.declared.output.Output.{Output}
+use Rattle.pdc_publisher.specs.Publisher.{output_in}
+use Rattle.pdc_row.specs.RowView.{row_view}
+use Rattle.pdc_aligner.specs.Sequence.{HasPutRow}
+use Rattle.pdc_aligner.proofs.Devices.{popped_some, sound_of, sound_on}
+use Rattle.pdc_aligner.proofs.Laying.{more_put, one_put}
 use Rattle.pdc_aligner.proofs.publishing.publish_due.Goals as goal
-
-pub returns-in-Err-publish_one-clause-frames : goal.returns-in-Err-publish_one-clause-frames
-returns-in-Err-publish_one-clause-frames g c = more_put _ _ _ c.loop.invariant.8 c.publish_one.ensures.frames
 
 pub loop-preserved : goal.loop-preserved
 loop-preserved g c =
-    (search rules, search rules, search rules, search rules, search rules, search rules, search rules, search rules, more_put _ _ _ c.loop.invariant.8 c.publish_one.ensures.frames, search rules)
+    let before = (view c.loop.pass).put in
+    let after = (view c.publish_one.new.pass).put in
+    let output = output_in c.args.publisher.now in
+    let framed = subst (λ (o : Output). HasPutRow o (row_view c.in-Ok-Some.row) before after) c.loop.invariant.5 c.in_default.ensures.frame in
+    let popped = popped_some g.C.Core.stands_for g.N.Naming.given c.in-Ok-Some.field-0 c.in-Ok-Some.row (search rules) c.in-Ok-Some.ensures.popped in
+    let one = one_put g.C.Core.stands_for g.N.Naming.given output (row_view c.in-Ok-Some.row) before after popped framed in (
+      search rules,
+      search rules,
+      search rules,
+      search rules,
+      search rules,
+      search rules,
+      search rules,
+      search rules,
+      more_put g.C.Core.stands_for g.N.Naming.given output (view c.args.pass.now).put before after c.loop.invariant.8 one,
+      search rules,
+      sound_on _ _ _ c.loop.invariant.10 (sound_of _ _ _ c.in_default.ensures.device),
+    )

@@ -29,3 +29,6 @@ returns-clause-counted g c =
     let later : last_in c.args.publisher.now < c.in-Ok.frame.instant = omega (arith, at, c.requires.above) in
     let same : last_in c.publish.new.self ≡ c.in-Ok.frame.instant = omega (arith, at, last) in
     counted_data _ _ _ _ _ _ more c.requires.counted later same
+
+pub returns-clause-frame : goal.returns-clause-frame
+returns-clause-frame g c = record { frame = c.in-Ok.frame; framed = c.in-Ok.ensures.published; behind = c.put.ensures.put c.if-not-put.false }

@@ -1,4 +1,4 @@
-use Rattle.std.proofs.Common.{◌≡◌, ◌+◌, ◌++◌, ◌∷◌, [], ap, sym, ◌∙◌, take, rules, arith, subst, List}
+use Rattle.std.proofs.Common.{◌≡◌, ◌+◌, ◌++◌, ◌∷◌, [], ap, sym, ◌∙◌, take, arith, subst, List}
 use Rattle.std.proofs.lemmas.List.{take_more}
 use Rattle.pdc_core.specs.declared.step.CoreStep.{CoreStep}
 use Rattle.pdc_life.specs.Answer.{IsReadStep, ReadStep, answered}

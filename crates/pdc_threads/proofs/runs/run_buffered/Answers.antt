@@ -1,5 +1,5 @@
 use Rattle.std.proofs.Common.{false, [], refl}
-use Rattle.pdc_publisher.specs.Publisher.{mark_in}
+use Rattle.pdc_publisher.specs.Publisher.{mark_in, output_in}
 use Rattle.pdc_hub.specs.declared.fault.HubFault.TheVariants.{NoMemory}
 use Rattle.pdc_threads.proofs.Outcomes.{none_aligned}
 use Rattle.pdc_threads.proofs.runs.run_buffered.Goals as goal
@@ -7,5 +7,5 @@ use Rattle.pdc_threads.proofs.runs.run_buffered.Goals as goal
 pub returns-in_default-clause-turned : goal.returns-in_default-clause-turned
 returns-in_default-clause-turned g c = record {
   run = record { put = []; given = []; rest = []; took = g.K.Sink.nothing c.args.crew.sink; first = refl; rising = c.requires.can.14; whole = tt; published = tt };
-  aligned = none_aligned g.C.Core.stands_for g.N.Naming.given c.args.crew.pace.rate c.args.crew.pace.layout_every (g.M.Mark.stored (mark_in c.args.crew.publisher)).counts g.I.Ticker.gave c.args.crew.ticker NoMemory false [] refl;
+  aligned = none_aligned g.C.Core.stands_for g.N.Naming.given (output_in c.args.crew.publisher) c.args.crew.pace.rate c.args.crew.pace.layout_every (g.M.Mark.stored (mark_in c.args.crew.publisher)).counts g.I.Ticker.gave c.args.crew.ticker NoMemory false [] refl;
 }
