@@ -9,9 +9,6 @@ use pdc_block::Body;
 use pdc_cfg::{SectionView, Shape};
 use pdc_life::{MAX_PMUS, Outcome, Refusal, WaitKind};
 use pdc_table::{RingTable, Table};
-use std::fmt::Debug;
-use std::process::Abort;
-use std::test::Fail;
 use try_table::SortedTable;
 
 /// Two columns, a wait of 2 ticks, a window of 8, and no more than 32 ahead.
@@ -40,15 +37,17 @@ fn put<T: Table>(alignment: &mut Alignment<T>, stream: usize, instant: u64, freq
 
 /// A section of count 0 comes for the first column, and is adopted; its data closes with the next tick.
 #[test]
-fn to_a_row(rt: HostRuntime) -> Result<(), Fail> {
-    let mut alignment: Alignment<SortedTable> = Alignment::new(
+fn to_a_row(rt: HostRuntime) {
+    let Ok(mut alignment) = Alignment::<SortedTable>::new(
         rt.alloc(),
         PLAN,
         1,
         100,
         &[0; MAX_PMUS],
         100,
-    )?;
+    ) else {
+        panic!(&rt; "memory");
+    };
     alignment.hold(&[ColumnSection {
         column: 0,
         section: SectionView::default(),
@@ -62,12 +61,11 @@ fn to_a_row(rt: HostRuntime) -> Result<(), Fail> {
     let closed = alignment.tick(101, &[0; MAX_PMUS]);
     is!(&rt; closed, Ticked { closed: 1, change: None, used_up: false });
     let Some(row) = alignment.pop_due() else {
-        return Err(Fail::from("a row waits"));
+        panic!(&rt; "a row waits");
     };
     is!(&rt; (row.instant, row.start, row.change, row.quality), (101, 1, 1, 3));
     is!(&rt; row.blocks.len(), 1);
     is!(&rt; put(&mut alignment, 0, 101, 7), Outcome::Refused(Refusal::Late));
-    Ok(())
 }
 
 /// The same with two lanes.
@@ -83,17 +81,13 @@ const TWO_LANES: Plan = Plan {
 /// With two lanes an instant waits for both streams from the start. A section below the opening count of its column is not held, and
 /// that count waits to be stored.
 #[test]
-fn from_two_streams(rt: HostRuntime) -> Result<(), Fail> {
+fn from_two_streams(rt: HostRuntime) {
     let mut counts = [0; MAX_PMUS];
     counts[1] = 5;
-    let mut alignment: Alignment<RingTable> = Alignment::new(
-        rt.alloc(),
-        TWO_LANES,
-        1,
-        100,
-        &counts,
-        100,
-    )?;
+    let Ok(mut alignment) = Alignment::<RingTable>::new(rt.alloc(), TWO_LANES, 1, 100, &counts, 100)
+    else {
+        panic!(&rt; "memory");
+    };
     alignment.hold(&[ColumnSection {
         column: 1,
         section: SectionView::default(),
@@ -105,5 +99,4 @@ fn from_two_streams(rt: HostRuntime) -> Result<(), Fail> {
     is!(&rt; alignment.put(1, 101, &[], 0), Outcome::Taken);
     is!(&rt; alignment.tick(101, &counts).closed, 1);
     is!(&rt; alignment.pop_due().is_some(), true);
-    Ok(())
 }

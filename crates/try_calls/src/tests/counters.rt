@@ -5,10 +5,9 @@ use pdc_frame::FrameFault;
 use pdc_journal::counters_line;
 use pdc_life::{Outcome, Refusal};
 use pdc_ports::{Counts, Told};
-use std::test::Fail;
 
 #[test]
-fn causes_that_refused_are_told(rt: HostRuntime) -> Result<(), Fail> {
+fn causes_that_refused_are_told(rt: HostRuntime) {
     let mut counts = Counts::new();
     counts.count(Outcome::Taken);
     counts.count(Outcome::Taken);
@@ -21,7 +20,6 @@ fn causes_that_refused_are_told(rt: HostRuntime) -> Result<(), Fail> {
         published: 1,
         last: 57_478_860_001,
     };
-    let line = counters_line(rt.alloc(), &told, 4)?;
+    let line = counters_line(rt.alloc(), &told, 4).expect(&rt, "memory");
     is!(&rt; line.as_str(), "taken=2 refused=3 published=1 last=57478860001 unsent=4, F4 BadCheck 1, B4 Late 2");
-    Ok(())
 }

@@ -1,16 +1,16 @@
 //! Worked frames of node 201, byte for byte.
 
-ghost use Rattle.std.specs.Prelude.{◌≡◌};
+ghost use Rattle.std.specs.Prelude.{◌≡◌, ◌≤◌, length};
 
 use super::same::is;
 use super::vectors::{BOTH, ONE_ABSENT, OWN_END, OWN_HEAD, SECTIONS};
 use arrayvec::ArrayVec;
 use pdc_block::Block;
-use pdc_cfg::{Shape, read_config};
+use pdc_cfg::{SectionView, Shape, read_config};
 use pdc_frame::{Frame, Kind, read_frame};
-use pdc_output::{Nominal, Output, append_layout, append_row, own_section};
+use pdc_output::{MAX_SECTIONS, Nominal, Output, append_layout, append_row, own_section};
 use pdc_row::DueRow;
-use std::test::Fail;
+use std::process::Abort;
 
 const ONE_PHASOR: Shape = Shape {
     phasors: 1,
@@ -51,52 +51,74 @@ fn row(first: [u16; 5], second: [u16; 5]) -> DueRow
 }
 
 #[test]
-fn rows_on_the_wire(rt: HostRuntime) -> Result<(), Fail> {
-    let alloc = rt.alloc();
-    let mut out = vec![in alloc; 7u8]?;
-    append_row(&NODE_201, &row(WORDS_11, WORDS_12), &mut out)?;
+fn rows_on_the_wire(rt: HostRuntime) {
+    let mut out = Vec::from_slice(rt.alloc(), &[7]).expect(&rt, "memory");
+    append_row(&NODE_201, &row(WORDS_11, WORDS_12), &mut out).expect(&rt, "memory");
     is!(&rt; out.split_first(), Some((&7, BOTH.as_slice())));
 
     let mut out = ArrayVec::<u8, 50>::new();
-    append_row(&NODE_201, &row(WORDS_11, ABSENT), &mut out)?;
+    append_row(&NODE_201, &row(WORDS_11, ABSENT), &mut out).expect(&rt, "room");
     is!(&rt; out.as_slice(), ONE_ABSENT.as_slice());
-    Ok(())
+}
+
+/// The bytes are those of this own section: the head, spaces and the end.
+fn is_own_section(rt: &impl Abort, bytes: &[u8]) {
+    is!(rt; bytes.len(), 1070);
+    is!(rt; bytes.get(..26), Some(OWN_HEAD.as_slice()));
+    is!(rt; bytes.get(26..1050), Some([b' '; 1024].as_slice()));
+    is!(rt; bytes.get(1050..), Some(OWN_END.as_slice()));
 }
 
 #[test]
-fn own_section_of_node_201(rt: HostRuntime) -> Result<(), Fail> {
+fn own_section_of_node_201(rt: HostRuntime) {
     let section = own_section(&NODE_201, 1, 65538);
-    let bytes = section.bytes.as_slice();
-    assert_eq!(rt; bytes.len(), 1070);
-    is!(&rt; &bytes[..26], OWN_HEAD.as_slice());
-    is!(&rt; bytes[26..1050].iter().all(|byte| *byte == b' '), true);
-    is!(&rt; &bytes[1050..], OWN_END.as_slice());
+    is_own_section(&rt, section.bytes.as_slice());
     is!(&rt; (section.source, section.count, section.polar), (201, 2, false));
     is!(&rt; section.shape.section_len(), 1070);
-    Ok(())
+}
+
+/// The layout of node 201 with these sections, of this stamp and second.
+fn layout(
+    rt: &(impl Abort + AllocGlobal),
+    change: u32,
+    sections: &[SectionView],
+    soc: u32,
+) -> Vec<u8>
+    requires { length sections.now ≤ MAX_SECTIONS }
+{
+    let mut out = Vec::new(rt.alloc());
+    append_layout(&NODE_201, 1, change, sections, soc, &mut out).expect(rt, "memory");
+    out
 }
 
 #[test]
-fn layout_of_no_pmu(rt: HostRuntime) -> Result<(), Fail> {
-    let mut out = Vec::new(rt.alloc());
-    append_layout(&NODE_201, 1, 65538, &[], 1_149_577_200, &mut out)?;
+fn layout_of_no_pmu(rt: HostRuntime) {
+    let out = layout(&rt, 65538, &[], 1_149_577_200);
     is!(&rt; out.len(), 1094);
-    let frame = read_frame(&out)?;
-    is!(&rt; frame.kind, Kind::Cfg2);
-    is!(&rt; frame.version, 2);
-    is!(&rt; frame.id, 201);
-    is!(&rt; frame.soc, 1_149_577_200);
-    is!(&rt; frame.quality, 0);
-    is!(&rt; frame.frac, 0);
-    let config = read_config(&frame)?;
+    let frame = read_frame(&out).expect(&rt, "a frame");
+    is!(&rt; (frame.kind, frame.version, frame.id), (Kind::Cfg2, 2, 201));
+    is!(&rt; (frame.soc, frame.quality, frame.frac), (1_149_577_200, 0, 0));
+    let config = read_config(&frame).expect(&rt, "a configuration");
     is!(&rt; config.sections.len(), 1);
     let own = config.sections.as_slice()[0];
     is!(&rt; own.count, 2);
-    Ok(())
+}
+
+/// The layout of these sections of two PMUs has them behind the own one.
+fn has_both(rt: &impl Abort, layout: &[u8]) {
+    let frame = read_frame(layout).expect(rt, "a frame");
+    let config = read_config(&frame).expect(rt, "a configuration");
+    is!(rt; (config.flags, config.time_base, config.rate), (0, 1_000_000, 50));
+    let [own, one, two] = config.sections.as_slice() else {
+        panic!(rt; "there are three sections");
+    };
+    is!(rt; (own.source, own.count), (201, 1));
+    is!(rt; one.bytes, &SECTIONS[6..56]);
+    is!(rt; two.bytes, &SECTIONS[56..106]);
 }
 
 #[test]
-fn layout_of_two_pmus(rt: HostRuntime) -> Result<(), Fail> {
+fn layout_of_two_pmus(rt: HostRuntime) {
     let frame = Frame {
         kind: Kind::Cfg2,
         version: 2,
@@ -106,22 +128,11 @@ fn layout_of_two_pmus(rt: HostRuntime) -> Result<(), Fail> {
         frac: 0,
         payload: &SECTIONS,
     };
-    let sent = read_config(&frame)?;
-    is!(&rt; sent.sections.len(), 2);
-    let mut out = Vec::new(rt.alloc());
-    append_layout(&NODE_201, 1, 1, sent.sections.as_slice(), 0, &mut out)?;
-    is!(&rt; out.len(), 1194);
-    let frame = read_frame(&out)?;
-    let config = read_config(&frame)?;
-    is!(&rt; config.flags, 0);
-    is!(&rt; config.time_base, 1_000_000);
-    is!(&rt; config.rate, 50);
-    let [own, one, two] = config.sections.as_slice() else {
-        return Err(Fail::from("there are three sections"));
+    let Ok(sent) = read_config(&frame) else {
+        panic!(&rt; "a configuration");
     };
-    is!(&rt; own.source, 201);
-    is!(&rt; own.count, 1);
-    is!(&rt; one.bytes, &SECTIONS[6..56]);
-    is!(&rt; two.bytes, &SECTIONS[56..106]);
-    Ok(())
+    is!(&rt; sent.sections.len(), 2);
+    let out = layout(&rt, 1, sent.sections.as_slice(), 0);
+    is!(&rt; out.len(), 1194);
+    has_both(&rt, &out);
 }

@@ -5,36 +5,57 @@ use pdc_disk::FileDisk;
 use pdc_mark::{
     DiskMark, Mark, MarkConvertFault, MarkFault, MarkInitFault, convert_mark, make_mark,
 };
+use std::env::{self, Env};
+use std::fs::{self, File};
 use std::path::PathBuf;
-use std::test::Fail;
-use std::{env, fs, process};
+use std::process::{self, Abort};
+use std::rt::Files;
 
-/// An empty folder of one test's own.
-fn folder(rt: &HostRuntime, name: &str) -> Result<PathBuf, Fail> {
-    let id = process::id(rt.process());
-    let name = format!(in rt.alloc(); "pdc_tests_{name}_{id}")?;
-    let folder = env::temp_dir(rt)?.join(rt.alloc(), name)?;
+/// An empty folder of one test's own, in this process.
+fn folder(
+    rt: &(impl Abort + AllocGlobal + Env + Files<File = File>),
+    id: u32,
+    name: &str,
+) -> PathBuf {
+    let name = format!(in rt.alloc(); "pdc_tests_{name}_{id}").expect(rt, "memory");
+    let temporary = env::temp_dir(rt).expect(rt, "a folder");
+    let folder = temporary.join(rt.alloc(), name).expect(rt, "memory");
     let _ = fs::remove_dir_all(rt, &folder);
-    fs::create_dir(rt, &folder)?;
-    Ok(folder)
+    fs::create_dir(rt, &folder).expect(rt, "a new folder");
+    folder
+}
+
+/// The file of this name in a folder.
+fn file_in(rt: &(impl Abort + AllocGlobal), folder: &PathBuf, name: &str) -> PathBuf {
+    folder.join(rt.alloc(), name).expect(rt, "memory")
+}
+
+/// The bytes of a file.
+fn bytes_of(rt: &(impl Abort + AllocGlobal + Files<File = File>), file: &str) -> Vec<u8> {
+    fs::read(rt, file).expect(rt, "a file")
+}
+
+/// The mark of 201 and 50 in this file is of no life.
+fn is_of_no_life(rt: &(impl Abort + AllocGlobal + Files<File = File>), file: &str) {
+    let disk = FileDisk::open(rt, file).expect(rt, "a disk");
+    match DiskMark::open(disk, 201, 50) {
+        Ok(mark) => is!(rt; mark.stored(), (0, 0)),
+        Err(refused) => panic!(rt; "{}", refused.fault),
+    }
 }
 
 /// The first call makes the file, for id 201 and 50 frames a second. The second leaves it as it is.
 #[test]
-fn mark_init_twice(rt: HostRuntime) -> Result<(), Fail> {
-    let folder = folder(&rt, "init")?;
-    let path = folder.join(rt.alloc(), "a.mark")?;
+fn mark_init_twice(rt: HostRuntime) {
+    let folder = folder(&rt, process::id(rt.process()), "init");
+    let path = file_in(&rt, &folder, "a.mark");
     let file = path.as_str();
-    make_mark(&rt, file, 201, 50)?;
-    let first = fs::read(&rt, file)?;
+    is!(&rt; make_mark(&rt, file, 201, 50).is_ok(), true);
+    let first = bytes_of(&rt, file);
     is!(&rt; matches!(make_mark(&rt, file, 202, 60), Err(MarkInitFault::Exists)), true);
-    is!(&rt; fs::read(&rt, file)?.as_slice(), first.as_slice());
-    let Ok(mark) = DiskMark::open(FileDisk::open(&rt, file)?, 201, 50) else {
-        return Err(Fail::from("the mark opens"));
-    };
-    is!(&rt; mark.stored(), (0, 0));
-    fs::remove_dir_all(&rt, &folder)?;
-    Ok(())
+    is!(&rt; bytes_of(&rt, file), first);
+    is_of_no_life(&rt, file);
+    fs::remove_dir_all(&rt, &folder).expect(&rt, "an end of the folder");
 }
 
 #[test]
@@ -43,26 +64,26 @@ fn mark_init_where_no_file_can_be(rt: HostRuntime) {
     is!(&rt; matches!(made, Err(MarkInitFault::NotMade(_))), true);
 }
 
+/// The front of a mark file of version 1 for id 201 and 50 frames a second, with start 1 and floor 2.
+const OLD_FILE: [u8; 24] = [
+    0x5A, 0, 0, 0, 0, 0, 0, 0, 0, 201, 0, 50, 0, 0, 0, 1, 0, 0, 0, 0, 0, 0, 0, 2,
+];
+
 /// A file of version 1 with start 1 and floor 2, then what is refused: a new name that exists, and a file that is no mark
 /// of version 1, where no file is made.
 #[test]
-fn mark_convert_of_a_file(rt: HostRuntime) -> Result<(), Fail> {
-    let folder = folder(&rt, "convert")?;
-    let old_path = folder.join(rt.alloc(), "old.mark")?;
-    let new_path = folder.join(rt.alloc(), "new.mark")?;
+fn mark_convert_of_a_file(rt: HostRuntime) {
+    let folder = folder(&rt, process::id(rt.process()), "convert");
+    let old_path = file_in(&rt, &folder, "old.mark");
+    let new_path = file_in(&rt, &folder, "new.mark");
     let (old, new) = (old_path.as_str(), new_path.as_str());
-    let mut bytes = [0; 128];
-    bytes[0] = 0x5A;
-    bytes[9] = 201;
-    bytes[11] = 50;
-    bytes[15] = 1;
-    bytes[23] = 2;
-    fs::write(&rt, old, bytes.as_slice())?;
-    is!(&rt; convert_mark(&rt, old, new)?, (1, 2));
+    let mut bytes = Vec::from_slice(rt.alloc(), &OLD_FILE).expect(&rt, "memory");
+    bytes.resize(128, 0).expect(&rt, "memory");
+    fs::write(&rt, old, bytes.as_slice()).expect(&rt, "a file");
+    is!(&rt; matches!(convert_mark(&rt, old, new), Ok((1, 2))), true);
     is!(&rt; matches!(convert_mark(&rt, old, new), Err(MarkConvertFault::Exists)), true);
-    is!(&rt; fs::read(&rt, new)?.len(), 256);
+    is!(&rt; bytes_of(&rt, new).len(), 256);
     let refused = convert_mark(&rt, new, "/no/a.mark");
     is!(&rt; matches!(refused, Err(MarkConvertFault::Refused(MarkFault::NoMark))), true);
-    fs::remove_dir_all(&rt, &folder)?;
-    Ok(())
+    fs::remove_dir_all(&rt, &folder).expect(&rt, "an end of the folder");
 }

@@ -9,9 +9,7 @@ use pdc_node::{Core, Node};
 use pdc_output::{Nominal, Output};
 use pdc_table::{RingTable, Table};
 use std::alloc::{AllocError, Global};
-use std::fmt::Debug;
 use std::process::Abort;
-use std::test::Fail;
 use try_table::SortedTable;
 
 /// What node 201 says of itself.
@@ -63,16 +61,18 @@ fn starts<T: Table>(rt: &impl Abort, node: &mut Node<T>)
 
 /// Over the sorted table.
 #[test]
-fn over_the_sorted_table(rt: HostRuntime) -> Result<(), Fail> {
-    let mut node: Node<SortedTable> = node(rt.alloc())?;
+fn over_the_sorted_table(rt: HostRuntime) {
+    let Ok(mut node) = node::<SortedTable>(rt.alloc()) else {
+        panic!(&rt; "memory");
+    };
     starts(&rt, &mut node);
-    Ok(())
 }
 
 /// Over the ring table.
 #[test]
-fn over_the_ring_table(rt: HostRuntime) -> Result<(), Fail> {
-    let mut node: Node<RingTable> = node(rt.alloc())?;
+fn over_the_ring_table(rt: HostRuntime) {
+    let Ok(mut node) = node::<RingTable>(rt.alloc()) else {
+        panic!(&rt; "memory");
+    };
     starts(&rt, &mut node);
-    Ok(())
 }

@@ -1,83 +1,69 @@
 //! Lines and what is printed of them. The expected lines are those of this profile's formats, by hand.
 
 use super::player::Answers;
-use super::same::is;
+use super::same::{is, same};
 use pdc_event::{Fault, Premise};
 use pdc_play::{PlayFault, run_script, tell_unbegun};
-use std::alloc::Global;
-use std::fmt::Debug;
 use std::io;
 use std::io::{ErrorKind, Read, Write};
 use std::process::Abort;
-use std::test::Fail;
 
-/// Scripts and what is printed of them, with a bar for each LF, and the exit status.
-const SCRIPTS: [(&str, &str, u8); 40] = [
-    ("", "", 0),
-    ("||", "", 0),
-    ("send aA02|", "sent 3|", 0),
-    ("to A 0|to B 1|to M 2", "A none|B Taken|M B4 Late|", 0),
-    ("to A 9|to A 1|", "X2 at 1|", 1),
-    ("|to A 1||to A 9|", "A Taken|X2 at 2|", 1),
-    ("junk M 00|", "M Known|", 0),
-    ("tick A 0|", "A closed=1 change=none|", 0),
-    ("tick A 1|", "A closed=1 change=4294967295|", 0),
-    ("tick A 2|", "A closed=1 change=none used_up|", 0),
-    ("tick A 18446744073709551615|", "A closed=1 change=none|", 0),
-    ("publish A|publish B|", "A 57478860001 AA02|B none|", 0),
-    ("stop M|", "M start=2 floor=57478860001|", 0),
-    ("stopin A landed|", "X1 P1 at 1|", 1),
-    ("stopin A lost|", "X1 P2 at 1|", 1),
-    ("stoptick A landed|", "X1 P4 at 1|", 1),
-    ("stoptick A lost|", "X1 P5 at 1|", 1),
-    ("stopstart A landed|", "X3 at 1|", 3),
-    ("stopstart A lost|", "X4 at 1|", 1),
-    // CR LF ends a line as LF does; a CR before the end of the input ends none.
-    (
-        "stop A\r|\r|stop A\r|",
-        "A start=2 floor=57478860001|A start=2 floor=57478860001|",
-        0,
-    ),
-    ("stop A\r", "line 1: not an event|", 1),
-    // What stands before a line of another form is played.
-    (
-        "stop A||stop A||bad|stop A|",
-        "A start=2 floor=57478860001|A start=2 floor=57478860001|line 5: not an event|",
-        1,
-    ),
-    ("to A 9|bad|", "X2 at 1|", 1),
-    ("stop", "line 1: not an event|", 1),
-    ("stop |", "line 1: not an event|", 1),
-    (" stop A|", "line 1: not an event|", 1),
-    ("stop A |", "line 1: not an event|", 1),
-    ("stop  A|", "line 1: not an event|", 1),
-    ("stop a|", "line 1: not an event|", 1),
-    ("Stop A|", "line 1: not an event|", 1),
-    ("stop A landed|", "line 1: not an event|", 1),
-    ("stopin A|", "line 1: not an event|", 1),
-    ("stopin A done|", "line 1: not an event|", 1),
-    ("send |", "line 1: not an event|", 1),
-    ("send AA0|", "line 1: not an event|", 1),
-    ("send AA 02|", "line 1: not an event|", 1),
-    ("junk A 0g|", "line 1: not an event|", 1),
-    ("to A +1|", "line 1: not an event|", 1),
-    ("tick A 18446744073709551616|", "line 1: not an event|", 1),
-    ("# a comment|", "line 1: not an event|", 1),
-];
+/// Rows of a script, what is printed of it, both with a bar for each LF, and the exit status. CR LF ends a line as LF does; a CR before
+/// the end of the input ends none. What stands before a line of another form is played.
+const SCRIPTS: &str = ";;0
+||;;0
+send aA02|;sent 3|;0
+to A 0|to B 1|to M 2;A none|B Taken|M B4 Late|;0
+to A 9|to A 1|;X2 at 1|;1
+|to A 1||to A 9|;A Taken|X2 at 2|;1
+junk M 00|;M Known|;0
+tick A 0|;A closed=1 change=none|;0
+tick A 1|;A closed=1 change=4294967295|;0
+tick A 2|;A closed=1 change=none used_up|;0
+tick A 18446744073709551615|;A closed=1 change=none|;0
+publish A|publish B|;A 57478860001 AA02|B none|;0
+stop M|;M start=2 floor=57478860001|;0
+stopin A landed|;X1 P1 at 1|;1
+stopin A lost|;X1 P2 at 1|;1
+stoptick A landed|;X1 P4 at 1|;1
+stoptick A lost|;X1 P5 at 1|;1
+stopstart A landed|;X3 at 1|;3
+stopstart A lost|;X4 at 1|;1
+stop A\r|\r|stop A\r|;A start=2 floor=57478860001|A start=2 floor=57478860001|;0
+stop A\r;line 1: not an event|;1
+stop A||stop A||bad|stop A|;A start=2 floor=57478860001|A start=2 floor=57478860001|line 5: not an event|;1
+to A 9|bad|;X2 at 1|;1
+stop;line 1: not an event|;1
+stop |;line 1: not an event|;1
+ stop A|;line 1: not an event|;1
+stop A |;line 1: not an event|;1
+stop  A|;line 1: not an event|;1
+stop a|;line 1: not an event|;1
+Stop A|;line 1: not an event|;1
+stop A landed|;line 1: not an event|;1
+stopin A|;line 1: not an event|;1
+stopin A done|;line 1: not an event|;1
+send |;line 1: not an event|;1
+send AA0|;line 1: not an event|;1
+send AA 02|;line 1: not an event|;1
+junk A 0g|;line 1: not an event|;1
+to A +1|;line 1: not an event|;1
+tick A 18446744073709551616|;line 1: not an event|;1
+# a comment|;line 1: not an event|;1
+";
 
-fn same<T: PartialEq + Debug>(rt: &impl Abort, a: &T, b: &T, text: &str) {
-    assert_eq!(rt; a, b, "{text}");
-}
+/// How many they are.
+const ROWS: usize = 40;
 
 /// The text with an LF for each bar.
-fn lines(alloc: Global, text: &str) -> Result<Vec<u8>, Fail> {
-    let mut bytes = Vec::from_slice(alloc, text.as_bytes())?;
+fn lines(rt: &(impl Abort + AllocGlobal), text: &str) -> Vec<u8> {
+    let mut bytes = Vec::from_slice(rt.alloc(), text.as_bytes()).expect(rt, "memory");
     for byte in bytes.iter_mut() {
         if *byte == b'|' {
             *byte = b'\n';
         }
     }
-    Ok(bytes)
+    bytes
 }
 
 /// Gives its bytes one at a time, is interrupted once, and then fails.
@@ -133,89 +119,70 @@ impl Write for Full {
 }
 
 /// Plays a script, and compares what it prints and the status with which it ends.
-fn play(rt: &impl Abort, alloc: Global, text: &str, wanted: &str, status: u8) -> Result<(), Fail> {
-    let script = lines(alloc, text)?;
-    let wanted = lines(alloc, wanted)?;
-    let mut written = Vec::new(alloc);
-    let ending = run_script(alloc, &mut Answers, &mut script.as_slice(), &mut written)?;
-    same(rt, &written, &wanted, text);
-    same(rt, &ending.status(), &status, text);
-    Ok(())
+fn play(rt: &(impl Abort + AllocGlobal), text: &str, wanted: &str, status: &str) {
+    let script = lines(rt, text);
+    let mut written = Vec::new(rt.alloc());
+    let played = run_script(
+        rt.alloc(),
+        &mut Answers,
+        &mut script.as_slice(),
+        &mut written,
+    );
+    let Ok(ending) = played else {
+        panic!(rt; "no ending: {text}");
+    };
+    same(rt, &written, &lines(rt, wanted), text);
+    same(rt, &Ok(ending.status()), &status.parse::<u8>(), text);
 }
 
 #[test]
-fn scripts(rt: HostRuntime) -> Result<(), Fail> {
-    for (text, wanted, status) in SCRIPTS {
-        play(&rt, rt.alloc(), text, wanted, status)?;
+fn scripts(rt: HostRuntime) {
+    let mut rows: usize = 0;
+    for row in SCRIPTS.lines() {
+        let (text, rest) = row.split_once(';').expect(&rt, "a script");
+        let (wanted, status) = rest
+            .split_once(';')
+            .expect(&rt, "what is printed and a status");
+        play(&rt, text, wanted, status);
+        rows = rows.saturating_add(1);
     }
-    Ok(())
+    is!(&rt; rows, ROWS);
 }
 
 /// What stands before a reader that fails is played, byte by byte.
 #[test]
-fn a_reader_that_fails(rt: HostRuntime) -> Result<(), Fail> {
+fn a_reader_that_fails(rt: HostRuntime) {
     let mut reader = FailsAfter {
         bytes: b"publish B\r\nto A 2\nstop".as_slice(),
         interrupted: false,
     };
     let mut written = Vec::new(rt.alloc());
     let outcome = run_script(rt.alloc(), &mut Answers, &mut reader, &mut written);
-    same(
-        &rt,
-        &written.as_slice(),
-        &b"B none\nA B4 Late\n".as_slice(),
-        "what was whole",
-    );
-    same(
-        &rt,
-        &matches!(outcome, Err(PlayFault::Read(_))),
-        &true,
-        "a reader that fails",
-    );
-    Ok(())
+    is!(&rt; written.as_slice(), b"B none\nA B4 Late\n".as_slice());
+    is!(&rt; matches!(outcome, Err(PlayFault::Read(_))), true);
 }
 
 #[test]
-fn an_input_without_end(rt: HostRuntime) -> Result<(), Fail> {
+fn an_input_without_end(rt: HostRuntime) {
     let mut written = Vec::new(rt.alloc());
     let outcome = run_script(rt.alloc(), &mut Answers, &mut Endless, &mut written);
-    same(
-        &rt,
-        &matches!(outcome, Err(PlayFault::TooLong)),
-        &true,
-        "an input without end",
-    );
-    Ok(())
+    is!(&rt; matches!(outcome, Err(PlayFault::TooLong)), true);
 }
 
 #[test]
-fn a_writer_that_fails(rt: HostRuntime) -> Result<(), Fail> {
-    let outcome = run_script(
-        rt.alloc(),
-        &mut Answers,
-        &mut b"stop A\n".as_slice(),
-        &mut Full,
-    );
-    same(
-        &rt,
-        &matches!(outcome, Err(PlayFault::Write(_))),
-        &true,
-        "a writer that fails",
-    );
-    Ok(())
+fn a_writer_that_fails(rt: HostRuntime) {
+    let mut script = b"stop A\n".as_slice();
+    let outcome = run_script(rt.alloc(), &mut Answers, &mut script, &mut Full);
+    is!(&rt; matches!(outcome, Err(PlayFault::Write(_))), true);
 }
 
 #[test]
-fn a_world_that_does_not_begin(rt: HostRuntime) -> Result<(), Fail> {
+fn a_world_that_does_not_begin(rt: HostRuntime) {
     let mut written = Vec::new(rt.alloc());
     let fault = Fault::PremiseBroken(Premise::OneTable);
-    let ending = tell_unbegun(rt.alloc(), fault, &mut written)?;
-    same(
-        &rt,
-        &written.as_slice(),
-        &b"X1 P5 at 0\n".as_slice(),
-        "settings that do not fit",
-    );
-    same(&rt, &ending.status(), &1, "its status");
-    Ok(())
+    let Ok(ending) = tell_unbegun(rt.alloc(), fault, &mut written) else {
+        panic!(&rt; "an ending");
+    };
+    is!(&rt; written.as_slice(), b"X1 P5 at 0\n".as_slice());
+    is!(&rt; ending.status(), 1);
 }

@@ -10,7 +10,6 @@ use pdc_mark::{Mark, ModelMark};
 use pdc_output::{Nominal, Output};
 use pdc_publisher::{PublishFault, Publisher, spare_frame};
 use pdc_row::DueRow;
-use std::test::Fail;
 
 /// Node 201: 50 Hz, 50 frames a second and TIME_BASE 1000000.
 const NODE_201: Output = Output {
@@ -47,50 +46,47 @@ fn row(instant: u64) -> DueRow
 
 /// With ten instants reserved ahead, the first row stores and the next does not.
 #[test]
-fn reserved_ahead(rt: HostRuntime) -> Result<(), Fail> {
+fn reserved_ahead(rt: HostRuntime) {
     let mut out = Vec::new(rt.alloc());
     let mut publisher = Publisher::new(ModelMark::new(1, 0), NODE_201, 10);
     let Ok(first) = publisher.publish(row(FIRST), &mut out) else {
-        return Err(Fail::from("the first row is published"));
+        panic!(&rt; "the first row is published");
     };
     let Ok(second) = publisher.publish(row(FIRST + 1), &mut out) else {
-        return Err(Fail::from("the second row is published"));
+        panic!(&rt; "the second row is published");
     };
     is!(&rt; first.bytes.as_slice(), BOTH.as_slice());
     is!(&rt; out.len(), 100);
     is!(&rt; (second.instant, publisher.last()), (FIRST + 1, FIRST + 1));
     is!(&rt; publisher.into_mark().stored(), (1, FIRST + 10));
-    Ok(())
 }
 
 /// Rows that are lent are published into one frame, which is written over.
 #[test]
-fn published_in_place(rt: HostRuntime) -> Result<(), Fail> {
+fn published_in_place(rt: HostRuntime) {
     let mut publisher = Publisher::new(ModelMark::new(1, 0), NODE_201, 10);
     let mut frame = spare_frame(&NODE_201);
     if publisher.publish_into(&row(FIRST), &mut frame).is_err() {
-        return Err(Fail::from("the first row is published"));
+        panic!(&rt; "the first row is published");
     }
     is!(&rt; frame.bytes.as_slice(), BOTH.as_slice());
     if publisher.publish_into(&row(FIRST + 1), &mut frame).is_err() {
-        return Err(Fail::from("the second row is published"));
+        panic!(&rt; "the second row is published");
     }
     is!(&rt; (frame.instant, frame.bytes.len()), (FIRST + 1, 50));
     is!(&rt; publisher.last(), FIRST + 1);
     is!(&rt; publisher.into_mark().stored(), (1, FIRST + 10));
-    Ok(())
 }
 
 /// Where there is no room, the row comes back, and nothing is stored.
 #[test]
-fn no_room(rt: HostRuntime) -> Result<(), Fail> {
+fn no_room(rt: HostRuntime) {
     let mut publisher = Publisher::new(ModelMark::new(1, 0), NODE_201, 0);
     let refused = publisher.publish(row(FIRST), &mut ArrayVec::<u8, 49>::new());
     let Err(PublishFault::NoMemory(again)) = refused else {
-        return Err(Fail::from("49 bytes are no room"));
+        panic!(&rt; "49 bytes are no room");
     };
     is!(&rt; again.instant, FIRST);
     is!(&rt; publisher.last(), 0);
     is!(&rt; publisher.into_mark().stored(), (1, 0));
-    Ok(())
 }
