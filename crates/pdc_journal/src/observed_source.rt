@@ -130,6 +130,8 @@ fn take<R: Wait + Clock>(
 }
 
 impl<'a, S: Source + Drop, R: Wait + Clock> Source for ObservedSource<'a, S, R> {
+    ghost told = { λ s heard. S.told s.inner heard };
+
     ghost failures_of = { λ s. S.failures_of s.inner };
 
     ghost row_left = { λ s. S.row_left s.inner };

@@ -54,6 +54,8 @@ pub struct Watched<'a, S: Source + Drop> {
 }
 
 impl<'a, S: Source + Drop> Source for Watched<'a, S> {
+    ghost told = { λ s heard. S.told s.inner heard };
+
     ghost failures_of = { λ s. S.failures_of s.inner };
 
     ghost row_left = { λ s. S.row_left s.inner };
