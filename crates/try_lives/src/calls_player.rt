@@ -17,11 +17,17 @@ use pdc_block::{Block, Stat, absent, is_absent};
 use pdc_cfg::{MAX_ANALOGS, MAX_DIGITALS, MAX_PHASORS, Shape};
 use pdc_tag::{COUNT_LIMIT, MAX_RATE, SECONDS, instant, slot, tag_of};
 use std::alloc::{AllocError, Global};
-use std::str::FromStr;
-use try_script::Player;
+use try_script::{Player, numbers};
+
+/// The shape of one phasor.
+const ONE_PHASOR: Shape = Shape {
+    phasors: 1,
+    analogs: 0,
+    digitals: 0,
+};
 
 /// Who makes single calls.
-#[derive(Clone, Copy, Debug)]
+#[derive(Clone, Copy)]
 pub struct CallsPlayer;
 
 /// The number, or `none`; no answer where the call cannot be asked.
@@ -34,47 +40,44 @@ fn found(alloc: Global, answer: Option<Option<u64>>) -> Result<Option<String>, A
 }
 
 /// The slot, where it can be asked.
-fn slot_of(frac: &str, time_base: &str, rate: &str) -> Option<Option<u64>> {
-    let (frac, time_base): (u32, u32) = (frac.parse().ok()?, time_base.parse().ok()?);
-    let rate: u32 = rate.parse().ok()?;
-    if frac >= COUNT_LIMIT || time_base >= COUNT_LIMIT || rate < 1 || rate > MAX_RATE {
+fn slot_of(words: &[&str]) -> Option<Option<u64>> {
+    let [frac, time_base, rate] = numbers::<3>(words)?;
+    let limit = u64::from(COUNT_LIMIT);
+    if frac >= limit || time_base >= limit || rate < 1 || rate > u64::from(MAX_RATE) {
         return None;
     }
-    Some(slot(frac, time_base, rate).map(u64::from))
+    Some(slot(frac as u32, time_base as u32, rate as u32).map(u64::from))
 }
 
 /// The instant, where it can be asked.
-fn instant_of(soc: &str, frac: &str, time_base: &str, rate: &str) -> Option<Option<u64>> {
-    let (frac, time_base): (u32, u32) = (frac.parse().ok()?, time_base.parse().ok()?);
-    let (soc, rate): (u32, u32) = (soc.parse().ok()?, rate.parse().ok()?);
-    if frac >= COUNT_LIMIT || time_base >= COUNT_LIMIT || rate < 1 || rate > MAX_RATE {
+fn instant_of(words: &[&str]) -> Option<Option<u64>> {
+    let [soc, frac, time_base, rate] = numbers::<4>(words)?;
+    let soc = u32::try_from(soc).ok()?;
+    let limit = u64::from(COUNT_LIMIT);
+    if frac >= limit || time_base >= limit || rate < 1 || rate > u64::from(MAX_RATE) {
         return None;
     }
-    Some(instant(soc, frac, time_base, rate))
+    Some(instant(soc, frac as u32, time_base as u32, rate as u32))
 }
 
 /// The tag, where it can be asked.
-fn tag_text(
-    alloc: Global,
-    at: &str,
-    time_base: &str,
-    rate: &str,
-) -> Result<Option<String>, AllocError> {
-    let (Ok(at), Ok(time_base), Ok(rate)) = (
-        u64::from_str(at),
-        u32::from_str(time_base),
-        u32::from_str(rate),
-    ) else {
-        return Ok(None);
-    };
-    if rate < 1 || rate > MAX_RATE || time_base < rate || time_base >= COUNT_LIMIT {
-        return Ok(None);
+fn tag(words: &[&str]) -> Option<(u32, u32)> {
+    let [at, time_base, rate] = numbers::<3>(words)?;
+    if rate < 1 || rate > u64::from(MAX_RATE) || at >= SECONDS * rate {
+        return None;
     }
-    if at >= SECONDS * u64::from(rate) {
-        return Ok(None);
+    if time_base < rate || time_base >= u64::from(COUNT_LIMIT) {
+        return None;
     }
-    let (soc, frac) = tag_of(at, time_base, rate);
-    Ok(Some(format!(in alloc; "{soc} {frac}")?))
+    Some(tag_of(at, time_base as u32, rate as u32))
+}
+
+/// The tag's text, where it can be asked.
+fn tag_text(alloc: Global, words: &[&str]) -> Result<Option<String>, AllocError> {
+    match tag(words) {
+        Some((soc, frac)) => Ok(Some(format!(in alloc; "{soc} {frac}")?)),
+        None => Ok(None),
+    }
 }
 
 /// What STAT says.
@@ -92,66 +95,70 @@ fn stat_text(alloc: Global, word: &str) -> Result<Option<String>, AllocError> {
 }
 
 /// The shape, where it is within the limits.
-fn shape_of(phasors: &str, analogs: &str, digitals: &str) -> Option<Shape> {
-    let (phasors, analogs): (u8, u8) = (phasors.parse().ok()?, analogs.parse().ok()?);
-    let digitals: u8 = digitals.parse().ok()?;
-    if phasors > MAX_PHASORS || analogs > MAX_ANALOGS || digitals > MAX_DIGITALS {
+fn shape_of(words: &[&str]) -> Option<Shape> {
+    let [phasors, analogs, digitals] = numbers::<3>(words)?;
+    if phasors > u64::from(MAX_PHASORS)
+        || analogs > u64::from(MAX_ANALOGS)
+        || digitals > u64::from(MAX_DIGITALS)
+    {
         return None;
     }
     Some(Shape {
-        phasors,
-        analogs,
-        digitals,
+        phasors: phasors as u8,
+        analogs: analogs as u8,
+        digitals: digitals as u8,
     })
 }
 
 /// The words in hexadecimal, with a space between them.
 fn words_text(alloc: Global, words: &[u16]) -> Result<String, AllocError> {
-    let mut text = String::new(alloc);
+    let mut texts = Vec::new(alloc);
     for word in words {
-        text.push_str(" ")?;
-        text.push_str(&format!(in alloc; "{word:04X}")?)?;
+        texts.push(format!(in alloc; "{word:04X}")?)?;
     }
-    text.trim_start().to_string(alloc)
+    texts.as_slice().join(alloc, " ")
 }
 
-/// The block of one phasor with these words.
-fn one_phasor(words: &[&str]) -> Option<Block> {
-    let [stat, real, imaginary, freq, dfreq] = words else {
+/// The words of the absent block of the shape.
+fn absent_text(alloc: Global, words: &[&str]) -> Result<Option<String>, AllocError> {
+    match shape_of(words) {
+        Some(shape) => Ok(Some(words_text(alloc, absent(shape).words())?)),
+        None => Ok(None),
+    }
+}
+
+/// The five words in hexadecimal.
+fn five_words(words: &[&str]) -> Option<[u16; 5]> {
+    if words.len() != 5 {
         return None;
-    };
-    let shape = Shape {
-        phasors: 1,
-        analogs: 0,
-        digitals: 0,
-    };
-    let numbers = [
-        u16::from_str_radix(stat, 16).ok()?,
-        u16::from_str_radix(real, 16).ok()?,
-        u16::from_str_radix(imaginary, 16).ok()?,
-        u16::from_str_radix(freq, 16).ok()?,
-        u16::from_str_radix(dfreq, 16).ok()?,
-    ];
-    Some(Block::from_words(shape, &numbers))
+    }
+    let mut numbers = [0; 5];
+    for (place, word) in words.iter().enumerate() {
+        *numbers.get_mut(place)? = u16::from_str_radix(word, 16).ok()?;
+    }
+    Some(numbers)
+}
+
+/// Whether the block of one phasor with these words is absent.
+fn is_absent_text(alloc: Global, words: &[&str]) -> Result<Option<String>, AllocError> {
+    match five_words(words) {
+        Some(words) => {
+            let block = Block::from_words(ONE_PHASOR, &words);
+            Ok(Some(is_absent(&block).to_string(alloc)?))
+        }
+        None => Ok(None),
+    }
 }
 
 /// The answer, where the call can be asked.
-fn answer(alloc: Global, words: &[&str]) -> Result<Option<String>, AllocError> {
-    match words {
-        ["slot", frac, time_base, rate] => found(alloc, slot_of(frac, time_base, rate)),
-        ["instant", soc, frac, time_base, rate] => {
-            found(alloc, instant_of(soc, frac, time_base, rate))
-        }
-        ["tag", at, time_base, rate] => tag_text(alloc, at, time_base, rate),
-        ["stat", word] => stat_text(alloc, word),
-        ["absent", phasors, analogs, digitals] => match shape_of(phasors, analogs, digitals) {
-            Some(shape) => Ok(Some(words_text(alloc, absent(shape).words())?)),
-            None => Ok(None),
-        },
-        ["is_absent", words @ ..] => match one_phasor(words) {
-            Some(block) => Ok(Some(is_absent(&block).to_string(alloc)?)),
-            None => Ok(None),
-        },
+fn answer(alloc: Global, name: &str, words: &[&str]) -> Result<Option<String>, AllocError> {
+    match name {
+        "slot" => found(alloc, slot_of(words)),
+        "instant" => found(alloc, instant_of(words)),
+        "tag" => tag_text(alloc, words),
+        "stat" => stat_text(alloc, words.first().unwrap_or(&"")),
+        "absent" => absent_text(alloc, words),
+        "is_absent" => is_absent_text(alloc, words),
         _ => Ok(None),
     }
 }
@@ -159,7 +166,11 @@ fn answer(alloc: Global, words: &[&str]) -> Result<Option<String>, AllocError> {
 impl Player for CallsPlayer {
     fn play(&mut self, alloc: Global, call: &str) -> Result<String, AllocError> {
         let words: Vec<&str> = call.split_whitespace().collect(alloc)?;
-        match answer(alloc, &words)? {
+        let answered = match words.as_slice() {
+            [name, words @ ..] => answer(alloc, name, words)?,
+            [] => None,
+        };
+        match answered {
             Some(text) => Ok(text),
             None => "no such call".to_string(alloc),
         }

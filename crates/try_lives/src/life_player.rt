@@ -21,7 +21,10 @@ use pdc_plain::{Life, Opening, live_merger, live_node};
 use pdc_plain_steps::{Answered, LifeStep, are_for_streams};
 use pdc_row::DueRow;
 use std::alloc::{AllocError, Global};
-use try_script::{Frames, Player, counts_of, merger, node, opening_counts, wait_kind};
+use try_script::{
+    Frames, LifeCall, Player, counts_text, frame_text, life_call, node, row_text, told_merger,
+    told_node,
+};
 
 /// The first life, with these counts.
 fn first_opening(counts: [u16; MAX_PMUS]) -> Opening {
@@ -93,58 +96,39 @@ impl<'a> LifePlayer<'a> {
         }
     }
 
-    /// Begins another life, of a node with so many PMUs or of the merger, where the sizes are in range.
+    /// Begins another life, of this concentrator.
     fn begin(
         &mut self,
         alloc: Global,
-        pmus: Option<&str>,
-        sizes: [&str; 2],
-        more: &[&str],
-    ) -> Option<bool> {
-        let [window, wait] = sizes;
-        let (window, wait): (u64, u64) = (window.parse().ok()?, wait.parse().ok()?);
-        if window < 8 || window > 256 || wait < 1 || wait > 1000 {
-            return None;
-        }
-        let (wait_kind, more) = wait_kind(more);
-        self.opening = first_opening(opening_counts(more)?);
-        self.concentrator = match pmus {
-            Some(pmus) => Concentrator::Node(node(window, wait, wait_kind, pmus == "3")),
-            None => Concentrator::Merger(merger(window, wait, wait_kind)),
-        };
+        concentrator: Concentrator,
+        counts: [u16; MAX_PMUS],
+    ) -> Result<String, AllocError> {
+        self.opening = first_opening(counts);
+        self.concentrator = concentrator;
         self.steps = Vec::new(alloc);
-        Some(true)
+        "ok".to_string(alloc)
     }
 
-    /// Begins another life, and tells whether it can.
-    fn begin_text(
-        &mut self,
-        alloc: Global,
-        pmus: Option<&str>,
-        sizes: [&str; 2],
-        more: &[&str],
-    ) -> Result<String, AllocError> {
-        match self.begin(alloc, pmus, sizes, more) {
-            Some(_) => "ok".to_string(alloc),
+    /// Begins another life of a node, where it can be told so.
+    fn begin_node(&mut self, alloc: Global, words: &[&str]) -> Result<String, AllocError> {
+        match told_node(words) {
+            Some(told) => {
+                let counts = told.counts;
+                self.begin(alloc, Concentrator::Node(told.settings), counts)
+            }
             None => "no such life".to_string(alloc),
         }
     }
 
-    /// The bytes of the frame of this name, or the first of them.
-    fn bytes(&self, name: &str, len: Option<&str>) -> Option<&'a [u8]> {
-        let bytes = self.frames.named(name)?;
-        match len {
-            Some(len) => bytes.get(..len.parse().ok()?),
-            None => Some(bytes),
+    /// Begins another life of the merger, where it can be told so.
+    fn begin_merger(&mut self, alloc: Global, words: &[&str]) -> Result<String, AllocError> {
+        match told_merger(words) {
+            Some(told) => {
+                let counts = told.counts;
+                self.begin(alloc, Concentrator::Merger(told.settings), counts)
+            }
+            None => "no such life".to_string(alloc),
         }
-    }
-
-    /// The arrival of a frame for a stream.
-    fn arrival(&self, stream: &str, name: &str, len: Option<&str>) -> Option<LifeStep<'a>> {
-        Some(LifeStep::Arrive {
-            stream: stream.parse().ok()?,
-            bytes: self.bytes(name, len)?,
-        })
     }
 
     /// The life of the steps so far.
@@ -160,39 +144,15 @@ impl<'a> LifePlayer<'a> {
         }
     }
 
-    /// A tick that hands in these counts, or those that wait.
-    fn tick(
-        &self,
-        alloc: Global,
-        now: &str,
-        counts: &[&str],
-    ) -> Result<Option<LifeStep<'a>>, AllocError> {
-        let Ok(now) = now.parse() else {
-            return Ok(None);
-        };
-        if counts.is_empty() {
-            let counts = self.waiting(alloc)?;
-            return Ok(Some(LifeStep::Tick { now, counts }));
-        }
-        Ok(counts_of(counts).map(|counts| LifeStep::Tick { now, counts }))
-    }
-
     /// The counts that wait, one for each column.
     fn waiting_text(&self, alloc: Global) -> Result<String, AllocError> {
         let counts = self.waiting(alloc)?;
-        let mut text = String::new(alloc);
-        for count in counts.get(..self.concentrator.columns()).unwrap_or(&[]) {
-            text.push_str(" ")?;
-            text.push_str(&count.to_string(alloc)?)?;
-        }
-        text.trim_start().to_string(alloc)
+        let columns = self.concentrator.columns();
+        counts_text(alloc, counts.get(..columns).unwrap_or(&[]))
     }
 
     /// What this step is answered after those before it.
-    fn step(&mut self, alloc: Global, step: Option<LifeStep<'a>>) -> Result<String, AllocError> {
-        let Some(step) = step else {
-            return "no such call".to_string(alloc);
-        };
+    fn step(&mut self, alloc: Global, step: LifeStep<'a>) -> Result<String, AllocError> {
         self.steps.push(step)?;
         let Some(life) = self.live(alloc)? else {
             self.steps.pop();
@@ -204,16 +164,29 @@ impl<'a> LifePlayer<'a> {
         }
     }
 
+    /// What a tick is answered.
+    fn tick(
+        &mut self,
+        alloc: Global,
+        now: u64,
+        counts: Option<[u16; MAX_PMUS]>,
+    ) -> Result<String, AllocError> {
+        let counts = match counts {
+            Some(counts) => counts,
+            None => self.waiting(alloc)?,
+        };
+        self.step(alloc, LifeStep::Tick { now, counts })
+    }
+
     /// The rows that closed, the first of them first.
     fn rows_text(&self, alloc: Global) -> Result<String, AllocError> {
-        let mut text = String::new(alloc);
+        let mut texts = Vec::new(alloc);
         if let Some(life) = self.live(alloc)? {
             for row in &life.rows(alloc)? {
-                text.push_str(" ")?;
-                text.push_str(&row_text(alloc, row)?)?;
+                texts.push(row_text(alloc, row)?)?;
             }
         }
-        text.trim_start().to_string(alloc)
+        texts.as_slice().join(alloc, " ")
     }
 
     /// The frames that are published, one after the other.
@@ -227,38 +200,41 @@ impl<'a> LifePlayer<'a> {
         hex::encode_upper(alloc, bytes.as_slice())
     }
 
-    /// The length of the layout's frame, its fields before the payload and its check word.
+    /// What is told of the layout's frame.
     fn layout_text(&self, alloc: Global, soc: u32) -> Result<String, AllocError> {
         let mut frame = Vec::new(alloc);
         if let Some(life) = self.live(alloc)? {
             life.layout(soc, &mut frame)?;
         }
-        if frame.len() < 16 {
-            return "no frame".to_string(alloc);
-        }
-        let head = hex::encode_upper(alloc, &frame[..14])?;
-        let check = hex::encode_upper(alloc, &frame[frame.len() - 2..])?;
-        format!(in alloc; "{} {head} {check}", frame.len())
+        frame_text(alloc, &frame)
     }
-}
 
-/// Its instant, quality and stamp.
-fn row_text(alloc: Global, row: &DueRow) -> Result<String, AllocError> {
-    let (instant, quality) = (row.instant, row.quality);
-    format!(in alloc; "{instant}/{quality} ({}, {})", row.start, row.change)
+    /// What a call on the life is answered.
+    fn answer(&mut self, alloc: Global, call: LifeCall<'a>) -> Result<String, AllocError> {
+        match call {
+            LifeCall::Arrive { stream, bytes } => {
+                self.step(alloc, LifeStep::Arrive { stream, bytes })
+            }
+            LifeCall::Tick { now, counts } => self.tick(alloc, now, counts),
+            LifeCall::Waiting => self.waiting_text(alloc),
+            LifeCall::Pop => self.step(alloc, LifeStep::Pop),
+            LifeCall::Published => self.published_text(alloc),
+            LifeCall::Layout { soc } => self.layout_text(alloc, soc),
+        }
+    }
 }
 
 /// How many rows closed, and the columns that were adopted.
 fn tick_text(alloc: Global, closed: usize, adopted: &[usize]) -> Result<String, AllocError> {
-    let mut text = closed.to_string(alloc)?;
+    let mut texts = Vec::new(alloc);
+    texts.push(closed.to_string(alloc)?)?;
     if !adopted.is_empty() {
-        text.push_str(" adopts")?;
+        texts.push("adopts".to_string(alloc)?)?;
     }
     for column in adopted {
-        text.push_str(" ")?;
-        text.push_str(&column.to_string(alloc)?)?;
+        texts.push(column.to_string(alloc)?)?;
     }
-    Ok(text)
+    texts.as_slice().join(alloc, " ")
 }
 
 /// What a step was answered.
@@ -274,33 +250,13 @@ fn answer_text(alloc: Global, answered: &Answered) -> Result<String, AllocError>
 impl Player for LifePlayer<'_> {
     fn play(&mut self, alloc: Global, call: &str) -> Result<String, AllocError> {
         let words: Vec<&str> = call.split_whitespace().collect(alloc)?;
+        if let Some(call) = life_call(self.frames, &words) {
+            return self.answer(alloc, call);
+        }
         match words.as_slice() {
-            ["node", window, wait, pmus, more @ ..] => {
-                self.begin_text(alloc, Some(pmus), [window, wait], more)
-            }
-            ["merger", window, wait, more @ ..] => {
-                self.begin_text(alloc, None, [window, wait], more)
-            }
-            ["arrive", stream, frame] => {
-                let step = self.arrival(stream, frame, None);
-                self.step(alloc, step)
-            }
-            ["arrive", stream, frame, len] => {
-                let step = self.arrival(stream, frame, Some(len));
-                self.step(alloc, step)
-            }
-            ["tick", now, counts @ ..] => {
-                let step = self.tick(alloc, now, counts)?;
-                self.step(alloc, step)
-            }
-            ["waiting"] => self.waiting_text(alloc),
-            ["pop"] => self.step(alloc, Some(LifeStep::Pop)),
+            ["node", words @ ..] => self.begin_node(alloc, words),
+            ["merger", words @ ..] => self.begin_merger(alloc, words),
             ["rows"] => self.rows_text(alloc),
-            ["published"] => self.published_text(alloc),
-            ["layout", soc] => match soc.parse() {
-                Ok(soc) => self.layout_text(alloc, soc),
-                Err(_) => "no such call".to_string(alloc),
-            },
             _ => "no such call".to_string(alloc),
         }
     }

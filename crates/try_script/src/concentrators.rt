@@ -1,8 +1,9 @@
 //! The settings of the concentrators that scripts of lives are of.
 ghost use Rattle.std.specs.Prelude.{◌≡◌, ◌+◌, ◌≤◌, if◌then◌else◌, length};
 
+use crate::words::{counts_of, numbers};
 use arrayvec::ArrayVec;
-use pdc_life::{MergedNode, MergerSettings, Pmu, Settings, WaitKind};
+use pdc_life::{MAX_PMUS, MergedNode, MergerSettings, Pmu, Settings, WaitKind};
 use pdc_output::{Nominal, Output};
 
 /// How far above now an instant may lie.
@@ -89,4 +90,78 @@ pub fn merger(window: u64, wait: u64, wait_kind: WaitKind) -> MergerSettings
         second: NODE_202,
         sources,
     }
+}
+
+/// What a life begins with: the settings of its concentrator, and its opening counts.
+#[derive(Drop)]
+pub struct Told<S: Drop> {
+    /// The settings.
+    pub settings: S,
+    /// For each column the count below which no section is held.
+    pub counts: [u16; MAX_PMUS],
+}
+
+/// How long a concentrator waits.
+#[derive(Clone, Copy)]
+struct Sizes {
+    window: u64,
+    wait: u64,
+    ghost window_low: { 8 ≤ window },
+    ghost window_high: { window ≤ 256 },
+    ghost wait_low: { 1 ≤ wait },
+    ghost wait_high: { wait ≤ 1000 },
+}
+
+/// The kind of wait that the words say, and the words behind it.
+fn wait_kind<'w, 's>(words: &'w [&'s str]) -> (WaitKind, &'w [&'s str]) {
+    match words {
+        ["absolute", more @ ..] => (WaitKind::Absolute, more),
+        _ => (WaitKind::Relative, words),
+    }
+}
+
+/// The opening counts that the words say.
+fn opening_counts(words: &[&str]) -> Option<[u16; MAX_PMUS]> {
+    match words {
+        [] => counts_of(&[]),
+        ["counts", counts @ ..] => counts_of(counts),
+        _ => None,
+    }
+}
+
+/// What the words `WINDOW WAIT` say, where it is in range.
+fn read_sizes(words: &[&str]) -> Option<Sizes> {
+    let [window, wait] = numbers::<2>(words)?;
+    if window < 8 || window > 256 || wait < 1 || wait > 1000 {
+        return None;
+    }
+    Some(Sizes { window, wait })
+}
+
+/// What the words `WINDOW WAIT PMUS [absolute] [counts COUNT ..]` tell node 201.
+pub fn told_node(words: &[&str]) -> Option<Told<Settings>> {
+    let [window, wait, pmus, more @ ..] = words else {
+        return None;
+    };
+    let sizes = read_sizes(&[*window, *wait])?;
+    let (wait_kind, more) = wait_kind(more);
+    let counts = opening_counts(more)?;
+    Some(Told {
+        settings: node(sizes.window, sizes.wait, wait_kind, *pmus == "3"),
+        counts,
+    })
+}
+
+/// What the words `WINDOW WAIT [absolute] [counts COUNT ..]` tell merger 301.
+pub fn told_merger(words: &[&str]) -> Option<Told<MergerSettings>> {
+    let [window, wait, more @ ..] = words else {
+        return None;
+    };
+    let sizes = read_sizes(&[*window, *wait])?;
+    let (wait_kind, more) = wait_kind(more);
+    let counts = opening_counts(more)?;
+    Some(Told {
+        settings: merger(sizes.window, sizes.wait, wait_kind),
+        counts,
+    })
 }

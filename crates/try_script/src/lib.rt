@@ -1,7 +1,8 @@
 //! Scripts of calls with their answers, for the programs that try the libraries: who plays a script, the frames that it calls by name,
-//! and of scripts of lives the settings of their concentrators, their counts and the texts of what is answered.
+//! and of scripts of lives the settings of their concentrators, their calls and the texts of what is answered.
 #![tactic(auto)]
 
+mod calls;
 mod concentrators;
 mod frames;
 mod script;
@@ -9,9 +10,10 @@ mod stage;
 mod texts;
 mod words;
 
-pub use concentrators::{merger, node};
+pub use calls::{LifeCall, life_call};
+pub use concentrators::{Told, merger, node, told_merger, told_node};
 pub use frames::Frames;
 pub use script::{Played, Player, play_script};
 pub use stage::{Stage, play_all};
-pub use texts::{bytes_of, row_text, tick_text};
-pub use words::{counts_of, opening_counts, wait_kind};
+pub use texts::{counts_text, frame_text, row_text, tick_text};
+pub use words::{counts_of, numbers};

@@ -1,6 +1,5 @@
-//! What scripts are answered, and the frames that they name.
+//! What scripts are answered.
 
-use crate::frames::Frames;
 use pdc_row::DueRow;
 use std::alloc::{AllocError, Global};
 
@@ -18,11 +17,24 @@ pub fn row_text(alloc: Global, row: &DueRow) -> Result<String, AllocError> {
     format!(in alloc; "{instant}/{quality} ({}, {})", row.start, row.change)
 }
 
-/// The bytes of the frame of this name, or the first of them.
-pub fn bytes_of<'a>(frames: &'a Frames, name: &str, len: Option<&str>) -> Option<&'a [u8]> {
-    let bytes = frames.named(name)?;
-    match len {
-        Some(len) => bytes.get(..len.parse().ok()?),
-        None => Some(bytes),
+/// The counts, with a space between two.
+pub fn counts_text(alloc: Global, counts: &[u16]) -> Result<String, AllocError> {
+    let mut texts = Vec::new(alloc);
+    for count in counts {
+        texts.push(count.to_string(alloc)?)?;
     }
+    texts.as_slice().join(alloc, " ")
+}
+
+/// The length of the frame, its fields before the payload and its check word.
+pub fn frame_text(alloc: Global, frame: &[u8]) -> Result<String, AllocError> {
+    if frame.len() < 16 {
+        return "no frame".to_string(alloc);
+    }
+    let words = [
+        frame.len().to_string(alloc)?,
+        hex::encode_upper(alloc, &frame[..14])?,
+        hex::encode_upper(alloc, &frame[frame.len() - 2..])?,
+    ];
+    words.as_slice().join(alloc, " ")
 }

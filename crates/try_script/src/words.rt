@@ -1,6 +1,18 @@
-//! Kinds of wait and counts, as scripts write them.
+//! Numbers and counts, as scripts write them.
 
-use pdc_life::{MAX_PMUS, WaitKind};
+use pdc_life::MAX_PMUS;
+
+/// The numbers that the words say, where they are so many.
+pub fn numbers<const N: usize>(words: &[&str]) -> Option<[u64; N]> {
+    if words.len() != N {
+        return None;
+    }
+    let mut numbers = [0; N];
+    for (place, word) in words.iter().enumerate() {
+        *numbers.get_mut(place)? = word.parse().ok()?;
+    }
+    Some(numbers)
+}
 
 /// The counts that the words say, and 0 for the columns that are left.
 pub fn counts_of(words: &[&str]) -> Option<[u16; MAX_PMUS]> {
@@ -9,21 +21,4 @@ pub fn counts_of(words: &[&str]) -> Option<[u16; MAX_PMUS]> {
         *counts.get_mut(place)? = word.parse().ok()?;
     }
     Some(counts)
-}
-
-/// The kind of wait that the words say, and the words behind it.
-pub fn wait_kind<'w, 's>(words: &'w [&'s str]) -> (WaitKind, &'w [&'s str]) {
-    match words {
-        ["absolute", more @ ..] => (WaitKind::Absolute, more),
-        _ => (WaitKind::Relative, words),
-    }
-}
-
-/// The opening counts that the words say.
-pub fn opening_counts(words: &[&str]) -> Option<[u16; MAX_PMUS]> {
-    match words {
-        [] => counts_of(&[]),
-        ["counts", counts @ ..] => counts_of(counts),
-        _ => None,
-    }
 }

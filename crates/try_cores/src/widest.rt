@@ -1,9 +1,10 @@
 //! The widest node: sixteen PMUs with the most channels, and their frames.
 
 use pdc_frame::{Frame, Kind, write_frame};
-use pdc_life::Settings;
+use pdc_life::{MAX_PMUS, Settings};
 use pdc_settings::NodeSettings;
 use std::alloc::{AllocError, Global};
+use try_script::Told;
 
 /// How many PMUs it has: their ids are 1 to 16.
 pub const PMUS: u16 = 16;
@@ -33,15 +34,18 @@ const MOST_CHANNELS: [u8; 8] = [0x00, 0x00, 0x00, 0x20, 0x00, 0x20, 0x00, 0x08];
 /// What follows the names and factors of the channels: FNOM, CFGCNT and DATA_RATE.
 const CONFIG_END: [u8; 6] = [0x00, 0x01, 0x00, 0x01, 0x00, 0x32];
 
-/// Its settings.
-pub fn settings(alloc: Global) -> Result<Option<Settings>, AllocError> {
+/// What it is told.
+pub fn told(alloc: Global) -> Result<Option<Told<Settings>>, AllocError> {
     let mut text = NODE_201.to_string(alloc)?;
     for id in 1..=PMUS {
         let pmu = format!(in alloc; "[[pmu]]\nstream = {id}\ntime_base = 1000000\nport = {id}\n")?;
         text.push_str(&pmu)?;
     }
     match NodeSettings::from_toml(alloc, &text) {
-        Ok(settings) => Ok(Some(settings.life)),
+        Ok(settings) => Ok(Some(Told {
+            settings: settings.life,
+            counts: [0; MAX_PMUS],
+        })),
         Err(_) => Ok(None),
     }
 }
