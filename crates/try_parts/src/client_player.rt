@@ -13,7 +13,7 @@
 //! Bytes are in hexadecimal. What is none of these, or what cannot be asked, is answered `no such call`.
 
 use crate::line::Line;
-use crate::told::{NO_CALL, hex_of};
+use crate::told::{NO_CALL, done, hex_of};
 use pdc_client::{ClientFault, Pdc};
 use pdc_frame::MAX_ID;
 use std::alloc::{AllocError, Global};
@@ -34,12 +34,12 @@ fn told(alloc: Global, answer: Result<Vec<u8>, ClientFault>) -> Result<String, A
     }
 }
 
-/// `ok`, or why not.
-fn done(alloc: Global, answer: Result<(), ClientFault>) -> Result<String, AllocError> {
-    match answer {
-        Ok(()) => "ok".to_string(alloc),
-        Err(fault) => format!(in alloc; "{fault}"),
+/// Adds these bytes so many times.
+fn push_times(input: &mut Vec<u8>, bytes: &[u8], times: u32) -> Result<(), AllocError> {
+    for _ in 0..times {
+        input.extend_from_slice(bytes)?;
     }
+    Ok(())
 }
 
 /// Asks the client.
@@ -72,9 +72,7 @@ impl ClientPlayer {
         let (Ok(times), Ok(bytes)) = (times.parse::<u32>(), hex::decode(alloc, digits)) else {
             return Ok(NO_CALL);
         };
-        for _ in 0..times {
-            self.line.input.extend_from_slice(&bytes)?;
-        }
+        push_times(&mut self.line.input, &bytes, times)?;
         Ok("ok")
     }
 

@@ -26,7 +26,7 @@ use try_script::Player;
 const MAX_WORDS: usize = 107;
 
 /// A PMU that a script plays on.
-#[derive(Debug, Drop)]
+#[derive(Drop)]
 pub struct PmuPlayer {
     pmu: Pmu,
     rate: u16,
@@ -44,8 +44,12 @@ impl PmuPlayer {
 
     /// Begins another PMU.
     fn begin(&mut self, id: &str, rate: &str, time_base: &str) -> Option<()> {
-        let (id, rate): (u16, u16) = (id.parse().ok()?, rate.parse().ok()?);
-        let time_base: u32 = time_base.parse().ok()?;
+        let (Ok(id), Ok(rate)) = (id.parse::<u16>(), rate.parse::<u16>()) else {
+            return None;
+        };
+        let Ok(time_base) = time_base.parse::<u32>() else {
+            return None;
+        };
         if id == 0 || id > MAX_ID || rate == 0 || u32::from(rate) > MAX_RATE {
             return None;
         }
@@ -90,8 +94,12 @@ impl PmuPlayer {
         frame: &[u8],
         out: &mut Vec<u8>,
     ) -> Option<Result<(), PmuFault>> {
-        let frame = read_frame(frame).ok()?;
-        let config = read_config(&frame).ok()?;
+        let Ok(frame) = read_frame(frame) else {
+            return None;
+        };
+        let Ok(config) = read_config(&frame) else {
+            return None;
+        };
         let section = config.sections.first()?;
         Some(self.pmu.set_configuration(soc, section, out))
     }

@@ -11,11 +11,20 @@
 //!
 //! A frame is one of the names. What is none of these is answered `no such call`.
 
+use crate::told::{NO_CALL, done};
 use pdc_frame::MAX_SIZE;
 use pdc_life::WaitKind;
 use pdc_sent::Sent;
 use std::alloc::{AllocError, Global};
 use try_script::{Frames, Player, node};
+
+/// The bytes of a frame, if there is one.
+fn bytes_text(alloc: Global, bytes: Option<&[u8]>) -> Result<String, AllocError> {
+    match bytes {
+        Some(bytes) => hex::encode_upper(alloc, bytes),
+        None => "none".to_string(alloc),
+    }
+}
 
 /// All that was sent.
 #[derive(Drop)]
@@ -39,10 +48,7 @@ impl<'a> SentPlayer<'a> {
 
     /// A PMU sends these bytes.
     fn send(&mut self, alloc: Global, bytes: &[u8]) -> Result<String, AllocError> {
-        match self.sent.send(bytes) {
-            Ok(()) => "ok".to_string(alloc),
-            Err(fault) => format!(in alloc; "{fault}"),
-        }
+        done(alloc, self.sent.send(bytes))
     }
 
     /// Another one sends them.
@@ -52,31 +58,28 @@ impl<'a> SentPlayer<'a> {
             self.sent.push_reserved(bytes);
             return "ok".to_string(alloc);
         }
-        "no such call".to_string(alloc)
+        NO_CALL.to_string(alloc)
     }
 
     /// The frame with this number.
     fn frame_text(&self, alloc: Global, number: &str) -> Result<String, AllocError> {
-        let Ok(number) = number.parse::<usize>() else {
-            return "no such call".to_string(alloc);
-        };
-        match self.sent.get(number) {
-            Some(bytes) => hex::encode_upper(alloc, bytes),
-            None => "none".to_string(alloc),
+        match number.parse::<usize>() {
+            Ok(number) => bytes_text(alloc, self.sent.get(number)),
+            Err(_) => NO_CALL.to_string(alloc),
         }
     }
 
     /// Plays a call that names a frame.
     fn play_frame(&mut self, alloc: Global, word: &str, name: &str) -> Result<String, AllocError> {
         let Some(bytes) = self.frames.named(name) else {
-            return "no such call".to_string(alloc);
+            return NO_CALL.to_string(alloc);
         };
         match word {
             "send" => self.send(alloc, bytes),
             "others" => self.send_of_others(alloc, bytes),
             "has" if self.sent.has(bytes) => "yes".to_string(alloc),
             "has" => "no".to_string(alloc),
-            _ => "no such call".to_string(alloc),
+            _ => NO_CALL.to_string(alloc),
         }
     }
 }

@@ -72,9 +72,15 @@ impl SessionPlayer {
 
     /// Feeds one piece.
     fn feed<B: Buffer>(&mut self, piece: &[u8], out: &mut B) -> Option<Result<(), SessionFault>> {
-        let session = self.session.as_mut()?;
-        let frame = read_frame(&self.layout).ok()?;
-        let layout = read_config(&frame).ok()?;
+        let Some(session) = &mut self.session else {
+            return None;
+        };
+        let Ok(frame) = read_frame(&self.layout) else {
+            return None;
+        };
+        let Ok(layout) = read_config(&frame) else {
+            return None;
+        };
         let header = self.header.as_slice();
         if header.len() > MAX_TEXT {
             return None;

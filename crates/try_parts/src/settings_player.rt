@@ -9,14 +9,14 @@
 //!
 //! What is none of these, or where OLD is not found, is answered `no such call`.
 
-use pdc_life::WaitKind;
+use pdc_life::{MergedNode, Pmu, WaitKind};
 use pdc_output::Output;
 use pdc_settings::{MergerSettings, NodeSettings, Service, SettingsFault, is_of_merger};
 use std::alloc::{AllocError, Global};
 use try_script::Player;
 
 /// Who reads settings.
-#[derive(Debug, Drop)]
+#[derive(Drop)]
 pub struct SettingsPlayer {
     text: String,
 }
@@ -30,12 +30,17 @@ impl SettingsPlayer {
     }
 }
 
+/// Adds a line.
+fn push_line(lines: &mut String, line: &str) -> Result<(), AllocError> {
+    lines.push_str(line)?;
+    lines.push('\n')
+}
+
 /// The lines of a text that a bar holds apart.
 fn lines_of(alloc: Global, text: &str) -> Result<String, AllocError> {
     let mut lines = String::new(alloc);
     for line in text.split('|') {
-        lines.push_str(line)?;
-        lines.push('\n')?;
+        push_line(&mut lines, line)?;
     }
     Ok(lines)
 }
@@ -63,54 +68,81 @@ fn fault_text(alloc: Global, fault: SettingsFault) -> Result<String, AllocError>
     }
 }
 
-/// What a node and the merger are both told: the output, how instants are aligned, and the service.
+/// Whose output it is.
+fn output_text(alloc: Global, output: &Output) -> Result<String, AllocError> {
+    format!(in alloc;
+        "{} {} {:?} {}",
+        output.id, output.rate, output.nominal, output.time_base
+    )
+}
+
+/// How instants are aligned.
+fn timing_text(
+    alloc: Global,
+    wait: u64,
+    kind: WaitKind,
+    window: u64,
+    ahead: u64,
+) -> Result<String, AllocError> {
+    format!(in alloc; "{wait} {kind:?} {window} {ahead}")
+}
+
+/// How it runs.
+fn service_text(alloc: Global, service: &Service) -> Result<String, AllocError> {
+    format!(in alloc;
+        "{} {} {} {}",
+        service.lead, service.layout_every, service.out_port, service.session_port
+    )
+}
+
+/// What a node and the merger are both told.
 fn common_text(
     alloc: Global,
     output: &Output,
-    timing: (u64, WaitKind, u64, u64),
+    timing: &str,
     service: &Service,
 ) -> Result<String, AllocError> {
-    let mut text = format!(in alloc;
-        "{} {} {:?} {}",
-        output.id, output.rate, output.nominal, output.time_base
-    )?;
-    let (wait, kind, window, ahead) = timing;
-    text.push_str(&format!(in alloc; ", {wait} {kind:?} {window} {ahead}")?)?;
-    text.push_str(&format!(in alloc;
-        ", {} {} {} {}",
-        service.lead, service.layout_every, service.out_port, service.session_port
-    )?)?;
-    Ok(text)
+    let output = output_text(alloc, output)?;
+    let service = service_text(alloc, service)?;
+    format!(in alloc; "{output}, {timing}, {service}")
+}
+
+/// One PMU of a node.
+fn pmu_text(alloc: Global, pmu: &Pmu, port: u16) -> Result<String, AllocError> {
+    format!(in alloc; ", {} {} {} {port}", pmu.stream, pmu.source, pmu.time_base)
 }
 
 /// What a node is told.
 fn node_text(alloc: Global, settings: &NodeSettings) -> Result<String, AllocError> {
     let life = &settings.life;
-    let timing = (life.wait, life.wait_kind, life.window, life.ahead);
-    let mut text = common_text(alloc, &life.output, timing, &settings.service)?;
+    let timing = timing_text(alloc, life.wait, life.wait_kind, life.window, life.ahead)?;
+    let mut text = common_text(alloc, &life.output, &timing, &settings.service)?;
     for (pmu, port) in life.pmus.iter().zip(settings.ports.iter()) {
-        text.push_str(&format!(in alloc;
-            ", {} {} {} {port}",
-            pmu.stream, pmu.source, pmu.time_base
-        )?)?;
+        text.push_str(&pmu_text(alloc, pmu, *port)?)?;
     }
     Ok(text)
+}
+
+/// One node of the merger.
+fn merged_text(alloc: Global, node: &MergedNode, port: u16) -> Result<String, AllocError> {
+    format!(in alloc; ", {} {} {port}", node.id, node.time_base)
 }
 
 /// What the merger is told.
 fn merger_text(alloc: Global, settings: &MergerSettings) -> Result<String, AllocError> {
     let life = &settings.life;
-    let timing = (life.wait, life.wait_kind, life.window, life.ahead);
-    let mut text = common_text(alloc, &life.output, timing, &settings.service)?;
-    text.push_str(&format!(in alloc;
-        ", {} {} {}",
-        life.first.id, life.first.time_base, settings.first_port
-    )?)?;
-    text.push_str(&format!(in alloc;
-        ", {} {} {}",
-        life.second.id, life.second.time_base, settings.second_port
-    )?)?;
-    for source in &life.sources {
+    let timing = timing_text(alloc, life.wait, life.wait_kind, life.window, life.ahead)?;
+    let common = common_text(alloc, &life.output, &timing, &settings.service)?;
+    let first = merged_text(alloc, &life.first, settings.first_port)?;
+    let second = merged_text(alloc, &life.second, settings.second_port)?;
+    let sources = sources_text(alloc, life.sources.as_slice())?;
+    format!(in alloc; "{common}{first}{second}{sources}")
+}
+
+/// The sources of the merger.
+fn sources_text(alloc: Global, sources: &[u16]) -> Result<String, AllocError> {
+    let mut text = String::new(alloc);
+    for source in sources {
         text.push_str(&format!(in alloc; ", {source}")?)?;
     }
     Ok(text)

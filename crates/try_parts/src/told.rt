@@ -1,6 +1,7 @@
 //! How answers are told in a script.
 
 use std::alloc::{AllocError, Global};
+use std::fmt::Display;
 
 /// What is told of a call that cannot be made.
 pub const NO_CALL: &str = "no such call";
@@ -11,4 +12,12 @@ pub fn hex_of(alloc: Global, bytes: &[u8]) -> Result<String, AllocError> {
         return "nothing".to_string(alloc);
     }
     hex::encode_upper(alloc, bytes)
+}
+
+/// `ok`, or why not.
+pub fn done<F: Display + Drop>(alloc: Global, answer: Result<(), F>) -> Result<String, AllocError> {
+    match answer {
+        Ok(()) => "ok".to_string(alloc),
+        Err(fault) => format!(in alloc; "{fault}"),
+    }
 }
