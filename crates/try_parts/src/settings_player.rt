@@ -6,12 +6,13 @@
 //! | `node` or `node OLD / NEW` | what a node is told by it, NEW, with bars as above, in the place of the first OLD; or why it is none |
 //! | `merger` or `merger OLD / NEW` | the same of the merger |
 //! | `kind` or `kind OLD / NEW` | whose it is, by the key `node` |
+//! | `network` or `network OLD / NEW` | where it is on the network: address, hops, buffer, sessions, and each further output |
 //!
 //! What is none of these, or where OLD is not found, is answered `no such call`.
 
 use pdc_life::{MergedNode, Pmu, WaitKind};
 use pdc_output::Output;
-use pdc_settings::{MergerSettings, NodeSettings, Service, SettingsFault, is_of_merger};
+use pdc_settings::{MergerSettings, Network, NodeSettings, Service, SettingsFault, is_of_merger};
 use std::alloc::{AllocError, Global};
 use try_script::Player;
 
@@ -148,6 +149,22 @@ fn sources_text(alloc: Global, sources: &[u16]) -> Result<String, AllocError> {
     Ok(text)
 }
 
+/// Where a concentrator is on the network.
+fn network_text(alloc: Global, network: &Network) -> Result<String, AllocError> {
+    let (address, ttl, buffer, sessions) = (
+        network.address,
+        network.ttl,
+        network.receive_buffer,
+        network.sessions,
+    );
+    let mut text = format!(in alloc; "{address} {ttl} {buffer} {sessions}")?;
+    for output in &network.outputs {
+        text.push_str(", ")?;
+        text.push_str(output.as_str())?;
+    }
+    Ok(text)
+}
+
 /// What a text is read as.
 fn read(alloc: Global, reader: &str, text: &str) -> Result<String, AllocError> {
     match reader {
@@ -157,6 +174,10 @@ fn read(alloc: Global, reader: &str, text: &str) -> Result<String, AllocError> {
         },
         "merger" => match MergerSettings::from_toml(alloc, text) {
             Ok(settings) => merger_text(alloc, &settings),
+            Err(fault) => fault_text(alloc, fault),
+        },
+        "network" => match Network::from_toml(alloc, text) {
+            Ok(network) => network_text(alloc, &network),
             Err(fault) => fault_text(alloc, fault),
         },
         "kind" => match is_of_merger(alloc, text) {
