@@ -29,6 +29,7 @@ pub fn run_pmu_command(rt: &HostRuntime, asked: &Asked) -> io::Result<u8> {
         rate: asked.rate,
         count: asked.count,
         ports: asked.ports.as_slice(),
+        config_every: asked.config_every,
     };
     match simulate(rt, rt.alloc(), &simulated) {
         Ok(()) => Ok(DONE),

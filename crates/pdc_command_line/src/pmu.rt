@@ -1,7 +1,7 @@
 //! The command `pmu`.
 
 use crate::number::{number, short_number};
-use crate::request::{MAX_ID, MAX_PORTS, MAX_RATE, Simulated};
+use crate::request::{MAX_ID, MAX_PORTS, MAX_RATE, MAX_SECONDS, Simulated};
 use crate::words::{out_of_range, word};
 use arrayvec::ArrayVec;
 use clap::error::ErrorKind;
@@ -15,7 +15,8 @@ const LONG: &str =
 configuration (count 1, one phasor, TIME_BASE 1000000), and then COUNT data frames, one for each instant as
 the clock reaches it. The phasor counts: 0, 1, 2, .. up to 32767, and then from 0 again.
 
-ID is its stream id, RATE its frames in a second.
+ID is its stream id, RATE its frames in a second. With --config-every the configuration goes out again each time
+that so many seconds have gone by: so what starts later takes its data too.
 
 Example, PMU 11 for a minute at 50 frames a second, to the ports of two nodes:
   pdc pmu 11 50 3000 4811 4911";
@@ -35,7 +36,31 @@ pub fn pmu<'a>(alloc: Global) -> Result<Command<'a>, AllocError> {
                 .num_args(1..=16)
                 .action(ArgAction::Append)
                 .help("The UDP ports, 1 to 16 of them, each 1 to 65535"),
+        )?
+        .arg(
+            Arg::new(alloc, "config-every")
+                .long("config-every")
+                .value_name("SECONDS")
+                .action(ArgAction::Set)
+                .help("Send the configuration again every so many seconds, 1 to 86400"),
         )
+}
+
+/// After how many seconds the configuration is sent again.
+fn config_every(alloc: Global, matches: &ArgMatches<'_>) -> Result<Option<u32>, Error> {
+    let Some(text) = matches.get_str("config-every") else {
+        return Ok(None);
+    };
+    match number(text, 1, MAX_SECONDS) {
+        Some(seconds) => Ok(Some(seconds)),
+        None => Err(out_of_range(
+            alloc,
+            pmu(alloc)?,
+            "--config-every <SECONDS>",
+            text,
+            MAX_SECONDS,
+        )?),
+    }
 }
 
 /// The ports that these words say.
@@ -80,10 +105,12 @@ pub fn pmu_request<'a>(
         return Err(out_of_range(alloc, pmu(alloc)?, "<COUNT>", count_text, u32::MAX)?);
     };
     let ports = ports_of(alloc, port_words)?;
+    let config_every = config_every(alloc, matches)?;
     Ok(Some(Simulated {
         id,
         rate,
         count,
         ports,
+        config_every,
     }))
 }

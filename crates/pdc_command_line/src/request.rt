@@ -13,6 +13,9 @@ pub const MAX_RATE: u16 = 240;
 /// The most ports that a simulated PMU sends to.
 pub const MAX_PORTS: usize = 16;
 
+/// The most seconds from one line of counters, or one configuration, to the next: a day.
+pub const MAX_SECONDS: u32 = 86400;
+
 /// What is asked of the program.
 #[derive(Debug, Drop)]
 pub enum Request<'a> {
@@ -104,6 +107,8 @@ pub struct Simulated {
     pub count: u32,
     /// The UDP ports that they go to, at most 16.
     pub ports: ArrayVec<u16, MAX_PORTS>,
+    /// After how many seconds its configuration is sent again; where there is none, it is sent once.
+    pub config_every: Option<u32>,
     pub ghost some_id: { 0 < id },
     pub ghost id_fits: { id ≤ MAX_ID },
     pub ghost some_rate: { 0 < rate },

@@ -1,13 +1,10 @@
 //! The commands `node` and `merge`.
 
 use crate::number::number;
-use crate::request::Running;
+use crate::request::{MAX_SECONDS, Running};
 use crate::words::{out_of_range, word};
 use clap::{Arg, ArgAction, ArgMatches, Command, Error};
 use std::alloc::{AllocError, Global};
-
-/// The most seconds from one line of counters to the next: a day.
-const MAX_SECONDS: u32 = 86400;
 
 const ABOUT_NODE: &str =
     "Run a node: align the streams of PMUs and send one frame for each instant";

@@ -35,6 +35,8 @@ pub struct Simulated<'a> {
     pub count: u32,
     /// The UDP ports on 127.0.0.1 that each frame goes to.
     pub ports: &'a [u16],
+    /// After how many seconds the configuration is sent again; where there is none, it is sent once.
+    pub config_every: Option<u32>,
     pub ghost id_low: { 0 < id },
     pub ghost id_high: { id ≤ MAX_ID },
     pub ghost rate_low: { 1 ≤ rate },
@@ -128,8 +130,20 @@ fn configure(pmu: &mut Pmu, id: u16, soc: u32, out: &mut Vec<u8>) -> Result<(), 
         .map_err(SimulationFault::Pmu)
 }
 
+/// Whether the configuration is sent again before the data frame with this number.
+fn is_config_due(number: u32, every: Option<u32>, rate: u16) -> bool {
+    match every {
+        Some(seconds) => {
+            let frames = u64::from(seconds) * u64::from(rate);
+            number > 0 && u64::from(number).checked_rem(frames) == Some(0)
+        }
+        None => false,
+    }
+}
+
 /// Sends one configuration to each port, and then so many data frames, one for each instant as the clock reaches it: STAT 0, the phasor
-/// (`number` mod 32768, 0), FREQ 0 and DFREQ 0. An instant past the last second that a frame can tell is not sent.
+/// (`number` mod 32768, 0), FREQ 0 and DFREQ 0. An instant past the last second that a frame can tell is not sent. The
+/// same configuration frame goes out again, before the data frame that is due then, as often as is asked.
 ///
 /// # Errors
 ///
@@ -143,13 +157,16 @@ pub fn simulate<R: Net + Clock>(
     let mut outlets = open_outlets(rt, alloc, simulated.ports)?;
     let mut pmu = Pmu::new(simulated.id, rate, TIME_BASE);
     let first = instant_at(nanoseconds_now(rt)?, rate);
-    let mut frame = Vec::new(alloc);
+    let (mut config, mut frame) = (Vec::new(alloc), Vec::new(alloc));
     let soc = u32::try_from(first / u64::from(rate)).unwrap_or(u32::MAX);
-    configure(&mut pmu, simulated.id, soc, &mut frame)?;
-    send_to_all(&mut outlets, &frame)?;
+    configure(&mut pmu, simulated.id, soc, &mut config)?;
+    send_to_all(&mut outlets, &config)?;
     for number in 0..simulated.count {
         let instant = first.saturating_add(u64::from(number));
         sleep_until(rt, instant, rate)?;
+        if is_config_due(number, simulated.config_every, rate) {
+            send_to_all(&mut outlets, &config)?;
+        }
         frame.clear();
         let words = [0, (number % PHASORS) as u16, 0, 0, 0];
         if send_data(&mut pmu, instant, rate, &words, &mut frame)? {

@@ -51,6 +51,7 @@ pub fn play<R: Net + Clock + Print>(rt: &R, alloc: Global, port: u16) -> io::Res
         rate: RATE,
         count: 3,
         ports: &[port],
+        config_every: None,
     };
     if let Err(fault) = simulate(rt, alloc, &simulated) {
         println!(rt; "  {fault}")?;

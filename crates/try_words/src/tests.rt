@@ -54,7 +54,10 @@ node|a.toml|a.mark|0 -> status 2
 node|a.toml|a.mark|4294967296 -> status 2
 merge|m.toml|m.mark|1 -> Some(Merge(Running { settings: "m.toml", mark: "m.mark", ticks: Some(1), every: None, is_quiet: false }))
 merge|m.toml|m.mark|1|x -> status 2
-pmu|11|50|3|4811|4911 -> Some(Pmu(Simulated { id: 11, rate: 50, count: 3, ports: [4811, 4911] }))
+pmu|11|50|3|4811|4911 -> Some(Pmu(Simulated { id: 11, rate: 50, count: 3, ports: [4811, 4911], config_every: None }))
+pmu|11|50|3|4811|--config-every|5 -> Some(Pmu(Simulated { id: 11, rate: 50, count: 3, ports: [4811], config_every: Some(5) }))
+pmu|11|50|3|4811|--config-every|0 -> status 2
+pmu|11|50|3|4811|--config-every|86401 -> status 2
 pmu|11|50|3 -> status 2
 pmu|11|50|3|4811|65536 -> status 2
 pmu|--help -> status 0
@@ -71,7 +74,7 @@ listen -> status 2
 "#;
 
 /// How many they are.
-const ROWS: usize = 62;
+const ROWS: usize = 65;
 
 /// The words of a line.
 fn words(alloc: Global, line: &str) -> Result<Vec<String>, AllocError> {
