@@ -33,6 +33,11 @@ pub fn mark_init<'a>(alloc: Global) -> Result<Command<'a>, AllocError> {
         .arg(word(alloc, "RATE", "The data rate, 1 to 240 frames a second"))
 }
 
+/// What is wrong with a number.
+fn wrong(alloc: Global, name: &str, text: &str, most: u16) -> Result<Error, AllocError> {
+    out_of_range(alloc, mark_init(alloc)?, name, text, u32::from(most))
+}
+
 /// What is asked by these words; `None` where one is missing, which the parser refuses before.
 ///
 /// # Errors
@@ -54,16 +59,10 @@ pub fn mark_init_request<'a>(
         return Ok(None);
     };
     let Some(id) = short_number(id_text, 1, MAX_ID) else {
-        return Err(out_of_range(alloc, mark_init(alloc)?, "<ID>", id_text, u32::from(MAX_ID))?);
+        return Err(wrong(alloc, "<ID>", id_text, MAX_ID)?);
     };
     let Some(rate) = short_number(rate_text, 1, MAX_RATE) else {
-        return Err(out_of_range(
-            alloc,
-            mark_init(alloc)?,
-            "<RATE>",
-            rate_text,
-            u32::from(MAX_RATE),
-        )?);
+        return Err(wrong(alloc, "<RATE>", rate_text, MAX_RATE)?);
     };
     Ok(Some(MarkInit { file, id, rate }))
 }
