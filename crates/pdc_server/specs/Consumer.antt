@@ -1,5 +1,5 @@
 -- A consumer that is connected (this profile).
-use Rattle.std.specs.Prelude.{ℕ}
+use Rattle.std.specs.Prelude.{ℕ, Bool, ◌&&◌, not}
 use Rattle.pdc_session.specs.Session.{SessionView}
 use Rattle.pdc_server.specs.Turn.{Standing}
 use Rattle.pdc_server.specs.declared.consumer.Consumer.{Consumer}
@@ -15,6 +15,10 @@ session_in consumer = consumer.session
 -- up to which instant it got data
 abbrev pub got_in : Consumer → ℕ
 got_in consumer = consumer.got
+
+-- it sent nothing in the last turn, and data is off
+abbrev pub is_silent_in : Consumer → Bool
+is_silent_in consumer = not consumer.heard && not consumer.session.told.on
 
 -- where it stands
 abbrev pub standing_in : Consumer → Standing

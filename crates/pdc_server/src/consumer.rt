@@ -24,6 +24,8 @@ pub struct Consumer {
     session: Session,
     id: u16,
     got: u64,
+    /// Whether bytes came in the last turn.
+    heard: bool,
     piece: Vec<u8>,
     layout: Vec<u8>,
     out: Vec<u8>,
@@ -32,7 +34,7 @@ pub struct Consumer {
 }
 
 impl Consumer {
-    ghost use Rattle.pdc_server.specs.Consumer.{got_in, id_in, session_in, standing_in};
+    ghost use Rattle.pdc_server.specs.Consumer.{got_in, id_in, is_silent_in, session_in, standing_in};
 
     /// A consumer of the stream `id`, 1 to 65534, that sent nothing yet.
     ///
@@ -50,6 +52,7 @@ impl Consumer {
             session: Session::new(alloc, id)?,
             id,
             got: 0,
+            heard: false,
             piece: vec![in alloc; 0u8; PIECE_LEN]?,
             layout: Vec::new(alloc),
             out: Vec::new(alloc),
@@ -61,6 +64,13 @@ impl Consumer {
         ensures { result ≡ got_in self.now }
     {
         self.got
+    }
+
+    /// Whether it sent nothing in the last turn, and gets no data.
+    pub fn is_silent(&self) -> bool
+        ensures { result ≡ is_silent_in self.now }
+    {
+        !self.heard && !self.session.on()
     }
 
     /// Makes what is to be written once so many bytes came: the replies to the commands that end there, and behind them, while data is
@@ -107,6 +117,7 @@ impl Consumer {
         ensures ended { IfErr result (HasEnded S.remaining S.contents N.stream (id_in self.old) (standing_in self.old) (standing_in self.new) stream.old stream.new) }
     {
         let count = read_once(stream, &mut self.piece)?;
+        self.heard = count > 0;
         let made = self.make(rt, recent, count);
         write_out(rt, recent, stream, &self.out)?;
         made

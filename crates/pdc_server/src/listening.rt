@@ -3,7 +3,6 @@ ghost use Rattle.std.specs.Prelude.{◌≤◌, ◌<◌};
 ghost use Rattle.pdc_frame.specs.declared.limits.TheConstants.{MAX_ID};
 
 use crate::consumer::Consumer;
-use crate::ended::Ended;
 use pdc_frame::MAX_ID;
 use pdc_recent::{Naming, Recent};
 use std::alloc::Global;
@@ -11,7 +10,7 @@ use std::io::{Read, Write};
 use std::net::{OpenListener, OpenStream};
 use std::rt::Clock;
 use std::sync::Wait;
-use std::time::Duration;
+use std::time::{Duration, Instant};
 use std::{io, thread};
 
 /// How long a read waits for a consumer, and how long nobody is looked for after nobody came, in milliseconds.
@@ -20,6 +19,9 @@ const TURN: u64 = 20;
 /// How long a write waits for a consumer that does not read, in milliseconds.
 const WRITE_LIMIT: u64 = 1000;
 
+/// How long a consumer may be silent while data is off, in seconds.
+const SILENCE: u64 = 60;
+
 /// Sets the limits of a connection; what is written to it goes out at once.
 fn set_up<S: OpenStream>(stream: &S) -> io::Result<()> {
     stream.set_read_timeout(Some(Duration::from_millis(TURN)))?;
@@ -27,29 +29,44 @@ fn set_up<S: OpenStream>(stream: &S) -> io::Result<()> {
     stream.set_nodelay(true)
 }
 
-/// Serves one consumer to the end of its session, and answers why it ended.
+/// Whether a silence that began then has lasted as long as it may; where the clock cannot be read it has not.
+fn is_over<R: Clock>(rt: &R, since: Option<Instant>) -> bool {
+    match since {
+        Some(since) => match since.elapsed(rt) {
+            Ok(gone) => gone >= Duration::from_secs(SILENCE),
+            Err(_) => false,
+        },
+        None => false,
+    }
+}
+
+/// Serves one consumer to the end of its session, or until it has been silent for a minute while data is off: so that who says nothing keeps
+/// others out for no longer.
 fn serve_one<N: Naming, S: Read + Write + OpenStream, R: Wait + Clock>(
     rt: &R,
     alloc: Global,
     id: u16,
     recent: &Recent<N>,
     stream: &mut S,
-) -> Ended
+)
     requires id_low { 0 < id }
     requires id_high { id ≤ MAX_ID }
 {
     if set_up(stream).is_err() {
-        return Ended::Device;
+        return;
     }
     let Ok(mut consumer) = Consumer::new(alloc, id) else {
-        return Ended::NoMemory;
+        return;
     };
+    let mut since = Instant::now(rt).ok();
     for _ in rt.forever() {
-        if recent.closed(rt) {
-            return Ended::Closed;
+        if recent.closed(rt) || consumer.turn(rt, recent, stream).is_err() {
+            return;
         }
-        if let Err(ended) = consumer.turn(rt, recent, stream) {
-            return ended;
+        if !consumer.is_silent() {
+            since = Instant::now(rt).ok();
+        } else if is_over(rt, since) {
+            return;
         }
     }
     unreachable!()
@@ -75,7 +92,7 @@ where
         match listener.accept() {
             Ok((stream, _)) => {
                 let mut stream = stream;
-                let _ended = serve_one(rt, alloc, id, recent, &mut stream);
+                serve_one(rt, alloc, id, recent, &mut stream);
             }
             Err(_) => thread::sleep(rt, Duration::from_millis(TURN)),
         }
