@@ -1,0 +1,3 @@
+pub mod Scaled
+pub mod Quantity
+pub mod Field
