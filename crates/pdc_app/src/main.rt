@@ -12,7 +12,8 @@ mod running;
 use listen::run_listen_command;
 use mark_convert::{mark_convert_status, report_mark_convert};
 use mark_init::{mark_init_status, report_mark_init};
-use pdc_command_line::{MarkConvert, MarkInit, Request, parse};
+use pdc_command_line::{MarkConvert, MarkInit, Request, ShowForm, parse};
+use pdc_export::{Format, run_export_command};
 use pdc_mark::{convert_mark, make_mark};
 use pdc_show::run_show_command;
 use play::run_play_command;
@@ -53,12 +54,21 @@ fn run_mark_convert_command(rt: &HostRuntime, request: &MarkConvert) -> io::Resu
     }
 }
 
+fn run_show(rt: &HostRuntime, form: ShowForm) -> io::Result<u8> {
+    let alloc = rt.alloc();
+    match form {
+        ShowForm::Lines => run_show_command(rt, alloc),
+        ShowForm::Json => run_export_command(rt, alloc, Format::Json),
+        ShowForm::Csv => run_export_command(rt, alloc, Format::Csv),
+    }
+}
+
 fn main(rt: HostRuntime) -> io::Result<ExitCode> {
     let alloc = rt.alloc();
     let words: Vec<String> = std::env::args(&rt)?.collect(alloc)?;
     let arguments = words.as_slice().get(1..).unwrap_or(&[]);
     let status = match parse(alloc, arguments) {
-        Ok(Some(Request::Show)) => run_show_command(&rt, alloc)?,
+        Ok(Some(Request::Show(form))) => run_show(&rt, form)?,
         Ok(Some(Request::Play(request))) => run_play_command(&rt, &request)?,
         Ok(Some(Request::MarkInit(request))) => run_mark_init_command(&rt, &request)?,
         Ok(Some(Request::MarkConvert(request))) => run_mark_convert_command(&rt, &request)?,

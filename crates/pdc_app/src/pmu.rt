@@ -1,19 +1,42 @@
 //! The command `pmu`.
 
 use crate::{DONE, FAILED};
-use pdc_command_line::Simulated as Asked;
-use pdc_simulation::{Simulated, SimulationFault, simulate};
+use pdc_command_line::{Place as AskedPlace, Simulated as Asked};
+use pdc_simulation::{Place, Simulated, SimulationFault, simulate};
+use std::alloc::Global;
 use std::io;
 
-/// Prints the fault to standard error, and on a second line the port or the reason.
-fn report_simulation(rt: &impl Eprint, fault: &SimulationFault) -> io::Result<()> {
+/// Prints what is wrong with a place.
+fn report_place(
+    rt: &impl Eprint,
+    kind: &str,
+    place: Option<&AskedPlace<'_>>,
+    error: &io::Error,
+) -> io::Result<()> {
+    match place {
+        Some(AskedPlace::Port(port)) => {
+            eprintln!(rt; "pdc pmu: {kind} port {port} of 127.0.0.1: {error}")
+        }
+        Some(AskedPlace::At(text)) => eprintln!(rt; "pdc pmu: {kind} {text}: {error}"),
+        None => eprintln!(rt; "pdc pmu: {kind}: {error}"),
+    }
+}
+
+/// Prints the fault to standard error, and on a second line the place or the reason.
+fn report_simulation(
+    rt: &impl Eprint,
+    fault: &SimulationFault,
+    asked: &Asked<'_>,
+) -> io::Result<()> {
     eprintln!(rt; "{fault}")?;
     match fault {
-        SimulationFault::Port(port, error) => {
-            eprintln!(rt; "pdc pmu: UDP port {port} of 127.0.0.1: {error}")
+        SimulationFault::Place(number, error) => {
+            report_place(rt, "UDP", asked.places.as_slice().get(*number), error)
         }
-        SimulationFault::NotSent(port) => {
-            eprintln!(rt; "pdc pmu: UDP port {port} of 127.0.0.1: a frame is not sent")
+        SimulationFault::Listener(error) => report_place(rt, "TCP", asked.tcp.as_ref(), error),
+        SimulationFault::NotSent(to) => {
+            let (port, address) = (to.port(), to.ip());
+            eprintln!(rt; "pdc pmu: UDP port {port} of {address}: a frame is not sent")
         }
         SimulationFault::Clock(error) => eprintln!(rt; "pdc pmu: the clock: {error}"),
         SimulationFault::Pmu(_) | SimulationFault::NoMemory => {
@@ -22,19 +45,49 @@ fn report_simulation(rt: &impl Eprint, fault: &SimulationFault) -> io::Result<()
     }
 }
 
-/// Simulates a PMU, and answers the exit status.
-pub fn run_pmu_command(rt: &HostRuntime, asked: &Asked) -> io::Result<u8> {
+/// A place, as the words of the command line say it.
+fn place_of<'a>(asked: &AskedPlace<'a>) -> Place<'a> {
+    match asked {
+        AskedPlace::Port(port) => Place::Port(*port),
+        AskedPlace::At(text) => Place::At(text),
+    }
+}
+
+/// The places, in their order.
+fn places_of<'a>(
+    alloc: Global,
+    asked: &[AskedPlace<'a>],
+) -> Result<Vec<Place<'a>>, SimulationFault> {
+    let mut places = Vec::new(alloc);
+    for place in asked {
+        places
+            .push(place_of(place))
+            .map_err(|_| SimulationFault::NoMemory)?;
+    }
+    Ok(places)
+}
+
+/// Simulates it.
+fn run_pmu(rt: &HostRuntime, asked: &Asked<'_>) -> Result<(), SimulationFault> {
+    let places = places_of(rt.alloc(), asked.places.as_slice())?;
     let simulated = Simulated {
         id: asked.id,
         rate: asked.rate,
         count: asked.count,
-        ports: asked.ports.as_slice(),
+        places: places.as_slice(),
+        tcp: asked.tcp.as_ref().map(place_of),
         config_every: asked.config_every,
+        is_grid: asked.is_grid,
     };
-    match simulate(rt, rt.alloc(), &simulated) {
+    simulate(rt, rt.alloc(), &simulated)
+}
+
+/// Simulates a PMU, and answers the exit status.
+pub fn run_pmu_command(rt: &HostRuntime, asked: &Asked<'_>) -> io::Result<u8> {
+    match run_pmu(rt, asked) {
         Ok(()) => Ok(DONE),
         Err(fault) => {
-            report_simulation(rt, &fault)?;
+            report_simulation(rt, &fault, asked)?;
             Ok(FAILED)
         }
     }

@@ -38,6 +38,10 @@ fn report_fault(
             let settings = request.settings;
             eprintln!(rt; "pdc {command}: {settings}: outputs, number {number}: {error}")?
         }
+        ServiceFault::Input(id, error) => {
+            let settings = request.settings;
+            eprintln!(rt; "pdc {command}: {settings}: where stream {id} is asked for: {error}")?
+        }
         ServiceFault::Run(_) => eprintln!(rt; "pdc {command}: the run ended early")?,
         ServiceFault::Clock => eprintln!(rt; "pdc {command}: the clock cannot be read")?,
     }

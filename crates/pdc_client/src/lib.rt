@@ -2,7 +2,8 @@
 //! reader and writer.
 //!
 //! To the layers above this crate promises that each call returns after at most [`MAX_FRAMES`] frames and [`MAX_READS`] reads, that
-//! what it answers is the next frame of its stream that was asked for, and that a fault stays. [`Pdc`] is the type to look at first.
+//! what it answers is the next frame of its stream that was asked for, and that a fault stays. [`Pdc`] is the type to look at first. Its
+//! pieces, a command on its way out and the bytes that were read ahead, serve whoever asks and reads in turns of his own.
 #![tactic(auto)]
 
 mod client;
@@ -14,3 +15,5 @@ mod unread;
 pub use client::Pdc;
 pub use fault::ClientFault;
 pub use search::{MAX_FRAMES, MAX_READS};
+pub use telling::{command_frame, tell};
+pub use unread::Unread;

@@ -7,7 +7,7 @@ use crate::play::{play, play_request};
 use crate::pmu::{pmu, pmu_request};
 use crate::request::Request;
 use crate::running::{Concentrator, merge, node, running_request};
-use crate::show::show;
+use crate::show::{show, show_form};
 use clap::{Command, Error};
 use std::alloc::{AllocError, Global};
 
@@ -46,7 +46,7 @@ fn program<'a>(alloc: Global) -> Result<Command<'a>, AllocError> {
 /// The program with the commands that read and make files.
 fn with_files<'a>(alloc: Global, program: Command<'a>) -> Result<Command<'a>, AllocError> {
     program
-        .subcommand(show(alloc))?
+        .subcommand(show(alloc)?)?
         .subcommand(play(alloc)?)?
         .subcommand(mark_init(alloc)?)?
         .subcommand(mark_convert(alloc)?)
@@ -74,7 +74,7 @@ fn pdc<'a>(alloc: Global) -> Result<Command<'a>, AllocError> {
 pub fn parse<'a>(alloc: Global, words: &'a [String]) -> Result<Option<Request<'a>>, Error> {
     let matches = pdc(alloc)?.try_get_matches_from(words)?;
     match matches.subcommand() {
-        Some(("show", _)) => Ok(Some(Request::Show)),
+        Some(("show", inner)) => Ok(Some(Request::Show(show_form(inner)))),
         Some(("play", inner)) => Ok(play_request(inner).map(Request::Play)),
         Some(("mark-init", inner)) => Ok(mark_init_request(alloc, inner)?.map(Request::MarkInit)),
         Some(("mark-convert", inner)) => {

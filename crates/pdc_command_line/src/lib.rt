@@ -18,5 +18,6 @@ mod words;
 
 pub use command::parse;
 pub use request::{
-    Listen, MAX_ID, MAX_PORTS, MAX_RATE, MarkConvert, MarkInit, Play, Request, Running, Simulated,
+    Listen, MAX_ID, MAX_PLACES, MAX_RATE, MarkConvert, MarkInit, Place, Play, Request, Running,
+    ShowForm, Simulated,
 };

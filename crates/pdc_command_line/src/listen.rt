@@ -2,8 +2,8 @@
 
 use crate::number::{number, short_number};
 use crate::request::Listen;
-use crate::words::{out_of_range, word};
-use clap::{Arg, ArgAction, ArgMatches, Command, Error};
+use crate::words::{Form, Wanted, command_with, out_of_range};
+use clap::{ArgMatches, Command, Error};
 use std::alloc::{AllocError, Global};
 
 const ABOUT: &str = "Print the datagrams that come to a UDP port";
@@ -20,16 +20,21 @@ Example, what the merger of examples/pair sends:
 
 /// The command and its help.
 pub fn listen<'a>(alloc: Global) -> Result<Command<'a>, AllocError> {
-    Command::new(alloc, "listen")
-        .bin_name("pdc listen")?
-        .about(ABOUT)
-        .long_about(LONG)
-        .arg(word(alloc, "PORT", "The UDP port, 1 to 65535"))?
-        .arg(
-            Arg::new(alloc, "COUNT")
-                .action(ArgAction::Set)
-                .help("After how many datagrams it ends, 1 to 4294967295"),
-        )
+    command_with(
+        alloc,
+        "listen",
+        "pdc listen",
+        ABOUT,
+        LONG,
+        &[
+            Wanted("PORT", Form::Word, "The UDP port, 1 to 65535"),
+            Wanted(
+                "COUNT",
+                Form::Optional,
+                "After how many datagrams it ends, 1 to 4294967295",
+            ),
+        ],
+    )
 }
 
 /// What is asked by these words; `None` where one is missing, which the parser refuses before.

@@ -1,7 +1,7 @@
 //! The command `mark-convert`.
 
 use crate::request::MarkConvert;
-use crate::words::word;
+use crate::words::{Form, Wanted, command_with};
 use clap::{ArgMatches, Command};
 use std::alloc::{AllocError, Global};
 
@@ -27,12 +27,17 @@ Example:
 
 /// The command and its help.
 pub fn mark_convert<'a>(alloc: Global) -> Result<Command<'a>, AllocError> {
-    Command::new(alloc, "mark-convert")
-        .bin_name("pdc mark-convert")?
-        .about(ABOUT)
-        .long_about(LONG)
-        .arg(word(alloc, "OLD", "The file of version 1"))?
-        .arg(word(alloc, "NEW", "The file to make"))
+    command_with(
+        alloc,
+        "mark-convert",
+        "pdc mark-convert",
+        ABOUT,
+        LONG,
+        &[
+            Wanted("OLD", Form::Word, "The file of version 1"),
+            Wanted("NEW", Form::Word, "The file to make"),
+        ],
+    )
 }
 
 /// What is asked by these words; `None` where one is missing, which the parser refuses before.

@@ -5,7 +5,7 @@ ghost use Rattle.pdc_command_line.specs.MarkInit.{AsksFor, HasWrongNumber, Lacks
 
 use crate::number::short_number;
 use crate::request::{MAX_ID, MAX_RATE, MarkInit};
-use crate::words::{out_of_range, word};
+use crate::words::{Form, Wanted, command_with, out_of_range};
 use clap::{ArgMatches, Command, Error};
 use std::alloc::{AllocError, Global};
 
@@ -24,13 +24,22 @@ Example:
 
 /// The command and its help.
 pub fn mark_init<'a>(alloc: Global) -> Result<Command<'a>, AllocError> {
-    Command::new(alloc, "mark-init")
-        .bin_name("pdc mark-init")?
-        .about(ABOUT)
-        .long_about(LONG)
-        .arg(word(alloc, "FILE", "The file to make"))?
-        .arg(word(alloc, "ID", "The id of the node or merger, 1 to 65534"))?
-        .arg(word(alloc, "RATE", "The data rate, 1 to 240 frames a second"))
+    command_with(
+        alloc,
+        "mark-init",
+        "pdc mark-init",
+        ABOUT,
+        LONG,
+        &[
+            Wanted("FILE", Form::Word, "The file to make"),
+            Wanted("ID", Form::Word, "The id of the node or merger, 1 to 65534"),
+            Wanted(
+                "RATE",
+                Form::Word,
+                "The data rate, 1 to 240 frames a second",
+            ),
+        ],
+    )
 }
 
 /// What is wrong with a number.

@@ -1,7 +1,7 @@
 //! The command `play`.
 
 use crate::request::Play;
-use crate::words::word;
+use crate::words::{Form, Wanted, command_with};
 use clap::{ArgMatches, Command};
 use std::alloc::{AllocError, Global};
 
@@ -64,13 +64,18 @@ Example:
 
 /// The command and its help.
 pub fn play<'a>(alloc: Global) -> Result<Command<'a>, AllocError> {
-    Command::new(alloc, "play")
-        .bin_name("pdc play")?
-        .about(ABOUT)
-        .long_about(LONG)
-        .arg(word(alloc, "A", "The settings of node A"))?
-        .arg(word(alloc, "B", "The settings of node B"))?
-        .arg(word(alloc, "M", "The settings of the merger"))
+    command_with(
+        alloc,
+        "play",
+        "pdc play",
+        ABOUT,
+        LONG,
+        &[
+            Wanted("A", Form::Word, "The settings of node A"),
+            Wanted("B", Form::Word, "The settings of node B"),
+            Wanted("M", Form::Word, "The settings of the merger"),
+        ],
+    )
 }
 
 /// What is asked by these words; `None` where one is missing, which the parser refuses before.

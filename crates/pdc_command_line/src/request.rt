@@ -10,8 +10,8 @@ pub const MAX_ID: u16 = 65534;
 /// The greatest data rate, in frames a second.
 pub const MAX_RATE: u16 = 240;
 
-/// The most ports that a simulated PMU sends to.
-pub const MAX_PORTS: usize = 16;
+/// The most places that a simulated PMU sends to.
+pub const MAX_PLACES: usize = 16;
 
 /// The most seconds from one line of counters, or one configuration, to the next: a day.
 pub const MAX_SECONDS: u32 = 86400;
@@ -20,7 +20,7 @@ pub const MAX_SECONDS: u32 = 86400;
 #[derive(Debug, Drop)]
 pub enum Request<'a> {
     /// Print what the frames on standard input say.
-    Show,
+    Show(ShowForm),
     /// Make a mark file.
     MarkInit(MarkInit<'a>),
     /// Make a mark file of version 2 out of one of version 1.
@@ -32,9 +32,20 @@ pub enum Request<'a> {
     /// Run the merger.
     Merge(Running<'a>),
     /// Simulate a PMU.
-    Pmu(Simulated),
+    Pmu(Simulated<'a>),
     /// Print the datagrams that come to a port.
     Listen(Listen),
+}
+
+/// In which form frames are shown.
+#[derive(Clone, Copy, Debug, PartialEq, Eq)]
+pub enum ShowForm {
+    /// Lines for people.
+    Lines,
+    /// A JSON object for each frame.
+    Json,
+    /// A row of CSV for each block of a data frame.
+    Csv,
 }
 
 /// The mark file that is to be made.
@@ -96,9 +107,25 @@ pub struct Listen {
     pub count: Option<u32>,
 }
 
+/// A port of 127.0.0.1, or of another address.
+#[derive(Clone, Copy, Debug, PartialEq, Eq)]
+pub enum Place<'a> {
+    /// The port with this number of 127.0.0.1.
+    Port(u16),
+    /// The place that this text names as `HOST:PORT`.
+    At(&'a str),
+}
+
+/// Port 1, to fill places of a list with.
+impl<'a> Default for Place<'a> {
+    fn default() -> Place<'a> {
+        Place::Port(1)
+    }
+}
+
 /// A PMU that is to be simulated.
 #[derive(Debug, Drop)]
-pub struct Simulated {
+pub struct Simulated<'a> {
     /// The stream id, 1 to 65534.
     pub id: u16,
     /// The frames in a second, 1 to 240.
@@ -106,9 +133,13 @@ pub struct Simulated {
     /// How many data frames are sent, at least 1.
     pub count: u32,
     /// The UDP ports that they go to, at most 16.
-    pub ports: ArrayVec<u16, MAX_PORTS>,
+    pub places: ArrayVec<Place<'a>, MAX_PLACES>,
+    /// The TCP port at which up to four consumers are served.
+    pub tcp: Option<Place<'a>>,
     /// After how many seconds its configuration is sent again; where there is none, it is sent once.
     pub config_every: Option<u32>,
+    /// Whether it is a PMU at a bus of a simulated grid.
+    pub is_grid: bool,
     pub ghost some_id: { 0 < id },
     pub ghost id_fits: { id ≤ MAX_ID },
     pub ghost some_rate: { 0 < rate },

@@ -2,16 +2,16 @@
 
 use crate::number::number;
 use crate::request::{MAX_SECONDS, Running};
-use crate::words::{out_of_range, word};
-use clap::{Arg, ArgAction, ArgMatches, Command, Error};
+use crate::words::{Form, Wanted, command_with, out_of_range};
+use clap::{ArgMatches, Command, Error};
 use std::alloc::{AllocError, Global};
 
 const ABOUT_NODE: &str =
     "Run a node: align the streams of PMUs and send one frame for each instant";
 
 const LONG_NODE: &str =
-    "Runs a node. The frames of each PMU come as UDP datagrams to the port that the settings name for it, are
-aligned by their time tags, and one data frame for each instant goes out to 127.0.0.1 at `out_port`; a
+    "Runs a node. The frames of each PMU come as UDP datagrams to the port that the settings name for it, or over TCP
+from the place that they name, are aligned by their time tags, and one data frame for each instant goes out to 127.0.0.1 at `out_port`; a
 configuration goes out at each change, and again after each `layout_every` ticks.
 
 SETTINGS is a TOML file, MARK the mark file that `pdc mark-init` made for this node. Each run stores a
@@ -64,49 +64,42 @@ pub enum Concentrator {
     Merger,
 }
 
-/// A command with the words of both.
-fn with_words<'a>(alloc: Global, command: Command<'a>) -> Result<Command<'a>, AllocError> {
-    command
-        .arg(word(alloc, "SETTINGS", "The settings file"))?
-        .arg(word(alloc, "MARK", "The mark file"))?
-        .arg(
-            Arg::new(alloc, "TICKS").action(ArgAction::Set).help(
-                "After how many ticks it ends, 1 to 4294967295; left out, it runs until it is stopped",
-            ),
-        )?
-        .arg(
-            Arg::new(alloc, "every")
-                .long("every")
-                .value_name("SECONDS")
-                .action(ArgAction::Set)
-                .help("Tell counters on standard error every so many seconds, 1 to 86400"),
-        )?
-        .arg(
-            Arg::new(alloc, "quiet")
-                .long("quiet")
-                .action(ArgAction::SetTrue)
-                .help(
-                    "Tell faults alone on standard error, and counters where --every asks for them",
-                ),
-        )
-}
+/// What both want.
+const WANTED: [Wanted<'static>; 5] = [
+    Wanted("SETTINGS", Form::Word, "The settings file"),
+    Wanted("MARK", Form::Word, "The mark file"),
+    Wanted(
+        "TICKS",
+        Form::Optional,
+        "After how many ticks it ends, 1 to 4294967295; left out, it runs until it is stopped",
+    ),
+    Wanted(
+        "every",
+        Form::Option("SECONDS"),
+        "Tell counters on standard error every so many seconds, 1 to 86400",
+    ),
+    Wanted(
+        "quiet",
+        Form::Flag,
+        "Tell faults alone on standard error, and counters where --every asks for them",
+    ),
+];
 
 /// The command `node` and its help.
 pub fn node<'a>(alloc: Global) -> Result<Command<'a>, AllocError> {
-    let command = Command::new(alloc, "node")
-        .bin_name("pdc node")?
-        .about(ABOUT_NODE)
-        .long_about(LONG_NODE);
-    with_words(alloc, command)
+    command_with(alloc, "node", "pdc node", ABOUT_NODE, LONG_NODE, &WANTED)
 }
 
 /// The command `merge` and its help.
 pub fn merge<'a>(alloc: Global) -> Result<Command<'a>, AllocError> {
-    let command = Command::new(alloc, "merge")
-        .bin_name("pdc merge")?
-        .about(ABOUT_MERGE)
-        .long_about(LONG_MERGE);
-    with_words(alloc, command)
+    command_with(
+        alloc,
+        "merge",
+        "pdc merge",
+        ABOUT_MERGE,
+        LONG_MERGE,
+        &WANTED,
+    )
 }
 
 /// The command and its help.

@@ -1,7 +1,9 @@
 //! The command `show`.
 
-use clap::Command;
-use std::alloc::Global;
+use crate::request::ShowForm;
+use crate::words::{Form, Wanted, command_with};
+use clap::{ArgMatches, Command};
+use std::alloc::{AllocError, Global};
 
 const ABOUT: &str = "Print what frames in hexadecimal say";
 
@@ -42,6 +44,13 @@ Lines of a header frame and of a command frame:
   command id=11 cmd=2
     cmd        1 data off, 2 data on, 3 header, 4 CFG-1, 5 CFG-2, 6 CFG-3
 
+With --format json there is one JSON object a line for each frame, and one for each line that is
+refused; with --format csv one row for each block of a data frame, below a row of names.
+Phasors are then in volts or amperes by PHUNIT, as magnitude and angle and as real and imaginary
+part, the frequency is in Hz, analogs are multiplied by the factor of ANUNIT, and the time is UTC.
+In CSV the columns are those of the first CFG-2; what has no column and what is refused is told on
+standard error.
+
 A frame that is refused gives its code and name, and a line that is no hexadecimal gives
 `line N: not hex`. The program goes on after either, and ends with status 1.
 
@@ -60,10 +69,34 @@ Refusals:
   N2 Cut            a command frame whose payload has not two bytes
   N3 UnknownCommand a command that is none of 1 to 6
 
-Example:
+Examples:
+  pdc listen 4751 | pdc show --format csv > day.csv
   printf '%s\\n' 'AA32 004A 000B ...' 'AA02 001A 000B ...' | pdc show";
 
+/// The forms for programs.
+const FORMATS: &[&str] = &["json", "csv"];
+
 /// The command and its help.
-pub fn show<'a>(alloc: Global) -> Command<'a> {
-    Command::new(alloc, "show").about(ABOUT).long_about(LONG)
+pub fn show<'a>(alloc: Global) -> Result<Command<'a>, AllocError> {
+    command_with(
+        alloc,
+        "show",
+        "pdc show",
+        ABOUT,
+        LONG,
+        &[Wanted(
+            "format",
+            Form::OneOf("FORMAT", FORMATS),
+            "Write for programs: json or csv",
+        )],
+    )
+}
+
+/// In which form these words ask for frames.
+pub fn show_form(matches: &ArgMatches<'_>) -> ShowForm {
+    match matches.get_str("format") {
+        Some("json") => ShowForm::Json,
+        Some(_) => ShowForm::Csv,
+        None => ShowForm::Lines,
+    }
 }

@@ -2,7 +2,7 @@
 
 use crate::left_out::MergedSource;
 use crate::output_tally::OutputTally;
-use crate::tally::Of;
+use crate::tally::{Of, Tally};
 use pdc_cfg::CfgFault;
 use pdc_frame::FrameFault;
 use pdc_ports::{Counts, Refusal, Told};
@@ -97,12 +97,36 @@ pub fn left_out_line(alloc: Global, merged: &MergedSource) -> Result<String, All
     )
 }
 
-/// The line of a destination to which frames could not be sent: `output 10.0.1.5:4741: unsent=N`.
+/// The line of a destination to which frames could not be sent, with the system's reason for the last one:
+/// `output 10.0.1.5:4741: unsent=N, Network is unreachable (os error 101)`.
 ///
 /// # Errors
 ///
 /// [`AllocError`] where there is no memory for it.
 pub fn output_line(alloc: Global, output: &OutputTally) -> Result<String, AllocError> {
     let (to, unsent) = (output.to.as_str(), output.unsent());
-    format!(in alloc; "output {to}: unsent={unsent}")
+    match output.reason() {
+        Some(reason) => format!(in alloc; "output {to}: unsent={unsent}, {reason}"),
+        None => format!(in alloc; "output {to}: unsent={unsent}"),
+    }
+}
+
+/// The line of a stream to whose port others sent: `PMU 11: strangers=N, datagrams from another address`.
+///
+/// # Errors
+///
+/// [`AllocError`] where there is no memory for it.
+pub fn strangers_line(alloc: Global, tally: &Tally) -> Result<String, AllocError> {
+    let (of, strangers) = (tally.of, tally.strangers());
+    format!(in alloc; "{of}: strangers={strangers}, datagrams from another address")
+}
+
+/// The line of a stream whose connections ended: `PMU 11: lost=N, connections that ended or were refused`.
+///
+/// # Errors
+///
+/// [`AllocError`] where there is no memory for it.
+pub fn lost_line(alloc: Global, tally: &Tally) -> Result<String, AllocError> {
+    let (of, lost) = (tally.of, tally.lost());
+    format!(in alloc; "{of}: lost={lost}, connections that ended or were refused")
 }

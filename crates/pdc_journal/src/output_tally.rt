@@ -1,7 +1,8 @@
 //! What could not be sent to one destination.
 
 use std::alloc::{AllocError, Global};
-use std::sync::atomic::{AtomicU64, Ordering};
+use std::io;
+use std::sync::atomic::{AtomicI32, AtomicU64, Ordering};
 
 /// A further destination of frames, and how many could not be sent to it.
 #[derive(Drop)]
@@ -9,6 +10,8 @@ pub struct OutputTally {
     /// The destination, as the settings name it.
     pub to: String,
     pub unsent: AtomicU64,
+    /// The number of the system's reason for the last one, and 0 where it gave none.
+    pub reason: AtomicI32,
 }
 
 impl OutputTally {
@@ -21,11 +24,20 @@ impl OutputTally {
         Ok(OutputTally {
             to: String::from_str(alloc, to)?,
             unsent: AtomicU64::new(0),
+            reason: AtomicI32::new(0),
         })
     }
 
     /// How many frames could not be sent to it until now.
     pub fn unsent(&self) -> u64 {
         self.unsent.load(Ordering::Relaxed)
+    }
+
+    /// Why the last one of these could not be sent, where the system told it.
+    pub fn reason(&self) -> Option<io::Error> {
+        match self.reason.load(Ordering::Relaxed) {
+            0 => None,
+            code => Some(io::Error::from_raw_os_error(code)),
+        }
     }
 }

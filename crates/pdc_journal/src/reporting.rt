@@ -1,6 +1,8 @@
 //! A ticker that tells counters.
 
-use crate::counters::{counters_line, left_out_line, output_line, tally_line};
+use crate::counters::{
+    counters_line, left_out_line, lost_line, output_line, strangers_line, tally_line,
+};
 use crate::journal::Journal;
 use crate::left_out::LeftOut;
 use crate::output_tally::OutputTally;
@@ -13,7 +15,7 @@ use std::sync::atomic::{AtomicU64, Ordering};
 use std::time::{Duration, Instant};
 
 /// Ticks as another ticker does. Each time that so many seconds have gone by, if any are asked for, it tells a line of counters, and one
-/// more for each stream of which anything was refused, for each destination that frames could not be sent to, and for each PMU of which the
+/// more for each stream of which anything was refused, to whose port strangers sent, or whose connections were lost, for each destination that frames could not be sent to, and for each PMU of which the
 /// merger left out blocks. Where the clock cannot be read there is no line.
 #[derive(Drop)]
 pub struct Reporting<'a, T: Ticker + Drop, R: Clock + Wait> {
@@ -93,6 +95,13 @@ impl<'a, T: Ticker + Drop, R: Clock + Wait> Ticker for Reporting<'a, T, R> {
             if counts.refused > 0 {
                 self.journal
                     .tell(self.rt, tally_line(self.alloc, tally.of, &counts));
+            }
+            if tally.strangers() > 0 {
+                self.journal
+                    .tell(self.rt, strangers_line(self.alloc, tally));
+            }
+            if tally.lost() > 0 {
+                self.journal.tell(self.rt, lost_line(self.alloc, tally));
             }
         }
         for output in self.outputs {

@@ -2,6 +2,7 @@
 
 use pdc_ports::{Counts, Outcome};
 use std::fmt;
+use std::sync::atomic::{AtomicU64, Ordering};
 use std::sync::{Mutex, Wait};
 
 /// Whose stream it is.
@@ -22,12 +23,16 @@ impl fmt::Display for Of {
     }
 }
 
-/// How the datagrams of one stream were answered, which one thread counts and another reads.
+/// How the datagrams of one stream were answered and how they came, which one thread counts and another reads.
 #[derive(Drop)]
 pub struct Tally {
     /// Whose stream it is.
     pub of: Of,
     counts: Mutex<Counts>,
+    /// How many datagrams came from another address than its own.
+    strangers: AtomicU64,
+    /// How many connections over which it came were lost, or refused.
+    lost: AtomicU64,
 }
 
 impl Tally {
@@ -36,6 +41,8 @@ impl Tally {
         Tally {
             of,
             counts: Mutex::new(Counts::new()),
+            strangers: AtomicU64::new(0),
+            lost: AtomicU64::new(0),
         }
     }
 
@@ -47,5 +54,25 @@ impl Tally {
     /// What was counted so far.
     pub fn counts<R: Wait>(&self, rt: &R) -> Counts {
         *self.counts.lock(rt)
+    }
+
+    /// Takes how many datagrams came from another address so far.
+    pub fn set_strangers(&self, strangers: u64) {
+        self.strangers.store(strangers, Ordering::Relaxed);
+    }
+
+    /// How many datagrams came from another address.
+    pub fn strangers(&self) -> u64 {
+        self.strangers.load(Ordering::Relaxed)
+    }
+
+    /// Counts a connection that was lost or refused.
+    pub fn lose(&self) {
+        self.lost.fetch_add(1, Ordering::Relaxed);
+    }
+
+    /// How many connections were lost or refused.
+    pub fn lost(&self) -> u64 {
+        self.lost.load(Ordering::Relaxed)
     }
 }

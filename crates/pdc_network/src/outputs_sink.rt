@@ -6,7 +6,7 @@ use pdc_ports::{Sink, SinkFault};
 use std::io;
 use std::io::ErrorKind;
 use std::net::{IpAddr, Net, SocketAddr, ToSocketAddrs, UdpSocket};
-use std::sync::atomic::{AtomicU64, Ordering};
+use std::sync::atomic::{AtomicI32, AtomicU64, Ordering};
 
 /// A destination of frames: a port of another machine, or of a group of them.
 #[derive(Drop)]
@@ -15,6 +15,8 @@ pub struct Destination<'a> {
     to: SocketAddr,
     /// How many frames could not be sent to it.
     unsent: &'a AtomicU64,
+    /// The number of the system's reason for the last one, and 0 where it gave none.
+    reason: &'a AtomicI32,
 }
 
 /// The address from which frames go to a destination: each of the machine's, of the destination's kind.
@@ -28,7 +30,7 @@ fn any_address(to: &SocketAddr) -> IpAddr {
 
 impl<'a> Destination<'a> {
     /// Looks up the destination that a text `HOST:PORT` names, and opens a socket from which frames go there. A frame to a group takes
-    /// at most `ttl` hops. What cannot be sent is counted.
+    /// at most `ttl` hops. What cannot be sent is counted, and the number of the system's reason is kept.
     ///
     /// # Errors
     ///
@@ -38,6 +40,7 @@ impl<'a> Destination<'a> {
         text: &str,
         ttl: u8,
         unsent: &'a AtomicU64,
+        reason: &'a AtomicI32,
     ) -> io::Result<Destination<'a>> {
         let Some(to) = text.to_socket_addrs(net)?.next() else {
             return Err(io::Error::from(ErrorKind::NotFound));
@@ -46,16 +49,26 @@ impl<'a> Destination<'a> {
         if to.ip().is_multicast() {
             socket.set_multicast_ttl_v4(u32::from(ttl))?;
         }
-        Ok(Destination { socket, to, unsent })
+        Ok(Destination {
+            socket,
+            to,
+            unsent,
+            reason,
+        })
+    }
+
+    /// Counts a frame that could not be sent, for this reason.
+    fn count(&self, reason: i32) {
+        self.unsent.fetch_add(1, Ordering::Relaxed);
+        self.reason.store(reason, Ordering::Relaxed);
     }
 
     /// Sends the bytes as one datagram.
     fn send(&self, bytes: &[u8]) {
         match self.socket.send_to(bytes, self.to) {
             Ok(len) if len == bytes.len() => {}
-            _ => {
-                self.unsent.fetch_add(1, Ordering::Relaxed);
-            }
+            Ok(_) => self.count(0),
+            Err(error) => self.count(error.raw_os_error().unwrap_or(0)),
         }
     }
 }

@@ -1,10 +1,12 @@
 //! What a node and the merger have in common.
-ghost use Rattle.std.specs.Prelude.{◌≡◌, IfOk, map, sum, vec_len};
+ghost use Rattle.std.specs.Prelude.{◌≡◌, ◌≤◌, ◌<◌, IfOk, IfSome, map, sum, vec_len};
+ghost use Rattle.pdc_frame.specs.declared.limits.TheConstants.{MAX_ID};
 ghost use Rattle.pdc_service.specs.Concentrator.{output_of, streams_of};
 
 use crate::begun::Begun;
 use crate::plan::Plan;
 use crate::running_concentrator::{run_merger, run_node};
+use pdc_frame::MAX_ID;
 use pdc_mark::Mark;
 use pdc_output::Output;
 use pdc_settings::{MergerSettings, NodeSettings, Service};
@@ -30,6 +32,25 @@ impl Concentrator {
         match self {
             Concentrator::Node(settings) => settings.life.output,
             Concentrator::Merger(settings) => settings.life.output,
+        }
+    }
+
+    /// The id of the stream with this number, counted from 0; none where it takes no such stream.
+    pub fn stream_id(&self, number: usize) -> Option<u16>
+        ensures { IfSome result (λ id. (0 < id) × (id ≤ MAX_ID)) }
+    {
+        match self {
+            Concentrator::Node(settings) => {
+                match settings.life.pmus.as_slice().get(number) {
+                    Some(pmu) => Some(pmu.stream),
+                    None => None,
+                }
+            }
+            Concentrator::Merger(settings) => match number {
+                0 => Some(settings.life.first.id),
+                1 => Some(settings.life.second.id),
+                _ => None,
+            },
         }
     }
 

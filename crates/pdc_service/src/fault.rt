@@ -41,6 +41,9 @@ pub enum ServiceFault {
     /// The further destination with this number, counted from 1, is not known, or no socket can be opened for it.
     #[error("device fault")]
     Output(usize, io::Error),
+    /// The place where the stream with this id is asked for is not known.
+    #[error("device fault")]
+    Input(u16, io::Error),
     /// The run ended by a fault.
     #[error("{0}")]
     Run(HubFault),
@@ -80,6 +83,7 @@ impl ServiceFault {
             | ServiceFault::MarkInUse
             | ServiceFault::Port(..)
             | ServiceFault::Output(..)
+            | ServiceFault::Input(..)
             | ServiceFault::Run(_)
             | ServiceFault::Clock => FAILED,
         }

@@ -1,16 +1,23 @@
 //! The ports of a concentrator.
-ghost use Rattle.std.specs.Prelude.{◌≡◌, IfOk, length, vec_len};
+ghost use Rattle.std.specs.Prelude.{◌≡◌, ◌≤◌, ◌<◌, IfOk, length, vec_len};
+ghost use Rattle.pdc_frame.specs.declared.limits.TheConstants.{MAX_ID};
 ghost use Rattle.pdc_service.specs.Concentrator.{streams_of};
 
 use crate::concentrator::Concentrator;
 use crate::fault::ServiceFault;
-use pdc_journal::OutputTally;
+use crate::observing::Observed;
+use pdc_frame::MAX_ID;
+use pdc_journal::{Journal, OutputTally, Tally};
+use pdc_link::{Connection, Link, Port};
 use pdc_network::{Destination, OutputsSink, UdpSink, UdpSource};
-use pdc_settings::Network;
+use pdc_settings::{Input, Network};
 use pdc_threads::HubFault;
 use std::alloc::Global;
 use std::io;
-use std::net::{IpAddr, Net, SocketAddr, TcpListener, TcpStream};
+use std::io::ErrorKind;
+use std::net::{IpAddr, Net, SocketAddr, TcpListener, TcpStream, ToSocketAddrs};
+use std::rt::Clock;
+use std::sync::Wait;
 
 /// The fault of a port that cannot be opened.
 fn unopened(address: IpAddr, port: u16, error: io::Error) -> ServiceFault {
@@ -27,41 +34,135 @@ fn open_source<R: Net>(rt: &R, network: &Network, port: u16) -> Result<UdpSource
     Ok(source)
 }
 
-/// A source at each of these ports, in their order.
-fn open_all<R: Net>(
-    rt: &R,
-    alloc: Global,
-    network: &Network,
-    ports: &[u16],
-) -> Result<Vec<UdpSource>, ServiceFault>
-    ensures { IfOk result (λ sources. vec_len sources ≡ length ports.now) }
-{
-    let mut sources = Vec::new(alloc);
-    for port in ports {
-        let source = open_source(rt, network, *port)?;
-        sources
-            .push(source)
-            .map_err(|_| ServiceFault::Run(HubFault::NoMemory))?;
+/// The address that a text `HOST:PORT` names, looked up once.
+fn address_of<R: Net>(rt: &R, text: &str) -> io::Result<SocketAddr> {
+    match text.to_socket_addrs(rt)?.next() {
+        Some(address) => Ok(address),
+        None => Err(io::Error::from(ErrorKind::NotFound)),
     }
-    Ok(sources)
 }
 
-/// A source for each stream, in their order.
-pub fn open_sources<R: Net>(
+/// The address that a key of the stream's table names, where it is there.
+fn asked_at<R: Net>(
     rt: &R,
+    id: u16,
+    text: &Option<String>,
+) -> Result<Option<SocketAddr>, ServiceFault> {
+    match text {
+        Some(text) => match address_of(rt, text.as_str()) {
+            Ok(address) => Ok(Some(address)),
+            Err(error) => Err(ServiceFault::Input(id, error)),
+        },
+        None => Ok(None),
+    }
+}
+
+/// The link to the sender of the stream `id`: a connection where it is asked for over TCP, and else its port.
+fn open_link<'a, R: Net<Listener = TcpListener, Stream = TcpStream> + Clock + Wait>(
+    rt: &'a R,
+    alloc: Global,
+    network: &Network,
+    journal: &'a Journal,
+    tally: &'a Tally,
+    id: u16,
+    input: &Input,
+    port: u16,
+) -> Result<Link<'a, R>, ServiceFault>
+    requires id_low { 0 < id }
+    requires id_high { id ≤ MAX_ID }
+{
+    if let Some(to) = asked_at(rt, id, &input.tcp)? {
+        return match Connection::new(rt, alloc, journal, tally, id, to) {
+            Ok(connection) => Ok(Link::over(connection)),
+            Err(_) => Err(ServiceFault::Run(HubFault::NoMemory)),
+        };
+    }
+    let commands = asked_at(rt, id, &input.commands)?;
+    let mut source = open_source(rt, network, port)?;
+    source.read_only(input.from);
+    Ok(Link::at(Port::new(rt, tally, source, id, commands)))
+}
+
+/// The link to the sender of the stream with this number, counted from 0.
+fn open_numbered<'a, R: Net<Listener = TcpListener, Stream = TcpStream> + Clock + Wait>(
+    rt: &'a R,
     alloc: Global,
     network: &Network,
     concentrator: &Concentrator,
-) -> Result<Vec<UdpSource>, ServiceFault>
-    ensures { IfOk result (λ sources. vec_len sources ≡ streams_of concentrator.now) }
+    observed: &'a Observed,
+    number: usize,
+    port: u16,
+) -> Result<Link<'a, R>, ServiceFault> {
+    match (
+        concentrator.stream_id(number),
+        network.inputs.get(number),
+        observed.tallies.get(number),
+    ) {
+        (Some(id), Some(input), Some(tally)) => {
+            open_link(
+                rt,
+                alloc,
+                network,
+                &observed.journal,
+                tally,
+                id,
+                input,
+                port,
+            )
+        }
+        _ => Err(ServiceFault::Run(HubFault::NoMemory)),
+    }
+}
+
+/// A link for each of these ports, in their order.
+fn open_all<'a, R: Net<Listener = TcpListener, Stream = TcpStream> + Clock + Wait>(
+    rt: &'a R,
+    alloc: Global,
+    network: &Network,
+    concentrator: &Concentrator,
+    observed: &'a Observed,
+    ports: &[u16],
+) -> Result<Vec<Link<'a, R>>, ServiceFault>
+    ensures { IfOk result (λ links. vec_len links ≡ length ports.now) }
+{
+    let mut links = Vec::new(alloc);
+    for port in ports {
+        let number = links.len();
+        let link = open_numbered(rt, alloc, network, concentrator, observed, number, *port)?;
+        match links.push(link) {
+            Ok(()) => {}
+            Err(_) => return Err(ServiceFault::Run(HubFault::NoMemory)),
+        }
+    }
+    Ok(links)
+}
+
+/// A link to the sender of each stream, in their order.
+pub fn open_links<'a, R: Net<Listener = TcpListener, Stream = TcpStream> + Clock + Wait>(
+    rt: &'a R,
+    alloc: Global,
+    network: &Network,
+    concentrator: &Concentrator,
+    observed: &'a Observed,
+) -> Result<Vec<Link<'a, R>>, ServiceFault>
+    ensures { IfOk result (λ links. vec_len links ≡ streams_of concentrator.now) }
 {
     match concentrator {
-        Concentrator::Node(settings) => open_all(rt, alloc, network, settings.ports.as_slice()),
+        Concentrator::Node(settings) => open_all(
+            rt,
+            alloc,
+            network,
+            concentrator,
+            observed,
+            settings.ports.as_slice(),
+        ),
         Concentrator::Merger(settings) => {
             open_all(
                 rt,
                 alloc,
                 network,
+                concentrator,
+                observed,
                 &[settings.first_port, settings.second_port],
             )
         }
@@ -78,9 +179,13 @@ fn open_destinations<'a, R: Net>(
     let mut destinations = Vec::new(alloc);
     for output in outputs {
         let number = destinations.len().saturating_add(1);
-        let destination = Destination::open(rt, output.to.as_str(), ttl, &output.unsent).map_err(
-            |error| ServiceFault::Output(number, error),
-        )?;
+        let destination = Destination::open(
+            rt,
+            output.to.as_str(),
+            ttl,
+            &output.unsent,
+            &output.reason,
+        ).map_err(|error| ServiceFault::Output(number, error))?;
         destinations
             .push(destination)
             .map_err(|_| ServiceFault::Run(HubFault::NoMemory))?;

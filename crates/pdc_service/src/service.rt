@@ -7,7 +7,7 @@ use crate::files::{begin_mark, read_merger, read_node};
 use crate::host::Host;
 use crate::observing::Observed;
 use crate::options::RunOptions;
-use crate::ports::{open_listener, open_sink, open_sources};
+use crate::ports::{open_links, open_listener, open_sink};
 use crate::serving::{Consumers, Opened, run_serving};
 use crate::telling::begun_text;
 use pdc_settings::Network;
@@ -38,7 +38,7 @@ fn serve_concentrator<R: Host>(
         return Err(ServiceFault::Run(HubFault::NoMemory));
     };
     let (start, floor) = (mark.start(), mark.floor());
-    let sources = open_sources(rt, alloc, network, concentrator)?;
+    let sources = open_links(rt, alloc, network, concentrator, &observed)?;
     let buffer = sources.first().and_then(|source| source.buffer());
     let opened = Opened {
         mark,
@@ -75,8 +75,8 @@ fn serve_concentrator<R: Host>(
 ///
 /// # Errors
 ///
-/// The first fault: of the settings file, the mark file, the start that is stored, the ports in the order of the PMUs, the port of the
-/// frames, the further destinations in their order, the port of the sessions, or the run.
+/// The first fault: of the settings file, the mark file, the start that is stored, the ports and places of the PMUs in their order, the
+/// port of the frames, the further destinations in their order, the port of the sessions, or the run.
 pub fn serve_node<R: Host>(
     rt: &R,
     files: &Files<'_>,
@@ -90,8 +90,8 @@ pub fn serve_node<R: Host>(
 ///
 /// # Errors
 ///
-/// The first fault: of the settings file, the mark file, the start that is stored, the ports of node A and node B, the port of the
-/// frames, the further destinations in their order, the port of the sessions, or the run.
+/// The first fault: of the settings file, the mark file, the start that is stored, the ports or places of node A and node B, the
+/// port of the frames, the further destinations in their order, the port of the sessions, or the run.
 pub fn serve_merger<R: Host>(
     rt: &R,
     files: &Files<'_>,

@@ -14,10 +14,10 @@ use crate::telling::unsent_text;
 use pdc_disk::FileDisk;
 use pdc_journal::{AnnouncingSink, CountingSink, Journal, Reporting};
 use pdc_mark::DiskMark;
-use pdc_network::{ClockTicker, OutputsSink, UdpSource};
+use pdc_network::{ClockTicker, OutputsSink};
 use pdc_recent::{Naming, Recent, RememberingSink};
 use pdc_server::serve;
-use pdc_threads::{HubFault, Totals};
+use pdc_threads::{HubFault, Source, Totals};
 use std::alloc::Global;
 use std::marker::Brand;
 use std::net::TcpListener;
@@ -29,9 +29,9 @@ use std::thread::{Scope, Threads};
 
 /// What is open for a run: its mark, a source for each stream, and where frames go.
 #[derive(Drop)]
-pub struct Opened<'a> {
+pub struct Opened<'a, S: Source + Drop> {
     pub mark: Begun<DiskMark<FileDisk>>,
-    pub sources: Vec<UdpSource>,
+    pub sources: Vec<S>,
     pub sink: OutputsSink<'a>,
 }
 
@@ -93,13 +93,18 @@ fn start_journal<'s, E: 's, R: Wait + Clock + Eprint + Sync + 's>(
 }
 
 /// Runs, and tells at the end how many frames could not be sent.
-fn run_observed<'s, N: Naming + Send + 's, R: Threads + Wait + Clock + Sync + 's>(
+fn run_observed<
+    's,
+    S: Source + Send + Drop,
+    N: Naming + Send + 's,
+    R: Threads + Wait + Clock + Sync + 's,
+>(
     rt: &'s R,
     alloc: Global,
     concentrator: &Concentrator,
     options: &RunOptions,
     mark: Begun<DiskMark<FileDisk>>,
-    sources: Vec<UdpSource>,
+    sources: Vec<S>,
     sink: OutputsSink<'s>,
     observed: &'s Observed,
     recent: &'s Recent<N>,
@@ -141,13 +146,19 @@ fn run_observed<'s, N: Naming + Send + 's, R: Threads + Wait + Clock + Sync + 's
 }
 
 /// Starts the sessions and the journal, runs, and ends both.
-fn conduct<'s, E: 's, N: Naming + Send + 's, R: Threads + Wait + Clock + Eprint + Sync + 's>(
+fn conduct<
+    's,
+    E: 's,
+    S: Source + Send + Drop + 's,
+    N: Naming + Send + 's,
+    R: Threads + Wait + Clock + Eprint + Sync + 's,
+>(
     scope: &'s Scope<'s, E>,
     rt: &'s R,
     alloc: Global,
     concentrator: &Concentrator,
     options: &RunOptions,
-    opened: Opened<'s>,
+    opened: Opened<'s, S>,
     consumers: &'s Consumers,
     observed: &'s Observed,
     recent: &'s Recent<N>,
@@ -185,12 +196,17 @@ fn conduct<'s, E: 's, N: Naming + Send + 's, R: Threads + Wait + Clock + Eprint 
 
 /// Runs a concentrator that keeps what it sends in `recent`. Its consumers are served, and what it tells is printed, in threads beside it,
 /// for as long as it runs.
-fn run_keeping<'x, N: Naming + Send + 'x, R: Threads + Wait + Clock + Eprint + Sync + 'x>(
+fn run_keeping<
+    'x,
+    S: Source + Send + Drop + 'x,
+    N: Naming + Send + 'x,
+    R: Threads + Wait + Clock + Eprint + Sync + 'x,
+>(
     rt: &'x R,
     alloc: Global,
     concentrator: &'x Concentrator,
     options: &'x RunOptions,
-    opened: Opened<'x>,
+    opened: Opened<'x, S>,
     consumers: &'x Consumers,
     observed: &'x Observed,
     recent: &'x Recent<N>,
@@ -221,12 +237,12 @@ fn run_keeping<'x, N: Naming + Send + 'x, R: Threads + Wait + Clock + Eprint + S
 }
 
 /// Runs a concentrator of the stream that is named, and serves its consumers.
-fn run_named<N: Naming + Send, R: Threads + Wait + Clock + Eprint + Sync>(
+fn run_named<S: Source + Send + Drop, N: Naming + Send, R: Threads + Wait + Clock + Eprint + Sync>(
     rt: &R,
     alloc: Global,
     concentrator: &Concentrator,
     options: &RunOptions,
-    opened: Opened<'_>,
+    opened: Opened<'_, S>,
     consumers: &Consumers,
     observed: &Observed,
 ) -> Result<Totals, ServiceFault>
@@ -249,18 +265,18 @@ fn run_named<N: Naming + Send, R: Threads + Wait + Clock + Eprint + Sync>(
 }
 
 /// Runs a concentrator, serves its consumers and prints what is told, for as long as it runs.
-pub fn run_serving<R: Threads + Wait + Clock + Eprint + Sync>(
+pub fn run_serving<S: Source + Send + Drop, R: Threads + Wait + Clock + Eprint + Sync>(
     rt: &R,
     alloc: Global,
     concentrator: &Concentrator,
     options: &RunOptions,
-    opened: Opened<'_>,
+    opened: Opened<'_, S>,
     consumers: &Consumers,
     observed: &Observed,
 ) -> Result<Totals, ServiceFault>
     requires { vec_len opened.sources ≡ streams_of concentrator.now }
 {
-    run_named::<Brand, R>(
+    run_named::<S, Brand, R>(
         rt,
         alloc,
         concentrator,

@@ -1,18 +1,22 @@
 //! What a concentrator tells at its begin and its end.
 
 use crate::concentrator::Concentrator;
-use pdc_settings::Network;
+use pdc_settings::{Input, Network};
 use std::alloc::{AllocError, Global};
 
-/// Appends where the frames of a stream come.
+/// Appends where the frames of a stream come: the place where it is asked for over TCP, or else the port.
 fn push_input(
     alloc: Global,
     kind: &str,
     id: u16,
     port: u16,
+    input: Option<&Input>,
     text: &mut String,
 ) -> Result<(), AllocError> {
-    let more = format!(in alloc; ", {kind} {id} at port {port}")?;
+    let more = match input.and_then(|input| input.tcp.as_ref()) {
+        Some(tcp) => format!(in alloc; ", {kind} {id} at {tcp} over TCP")?,
+        None => format!(in alloc; ", {kind} {id} at port {port}")?,
+    };
     text.push_str(more.as_str())
 }
 
@@ -49,14 +53,16 @@ pub fn begun_text(
     let mut text = format!(in alloc; "{id} begins: start={start} floor={floor}")?;
     match concentrator {
         Concentrator::Node(settings) => {
+            let mut inputs = network.inputs.iter();
             for (pmu, port) in settings.life.pmus.iter().zip(settings.ports.iter()) {
-                push_input(alloc, "PMU", pmu.stream, *port, &mut text)?;
+                push_input(alloc, "PMU", pmu.stream, *port, inputs.next(), &mut text)?;
             }
         }
         Concentrator::Merger(settings) => {
             let (first, second) = (settings.life.first.id, settings.life.second.id);
-            push_input(alloc, "node", first, settings.first_port, &mut text)?;
-            push_input(alloc, "node", second, settings.second_port, &mut text)?;
+            let (at, to) = (network.inputs.get(0), network.inputs.get(1));
+            push_input(alloc, "node", first, settings.first_port, at, &mut text)?;
+            push_input(alloc, "node", second, settings.second_port, to, &mut text)?;
         }
     }
     push_outputs(alloc, concentrator, network, &mut text)?;

@@ -6,12 +6,13 @@ use Rattle.std.proofs.lemmas.Bool.{false≢true}
 use Rattle.std.proofs.lemmas.List.{map-append, map_push, take-append-drop, take_more, take_all}
 use Rattle.std.proofs.lemmas.Option.{none-some, same_Some}
 use Rattle.std.proofs.Math.Seq.{drop-cons}
-use Rattle.toml.specs.Data.{Data, Members, as_str}
+use Rattle.toml.specs.Data.{Data, Members}
 use Rattle.toml.specs.View.{items_of, items_view, view}
 use Rattle.toml.specs.declared.value.Value.{Value}
 use Rattle.pdc_life.specs.declared.given.TheConstants.{MAX_PMUS}
 use Rattle.pdc_settings.specs.Entries.{both, count_of, each_of, some_pmus, two_of}
-use Rattle.pdc_settings.specs.Network.{IsNetworkFault, IsUnread, fault_of, few_outputs, outputs_in}
+use Rattle.pdc_settings.specs.Places.{as_place}
+use Rattle.pdc_settings.specs.Network.{IsKeyFault, IsUnread, fault_of, few_outputs, outputs_in}
 use Rattle.pdc_settings.specs.declared.network.TheConstants.{MAX_OUTPUTS}
 use Rattle.pdc_settings.specs.declared.unread.Unread.{Unread}
 
@@ -92,15 +93,15 @@ pub some-tables : (values : List Value) → some_pmus (items_view values) ≡ (i
 some-tables values = ap (λ n. if nat_le 1 n && nat_le n MAX_PMUS then Some (items_view values) else None) (count-items values)
 
 -- the texts of a list, where there are at most 8
-pub some-outputs : (values : List Value) → few_outputs (items_view values) ≡ (if nat_le (length values) MAX_OUTPUTS then each_of as_str (items_view values) else None)
-some-outputs values = ap (λ n. if nat_le n MAX_OUTPUTS then each_of as_str (items_view values) else None) (count-items values)
+pub some-outputs : (values : List Value) → few_outputs (items_view values) ≡ (if nat_le (length values) MAX_OUTPUTS then each_of as_place (items_view values) else None)
+some-outputs values = ap (λ n. if nat_le n MAX_OUTPUTS then each_of as_place (items_view values) else None) (count-items values)
 
 -- why something was not read is why more was not read
 pub unread-of : {P Q : Type 0} (unread : Unread) → (P → Q) → IsUnread P unread → IsUnread Q unread
-unread-of Unread.NoText f p = f p
+unread-of Unread.NoPlace f p = f p
 unread-of Unread.NoMemory f p = tt
 
 -- a document whose destinations were not read has this fault
-pub network-fault : (members : Members) (unread : Unread) → IsUnread (outputs_in members ≡ None) unread → IsNetworkFault members (fault_of unread)
-network-fault _ Unread.NoText h = h
+pub network-fault : (members : Members) (unread : Unread) → IsUnread (outputs_in members ≡ None) unread → IsKeyFault members (fault_of unread)
+network-fault _ Unread.NoPlace h = h
 network-fault _ Unread.NoMemory h = tt

@@ -11,7 +11,7 @@ use Rattle.pdc_life.specs.declared.given.WaitKind.{WaitKind}
 use Rattle.pdc_life.specs.declared.given.WaitKind.TheVariants.{Relative, Absolute}
 use Rattle.pdc_life.specs.declared.limits.TheConstants.{MAX_AHEAD, MAX_WAIT, MAX_WINDOW, MIN_WINDOW}
 use Rattle.pdc_publisher.specs.declared.publisher.TheConstants.{MAX_LEAD}
-use Rattle.pdc_settings.specs.Keys.{number_at, number_or_0}
+use Rattle.pdc_settings.specs.Keys.{number_at, number_or}
 use Rattle.pdc_settings.specs.declared.limits.TheConstants.{MAX_PORT, MAX_TIME_BASE}
 use Rattle.pdc_settings.specs.declared.service.Service.{Service}
 use Rattle.pdc_settings.specs.declared.timing.Timing.{Timing}
@@ -61,7 +61,7 @@ pub record IsTiming (members : Members) (timing : Timing) : Type 0 where
 
 -- the settings say this of what the program does with the rows and frames
 pub record IsService (members : Members) (service : Service) : Type 0 where
-  pub lead : number_or_0 MAX_LEAD (get_member (codes "lead") members) ≡ Some service.lead
+  pub lead : number_or 0 0 MAX_LEAD (get_member (codes "lead") members) ≡ Some service.lead
   pub layout_every : number_at (codes "layout_every") 1 MAX_PORT members ≡ Some service.layout_every
   pub out_port : number_at (codes "out_port") 1 MAX_PORT members ≡ Some service.out_port
   pub session_port : number_at (codes "session_port") 1 MAX_PORT members ≡ Some service.session_port
@@ -78,7 +78,7 @@ has_timing members =
 
 abbrev pub has_service : Members → Bool
 has_service members =
-    is_some (number_or_0 MAX_LEAD (get_member (codes "lead") members)) && (is_some (number_at (codes "layout_every") 1 MAX_PORT members)
+    is_some (number_or 0 0 MAX_LEAD (get_member (codes "lead") members)) && (is_some (number_at (codes "layout_every") 1 MAX_PORT members)
     && (is_some (number_at (codes "out_port") 1 MAX_PORT members) && is_some (number_at (codes "session_port") 1 MAX_PORT members)))
 
 abbrev pub has_common : Members → Bool

@@ -26,8 +26,14 @@ pub record NodeFields : Type 0 where
 abbrev pub node_fields : MergedNode → NodeFields
 node_fields node = record { id = node.id; time_base = node.time_base }
 
+-- the port of a stream; 0, which is none, where it is asked for over TCP
+abbrev pub port_or : (tcp port : Option Data) → Option ℕ
+port_or None port = number_in 1 MAX_PORT port
+port_or (Some tcp) None = Some 0
+port_or (Some tcp) (Some port) = None
+
 abbrev pub port_in : Members → Option ℕ
-port_in = number_at (codes "port") 1 MAX_PORT
+port_in members = port_or (get_member (codes "tcp") members) (get_member (codes "port") members)
 
 -- the source that a value is; where it is left out, the source is the stream
 abbrev pub source_of : ℕ → Option Data → Option ℕ

@@ -15,7 +15,7 @@ number_in least most value = option_and_then (in_range least most) (option_and_t
 abbrev pub number_at : List ℕ → ℕ → ℕ → Members → Option ℕ
 number_at key least most members = number_in least most (get_member key members)
 
--- the number of a value that may be left out, and is 0 then
-abbrev pub number_or_0 : ℕ → Option Data → Option ℕ
-number_or_0 most None = Some 0
-number_or_0 most (Some value) = number_in 0 most (Some value)
+-- the number of a value that may be left out, and is `usual` then
+abbrev pub number_or : (usual least most : ℕ) → Option Data → Option ℕ
+number_or usual least most None = Some usual
+number_or usual least most (Some value) = number_in least most (Some value)

@@ -4,7 +4,7 @@ ghost use Rattle.toml.specs.View.{table_view};
 ghost use Rattle.pdc_settings.specs.Common.{IsOutput, IsService, IsTiming, has_common, has_output, has_service, has_timing, nominal_in, nominal_of, wait_kind_in, wait_kind_named};
 ghost use Rattle.pdc_settings.specs.Settings.{IsCommon};
 
-use crate::keys::{number, number_or_0, value_at};
+use crate::keys::{number, number_or, value_at};
 use crate::limits::{MAX_PORT, MAX_TIME_BASE};
 use crate::service::Service;
 use crate::timing::Timing;
@@ -108,7 +108,7 @@ fn service(table: &Table) -> Result<Service, Wanted>
     ensures none { OnErr result (has_service (table_view table.now) ≡ false) }
 {
     let most = u64::from(MAX_PORT);
-    let Some(lead) = number_or_0(table, "lead", u64::from(MAX_LEAD)) else {
+    let Some(lead) = number_or(table, "lead", 0, 0, u64::from(MAX_LEAD)) else {
         return Err(Wanted::Lead);
     };
     let layout_every = number(table, "layout_every", 1, most, Wanted::LayoutEvery)?;

@@ -1,5 +1,5 @@
 //! The tables of the PMUs and of the nodes.
-ghost use Rattle.std.specs.Prelude.{◌≡◌, ◌≤◌, IfOk, IfSome, IsTrue, None, OnErr, Some, codes, nat_le};
+ghost use Rattle.std.specs.Prelude.{◌≡◌, ◌≤◌, IfOk, IfSome, None, OnErr, Some, codes};
 ghost use Rattle.toml.specs.Data.{get_member};
 ghost use Rattle.toml.specs.View.{table_view, view};
 ghost use Rattle.pdc_frame.specs.declared.limits.TheConstants.{MAX_ID};
@@ -12,21 +12,27 @@ use pdc_frame::MAX_ID;
 use pdc_life::{MergedNode, Pmu};
 use toml::{Table, Value};
 
-/// The port of a table, 1 to 65535.
+/// The port of a table, 1 to 65535; 0, which is none, where the stream is asked for over TCP.
 fn port(table: &Table, wanted: Wanted) -> Result<u16, Wanted>
     ensures value { IfOk result (λ n. port_in (table_view table.now) ≡ Some n) }
     ensures none { OnErr result (port_in (table_view table.now) ≡ None) }
-    ensures low { IfOk result (λ n. IsTrue (nat_le 1 n)) }
 {
-    let port = number(table, "port", 1, u64::from(MAX_PORT), wanted)?;
-    Ok(port as u16)
+    match value_at(table, "tcp") {
+        Some(_) => match value_at(table, "port") {
+            Some(_) => Err(Wanted::Tcp),
+            None => Ok(0),
+        },
+        None => {
+            let port = number(table, "port", 1, u64::from(MAX_PORT), wanted)?;
+            Ok(port as u16)
+        }
+    }
 }
 
 /// The port of a table among others.
 pub(crate) fn port_of(value: &Value, wanted: Wanted) -> Result<u16, Wanted>
     ensures value { IfOk result (λ n. port_of (view value.now) ≡ Some n) }
     ensures none { OnErr result (port_of (view value.now) ≡ None) }
-    ensures low { IfOk result (λ n. IsTrue (nat_le 1 n)) }
 {
     match value.as_table() {
         Some(table) => port(table, wanted),

@@ -2,7 +2,7 @@
 ghost use Rattle.std.specs.Prelude.{◌≡◌, ◌≤◌, IfSome, IfOk, None, OnErr, Some, ok_or, option_and_then, option_map};
 ghost use Rattle.toml.specs.Data.{as_array, get_member};
 ghost use Rattle.toml.specs.View.{items_view, table_view, view};
-ghost use Rattle.pdc_settings.specs.Keys.{in_range, number_at, number_in, number_or_0};
+ghost use Rattle.pdc_settings.specs.Keys.{in_range, number_at, number_in, number_or};
 
 use crate::wanted::Wanted;
 use toml::{Table, Value};
@@ -78,13 +78,16 @@ pub(crate) fn number(
     }
 }
 
-/// The number at a key that may be left out, and is 0 then: at most `most`.
-pub(crate) fn number_or_0(table: &Table, key: &str, most: u64) -> Option<u64>
-    ensures value { result ≡ number_or_0 most (get_member key.now (table_view table.now)) }
+/// The number at a key that may be left out, and is `usual` then.
+pub(crate) fn number_or(table: &Table, key: &str, usual: u64, least: u64, most: u64) -> Option<u64>
+    requires low { least ≤ usual }
+    requires high { usual ≤ most }
+    ensures value { result ≡ number_or usual least most (get_member key.now (table_view table.now)) }
+    ensures low { IfSome result (λ n. least ≤ n) }
     ensures high { IfSome result (λ n. n ≤ most) }
 {
     match value_at(table, key) {
-        Some(value) => number_in(value, 0, most),
-        None => Some(0),
+        Some(value) => number_in(value, least, most),
+        None => Some(usual),
     }
 }

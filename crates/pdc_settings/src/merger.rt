@@ -1,5 +1,4 @@
 //! The settings of the merger.
-ghost use Rattle.std.specs.Prelude.{◌≤◌};
 
 use crate::service::Service;
 
@@ -10,10 +9,8 @@ pub struct MergerSettings {
     pub life: pdc_life::MergerSettings,
     /// What the running program is told.
     pub service: Service,
-    /// The UDP port that node A sends to, 1 to 65535.
+    /// The UDP port that node A sends to, 1 to 65535; 0 where it is asked over TCP.
     pub first_port: u16,
-    /// The UDP port that node B sends to, 1 to 65535.
+    /// The UDP port that node B sends to, 1 to 65535; 0 where it is asked over TCP.
     pub second_port: u16,
-    pub ghost first_port_low: { 1 ≤ first_port },
-    pub ghost second_port_low: { 1 ≤ second_port },
 }

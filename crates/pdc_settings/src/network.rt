@@ -2,6 +2,7 @@
 ghost use Rattle.std.specs.Prelude.{◌≤◌};
 ghost use Rattle.pdc_settings.specs.declared.network.TheConstants.{MAX_SESSIONS};
 
+use crate::input::Input;
 use std::net::IpAddr;
 
 /// The most destinations of a frame beside the loopback.
@@ -35,6 +36,8 @@ pub struct Network {
     pub receive_buffer: u32,
     /// How many consumers are served at once, 1 to 64; left out, 8.
     pub sessions: u8,
+    /// How the frames of each stream come, in the order of the tables of PMUs, or of nodes.
+    pub inputs: Vec<Input>,
     pub ghost sessions_low: { 1 ≤ sessions },
     pub ghost sessions_high: { sessions ≤ MAX_SESSIONS },
 }

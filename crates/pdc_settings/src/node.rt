@@ -1,6 +1,5 @@
 //! The settings of a node.
-ghost use Rattle.std.specs.Prelude.{◌≡◌, IsTrue, length, nat_le};
-ghost use Rattle.std.specs.List.{list_all};
+ghost use Rattle.std.specs.Prelude.{◌≡◌, length};
 
 use crate::service::Service;
 use arrayvec::ArrayVec;
@@ -13,8 +12,7 @@ pub struct NodeSettings {
     pub life: Settings,
     /// What the running program is told.
     pub service: Service,
-    /// The UDP ports that the PMUs send to, in the order of the PMUs, 1 to 65535 each.
+    /// The UDP ports that the PMUs send to, in the order of the PMUs, 1 to 65535 each; 0 where a PMU is asked over TCP.
     pub ports: ArrayVec<u16, MAX_PMUS>,
-    pub ghost ports_low: { IsTrue (list_all (λ port. nat_le 1 port) ports.items) },
     pub ghost ports_of_pmus: { length ports.items ≡ length life.pmus.items },
 }

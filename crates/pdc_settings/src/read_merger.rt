@@ -51,7 +51,6 @@ fn read_taken(value: &Value, rate: u16) -> Result<Taken, Wanted>
     ensures none { OnErr result ((is_some (node_of rate (view value.now)) && is_some (port_of (view value.now))) ≡ false) }
     ensures node { IfOk result (λ taken. node_of rate (view value.now) ≡ Some (node_fields taken.node)) }
     ensures port { IfOk result (λ taken. port_of (view value.now) ≡ Some taken.port) }
-    ensures low { IfOk result (λ taken. 1 ≤ taken.port) }
     ensures base { IfOk result (λ taken. rate ≤ taken.node.time_base) }
 {
     let node = read_node_of(value, rate)?;

@@ -1,49 +1,29 @@
 //! Reading where a concentrator is on the network.
 ghost use Rattle.std.specs.Prelude.{◌≡◌, ◌≤◌, IfOk, IfErr, IfSome, IsSomeAnd, None, OnErr, Some, codes, map, nat_le, option_and_then, option_map, length, string_bytes};
 ghost use Rattle.std.specs.declared.net.ip_addr.IpAddr.{IpAddr};
-ghost use Rattle.toml.specs.Data.{as_array, as_str, get_member};
+ghost use Rattle.toml.specs.Data.{as_array, get_member};
 ghost use Rattle.toml.specs.Parse.{parse_document};
 ghost use Rattle.toml.specs.View.{items_view, table_view, view};
 ghost use Rattle.pdc_settings.specs.Entries.{each_of};
-ghost use Rattle.pdc_settings.specs.Network.{IsAddress, IsNetwork, IsNetworkFault, IsUnread, WritesIp, number_or, few_outputs, fault_of, outputs_of, receive_buffer_in, sessions_in, ttl_in};
+ghost use Rattle.pdc_settings.specs.Inputs.{EachSays, IsInput, WritesIp, streams_in};
+ghost use Rattle.pdc_settings.specs.Network.{IsAddress, IsKeyFault, IsNetwork, IsNetworkFault, IsUnread, few_outputs, fault_of, outputs_of, receive_buffer_in, sessions_in, ttl_in};
+ghost use Rattle.pdc_settings.specs.Places.{as_place};
 ghost use Rattle.pdc_settings.specs.Settings.{IsFaultOf};
 
 use crate::document::document;
 use crate::fault::SettingsFault;
-use crate::keys::{number_in, value_at};
+use crate::input::Input;
+use crate::keys::{number_or, value_at};
 use crate::network::{
     MAX_OUTPUTS, MAX_RECEIVE_BUFFER, MAX_SESSIONS, MAX_TTL, Network, RECEIVE_BUFFER, SESSIONS, TTL,
 };
+use crate::read_inputs::{fault_of, read_inputs, streams_of};
+use crate::texts::{ip_of, place_of};
 use crate::unread::Unread;
 use crate::wanted::Wanted;
 use std::alloc::Global;
 use std::net::IpAddr;
 use toml::{Table, Value};
-
-/// The number at a key that may be left out, and is `usual` then.
-fn number_or(table: &Table, key: &str, usual: u64, least: u64, most: u64) -> Option<u64>
-    requires low { least ≤ usual }
-    requires high { usual ≤ most }
-    ensures value { result ≡ number_or usual least most (get_member key.now (table_view table.now)) }
-    ensures low { IfSome result (λ n. least ≤ n) }
-    ensures high { IfSome result (λ n. n ≤ most) }
-{
-    match value_at(table, key) {
-        Some(value) => number_in(value, least, most),
-        None => Some(usual),
-    }
-}
-
-/// The address that a value writes.
-fn ip_of(value: &Value) -> Option<IpAddr>
-    ensures some { IfSome result (WritesIp (view value.now)) }
-    ensures none { result ≡ None → (ip : IpAddr) → WritesIp (view value.now) ip → ⊥ }
-{
-    match value.as_str() {
-        Some(text) => text.parse::<IpAddr>().ok(),
-        None => None,
-    }
-}
 
 /// The address at the key `address`.
 fn address(table: &Table) -> Result<IpAddr, Wanted>
@@ -57,25 +37,14 @@ fn address(table: &Table) -> Result<IpAddr, Wanted>
     }
 }
 
-/// The text that a value is.
-fn text_of(alloc: Global, value: &Value) -> Result<String, Unread>
-    ensures value { IfOk result (λ text. as_str (view value.now) ≡ Some (string_bytes text)) }
-    ensures fault { IfErr result (IsUnread (as_str (view value.now) ≡ None)) }
-{
-    let Some(text) = value.as_str() else {
-        return Err(Unread::NoText);
-    };
-    String::from_str(alloc, text).map_err(|_| Unread::NoMemory)
-}
-
-/// The texts that values are, in their order.
+/// The places that values name, in their order.
 fn texts_of(alloc: Global, values: &[Value]) -> Result<Vec<String>, Unread>
-    ensures value { IfOk result (λ texts. each_of as_str (items_view values.now) ≡ Some (map string_bytes texts.items)) }
-    ensures fault { IfErr result (IsUnread (each_of as_str (items_view values.now) ≡ None)) }
+    ensures value { IfOk result (λ texts. each_of as_place (items_view values.now) ≡ Some (map string_bytes texts.items)) }
+    ensures fault { IfErr result (IsUnread (each_of as_place (items_view values.now) ≡ None)) }
 {
     let mut texts = Vec::new(alloc);
     for value in values {
-        let text = match text_of(alloc, value) {
+        let text = match place_of(alloc, value) {
             Ok(text) => text,
             Err(unread) => return Err(unread),
         };
@@ -103,16 +72,16 @@ fn values_of(value: &Value) -> Option<&[Value]>
     }
 }
 
-/// The texts of a list, at most 8.
+/// The places of a list, at most 8.
 fn few_texts(alloc: Global, value: &Value) -> Result<Vec<String>, Unread>
     ensures value { IfOk result (λ texts. option_and_then few_outputs (as_array (view value.now)) ≡ Some (map string_bytes texts.items)) }
     ensures fault { IfErr result (IsUnread (option_and_then few_outputs (as_array (view value.now)) ≡ None)) }
 {
     let Some(values) = values_of(value) else {
-        return Err(Unread::NoText);
+        return Err(Unread::NoPlace);
     };
     if !are_few(values) {
-        return Err(Unread::NoText);
+        return Err(Unread::NoPlace);
     }
     let texts = texts_of(alloc, values)?;
     Ok(texts)
@@ -133,16 +102,14 @@ fn outputs(alloc: Global, table: &Table) -> Result<Vec<String>, Unread>
 fn outputs_fault(unread: Unread) -> SettingsFault
     ensures { result ≡ fault_of unread }
 {
-    match unread {
-        Unread::NoText => SettingsFault::Range(Wanted::Outputs),
-        Unread::NoMemory => SettingsFault::NoMemory,
-    }
+    fault_of(unread, Wanted::Outputs)
 }
 
-/// What a document says of the network.
-fn read_network(alloc: Global, table: &Table) -> Result<Network, SettingsFault>
+/// What the keys of a document say of the network, beside how the frames of each stream come.
+fn read_keys(alloc: Global, table: &Table, inputs: Vec<Input>) -> Result<Network, SettingsFault>
+    requires inputs { EachSays IsInput (streams_in (table_view table.now)) inputs.items }
     ensures value { IfOk result (IsNetwork (table_view table.now)) }
-    ensures fault { IfErr result (IsNetworkFault (table_view table.now)) }
+    ensures fault { IfErr result (IsKeyFault (table_view table.now)) }
 {
     let address = address(table).map_err(SettingsFault::Range)?;
     let outputs = outputs(alloc, table).map_err(outputs_fault)?;
@@ -163,7 +130,23 @@ fn read_network(alloc: Global, table: &Table) -> Result<Network, SettingsFault>
         ttl: ttl as u8,
         receive_buffer: receive_buffer as u32,
         sessions: sessions as u8,
+        inputs,
     })
+}
+
+/// What a document says of the network.
+fn read_network(alloc: Global, table: &Table) -> Result<Network, SettingsFault>
+    ensures value { IfOk result (IsNetwork (table_view table.now)) }
+    ensures fault { IfErr result (IsNetworkFault (table_view table.now)) }
+{
+    let inputs = match read_inputs(alloc, streams_of(table)) {
+        Ok(inputs) => inputs,
+        Err(fault) => return Err(fault),
+    };
+    match read_keys(alloc, table, inputs) {
+        Ok(network) => Ok(network),
+        Err(fault) => Err(fault),
+    }
 }
 
 impl Network {

@@ -80,7 +80,6 @@ fn read_ports(values: &[Value]) -> Result<ArrayVec<u16, MAX_PMUS>, Wanted>
     requires few { length values.now ≤ MAX_PMUS }
     ensures value { IfOk result (λ ports. each_of port_of (items_view values.now) ≡ Some ports.items) }
     ensures none { OnErr result (each_of port_of (items_view values.now) ≡ None) }
-    ensures lows { IfOk result (λ ports. IsTrue (list_all (λ port. nat_le 1 port) ports.items)) }
     ensures len { IfOk result (λ ports. length ports.items ≡ length values.now) }
 {
     let mut ports = ArrayVec::new();
@@ -102,7 +101,6 @@ fn read_parts(
     ensures each_port { IfOk result (λ parts. ports_in (table_view table.now) ≡ Some parts.2.items) }
     ensures some { IfOk result (λ parts. 1 ≤ length parts.1.items) }
     ensures bases { IfOk result (λ parts. IsTrue (list_all (λ (pmu : PmuData). nat_le parts.0.output.rate pmu.time_base) parts.1.items)) }
-    ensures lows { IfOk result (λ parts. IsTrue (list_all (λ port. nat_le 1 port) parts.2.items)) }
     ensures ports { IfOk result (λ parts. length parts.2.items ≡ length parts.1.items) }
 {
     if is_merger(table) {

@@ -1,10 +1,10 @@
-//! Why texts were not read.
+//! Why places were not read.
 
-/// Why texts were not read out of a document.
+/// Why places were not read out of a document.
 #[derive(Clone, Copy, Debug, PartialEq, Eq)]
 pub(crate) enum Unread {
-    /// They are no texts, or too many.
-    NoText,
+    /// They are no places, or too many.
+    NoPlace,
     /// Memory was wanted, and none was to be had.
     NoMemory,
 }

@@ -51,12 +51,18 @@ pub enum Wanted {
     NodePort,
     #[error("address: an IP address, as \"10.0.1.5\", or left out")]
     Address,
-    #[error("outputs: at most 8 texts HOST:PORT, or left out")]
+    #[error("outputs: at most 8 places HOST:PORT, or left out")]
     Outputs,
     #[error("ttl: a whole number from 1 to 255, or left out")]
     Ttl,
     #[error("receive_buffer: a whole number from 1 to 1073741824, or left out")]
     ReceiveBuffer,
+    #[error("tcp of a pmu or node: a place HOST:PORT in place of port, or left out")]
+    Tcp,
+    #[error("commands of a pmu or node: a place HOST:PORT beside port, or left out")]
+    Commands,
+    #[error("from of a pmu or node: an IP address beside port, as \"10.0.0.11\", or left out")]
+    From,
     #[error("sessions: a whole number from 1 to 64, or left out")]
     Sessions,
 }

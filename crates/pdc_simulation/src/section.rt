@@ -1,7 +1,7 @@
 //! The one section of a simulated PMU (C37.118.2-2011, table 9).
 
 use pdc_cfg::{ConfigView, read_config};
-use pdc_frame::{Frame, Kind};
+use pdc_frame::{Frame, Kind, MAX_PAYLOAD};
 
 /// The bytes of a configuration payload with one section of one phasor.
 pub const PAYLOAD_LEN: usize = 58;
@@ -25,8 +25,11 @@ pub fn payload_of(id: u16) -> [u8; PAYLOAD_LEN] {
     payload
 }
 
-/// The configuration of which the payload is.
-pub fn config_of(payload: &[u8; PAYLOAD_LEN]) -> Option<ConfigView<'_>> {
+/// The configuration of which the payload is; none where it is no configuration, or too long for a frame.
+pub fn config_of(payload: &[u8]) -> Option<ConfigView<'_>> {
+    if payload.len() > MAX_PAYLOAD {
+        return None;
+    }
     read_config(&Frame {
         kind: Kind::Cfg2,
         version: 2,

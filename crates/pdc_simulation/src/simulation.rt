@@ -3,13 +3,15 @@ ghost use Rattle.std.specs.Prelude.{◌≡◌, ◌≤◌, ◌<◌};
 ghost use Rattle.pdc_frame.specs.declared.limits.TheConstants.{MAX_ID};
 ghost use Rattle.pdc_tag.specs.declared.limits.TheConstants.{MAX_RATE};
 
+use crate::grid::{grid_payload, grid_words};
+use crate::outlets::{Place, open_listener, open_outlets, send_to_all};
 use crate::section::{config_of, payload_of};
-use pdc_network::{UdpSink, instant_at};
+use crate::served::Served;
+use pdc_network::instant_at;
 use pdc_pmu::{Pmu, PmuFault};
-use pdc_ports::Sink;
 use pdc_tag::SECONDS;
-use std::alloc::Global;
-use std::net::Net;
+use std::alloc::{AllocError, Global};
+use std::net::{Net, SocketAddr, TcpListener, TcpStream};
 use std::rt::Clock;
 use std::time::{Duration, SystemTime};
 use std::{io, thread};
@@ -33,10 +35,14 @@ pub struct Simulated<'a> {
     pub rate: u16,
     /// How many data frames are sent.
     pub count: u32,
-    /// The UDP ports on 127.0.0.1 that each frame goes to.
-    pub ports: &'a [u16],
+    /// The places that each frame goes to by UDP.
+    pub places: &'a [Place<'a>],
+    /// The TCP port at which up to four consumers are served.
+    pub tcp: Option<Place<'a>>,
     /// After how many seconds the configuration is sent again; where there is none, it is sent once.
     pub config_every: Option<u32>,
+    /// Whether it is a PMU at a bus of a simulated grid; else it has one phasor, which counts.
+    pub is_grid: bool,
     pub ghost id_low: { 0 < id },
     pub ghost id_high: { id ≤ MAX_ID },
     pub ghost rate_low: { 1 ≤ rate },
@@ -46,12 +52,15 @@ pub struct Simulated<'a> {
 /// Why a simulation ended early.
 #[derive(Debug, Drop, Error)]
 pub enum SimulationFault {
-    /// A socket cannot be opened for the port with this number.
+    /// A socket cannot be opened for the place with this number, counted from 0.
     #[error("device fault")]
-    Port(u16, io::Error),
-    /// A frame could not be sent to the port with this number.
+    Place(usize, io::Error),
+    /// The TCP port cannot be opened.
     #[error("device fault")]
-    NotSent(u16),
+    Listener(io::Error),
+    /// A frame could not be sent there.
+    #[error("device fault")]
+    NotSent(SocketAddr),
     /// The clock cannot be read.
     #[error("device fault")]
     Clock(io::Error),
@@ -61,39 +70,6 @@ pub enum SimulationFault {
     /// Memory was wanted, and none was to be had.
     #[error("Z1 NoMemory")]
     NoMemory,
-}
-
-/// A port, with the socket that sends to it.
-#[derive(Drop)]
-struct Outlet {
-    port: u16,
-    sink: UdpSink,
-}
-
-/// An outlet for each port.
-fn open_outlets<R: Net>(
-    rt: &R,
-    alloc: Global,
-    ports: &[u16],
-) -> Result<Vec<Outlet>, SimulationFault> {
-    let mut outlets = Vec::new(alloc);
-    for port in ports {
-        let sink = UdpSink::open(rt, *port).map_err(|error| SimulationFault::Port(*port, error))?;
-        outlets
-            .push(Outlet { port: *port, sink })
-            .map_err(|_| SimulationFault::NoMemory)?;
-    }
-    Ok(outlets)
-}
-
-/// Sends the bytes to each port.
-fn send_to_all(outlets: &mut Vec<Outlet>, bytes: &[u8]) -> Result<(), SimulationFault> {
-    for outlet in outlets.iter_mut() {
-        if outlet.sink.send(bytes).is_err() {
-            return Err(SimulationFault::NotSent(outlet.port));
-        }
-    }
-    Ok(())
 }
 
 /// The nanoseconds since 1970; 0 where the clock shows an earlier time.
@@ -115,12 +91,25 @@ fn sleep_until<R: Clock>(rt: &R, instant: u64, rate: u16) -> Result<(), Simulati
     Ok(())
 }
 
-/// The configuration of a new PMU.
-fn configure(pmu: &mut Pmu, id: u16, soc: u32, out: &mut Vec<u8>) -> Result<(), SimulationFault>
+/// The payload of the configuration.
+fn payload_for(alloc: Global, simulated: &Simulated<'_>) -> Result<Vec<u8>, AllocError> {
+    if simulated.is_grid {
+        grid_payload(alloc, simulated.id)
+    } else {
+        Vec::from_slice(alloc, payload_of(simulated.id).as_slice())
+    }
+}
+
+/// The configuration of a new PMU, with this payload.
+fn configure(
+    pmu: &mut Pmu,
+    payload: &[u8],
+    soc: u32,
+    out: &mut Vec<u8>,
+) -> Result<(), SimulationFault>
     ensures { pmu.new.rate ≡ pmu.old.rate }
 {
-    let payload = payload_of(id);
-    let Some(config) = config_of(&payload) else {
+    let Some(config) = config_of(payload) else {
         return Err(SimulationFault::NoMemory);
     };
     let Some(section) = config.sections.first() else {
@@ -141,36 +130,74 @@ fn is_config_due(number: u32, every: Option<u32>, rate: u16) -> bool {
     }
 }
 
-/// Sends one configuration to each port, and then so many data frames, one for each instant as the clock reaches it: STAT 0, the phasor
-/// (`number` mod 32768, 0), FREQ 0 and DFREQ 0. An instant past the last second that a frame can tell is not sent. The
-/// same configuration frame goes out again, before the data frame that is due then, as often as is asked.
+/// The TCP port at which it is served, where there is one.
+fn open_served<R: Net<Listener = TcpListener, Stream = TcpStream>>(
+    rt: &R,
+    alloc: Global,
+    simulated: &Simulated<'_>,
+) -> Result<Option<Served>, SimulationFault> {
+    match &simulated.tcp {
+        Some(place) => match open_listener(rt, place) {
+            Ok(listener) => Ok(Some(Served::new(alloc, simulated.id, listener))),
+            Err(error) => Err(SimulationFault::Listener(error)),
+        },
+        None => Ok(None),
+    }
+}
+
+/// Answers who asks, dated with the second of the instant.
+fn hear(served: &mut Option<Served>, instant: u64, rate: u16, config: &[u8])
+    requires { 1 ≤ rate }
+{
+    if let Some(served) = served {
+        let soc = u32::try_from(instant / u64::from(rate)).unwrap_or(u32::MAX);
+        served.hear(soc, config);
+    }
+}
+
+/// Sends one configuration to each place, and then so many data frames, one for each instant as the clock reaches it: STAT 0, the phasor
+/// (`number` mod 32768, 0), FREQ 0 and DFREQ 0, or what a bus of the grid has. An instant past the last second that a frame can tell is not sent. The
+/// same configuration frame goes out again, before the data frame that is due then, as often as is asked. A consumer that connects is
+/// answered, and gets each data frame while it wants data.
 ///
 /// # Errors
 ///
-/// A port that cannot be opened or sent to, a clock that cannot be read, and want of memory.
-pub fn simulate<R: Net + Clock>(
+/// A place that cannot be opened or sent to, a clock that cannot be read, and want of memory.
+pub fn simulate<R: Net<Listener = TcpListener, Stream = TcpStream> + Clock>(
     rt: &R,
     alloc: Global,
     simulated: &Simulated<'_>,
 ) -> Result<(), SimulationFault> {
     let rate = simulated.rate;
-    let mut outlets = open_outlets(rt, alloc, simulated.ports)?;
+    let outlets = open_outlets(rt, alloc, simulated.places)?;
+    let mut served = open_served(rt, alloc, simulated)?;
     let mut pmu = Pmu::new(simulated.id, rate, TIME_BASE);
     let first = instant_at(nanoseconds_now(rt)?, rate);
     let (mut config, mut frame) = (Vec::new(alloc), Vec::new(alloc));
     let soc = u32::try_from(first / u64::from(rate)).unwrap_or(u32::MAX);
-    configure(&mut pmu, simulated.id, soc, &mut config)?;
-    send_to_all(&mut outlets, &config)?;
+    let payload = payload_for(alloc, simulated).map_err(|_| SimulationFault::NoMemory)?;
+    configure(&mut pmu, &payload, soc, &mut config)?;
+    send_to_all(&outlets, &config)?;
     for number in 0..simulated.count {
         let instant = first.saturating_add(u64::from(number));
         sleep_until(rt, instant, rate)?;
+        hear(&mut served, instant, rate, &config);
         if is_config_due(number, simulated.config_every, rate) {
-            send_to_all(&mut outlets, &config)?;
+            send_to_all(&outlets, &config)?;
         }
         frame.clear();
-        let words = [0, (number % PHASORS) as u16, 0, 0, 0];
-        if send_data(&mut pmu, instant, rate, &words, &mut frame)? {
-            send_to_all(&mut outlets, &frame)?;
+        let is_told = if simulated.is_grid {
+            let words = grid_words(simulated.id, instant.saturating_mul(1000) / u64::from(rate));
+            send_data(&mut pmu, instant, rate, &words, &mut frame)?
+        } else {
+            let words = [0, (number % PHASORS) as u16, 0, 0, 0];
+            send_data(&mut pmu, instant, rate, &words, &mut frame)?
+        };
+        if is_told {
+            send_to_all(&outlets, &frame)?;
+            if let Some(served) = &mut served {
+                served.send(&frame);
+            }
         }
     }
     Ok(())

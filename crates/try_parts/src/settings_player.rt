@@ -6,13 +6,15 @@
 //! | `node` or `node OLD / NEW` | what a node is told by it, NEW, with bars as above, in the place of the first OLD; or why it is none |
 //! | `merger` or `merger OLD / NEW` | the same of the merger |
 //! | `kind` or `kind OLD / NEW` | whose it is, by the key `node` |
-//! | `network` or `network OLD / NEW` | where it is on the network: address, hops, buffer, sessions, and each further output |
+//! | `network` or `network OLD / NEW` | where it is on the network: address, hops, buffer, sessions, each further output, and how the frames of each stream come |
 //!
 //! What is none of these, or where OLD is not found, is answered `no such call`.
 
 use pdc_life::{MergedNode, Pmu, WaitKind};
 use pdc_output::Output;
-use pdc_settings::{MergerSettings, Network, NodeSettings, Service, SettingsFault, is_of_merger};
+use pdc_settings::{
+    Input, MergerSettings, Network, NodeSettings, Service, SettingsFault, is_of_merger,
+};
 use std::alloc::{AllocError, Global};
 use try_script::Player;
 
@@ -149,6 +151,29 @@ fn sources_text(alloc: Global, sources: &[u16]) -> Result<String, AllocError> {
     Ok(text)
 }
 
+/// Appends a key that may be left out.
+fn push_key(
+    alloc: Global,
+    key: &str,
+    value: Option<&str>,
+    text: &mut String,
+) -> Result<(), AllocError> {
+    match value {
+        Some(value) => text.push_str(&format!(in alloc; ", {key} {value}")?),
+        None => Ok(()),
+    }
+}
+
+/// Appends how the frames of a stream come.
+fn push_input(alloc: Global, input: &Input, text: &mut String) -> Result<(), AllocError> {
+    push_key(alloc, "tcp", input.tcp.as_deref(), text)?;
+    push_key(alloc, "commands", input.commands.as_deref(), text)?;
+    match input.from {
+        Some(from) => text.push_str(&format!(in alloc; ", from {from}")?),
+        None => Ok(()),
+    }
+}
+
 /// Where a concentrator is on the network.
 fn network_text(alloc: Global, network: &Network) -> Result<String, AllocError> {
     let (address, ttl, buffer, sessions) = (
@@ -161,6 +186,9 @@ fn network_text(alloc: Global, network: &Network) -> Result<String, AllocError> 
     for output in &network.outputs {
         text.push_str(", ")?;
         text.push_str(output.as_str())?;
+    }
+    for input in &network.inputs {
+        push_input(alloc, input, &mut text)?;
     }
     Ok(text)
 }

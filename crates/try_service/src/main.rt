@@ -21,7 +21,9 @@ fn main(rt: HostRuntime) -> io::Result<ExitCode> {
     let process = process::id(rt.process());
     let port = first_port(process);
     node::play(&rt, alloc, port)?;
-    pmu::play(&rt, alloc, port)?;
+    let socket = network::listen(&rt, port)?;
+    pmu::play(&rt, alloc, port, &socket)?;
+    drop(socket);
     files::play(&rt, alloc, process, port)?;
     Ok(ExitCode::SUCCESS)
 }

@@ -1,13 +1,12 @@
 //! A simulated PMU.
 
-use crate::network::{listen, next_datagram};
+use crate::network::next_datagram;
 use pdc_frame::{Kind, read_frame};
-use pdc_simulation::{Simulated, simulate};
+use pdc_simulation::{Place, Simulated, simulate};
 use pdc_tag::instant;
 use std::alloc::Global;
 use std::io;
-use std::net::Net;
-use std::rt::Clock;
+use std::net::UdpSocket;
 
 /// The rate of the simulated PMU, and the counts of FRACSEC in a second.
 const RATE: u16 = 50;
@@ -42,23 +41,24 @@ fn print_frame<R: Print>(rt: &R, bytes: &[u8], before: Option<u64>) -> io::Resul
     }
 }
 
-/// One configuration and three data frames.
-pub fn play<R: Net + Clock + Print>(rt: &R, alloc: Global, port: u16) -> io::Result<()> {
+/// One configuration and three data frames, sent to the port of this socket.
+pub fn play(rt: &HostRuntime, alloc: Global, port: u16, socket: &UdpSocket) -> io::Result<()> {
     println!(rt; "a simulated PMU")?;
-    let socket = listen(rt, port)?;
     let simulated = Simulated {
         id: 11,
         rate: RATE,
         count: 3,
-        ports: &[port],
+        places: &[Place::Port(port)],
+        tcp: None,
         config_every: None,
+        is_grid: false,
     };
     if let Err(fault) = simulate(rt, alloc, &simulated) {
         println!(rt; "  {fault}")?;
     }
     let mut before = None;
     for _ in 0..4u32 {
-        let bytes = next_datagram(alloc, &socket)?;
+        let bytes = next_datagram(alloc, socket)?;
         before = print_frame(rt, &bytes, before)?;
     }
     Ok(())

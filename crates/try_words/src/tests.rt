@@ -6,7 +6,11 @@ use std::process::Abort;
 
 /// Words, with a bar between two, and what they ask for. What is no command is status 2, and help is status 0. A number is decimal digits
 /// alone.
-const CASES: &str = r#"show -> Some(Show)
+const CASES: &str = r#"show -> Some(Show(Lines))
+show|--format|json -> Some(Show(Json))
+show|--format=csv -> Some(Show(Csv))
+show|--format|xml -> status 2
+show|--format -> status 2
 mark-init|a.mark|65534|240 -> Some(MarkInit(MarkInit { file: "a.mark", id: 65534, rate: 240 }))
 mark-convert|a.mark|a2.mark -> Some(MarkConvert(MarkConvert { old: "a.mark", new: "a2.mark" }))
 shew -> status 2
@@ -54,12 +58,17 @@ node|a.toml|a.mark|0 -> status 2
 node|a.toml|a.mark|4294967296 -> status 2
 merge|m.toml|m.mark|1 -> Some(Merge(Running { settings: "m.toml", mark: "m.mark", ticks: Some(1), every: None, is_quiet: false }))
 merge|m.toml|m.mark|1|x -> status 2
-pmu|11|50|3|4811|4911 -> Some(Pmu(Simulated { id: 11, rate: 50, count: 3, ports: [4811, 4911], config_every: None }))
-pmu|11|50|3|4811|--config-every|5 -> Some(Pmu(Simulated { id: 11, rate: 50, count: 3, ports: [4811], config_every: Some(5) }))
+pmu|11|50|3|4811|4911 -> Some(Pmu(Simulated { id: 11, rate: 50, count: 3, places: [Port(4811), Port(4911)], tcp: None, config_every: None, is_grid: false }))
+pmu|11|50|3|4811|--config-every|5 -> Some(Pmu(Simulated { id: 11, rate: 50, count: 3, places: [Port(4811)], tcp: None, config_every: Some(5), is_grid: false }))
 pmu|11|50|3|4811|--config-every|0 -> status 2
 pmu|11|50|3|4811|--config-every|86401 -> status 2
 pmu|11|50|3 -> status 2
 pmu|11|50|3|4811|65536 -> status 2
+pmu|11|50|3|10.0.0.2:4811 -> Some(Pmu(Simulated { id: 11, rate: 50, count: 3, places: [At("10.0.0.2:4811")], tcp: None, config_every: None, is_grid: false }))
+pmu|11|50|3|--tcp|4712 -> Some(Pmu(Simulated { id: 11, rate: 50, count: 3, places: [], tcp: Some(Port(4712)), config_every: None, is_grid: false }))
+pmu|11|50|3|--tcp|0.0.0.0:4712 -> Some(Pmu(Simulated { id: 11, rate: 50, count: 3, places: [], tcp: Some(At("0.0.0.0:4712")), config_every: None, is_grid: false }))
+pmu|11|50|3|4811|--grid -> Some(Pmu(Simulated { id: 11, rate: 50, count: 3, places: [Port(4811)], tcp: None, config_every: None, is_grid: true }))
+pmu|11|50|3|--tcp|0 -> status 2
 pmu|--help -> status 0
 node|--every|10|a.toml|a.mark|5 -> Some(Node(Running { settings: "a.toml", mark: "a.mark", ticks: Some(5), every: Some(10), is_quiet: false }))
 merge|m.toml|m.mark|5|--every=86400 -> Some(Merge(Running { settings: "m.toml", mark: "m.mark", ticks: Some(5), every: Some(86400), is_quiet: false }))
@@ -74,7 +83,7 @@ listen -> status 2
 "#;
 
 /// How many they are.
-const ROWS: usize = 65;
+const ROWS: usize = 74;
 
 /// The words of a line.
 fn words(alloc: Global, line: &str) -> Result<Vec<String>, AllocError> {

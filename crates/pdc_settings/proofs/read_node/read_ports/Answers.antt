@@ -1,9 +1,7 @@
-use Rattle.std.specs.Prelude.{nat_le}
-use Rattle.std.specs.List.{list_all}
-use Rattle.std.proofs.Common.{ℕ, IsTrue, List, subst, ◌≡◌, ◌∙◌, ap, sym, arith, None, Some}
+use Rattle.std.proofs.Common.{◌≡◌, ◌∙◌, ap, sym, arith, None, Some}
 use Rattle.toml.specs.View.{items_view}
 use Rattle.pdc_settings.specs.Entries.{each_of, port_of}
-use Rattle.pdc_settings.proofs.Tables.{each-taken, none-taken, on_err, passes-push}
+use Rattle.pdc_settings.proofs.Tables.{each-taken, none-taken, on_err}
 use Rattle.pdc_settings.proofs.read_node.read_ports.Goals as goal
 
 pub returns-in_err-port_of-clause-none : goal.returns-in_err-port_of-clause-none
@@ -17,6 +15,4 @@ loop-value-preserved c = record {
   end = c.loop-value.invariant.end;
   each = each-taken port_of c.args.values.now c.loop-value.value-index c.loop-value.ports.items c.value-item.result c.in_ok-port_of.field-0 (omega (arith, c.loop-value-test.true)) c.value-item.is c.loop-value.invariant.each c.in_ok-port_of.ensures.value
       ∙ ap Some (sym c.push.ensures.items);
-  lows = subst (λ (ports : List ℕ). IsTrue (list_all (λ port. nat_le 1 port) ports)) (sym c.push.ensures.items)
-      (passes-push (λ port. nat_le 1 port) c.loop-value.ports.items c.in_ok-port_of.field-0 c.loop-value.invariant.lows c.in_ok-port_of.ensures.low);
 }

@@ -1,6 +1,4 @@
-use Rattle.std.proofs.Common.{◌≡◌, IsTrue, length, take, Some}
-use Rattle.std.specs.Prelude.{nat_le}
-use Rattle.std.specs.List.{list_all}
+use Rattle.std.proofs.Common.{◌≡◌, length, take, Some}
 use Rattle.toml.specs.View.{items_view}
 use Rattle.pdc_settings.specs.Entries.{each_of, port_of}
 use Rattle.pdc_settings.proofs.read_node.read_ports.Given as goal
@@ -11,5 +9,4 @@ invariant-loop-value l = record {
   len : length l.ports.items ≡ l.value-index;
   end : l.value-index-end ≡ length l.fn.values;
   each : each_of port_of (items_view (take l.value-index l.fn.values)) ≡ Some l.ports.items;
-  lows : IsTrue (list_all (λ port. nat_le 1 port) l.ports.items);
 }
