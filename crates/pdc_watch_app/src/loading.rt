@@ -1,0 +1,164 @@
+//! Where the sessions are, out of the settings of the pair.
+ghost use Rattle.std.specs.Prelude.{◌<◌, ◌≤◌};
+ghost use Rattle.pdc_frame.specs.declared.limits.TheConstants.{MAX_ID};
+ghost use Rattle.pdc_watch.specs.declared.cell.TheConstants.{MAX_RATE};
+
+use crate::words::Asked;
+use pdc_frame::MAX_ID;
+use pdc_settings::{MergerSettings, Network, NodeSettings, SettingsFault};
+use pdc_watch::{MAX_RATE, Three};
+use std::alloc::Global;
+use std::fs::File;
+use std::net::{IpAddr, Ipv4Addr, Ipv6Addr, SocketAddr};
+use std::rt::Files;
+use std::{fs, io};
+
+/// A session: of which stream, and where.
+#[derive(Clone, Copy)]
+pub struct Session {
+    /// The id of the stream, 1 to 65534.
+    pub id: u16,
+    /// Its frames a second, 1 to 240.
+    pub rate: u16,
+    /// Where it is served.
+    pub to: SocketAddr,
+    pub ghost id_low: { 0 < id },
+    pub ghost id_high: { id ≤ MAX_ID },
+    pub ghost rate_high: { rate ≤ MAX_RATE },
+}
+
+/// Why the settings in a file are not to be used.
+#[derive(Drop)]
+pub enum LoadFault {
+    /// The file cannot be read.
+    Unread(io::Error),
+    /// The settings are refused.
+    Refused(SettingsFault),
+    /// Its rate is not that of the file before it.
+    OtherRate,
+}
+
+/// The text of a file; one that is not UTF-8 is no TOML.
+fn text_of<R: Files<File = File> + AllocGlobal>(rt: &R, file: &str) -> Result<String, LoadFault> {
+    let bytes = fs::read(rt, file).map_err(LoadFault::Unread)?;
+    String::from_utf8(bytes).map_err(|_| LoadFault::Refused(SettingsFault::Toml))
+}
+
+/// Where a session is served that listens at this address: one that listens at all addresses is reached by the loopback.
+fn reached(address: IpAddr, port: u16) -> SocketAddr {
+    let ip = match address {
+        IpAddr::V4(ip) if ip.is_unspecified() => IpAddr::V4(Ipv4Addr::LOCALHOST),
+        IpAddr::V6(ip) if ip.is_unspecified() => IpAddr::V6(Ipv6Addr::LOCALHOST),
+        ip => ip,
+    };
+    SocketAddr::new(ip, port)
+}
+
+/// The session of the node that this text describes.
+fn node_session(alloc: Global, text: &str) -> Result<Session, SettingsFault> {
+    let settings = NodeSettings::from_toml(alloc, text)?;
+    let network = Network::from_toml(alloc, text)?;
+    Ok(Session {
+        id: settings.life.output.id,
+        rate: settings.life.output.rate,
+        to: reached(network.address, settings.service.session_port),
+    })
+}
+
+/// The session of the merger that this text describes.
+fn merger_session(alloc: Global, text: &str) -> Result<Session, SettingsFault> {
+    let settings = MergerSettings::from_toml(alloc, text)?;
+    let network = Network::from_toml(alloc, text)?;
+    Ok(Session {
+        id: settings.life.output.id,
+        rate: settings.life.output.rate,
+        to: reached(network.address, settings.service.session_port),
+    })
+}
+
+/// The session of the node in this file.
+fn load_node<R: Files<File = File> + AllocGlobal>(
+    rt: &R,
+    file: &str,
+) -> Result<Session, LoadFault> {
+    let text = text_of(rt, file)?;
+    node_session(rt.alloc(), &text).map_err(LoadFault::Refused)
+}
+
+/// The session of the merger in this file.
+fn load_merger<R: Files<File = File> + AllocGlobal>(
+    rt: &R,
+    file: &str,
+) -> Result<Session, LoadFault> {
+    let text = text_of(rt, file)?;
+    merger_session(rt.alloc(), &text).map_err(LoadFault::Refused)
+}
+
+/// The session, where it has this rate.
+fn at_rate(session: Session, rate: u16) -> Result<Session, LoadFault> {
+    if session.rate == rate {
+        Ok(session)
+    } else {
+        Err(LoadFault::OtherRate)
+    }
+}
+
+/// The session of the node in this file, which has this rate.
+fn load_node_at<R: Files<File = File> + AllocGlobal>(
+    rt: &R,
+    file: &str,
+    rate: u16,
+) -> Result<Session, LoadFault> {
+    at_rate(load_node(rt, file)?, rate)
+}
+
+/// The session of the merger in this file, which has this rate.
+fn load_merger_at<R: Files<File = File> + AllocGlobal>(
+    rt: &R,
+    file: &str,
+    rate: u16,
+) -> Result<Session, LoadFault> {
+    at_rate(load_merger(rt, file)?, rate)
+}
+
+/// The sessions of the pair.
+///
+/// # Errors
+///
+/// The first file of which the settings are not to be used, and why.
+pub fn load<'a, R: Files<File = File> + AllocGlobal>(
+    rt: &R,
+    asked: Asked<'a>,
+) -> Result<Three<Session>, (&'a str, LoadFault)> {
+    let first = match load_node(rt, asked.first) {
+        Ok(session) => session,
+        Err(fault) => return Err((asked.first, fault)),
+    };
+    let second = match load_node_at(rt, asked.second, first.rate) {
+        Ok(session) => session,
+        Err(fault) => return Err((asked.second, fault)),
+    };
+    let merger = match load_merger_at(rt, asked.merger, first.rate) {
+        Ok(session) => session,
+        Err(fault) => return Err((asked.merger, fault)),
+    };
+    Ok(Three {
+        a: first,
+        b: second,
+        m: merger,
+    })
+}
+
+/// Prints the file with the reason to standard error: the key where there is one.
+pub fn report_load(rt: &impl Eprint, file: &str, fault: &LoadFault) -> io::Result<()> {
+    match fault {
+        LoadFault::Unread(error) => eprintln!(rt; "pdc watch: {file}: {error}"),
+        LoadFault::Refused(SettingsFault::Range(wanted)) => {
+            eprintln!(rt; "pdc watch: {file}: {wanted}")
+        }
+        LoadFault::Refused(fault) => eprintln!(rt; "pdc watch: {file}: {fault}"),
+        LoadFault::OtherRate => {
+            eprintln!(rt; "pdc watch: {file}: its rate is not that of node A")
+        }
+    }
+}
