@@ -2,6 +2,7 @@
 mod blocks;
 mod commands;
 mod configurations;
+mod damaged;
 mod frames;
 mod refused_memory;
 mod same;
