@@ -3,6 +3,7 @@ ghost use Rattle.std.specs.Prelude.{◌≡◌, List, ℕ};
 
 use crate::journal::Journal;
 use crate::left_out::LeftOut;
+use crate::measured::Measured;
 use pdc_cfg::{ConfigView, read_config};
 use pdc_frame::{Kind, read_frame};
 use pdc_ports::{Sink, SinkFault};
@@ -14,14 +15,21 @@ use std::sync::Wait;
 /// CFGCNT stand behind the four.
 const STAMP_FROM_END: usize = 20;
 
+/// Who is told what is sent: who compares blocks with the layout in force, and who measures the run.
+#[derive(Clone, Copy)]
+pub struct Followers<'a> {
+    pub left_out: Option<&'a LeftOut>,
+    pub measured: Option<&'a Measured>,
+}
+
 /// Hands each frame to the inner sink, and tells of each layout frame whose change number is another than the last one's: the start and the
-/// change, and the sources of its sections with their counts. Where blocks are compared with what is in force, that is kept by it.
+/// change, and the sources of its sections with their counts. Its followers are told of layouts and of data frames.
 #[derive(Drop)]
 pub struct AnnouncingSink<'a, K: Sink + Drop, R: Wait + Clock> {
     rt: &'a R,
     alloc: Global,
     journal: &'a Journal,
-    left_out: Option<&'a LeftOut>,
+    followers: Followers<'a>,
     inner: K,
     /// The change that was told last.
     told: Option<u32>,
@@ -33,14 +41,14 @@ impl<'a, K: Sink + Drop, R: Wait + Clock> AnnouncingSink<'a, K, R> {
         rt: &'a R,
         alloc: Global,
         journal: &'a Journal,
-        left_out: Option<&'a LeftOut>,
+        followers: Followers<'a>,
         inner: K,
     ) -> AnnouncingSink<'a, K, R> {
         AnnouncingSink {
             rt,
             alloc,
             journal,
-            left_out,
+            followers,
             inner,
             told: None,
         }
@@ -76,25 +84,28 @@ fn layout_text(
     Ok(text)
 }
 
-/// Tells of the layout in this frame, if it is one whose change was not told last.
+/// Tells of the layout in this frame, if it is one whose change was not told last, and the followers of the frame.
 fn announce<R: Wait + Clock>(
     rt: &R,
     alloc: Global,
     journal: &Journal,
-    left_out: Option<&LeftOut>,
+    followers: Followers<'_>,
     told: &mut Option<u32>,
     bytes: &[u8],
 ) {
     let Ok(frame) = read_frame(bytes) else {
         return;
     };
+    if let (Kind::DataFrame, Some(measured)) = (frame.kind, followers.measured) {
+        measured.publish(rt, &frame);
+    }
     if frame.kind != Kind::Cfg2 {
         return;
     }
     let Ok(config) = read_config(&frame) else {
         return;
     };
-    if let Some(left_out) = left_out {
+    if let Some(left_out) = followers.left_out {
         left_out.adopt(rt, &config);
     }
     let Some(own) = config.sections.first() else {
@@ -103,6 +114,9 @@ fn announce<R: Wait + Clock>(
     let Some((start, change)) = stamp_of(own.bytes) else {
         return;
     };
+    if let Some(measured) = followers.measured {
+        measured.adopt(rt, &config, start, change);
+    }
     if *told != Some(change) {
         *told = Some(change);
         journal.note(rt, layout_text(alloc, start, change, &config));
@@ -123,7 +137,7 @@ impl<'a, K: Sink + Drop, R: Wait + Clock> Sink for AnnouncingSink<'a, K, R> {
             self.rt,
             self.alloc,
             self.journal,
-            self.left_out,
+            self.followers,
             &mut self.told,
             bytes,
         );

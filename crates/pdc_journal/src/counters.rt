@@ -9,7 +9,7 @@ use pdc_ports::{Counts, Refusal, Told};
 use std::alloc::{AllocError, Global};
 
 /// The causes of refusals, in the order in which they are printed.
-const CAUSES: [Refusal; 27] = [
+pub const CAUSES: [Refusal; 27] = [
     Refusal::NoFrame(FrameFault::Short),
     Refusal::NoFrame(FrameFault::BadSync),
     Refusal::NoFrame(FrameFault::SizeMismatch),

@@ -3,7 +3,8 @@
 //! The first type to look at is [`Journal`]: a queue of lines that a thread of its own prints, so that whoever does not read standard error
 //! holds up nobody else. [`ObservedSource`] tells when a stream falls silent, comes again or is not understood, and counts its answers in
 //! its [`Tally`]; [`CountingSink`] counts what could not be sent, and goes on; [`AnnouncingSink`] tells each layout that was adopted;
-//! [`LeftOut`] counts what the merger leaves out; [`Reporting`] tells the counters now and then.
+//! [`LeftOut`] counts what the merger leaves out; [`Reporting`] tells the counters now and then; [`Measured`] keeps how the run stands for
+//! those who ask.
 //!
 //! The promise to the layers above: none of them changes what it is put around. A source gives what the inner one gave, a sink is handed
 //! what the inner one is, a ticker ticks as the inner one does; what becomes of the lines no clause says.
@@ -14,18 +15,26 @@ mod counters;
 mod counting_sink;
 mod journal;
 mod left_out;
+mod measured;
 mod observed_source;
+mod opening;
 mod output_tally;
 mod reporting;
 mod spell;
+mod tags;
 mod tally;
+mod watchers;
 
-pub use announcing_sink::AnnouncingSink;
-pub use counters::counters_line;
+pub use announcing_sink::{AnnouncingSink, Followers};
+pub use counters::{CAUSES, counters_line};
 pub use counting_sink::CountingSink;
 pub use journal::Journal;
 pub use left_out::{Compared, LeftOut, MAX_SOURCES, MergedSource};
+pub use measured::{Measured, MeasuredSource, Standing};
 pub use observed_source::ObservedSource;
+pub use opening::Opening;
 pub use output_tally::OutputTally;
 pub use reporting::Reporting;
+pub use tags::Tags;
 pub use tally::{Of, Tally};
+pub use watchers::Watchers;

@@ -2,9 +2,9 @@
 ghost use Rattle.std.specs.Prelude.{◌≡◌, ◌≤◌, ◌<◌, ℕ, length};
 
 use crate::journal::Journal;
-use crate::left_out::Compared;
 use crate::spell::{LONG, Spell};
 use crate::tally::Tally;
+use crate::watchers::Watchers;
 use pdc_ports::{Next, Outcome, Refusal, Source};
 use std::alloc::{AllocError, Global};
 use std::rt::Clock;
@@ -23,17 +23,17 @@ pub struct ObservedSource<'a, S: Source + Drop, R: Wait + Clock> {
     silence: Spell,
     /// Since when data was refused for want of a configuration.
     unread: Option<Spell>,
-    compared: Option<Compared<'a>>,
+    watchers: Watchers<'a>,
 }
 
 impl<'a, S: Source + Drop, R: Wait + Clock> ObservedSource<'a, S, R> {
-    /// Watches a source, whose silence begins now; of a node's stream the blocks are compared with what the merger has in force.
+    /// Watches a source, whose silence begins now, with what looks at its datagrams.
     pub fn new(
         rt: &'a R,
         alloc: Global,
         journal: &'a Journal,
         tally: &'a Tally,
-        compared: Option<Compared<'a>>,
+        watchers: Watchers<'a>,
         inner: S,
     ) -> ObservedSource<'a, S, R> {
         ObservedSource {
@@ -44,7 +44,7 @@ impl<'a, S: Source + Drop, R: Wait + Clock> ObservedSource<'a, S, R> {
             inner,
             silence: Spell::begun(rt),
             unread: None,
-            compared,
+            watchers,
         }
     }
 }
@@ -142,9 +142,7 @@ impl<'a, S: Source + Drop, R: Wait + Clock> Source for ObservedSource<'a, S, R> 
         match next {
             Next::Datagram(len) => {
                 hear(rt, alloc, journal, tally, &mut self.silence);
-                if let Some(compared) = &mut self.compared {
-                    compared.see(&buffer[..len]);
-                }
+                self.watchers.see(&buffer[..len]);
             }
             Next::Idle => {
                 if self.silence.is_due(rt) {
@@ -173,9 +171,7 @@ impl<'a, S: Source + Drop, R: Wait + Clock> Source for ObservedSource<'a, S, R> 
             return;
         };
         tally.count(rt, outcome);
-        if let Some(compared) = &mut self.compared {
-            compared.answered(rt, outcome);
-        }
+        self.watchers.answered(rt, outcome);
         match outcome {
             Outcome::Refused(Refusal::NoConfig) => {
                 miss(rt, alloc, journal, tally, &mut self.unread);

@@ -10,6 +10,7 @@ use std::io::{Read, Write};
 use std::net::{OpenListener, OpenStream};
 use std::rt::Clock;
 use std::sync::Wait;
+use std::sync::atomic::{AtomicU64, Ordering};
 use std::time::{Duration, Instant};
 use std::{io, thread};
 
@@ -72,13 +73,15 @@ fn serve_one<N: Naming, S: Read + Write + OpenStream, R: Wait + Clock>(
     unreachable!()
 }
 
-/// Serves the consumers that connect, one after the other, until no more is to come. The listener's `accept` is one that does not wait.
+/// Serves the consumers that connect, one after the other, until no more is to come, and counts in `present` who is served. The listener's
+/// `accept` is one that does not wait.
 pub fn serve<N: Naming, L: OpenListener, R: Wait + Clock>(
     rt: &R,
     alloc: Global,
     id: u16,
     recent: &Recent<N>,
     listener: &L,
+    present: &AtomicU64,
 )
 where
     L::Stream: Read + Write + OpenStream,
@@ -92,7 +95,9 @@ where
         match listener.accept() {
             Ok((stream, _)) => {
                 let mut stream = stream;
+                present.fetch_add(1, Ordering::Relaxed);
                 serve_one(rt, alloc, id, recent, &mut stream);
+                present.fetch_sub(1, Ordering::Relaxed);
             }
             Err(_) => thread::sleep(rt, Duration::from_millis(TURN)),
         }

@@ -7,6 +7,7 @@ use crate::begun::Begun;
 use crate::plan::Plan;
 use crate::running_concentrator::{run_merger, run_node};
 use pdc_frame::MAX_ID;
+use pdc_journal::Tags;
 use pdc_mark::Mark;
 use pdc_output::Output;
 use pdc_settings::{MergerSettings, NodeSettings, Service};
@@ -52,6 +53,25 @@ impl Concentrator {
                 _ => None,
             },
         }
+    }
+
+    /// How the time tags of the stream with this number, counted from 0, are read; none where it takes no such stream.
+    pub fn stream_tags(&self, number: usize) -> Option<Tags> {
+        let rate = self.output().rate;
+        let time_base = match self {
+            Concentrator::Node(settings) => {
+                match settings.life.pmus.as_slice().get(number) {
+                    Some(pmu) => pmu.time_base,
+                    None => return None,
+                }
+            }
+            Concentrator::Merger(settings) => match number {
+                0 => settings.life.first.time_base,
+                1 => settings.life.second.time_base,
+                _ => return None,
+            },
+        };
+        Some(Tags { rate, time_base })
     }
 
     /// What the running program is told.

@@ -2,11 +2,12 @@
 
 use std::fs::File;
 use std::net::{Net, TcpListener, TcpStream};
+use std::random::RandomSource;
 use std::rt::{Clock, Files};
 use std::sync::Wait;
 use std::thread::Threads;
 
-/// A machine that a concentrator can run on: it has files, memory, a clock, sockets, threads and standard error.
+/// A machine that a concentrator can run on: it has files, memory, a clock, sockets, threads, random bytes and standard error.
 pub trait Host: Files<File = File>
     + AllocGlobal
     + Clock
@@ -14,6 +15,7 @@ pub trait Host: Files<File = File>
     + Threads
     + Wait
     + Sync
+    + RandomSource
     + Eprint {}
 
 impl<
@@ -24,5 +26,6 @@ impl<
         + Threads
         + Wait
         + Sync
+        + RandomSource
         + Eprint,
 > Host for R {}

@@ -6,7 +6,8 @@
 //! so each has a start number of its own. To the programs this crate promises that what the sink took are the first of the frames that
 //! were published, in order and whole, with instants that strictly rise above the floor that was stored before the run, and are at most
 //! the floor that is stored after it. Faults are found in this order: the settings file, the mark
-//! file, the start that is stored, the ports, and then the run. The port of the sessions is the last that is opened.
+//! file, the start that is stored, the ports, and then the run. The ports of the sessions and of the
+//! counters are the last that are opened.
 #![tactic(auto)]
 
 mod begun;

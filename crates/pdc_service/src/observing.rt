@@ -3,7 +3,11 @@ ghost use Rattle.std.specs.Prelude.{◌≡◌, IfSome, vec_len};
 
 use crate::concentrator::Concentrator;
 use crate::signs::Signs;
-use pdc_journal::{Compared, Journal, LeftOut, ObservedSource, Of, OutputTally, Tally};
+use pdc_journal::{
+    Compared, Followers, Journal, LeftOut, Measured, ObservedSource, Of, Opening, OutputTally,
+    Tags, Tally, Watchers,
+};
+use pdc_metrics::Metered;
 use pdc_settings::Network;
 use pdc_threads::Source;
 use std::alloc::{AllocError, Global};
@@ -11,7 +15,7 @@ use std::rt::Clock;
 use std::sync::Wait;
 
 /// What is watched of a run: the lines that it tells, the tally of each stream, in their order, and of each further destination, what its
-/// threads say, and what the merger leaves out.
+/// threads say, what the merger leaves out, and how the run stands, where that is served.
 #[derive(Drop)]
 pub struct Observed {
     pub journal: Journal,
@@ -19,6 +23,7 @@ pub struct Observed {
     pub outputs: Vec<OutputTally>,
     pub signs: Signs,
     pub left_out: Option<LeftOut>,
+    pub measured: Option<Measured>,
 }
 
 /// The tally of each stream of the concentrator, in their order.
@@ -47,6 +52,18 @@ fn outputs_of(alloc: Global, network: &Network) -> Result<Vec<OutputTally>, Allo
     Ok(outputs)
 }
 
+/// How the run stands, where the counters are served.
+fn measured_of(concentrator: &Concentrator, network: &Network) -> Option<Measured> {
+    let output = concentrator.output();
+    match network.metrics_port {
+        Some(_) => Some(Measured::new(Tags {
+            rate: output.rate,
+            time_base: output.time_base,
+        })),
+        None => None,
+    }
+}
+
 impl Observed {
     /// Nothing was told and counted yet.
     ///
@@ -68,7 +85,45 @@ impl Observed {
                 Concentrator::Node(_) => None,
                 Concentrator::Merger(settings) => Some(LeftOut::new(&settings.life.sources)),
             },
+            measured: measured_of(concentrator, network),
         })
+    }
+
+    /// Who is told what is sent.
+    pub fn followers(&self) -> Followers<'_> {
+        Followers {
+            left_out: self.left_out.as_ref(),
+            measured: self.measured.as_ref(),
+        }
+    }
+
+    /// What is metered, where it is served.
+    pub fn metered(&self) -> Option<Metered<'_>> {
+        match &self.measured {
+            Some(measured) => Some(Metered {
+                tallies: self.tallies.as_slice(),
+                outputs: self.outputs.as_slice(),
+                left_out: self.left_out.as_ref(),
+                measured,
+                unsent: &self.signs.unsent,
+                consumers: &self.signs.consumers,
+            }),
+            None => None,
+        }
+    }
+}
+
+/// What looks at the datagrams of a stream, whose tags are read so.
+fn watchers_of(observed: &Observed, tags: Option<Tags>) -> Watchers<'_> {
+    Watchers {
+        compared: match &observed.left_out {
+            Some(left_out) => Some(Compared::new(left_out)),
+            None => None,
+        },
+        opening: match (&observed.measured, tags) {
+            (Some(measured), Some(tags)) => Some(Opening::new(measured, tags)),
+            _ => None,
+        },
     }
 }
 
@@ -76,6 +131,7 @@ impl Observed {
 pub fn observe_all<'a, S: Source + Drop, R: Wait + Clock>(
     rt: &'a R,
     alloc: Global,
+    concentrator: &Concentrator,
     observed: &'a Observed,
     sources: Vec<S>,
 ) -> Option<Vec<ObservedSource<'a, S, R>>>
@@ -86,11 +142,8 @@ pub fn observe_all<'a, S: Source + Drop, R: Wait + Clock>(
         let Some(tally) = observed.tallies.get(watched.len()) else {
             return None;
         };
-        let compared = match &observed.left_out {
-            Some(left_out) => Some(Compared::new(left_out)),
-            None => None,
-        };
-        let source = ObservedSource::new(rt, alloc, &observed.journal, tally, compared, source);
+        let watchers = watchers_of(observed, concentrator.stream_tags(watched.len()));
+        let source = ObservedSource::new(rt, alloc, &observed.journal, tally, watchers, source);
         if watched.push(source).is_err() {
             return None;
         }

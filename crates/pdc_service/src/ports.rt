@@ -207,13 +207,12 @@ pub fn open_sink<'a, R: Net>(
     Ok(OutputsSink::new(sink, destinations))
 }
 
-/// A listener at this TCP port, whose `accept` does not wait.
-pub fn open_listener<R: Net<Listener = TcpListener, Stream = TcpStream>>(
+/// A listener at this TCP port of this address, whose `accept` does not wait.
+fn listen<R: Net<Listener = TcpListener, Stream = TcpStream>>(
     rt: &R,
-    network: &Network,
+    address: IpAddr,
     port: u16,
 ) -> Result<TcpListener, ServiceFault> {
-    let address = network.address;
     let listener = TcpListener::bind(rt, (address, port)).map_err(|error| unopened(
         address, port, error,
     ))?;
@@ -221,4 +220,27 @@ pub fn open_listener<R: Net<Listener = TcpListener, Stream = TcpStream>>(
         .set_nonblocking(true)
         .map_err(|error| unopened(address, port, error))?;
     Ok(listener)
+}
+
+/// A listener for consumers, at this TCP port. Its `accept` does not wait.
+pub fn open_listener<R: Net<Listener = TcpListener, Stream = TcpStream>>(
+    rt: &R,
+    network: &Network,
+    port: u16,
+) -> Result<TcpListener, ServiceFault> {
+    listen(rt, network.address, port)
+}
+
+/// A listener for those who ask for the counters, at this TCP port of the loopback, where there is one. Its `accept` does not wait.
+pub fn open_metrics<R: Net<Listener = TcpListener, Stream = TcpStream>>(
+    rt: &R,
+    port: Option<u16>,
+) -> Result<Option<TcpListener>, ServiceFault> {
+    match port {
+        Some(port) => {
+            let loopback = IpAddr::from([127u8, 0, 0, 1]);
+            Ok(Some(listen(rt, loopback, port)?))
+        }
+        None => Ok(None),
+    }
 }

@@ -7,7 +7,7 @@ use crate::files::{begin_mark, read_merger, read_node};
 use crate::host::Host;
 use crate::observing::Observed;
 use crate::options::RunOptions;
-use crate::ports::{open_links, open_listener, open_sink};
+use crate::ports::{open_links, open_listener, open_metrics, open_sink};
 use crate::serving::{Consumers, Opened, run_serving};
 use crate::telling::begun_text;
 use pdc_settings::Network;
@@ -54,6 +54,7 @@ fn serve_concentrator<R: Host>(
     let consumers = Consumers {
         listener: open_listener(rt, network, service.session_port)?,
         most: network.sessions,
+        metrics: open_metrics(rt, network.metrics_port)?,
     };
     observed.journal.note(
         rt,
@@ -76,7 +77,7 @@ fn serve_concentrator<R: Host>(
 /// # Errors
 ///
 /// The first fault: of the settings file, the mark file, the start that is stored, the ports and places of the PMUs in their order, the
-/// port of the frames, the further destinations in their order, the port of the sessions, or the run.
+/// port of the frames, the further destinations in their order, the port of the sessions, that of the counters, or the run.
 pub fn serve_node<R: Host>(
     rt: &R,
     files: &Files<'_>,
@@ -91,7 +92,7 @@ pub fn serve_node<R: Host>(
 /// # Errors
 ///
 /// The first fault: of the settings file, the mark file, the start that is stored, the ports or places of node A and node B, the
-/// port of the frames, the further destinations in their order, the port of the sessions, or the run.
+/// port of the frames, the further destinations in their order, the port of the sessions, that of the counters, or the run.
 pub fn serve_merger<R: Host>(
     rt: &R,
     files: &Files<'_>,

@@ -14,6 +14,7 @@ use crate::telling::unsent_text;
 use pdc_disk::FileDisk;
 use pdc_journal::{AnnouncingSink, CountingSink, Journal, Reporting};
 use pdc_mark::DiskMark;
+use pdc_metrics::{Metered, serve_metrics};
 use pdc_network::{ClockTicker, OutputsSink};
 use pdc_recent::{Naming, Recent, RememberingSink};
 use pdc_server::serve;
@@ -21,9 +22,10 @@ use pdc_threads::{HubFault, Source, Totals};
 use std::alloc::Global;
 use std::marker::Brand;
 use std::net::TcpListener;
+use std::random::RandomSource;
 use std::rt::Clock;
 use std::sync::Wait;
-use std::sync::atomic::Ordering;
+use std::sync::atomic::{AtomicU64, Ordering};
 use std::thread;
 use std::thread::{Scope, Threads};
 
@@ -35,11 +37,12 @@ pub struct Opened<'a, S: Source + Drop> {
     pub sink: OutputsSink<'a>,
 }
 
-/// Where consumers come, and how many are served at once.
+/// Where consumers come, how many are served at once, and where the counters are asked for.
 #[derive(Drop)]
 pub struct Consumers {
     pub listener: TcpListener,
     pub most: u8,
+    pub metrics: Option<TcpListener>,
 }
 
 /// Starts a thread that serves consumers, one after the other, and answers whether it was started.
@@ -50,6 +53,7 @@ fn start_session<'s, E: 's, N: Naming + Send + 's, R: Wait + Clock + Sync + 's>(
     id: u16,
     recent: &'s Recent<N>,
     listener: &'s TcpListener,
+    present: &'s AtomicU64,
 ) -> bool
     requires id_low { 0 < id }
     requires id_high { id ≤ MAX_ID }
@@ -58,7 +62,7 @@ fn start_session<'s, E: 's, N: Naming + Send + 's, R: Wait + Clock + Sync + 's>(
         .spawn(
             move || -> ()
                 requires { (0 < id) × (id ≤ MAX_ID) }
-            { serve(rt, alloc, id, recent, listener) },
+            { serve(rt, alloc, id, recent, listener, present) },
         )
         .is_ok()
 }
@@ -71,12 +75,13 @@ fn start_sessions<'s, E: 's, N: Naming + Send + 's, R: Wait + Clock + Sync + 's>
     id: u16,
     recent: &'s Recent<N>,
     consumers: &'s Consumers,
+    present: &'s AtomicU64,
 ) -> bool
     requires id_low { 0 < id }
     requires id_high { id ≤ MAX_ID }
 {
     for _ in 0..consumers.most {
-        if !start_session(scope, rt, alloc, id, recent, &consumers.listener) {
+        if !start_session(scope, rt, alloc, id, recent, &consumers.listener, present) {
             return false;
         }
     }
@@ -90,6 +95,40 @@ fn start_journal<'s, E: 's, R: Wait + Clock + Eprint + Sync + 's>(
     journal: &'s Journal,
 ) -> bool {
     scope.spawn(move || -> () { journal.print_all(rt) }).is_ok()
+}
+
+/// Serves the counters until the run ends.
+fn serve_counters<R: Wait + Clock + RandomSource>(
+    rt: &R,
+    alloc: Global,
+    listener: &TcpListener,
+    metered: Metered<'_>,
+    observed: &Observed,
+) {
+    if serve_metrics(rt, alloc, listener, metered, &observed.signs.has_ended).is_err() {
+        observed.journal.tell(
+            rt,
+            String::from_str(alloc, "the counters are not served any more"),
+        );
+    }
+}
+
+/// Starts the thread that serves the counters, where they are asked for, and answers whether it was started, or none is wanted.
+fn start_metrics<'s, E: 's, R: Wait + Clock + RandomSource + Sync + 's>(
+    scope: &'s Scope<'s, E>,
+    rt: &'s R,
+    alloc: Global,
+    consumers: &'s Consumers,
+    observed: &'s Observed,
+) -> bool {
+    match (&consumers.metrics, observed.metered()) {
+        (Some(listener), Some(metered)) => {
+            scope
+                .spawn(move || -> () { serve_counters(rt, alloc, listener, metered, observed) })
+                .is_ok()
+        }
+        _ => true,
+    }
 }
 
 /// Runs, and tells at the end how many frames could not be sent.
@@ -115,7 +154,7 @@ fn run_observed<
     let output = concentrator.output();
     let plan = plan_of(&concentrator.service_settings());
     let (journal, signs) = (&observed.journal, &observed.signs);
-    let Some(sources) = observe_all(rt, alloc, observed, sources) else {
+    let Some(sources) = observe_all(rt, alloc, concentrator, observed, sources) else {
         return Err(ServiceFault::Run(HubFault::NoMemory));
     };
     let clock = ClockTicker::new(rt, output.rate, options.ticks, &signs.is_clock_unreadable);
@@ -132,7 +171,7 @@ fn run_observed<
     );
     let sink = RememberingSink::new(rt, alloc, recent, output, sink);
     let sink = CountingSink::new(sink, &signs.unsent);
-    let sink = AnnouncingSink::new(rt, alloc, journal, observed.left_out.as_ref(), sink);
+    let sink = AnnouncingSink::new(rt, alloc, journal, observed.followers(), sink);
     let outcome = run_concentrator(rt, alloc, concentrator, &plan, mark, sources, ticker, sink);
     let unsent = signs.unsent.load(Ordering::Relaxed);
     if unsent > 0 {
@@ -151,7 +190,7 @@ fn conduct<
     E: 's,
     S: Source + Send + Drop + 's,
     N: Naming + Send + 's,
-    R: Threads + Wait + Clock + Eprint + Sync + 's,
+    R: Threads + Wait + Clock + Eprint + RandomSource + Sync + 's,
 >(
     scope: &'s Scope<'s, E>,
     rt: &'s R,
@@ -173,7 +212,16 @@ fn conduct<
     } = opened;
     let id = concentrator.output().id;
     let is_begun = start_journal(scope, rt, &observed.journal)
-        && start_sessions(scope, rt, alloc, id, recent, consumers);
+        && start_metrics(scope, rt, alloc, consumers, observed)
+        && start_sessions(
+            scope,
+            rt,
+            alloc,
+            id,
+            recent,
+            consumers,
+            &observed.signs.consumers,
+        );
     let outcome = if is_begun {
         run_observed(
             rt,
@@ -190,6 +238,7 @@ fn conduct<
         Err(ServiceFault::Run(HubFault::NoMemory))
     };
     recent.close(rt);
+    observed.signs.has_ended.store(true, Ordering::SeqCst);
     observed.journal.close(rt);
     outcome
 }
@@ -200,7 +249,7 @@ fn run_keeping<
     'x,
     S: Source + Send + Drop + 'x,
     N: Naming + Send + 'x,
-    R: Threads + Wait + Clock + Eprint + Sync + 'x,
+    R: Threads + Wait + Clock + Eprint + RandomSource + Sync + 'x,
 >(
     rt: &'x R,
     alloc: Global,
@@ -237,7 +286,11 @@ fn run_keeping<
 }
 
 /// Runs a concentrator of the stream that is named, and serves its consumers.
-fn run_named<S: Source + Send + Drop, N: Naming + Send, R: Threads + Wait + Clock + Eprint + Sync>(
+fn run_named<
+    S: Source + Send + Drop,
+    N: Naming + Send,
+    R: Threads + Wait + Clock + Eprint + RandomSource + Sync,
+>(
     rt: &R,
     alloc: Global,
     concentrator: &Concentrator,
@@ -265,7 +318,10 @@ fn run_named<S: Source + Send + Drop, N: Naming + Send, R: Threads + Wait + Cloc
 }
 
 /// Runs a concentrator, serves its consumers and prints what is told, for as long as it runs.
-pub fn run_serving<S: Source + Send + Drop, R: Threads + Wait + Clock + Eprint + Sync>(
+pub fn run_serving<
+    S: Source + Send + Drop,
+    R: Threads + Wait + Clock + Eprint + RandomSource + Sync,
+>(
     rt: &R,
     alloc: Global,
     concentrator: &Concentrator,

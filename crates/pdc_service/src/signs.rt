@@ -9,6 +9,10 @@ pub struct Signs {
     pub unsent: AtomicU64,
     /// Whether the run ended since the clock could not be read.
     pub is_clock_unreadable: AtomicBool,
+    /// How many consumers are served.
+    pub consumers: AtomicU64,
+    /// Whether the run has ended.
+    pub has_ended: AtomicBool,
 }
 
 impl Signs {
@@ -17,6 +21,8 @@ impl Signs {
         Signs {
             unsent: AtomicU64::new(0),
             is_clock_unreadable: AtomicBool::new(false),
+            consumers: AtomicU64::new(0),
+            has_ended: AtomicBool::new(false),
         }
     }
 }

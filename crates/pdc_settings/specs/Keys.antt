@@ -1,5 +1,5 @@
 -- The values at the keys of a settings text (this profile).
-use Rattle.std.specs.Prelude.{ℕ, ℤ, pos, negsuc, List, ◌&&◌, nat_le, if◌then◌else◌, Option, Some, None, option_and_then}
+use Rattle.std.specs.Prelude.{ℕ, ℤ, pos, negsuc, List, ◌&&◌, nat_le, if◌then◌else◌, Option, Some, None, option_and_then, option_map}
 use Rattle.toml.specs.Data.{Data, Members, as_integer, get_member}
 
 -- the number that an integer is, where it lies from `least` to `most`
@@ -19,3 +19,8 @@ number_at key least most members = number_in least most (get_member key members)
 abbrev pub number_or : (usual least most : ℕ) → Option Data → Option ℕ
 number_or usual least most None = Some usual
 number_or usual least most (Some value) = number_in least most (Some value)
+
+-- the number of a value that may be left out: none then
+abbrev pub optional_number : (least most : ℕ) → Option Data → Option (Option ℕ)
+optional_number least most None = Some None
+optional_number least most (Some value) = option_map Some (number_in least most (Some value))

@@ -5,10 +5,11 @@ use Rattle.std.specs.declared.net.ip_addr.IpAddr.{IpAddr}
 use Rattle.toml.specs.Data.{Data, Items, Members, as_array, get_member}
 use Rattle.pdc_settings.specs.Entries.{count_of, each_of}
 use Rattle.pdc_settings.specs.Inputs.{EachSays, IsInput, IsNoInput, IsOneOf, WritesIp, streams_in}
-use Rattle.pdc_settings.specs.Keys.{number_or}
+use Rattle.pdc_settings.specs.Keys.{number_or, optional_number}
 use Rattle.pdc_settings.specs.Places.{as_place}
 use Rattle.pdc_settings.specs.declared.fault.SettingsFault.{SettingsFault}
 use Rattle.pdc_settings.specs.declared.fault.SettingsFault.TheVariants.{Range, NoMemory}
+use Rattle.pdc_settings.specs.declared.limits.TheConstants.{MAX_PORT}
 use Rattle.pdc_settings.specs.declared.network.Network.{Network}
 use Rattle.pdc_settings.specs.declared.network.TheConstants.{MAX_OUTPUTS, MAX_RECEIVE_BUFFER, MAX_SESSIONS, MAX_TTL, RECEIVE_BUFFER, SESSIONS, TTL}
 use Rattle.pdc_settings.specs.declared.unread.Unread.{Unread}
@@ -23,6 +24,10 @@ receive_buffer_in members = number_or RECEIVE_BUFFER 1 MAX_RECEIVE_BUFFER (get_m
 
 abbrev pub ttl_in : Members → Option ℕ
 ttl_in members = number_or TTL 1 MAX_TTL (get_member (codes "ttl") members)
+
+-- the port at the key `metrics_port`: none where it is left out
+abbrev pub metrics_port_in : Members → Option (Option ℕ)
+metrics_port_in members = optional_number 1 MAX_PORT (get_member (codes "metrics_port") members)
 
 -- the address at the key `address`: 127.0.0.1 where it is left out
 abbrev pub IsAddress : Option Data → IpAddr → Type 0
@@ -59,6 +64,7 @@ pub record IsNetwork (members : Members) (network : Network) : Type 0 where
   pub ttl : ttl_in members ≡ Some network.ttl
   pub receive_buffer : receive_buffer_in members ≡ Some network.receive_buffer
   pub sessions : sessions_in members ≡ Some network.sessions
+  pub metrics_port : metrics_port_in members ≡ Some network.metrics_port
   pub inputs : EachSays IsInput (streams_in members) network.inputs.items
 
 -- why they say none: the value at a key is not of its type and range
@@ -68,6 +74,7 @@ IsKeyFault members (Range Lacks.Outputs) = outputs_in members ≡ None
 IsKeyFault members (Range Lacks.Ttl) = ttl_in members ≡ None
 IsKeyFault members (Range Lacks.ReceiveBuffer) = receive_buffer_in members ≡ None
 IsKeyFault members (Range Lacks.Sessions) = sessions_in members ≡ None
+IsKeyFault members (Range Lacks.MetricsPort) = metrics_port_in members ≡ None
 IsKeyFault _ NoMemory = Unit {0}
 IsKeyFault _ _ = ⊥
 

@@ -36,6 +36,8 @@ pub struct Network {
     pub receive_buffer: u32,
     /// How many consumers are served at once, 1 to 64; left out, 8.
     pub sessions: u8,
+    /// The TCP port of 127.0.0.1 at which counters are served, 1 to 65535; left out, they are not.
+    pub metrics_port: Option<u16>,
     /// How the frames of each stream come, in the order of the tables of PMUs, or of nodes.
     pub inputs: Vec<Input>,
     pub ghost sessions_low: { 1 ≤ sessions },

@@ -6,14 +6,14 @@ ghost use Rattle.toml.specs.Parse.{parse_document};
 ghost use Rattle.toml.specs.View.{items_view, table_view, view};
 ghost use Rattle.pdc_settings.specs.Entries.{each_of};
 ghost use Rattle.pdc_settings.specs.Inputs.{EachSays, IsInput, WritesIp, streams_in};
-ghost use Rattle.pdc_settings.specs.Network.{IsAddress, IsKeyFault, IsNetwork, IsNetworkFault, IsUnread, few_outputs, fault_of, outputs_of, receive_buffer_in, sessions_in, ttl_in};
+ghost use Rattle.pdc_settings.specs.Network.{IsAddress, IsKeyFault, IsNetwork, IsNetworkFault, IsUnread, few_outputs, fault_of, metrics_port_in, outputs_of, receive_buffer_in, sessions_in, ttl_in};
 ghost use Rattle.pdc_settings.specs.Places.{as_place};
 ghost use Rattle.pdc_settings.specs.Settings.{IsFaultOf};
 
 use crate::document::document;
 use crate::fault::SettingsFault;
 use crate::input::Input;
-use crate::keys::{number_or, value_at};
+use crate::keys::{number_or, optional_port, value_at};
 use crate::network::{
     MAX_OUTPUTS, MAX_RECEIVE_BUFFER, MAX_SESSIONS, MAX_TTL, Network, RECEIVE_BUFFER, SESSIONS, TTL,
 };
@@ -124,12 +124,16 @@ fn read_keys(alloc: Global, table: &Table, inputs: Vec<Input>) -> Result<Network
     let Some(sessions) = number_or(table, "sessions", usual, 1, most) else {
         return Err(SettingsFault::Range(Wanted::Sessions));
     };
+    let Some(metrics_port) = optional_port(table, "metrics_port") else {
+        return Err(SettingsFault::Range(Wanted::MetricsPort));
+    };
     Ok(Network {
         address,
         outputs,
         ttl: ttl as u8,
         receive_buffer: receive_buffer as u32,
         sessions: sessions as u8,
+        metrics_port,
         inputs,
     })
 }

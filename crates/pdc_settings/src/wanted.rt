@@ -65,4 +65,6 @@ pub enum Wanted {
     From,
     #[error("sessions: a whole number from 1 to 64, or left out")]
     Sessions,
+    #[error("metrics_port: a whole number from 1 to 65535, or left out")]
+    MetricsPort,
 }

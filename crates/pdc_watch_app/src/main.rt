@@ -5,7 +5,6 @@
 mod loading;
 mod reader;
 mod running;
-mod serving;
 mod site;
 mod words;
 

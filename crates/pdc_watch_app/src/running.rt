@@ -2,8 +2,8 @@
 
 use crate::loading::Session;
 use crate::reader::{Reader, now_ms};
-use crate::serving::serve_many;
 use crate::site::Site;
+use pdc_http::serve_many;
 use pdc_watch::{Three, Watch, Who};
 use std::alloc::{AllocError, Global};
 use std::hash::RandomState;

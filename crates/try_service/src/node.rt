@@ -282,7 +282,9 @@ fn conduct<
             requires { N.stream ≡ stream_of settings.now.output }
         { run_it(rt, alloc, settings, recent, gauges, first, second, sink) },
     );
-    let sessions = scope.spawn(move || -> () { serve(rt, alloc, ID, recent, &listener) });
+    let sessions = scope.spawn(move || -> () {
+        serve(rt, alloc, ID, recent, &listener, &gauges.present)
+    });
     let driven = drive(rt, alloc, port, &frames);
     gauges.done.store(1, Ordering::SeqCst);
     recent.close(rt);

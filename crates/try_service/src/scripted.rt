@@ -21,6 +21,8 @@ pub struct Gauges {
     pub second: AtomicU64,
     /// 1 once the trial is done.
     pub done: AtomicU64,
+    /// How many consumers are served.
+    pub present: AtomicU64,
 }
 
 impl Gauges {
@@ -30,6 +32,7 @@ impl Gauges {
             first: AtomicU64::new(0),
             second: AtomicU64::new(0),
             done: AtomicU64::new(0),
+            present: AtomicU64::new(0),
         }
     }
 }

@@ -1,0 +1,188 @@
+//! How a run stands, for those who ask.
+
+use crate::left_out::MAX_SOURCES;
+use crate::tags::Tags;
+use arrayvec::ArrayVec;
+use pdc_block::{Block, cut, is_absent};
+use pdc_cfg::{ConfigView, MAX_SECTIONS, Shape};
+use pdc_frame::Frame;
+use std::sync::{Mutex, Wait};
+
+/// The most instants that are open at once: as many as the largest window has.
+const MAX_OPEN: usize = 256;
+
+/// A source as the layout in force has it.
+#[derive(Clone, Copy, Debug)]
+pub struct MeasuredSource {
+    /// Its id; 0 where there is none in this place.
+    pub source: u16,
+    /// The configuration count that was adopted.
+    pub count: u16,
+    /// In how many frames its block was absent.
+    pub absent: u64,
+}
+
+/// How a run stands.
+#[derive(Clone, Copy, Debug)]
+pub struct Standing {
+    /// How many data frames were published.
+    pub published: u64,
+    /// The instant of the last one, if there was one.
+    pub last: Option<u64>,
+    /// Its second, and the counts of FRACSEC.
+    pub tag: (u32, u32),
+    /// How many instants are open: data for them was taken, and they are not published.
+    pub open: usize,
+    /// The start and the change of the layout in force; 0 where there is none.
+    pub start: u32,
+    pub change: u32,
+    /// The sources of the layout in force, in its order.
+    pub sources: [MeasuredSource; MAX_SOURCES],
+}
+
+/// What is kept of a run.
+#[derive(Drop)]
+struct Kept {
+    standing: Standing,
+    /// The shapes of the layout in force, the own one first.
+    shapes: ArrayVec<Shape, MAX_SECTIONS>,
+    /// The instants that are open.
+    open: ArrayVec<u64, MAX_OPEN>,
+}
+
+/// How a run stands: the threads that take and send tell it, and whoever asks is answered at once.
+#[derive(Drop)]
+pub struct Measured {
+    /// How the tags of its frames are read.
+    pub tags: Tags,
+    kept: Mutex<Kept>,
+}
+
+/// The place of no source.
+const NO_SOURCE: MeasuredSource = MeasuredSource {
+    source: 0,
+    count: 0,
+    absent: 0,
+};
+
+/// The shapes of a configuration.
+fn shapes_of(config: &ConfigView) -> ArrayVec<Shape, MAX_SECTIONS> {
+    let mut shapes = ArrayVec::new();
+    for section in &config.sections {
+        let _full = shapes.try_push(section.shape);
+    }
+    shapes
+}
+
+/// In how many frames the block of this source was absent so far.
+fn absent_of(sources: &[MeasuredSource; MAX_SOURCES], source: u16) -> u64 {
+    for measured in sources.iter() {
+        if measured.source == source {
+            return measured.absent;
+        }
+    }
+    0
+}
+
+/// The sources of a layout, with what was counted of them before.
+fn sources_of(
+    config: &ConfigView,
+    before: &[MeasuredSource; MAX_SOURCES],
+) -> [MeasuredSource; MAX_SOURCES] {
+    let mut sources = [NO_SOURCE; MAX_SOURCES];
+    for (place, section) in sources.iter_mut().zip(config.sections.iter().skip(1)) {
+        *place = MeasuredSource {
+            source: section.source,
+            count: section.count,
+            absent: absent_of(before, section.source),
+        };
+    }
+    sources
+}
+
+/// Counts the absent ones of these blocks, the first of which is the own one.
+fn count_absent(sources: &mut [MeasuredSource], blocks: &[Block]) {
+    for (measured, block) in sources.iter_mut().zip(blocks.iter().skip(1)) {
+        if is_absent(block) {
+            measured.absent = measured.absent.saturating_add(1);
+        }
+    }
+}
+
+/// The instants of these that lie above this one.
+fn above(open: &[u64], instant: u64) -> ArrayVec<u64, MAX_OPEN> {
+    let mut left = ArrayVec::new();
+    for one in open {
+        if *one > instant {
+            let _full = left.try_push(*one);
+        }
+    }
+    left
+}
+
+impl Measured {
+    /// Nothing was taken and published yet.
+    pub fn new(tags: Tags) -> Measured {
+        Measured {
+            tags,
+            kept: Mutex::new(Kept {
+                standing: Standing {
+                    published: 0,
+                    last: None,
+                    tag: (0, 0),
+                    open: 0,
+                    start: 0,
+                    change: 0,
+                    sources: [NO_SOURCE; MAX_SOURCES],
+                },
+                shapes: ArrayVec::new(),
+                open: ArrayVec::new(),
+            }),
+        }
+    }
+
+    /// This layout was adopted.
+    pub fn adopt<R: Wait>(&self, rt: &R, config: &ConfigView, start: u32, change: u32) {
+        let mut kept = self.kept.lock(rt);
+        let before = kept.standing.sources;
+        kept.shapes = shapes_of(config);
+        kept.standing.sources = sources_of(config, &before);
+        kept.standing.start = start;
+        kept.standing.change = change;
+    }
+
+    /// This data frame was published.
+    pub fn publish<R: Wait>(&self, rt: &R, frame: &Frame) {
+        let instant = self.tags.instant(frame.soc, frame.frac);
+        let mut kept = self.kept.lock(rt);
+        if let Ok(blocks) = cut(&kept.shapes, frame.payload) {
+            count_absent(&mut kept.standing.sources, &blocks);
+        }
+        if let Some(instant) = instant {
+            kept.open = above(&kept.open, instant);
+        }
+        kept.standing.published = kept.standing.published.saturating_add(1);
+        kept.standing.last = instant;
+        kept.standing.tag = (frame.soc, frame.frac);
+    }
+
+    /// Data for this instant was taken.
+    pub fn take<R: Wait>(&self, rt: &R, instant: u64) {
+        let mut kept = self.kept.lock(rt);
+        let is_published = match kept.standing.last {
+            Some(last) => instant <= last,
+            None => false,
+        };
+        if !is_published && !kept.open.contains(&instant) {
+            let _full = kept.open.try_push(instant);
+        }
+    }
+
+    /// How the run stands.
+    pub fn standing<R: Wait>(&self, rt: &R) -> Standing {
+        let kept = self.kept.lock(rt);
+        let mut standing = kept.standing;
+        standing.open = kept.open.len();
+        standing
+    }
+}

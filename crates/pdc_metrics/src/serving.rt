@@ -1,0 +1,30 @@
+//! Serving the counters.
+
+use crate::metered::Metered;
+use crate::site::Site;
+use pdc_http::serve_many;
+use std::alloc::Global;
+use std::hash::RandomState;
+use std::io;
+use std::net::TcpListener;
+use std::random::RandomSource;
+use std::rt::Clock;
+use std::sync::Wait;
+use std::sync::atomic::AtomicBool;
+
+/// Serves the counters at `/metrics` to all who connect, until all is to end. The listener's `accept` is one that does not wait.
+///
+/// # Errors
+///
+/// The clock, or the system's random bytes, cannot be read.
+pub fn serve_metrics<R: Wait + Clock + RandomSource>(
+    rt: &R,
+    alloc: Global,
+    listener: &TcpListener,
+    metered: Metered<'_>,
+    ending: &AtomicBool,
+) -> io::Result<()> {
+    let keys = RandomState::new(rt)?;
+    let mut site = Site { rt, alloc, metered };
+    serve_many(rt, alloc, keys, &mut site, listener, ending)
+}

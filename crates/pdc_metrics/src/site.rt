@@ -1,0 +1,79 @@
+//! The answers to requests.
+ghost use Rattle.std.specs.Prelude.{⊤};
+
+use crate::metered::Metered;
+use crate::report::metrics_text;
+use bytes::Bytes;
+use http::{HeaderValue, Request, StatusCode, header};
+use http_server::{Response, Service};
+use std::alloc::{AllocError, Global};
+use std::rt::Clock;
+use std::sync::Wait;
+
+/// The type of the text format.
+const METRICS: &str = "text/plain; version=0.0.4; charset=utf-8";
+
+/// What the thread that serves answers with.
+#[derive(Drop)]
+pub struct Site<'a, R: Wait + Clock> {
+    pub rt: &'a R,
+    pub alloc: Global,
+    pub metered: Metered<'a>,
+}
+
+/// What a request asks for.
+#[derive(Clone, Copy, Debug, PartialEq, Eq)]
+enum Asked {
+    Metrics,
+    Unknown,
+    WrongMethod,
+}
+
+/// What this method and this path ask for.
+fn route_of(method: &str, path: &str) -> Asked {
+    if path != "/metrics" {
+        Asked::Unknown
+    } else if method == "GET" || method == "HEAD" {
+        Asked::Metrics
+    } else {
+        Asked::WrongMethod
+    }
+}
+
+/// Answers with a body of this kind.
+fn fill(response: &mut Response, kind: HeaderValue, body: Bytes) -> Result<(), AllocError> {
+    response.add_header(header::CONTENT_TYPE, kind)?;
+    response.add_header(header::CACHE_CONTROL, HeaderValue::from_static("no-store"))?;
+    response.body.push(body)
+}
+
+impl<R: Wait + Clock> Service for Site<'_, R> {
+    ghost answers = { λ _ _ _ _. ⊤ };
+
+    fn call(
+        &mut self,
+        request: &Request<Bytes>,
+        response: &mut Response,
+    ) -> Result<(), AllocError> {
+        response.add_header(header::CONNECTION, HeaderValue::from_static("close"))?;
+        match route_of(request.method().as_str(), request.uri().path()) {
+            Asked::Metrics => {
+                let text = metrics_text(self.rt, self.alloc, &self.metered)?;
+                let body = Bytes::from_vec(text.into_bytes())?;
+                fill(response, HeaderValue::from_static(METRICS), body)
+            }
+            Asked::Unknown => {
+                response.status = StatusCode::NOT_FOUND;
+                fill(
+                    response,
+                    HeaderValue::from_static("text/plain; charset=utf-8"),
+                    Bytes::from_static(b"not found: the counters are at /metrics\n"),
+                )
+            }
+            Asked::WrongMethod => {
+                response.status = StatusCode::METHOD_NOT_ALLOWED;
+                response.add_header(header::ALLOW, HeaderValue::from_static("GET, HEAD"))
+            }
+        }
+    }
+}
