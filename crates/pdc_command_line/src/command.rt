@@ -27,6 +27,9 @@ const EXAMPLES: &str = "Examples:
                               run the merger for 3000 ticks
   pdc pmu 11 50 3000 4811     simulate PMU 11 at 50 frames a second
   pdc listen 4751 | pdc show  print what the frames that come to a UDP port say
+  pdc watch a.toml b.toml m.toml
+                              show the pair on a page: a program of its own,
+                              which is installed as pdc-watch
   pdc help show               tell more of a command
 
 Exit status: 0 done, 1 refused input, 2 wrong arguments, 3 a device failed or memory ran out";

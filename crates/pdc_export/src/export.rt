@@ -2,9 +2,9 @@
 
 use crate::exporter::{Exported, Exporter, Format};
 use crate::fault::ExportFault;
-use crate::line::{Digits, Line};
 use crate::objects::append_refusal;
-use pdc_show::Shown;
+use hex::FromHexError;
+use pdc_show::{Line, Shown};
 use std::alloc::{AllocError, Global};
 use std::io::{ErrorKind, Read, Write};
 
@@ -59,26 +59,31 @@ impl Export {
         }
     }
 
-    /// Writes the line that was read. Its end is LF, CR LF or the end of the input.
-    fn end_line<R: Eprint>(&mut self, rt: &R) -> Result<(), ExportFault> {
-        self.number = self.number.saturating_add(1);
-        let exported = match self.line.digits() {
-            Digits::Empty => Ok(Exported::Written { lines: 0 }),
-            Digits::Broken => Err("not hex"),
-            Digits::Bytes(bytes) => Ok(self.exporter.export(bytes, &mut self.out)?),
-        };
-        self.line.clear();
-        match exported {
-            Ok(Exported::Written { .. }) => Ok(()),
-            Ok(Exported::LacksColumns) => self.refuse(
+    /// Writes the frame that the bytes are, or tells why it is refused.
+    fn write_frame<R: Eprint>(&mut self, rt: &R, bytes: &[u8]) -> Result<(), ExportFault> {
+        match self.exporter.export(bytes, &mut self.out)? {
+            Exported::Written { .. } => Ok(()),
+            Exported::LacksColumns => self.refuse(
                 rt,
                 "a channel of this configuration has no column, and is left out",
             ),
-            Ok(Exported::Refused(refusal)) => {
+            Exported::Refused(refusal) => {
                 let text = format!(in self.alloc; "{refusal}")?;
                 self.refuse(rt, text.as_str())
             }
-            Err(text) => self.refuse(rt, text),
+        }
+    }
+
+    /// Writes the line that was read. Its end is LF, CR LF or the end of the input.
+    fn end_line<R: Eprint>(&mut self, rt: &R) -> Result<(), ExportFault> {
+        self.number = self.number.saturating_add(1);
+        let decoded = self.line.bytes(self.alloc);
+        self.line.clear();
+        match decoded {
+            Ok(None) => Ok(()),
+            Ok(Some(bytes)) => self.write_frame(rt, bytes.as_slice()),
+            Err(FromHexError::OutOfMemory) => Err(ExportFault::Memory),
+            Err(_) => self.refuse(rt, "not hex"),
         }
     }
 
@@ -98,15 +103,16 @@ impl Export {
         piece: &[u8],
         writer: &mut W,
     ) -> Result<(), ExportFault> {
-        for byte in piece {
-            if *byte == b'\n' {
+        let mut is_first = true;
+        for part in piece.split(|byte| *byte == b'\n') {
+            if !is_first {
                 self.end_line(rt)?;
                 if self.out.len() >= BATCH_LEN {
                     self.write_out(writer)?;
                 }
-            } else {
-                self.line.take(*byte)?;
             }
+            is_first = false;
+            self.line.take(part)?;
         }
         self.write_out(writer)?;
         writer.flush().map_err(ExportFault::Write)
@@ -114,7 +120,7 @@ impl Export {
 
     /// Writes the last line, which the end of the input ends.
     fn end<R: Eprint, W: Write>(&mut self, rt: &R, writer: &mut W) -> Result<Shown, ExportFault> {
-        self.line.take_end();
+        self.line.take_end()?;
         self.end_line(rt)?;
         self.write_out(writer)?;
         writer.flush().map_err(ExportFault::Write)?;

@@ -1,4 +1,10 @@
 //! One frame after the other, written as JSON or CSV.
+ghost use Rattle.std.specs.Prelude.{◌≡◌, IfErr, IfOk, Ok, true, false};
+ghost use Rattle.pdc_export.specs.Exported.{is_no_frame, is_of_bytes, is_refused};
+ghost use Rattle.pdc_export.specs.declared.exporter.Exported.TheVariants.{Refused};
+ghost use Rattle.pdc_frame.specs.Frame.{Fields, IsFirstFault, IsFrame};
+ghost use Rattle.pdc_frame.specs.declared.fault.FrameFault.{FrameFault};
+ghost use Rattle.pdc_show.specs.declared.refusal.NotShown.TheVariants as why;
 
 use crate::held::Held;
 use crate::objects;
@@ -160,7 +166,9 @@ impl Exporter {
     }
 
     /// The blocks of a data frame, by the configuration that is held.
-    fn blocks(&self, frame: &Frame) -> Result<ArrayVec<Block, 17>, NotShown> {
+    fn blocks(&self, frame: &Frame) -> Result<ArrayVec<Block, 17>, NotShown>
+        ensures { IfErr result (λ refusal. is_of_bytes refusal ≡ false) }
+    {
         match &self.held {
             Some(held) if held.id == frame.id => {
                 cut(held.shapes.as_slice(), frame.payload).map_err(NotShown::Body)
@@ -170,7 +178,10 @@ impl Exporter {
     }
 
     /// Writes a data frame.
-    fn data(&mut self, frame: &Frame, out: &mut Vec<u8>) -> Result<Exported, AllocError> {
+    fn data(&mut self, frame: &Frame, out: &mut Vec<u8>) -> Result<Exported, AllocError>
+        ensures refused { IfOk result (λ exported. is_refused exported ≡ true → out.new.items ≡ out.old.items) }
+        ensures frame { IfOk result (λ exported. is_no_frame exported ≡ false) }
+    {
         let blocks = self.blocks(frame);
         match &blocks {
             Ok(blocks) => self.write_data(frame, blocks.as_slice(), out),
@@ -184,7 +195,9 @@ impl Exporter {
         frame: &Frame,
         blocks: &[Block],
         out: &mut Vec<u8>,
-    ) -> Result<Exported, AllocError> {
+    ) -> Result<Exported, AllocError>
+        ensures { IfOk result (λ exported. is_refused exported ≡ false) }
+    {
         self.set_time(frame, self.time_base_of(frame.id))?;
         let templates = templates_of(&self.held);
         match self.format {
@@ -203,7 +216,10 @@ impl Exporter {
     }
 
     /// Writes a configuration, and holds it where it is a CFG-2.
-    fn config(&mut self, frame: &Frame, out: &mut Vec<u8>) -> Result<Exported, AllocError> {
+    fn config(&mut self, frame: &Frame, out: &mut Vec<u8>) -> Result<Exported, AllocError>
+        ensures refused { IfOk result (λ exported. is_refused exported ≡ true → out.new.items ≡ out.old.items) }
+        ensures frame { IfOk result (λ exported. is_no_frame exported ≡ false) }
+    {
         let config = match read_config(frame) {
             Ok(config) => config,
             Err(fault) => return Ok(Exported::Refused(NotShown::Config(fault))),
@@ -245,7 +261,9 @@ impl Exporter {
         frame: &Frame,
         config: &ConfigView,
         out: &mut Vec<u8>,
-    ) -> Result<Exported, AllocError> {
+    ) -> Result<Exported, AllocError>
+        ensures { IfOk result (λ exported. is_refused exported ≡ false) }
+    {
         let is_cfg2 = frame.kind == Kind::Cfg2;
         if is_cfg2 && !self.is_held(frame) {
             let templates = json_templates(self.alloc, config)?;
@@ -264,7 +282,9 @@ impl Exporter {
         frame: &Frame,
         config: &ConfigView,
         out: &mut Vec<u8>,
-    ) -> Result<Exported, AllocError> {
+    ) -> Result<Exported, AllocError>
+        ensures { IfOk result (λ exported. is_refused exported ≡ false) }
+    {
         if frame.kind != Kind::Cfg2 || self.is_held(frame) {
             return Ok(Exported::Written { lines: 0 });
         }
@@ -287,7 +307,10 @@ impl Exporter {
     }
 
     /// Writes a header frame.
-    fn header(&mut self, frame: &Frame, out: &mut Vec<u8>) -> Result<Exported, AllocError> {
+    fn header(&mut self, frame: &Frame, out: &mut Vec<u8>) -> Result<Exported, AllocError>
+        ensures refused { IfOk result (λ exported. is_refused exported ≡ true → out.new.items ≡ out.old.items) }
+        ensures frame { IfOk result (λ exported. is_no_frame exported ≡ false) }
+    {
         match read_header(frame) {
             Ok(text) => {
                 if self.format == Format::Csv {
@@ -303,7 +326,10 @@ impl Exporter {
     }
 
     /// Writes a command frame.
-    fn command(&mut self, frame: &Frame, out: &mut Vec<u8>) -> Result<Exported, AllocError> {
+    fn command(&mut self, frame: &Frame, out: &mut Vec<u8>) -> Result<Exported, AllocError>
+        ensures refused { IfOk result (λ exported. is_refused exported ≡ true → out.new.items ≡ out.old.items) }
+        ensures frame { IfOk result (λ exported. is_no_frame exported ≡ false) }
+    {
         match read_command(frame) {
             Ok(command) => {
                 if self.format == Format::Csv {
@@ -323,7 +349,13 @@ impl Exporter {
     /// # Errors
     ///
     /// [`AllocError`] where there is no room and none is got.
-    pub fn export(&mut self, bytes: &[u8], out: &mut Vec<u8>) -> Result<Exported, AllocError> {
+    pub fn export(&mut self, bytes: &[u8], out: &mut Vec<u8>) -> Result<Exported, AllocError>
+        // Nothing is written of what is refused.
+        ensures refused { IfOk result (λ exported. is_refused exported ≡ true → out.new.items ≡ out.old.items) }
+        // Bytes that are no frame are refused by the first fault that they have; a frame is not refused so.
+        ensures fault { (fault : FrameFault) → result ≡ Ok (Refused (why.Frame fault)) → IsFirstFault bytes.now fault }
+        ensures frame { (f : Fields) → IsFrame bytes.now f → IfOk result (λ exported. is_no_frame exported ≡ false) }
+    {
         let frame = match read_frame(bytes) {
             Ok(frame) => frame,
             Err(fault) => return Ok(Exported::Refused(NotShown::Frame(fault))),

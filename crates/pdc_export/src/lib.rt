@@ -4,13 +4,11 @@
 //! one frame after the other. What the lines look like is shown by tests alone.
 #![tactic(auto)]
 
-mod channel;
 mod command;
 mod export;
 mod exporter;
 mod fault;
 mod held;
-mod line;
 mod objects;
 mod table;
 

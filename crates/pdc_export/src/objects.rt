@@ -3,15 +3,15 @@ ghost use Rattle.std.specs.Prelude.{◌≡◌, IfOk, [], ◌∷◌};
 ghost use Rattle.json.specs.Print.{print};
 ghost use Rattle.json.specs.Token.{string};
 
-use crate::channel::{
-    Channel, Kind, Quantity, channels_of, fixed_of, nominal_frequency, station_name,
-};
 use json::Writer;
 use pdc_block::Block;
 use pdc_cfg::{ConfigView, SectionView};
 use pdc_command::Command;
 use pdc_frame::Frame;
-use pdc_values::{Field, Phasor, Template, append_count, append_whole};
+use pdc_values::{
+    Channel, Field, Kind, Phasor, Quantity, Template, append_count, append_whole, channels_of,
+    fixed_of, nominal_frequency, station_name,
+};
 use std::alloc::{AllocError, Global};
 
 /// What stands in the place of a value that is absent.
@@ -48,14 +48,12 @@ fn add_name(
 fn add_phasor(template: &mut Template, unit: &str, phasor: Phasor) -> Result<(), AllocError> {
     template.text(b"{\"unit\":\"")?;
     template.text(unit.as_bytes())?;
-    template.text(b"\",\"magnitude\":")?;
-    template.place(Field::Magnitude(phasor))?;
-    template.text(b",\"angle\":")?;
-    template.place(Field::Angle(phasor))?;
-    template.text(b",\"re\":")?;
-    template.place(Field::Real(phasor))?;
-    template.text(b",\"im\":")?;
-    template.place(Field::Imaginary(phasor))?;
+    template.places(&[
+        ("\",\"magnitude\":", Field::Magnitude(phasor)),
+        (",\"angle\":", Field::Angle(phasor)),
+        (",\"re\":", Field::Real(phasor)),
+        (",\"im\":", Field::Imaginary(phasor)),
+    ])?;
     template.text(b"}")
 }
 
@@ -100,14 +98,12 @@ fn add_head(
     template.text(quoted(alloc, name.as_str())?.as_slice())?;
     template.text(b",\"id\":")?;
     template.count(u64::from(section.source))?;
-    template.text(b",\"stat\":")?;
-    template.place(Field::Stat)?;
-    template.text(b",\"stat_words\":\"")?;
-    template.place(Field::StatWords)?;
-    template.text(b"\",\"frequency\":")?;
-    template.place(fixed.frequency)?;
-    template.text(b",\"rocof\":")?;
-    template.place(fixed.rocof)
+    template.places(&[
+        (",\"stat\":", Field::Stat),
+        (",\"stat_words\":\"", Field::StatWords),
+        ("\",\"frequency\":", fixed.frequency),
+        (",\"rocof\":", fixed.rocof),
+    ])
 }
 
 /// The object of a block of this section.
@@ -134,11 +130,9 @@ pub fn block_template(alloc: Global, section: &SectionView) -> Result<Template, 
     Ok(template)
 }
 
-/// Appends a member that is a whole number.
+/// Appends a member that is a whole number, behind its name.
 fn append_member(name: &[u8], value: i64, out: &mut Vec<u8>) -> Result<(), AllocError> {
-    out.extend_from_slice(b",\"")?;
     out.extend_from_slice(name)?;
-    out.extend_from_slice(b"\":")?;
     append_whole(value, out)
 }
 
@@ -165,10 +159,10 @@ pub fn append_frame(
         }
         None => out.extend_from_slice(b"null")?,
     }
-    append_member(b"stream", i64::from(frame.id), out)?;
-    append_member(b"soc", i64::from(frame.soc), out)?;
-    append_member(b"frac", i64::from(frame.frac), out)?;
-    append_member(b"quality", i64::from(frame.quality), out)
+    append_member(b",\"stream\":", i64::from(frame.id), out)?;
+    append_member(b",\"soc\":", i64::from(frame.soc), out)?;
+    append_member(b",\"frac\":", i64::from(frame.frac), out)?;
+    append_member(b",\"quality\":", i64::from(frame.quality), out)
 }
 
 /// Appends the rest of the object of a data frame, whose beginning is there.
@@ -220,9 +214,9 @@ fn append_section(
     let channels = channels_of(alloc, section)?;
     out.extend_from_slice(b"{\"pmu\":")?;
     out.extend_from_slice(quoted(alloc, name.as_str())?.as_slice())?;
-    append_member(b"id", i64::from(section.source), out)?;
-    append_member(b"count", i64::from(section.count), out)?;
-    append_member(b"nominal", i64::from(nominal_frequency(section)), out)?;
+    append_member(b",\"id\":", i64::from(section.source), out)?;
+    append_member(b",\"count\":", i64::from(section.count), out)?;
+    append_member(b",\"nominal\":", i64::from(nominal_frequency(section)), out)?;
     let mut separator: &[u8] = b",\"channels\":[";
     if channels.is_empty() {
         out.extend_from_slice(separator)?;
@@ -244,8 +238,8 @@ pub fn append_config(
     config: &ConfigView,
     out: &mut Vec<u8>,
 ) -> Result<(), AllocError> {
-    append_member(b"time_base", i64::from(config.time_base), out)?;
-    append_member(b"rate", i64::from(config.rate), out)?;
+    append_member(b",\"time_base\":", i64::from(config.time_base), out)?;
+    append_member(b",\"rate\":", i64::from(config.rate), out)?;
     let mut separator: &[u8] = b",\"pmus\":[";
     for section in config.sections.as_slice() {
         out.extend_from_slice(separator)?;
@@ -285,7 +279,7 @@ fn command_words(command: Command) -> &'static str {
 ///
 /// [`AllocError`] where there is no room and none is got.
 pub fn append_command(command: Command, out: &mut Vec<u8>) -> Result<(), AllocError> {
-    append_member(b"command", command as i64, out)?;
+    append_member(b",\"command\":", command as i64, out)?;
     out.extend_from_slice(b",\"command_words\":\"")?;
     out.extend_from_slice(command_words(command).as_bytes())?;
     out.extend_from_slice(b"\"}\n")

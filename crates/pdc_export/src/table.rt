@@ -1,9 +1,10 @@
 //! Blocks as rows of CSV.
 
-use crate::channel::{Channel, Kind, Quantity, channels_of, fixed_of, station_name};
 use csv::Writer;
 use pdc_cfg::SectionView;
-use pdc_values::{Field, Phasor, Template};
+use pdc_values::{
+    Channel, Field, Kind, Phasor, Quantity, Template, channels_of, fixed_of, station_name,
+};
 use std::alloc::{AllocError, Global};
 
 /// What stands in the place of a value that is absent: nothing.
@@ -60,14 +61,12 @@ fn append_names(alloc: Global, column: &Column, out: &mut Vec<u8>) -> Result<(),
 
 /// Adds the columns of a phasor, each behind a comma.
 fn add_phasor(template: &mut Template, phasor: Phasor) -> Result<(), AllocError> {
-    template.text(b",")?;
-    template.place(Field::Magnitude(phasor))?;
-    template.text(b",")?;
-    template.place(Field::Angle(phasor))?;
-    template.text(b",")?;
-    template.place(Field::Real(phasor))?;
-    template.text(b",")?;
-    template.place(Field::Imaginary(phasor))
+    template.places(&[
+        (",", Field::Magnitude(phasor)),
+        (",", Field::Angle(phasor)),
+        (",", Field::Real(phasor)),
+        (",", Field::Imaginary(phasor)),
+    ])
 }
 
 /// Adds the columns of a channel that the PMU has.
@@ -75,13 +74,9 @@ fn add_channel(template: &mut Template, quantity: Quantity) -> Result<(), AllocE
     match quantity {
         Quantity::Voltage(phasor) | Quantity::Current(phasor) => add_phasor(template, phasor),
         Quantity::Analog { place, factor } => {
-            template.text(b",")?;
-            template.place(Field::Analog { place, factor })
+            template.places(&[(",", Field::Analog { place, factor })])
         }
-        Quantity::Digital { place } => {
-            template.text(b",")?;
-            template.place(Field::Digital { place })
-        }
+        Quantity::Digital { place } => template.places(&[(",", Field::Digital { place })]),
     }
 }
 
@@ -105,14 +100,12 @@ fn add_head(
     template.text(field_text(alloc, name.as_str())?.as_slice())?;
     template.text(b",")?;
     template.count(u64::from(section.source))?;
-    template.text(b",")?;
-    template.place(Field::Stat)?;
-    template.text(b",")?;
-    template.place(Field::StatWords)?;
-    template.text(b",")?;
-    template.place(fixed.frequency)?;
-    template.text(b",")?;
-    template.place(fixed.rocof)
+    template.places(&[
+        (",", Field::Stat),
+        (",", Field::StatWords),
+        (",", fixed.frequency),
+        (",", fixed.rocof),
+    ])
 }
 
 impl Column {

@@ -1,5 +1,7 @@
-//! A line of hexadecimal, read byte by byte.
+//! A line of hexadecimal, read piece by piece.
 
+use hex::FromHexError;
+use memchr::memchr2;
 use std::alloc::{AllocError, Global};
 
 /// The most digits of a line that are kept: those of one byte more than the longest frame has.
@@ -16,17 +18,6 @@ pub struct Line {
     odd: bool,
     /// A CR came last, which ends the line if LF follows.
     has_return: bool,
-}
-
-/// What a whole line is.
-#[derive(Debug)]
-pub enum Digits<'a> {
-    /// Nothing.
-    Empty,
-    /// Bytes that may be hexadecimal.
-    Text(&'a [u8]),
-    /// No hexadecimal.
-    Broken,
 }
 
 impl Line {
@@ -53,11 +44,7 @@ impl Line {
     }
 
     /// Takes a byte of the line, or passes over it where it is a space.
-    ///
-    /// # Errors
-    ///
-    /// [`AllocError`] where there is no room and none is got.
-    pub fn take(&mut self, byte: u8) -> Result<(), AllocError> {
+    fn take_byte(&mut self, byte: u8) -> Result<(), AllocError> {
         if self.has_return {
             self.has_return = false;
             self.keep(b'\r')?;
@@ -70,6 +57,29 @@ impl Line {
             }
             _ => self.keep(byte),
         }
+    }
+
+    /// Whether nothing of the piece is passed over, and all of it is kept.
+    fn is_plain(&self, piece: &[u8]) -> bool {
+        !self.has_return
+            && piece.len() <= MAX_DIGITS
+            && self.kept.len() <= MAX_DIGITS - piece.len()
+            && memchr2(b' ', b'\r', piece).is_none()
+    }
+
+    /// Takes a piece of the line, in which no LF is. Spaces are passed over.
+    ///
+    /// # Errors
+    ///
+    /// [`AllocError`] where there is no room and none is got.
+    pub fn take(&mut self, piece: &[u8]) -> Result<(), AllocError> {
+        if self.is_plain(piece) {
+            return self.kept.extend_from_slice(piece);
+        }
+        for byte in piece {
+            self.take_byte(*byte)?;
+        }
+        Ok(())
     }
 
     /// Takes the end of the input, before which a CR ends no line.
@@ -85,15 +95,19 @@ impl Line {
         Ok(())
     }
 
-    /// What the line is.
-    pub fn digits(&self) -> Digits<'_> {
-        if self.kept.is_empty() {
-            Digits::Empty
-        } else if self.broken || self.odd {
-            Digits::Broken
-        } else {
-            Digits::Text(&self.kept)
+    /// The bytes that the line stands for; `None` where it is empty.
+    ///
+    /// # Errors
+    ///
+    /// What is no hexadecimal in it, or [`FromHexError::OutOfMemory`].
+    pub fn bytes(&self, alloc: Global) -> Result<Option<Vec<u8>>, FromHexError> {
+        if self.broken || self.odd {
+            return Err(FromHexError::OddLength);
         }
+        if self.kept.is_empty() {
+            return Ok(None);
+        }
+        hex::decode(alloc, self.kept.as_slice()).map(Some)
     }
 
     /// Begins the next line.

@@ -1,7 +1,7 @@
 //! The command: lines in, lines out.
 
 use crate::held::Held;
-use crate::line::{Digits, Line};
+use crate::line::Line;
 use crate::lines::{write_command, write_config, write_data, write_header};
 use crate::refusal::NotShown;
 use hex::FromHexError;
@@ -162,28 +162,25 @@ impl Show {
     /// Shows the line that was read. Its end is LF, CR LF or the end of the input.
     fn end_line<W: Write>(&mut self, writer: &mut W) -> Result<(), ShowFault> {
         self.number = self.number.saturating_add(1);
-        let decoded = match self.line.digits() {
-            Digits::Empty => None,
-            Digits::Broken => Some(Err(FromHexError::OddLength)),
-            Digits::Text(text) => Some(hex::decode(self.alloc, text)),
-        };
+        let decoded = self.line.bytes(self.alloc);
         self.line.clear();
         match decoded {
-            None => Ok(()),
-            Some(Ok(bytes)) => self.show_frame(bytes.as_slice(), writer),
-            Some(Err(FromHexError::OutOfMemory)) => Err(ShowFault::Memory),
-            Some(Err(_)) => self.refuse_line(writer),
+            Ok(None) => Ok(()),
+            Ok(Some(bytes)) => self.show_frame(bytes.as_slice(), writer),
+            Err(FromHexError::OutOfMemory) => Err(ShowFault::Memory),
+            Err(_) => self.refuse_line(writer),
         }
     }
 
     /// Takes what was read, and shows each line that it ends.
     fn feed<W: Write>(&mut self, piece: &[u8], writer: &mut W) -> Result<(), ShowFault> {
-        for byte in piece {
-            if *byte == b'\n' {
+        let mut is_first = true;
+        for part in piece.split(|byte| *byte == b'\n') {
+            if !is_first {
                 self.end_line(writer)?;
-            } else {
-                self.line.take(*byte)?;
             }
+            is_first = false;
+            self.line.take(part)?;
         }
         Ok(())
     }

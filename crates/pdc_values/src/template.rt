@@ -65,6 +65,19 @@ impl Template {
             .map_err(|_| AllocError)
     }
 
+    /// Adds places, each behind its text.
+    ///
+    /// # Errors
+    ///
+    /// [`AllocError`] where there is no room and none is got.
+    pub fn places(&mut self, steps: &[(&str, Field)]) -> Result<(), AllocError> {
+        for (text, field) in steps {
+            self.text(text.as_bytes())?;
+            self.place(*field)?;
+        }
+        Ok(())
+    }
+
     /// Appends the text, with what the block says in the places.
     ///
     /// # Errors

@@ -2,9 +2,11 @@
 ghost use Rattle.std.specs.Prelude.{◌≡◌, ◌+◌, ◌-◌, ◌*◌, ◌<◌, ◌≤◌, ◌%◌, ◌^◌, length};
 ghost use Rattle.pdc_frame.specs.Bytes.{word_at, long_at};
 
+use crate::field::Field;
+use crate::phasor::Phasor;
+use crate::quantity::{analog_factor, phasor_factor};
 use pdc_cfg::{SectionView, Shape};
 use pdc_frame::{read_long, read_word};
-use pdc_values::{Field, Phasor, analog_factor, phasor_factor};
 use std::alloc::{AllocError, Global};
 
 /// The bytes of a name.
