@@ -1,0 +1,53 @@
+//! What answers are told as.
+
+use pdc_client::ClientFault;
+use pdc_pmu::PmuFault;
+use pdc_session::SessionFault;
+use std::alloc::AllocError;
+
+/// A call that succeeded.
+pub const DONE: &str = "Ok";
+
+/// Memory was wanted, and none was to be had.
+pub const NO_MEMORY: &str = "Z1 NoMemory";
+
+/// What the trial could not set up.
+pub const NO_CALL: &str = "no such call";
+
+/// The answer of a call that fails for want of memory alone.
+pub fn of_memory<T: Drop>(answer: Result<T, AllocError>) -> &'static str {
+    match answer {
+        Ok(_) => DONE,
+        Err(_) => NO_MEMORY,
+    }
+}
+
+/// The answer of a session.
+pub fn of_session(answer: Result<(), SessionFault>) -> &'static str {
+    match answer {
+        Ok(()) => DONE,
+        Err(SessionFault::BadStream) => "Y1 BadStream",
+        Err(SessionFault::NoMemory) => NO_MEMORY,
+    }
+}
+
+/// The fault of a client.
+pub fn of_client(fault: ClientFault) -> &'static str {
+    match fault {
+        ClientFault::BadStream => "Y1 BadStream",
+        ClientFault::NoAnswer => "Y2 NoAnswer",
+        ClientFault::Device => "Y3 Device",
+        ClientFault::NoMemory => NO_MEMORY,
+    }
+}
+
+/// The answer of a PMU.
+pub fn of_pmu(answer: Result<(), PmuFault>) -> &'static str {
+    match answer {
+        Ok(()) => DONE,
+        Err(PmuFault::NotLater) => "U1 NotLater",
+        Err(PmuFault::CountsUsedUp) => "U2 CountsUsedUp",
+        Err(PmuFault::AlreadySent) => "U3 AlreadySent",
+        Err(PmuFault::NoMemory) => NO_MEMORY,
+    }
+}

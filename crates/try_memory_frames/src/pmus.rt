@@ -1,0 +1,104 @@
+//! Simulated PMUs.
+ghost use Rattle.std.specs.Prelude.{◌≡◌};
+
+use crate::answers::{NO_CALL, of_pmu};
+use crate::trial::{State, Trial, make, state_of};
+use crate::vectors::{BEFORE, CONFIG_11, FIRST, SOC, TEXT, WORDS};
+use pdc_cfg::read_config;
+use pdc_frame::read_frame;
+use pdc_pmu::{Pmu, PmuFault};
+use std::alloc::{AllocError, Global};
+use std::io;
+
+/// The frames in a second.
+const RATE: u16 = 50;
+
+/// What a PMU sends.
+#[derive(Clone, Copy, Debug)]
+enum Sent {
+    Header,
+    Config,
+    Data,
+    Later,
+}
+
+/// All of it.
+const ALL: [Sent; 4] = [Sent::Header, Sent::Config, Sent::Data, Sent::Later];
+
+/// A PMU, and what it appends its frames to.
+#[derive(Drop)]
+struct PmuTrial {
+    sent: Sent,
+    pmu: Pmu,
+    out: Vec<u8>,
+    ghost rate: { pmu.rate ≡ RATE },
+}
+
+impl PmuTrial {
+    /// Sends the first section of a configuration.
+    fn configure(&mut self) -> &'static str {
+        let Ok(frame) = read_frame(&CONFIG_11) else {
+            return NO_CALL;
+        };
+        let Ok(config) = read_config(&frame) else {
+            return NO_CALL;
+        };
+        match config.sections.first() {
+            Some(section) => of_pmu(self.pmu.set_configuration(SOC, section, &mut self.out)),
+            None => NO_CALL,
+        }
+    }
+
+    /// Sends data.
+    fn send(&mut self, instant: u64) -> &'static str {
+        match self.pmu.shape() {
+            Some(shape) if shape.word_count() == WORDS.len() => {
+                of_pmu(self.pmu.send(instant, &WORDS, &mut self.out))
+            }
+            _ => NO_CALL,
+        }
+    }
+}
+
+impl Trial for PmuTrial {
+    fn name(&self) -> &'static str {
+        match self.sent {
+            Sent::Header => "Pmu::set_header",
+            Sent::Config => "Pmu::set_configuration",
+            Sent::Data => "Pmu::send",
+            Sent::Later => "Pmu::send of the next",
+        }
+    }
+
+    fn state(&self) -> State {
+        state_of(&self.out, usize::from(self.pmu.shape().is_some()))
+    }
+
+    fn call(&mut self) -> &'static str {
+        match self.sent {
+            Sent::Header => of_pmu(self.pmu.set_header(SOC, &TEXT, &mut self.out)),
+            Sent::Config => self.configure(),
+            Sent::Data => self.send(FIRST),
+            Sent::Later => self.send(FIRST + 1),
+        }
+    }
+
+    fn renew(&mut self) -> Result<(), AllocError> {
+        Ok(())
+    }
+}
+
+/// One PMU sends all of it, each frame on three bytes.
+pub fn play<R: Print>(rt: &R, alloc: Global) -> io::Result<()> {
+    let mut trial = PmuTrial {
+        sent: Sent::Header,
+        pmu: Pmu::new(11, RATE, 1_000_000),
+        out: Vec::new(alloc),
+    };
+    for sent in ALL {
+        trial.sent = sent;
+        trial.out = Vec::from_slice(alloc, &BEFORE)?;
+        make(rt, &mut trial)?;
+    }
+    Ok(())
+}

@@ -1,0 +1,82 @@
+//! Sessions that are asked for a header, and for a header and a configuration in one piece.
+
+use crate::answers::{NO_CALL, of_session};
+use crate::trial::{State, Trial, make, state_of};
+use crate::vectors::{BEFORE, CONFIG_11, SOC, TEXT};
+use pdc_cfg::read_config;
+use pdc_command::{Command, write_command};
+use pdc_frame::read_frame;
+use pdc_session::{Serving, Session};
+use std::alloc::{AllocError, Global};
+use std::io;
+
+/// A session, the piece that it is fed, and the replies behind what stood.
+#[derive(Drop)]
+struct SessionTrial {
+    alloc: Global,
+    name: &'static str,
+    piece: Vec<u8>,
+    session: Session,
+    out: Vec<u8>,
+}
+
+impl SessionTrial {
+    /// With a new session, three bytes, and nothing to feed.
+    fn new(alloc: Global, name: &'static str) -> Result<SessionTrial, AllocError> {
+        Ok(SessionTrial {
+            alloc,
+            name,
+            piece: Vec::new(alloc),
+            session: Session::new(alloc, 11)?,
+            out: Vec::from_slice(alloc, &BEFORE)?,
+        })
+    }
+
+    /// Adds a command to the piece.
+    fn tell(&mut self, command: Command) -> Result<(), AllocError> {
+        write_command(11, SOC, command, &mut self.piece)
+    }
+}
+
+impl Trial for SessionTrial {
+    fn name(&self) -> &'static str {
+        self.name
+    }
+
+    fn state(&self) -> State {
+        state_of(&self.out, usize::from(self.session.on()))
+    }
+
+    fn call(&mut self) -> &'static str {
+        let Ok(frame) = read_frame(&CONFIG_11) else {
+            return NO_CALL;
+        };
+        let Ok(layout) = read_config(&frame) else {
+            return NO_CALL;
+        };
+        let serving = Serving {
+            soc: SOC,
+            header: &TEXT,
+            layout,
+        };
+        of_session(self.session.feed(&self.piece, &serving, &mut self.out))
+    }
+
+    fn renew(&mut self) -> Result<(), AllocError> {
+        self.session = Session::new(self.alloc, 11)?;
+        self.out = Vec::from_slice(self.alloc, &BEFORE)?;
+        Ok(())
+    }
+}
+
+/// One command, and three in one piece.
+pub fn play<R: Print>(rt: &R, alloc: Global) -> io::Result<()> {
+    let mut trial = SessionTrial::new(alloc, "Session::feed")?;
+    trial.tell(Command::SendHeader)?;
+    make(rt, &mut trial)?;
+    let mut trial = SessionTrial::new(alloc, "Session::feed of three")?;
+    trial.tell(Command::SendHeader)?;
+    trial.tell(Command::SendCfg2)?;
+    trial.tell(Command::DataOn)?;
+    make(rt, &mut trial)
+}

@@ -1,0 +1,74 @@
+//! A call that may want memory, and how it is made and told.
+
+use std::alloc::AllocError;
+use std::io;
+
+/// What stands: how many bytes, their digest, and one more number that the trial can see.
+#[derive(Clone, Copy, Debug)]
+pub struct State {
+    pub len: usize,
+    pub digest: u32,
+    pub more: usize,
+}
+
+/// A number that tells bytes apart: 31 times that of the bytes before the last one, and the last one, modulo 2^32. (A check word would not
+/// do: behind equal bytes, all whole frames of one length have the same.)
+fn digest(bytes: &[u8]) -> u32 {
+    bytes.iter().fold(0, |sum: u32, byte| {
+        sum.wrapping_mul(31).wrapping_add(u32::from(*byte))
+    })
+}
+
+/// The bytes, and one more number.
+pub fn state_of(bytes: &[u8], more: usize) -> State {
+    State {
+        len: bytes.len(),
+        digest: digest(bytes),
+        more,
+    }
+}
+
+/// A call on what stands.
+pub trait Trial {
+    /// The name of the call.
+    fn name(&self) -> &'static str;
+
+    /// What stands.
+    fn state(&self) -> State;
+
+    /// Makes the call, and gives its answer: `Ok`, or the code and the name of the refusal.
+    fn call(&mut self) -> &'static str;
+
+    /// Makes anew what a refusal ended; nothing where a refusal ends nothing.
+    fn renew(&mut self) -> Result<(), AllocError>;
+}
+
+/// Prints that the call begins. What it asks for counts from here to the next line.
+fn begin<R: Print>(rt: &R, name: &str, state: State) -> io::Result<()> {
+    let State { len, digest, more } = state;
+    println!(rt; "call {name}: {len} {digest} {more}")
+}
+
+/// Prints its answer.
+fn end<R: Print>(rt: &R, answer: &str, state: State) -> io::Result<()> {
+    let State { len, digest, more } = state;
+    println!(rt; "  {answer}: {len} {digest} {more}")
+}
+
+/// Makes the call once, and says whether it was answered `Ok`.
+fn attempt<T: Trial, R: Print>(rt: &R, trial: &mut T) -> io::Result<bool> {
+    begin(rt, trial.name(), trial.state())?;
+    let answer = trial.call();
+    end(rt, answer, trial.state())?;
+    Ok(answer == "Ok")
+}
+
+/// Makes the call; again where it is refused, and where it is refused again once more, on what is made anew.
+pub fn make<T: Trial, R: Print>(rt: &R, trial: &mut T) -> io::Result<()> {
+    if attempt(rt, trial)? || attempt(rt, trial)? {
+        return Ok(());
+    }
+    trial.renew()?;
+    attempt(rt, trial)?;
+    Ok(())
+}
