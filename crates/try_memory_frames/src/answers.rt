@@ -3,24 +3,7 @@
 use pdc_client::ClientFault;
 use pdc_pmu::PmuFault;
 use pdc_session::SessionFault;
-use std::alloc::AllocError;
-
-/// A call that succeeded.
-pub const DONE: &str = "Ok";
-
-/// Memory was wanted, and none was to be had.
-pub const NO_MEMORY: &str = "Z1 NoMemory";
-
-/// What the trial could not set up.
-pub const NO_CALL: &str = "no such call";
-
-/// The answer of a call that fails for want of memory alone.
-pub fn of_memory<T: Drop>(answer: Result<T, AllocError>) -> &'static str {
-    match answer {
-        Ok(_) => DONE,
-        Err(_) => NO_MEMORY,
-    }
-}
+use try_memory::{DONE, NO_MEMORY};
 
 /// The answer of a session.
 pub fn of_session(answer: Result<(), SessionFault>) -> &'static str {

@@ -1,11 +1,11 @@
 //! Clients over a line in memory.
 
-use crate::answers::{DONE, of_client, of_memory};
+use crate::answers::of_client;
 use crate::line::Line;
-use crate::trial::{State, Trial, make, state_of};
 use pdc_client::Pdc;
 use std::alloc::{AllocError, Global};
 use std::io;
+use try_memory::{DONE, State, Trial, make, of_memory, state_of};
 
 /// What is asked.
 #[derive(Clone, Copy, Debug)]

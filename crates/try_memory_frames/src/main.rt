@@ -10,7 +10,6 @@ mod makers;
 mod pmus;
 mod recents;
 mod sessions;
-mod trial;
 mod vectors;
 mod writers;
 

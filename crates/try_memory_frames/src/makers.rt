@@ -1,11 +1,10 @@
 //! The calls that reserve room once.
 
-use crate::answers::of_memory;
-use crate::trial::{State, Trial, make};
 use pdc_frame::Framer;
 use pdc_session::{Frames, Session};
 use std::alloc::{AllocError, Global};
 use std::io;
+use try_memory::{DONE, State, Trial, made, make, of_memory};
 
 /// Which call it is.
 #[derive(Clone, Copy, Debug)]
@@ -18,12 +17,12 @@ enum Maker {
 /// All of them.
 const MAKERS: [Maker; 3] = [Maker::Framer, Maker::Session, Maker::Frames];
 
-/// A maker, and how many it made.
+/// A maker, and whether it made one.
 #[derive(Drop)]
 struct MakerTrial {
     alloc: Global,
     maker: Maker,
-    made: usize,
+    is_made: bool,
 }
 
 /// Makes one, which is let go.
@@ -45,18 +44,12 @@ impl Trial for MakerTrial {
     }
 
     fn state(&self) -> State {
-        State {
-            len: 0,
-            digest: 0,
-            more: self.made,
-        }
+        made(self.is_made)
     }
 
     fn call(&mut self) -> &'static str {
         let answer = answer_of(self.alloc, self.maker);
-        if answer == "Ok" {
-            self.made = 1;
-        }
+        self.is_made = answer == DONE;
         answer
     }
 
@@ -73,7 +66,7 @@ pub fn play<R: Print>(rt: &R, alloc: Global) -> io::Result<()> {
             &mut MakerTrial {
                 alloc,
                 maker,
-                made: 0,
+                is_made: false,
             },
         )?;
     }

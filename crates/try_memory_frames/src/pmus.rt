@@ -1,14 +1,14 @@
 //! Simulated PMUs.
 ghost use Rattle.std.specs.Prelude.{◌≡◌};
 
-use crate::answers::{NO_CALL, of_pmu};
-use crate::trial::{State, Trial, make, state_of};
+use crate::answers::of_pmu;
 use crate::vectors::{BEFORE, CONFIG_11, FIRST, SOC, TEXT, WORDS};
 use pdc_cfg::read_config;
 use pdc_frame::read_frame;
-use pdc_pmu::{Pmu, PmuFault};
+use pdc_pmu::Pmu;
 use std::alloc::{AllocError, Global};
 use std::io;
+use try_memory::{NO_CALL, State, Trial, make, state_of};
 
 /// The frames in a second.
 const RATE: u16 = 50;
@@ -71,7 +71,7 @@ impl Trial for PmuTrial {
     }
 
     fn state(&self) -> State {
-        state_of(&self.out, usize::from(self.pmu.shape().is_some()))
+        state_of(&self.out, u64::from(self.pmu.shape().is_some()))
     }
 
     fn call(&mut self) -> &'static str {

@@ -1,12 +1,11 @@
 //! The ring of the frames that were sent last.
 
-use crate::answers::{DONE, NO_MEMORY, of_memory};
-use crate::trial::{State, Trial, make, state_of};
 use crate::vectors::{BEFORE, CONFIG_11};
 use arrayvec::ArrayVec;
 use pdc_session::Frames;
 use std::alloc::{AllocError, Global};
 use std::io;
+use try_memory::{DONE, NO_MEMORY, State, Trial, make, of_memory, state_of};
 
 /// A ring, and what it appends its frames to.
 #[derive(Drop)]
@@ -18,13 +17,10 @@ struct RingTrial {
 }
 
 impl RingTrial {
-    /// The greatest instant that it holds.
-    fn greatest(&self) -> usize {
+    /// The greatest instant that it holds; 0 where it holds none.
+    fn greatest(&self) -> u64 {
         let mut all: ArrayVec<u8, 256> = ArrayVec::new();
-        match self.frames.after(0, &mut all) {
-            Ok(_) => all.len(),
-            Err(_) => usize::MAX,
-        }
+        self.frames.after(0, &mut all).unwrap_or(u64::MAX)
     }
 }
 

@@ -1,7 +1,6 @@
 //! Sessions that are asked for a header, and for a header and a configuration in one piece.
 
-use crate::answers::{NO_CALL, of_session};
-use crate::trial::{State, Trial, make, state_of};
+use crate::answers::of_session;
 use crate::vectors::{BEFORE, CONFIG_11, SOC, TEXT};
 use pdc_cfg::read_config;
 use pdc_command::{Command, write_command};
@@ -9,6 +8,7 @@ use pdc_frame::read_frame;
 use pdc_session::{Serving, Session};
 use std::alloc::{AllocError, Global};
 use std::io;
+use try_memory::{NO_CALL, State, Trial, make, state_of};
 
 /// A session, the piece that it is fed, and the replies behind what stood.
 #[derive(Drop)]
@@ -44,7 +44,7 @@ impl Trial for SessionTrial {
     }
 
     fn state(&self) -> State {
-        state_of(&self.out, usize::from(self.session.on()))
+        state_of(&self.out, u64::from(self.session.on()))
     }
 
     fn call(&mut self) -> &'static str {

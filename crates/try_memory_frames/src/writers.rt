@@ -1,7 +1,5 @@
 //! The calls that append to a caller's bytes.
 
-use crate::answers::of_memory;
-use crate::trial::{State, Trial, make, state_of};
 use crate::vectors::{BEFORE, CONFIG_11, PAYLOAD, SOC, TEXT, WORDS};
 use pdc_block::{Block, join};
 use pdc_cfg::{Shape, read_config, write_config};
@@ -9,6 +7,7 @@ use pdc_command::{Command, write_command, write_header};
 use pdc_frame::{Frame, Kind, read_frame, write_frame};
 use std::alloc::{AllocError, Global};
 use std::io;
+use try_memory::{State, Trial, make, of_memory, state_of};
 
 /// Which call it is.
 #[derive(Clone, Copy, Debug)]

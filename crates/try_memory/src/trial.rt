@@ -3,12 +3,29 @@
 use std::alloc::AllocError;
 use std::io;
 
+/// A call that succeeded.
+pub const DONE: &str = "Ok";
+
+/// Memory was wanted, and none was to be had.
+pub const NO_MEMORY: &str = "Z1 NoMemory";
+
+/// What the trial could not set up.
+pub const NO_CALL: &str = "no such call";
+
+/// The answer of a call that fails for want of memory alone.
+pub fn of_memory<T: Drop>(answer: Result<T, AllocError>) -> &'static str {
+    match answer {
+        Ok(_) => DONE,
+        Err(_) => NO_MEMORY,
+    }
+}
+
 /// What stands: how many bytes, their digest, and one more number that the trial can see.
 #[derive(Clone, Copy, Debug)]
 pub struct State {
     pub len: usize,
     pub digest: u32,
-    pub more: usize,
+    pub more: u64,
 }
 
 /// A number that tells bytes apart: 31 times that of the bytes before the last one, and the last one, modulo 2^32. (A check word would not
@@ -20,11 +37,20 @@ fn digest(bytes: &[u8]) -> u32 {
 }
 
 /// The bytes, and one more number.
-pub fn state_of(bytes: &[u8], more: usize) -> State {
+pub fn state_of(bytes: &[u8], more: u64) -> State {
     State {
         len: bytes.len(),
         digest: digest(bytes),
         more,
+    }
+}
+
+/// What stands where a call makes something: whether it was made.
+pub fn made(is_made: bool) -> State {
+    State {
+        len: 0,
+        digest: 0,
+        more: u64::from(is_made),
     }
 }
 
@@ -60,7 +86,7 @@ fn attempt<T: Trial, R: Print>(rt: &R, trial: &mut T) -> io::Result<bool> {
     begin(rt, trial.name(), trial.state())?;
     let answer = trial.call();
     end(rt, answer, trial.state())?;
-    Ok(answer == "Ok")
+    Ok(answer == DONE)
 }
 
 /// Makes the call; again where it is refused, and where it is refused again once more, on what is made anew.

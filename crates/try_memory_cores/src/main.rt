@@ -1,0 +1,28 @@
+//! Makes each call of settings, tables, arrivals, cores and publishers that may want memory, and prints a line before it and its answer
+//! behind it, each with what stands (`try_memory`). With ample memory no call is refused. `tests/memory` refuses each request in turn, and
+//! compares.
+#![tactic(auto)]
+
+mod arrivals;
+mod documents;
+mod layouts;
+mod opens;
+mod publishes;
+mod settings;
+mod tables;
+mod vectors;
+
+use std::io;
+use std::process::ExitCode;
+
+fn main(rt: HostRuntime) -> io::Result<ExitCode> {
+    let alloc = rt.alloc();
+    documents::play(&rt, alloc)?;
+    tables::play(&rt, alloc)?;
+    arrivals::play(&rt, alloc)?;
+    opens::play(&rt, alloc)?;
+    layouts::play(&rt, alloc)?;
+    publishes::play(&rt, alloc)?;
+    println!(rt; "through")?;
+    Ok(ExitCode::SUCCESS)
+}
