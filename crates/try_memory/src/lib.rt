@@ -7,4 +7,6 @@
 
 mod trial;
 
-pub use trial::{DONE, NO_CALL, NO_MEMORY, State, Trial, made, make, of_memory, state_of};
+pub use trial::{
+    DONE, NO_CALL, NO_MEMORY, State, Trial, begin, end, made, make, of_memory, state_of,
+};

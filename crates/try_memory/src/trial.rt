@@ -70,13 +70,13 @@ pub trait Trial {
 }
 
 /// Prints that the call begins. What it asks for counts from here to the next line.
-fn begin<R: Print>(rt: &R, name: &str, state: State) -> io::Result<()> {
+pub fn begin<R: Print>(rt: &R, name: &str, state: State) -> io::Result<()> {
     let State { len, digest, more } = state;
     println!(rt; "call {name}: {len} {digest} {more}")
 }
 
 /// Prints its answer.
-fn end<R: Print>(rt: &R, answer: &str, state: State) -> io::Result<()> {
+pub fn end<R: Print>(rt: &R, answer: &str, state: State) -> io::Result<()> {
     let State { len, digest, more } = state;
     println!(rt; "  {answer}: {len} {digest} {more}")
 }

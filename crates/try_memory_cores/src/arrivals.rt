@@ -10,7 +10,7 @@ use std::io;
 use try_memory::{DONE, NO_CALL, NO_MEMORY, State, Trial, made, make, state_of};
 
 /// What arrives.
-#[derive(Clone, Copy, Debug)]
+#[derive(Clone, Copy)]
 enum Arriving {
     Short,
     Long,

@@ -8,7 +8,7 @@ use std::io;
 use try_memory::{DONE, State, Trial, make, of_memory, state_of};
 
 /// What is asked.
-#[derive(Clone, Copy, Debug)]
+#[derive(Clone, Copy)]
 enum Asked {
     New,
     Config,

@@ -7,7 +7,7 @@ use std::io;
 use try_memory::{DONE, State, Trial, made, make, of_memory};
 
 /// Which call it is.
-#[derive(Clone, Copy, Debug)]
+#[derive(Clone, Copy)]
 enum Maker {
     Framer,
     Session,

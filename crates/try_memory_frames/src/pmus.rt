@@ -6,6 +6,7 @@ use crate::vectors::{BEFORE, CONFIG_11, FIRST, SOC, TEXT, WORDS};
 use pdc_cfg::read_config;
 use pdc_frame::read_frame;
 use pdc_pmu::Pmu;
+use pdc_tag::SECONDS;
 use std::alloc::{AllocError, Global};
 use std::io;
 use try_memory::{NO_CALL, State, Trial, make, state_of};
@@ -14,7 +15,7 @@ use try_memory::{NO_CALL, State, Trial, make, state_of};
 const RATE: u16 = 50;
 
 /// What a PMU sends.
-#[derive(Clone, Copy, Debug)]
+#[derive(Clone, Copy)]
 enum Sent {
     Header,
     Config,
@@ -30,8 +31,9 @@ const ALL: [Sent; 4] = [Sent::Header, Sent::Config, Sent::Data, Sent::Later];
 struct PmuTrial {
     sent: Sent,
     pmu: Pmu,
+    rate: u16,
     out: Vec<u8>,
-    ghost rate: { pmu.rate ≡ RATE },
+    ghost rate_kept: { pmu.rate ≡ rate },
 }
 
 impl PmuTrial {
@@ -49,13 +51,23 @@ impl PmuTrial {
         }
     }
 
+    /// Sends this, on three bytes.
+    fn play_one<R: Print>(&mut self, rt: &R, alloc: Global, sent: Sent) -> io::Result<()> {
+        self.sent = sent;
+        self.out = Vec::from_slice(alloc, &BEFORE)?;
+        make(rt, self)
+    }
+
     /// Sends data.
     fn send(&mut self, instant: u64) -> &'static str {
         match self.pmu.shape() {
-            Some(shape) if shape.word_count() == WORDS.len() => {
+            Some(shape) => {
+                if shape.word_count() != WORDS.len() || instant >= SECONDS * u64::from(self.rate) {
+                    return NO_CALL;
+                }
                 of_pmu(self.pmu.send(instant, &WORDS, &mut self.out))
             }
-            _ => NO_CALL,
+            None => NO_CALL,
         }
     }
 }
@@ -93,12 +105,11 @@ pub fn play<R: Print>(rt: &R, alloc: Global) -> io::Result<()> {
     let mut trial = PmuTrial {
         sent: Sent::Header,
         pmu: Pmu::new(11, RATE, 1_000_000),
+        rate: RATE,
         out: Vec::new(alloc),
     };
     for sent in ALL {
-        trial.sent = sent;
-        trial.out = Vec::from_slice(alloc, &BEFORE)?;
-        make(rt, &mut trial)?;
+        trial.play_one(rt, alloc, sent)?;
     }
     Ok(())
 }

@@ -10,7 +10,7 @@ use std::io;
 use try_memory::{State, Trial, make, of_memory, state_of};
 
 /// Which call it is.
-#[derive(Clone, Copy, Debug)]
+#[derive(Clone, Copy)]
 enum Writer {
     Frame,
     Config,
