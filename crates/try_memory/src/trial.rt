@@ -1,4 +1,5 @@
 //! A call that may want memory, and how it is made and told.
+ghost use Rattle.std.specs.Prelude.{◌≡◌, length};
 
 use std::alloc::AllocError;
 use std::io;
@@ -37,7 +38,10 @@ fn digest(bytes: &[u8]) -> u32 {
 }
 
 /// The bytes, and one more number.
-pub fn state_of(bytes: &[u8], more: u64) -> State {
+pub fn state_of(bytes: &[u8], more: u64) -> State
+    ensures len { result.len ≡ length bytes.now }
+    ensures more { result.more ≡ more }
+{
     State {
         len: bytes.len(),
         digest: digest(bytes),
@@ -46,7 +50,10 @@ pub fn state_of(bytes: &[u8], more: u64) -> State {
 }
 
 /// What stands where a call makes something: whether it was made.
-pub fn made(is_made: bool) -> State {
+pub fn made(is_made: bool) -> State
+    ensures len { result.len ≡ 0 }
+    ensures digest { result.digest ≡ 0 }
+{
     State {
         len: 0,
         digest: 0,
