@@ -1,4 +1,4 @@
-//! Makes each call of settings, tables, arrivals, cores and publishers that may want memory, and prints a line before it and its answer
+//! Makes each call of settings, tables, arrivals, cores, publishers and what was sent last that may want memory, and prints a line before it and its answer
 //! behind it, each with what stands (`try_memory`). With ample memory no call is refused. `tests/memory` refuses each request in turn, and
 //! compares.
 #![tactic(auto)]
@@ -8,7 +8,9 @@ mod documents;
 mod layouts;
 mod opens;
 mod publishes;
+mod recents;
 mod settings;
+mod silent;
 mod tables;
 mod vectors;
 
@@ -23,6 +25,7 @@ fn main(rt: HostRuntime) -> io::Result<ExitCode> {
     opens::play(&rt, alloc)?;
     layouts::play(&rt, alloc)?;
     publishes::play(&rt, alloc)?;
+    recents::play(&rt, alloc)?;
     println!(rt; "through")?;
     Ok(ExitCode::SUCCESS)
 }

@@ -14,7 +14,7 @@ use try_memory::{DONE, NO_CALL, NO_MEMORY, State, Trial, make, state_of};
 const RATE: u16 = 50;
 
 /// What node 201 says of itself.
-const OUTPUT: Output = Output {
+pub const OUTPUT: Output = Output {
     id: 201,
     rate: RATE,
     nominal: Nominal::Hz50,
