@@ -16,7 +16,7 @@ use std::io;
 use std::marker::Brand;
 use std::sync::Wait;
 use std::sync::ledger::{Blank, Ledger, Share};
-use try_memory::{DONE, NO_MEMORY, State, begin, end, state_of};
+use try_memory::{DONE, NO_MEMORY, State, begin, end, made, state_of};
 
 /// After how many steps a hub's base is brought up.
 const LIMIT: usize = 7;
@@ -31,12 +31,7 @@ enum Called {
 }
 
 /// All of them.
-const ALL: [Called; 4] = [
-    Called::Deliver,
-    Called::Tick,
-    Called::Pop,
-    Called::Layout,
-];
+const ALL: [Called; 4] = [Called::Deliver, Called::Tick, Called::Pop, Called::Layout];
 
 /// The shares of a hub's caller, and what the layout is appended to.
 #[derive(Drop)]
@@ -66,27 +61,17 @@ fn told<X: Drop>(answer: Result<X, HubFault>) -> &'static str {
 }
 
 /// The layout that was appended, and how many arrivals were counted.
-fn state<
-    N: Naming<Settings>,
-    T: Ledger,
-    F: Ledger,
-    G: Ledger,
-    P: Ledger,
-    R: Wait,
->(rt: &R, hub: &Hub<Node<RingTable>, N, T, F, G, P>, out: &[u8]) -> State {
+fn state<N: Naming<Settings>, T: Ledger, F: Ledger, G: Ledger, P: Ledger, R: Wait>(
+    rt: &R,
+    hub: &Hub<Node<RingTable>, N, T, F, G, P>,
+    out: &[u8],
+) -> State {
     let counts = hub.counts(rt);
     state_of(out, counts.taken.saturating_add(counts.refused))
 }
 
 /// Makes the call.
-fn call<
-    N: Naming<Settings>,
-    T: Ledger,
-    F: Ledger,
-    G: Ledger,
-    P: Ledger,
-    R: Wait,
->(
+fn call<N: Naming<Settings>, T: Ledger, F: Ledger, G: Ledger, P: Ledger, R: Wait>(
     rt: &R,
     alloc: Global,
     settings: &Settings,
@@ -111,14 +96,7 @@ fn call<
 }
 
 /// Makes the call, and prints it. Whether it was answered `Ok`.
-fn attempt<
-    N: Naming<Settings>,
-    T: Ledger,
-    F: Ledger,
-    G: Ledger,
-    P: Ledger,
-    R: Wait + Print,
->(
+fn attempt<N: Naming<Settings>, T: Ledger, F: Ledger, G: Ledger, P: Ledger, R: Wait + Print>(
     rt: &R,
     alloc: Global,
     settings: &Settings,
@@ -138,14 +116,7 @@ fn attempt<
 }
 
 /// Makes the call on a hub over these nodes, and again where it is refused.
-fn play_on<
-    N: Naming<Settings>,
-    T: Ledger,
-    F: Ledger,
-    G: Ledger,
-    P: Ledger,
-    R: Wait + Print,
->(
+fn play_on<N: Naming<Settings>, T: Ledger, F: Ledger, G: Ledger, P: Ledger, R: Wait + Print>(
     rt: &R,
     alloc: Global,
     settings: &Settings,
@@ -164,9 +135,11 @@ fn play_on<
     requires parts { (blanks.taken.parts ≡ T.parts) × (blanks.refused.parts ≡ F.parts) × (blanks.configured.parts ≡ G.parts) × (blanks.top.parts ≡ P.parts) }
     requires count { (T.parts ≡ 1) × (F.parts ≡ 1) × (G.parts ≡ 1) × (P.parts ≡ 1) }
 {
+    begin(rt, "Hub::new", made(false))?;
     let (hub, shares, top) = Hub::<Node<RingTable>, N, T, F, G, P>::new(
         alloc, base, state, LIMIT, 0, blanks,
     );
+    end(rt, DONE, made(true))?;
     let mut mine = Mine {
         shares,
         top,

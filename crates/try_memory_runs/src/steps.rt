@@ -64,7 +64,10 @@ fn event_of(step: Step) -> Event<'static> {
             now: FIRST + 1,
         },
         Step::Publishes => Event::Publish { who },
-        Step::Junk => Event::Junk { who, bytes: &[0xAA] },
+        Step::Junk => Event::Junk {
+            who,
+            bytes: &[0xAA],
+        },
         Step::StopsInTick => Event::StopInTick { who, landed: true },
         Step::StopsIn => Event::StopIn { who, landed: true },
         Step::StopsAtStart => Event::StopAtStart { who, landed: true },
