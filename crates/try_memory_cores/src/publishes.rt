@@ -10,13 +10,10 @@ use std::alloc::{AllocError, Global};
 use std::io;
 use try_memory::{DONE, NO_CALL, NO_MEMORY, State, Trial, make, state_of};
 
-/// The frames in a second.
-const RATE: u16 = 50;
-
 /// What node 201 says of itself.
 pub const OUTPUT: Output = Output {
     id: 201,
-    rate: RATE,
+    rate: 50,
     nominal: Nominal::Hz50,
     time_base: 1_000_000,
 };
@@ -27,15 +24,15 @@ const ONE_PHASOR: Shape = Shape {
     digitals: 0,
 };
 
-/// The row of the first instant, with a block of two PMUs.
-fn row() -> DueRow
-    ensures { result.instant ≡ FIRST }
+/// The row of the instant, with a block of two PMUs.
+fn row(instant: u64) -> DueRow
+    ensures { result.instant ≡ instant }
 {
     let mut blocks = ArrayVec::new();
     blocks.push(Block::from_words(ONE_PHASOR, &WORDS));
     blocks.push(Block::from_words(ONE_PHASOR, &WORDS));
     DueRow {
-        instant: FIRST,
+        instant,
         start: 1,
         change: 1,
         quality: 0,
@@ -43,7 +40,7 @@ fn row() -> DueRow
     }
 }
 
-/// Whether it is that row.
+/// Whether it is the row of the first instant.
 fn is_row(row: &DueRow) -> bool {
     row.instant == FIRST
         && row.start == 1
@@ -87,7 +84,7 @@ impl Trial for PublishTrial {
         if publisher.last() >= FIRST {
             return NO_CALL;
         }
-        let answer = told(publisher.publish(row(), &mut self.out).map(|_| ()));
+        let answer = told(publisher.publish(row(FIRST), &mut self.out).map(|_| ()));
         let (_, floor) = publisher.into_mark().stored();
         self.floor = floor;
         answer
