@@ -1,254 +1,140 @@
-//! A node of plain, careful Rust for the same work as the proved one, over the plain ring: it reads and checks each datagram, counts
-//! how it was answered, aligns, stores the floor in a mark in memory, and writes the data frames.
+//! A node of plain, careful Rust for the same work as the proved one: it reads and checks each datagram, counts how it was answered,
+//! aligns, stores the floor in a mark in memory, and writes the data frames straight out of the ring.
 
-use crate::plain::{self, Config, Few, Kind, Shape};
-use crate::tables::{DueRow, Layout, Outcome, RingTable, Table};
+use crate::alignment::{Alignment, Plan, Ticked};
+use crate::answers::{Answer, Counts, Refusal};
+use crate::blocks::Body;
+use crate::check::CheckWord;
+use crate::plain::{self, Config, Frame, Kind};
+use crate::publishing::{Output, Publisher};
+use crate::ring::COLUMNS;
+use crate::script::{Core, Script};
+use std::marker::PhantomData;
 
-const STREAMS: usize = 16;
-
-#[derive(Clone, Copy, PartialEq, Eq)]
-enum Answer {
-    Taken,
-    Candidate,
-    Known,
-    NoFrame,
-    WrongId,
-    NoConfiguration,
-    WrongTimeBase,
-    WrongRate,
-    WrongSource,
-    StaleCount,
-    CountConflict,
-    BadTag,
-    NoConfig,
-    WrongLength,
-    Late,
-    Ahead,
-    OutOfWindow,
-    Duplicate,
-    Conflict,
+/// A PMU whose stream the node takes.
+#[derive(Clone, Copy)]
+pub struct Pmu {
+    pub stream: u16,
+    pub source: u16,
+    pub time_base: u32,
 }
 
-const ANSWERS: usize = 19;
-
-struct Section {
-    bytes: Vec<u8>,
-    shape: Shape,
-    count: u16,
+/// What a node is told.
+pub struct Settings {
+    pub output: Output,
+    pub plan: Plan,
+    pub pmus: Vec<Pmu>,
 }
 
-/// What is in force of a stream, and what is held of it.
-#[derive(Default)]
-struct Stream {
-    id: u16,
-    in_force: Option<(Shape, u16)>,
-    held: Option<Section>,
-}
-
-/// A mark in memory: the start number and the floor, in two slots.
-struct Mark {
-    slots: [(u32, u64); 2],
-}
-
-impl Mark {
-    fn floor(&self) -> u64 {
-        self.slots[0].1.max(self.slots[1].1)
-    }
-
-    fn reserve(&mut self, floor: u64) {
-        let oldest = usize::from(self.slots[1].1 < self.slots[0].1);
-        self.slots[oldest].1 = floor;
-    }
-}
-
-pub struct Node {
+/// A node; each PMU has a stream and a column of its own.
+struct Node<C> {
     rate: u32,
-    time_base: u32,
-    id: u16,
-    wait: u64,
-    ahead: u64,
-    now: u64,
-    change: u32,
-    streams: Vec<Stream>,
-    table: RingTable,
-    layout: Layout,
-    counts: [u64; ANSWERS],
-    mark: Mark,
-    /// Each row is written over this one.
-    row: DueRow,
-    last: u64,
+    pmus: Vec<Pmu>,
+    alignment: Alignment<1>,
+    publisher: Publisher,
+    counts: Counts,
+    check: PhantomData<C>,
 }
 
-impl Node {
-    pub fn open(rate: u32, time_base: u32, window: u64, floor: u64) -> Node {
-        let streams = (1..=STREAMS as u16).map(|id| Stream { id, ..Stream::default() }).collect();
-        let mut table = RingTable::new(window);
-        table.begin_above(floor);
+impl<C: CheckWord> Node<C> {
+    fn open(settings: &Settings, start: u32, floor: u64) -> Node<C> {
         Node {
-            rate,
-            time_base,
-            id: 201,
-            wait: 2,
-            ahead: 32,
-            now: floor,
-            change: 0,
-            streams,
-            table,
-            layout: Layout { start: 1, change: 0, shapes: Few::new() },
-            counts: [0; ANSWERS],
-            mark: Mark { slots: [(1, floor), (0, 0)] },
-            row: DueRow::spare(),
-            last: floor,
+            rate: settings.output.rate,
+            pmus: settings.pmus.clone(),
+            alignment: Alignment::new(settings.plan, start, floor, &[0; COLUMNS], floor),
+            publisher: Publisher::new(settings.output, start, floor),
+            counts: Counts::default(),
+            check: PhantomData,
         }
     }
 
-    pub fn put_datagram(&mut self, stream: usize, bytes: &[u8], check_word: impl Fn(&[u8]) -> u16) {
-        let answer = self.answer(stream, bytes, check_word);
-        self.counts[answer as usize] = self.counts[answer as usize].saturating_add(1);
-    }
-
-    fn answer(&mut self, stream: usize, bytes: &[u8], check_word: impl Fn(&[u8]) -> u16) -> Answer {
-        let Ok(frame) = plain::read_frame_by(check_word, bytes) else { return Answer::NoFrame };
-        if frame.id != self.streams[stream].id {
-            return Answer::WrongId;
+    fn answer(&mut self, stream: usize, bytes: &[u8]) -> Result<Answer, Refusal> {
+        let frame = plain::read_frame::<C>(bytes)?;
+        if frame.id != self.pmus[stream].stream {
+            return Err(Refusal::WrongId);
         }
-        if frame.kind != Kind::Data {
-            let Ok(config) = plain::read_config(&frame) else { return Answer::NoConfiguration };
-            return self.hold(stream, &config);
-        }
-        let Some(instant) = plain::instant(frame.soc, frame.frac, self.time_base, self.rate) else { return Answer::BadTag };
-        let Some((shape, _)) = self.streams[stream].in_force else { return Answer::NoConfig };
-        let Ok(body) = plain::read_body(shape, frame.payload) else { return Answer::WrongLength };
-        if instant <= self.table.last() {
-            return Answer::Late;
-        }
-        if instant > self.now.saturating_add(self.ahead) {
-            return Answer::Ahead;
-        }
-        match self.table.put(stream, instant, &[(stream, shape, body)], frame.quality) {
-            Outcome::Taken => Answer::Taken,
-            Outcome::Late => Answer::Late,
-            Outcome::OutOfWindow => Answer::OutOfWindow,
-            Outcome::Duplicate => Answer::Duplicate,
-            Outcome::Conflict => Answer::Conflict,
+        match frame.kind {
+            Kind::Data => self.take(stream, &frame),
+            Kind::Cfg2 => self.hold(stream, &plain::read_config(&frame)?),
+            _ => Err(Refusal::WrongKind),
         }
     }
 
-    fn hold(&mut self, stream: usize, config: &Config) -> Answer {
-        let [section] = config.sections.as_slice() else { return Answer::NoConfiguration };
-        if config.time_base != self.time_base {
-            return Answer::WrongTimeBase;
+    fn take(&mut self, stream: usize, frame: &Frame) -> Result<Answer, Refusal> {
+        let time_base = self.pmus[stream].time_base;
+        let instant = plain::instant(frame.soc, frame.frac, time_base, self.rate);
+        let instant = instant.ok_or(Refusal::BadTag)?;
+        let shape = self.alignment.shape(stream).ok_or(Refusal::NoConfig)?;
+        let body = Body::new(shape, frame.payload)?;
+        let parts = std::iter::once(body);
+        self.alignment
+            .put(stream, instant, frame.quality, parts, |_, body| {
+                Some((stream, body))
+            })
+    }
+
+    #[cold]
+    fn hold(&mut self, stream: usize, config: &Config) -> Result<Answer, Refusal> {
+        let [section] = config.sections.as_slice() else {
+            return Err(Refusal::TooMany);
+        };
+        let pmu = &self.pmus[stream];
+        if config.time_base != pmu.time_base {
+            return Err(Refusal::WrongTimeBase);
         }
-        if i32::from(config.rate) != self.rate as i32 {
-            return Answer::WrongRate;
+        if u32::from(config.rate.cast_unsigned()) != self.rate {
+            return Err(Refusal::WrongRate);
         }
-        let stream = &mut self.streams[stream];
-        if section.source != stream.id {
-            return Answer::WrongSource;
+        if section.source != pmu.source {
+            return Err(Refusal::WrongSource);
         }
-        if let Some(held) = &stream.held {
-            if section.count < held.count {
-                return Answer::StaleCount;
-            }
-            if section.count == held.count {
-                return if section.bytes == held.bytes.as_slice() { Answer::Known } else { Answer::CountConflict };
+        let column = &self.alignment.columns[stream];
+        if section.count < column.opening {
+            return Err(Refusal::StaleCount);
+        }
+        match &column.held {
+            Some(held) if section.count < held.count => Err(Refusal::StaleCount),
+            Some(held) if section.count == held.count && held.is(section) => Ok(Answer::Known),
+            Some(held) if section.count == held.count => Err(Refusal::CountConflict),
+            _ => {
+                self.alignment.hold(stream, section);
+                Ok(Answer::Candidate)
             }
         }
-        stream.held = Some(Section { bytes: section.bytes.to_vec(), shape: section.shape, count: section.count });
-        Answer::Candidate
-    }
-
-    pub fn tick(&mut self, now: u64) {
-        self.now = now;
-        self.table.tick(self.wait, &self.layout);
-        let mut has_adopted = false;
-        for (place, stream) in self.streams.iter_mut().enumerate() {
-            if let Some(held) = &stream.held {
-                if stream.in_force.map_or(true, |(_, count)| count < held.count) {
-                    stream.in_force = Some((held.shape, held.count));
-                    self.table.require(place, true);
-                    has_adopted = true;
-                }
-            }
-        }
-        if has_adopted {
-            self.change += 1;
-            let mut shapes = Few::new();
-            for stream in &self.streams {
-                shapes.push(stream.in_force.map(|(shape, _)| shape));
-            }
-            self.layout = Layout { start: 1, change: self.change, shapes };
-        }
-    }
-
-    /// Publishes the next row: stores its instant, and then appends its data frame.
-    pub fn publish(&mut self, out: &mut Vec<u8>, check_word: impl Fn(&[u8]) -> u16) -> bool {
-        if !self.table.pop_into(&mut self.row) || self.row.instant <= self.last {
-            return false;
-        }
-        if self.mark.floor() < self.row.instant {
-            self.mark.reserve(self.row.instant);
-        }
-        self.write(out, check_word);
-        self.last = self.row.instant;
-        true
-    }
-
-    fn write(&self, out: &mut Vec<u8>, check_word: impl Fn(&[u8]) -> u16) {
-        let row = &self.row;
-        let (soc, k) = ((row.instant / u64::from(self.rate)) as u32, row.instant % u64::from(self.rate));
-        let (rate, base) = (u64::from(self.rate), u64::from(self.time_base));
-        let frac = ((2 * k * base + rate) / (2 * rate)) as u32;
-        let own = [0, 0, 0, (row.start >> 16) as u16, row.start as u16, (row.change >> 16) as u16, row.change as u16];
-        let words: usize = own.len() + row.blocks.as_slice().iter().map(|block| block.words().len()).sum::<usize>();
-        let start = out.len();
-        plain::begin(0, self.id, soc, u32::from(row.quality) << 24 | frac, 2 * words, out);
-        for word in own {
-            out.extend_from_slice(&word.to_be_bytes());
-        }
-        plain::join(row.blocks.as_slice(), out);
-        plain::end_by(check_word, start, out);
     }
 }
 
-/// The same run as `dagluwis_node`: the configurations, and then for each instant a datagram of each stream and a tick.
-fn run(rate: u32, time_base: u32, window: u64, configs: &[u8], data: &[u8], len: usize, floor: u64, check_word: impl Fn(&[u8]) -> u16) -> u64 {
-    let mut node = Node::open(rate, time_base, window, floor);
-    let mut out = Vec::new();
-    let mut mixed = 0u64;
-    let mut publish = |node: &mut Node, out: &mut Vec<u8>| {
-        out.clear();
-        if node.publish(out, &check_word) {
-            for byte in &out[out.len() - 2..] {
-                mixed = mixed.rotate_left(8) ^ u64::from(*byte);
-            }
-        }
-    };
-    for (stream, config) in configs.chunks(configs.len() / STREAMS).enumerate() {
-        node.put_datagram(stream, config, &check_word);
+impl<C: CheckWord> Core for Node<C> {
+    #[inline]
+    fn put_datagram(&mut self, stream: usize, bytes: &[u8]) {
+        let answer = self.answer(stream, bytes);
+        self.counts.count(answer);
     }
-    node.tick(floor);
-    publish(&mut node, &mut out);
-    let mut now = floor;
-    for frames in data.chunks(len * STREAMS) {
-        for (stream, frame) in frames.chunks(len).enumerate() {
-            node.put_datagram(stream, frame, &check_word);
-        }
-        now += 1;
-        node.tick(now);
-        publish(&mut node, &mut out);
+
+    fn tick(&mut self, now: u64, cleared: &[u16; COLUMNS]) -> Ticked {
+        self.alignment.tick(now, cleared)
     }
-    mixed
+
+    fn publish(&mut self) -> Option<&[u8]> {
+        let row = self.alignment.pop()?;
+        self.publisher.publish::<C, 1>(&row)
+    }
+
+    fn counts(&self) -> &Counts {
+        &self.counts
+    }
+
+    fn waiting(&self) -> [u16; COLUMNS] {
+        self.alignment.waiting()
+    }
+
+    fn disagree(&self) -> u64 {
+        self.alignment.ring.disagree()
+    }
 }
 
-/// With the check word eight bytes a step, from tables.
+/// The same run as `dagluwis_node`.
 #[inline(never)]
-pub fn run_by_tables(rate: u32, time_base: u32, window: u64, configs: &[u8], data: &[u8], len: usize, floor: u64) -> u64 {
-    run(rate, time_base, window, configs, data, len, floor, plain::check_word)
-}
-
-/// With the check word as ours, sixteen bytes a step.
-#[inline(never)]
-pub fn run_by_shifts(rate: u32, time_base: u32, window: u64, configs: &[u8], data: &[u8], len: usize, floor: u64) -> u64 {
-    run(rate, time_base, window, configs, data, len, floor, plain::check_word_by_shifts)
+pub fn run<C: CheckWord>(settings: &Settings, script: &Script, floor: u64) -> u64 {
+    crate::script::run(Node::<C>::open(settings, 1, floor), script, floor)
 }

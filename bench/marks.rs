@@ -26,7 +26,11 @@ fn store(file: &File, slot: u64, fields: &[u8; 48]) -> io::Result<()> {
 fn main() -> io::Result<()> {
     let words: Vec<String> = env::args().collect();
     let (path, count) = (&words[1], words[2].parse::<u64>().expect("a number"));
-    let file = OpenOptions::new().read(true).write(true).create_new(true).open(path)?;
+    let file = OpenOptions::new()
+        .read(true)
+        .write(true)
+        .create_new(true)
+        .open(path)?;
     let mut fields = [0; 48];
     fields[..4].copy_from_slice(&[0, 201, 0, 50]);
     put(&file, 0, &[0; 256])?;

@@ -20,6 +20,12 @@ const CLEARED: [u16; MAX_PMUS] = [u16::MAX; MAX_PMUS];
 /// The streams of the merger.
 const NODES: usize = 2;
 
+/// The bytes of a step: a stream, and the length of its datagram.
+const STEP_LEN: usize = 3;
+
+/// The stream of a step that is a tick.
+const TICK: u8 = 255;
+
 /// A core with its publisher, over a mark in memory.
 #[derive(Drop)]
 struct Concentrator<C: Core + Drop> {
@@ -31,6 +37,8 @@ struct Concentrator<C: Core + Drop> {
     row: DueRow,
     /// and published into this frame.
     frame: Published,
+    /// What counts as now at the next tick.
+    now: u64,
     mixed: u64,
     ghost same_streams: { streams ≡ C.Settings.streams (C.settings_of core) },
     ghost some_streams: { 0 < streams },
@@ -38,7 +46,7 @@ struct Concentrator<C: Core + Drop> {
 }
 
 impl<C: Core + Drop> Concentrator<C> {
-    /// Up to this instant all is published.
+    /// Up to this instant all is published, and the first tick is at it.
     fn new(core: C, streams: usize, output: Output, floor: u64) -> Concentrator<C>
         requires same_streams { streams ≡ C.Settings.streams (C.settings_of core) }
         requires some_streams { 0 < streams }
@@ -50,6 +58,7 @@ impl<C: Core + Drop> Concentrator<C> {
             publisher: Publisher::new(ModelMark::new(1, floor), output, 0),
             row: spare_row(),
             frame: spare_frame(&output),
+            now: floor,
             mixed: 0,
         }
     }
@@ -60,9 +69,20 @@ impl<C: Core + Drop> Concentrator<C> {
         }
     }
 
-    fn tick(&mut self, now: u64) {
-        let _ = self.core.tick(now, &CLEARED);
-        self.publish();
+    /// Mixes in what a tick says, and publishes the rows that it closes.
+    fn tick(&mut self) {
+        let ticked = self.core.tick(self.now, &CLEARED);
+        self.now = self.now.saturating_add(1);
+        self.mixed = mix(self.mixed, u64::from(ticked.closed));
+        if let Some(change) = ticked.change {
+            self.mixed = mix(self.mixed, u64::from(change));
+        }
+        if ticked.used_up {
+            self.mixed = mix(self.mixed, 1);
+        }
+        for _ in 0..ticked.closed {
+            self.publish();
+        }
     }
 
     /// Publishes the next row, and mixes the check word of its frame.
@@ -83,38 +103,61 @@ impl<C: Core + Drop> Concentrator<C> {
         }
     }
 
-    /// Takes a datagram of each stream: all of one length.
-    fn take_each(&mut self, frames: &[u8], len: usize) {
-        for (stream, frame) in frames.chunks(len.max(1)).enumerate() {
-            self.take(stream, frame);
+    /// Takes a step: a tick, or the first bytes of these, as many as it says, for a stream. It answers those behind them.
+    fn step<'a>(&mut self, step: &[u8], data: &'a [u8]) -> &'a [u8] {
+        let [stream, high, low] = step else {
+            return data;
+        };
+        let len = usize::from(*high) << 8 | usize::from(*low);
+        if data.len() < len {
+            return data;
         }
+        let (datagram, later) = data.split_at(len);
+        if *stream == TICK {
+            self.tick();
+        } else {
+            self.take(usize::from(*stream), datagram);
+        }
+        later
     }
 
-    /// Takes the configurations, and then for each instant above the floor a datagram of each stream and a tick; publishes what
-    /// closes, and mixes the check words. `configs` has a frame for each stream, all of one length, and so has `data` for each
-    /// instant.
-    fn run(&mut self, configs: &[u8], data: &[u8], floor: u64) -> u64 {
-        self.take_each(configs, configs.len() / self.streams);
-        self.tick(floor);
-        let len = match data {
-            [_, _, high, low, ..] => usize::from(*high) << 8 | usize::from(*low),
-            _ => 1,
-        };
-        let mut now = floor;
-        for frames in data.chunks(len.saturating_mul(self.streams).max(1)) {
-            self.take_each(frames, len);
-            now = now.saturating_add(1);
-            self.tick(now);
+    /// Takes the steps, each of three bytes, whose datagrams stand one behind the other; mixes what ticks say, the check words of the
+    /// frames, and in the end all counters.
+    fn run(&mut self, steps: &[u8], data: &[u8]) -> u64 {
+        let mut rest = data;
+        for step in steps.chunks(STEP_LEN) {
+            rest = self.step(step, rest);
         }
-        self.mixed
+        self.mix_counts()
     }
+
+    /// What was mixed, with all counters and the counts that wait to be stored.
+    fn mix_counts(&self) -> u64 {
+        let counts = self.core.counts();
+        let mut mixed = self.mixed;
+        for count in [counts.taken, counts.candidate, counts.known, counts.refused] {
+            mixed = mix(mixed, count);
+        }
+        for count in counts.causes {
+            mixed = mix(mixed, count);
+        }
+        for count in self.core.waiting() {
+            mixed = mix(mixed, u64::from(count));
+        }
+        mixed
+    }
+}
+
+/// The number mixed with another.
+fn mix(mixed: u64, number: u64) -> u64 {
+    mixed.rotate_left(8) ^ number
 }
 
 /// The number mixed with the last two bytes.
 fn with_end(mixed: u64, bytes: &[u8]) -> u64 {
     let mut mixed = mixed;
     for byte in &bytes[bytes.len().saturating_sub(2)..] {
-        mixed = mixed.rotate_left(8) ^ u64::from(*byte);
+        mixed = mix(mixed, u64::from(*byte));
     }
     mixed
 }
@@ -135,13 +178,13 @@ fn open_merger(alloc: Global, text: &str, floor: u64) -> Option<Concentrator<Mer
     Some(Concentrator::new(merger, NODES, output, floor))
 }
 
-/// Runs a node of these settings, a TOML text, over datagrams: [`Concentrator::run`]; 0 where the settings are refused or memory
-/// runs out.
+/// Runs a node of these settings, a TOML text, over the steps: [`Concentrator::run`]; 0 where the settings are refused or memory runs
+/// out.
 #[unsafe(no_mangle)]
 pub extern "C" fn dagluwis_node(
     alloc: Global,
     text: &[u8],
-    configs: &[u8],
+    steps: &[u8],
     data: &[u8],
     floor: u64,
 ) -> u64 {
@@ -149,18 +192,18 @@ pub extern "C" fn dagluwis_node(
         return 0;
     };
     match open_node(alloc, text, floor) {
-        Some(mut node) => node.run(configs, data, floor),
+        Some(mut node) => mix(node.run(steps, data), 0),
         None => 0,
     }
 }
 
-/// Runs the merger of these settings, a TOML text, over the frames of two nodes: [`Concentrator::run`]; 0 where the settings are
-/// refused or memory runs out.
+/// Runs the merger of these settings, a TOML text, over the steps: [`Concentrator::run`], mixed with the count of disagreements; 0 where
+/// the settings are refused or memory runs out.
 #[unsafe(no_mangle)]
 pub extern "C" fn dagluwis_merger(
     alloc: Global,
     text: &[u8],
-    configs: &[u8],
+    steps: &[u8],
     data: &[u8],
     floor: u64,
 ) -> u64 {
@@ -168,7 +211,10 @@ pub extern "C" fn dagluwis_merger(
         return 0;
     };
     match open_merger(alloc, text, floor) {
-        Some(mut merger) => merger.run(configs, data, floor),
+        Some(mut merger) => {
+            let mixed = merger.run(steps, data);
+            mix(mixed, merger.core.disagree())
+        }
         None => 0,
     }
 }

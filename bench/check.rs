@@ -1,0 +1,121 @@
+//! The check word, CRC-CCITT, in the two forms that the plain side takes.
+
+/// A way to compute the check word.
+pub trait CheckWord {
+    fn of(bytes: &[u8]) -> u16;
+}
+
+/// Sixteen bytes a step from tables: slicing by 16.
+pub struct ByTables;
+
+/// Sixteen bytes a step without tables, as ours.
+pub struct ByShifts;
+
+const fn next_check(check: u16, byte: u8) -> u16 {
+    let high = (check >> 8) ^ byte as u16;
+    let mixed = high ^ (high >> 4);
+    (check << 8) ^ (mixed << 12) ^ (mixed << 5) ^ mixed
+}
+
+/// Table k has the check word, from 0, of each byte with k zeros behind it.
+const fn tables() -> [[u16; 256]; 16] {
+    let mut tables = [[0; 256]; 16];
+    let mut byte = 0;
+    while byte < 256 {
+        let mut check = next_check(0, byte as u8);
+        let mut k = 0;
+        while k < 16 {
+            tables[k][byte] = check;
+            check = next_check(check, 0);
+            k += 1;
+        }
+        byte += 1;
+    }
+    tables
+}
+
+static TABLES: [[u16; 256]; 16] = tables();
+
+/// The check word after a step of this many bytes more. What depends on the bytes alone comes first, so that steps overlap.
+#[inline(always)]
+fn after_step<const N: usize>(check: u16, step: &[u8; N]) -> u16 {
+    let [high, low] = check.to_be_bytes();
+    let of = |place: usize, byte: u8| TABLES[N - 1 - place][usize::from(byte)];
+    let later = (2..N).fold(0, |later, place| later ^ of(place, step[place]));
+    later ^ (of(0, step[0] ^ high) ^ of(1, step[1] ^ low))
+}
+
+impl CheckWord for ByTables {
+    #[inline]
+    fn of(bytes: &[u8]) -> u16 {
+        let (steps, rest) = bytes.as_chunks::<16>();
+        let check = steps.iter().fold(0xFFFF, after_step);
+        let (steps, rest) = rest.as_chunks::<8>();
+        let check = steps.iter().fold(check, after_step);
+        let (steps, rest) = rest.as_chunks::<2>();
+        let check = steps.iter().fold(check, after_step);
+        rest.iter()
+            .fold(check, |check, &byte| next_check(check, byte))
+    }
+}
+
+/// The quotient of state * x^64 by the generator's fourth power, x^64 + x^48 + x^20 + 1.
+#[inline]
+fn quotient(state: u64) -> u64 {
+    let half = state ^ (state >> 32);
+    half ^ (half >> 16) ^ (half >> 44)
+}
+
+/// What is left of state * x^64 behind that power.
+#[inline]
+fn moved_up(state: u64) -> u64 {
+    let quotient = quotient(state);
+    (quotient << 48) ^ (quotient << 20) ^ quotient
+}
+
+/// What is left of state * x^128 behind the generator's eighth power, x^128 + x^96 + x^40 + 1.
+#[inline]
+fn wide_moved_up(state: u128) -> u128 {
+    let half = state ^ (state >> 64);
+    let quotient = half ^ (half >> 32) ^ (half >> 88);
+    (quotient << 96) ^ (quotient << 40) ^ quotient
+}
+
+/// The state after fewer than eight bytes more.
+#[inline]
+fn after_last(state: u64, last: &[u8]) -> u64 {
+    if last.is_empty() {
+        return state;
+    }
+    let bits = 8 * last.len() as u32;
+    let number = last
+        .iter()
+        .fold(0, |number, &byte| (number << 8) | u64::from(byte));
+    moved_up(state >> (64 - bits)) ^ (state << bits) ^ number
+}
+
+/// The check word that a state stands for: what is left of state * x^16 behind the generator.
+#[inline]
+fn check_of_state(state: u64) -> u16 {
+    let half = quotient(state);
+    let quarter = half ^ (half >> 8) ^ (half >> 22) ^ (half >> 32);
+    let last = quarter ^ (quarter >> 4) ^ (quarter >> 11) ^ (quarter >> 16);
+    ((last << 12) ^ (last << 5) ^ last) as u16
+}
+
+impl CheckWord for ByShifts {
+    #[inline]
+    fn of(bytes: &[u8]) -> u16 {
+        let (steps, rest) = bytes.as_chunks::<16>();
+        let start = 0x84CF;
+        let state = steps.iter().fold(start, |state, step| {
+            wide_moved_up(state) ^ u128::from_be_bytes(*step)
+        });
+        let state = moved_up((state >> 64) as u64) ^ state as u64;
+        let (steps, rest) = rest.as_chunks::<8>();
+        let state = steps.iter().fold(state, |state, step| {
+            moved_up(state) ^ u64::from_be_bytes(*step)
+        });
+        check_of_state(after_last(state, rest))
+    }
+}

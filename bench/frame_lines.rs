@@ -1,0 +1,131 @@
+//! The lines of reading and writing.
+
+use crate::check::{ByShifts, ByTables};
+use crate::lines::{BESIDE, Line, Mode, Side, each, head, name_of, shape};
+use crate::plain::Shape;
+use crate::traffic::{RATE, TIME_BASE, pmu_configuration, pmu_data};
+use crate::{ours, paths};
+use std::hint::black_box;
+
+/// Enough rounds for some milliseconds on frames of this length.
+fn rounds_for(len: usize, mode: &Mode) -> u32 {
+    match mode {
+        Mode::Timed { .. } => (20_000_000 / (len as u32 + 200)).max(1_000),
+        Mode::Counted => 100,
+    }
+}
+
+fn check_words(mode: &mut Mode) {
+    for len in [24_usize, 72, 552, 3452] {
+        let bytes: Vec<u8> = (0..len).map(|i| (i * 37 + 11) as u8).collect();
+        let count = rounds_for(len, mode);
+        let of = |check: fn(&[u8]) -> u16| {
+            let bytes = &bytes;
+            Side::new(move || each(count, || u64::from(check(black_box(bytes)))))
+        };
+        let others = vec![
+            of(paths::check_word::<ByTables>),
+            of(paths::check_word::<ByShifts>),
+        ];
+        Line {
+            name: format!("check word | {} bytes", len + 2),
+            count,
+            ours: of(ours::check_word),
+            others,
+        }
+        .take(mode);
+    }
+}
+
+fn configurations(mode: &mut Mode, shape: Shape) {
+    let bytes = pmu_configuration(shape, 11, 1);
+    let count = rounds_for(bytes.len(), mode);
+    let reading = |read: fn(&[u8]) -> u64| {
+        let bytes = &bytes;
+        Side::new(move || each(count, || read(black_box(bytes))))
+    };
+    let others = vec![
+        reading(paths::read_config::<ByTables>),
+        reading(paths::read_config::<ByShifts>),
+    ];
+    let name = format!("read configuration | {}", name_of(shape));
+    Line {
+        name,
+        count,
+        ours: reading(ours::read_config),
+        others,
+    }
+    .take(mode);
+    let writing = |write: fn(&[u8], u32) -> u64| {
+        let bytes = &bytes;
+        Side::new(move || write(black_box(bytes), count))
+    };
+    let others = vec![
+        writing(paths::write_config::<ByTables>),
+        writing(paths::write_config::<ByShifts>),
+    ];
+    let name = format!("write configuration | {}", name_of(shape));
+    Line {
+        name,
+        count,
+        ours: writing(ours::write_config),
+        others,
+    }
+    .take(mode);
+}
+
+fn data_frames(mode: &mut Mode, shape: Shape) {
+    let bytes = pmu_data(shape, 11, 1);
+    let count = rounds_for(bytes.len(), mode);
+    let reading = |read: fn(&[u8], Shape, u32, u32) -> u64| {
+        let bytes = &bytes;
+        Side::new(move || {
+            each(count, || {
+                read(
+                    black_box(bytes),
+                    shape,
+                    black_box(TIME_BASE),
+                    black_box(RATE),
+                )
+            })
+        })
+    };
+    let others = vec![
+        reading(paths::read_data::<ByTables>),
+        reading(paths::read_data::<ByShifts>),
+    ];
+    let name = format!("read data | {}", name_of(shape));
+    Line {
+        name,
+        count,
+        ours: reading(ours::read_data),
+        others,
+    }
+    .take(mode);
+    let writing = |write: fn(&[u8], Shape, u32) -> u64| {
+        let bytes = &bytes;
+        Side::new(move || write(black_box(bytes), shape, count))
+    };
+    let others = vec![
+        writing(paths::write_data::<ByTables>),
+        writing(paths::write_data::<ByShifts>),
+    ];
+    let name = format!("write data | {}", name_of(shape));
+    Line {
+        name,
+        count,
+        ours: writing(ours::write_data),
+        others,
+    }
+    .take(mode);
+}
+
+/// Reading and writing of frames.
+pub fn frames(mode: &mut Mode) {
+    head(mode, &["path", "frame or shape"], &BESIDE);
+    check_words(mode);
+    for shape in [shape(1, 0, 0), shape(8, 4, 1), shape(32, 32, 8)] {
+        configurations(mode, shape);
+        data_frames(mode, shape);
+    }
+}

@@ -1,0 +1,226 @@
+//! Lines of the tables: what is run on each side, and how its times are taken and printed.
+
+use crate::plain::Shape;
+use std::time::Instant;
+
+/// Some work, which gives a number that depends on all of it.
+pub type Work<'a> = Box<dyn FnMut() -> u64 + 'a>;
+
+/// One side of a line.
+pub struct Side<'a> {
+    /// How a run begins, where that is timed alone and taken off.
+    pub opening: Option<Work<'a>>,
+    pub whole: Work<'a>,
+}
+
+impl<'a> Side<'a> {
+    pub fn new(whole: impl FnMut() -> u64 + 'a) -> Side<'a> {
+        Side {
+            opening: None,
+            whole: Box::new(whole),
+        }
+    }
+
+    pub fn opened(opening: impl FnMut() -> u64 + 'a, whole: impl FnMut() -> u64 + 'a) -> Side<'a> {
+        Side {
+            opening: Some(Box::new(opening)),
+            whole: Box::new(whole),
+        }
+    }
+
+    /// Nanoseconds of the work without its opening.
+    fn time(&mut self) -> f64 {
+        let opening = self.opening.as_mut().map_or(0.0, timed);
+        timed(&mut self.whole) - opening
+    }
+}
+
+/// Nanoseconds of the work.
+fn timed(work: &mut Work) -> f64 {
+    let start = Instant::now();
+    std::hint::black_box(work());
+    start.elapsed().as_nanos() as f64
+}
+
+/// A line: ours, and the plain ways beside it.
+pub struct Line<'a> {
+    pub name: String,
+    /// How many frames, datagrams or puts its work has.
+    pub count: u32,
+    pub ours: Side<'a>,
+    pub others: Vec<Side<'a>>,
+}
+
+/// Steps of the processor: all work is called here, so that the tool that counts them sees where it begins and ends.
+#[unsafe(no_mangle)]
+#[inline(never)]
+pub fn counted(work: &mut Work) -> u64 {
+    work()
+}
+
+/// How the lines are taken.
+pub enum Mode {
+    /// So many turns are timed; the steps of the processor were counted before, and stand in the order of the work.
+    Timed { turns: usize, steps: Vec<u64> },
+    /// Steps are counted.
+    Counted,
+}
+
+impl<'a> Line<'a> {
+    fn sides(&mut self) -> impl Iterator<Item = &mut Side<'a>> {
+        std::iter::once(&mut self.ours).chain(&mut self.others)
+    }
+
+    /// All sides give the same answers.
+    fn compare(&mut self) {
+        let answers: Vec<u64> = self.sides().map(|side| (side.whole)()).collect();
+        let openings: Vec<u64> = self
+            .sides()
+            .filter_map(|side| Some(side.opening.as_mut()?()))
+            .collect();
+        let name = &self.name;
+        assert!(
+            answers.iter().all(|answer| *answer == answers[0]),
+            "{name}: one answer, not {answers:x?}"
+        );
+        assert!(
+            openings.iter().all(|answer| *answer == openings[0]),
+            "{name}: one opening"
+        );
+    }
+
+    /// For each side the nanoseconds of each turn. A turn takes all sides, each turn from another one on.
+    fn take_turns(&mut self, turns: usize) -> Vec<Vec<f64>> {
+        let count = f64::from(self.count);
+        let mut sides: Vec<_> = self.sides().collect();
+        let mut times = vec![Vec::new(); sides.len()];
+        for turn in 0..turns {
+            for number in 0..sides.len() {
+                let side = (turn + number) % sides.len();
+                times[side].push(sides[side].time() / count);
+            }
+        }
+        times
+    }
+
+    /// Takes the line, and prints it where it is timed.
+    pub fn take(&mut self, mode: &mut Mode) {
+        match mode {
+            Mode::Counted => self.count_steps(),
+            Mode::Timed { turns, steps } => {
+                self.compare();
+                let times = self.take_turns(*turns);
+                let steps = self.steps(steps);
+                self.print(&times, &steps);
+            }
+        }
+    }
+
+    fn count_steps(&mut self) {
+        for side in self.sides() {
+            if let Some(opening) = &mut side.opening {
+                counted(opening);
+            }
+            counted(&mut side.whole);
+        }
+    }
+
+    /// For each side its steps for each frame, datagram or put, taken from the front of those that were counted.
+    fn steps(&mut self, counted: &mut Vec<u64>) -> Vec<Option<f64>> {
+        let count = f64::from(self.count);
+        let sides: Vec<_> = self.sides().map(|side| side.opening.is_some()).collect();
+        let mut next = || {
+            if counted.is_empty() {
+                None
+            } else {
+                Some(counted.remove(0))
+            }
+        };
+        let mut steps = Vec::new();
+        for is_opened in sides {
+            let opening = if is_opened { next() } else { Some(0) };
+            steps.push(
+                next()
+                    .zip(opening)
+                    .map(|(whole, opening)| whole.saturating_sub(opening) as f64 / count),
+            );
+        }
+        steps
+    }
+
+    fn print(&self, times: &[Vec<f64>], steps: &[Option<f64>]) {
+        let ours = tenths(middle(&times[0]));
+        let mut row = format!("| {} | {ours:.1} |", self.name);
+        for other in &times[1..] {
+            let plain = tenths(middle(other));
+            let ratios: Vec<f64> = other
+                .iter()
+                .zip(&times[0])
+                .map(|(plain, ours)| plain / ours)
+                .collect();
+            let (low, high) = (part(&ratios, 0.1), part(&ratios, 0.9));
+            row += &format!(
+                " {plain:.1} | {:.2} ({low:.2} to {high:.2}) |",
+                plain / ours
+            );
+        }
+        let steps: Vec<_> = steps
+            .iter()
+            .map(|steps| steps.map_or("-".into(), |steps| format!("{steps:.0}")))
+            .collect();
+        println!("{row} {} |", steps.join(" / "));
+    }
+}
+
+/// The number as it is printed, so that a ratio is that of the numbers beside it.
+fn tenths(number: f64) -> f64 {
+    (number * 10.0).round() / 10.0
+}
+
+/// The number below which this part of the numbers is.
+fn part(numbers: &[f64], part: f64) -> f64 {
+    let mut sorted = numbers.to_vec();
+    sorted.sort_by(f64::total_cmp);
+    sorted[((sorted.len() - 1) as f64 * part).round() as usize]
+}
+
+/// The middle one of the numbers.
+fn middle(numbers: &[f64]) -> f64 {
+    part(numbers, 0.5)
+}
+
+/// Calls `one` for each round, and mixes what it gives.
+pub fn each(rounds: u32, mut one: impl FnMut() -> u64) -> u64 {
+    (0..rounds).fold(0, |mixed: u64, _| mixed.rotate_left(1) ^ one())
+}
+
+/// Prints the head of a table, where it is timed: so many columns of names, and those of numbers.
+pub fn head(mode: &Mode, names: &[&str], numbers: &[&str]) {
+    if let Mode::Timed { .. } = mode {
+        let titles = [names, numbers].concat().join(" | ");
+        let (left, right) = ("---|".repeat(names.len()), "---:|".repeat(numbers.len()));
+        println!("\n| {titles} |\n|{left}{right}");
+    }
+}
+
+/// The numbers of a line that has ours beside both plain ones.
+pub const BESIDE: [&str; 6] = [
+    "ours, ns",
+    "plain, by tables, ns",
+    "ratio (10 to 90 %)",
+    "plain, as ours, ns",
+    "ratio (10 to 90 %)",
+    "steps: ours / by tables / as ours",
+];
+
+pub fn shape(phasors: u8, analogs: u8, digitals: u8) -> Shape {
+    Shape {
+        phasors,
+        analogs,
+        digitals,
+    }
+}
+
+pub fn name_of(shape: Shape) -> String {
+    format!("{}/{}/{}", shape.phasors, shape.analogs, shape.digitals)
+}
