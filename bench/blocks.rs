@@ -3,6 +3,7 @@
 use crate::answers::Refusal;
 use crate::few::Few;
 use crate::plain::Shape;
+use crate::words::read_words;
 
 /// The most words of a block.
 pub const MAX_WORDS: usize = 107;
@@ -39,12 +40,7 @@ impl Block {
     #[inline]
     pub fn set_body(&mut self, body: Body) {
         self.shape = body.shape;
-        for (word, from) in self.words[..body.shape.word_count()]
-            .iter_mut()
-            .zip(body.words())
-        {
-            *word = from;
-        }
+        read_words(body.bytes, &mut self.words[..body.shape.word_count()]);
     }
 
     /// Writes the absent block over what was there.

@@ -22,6 +22,7 @@ mod script;
 mod table_lines;
 mod tables;
 mod traffic;
+mod words;
 
 use lines::Mode;
 

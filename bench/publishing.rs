@@ -1,9 +1,10 @@
 //! What a plain concentrator publishes: the data frame of each row, once the floor is stored at or above its instant.
 
-use crate::blocks::{Block, MAX_WORDS};
+use crate::blocks::MAX_WORDS;
 use crate::check::CheckWord;
 use crate::plain::{Kind, Shape, VERSION, header};
 use crate::ring::{COLUMNS, Row};
+use crate::words::write_words;
 
 /// The bytes of the own block: STAT, FREQ, DFREQ, and the stamp.
 pub const OWN_BLOCK_LEN: usize = 14;
@@ -90,7 +91,7 @@ fn write_row<C: CheckWord, const LANES: usize>(
         end += place.len();
         match block {
             Some((block, quality)) => {
-                put_block(place, block);
+                write_words(block.words(), place);
                 worst = worst.max(Some(quality));
             }
             None => put_absent(place, shape),
@@ -128,13 +129,6 @@ fn tag(instant: u64, output: &Output) -> (u32, u32) {
 fn own_block(start: u32, change: u32) -> [u8; OWN_BLOCK_LEN] {
     let ([a, b, c, d], [e, f, g, h]) = (start.to_be_bytes(), change.to_be_bytes());
     [0, 0, 0, 0, 0, 0, a, b, c, d, e, f, g, h]
-}
-
-#[inline]
-fn put_block(place: &mut [u8], block: &Block) {
-    for (pair, word) in place.chunks_exact_mut(2).zip(block.words()) {
-        pair.copy_from_slice(&word.to_be_bytes());
-    }
 }
 
 /// Writes the absent block.
