@@ -203,13 +203,16 @@ pub fn head(mode: &Mode, names: &[&str], numbers: &[&str]) {
     }
 }
 
+/// The title of a ratio with its spread.
+pub const RATIO: &str = "ratio (10 to 90 %)";
+
 /// The numbers of a line that has ours beside both plain ones.
 pub const BESIDE: [&str; 6] = [
     "ours, ns",
     "plain, by tables, ns",
-    "ratio (10 to 90 %)",
+    RATIO,
     "plain, as ours, ns",
-    "ratio (10 to 90 %)",
+    RATIO,
     "steps: ours / by tables / as ours",
 ];
 

@@ -113,11 +113,11 @@ impl MapRow {
     }
 }
 
-/// The simple way: each row is a value of a map.
+/// The simple way: each row is a value of a map, in a box, since a map moves its values.
 pub struct MapTable {
     window: u64,
     required: [bool; STREAMS],
-    rows: BTreeMap<u64, MapRow>,
+    rows: BTreeMap<u64, Box<MapRow>>,
     closed: VecDeque<DueRow>,
     last: u64,
 }
