@@ -3,13 +3,13 @@
 use crate::alignment::{Plan, WaitKind};
 use crate::check::{ByShifts, ByTables};
 use crate::cores::{self, Pmu};
-use crate::lines::{BESIDE, Line, Mode, Side, head, name_of, shape};
+use crate::lines::{BESIDE, Line, Mode, Side, assert_same, head, name_of, shape};
 use crate::merging::{self, MergedNode};
-use crate::ours;
 use crate::plain::Shape;
 use crate::publishing::Output;
 use crate::script::Script;
 use crate::traffic::{self, Beside, FLOOR, NODES, PMUS, RATE, Run, TIME_BASE};
+use crate::{ours, refusals};
 use std::fmt::Write;
 use std::hint::black_box;
 
@@ -215,7 +215,27 @@ const TWICE: (&str, Beside) = ("one in twenty twice", Beside::Twice);
 const ABSENT: (&str, Beside) = ("one PMU in four absent", Beside::Absent);
 const LATE: (&str, Beside) = ("the second node a tick late", Beside::Late);
 
+/// Each cause of refusal is told apart alike.
+fn compare_refusals() {
+    let plan = plan(8, WaitKind::Relative);
+    let script = refusals::to_node(shape(8, 4, 1));
+    let settings = node_settings(plan);
+    let answers = [
+        ours::node(&node_text(plan), &script, FLOOR),
+        cores::run::<ByTables>(&settings, &script, FLOOR),
+    ];
+    assert_same("refusals of a node", &answers);
+    let script = refusals::to_merger(&[shape(8, 4, 1); PMUS]);
+    let settings = merger_settings(plan);
+    let answers = [
+        ours::merger(&merger_text(plan), &script, FLOOR),
+        merging::run::<ByTables>(&settings, &script, FLOOR),
+    ];
+    assert_same("refusals of the merger", &answers);
+}
+
 pub fn nodes(mode: &mut Mode) {
+    compare_refusals();
     let shapes = [shape(1, 0, 0), shape(8, 4, 1)];
     concentrator(
         mode,

@@ -73,20 +73,13 @@ impl<'a> Line<'a> {
 
     /// All sides give the same answers.
     fn compare(&mut self) {
-        let answers: Vec<u64> = self.sides().map(|side| (side.whole)()).collect();
         let openings: Vec<u64> = self
             .sides()
             .filter_map(|side| Some(side.opening.as_mut()?()))
             .collect();
-        let name = &self.name;
-        assert!(
-            answers.iter().all(|answer| *answer == answers[0]),
-            "{name}: one answer, not {answers:x?}"
-        );
-        assert!(
-            openings.iter().all(|answer| *answer == openings[0]),
-            "{name}: one opening"
-        );
+        let answers: Vec<u64> = self.sides().map(|side| (side.whole)()).collect();
+        assert_same(&self.name, &openings);
+        assert_same(&self.name, &answers);
     }
 
     /// For each side the nanoseconds of each turn. A turn takes all sides, each turn from another one on.
@@ -170,6 +163,15 @@ impl<'a> Line<'a> {
             .collect();
         println!("{row} {} |", steps.join(" / "));
     }
+}
+
+/// All are one number.
+pub fn assert_same(name: &str, answers: &[u64]) {
+    let is_one = answers.windows(2).all(|pair| pair[0] == pair[1]);
+    assert!(
+        is_one,
+        "{name}: both sides give the same answers, not {answers:x?}"
+    );
 }
 
 /// The number as it is printed, so that a ratio is that of the numbers beside it.

@@ -17,6 +17,7 @@ mod ours;
 mod paths;
 mod plain;
 mod publishing;
+mod refusals;
 mod ring;
 mod script;
 mod table_lines;

@@ -41,7 +41,7 @@ fn frame(kind: Kind, id: u16, soc: u32, frac: u32, payload: &[u8]) -> Vec<u8> {
 }
 
 /// The bytes, with their check word behind them.
-fn sealed(mut bytes: Vec<u8>) -> Vec<u8> {
+pub fn sealed(mut bytes: Vec<u8>) -> Vec<u8> {
     let check = ByTables::of(&bytes);
     bytes.extend_from_slice(&check.to_be_bytes());
     bytes
@@ -80,7 +80,7 @@ pub fn pmu_configuration(shape: Shape, id: u16, count: u16) -> Vec<u8> {
 }
 
 /// The layout of a node of 16 PMUs with this change number. The first PMU has its second configuration from the second change on.
-fn node_layout(shapes: &[Shape], id: u16, change: u32) -> Vec<u8> {
+pub fn node_layout(shapes: &[Shape], id: u16, change: u32) -> Vec<u8> {
     let pmus = (1..).zip(shapes).map(|(source, shape)| {
         section(*shape, source, if source == 1 { change as u16 } else { 1 })
     });
@@ -113,7 +113,7 @@ pub fn pmu_data(shape: Shape, id: u16, instant: u32) -> Vec<u8> {
 }
 
 /// The data frame of a node of 16 PMUs under its layout with this change number; with absent PMUs, one in four is so.
-fn node_data(shapes: &[Shape], id: u16, instant: u32, change: u32, beside: Beside) -> Vec<u8> {
+pub fn node_data(shapes: &[Shape], id: u16, instant: u32, change: u32, beside: Beside) -> Vec<u8> {
     let mut payload = vec![0; OWN_BLOCK_LEN];
     payload[6..10].copy_from_slice(&1_u32.to_be_bytes());
     payload[10..].copy_from_slice(&change.to_be_bytes());
