@@ -1,0 +1,187 @@
+//! The calls of a hub over two nodes, each the first one of a hub of its own.
+ghost use Rattle.std.specs.Prelude.{◌≡◌, ◌<◌, Some, [], length};
+ghost use Rattle.pdc_life.specs.Given.{given_of};
+ghost use Rattle.pdc_node.specs.Node.{StandsFor};
+ghost use Rattle.try_memory_runs.specs.Mine.{IsFit};
+
+use crate::settings::of_node;
+use crate::vectors::{DATA_11, FIRST, SOC};
+use pdc_core::Reads;
+use pdc_hub::{Blanks, Hub, HubFault, Naming, Shares};
+use pdc_life::{MAX_PMUS, Settings};
+use pdc_node::{Node, copy_of};
+use pdc_table::RingTable;
+use std::alloc::Global;
+use std::io;
+use std::marker::Brand;
+use std::sync::Wait;
+use std::sync::ledger::{Blank, Ledger, Share};
+use try_memory::{DONE, NO_MEMORY, State, begin, end, made, state_of};
+
+/// After how many steps a hub's base is brought up.
+const LIMIT: usize = 7;
+
+/// What is called.
+#[derive(Clone, Copy)]
+enum Called {
+    Deliver,
+    Tick,
+    Pop,
+    Layout,
+}
+
+/// All of them.
+const ALL: [Called; 4] = [Called::Deliver, Called::Tick, Called::Pop, Called::Layout];
+
+/// The shares of a hub's caller, and what the layout is appended to.
+#[derive(Drop)]
+struct Mine<T: Ledger, F: Ledger, G: Ledger, P: Ledger> {
+    shares: Shares<T, F, G>,
+    top: Share<P>,
+    out: Vec<u8>,
+}
+
+/// The name of a call.
+fn name_of(called: Called) -> &'static str {
+    match called {
+        Called::Deliver => "Hub::deliver",
+        Called::Tick => "Hub::tick",
+        Called::Pop => "Hub::pop",
+        Called::Layout => "Hub::layout",
+    }
+}
+
+/// What the answer is told as.
+fn told<X: Drop>(answer: Result<X, HubFault>) -> &'static str {
+    match answer {
+        Ok(_) => DONE,
+        Err(HubFault::NoMemory) => "H3 NoMemory",
+        Err(_) => "another fault",
+    }
+}
+
+/// The layout that was appended, and how many arrivals were counted.
+fn state<N: Naming<Settings>, T: Ledger, F: Ledger, G: Ledger, P: Ledger, R: Wait>(
+    rt: &R,
+    hub: &Hub<Node<RingTable>, N, T, F, G, P>,
+    out: &[u8],
+) -> State {
+    let counts = hub.counts(rt);
+    state_of(out, counts.taken.saturating_add(counts.refused))
+}
+
+/// Makes the call.
+fn call<N: Naming<Settings>, T: Ledger, F: Ledger, G: Ledger, P: Ledger, R: Wait>(
+    rt: &R,
+    alloc: Global,
+    settings: &Settings,
+    hub: &Hub<Node<RingTable>, N, T, F, G, P>,
+    mine: &mut Mine<T, F, G, P>,
+    called: Called,
+) -> &'static str
+    requires settings { N.settings ≡ Some settings.now }
+    requires streams { 0 < length settings.now.pmus.items }
+    requires fit { IsFit mine.old P.parts }
+    ensures fit { IsFit mine.new P.parts }
+{
+    match called {
+        Called::Deliver => match settings.read_kept(alloc, 0, &DATA_11) {
+            Ok(kept) => told(hub.deliver(rt, 0, kept, &mut mine.shares)),
+            Err(_) => NO_MEMORY,
+        },
+        Called::Tick => told(hub.tick(rt, FIRST, &[0; MAX_PMUS])),
+        Called::Pop => told(hub.pop(rt, &mut mine.top)),
+        Called::Layout => told(hub.layout(rt, SOC, &mut mine.out)),
+    }
+}
+
+/// Makes the call, and prints it. Whether it was answered `Ok`.
+fn attempt<N: Naming<Settings>, T: Ledger, F: Ledger, G: Ledger, P: Ledger, R: Wait + Print>(
+    rt: &R,
+    alloc: Global,
+    settings: &Settings,
+    hub: &Hub<Node<RingTable>, N, T, F, G, P>,
+    mine: &mut Mine<T, F, G, P>,
+    called: Called,
+) -> io::Result<bool>
+    requires settings { N.settings ≡ Some settings.now }
+    requires streams { 0 < length settings.now.pmus.items }
+    requires fit { IsFit mine.old P.parts }
+    ensures fit { IsFit mine.new P.parts }
+{
+    begin(rt, name_of(called), state(rt, hub, &mine.out))?;
+    let answer = call(rt, alloc, settings, hub, mine, called);
+    end(rt, answer, state(rt, hub, &mine.out))?;
+    Ok(answer == DONE)
+}
+
+/// Makes the call on a hub over these nodes, and again where it is refused.
+fn play_on<N: Naming<Settings>, T: Ledger, F: Ledger, G: Ledger, P: Ledger, R: Wait + Print>(
+    rt: &R,
+    alloc: Global,
+    settings: &Settings,
+    counts: &[u16; MAX_PMUS],
+    base: Node<RingTable>,
+    state: Node<RingTable>,
+    called: Called,
+    blanks: Blanks,
+) -> io::Result<()>
+    requires given { N.given ≡ Some (given_of settings.now 1 0 counts.now 0) }
+    requires alike { StandsFor (given_of settings.now 1 0 counts.now 0) [] base × StandsFor (given_of settings.now 1 0 counts.now 0) [] state }
+    requires settings { (N.settings ≡ Some settings.now) × (base.settings ≡ settings.now) × (state.settings ≡ settings.now) }
+    requires popped { state.popped ≡ 0 }
+    requires streams { 0 < length settings.now.pmus.items }
+    requires names { (blanks.taken.name ≡ T.name) × (blanks.refused.name ≡ F.name) × (blanks.configured.name ≡ G.name) × (blanks.top.name ≡ P.name) }
+    requires parts { (blanks.taken.parts ≡ T.parts) × (blanks.refused.parts ≡ F.parts) × (blanks.configured.parts ≡ G.parts) × (blanks.top.parts ≡ P.parts) }
+    requires count { (T.parts ≡ 1) × (F.parts ≡ 1) × (G.parts ≡ 1) × (P.parts ≡ 1) }
+{
+    begin(rt, "Hub::new", made(false))?;
+    let (hub, shares, top) = Hub::<Node<RingTable>, N, T, F, G, P>::new(
+        alloc, base, state, LIMIT, 0, blanks,
+    );
+    end(rt, DONE, made(true))?;
+    let mut mine = Mine {
+        shares,
+        top,
+        out: Vec::new(alloc),
+    };
+    if attempt(rt, alloc, settings, &hub, &mut mine, called)? {
+        return Ok(());
+    }
+    attempt(rt, alloc, settings, &hub, &mut mine, called)?;
+    Ok(())
+}
+
+/// Makes the call on a hub of node 201.
+fn play_one<R: Wait + Print>(
+    rt: &R,
+    alloc: Global,
+    settings: &Settings,
+    called: Called,
+) -> io::Result<()>
+    requires streams { 0 < length settings.now.pmus.items }
+{
+    let counts = [0; MAX_PMUS];
+    let base = Node::open(alloc, copy_of(settings), 1, 0, &counts, 0)?;
+    let state = Node::open(alloc, copy_of(settings), 1, 0, &counts, 0)?;
+    let blanks = Blanks {
+        taken: Blank::new(1),
+        refused: Blank::new(1),
+        configured: Blank::new(1),
+        top: Blank::new(1),
+    };
+    play_on::<Brand, Brand, Brand, Brand, Brand, R>(
+        rt, alloc, settings, &counts, base, state, called, blanks,
+    )
+}
+
+/// Each call.
+pub fn play<R: Wait + Print>(rt: &R, alloc: Global) -> io::Result<()> {
+    let settings = of_node(alloc, 201)?;
+    for called in ALL {
+        if !settings.pmus.is_empty() {
+            play_one(rt, alloc, &settings, called)?;
+        }
+    }
+    Ok(())
+}
