@@ -1,3 +1,4 @@
 pub mod Concentrator
 pub mod Begun
 pub mod Status
+pub mod Turned

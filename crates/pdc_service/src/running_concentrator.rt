@@ -1,11 +1,17 @@
 //! Runs of a node and of the merger.
-ghost use Rattle.std.specs.Prelude.{◌≡◌, ◌≤◌, ◌<◌, ◌+◌, ℕ, IfOk, List, Some, [], length, map, sum, vec_len};
+ghost use Rattle.std.specs.Prelude.{◌≡◌, ◌≤◌, ◌<◌, ◌+◌, ℕ, Err, IfOk, List, Some, [], length, map, sum, vec_len};
 ghost use Rattle.pdc_threads.specs.Opened.{IsOpenedWith};
 ghost use Rattle.pdc_threads.specs.Rate.{IsAtRate};
-ghost use Rattle.pdc_threads.specs.Run.{HasRun, IsCausedBySink, IsSummed};
-ghost use Rattle.pdc_life.specs.Given.{Given};
+ghost use Rattle.pdc_threads.specs.Run.{GivesFrom, HasEach, HasRun, HasRunInTurns, IsCausedByMark, IsCausedBySink, IsSummed};
+ghost use Rattle.pdc_aligner.specs.Device.{standing_of};
+ghost use Rattle.pdc_hub.specs.declared.fault.HubFault.TheVariants.{NoMemory};
+ghost use Rattle.pdc_life.specs.Given.{Given, given_of};
+ghost use Rattle.pdc_life.specs.MergerReading.{given_of_merger};
+ghost use Rattle.pdc_merge.specs.Merger.{StandsFor as MergerStandsFor};
+ghost use Rattle.pdc_node.specs.Node.{StandsFor};
 ghost use Rattle.pdc_publisher.specs.Publisher.{last_in, mark_in, output_in};
 ghost use Rattle.pdc_service.specs.Begun.{begun_mark};
+ghost use Rattle.pdc_service.specs.Turned.{HasRunAsGiven, begun_standing};
 
 use crate::begun::Begun;
 use crate::plan::Plan;
@@ -67,6 +73,9 @@ where
     requires opened { IsOpenedWith N.given (M.stored (mark_in publisher)) }
     ensures totals { IsSummed result.outcome }
     ensures sink { IsCausedBySink result.outcome (K.failures_of sink) (K.failures_of result.sink) }
+    ensures each { HasEach result.outcome (vec_len sources) }
+    ensures mark { IsCausedByMark result.outcome (standing_of publisher) (standing_of result.publisher) }
+    ensures turned { HasRunInTurns C.stands_for N.given (output_in publisher) pace (GivesFrom I.gave ticker) (K.took sink result.sink) (last_in publisher) (M.stored (mark_in publisher)) (M.stored (mark_in result.publisher)) result.outcome }
     ensures sent { HasRun (K.took sink result.sink) (last_in publisher) (M.stored (mark_in result.publisher)).floor result.outcome }
 {
     let floor = publisher.last();
@@ -94,8 +103,8 @@ fn blanks(parts: u64) -> Blanks
 /// Nothing was run, for want of memory.
 fn not_run<M: Mark, K: Sink>(publisher: Publisher<M>, sink: K) -> Ran<M, K>
     requires floor { last_in publisher ≡ (M.stored (mark_in publisher)).floor }
-    ensures totals { IsSummed result.outcome }
-    ensures sink { IsCausedBySink result.outcome (K.failures_of sink) (K.failures_of result.sink) }
+    ensures outcome { result.outcome ≡ Err NoMemory }
+    ensures kept { (result.publisher ≡ publisher) × (result.sink ≡ sink) }
     ensures sent { HasRun (K.took sink result.sink) (last_in publisher) (M.stored (mark_in result.publisher)).floor result.outcome }
 {
     Ran {
@@ -135,6 +144,9 @@ where
     requires streams { (vec_len sources ≡ C.Settings.streams settings.now) × (vec_len sources ≤ MAX_PMUS) }
     ensures totals { IsSummed result.outcome }
     ensures sink { IsCausedBySink result.outcome (K.failures_of sink) (K.failures_of result.sink) }
+    ensures each { HasEach result.outcome (vec_len sources) }
+    ensures mark { IsCausedByMark result.outcome (begun_standing (M.is_broken (begun_mark mark)) (M.failures (begun_mark mark))) (standing_of result.publisher) }
+    ensures turned { HasRunAsGiven C.stands_for (C.given_with settings.now (M.stored (begun_mark mark)).start (M.stored (begun_mark mark)).floor (M.stored (begun_mark mark)).counts) plan.now.layout_every (GivesFrom I.gave ticker) (K.took sink result.sink) (M.stored (begun_mark mark)) (M.stored (mark_in result.publisher)) result.outcome }
     ensures sent { HasRun (K.took sink result.sink) (M.stored (begun_mark mark)).floor (M.stored (mark_in result.publisher)).floor result.outcome }
 {
     let mark = mark.into_mark();
@@ -186,6 +198,13 @@ pub fn run_node<
     // What the sink took are the first of the frames put, whose instants strictly rise above the floor that was stored, and are at most the
     // one that is stored then; all of them where the run was Ok, and then so many rows were published.
     ensures sent { HasRun (K.took sink result.sink) (M.stored (begun_mark mark)).floor (M.stored (mark_in result.publisher)).floor result.outcome }
+    // Each source has an entry.
+    ensures each { HasEach result.outcome (vec_len sources) }
+    // Only a mark that stood broken, or whose device failed, ends it by the device's fault.
+    ensures mark { IsCausedByMark result.outcome (begun_standing (M.is_broken (begun_mark mark)) (M.failures (begun_mark mark))) (standing_of result.publisher) }
+    // And tick by tick: what was put for each tick are the data frames of the node's life, begun with what the mark stored, and then its
+    // layout, after so many ticks as the plan says and where it changed.
+    ensures turned { HasRunAsGiven (λ n g E. StandsFor g E n) (given_of settings.now (M.stored (begun_mark mark)).start (M.stored (begun_mark mark)).floor (M.stored (begun_mark mark)).counts 0) plan.now.layout_every (GivesFrom I.gave ticker) (K.took sink result.sink) (M.stored (begun_mark mark)) (M.stored (mark_in result.publisher)) result.outcome }
 {
     run_begun::<Node<RingTable>, S, M, I, K, R>(
         rt,
@@ -227,6 +246,9 @@ pub fn run_merger<
     ensures totals { IfOk result.outcome (λ t. (t.taken ≡ sum (map (λ c. c.taken) t.receivers.items)) × (t.refused ≡ sum (map (λ c. c.refused) t.receivers.items))) }
     ensures sink { IsCausedBySink result.outcome (K.failures_of sink) (K.failures_of result.sink) }
     ensures sent { HasRun (K.took sink result.sink) (M.stored (begun_mark mark)).floor (M.stored (mark_in result.publisher)).floor result.outcome }
+    ensures each { HasEach result.outcome (vec_len sources) }
+    ensures mark { IsCausedByMark result.outcome (begun_standing (M.is_broken (begun_mark mark)) (M.failures (begun_mark mark))) (standing_of result.publisher) }
+    ensures turned { HasRunAsGiven (λ m g E. MergerStandsFor g E m) (given_of_merger settings.now (M.stored (begun_mark mark)).start (M.stored (begun_mark mark)).floor (M.stored (begun_mark mark)).counts 0) plan.now.layout_every (GivesFrom I.gave ticker) (K.took sink result.sink) (M.stored (begun_mark mark)) (M.stored (mark_in result.publisher)) result.outcome }
 {
     run_begun::<Merger<RingTable>, S, M, I, K, R>(
         rt,

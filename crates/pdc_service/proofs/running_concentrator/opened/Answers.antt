@@ -1,5 +1,6 @@
-use Rattle.std.proofs.Common.{rules}
-use Rattle.pdc_publisher.specs.Publisher.{last_in}
+use Rattle.std.proofs.Common.{[], arith, refl, rules}
+use Rattle.pdc_publisher.specs.Publisher.{last_in, mark_in, output_in}
+use Rattle.pdc_service.proofs.Nothing.{nothing_put}
 use Rattle.pdc_service.proofs.running_concentrator.opened.Goals as goal
 
 pub new-hub-requires-clause-alike : goal.new-hub-requires-clause-alike
@@ -9,3 +10,11 @@ new-hub-requires-clause-alike g c = (
   c.requires.stands,
   search rules,
 )
+
+pub returns-in_default-clause-turned : goal.returns-in_default-clause-turned
+returns-in_default-clause-turned g c =
+    let kept = c.not_run.ensures.kept in
+    rw (c.not_run.ensures.outcome, kept.0, kept.1) record {
+      run = record { put = []; given = []; rest = []; took = g.K.Sink.nothing c.args.sink; first = refl; rising = omega (arith, c.requires.floor); whole = tt; published = tt };
+      aligned = nothing_put g.C.Core.stands_for g.N.Naming.given (output_in c.args.publisher) c.args.pace.rate c.args.pace.layout_every (g.M.Mark.stored (mark_in c.args.publisher)).counts g.I.Ticker.gave c.args.ticker;
+    }
