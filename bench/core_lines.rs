@@ -92,6 +92,7 @@ fn node(mode: &mut Mode, name: String, shapes: &[Shape], plan: Plan, beside: Bes
     Line {
         name,
         count: run.datagrams(),
+        counted: run.datagrams(),
         ours,
         others,
     }
@@ -153,6 +154,7 @@ fn merger(mode: &mut Mode, name: String, shapes: &[Shape], plan: Plan, beside: B
     Line {
         name,
         count: run.datagrams(),
+        counted: run.datagrams(),
         ours,
         others,
     }

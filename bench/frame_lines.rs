@@ -7,11 +7,14 @@ use crate::traffic::{RATE, TIME_BASE, pmu_configuration, pmu_data};
 use crate::{ours, paths};
 use std::hint::black_box;
 
+/// The rounds of a line whose steps are counted.
+const COUNTED: u32 = 100;
+
 /// Enough rounds for some milliseconds on frames of this length.
 fn rounds_for(len: usize, mode: &Mode) -> u32 {
     match mode {
         Mode::Timed { .. } => (20_000_000 / (len as u32 + 200)).max(1_000),
-        Mode::Counted => 100,
+        Mode::Counted => COUNTED,
     }
 }
 
@@ -30,6 +33,7 @@ fn check_words(mode: &mut Mode) {
         Line {
             name: format!("check word | {} bytes", len + 2),
             count,
+            counted: COUNTED,
             ours: of(ours::check_word),
             others,
         }
@@ -52,6 +56,7 @@ fn configurations(mode: &mut Mode, shape: Shape) {
     Line {
         name,
         count,
+        counted: COUNTED,
         ours: reading(ours::read_config),
         others,
     }
@@ -68,6 +73,7 @@ fn configurations(mode: &mut Mode, shape: Shape) {
     Line {
         name,
         count,
+        counted: COUNTED,
         ours: writing(ours::write_config),
         others,
     }
@@ -98,6 +104,7 @@ fn data_frames(mode: &mut Mode, shape: Shape) {
     Line {
         name,
         count,
+        counted: COUNTED,
         ours: reading(ours::read_data),
         others,
     }
@@ -114,6 +121,7 @@ fn data_frames(mode: &mut Mode, shape: Shape) {
     Line {
         name,
         count,
+        counted: COUNTED,
         ours: writing(ours::write_data),
         others,
     }

@@ -47,6 +47,8 @@ pub struct Line<'a> {
     pub name: String,
     /// How many frames, datagrams or puts its work has.
     pub count: u32,
+    /// How many it has where steps are counted.
+    pub counted: u32,
     pub ours: Side<'a>,
     pub others: Vec<Side<'a>>,
 }
@@ -120,7 +122,7 @@ impl<'a> Line<'a> {
 
     /// For each side its steps for each frame, datagram or put, taken from the front of those that were counted.
     fn steps(&mut self, counted: &mut Vec<u64>) -> Vec<Option<f64>> {
-        let count = f64::from(self.count);
+        let count = f64::from(self.counted);
         let sides: Vec<_> = self.sides().map(|side| side.opening.is_some()).collect();
         let mut next = || {
             if counted.is_empty() {

@@ -36,6 +36,7 @@ fn line(mode: &mut Mode, name: &str, window: u64, instants: u32, ours: Run, othe
     let mut line = Line {
         name: format!("{name} | {window}"),
         count: instants * COLUMNS as u32,
+        counted: instants * COLUMNS as u32,
         ours: side(ours, window, instants),
         others: others
             .map(|run| side(run, window, instants))
