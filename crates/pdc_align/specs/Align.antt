@@ -35,8 +35,9 @@ pub record State : Type 0 where
   pub columns : List ColumnState
   pub content : Content
 
--- What contracts see of an alignment: its state, for each buffer that it holds how many places it has, how often both lanes of a
--- column differed at a closing, which no definition of a life speaks of, and the greatest instant popped, at first the floor.
+-- What contracts see of an alignment: its state, for each buffer that it holds how many places it has, and how many boxes its columns
+-- have, two each; how often both lanes of a column differed at a closing, which no definition of a life speaks of; and the greatest
+-- instant popped, at first the floor.
 pub record AlignmentView : Type 0 where
   pub state : State
   pub memory : List ℕ

@@ -50,7 +50,7 @@ pub struct Alignment<T: Table> {
 }
 
 impl<T: Table> Model for Alignment<T> {
-    ghost use Rattle.std.specs.Prelude.{◌≡◌, ◌∷◌, length};
+    ghost use Rattle.std.specs.Prelude.{◌≡◌, ◌*◌, ◌∷◌, length};
     ghost use Rattle.std.specs.Vec.{vec_capacity};
     ghost use Rattle.pdc_align.specs.Align.{AlignmentView};
     ghost use Rattle.pdc_align.specs.Popped.{IsPoppedTo};
@@ -69,7 +69,7 @@ impl<T: Table> Model for Alignment<T> {
         columns = a.columns.items;
         content = T.content a.table;
       };
-      memory = vec_capacity a.columns ∷ T.memory a.table;
+      memory = vec_capacity a.columns ∷ (2 * length a.columns.items) ∷ T.memory a.table;
       disagreements = T.disagreements a.table;
       popped = a.popped;
     } };

@@ -17,7 +17,7 @@ use crate::limits::{MAX_SIZE, OVERHEAD, SIZE_PLACE, SYNC_BYTE};
 use crate::reading::{fields_of_whole, is_sync, read_frame};
 use crate::step::Step;
 use crate::words::read_word;
-use std::alloc::{AllocError, Global};
+use std::alloc::{AllocError, Allocator, Global};
 use std::marker::Model;
 
 /// The number of bytes up to the end of FRAMESIZE.
@@ -25,12 +25,12 @@ const SIZE_END: usize = 4;
 
 /// Finds the frames of a stream, in whatever pieces it comes.
 #[derive(Drop)]
-pub struct Framer {
-    held: Vec<u8>,
+pub struct Framer<A: Allocator = Global> {
+    held: Vec<u8, A>,
     step: Step,
 }
 
-impl Model for Framer {
+impl<A: Allocator> Model for Framer<A> {
     ghost use Rattle.std.specs.Prelude.{◌≤◌, vec_capacity};
     ghost use Rattle.pdc_frame.specs.declared.limits.TheConstants.{MAX_SIZE};
     ghost use Rattle.pdc_frame.specs.Stream.{Held, IsAt};
@@ -58,7 +58,7 @@ fn header_fault(held: &[u8]) -> Option<FrameFault>
 }
 
 /// Takes bytes up to the end of FRAMESIZE.
-fn take_header(held: &mut Vec<u8>, piece: &[u8]) -> (usize, Step)
+fn take_header<A: Allocator>(held: &mut Vec<u8, A>, piece: &[u8]) -> (usize, Step)
     requires room { MAX_SIZE ≤ vec_capacity held.old }
     requires going { IsGoing held.old.items }
     ensures room { vec_capacity held.new ≡ vec_capacity held.old }
@@ -80,7 +80,7 @@ fn take_header(held: &mut Vec<u8>, piece: &[u8]) -> (usize, Step)
 }
 
 /// Takes bytes up to the end of the frame.
-fn take_rest(held: &mut Vec<u8>, piece: &[u8]) -> (usize, Step)
+fn take_rest<A: Allocator>(held: &mut Vec<u8, A>, piece: &[u8]) -> (usize, Step)
     requires room { MAX_SIZE ≤ vec_capacity held.old }
     requires going { IsGoing held.old.items }
     requires header { SIZE_END ≤ length held.old.items }
@@ -103,7 +103,7 @@ fn take_rest(held: &mut Vec<u8>, piece: &[u8]) -> (usize, Step)
 }
 
 /// Takes bytes up to the end of a frame, of the piece, or the byte that shows a fault.
-fn take_frame(held: &mut Vec<u8>, piece: &[u8]) -> (usize, Step)
+fn take_frame<A: Allocator>(held: &mut Vec<u8, A>, piece: &[u8]) -> (usize, Step)
     requires room { MAX_SIZE ≤ vec_capacity held.old }
     requires going { IsGoing held.old.items }
     ensures room { vec_capacity held.new ≡ vec_capacity held.old }
@@ -121,7 +121,7 @@ fn take_frame(held: &mut Vec<u8>, piece: &[u8]) -> (usize, Step)
 }
 
 /// The same behind an answer: after a whole frame the next one begins, and a fault stands.
-fn take_next(held: &mut Vec<u8>, last: Step, piece: &[u8]) -> (usize, Step)
+fn take_next<A: Allocator>(held: &mut Vec<u8, A>, last: Step, piece: &[u8]) -> (usize, Step)
     requires room { MAX_SIZE ≤ vec_capacity held.old }
     requires at { IsAt held.old.items last }
     ensures room { vec_capacity held.new ≡ vec_capacity held.old }
@@ -140,13 +140,13 @@ fn take_next(held: &mut Vec<u8>, last: Step, piece: &[u8]) -> (usize, Step)
     take_frame(held, piece)
 }
 
-impl Framer {
+impl<A: Allocator> Framer<A> {
     /// Reserves room for the longest frame, once.
     ///
     /// # Errors
     ///
     /// [`AllocError`] where there is no memory for it.
-    pub fn new(alloc: Global) -> Result<Framer, AllocError>
+    pub fn new(alloc: A) -> Result<Framer<A>, AllocError>
         ensures bytes { IfOk result (λ framer. framer.bytes ≡ []) }
         ensures step { IfOk result (λ framer. framer.step ≡ Step.More) }
         ensures room { IfOk result (λ framer. framer.room ≡ MAX_SIZE) }

@@ -3,7 +3,7 @@ use Rattle.pdc_frame.specs.Stream.{IsGoing}
 use Rattle.pdc_frame.proofs.framer.take_header.Given as goal
 
 abbrev pub invariant-loop-held : goal.invariant-loop-held
-invariant-loop-held l = record {
+invariant-loop-held g l = record {
   room : vec_capacity l.held ≡ vec_capacity l.initial.held;
   taken : l.taken ≤ length l.piece;
   bytes : l.held.items ≡ l.initial.held.items ++ take l.taken l.piece;
@@ -11,4 +11,4 @@ invariant-loop-held l = record {
 }
 
 abbrev pub decreases-loop-held : goal.decreases-loop-held
-decreases-loop-held l = length l.piece - l.taken
+decreases-loop-held g l = length l.piece - l.taken
