@@ -13,7 +13,8 @@ use Rattle.pdc_ports.specs.Heard.{Heard, Gave, Idled, Ended, Failed, GaveUp, Has
 use Rattle.pdc_hub.specs.declared.fault.HubFault.{HubFault}
 use Rattle.pdc_hub.specs.Counted.{CountsAtLeast, refused_by, taken_by}
 use Rattle.pdc_hub.specs.Received.{Answering, AreServed, EndsBy, HasReceived, IsAnswerFor}
-use Rattle.pdc_hub.specs.Replay.{InSomeLife, Lives, Sayings}
+use Rattle.pdc_hub.specs.Replay.{InSomeLife, Lives, Sayings, number_in}
+use Rattle.pdc_ports.specs.declared.numbered.Numbered.{Numbered}
 
 -- How a receiver stands between two datagrams.
 pub record IsReceiving (Told : List Heard → Type 0) (Answers : Answering) (taken refused : ℕ) : Type 0 where
@@ -105,20 +106,20 @@ received told old middle new Answers taken refused last fault h more ends = reco
 }
 
 -- what was kept of these bytes was answered
-pub answer_for : {C : Type 0} (rules : Rules) (Stands : C → Lives) (named : Option Given) (Says : Sayings) (counts_of : C → Counts) (stream taken refused configured : ℕ) (bytes : List ℕ) (kept : KeptArrival) (outcome : Outcome)
+pub answer_for : {C : Type 0} (rules : Rules) (Stands : C → Lives) (named : Option Given) (Says : Sayings) (counts_of : C → Counts) (stream taken refused configured : ℕ) (bytes : List ℕ) (kept : KeptArrival) (outcome : Outcome) (step : ℕ)
     → Says stream bytes (taken_view kept)
-    → ∥ InSomeLife Stands named (λ state g E. (outcome ≡ (rules g E stream (taken_view kept)).outcome) × CountsAtLeast (counts_of state) taken refused configured) ∥₁
+    → ∥ InSomeLife Stands named (λ state g E. (outcome ≡ (rules g E stream (taken_view kept)).outcome) × CountsAtLeast (counts_of state) taken refused configured × (step ≡ number_in E)) ∥₁
     → IsAnswerFor rules Stands named Says stream bytes outcome
-answer_for rules Stands named Says counts_of stream taken refused configured bytes kept outcome says h =
+answer_for rules Stands named Says counts_of stream taken refused configured bytes kept outcome step says h =
     ∥∥₁_map h (λ x. (taken_view kept, says, record { core = x.core; given = x.given; is_named = x.is_named; life = x.life; stands = x.stands; fact = x.fact.0 }))
 
 -- where it was answered
-pub all_answered : {C : Type 0} (rules : Rules) (Stands : C → Lives) (named : Option Given) (Says : Sayings) (counts_of : C → Counts) (stream taken refused configured : ℕ) (bytes : List ℕ) (kept : KeptArrival) (result : Result Outcome HubFault)
+pub all_answered : {C : Type 0} (rules : Rules) (Stands : C → Lives) (named : Option Given) (Says : Sayings) (counts_of : C → Counts) (stream taken refused configured : ℕ) (bytes : List ℕ) (kept : KeptArrival) (result : Result (Numbered {0} Outcome) HubFault)
     → Says stream bytes (taken_view kept)
-    → IfOk result (λ outcome. ∥ InSomeLife Stands named (λ state g E. (outcome ≡ (rules g E stream (taken_view kept)).outcome) × CountsAtLeast (counts_of state) taken refused configured) ∥₁)
-    → IfOk result (λ outcome. IsAnswerFor rules Stands named Says stream bytes outcome)
-all_answered rules Stands named Says counts_of stream taken refused configured bytes kept (Ok outcome) says h =
-    answer_for rules Stands named Says counts_of stream taken refused configured bytes kept outcome says h
+    → IfOk result (λ numbered. ∥ InSomeLife Stands named (λ state g E. (numbered.answer ≡ (rules g E stream (taken_view kept)).outcome) × CountsAtLeast (counts_of state) taken refused configured × (numbered.step ≡ number_in E)) ∥₁)
+    → IfOk result (λ numbered. IsAnswerFor rules Stands named Says stream bytes numbered.answer)
+all_answered rules Stands named Says counts_of stream taken refused configured bytes kept (Ok numbered) says h =
+    answer_for rules Stands named Says counts_of stream taken refused configured bytes kept numbered.answer numbered.step says h
 all_answered rules Stands named Says counts_of stream taken refused configured bytes kept (Err fault) says h = tt
 
 -- the buffer as the source left it

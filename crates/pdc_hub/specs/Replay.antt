@@ -1,5 +1,5 @@
 -- A core beside a base: the one is the replay of steps over the other (this profile).
-use Rattle.std.specs.Prelude.{◌≡◌, ℕ, Bool, true, List, [], ◌∷◌, length, nat_le, if◌then◌else◌, Option, Some}
+use Rattle.std.specs.Prelude.{◌≡◌, ℕ, ◌-◌, ◌^◌, Bool, true, List, [], ◌∷◌, length, min, nat_le, if◌then◌else◌, Option, Some}
 use Rattle.pdc_core.specs.Step.{IsOf}
 use Rattle.pdc_core.specs.declared.step.CoreStep.{CoreStep}
 use Rattle.pdc_life.specs.Answer.{IsReadStep, ReadStep, Rules, answered, life_from}
@@ -26,9 +26,17 @@ abbrev pub Replaying : Rules → Sayings → (Before After : Lives) → List Cor
 Replaying rules Says Before After steps =
     (g : Given) (E : List Entry) (reads : List ReadStep) → AreRead Says steps reads → Before g E → After g (life_from rules g E reads)
 
+-- The number of the step that comes next after so many: how many there were, a counter of 64 bits that stays at its greatest value.
+abbrev pub number_after : ℕ → ℕ
+number_after steps = min steps (2 ^ 64 - 1)
+
+-- The number of the step that comes next in a life: how many steps it has.
+abbrev pub number_in : List Entry → ℕ
+number_in E = number_after (length E)
+
 -- The state is the replay of the steps over the base: there is a life of what is named, which the base stands for, and the state stands
--- for it with the steps answered one after the other.
-pub record Replays (rules : Rules) (Says : Sayings) (named : Option Given) (Base State : Lives) (steps : List CoreStep) : Type 0 where
+-- for it with the steps answered one after the other. The first of them has this number.
+pub record Replays (rules : Rules) (Says : Sayings) (named : Option Given) (Base State : Lives) (first : ℕ) (steps : List CoreStep) : Type 0 where
   pub given : Given
   pub is_named : named ≡ Some given
   pub life : List Entry
@@ -36,6 +44,7 @@ pub record Replays (rules : Rules) (Says : Sayings) (named : Option Given) (Base
   pub reads : List ReadStep
   pub read : AreRead Says steps reads
   pub reached : State given (life_from rules given life reads)
+  pub counted : first ≡ number_in life
 
 -- Whatever life the value stood for before, it stands for it now with this step more, which it answered.
 abbrev pub Follows : Rules → (Before After : Lives) → ReadStep → Type 0

@@ -8,7 +8,7 @@ ghost use Rattle.pdc_life.specs.Life.{Entry, changes};
 ghost use Rattle.pdc_life.specs.Published.{layout_wire};
 ghost use Rattle.pdc_hub.specs.Counted.{CountsAtLeast, configurations, configured_by, refused_by, taken_by};
 ghost use Rattle.pdc_hub.specs.Faults.{IsOfDelivery};
-ghost use Rattle.pdc_hub.specs.Replay.{InSomeLife, WasRead};
+ghost use Rattle.pdc_hub.specs.Replay.{InSomeLife, WasRead, number_in};
 ghost use Rattle.pdc_row.specs.RowView.{row_view};
 ghost use Rattle.pdc_tag.specs.declared.limits.TheConstants.{SECONDS};
 
@@ -19,6 +19,7 @@ use crate::shares::{Blanks, Books, Shares};
 use pdc_core::{Core, Counts, KeptArrival, Ticked};
 use pdc_frame::Buffer;
 use pdc_life::{MAX_PMUS, Outcome};
+use pdc_ports::Numbered;
 use pdc_row::DueRow;
 use std::alloc::Global;
 use std::sync::ledger::{Ledger, Share};
@@ -88,7 +89,8 @@ impl<C: Core + Drop, N: Naming<C::Settings>, T: Ledger, F: Ledger, G: Ledger, P:
     }
 
     /// Adds what arrived for a stream, and counts its answer in the caller's shares. The answer is the core's in some life of what is
-    /// named, and the core had counted at least what the shares had.
+    /// named, and the core had counted at least what the shares had. It bears the number of the step, given under the lock: how many steps
+    /// that life had.
     ///
     /// # Errors
     ///
@@ -100,15 +102,15 @@ impl<C: Core + Drop, N: Naming<C::Settings>, T: Ledger, F: Ledger, G: Ledger, P:
         stream: usize,
         datagram: KeptArrival,
         mine: &mut Shares<T, F, G>,
-    ) -> Result<Outcome, HubFault>
+    ) -> Result<Numbered<Outcome>, HubFault>
         requires read { WasRead C.Settings.says C.Settings.fits N.settings stream (taken_view datagram) }
         requires parts { (0 < mine.old.taken.parts) × (0 < mine.old.refused.parts) × (0 < mine.old.configured.parts) }
-        ensures some { IfOk result (λ outcome. ∥ InSomeLife C.stands_for N.given (λ state g E.
-            (outcome ≡ (C.rules g E stream (taken_view datagram)).outcome)
-            × CountsAtLeast (C.counts_of state) mine.old.taken.amount mine.old.refused.amount mine.old.configured.amount) ∥₁) }
-        ensures taken { IfOk result (λ outcome. mine.new.taken.amount ≡ mine.old.taken.amount + taken_by outcome) }
-        ensures refused { IfOk result (λ outcome. mine.new.refused.amount ≡ mine.old.refused.amount + refused_by outcome) }
-        ensures configured { IfOk result (λ outcome. mine.new.configured.amount ≡ mine.old.configured.amount + configured_by outcome) }
+        ensures some { IfOk result (λ numbered. ∥ InSomeLife C.stands_for N.given (λ state g E.
+            (numbered.answer ≡ (C.rules g E stream (taken_view datagram)).outcome)
+            × CountsAtLeast (C.counts_of state) mine.old.taken.amount mine.old.refused.amount mine.old.configured.amount × (numbered.step ≡ number_in E)) ∥₁) }
+        ensures taken { IfOk result (λ numbered. mine.new.taken.amount ≡ mine.old.taken.amount + taken_by numbered.answer) }
+        ensures refused { IfOk result (λ numbered. mine.new.refused.amount ≡ mine.old.refused.amount + refused_by numbered.answer) }
+        ensures configured { IfOk result (λ numbered. mine.new.configured.amount ≡ mine.old.configured.amount + configured_by numbered.answer) }
         ensures most { (mine.new.taken.amount < 2 ^ 64) × (mine.new.refused.amount < 2 ^ 64) }
         ensures parts { (mine.new.taken.parts ≡ mine.old.taken.parts) × (mine.new.refused.parts ≡ mine.old.refused.parts) × (mine.new.configured.parts ≡ mine.old.configured.parts) }
         ensures causes { IfErr result IsOfDelivery }
@@ -119,7 +121,7 @@ impl<C: Core + Drop, N: Naming<C::Settings>, T: Ledger, F: Ledger, G: Ledger, P:
     }
 
     /// Ticks: the instant that is now, and for each column the count up to which a section may be adopted. The answer is that of some
-    /// life of what is named.
+    /// life of what is named, and bears the number of the step.
     ///
     /// # Errors
     ///
@@ -129,25 +131,26 @@ impl<C: Core + Drop, N: Naming<C::Settings>, T: Ledger, F: Ledger, G: Ledger, P:
         rt: &R,
         now: u64,
         counts: &[u16; MAX_PMUS],
-    ) -> Result<Ticked, HubFault>
-        ensures some { IfOk result (λ ticked. ∥ InSomeLife C.stands_for N.given (λ state g E.
-            ticked ≡ ticked_of (changes E) (tick_answer g E now counts.now)) ∥₁) }
+    ) -> Result<Numbered<Ticked>, HubFault>
+        ensures some { IfOk result (λ numbered. ∥ InSomeLife C.stands_for N.given (λ state g E.
+            (numbered.answer ≡ ticked_of (changes E) (tick_answer g E now counts.now)) × (numbered.step ≡ number_in E)) ∥₁) }
         ensures causes { OnErr result (result ≡ Err HubFault.NoMemory) }
     {
         self.table.lock(rt).tick(now, counts)
     }
 
     /// Pops the lowest row that closed and was not popped. It lies above all rows popped before, and its instant can be tagged.
+    /// The answer bears the number of the step.
     ///
     /// # Errors
     ///
     /// `NoMemory` where there is no memory for the step. Nothing is added then.
-    pub fn pop<R: Wait>(&self, rt: &R, all: &mut Share<P>) -> Result<Option<DueRow>, HubFault>
+    pub fn pop<R: Wait>(&self, rt: &R, all: &mut Share<P>) -> Result<Numbered<Option<DueRow>>, HubFault>
         requires { (all.old.parts ≡ P.parts) × (0 < all.old.parts) }
-        ensures some { IfOk result (λ row. ∥ InSomeLife C.stands_for N.given (λ state g E. option_map row_view row ≡ pop_answer E) ∥₁) }
-        ensures row { IfOk result (λ popped. IfSome popped (λ row. (all.old.amount < row.instant) × (all.new.amount ≡ row.instant))) }
-        ensures tagged { IfOk result (λ popped. IfSome popped (λ row. (g : Given) → N.given ≡ Some g → row.instant < SECONDS * g.output.rate)) }
-        ensures none { result ≡ Ok None → all.new.amount ≡ all.old.amount }
+        ensures some { IfOk result (λ numbered. ∥ InSomeLife C.stands_for N.given (λ state g E. (option_map row_view numbered.answer ≡ pop_answer E) × (numbered.step ≡ number_in E)) ∥₁) }
+        ensures row { IfOk result (λ numbered. IfSome numbered.answer (λ row. (all.old.amount < row.instant) × (all.new.amount ≡ row.instant))) }
+        ensures tagged { IfOk result (λ numbered. IfSome numbered.answer (λ row. (g : Given) → N.given ≡ Some g → row.instant < SECONDS * g.output.rate)) }
+        ensures none { IfOk result (λ numbered. numbered.answer ≡ None → all.new.amount ≡ all.old.amount) }
         ensures parts { all.new.parts ≡ all.old.parts }
         ensures causes { OnErr result (result ≡ Err HubFault.NoMemory) }
         ensures err { OnErr result (all.new.amount ≡ all.old.amount) }

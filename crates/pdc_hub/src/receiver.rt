@@ -12,7 +12,7 @@ use crate::naming::Naming;
 use crate::shares::Shares;
 use pdc_core::{Core, Reads};
 use pdc_life::Outcome;
-use pdc_ports::{Next, Source};
+use pdc_ports::{Next, Numbered, Source};
 use std::alloc::Global;
 use std::sync::Wait;
 use std::sync::ledger::Ledger;
@@ -49,13 +49,13 @@ fn hand_in<
     bytes: &[u8],
     hub: &Hub<C, N, T, F, G, P>,
     shares: &mut Shares<T, F, G>,
-) -> Result<Outcome, HubFault>
+) -> Result<Numbered<Outcome>, HubFault>
     requires settings { N.settings ≡ Some settings.now }
     requires stream { stream < C.Settings.streams settings.now }
     requires parts { (0 < shares.old.taken.parts) × (0 < shares.old.refused.parts) × (0 < shares.old.configured.parts) }
-    ensures answer { IfOk result (λ outcome. IsAnswerFor C.rules C.stands_for N.given (C.Settings.says settings.now) stream bytes.now outcome) }
-    ensures taken { IfOk result (λ outcome. shares.new.taken.amount ≡ shares.old.taken.amount + taken_by outcome) }
-    ensures refused { IfOk result (λ outcome. shares.new.refused.amount ≡ shares.old.refused.amount + refused_by outcome) }
+    ensures answer { IfOk result (λ numbered. IsAnswerFor C.rules C.stands_for N.given (C.Settings.says settings.now) stream bytes.now numbered.answer) }
+    ensures taken { IfOk result (λ numbered. shares.new.taken.amount ≡ shares.old.taken.amount + taken_by numbered.answer) }
+    ensures refused { IfOk result (λ numbered. shares.new.refused.amount ≡ shares.old.refused.amount + refused_by numbered.answer) }
     ensures most { IfOk result (λ _. (shares.new.taken.amount < 2 ^ 64) × (shares.new.refused.amount < 2 ^ 64)) }
     ensures parts { (shares.new.taken.parts ≡ shares.old.taken.parts) × (shares.new.refused.parts ≡ shares.old.refused.parts) × (shares.new.configured.parts ≡ shares.old.configured.parts) }
     ensures causes { IfErr result IsOfDelivery }
@@ -114,13 +114,13 @@ pub fn receive<
                     hub,
                     &mut shares,
                 ) {
-                    Ok(outcome) => {
-                        match outcome {
+                    Ok(answer) => {
+                        match answer.answer {
                             Outcome::Taken => taken += 1,
                             Outcome::Refused(_) => refused += 1,
                             Outcome::Candidate | Outcome::Known => {}
                         }
-                        source.answered(Some(outcome));
+                        source.answered(Some(answer));
                     }
                     Err(fault) => {
                         source.answered(None);

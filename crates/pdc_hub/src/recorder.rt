@@ -9,7 +9,7 @@ ghost use Rattle.pdc_life.specs.Life.{Entry, changes};
 ghost use Rattle.pdc_life.specs.Published.{layout_wire};
 ghost use Rattle.pdc_hub.specs.Counted.{CountsAtLeast, configurations, configured_by, is_used_up, refused_by, taken_by};
 ghost use Rattle.pdc_hub.specs.Faults.{IsOfDelivery};
-ghost use Rattle.pdc_hub.specs.Replay.{Follows, InSomeLife, WasRead, since};
+ghost use Rattle.pdc_hub.specs.Replay.{Follows, InSomeLife, WasRead, number_in, since};
 ghost use Rattle.pdc_row.specs.RowView.{row_view};
 ghost use Rattle.pdc_tag.specs.declared.limits.TheConstants.{SECONDS};
 
@@ -20,6 +20,7 @@ use crate::shares::{Books, Shares};
 use pdc_core::{Core, Counts, KeptArrival, Ticked};
 use pdc_frame::Buffer;
 use pdc_life::{MAX_PMUS, Outcome};
+use pdc_ports::Numbered;
 use pdc_row::DueRow;
 use std::alloc::{AllocError, Global};
 use std::sync::ledger::{Book, Ledger, Share};
@@ -113,24 +114,24 @@ impl<C: Core + Drop, N: Naming<C::Settings>, T: Ledger, F: Ledger, G: Ledger, P:
         stream: usize,
         datagram: KeptArrival,
         mine: &mut Shares<T, F, G>,
-    ) -> Result<Outcome, HubFault>
+    ) -> Result<Numbered<Outcome>, HubFault>
         requires read { WasRead C.Settings.says C.Settings.fits N.settings stream (taken_view datagram) }
         requires parts { (0 < mine.old.taken.parts) × (0 < mine.old.refused.parts) × (0 < mine.old.configured.parts) }
         // The answer is the core's.
-        ensures answer { IfOk result (λ outcome. (g : Given) (E : List Entry) → C.stands_for self.old.core.state g E →
-            outcome ≡ (C.rules g E stream (taken_view datagram)).outcome) }
+        ensures answer { IfOk result (λ numbered. (g : Given) (E : List Entry) → C.stands_for self.old.core.state g E →
+            numbered.answer ≡ (C.rules g E stream (taken_view datagram)).outcome) }
         ensures stands { OnOk result ((bytes : List ℕ) → C.Settings.says (C.settings_of self.old.core.state) stream bytes (taken_view datagram) →
             Follows C.rules (C.stands_for self.old.core.state) (C.stands_for self.new.core.state) (ToArrive stream bytes (taken_view datagram))) }
         // Exactly this step is added.
         ensures event { OnOk result (self.new.core.events.items ≡ since self.old.core.limit self.old.core.events.items ++ step.Arrive stream datagram ∷ []) }
         // There was such a life, and the core had counted at least what the caller's shares had.
-        ensures some { IfOk result (λ outcome. ∥ InSomeLife C.stands_for N.given (λ state g E.
-            (outcome ≡ (C.rules g E stream (taken_view datagram)).outcome)
-            × CountsAtLeast (C.counts_of state) mine.old.taken.amount mine.old.refused.amount mine.old.configured.amount) ∥₁) }
+        ensures some { IfOk result (λ numbered. ∥ InSomeLife C.stands_for N.given (λ state g E.
+            (numbered.answer ≡ (C.rules g E stream (taken_view datagram)).outcome)
+            × CountsAtLeast (C.counts_of state) mine.old.taken.amount mine.old.refused.amount mine.old.configured.amount × (numbered.step ≡ number_in E)) ∥₁) }
         // The shares rise by what is counted,
-        ensures taken { IfOk result (λ outcome. mine.new.taken.amount ≡ mine.old.taken.amount + taken_by outcome) }
-        ensures refused { IfOk result (λ outcome. mine.new.refused.amount ≡ mine.old.refused.amount + refused_by outcome) }
-        ensures configured { IfOk result (λ outcome. mine.new.configured.amount ≡ mine.old.configured.amount + configured_by outcome) }
+        ensures taken { IfOk result (λ numbered. mine.new.taken.amount ≡ mine.old.taken.amount + taken_by numbered.answer) }
+        ensures refused { IfOk result (λ numbered. mine.new.refused.amount ≡ mine.old.refused.amount + refused_by numbered.answer) }
+        ensures configured { IfOk result (λ numbered. mine.new.configured.amount ≡ mine.old.configured.amount + configured_by numbered.answer) }
         // stay below 2^64, and keep their parts.
         ensures most { (mine.new.taken.amount < 2 ^ 64) × (mine.new.refused.amount < 2 ^ 64) }
         ensures parts { (mine.new.taken.parts ≡ mine.old.taken.parts) × (mine.new.refused.parts ≡ mine.old.refused.parts) × (mine.new.configured.parts ≡ mine.old.configured.parts) }
@@ -182,22 +183,22 @@ impl<C: Core + Drop, N: Naming<C::Settings>, T: Ledger, F: Ledger, G: Ledger, P:
         stream: usize,
         datagram: KeptArrival,
         mine: &mut Shares<T, F, G>,
-    ) -> Result<Outcome, HubFault>
+    ) -> Result<Numbered<Outcome>, HubFault>
         requires read { WasRead C.Settings.says C.Settings.fits N.settings stream (taken_view datagram) }
         requires parts { (0 < mine.old.taken.parts) × (0 < mine.old.refused.parts) × (0 < mine.old.configured.parts) }
         requires free { is_used_up self.old.taken.total self.old.refused.total self.old.configured.total ≡ false }
         requires counted { CountsAtLeast (C.counts_of self.old.core.state) mine.old.taken.amount mine.old.refused.amount mine.old.configured.amount }
-        ensures answer { IfOk result (λ outcome. (g : Given) (E : List Entry) → C.stands_for self.old.core.state g E →
-            outcome ≡ (C.rules g E stream (taken_view datagram)).outcome) }
+        ensures answer { IfOk result (λ numbered. (g : Given) (E : List Entry) → C.stands_for self.old.core.state g E →
+            numbered.answer ≡ (C.rules g E stream (taken_view datagram)).outcome) }
         ensures stands { OnOk result ((bytes : List ℕ) → C.Settings.says (C.settings_of self.old.core.state) stream bytes (taken_view datagram) →
             Follows C.rules (C.stands_for self.old.core.state) (C.stands_for self.new.core.state) (ToArrive stream bytes (taken_view datagram))) }
         ensures event { OnOk result (self.new.core.events.items ≡ since self.old.core.limit self.old.core.events.items ++ step.Arrive stream datagram ∷ []) }
-        ensures some { IfOk result (λ outcome. ∥ InSomeLife C.stands_for N.given (λ state g E.
-            (outcome ≡ (C.rules g E stream (taken_view datagram)).outcome)
-            × CountsAtLeast (C.counts_of state) mine.old.taken.amount mine.old.refused.amount mine.old.configured.amount) ∥₁) }
-        ensures taken { IfOk result (λ outcome. mine.new.taken.amount ≡ mine.old.taken.amount + taken_by outcome) }
-        ensures refused { IfOk result (λ outcome. mine.new.refused.amount ≡ mine.old.refused.amount + refused_by outcome) }
-        ensures configured { IfOk result (λ outcome. mine.new.configured.amount ≡ mine.old.configured.amount + configured_by outcome) }
+        ensures some { IfOk result (λ numbered. ∥ InSomeLife C.stands_for N.given (λ state g E.
+            (numbered.answer ≡ (C.rules g E stream (taken_view datagram)).outcome)
+            × CountsAtLeast (C.counts_of state) mine.old.taken.amount mine.old.refused.amount mine.old.configured.amount × (numbered.step ≡ number_in E)) ∥₁) }
+        ensures taken { IfOk result (λ numbered. mine.new.taken.amount ≡ mine.old.taken.amount + taken_by numbered.answer) }
+        ensures refused { IfOk result (λ numbered. mine.new.refused.amount ≡ mine.old.refused.amount + refused_by numbered.answer) }
+        ensures configured { IfOk result (λ numbered. mine.new.configured.amount ≡ mine.old.configured.amount + configured_by numbered.answer) }
         ensures parts { (mine.new.taken.parts ≡ mine.old.taken.parts) × (mine.new.refused.parts ≡ mine.old.refused.parts) × (mine.new.configured.parts ≡ mine.old.configured.parts) }
         ensures causes { OnErr result (result ≡ Err HubFault.NoMemory) }
         ensures err { OnErr result ((self.new.core.state ≡ self.old.core.state) × (mine.new.taken.amount ≡ mine.old.taken.amount)
@@ -211,11 +212,15 @@ impl<C: Core + Drop, N: Naming<C::Settings>, T: Ledger, F: Ledger, G: Ledger, P:
             configured,
             ..
         } = self;
+        let step = core.step();
         let Ok(outcome) = core.arrive(stream, datagram) else {
             return Err(HubFault::NoMemory);
         };
         count(outcome, taken, refused, configured, mine);
-        Ok(outcome)
+        Ok(Numbered {
+            step,
+            answer: outcome,
+        })
     }
 
     /// Ticks: the instant that is now, and for each column the count up to which a section may be adopted.
@@ -223,20 +228,21 @@ impl<C: Core + Drop, N: Naming<C::Settings>, T: Ledger, F: Ledger, G: Ledger, P:
     /// # Errors
     ///
     /// `NoMemory` where there is no memory for the step. Nothing is added then.
-    pub fn tick(&mut self, now: u64, counts: &[u16; MAX_PMUS]) -> Result<Ticked, HubFault>
-        ensures answer { IfOk result (λ ticked. (g : Given) (E : List Entry) → C.stands_for self.old.core.state g E →
-            ticked ≡ ticked_of (changes E) (tick_answer g E now counts.now)) }
+    pub fn tick(&mut self, now: u64, counts: &[u16; MAX_PMUS]) -> Result<Numbered<Ticked>, HubFault>
+        ensures answer { IfOk result (λ numbered. (g : Given) (E : List Entry) → C.stands_for self.old.core.state g E →
+            numbered.answer ≡ ticked_of (changes E) (tick_answer g E now counts.now)) }
         ensures stands { OnOk result (Follows C.rules (C.stands_for self.old.core.state) (C.stands_for self.new.core.state) (ToTick now counts.now)) }
         ensures event { OnOk result (self.new.core.events.items ≡ since self.old.core.limit self.old.core.events.items ++ step.Tick now counts.now ∷ []) }
-        ensures some { IfOk result (λ ticked. ∥ InSomeLife C.stands_for N.given (λ state g E.
-            ticked ≡ ticked_of (changes E) (tick_answer g E now counts.now)) ∥₁) }
+        ensures some { IfOk result (λ numbered. ∥ InSomeLife C.stands_for N.given (λ state g E.
+            (numbered.answer ≡ ticked_of (changes E) (tick_answer g E now counts.now)) × (numbered.step ≡ number_in E)) ∥₁) }
         ensures causes { OnErr result (result ≡ Err HubFault.NoMemory) }
         ensures err { OnErr result (self.new.core.state ≡ self.old.core.state) }
         ensures goes { self.new.closed ≡ self.old.closed }
     {
         let Recorder { core, .. } = self;
+        let step = core.step();
         match core.tick(now, counts) {
-            Ok(ticked) => Ok(ticked),
+            Ok(answer) => Ok(Numbered { step, answer }),
             Err(_) => Err(HubFault::NoMemory),
         }
     }
@@ -246,15 +252,15 @@ impl<C: Core + Drop, N: Naming<C::Settings>, T: Ledger, F: Ledger, G: Ledger, P:
     /// # Errors
     ///
     /// `NoMemory` where there is no memory for the step. Nothing is added then.
-    pub fn pop(&mut self, all: &mut Share<P>) -> Result<Option<DueRow>, HubFault>
+    pub fn pop(&mut self, all: &mut Share<P>) -> Result<Numbered<Option<DueRow>>, HubFault>
         requires { (all.old.parts ≡ P.parts) × (0 < all.old.parts) }
-        ensures answer { IfOk result (λ row. (g : Given) (E : List Entry) → C.stands_for self.old.core.state g E → option_map row_view row ≡ pop_answer E) }
+        ensures answer { IfOk result (λ numbered. (g : Given) (E : List Entry) → C.stands_for self.old.core.state g E → option_map row_view numbered.answer ≡ pop_answer E) }
         ensures stands { OnOk result (Follows C.rules (C.stands_for self.old.core.state) (C.stands_for self.new.core.state) ToPop) }
         ensures event { OnOk result (self.new.core.events.items ≡ since self.old.core.limit self.old.core.events.items ++ step.Pop ∷ []) }
-        ensures some { IfOk result (λ row. ∥ InSomeLife C.stands_for N.given (λ state g E. option_map row_view row ≡ pop_answer E) ∥₁) }
-        ensures row { IfOk result (λ popped. IfSome popped (λ row. (all.old.amount < row.instant) × (all.new.amount ≡ row.instant))) }
-        ensures tagged { IfOk result (λ popped. IfSome popped (λ row. (g : Given) → N.given ≡ Some g → row.instant < SECONDS * g.output.rate)) }
-        ensures none { result ≡ Ok None → all.new.amount ≡ all.old.amount }
+        ensures some { IfOk result (λ numbered. ∥ InSomeLife C.stands_for N.given (λ state g E. (option_map row_view numbered.answer ≡ pop_answer E) × (numbered.step ≡ number_in E)) ∥₁) }
+        ensures row { IfOk result (λ numbered. IfSome numbered.answer (λ row. (all.old.amount < row.instant) × (all.new.amount ≡ row.instant))) }
+        ensures tagged { IfOk result (λ numbered. IfSome numbered.answer (λ row. (g : Given) → N.given ≡ Some g → row.instant < SECONDS * g.output.rate)) }
+        ensures none { IfOk result (λ numbered. numbered.answer ≡ None → all.new.amount ≡ all.old.amount) }
         ensures parts { all.new.parts ≡ all.old.parts }
         ensures causes { OnErr result (result ≡ Err HubFault.NoMemory) }
         ensures err { OnErr result ((self.new.core.state ≡ self.old.core.state) × (all.new.amount ≡ all.old.amount)) }
@@ -267,13 +273,17 @@ impl<C: Core + Drop, N: Naming<C::Settings>, T: Ledger, F: Ledger, G: Ledger, P:
             ..
         } = self;
         top.audit(all);
+        let step = core.step();
         match core.pop() {
             Err(_) => Err(HubFault::NoMemory),
-            Ok(None) => Ok(None),
+            Ok(None) => Ok(Numbered { step, answer: None }),
             Ok(Some(row)) => {
                 top.add(all, row.instant - *popped);
                 *popped = row.instant;
-                Ok(Some(row))
+                Ok(Numbered {
+                    step,
+                    answer: Some(row),
+                })
             }
         }
     }

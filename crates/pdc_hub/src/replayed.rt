@@ -1,5 +1,5 @@
 //! A core beside a base from which the steps since lead to it.
-ghost use Rattle.std.specs.Prelude.{◌≡◌, ◌≤◌, ◌<◌, ◌*◌, ◌+◌, ◌∷◌, ◌++◌, ℕ, IfOk, IfSome, List, OnErr, OnOk, Option, Some, [], option_map, true, vec_len};
+ghost use Rattle.std.specs.Prelude.{◌≡◌, ◌≤◌, ◌<◌, ◌*◌, ◌+◌, ◌∷◌, ◌++◌, ℕ, IfOk, IfSome, List, OnErr, OnOk, Option, Some, [], length, option_map, true, vec_len};
 ghost use Rattle.std.specs.List.{list_all};
 ghost use Rattle.pdc_core.specs.Step.{after_answer, is_allowed, popped_after, ticked_of};
 ghost use Rattle.pdc_core.specs.KeptArrival.{taken_view};
@@ -7,7 +7,7 @@ ghost use Rattle.pdc_core.specs.declared.step.CoreStep.TheVariants as step;
 ghost use Rattle.pdc_life.specs.Answer.{ToArrive, ToPop, ToTick, pop_answer, tick_answer};
 ghost use Rattle.pdc_life.specs.Given.{Given};
 ghost use Rattle.pdc_life.specs.Life.{Entry, changes};
-ghost use Rattle.pdc_hub.specs.Replay.{Follows, InSomeLife, Replaying, Replays, WasRead, since};
+ghost use Rattle.pdc_hub.specs.Replay.{Follows, Replaying, Replays, WasRead, number_after, since};
 ghost use Rattle.pdc_row.specs.RowView.{row_view};
 ghost use Rattle.pdc_tag.specs.declared.limits.TheConstants.{SECONDS};
 
@@ -22,11 +22,13 @@ use std::marker::PhantomData;
 #[derive(Drop)]
 pub struct Replayed<C: Core + Drop, N: Naming<C::Settings>> {
     pub base: C,
+    /// The number of the first step since the base.
+    pub first: u64,
     pub events: Vec<CoreStep>,
     pub state: C,
     pub limit: usize,
     of: PhantomData<N>,
-    pub ghost replays: { ∥ Replays C.rules (C.Settings.says (C.settings_of base)) N.given (C.stands_for base) (C.stands_for state) events.items ∥₁ },
+    pub ghost replays: { ∥ Replays C.rules (C.Settings.says (C.settings_of base)) N.given (C.stands_for base) (C.stands_for state) first events.items ∥₁ },
     pub ghost base_settings: { ∥ (N.settings ≡ Some (C.settings_of base)) ∥₁ },
     pub ghost state_settings: { ∥ (N.settings ≡ Some (C.settings_of state)) ∥₁ },
     pub ghost allowed: { list_all (is_allowed (C.Settings.fits (C.settings_of base))) events.items ≡ true },
@@ -44,11 +46,19 @@ impl<C: Core + Drop, N: Naming<C::Settings>> Replayed<C, N> {
     {
         Replayed {
             base,
+            first: 0,
             events: Vec::new(alloc),
             state,
             limit,
             of: PhantomData,
         }
+    }
+
+    /// The number of the step that comes next: how many steps the life has. It stays at its greatest value.
+    pub fn step(&self) -> u64
+        ensures { result ≡ number_after (self.now.first + length self.now.events.items) }
+    {
+        self.first.saturating_add(self.events.len() as u64)
     }
 
     /// Where the list is full, the base is brought up by it.
@@ -61,8 +71,14 @@ impl<C: Core + Drop, N: Naming<C::Settings>> Replayed<C, N> {
         if self.events.len() < self.limit {
             return;
         }
-        let Replayed { base, events, .. } = self;
+        let Replayed {
+            base,
+            first,
+            events,
+            ..
+        } = self;
         replay(base, events);
+        *first = first.saturating_add(events.len() as u64);
         events.clear();
     }
 

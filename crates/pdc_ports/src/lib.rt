@@ -5,11 +5,13 @@
 //! datagrams for ever without a pause, a sink may tell what it took, and a failure is counted.
 #![tactic(auto)]
 
+mod numbered;
 mod sink;
 mod source;
 mod ticker;
 
-pub use pdc_arrival::{Counts, Outcome, Refusal};
+pub use numbered::Numbered;
+pub use pdc_arrival::{Counts, MAX_PMUS, Outcome, Refusal};
 pub use sink::{MemorySink, Sink, SinkFault};
 pub use source::{Next, Source};
-pub use ticker::{Ticker, Told};
+pub use ticker::{Did, Ticker, Told};

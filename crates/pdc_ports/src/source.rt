@@ -3,6 +3,7 @@ ghost use Rattle.std.specs.Prelude.{◌≡◌, ◌≤◌, ◌<◌, ◌++◌, ◌
 ghost use Rattle.pdc_ports.specs.Failures.{HasRisen};
 ghost use Rattle.pdc_ports.specs.Heard.{Heard, heard_by};
 
+use crate::numbered::Numbered;
 use pdc_arrival::Outcome;
 
 /// What a source gives.
@@ -41,9 +42,9 @@ pub trait Source {
         ensures row { (n : ℕ) → result ≡ Next.Datagram n → row_left self.new < row_left self.old }
         ensures fault { result ≡ Next.Fault → HasRisen (failures_of self.old) (failures_of self.new) };
 
-    /// Takes how the datagram was answered that it gave last; none where it was not, for want of memory or of room in a counter, and then
-    /// nothing more is asked of it. A source that wants to know nothing of it passes it over.
-    fn answered(&mut self, _outcome: Option<Outcome>)
+    /// Takes how the datagram was answered that it gave last, with the number of its step; none where it was not, for want of memory or of
+    /// room in a counter, and then nothing more is asked of it. A source that wants to know nothing of it passes it over.
+    fn answered(&mut self, _answer: Option<Numbered<Outcome>>)
         ensures tells { (heard : List Heard) → told self.old heard → told self.new heard }
         ensures failures { failures_of self.old ≤ failures_of self.new }
         ensures row { row_left self.new ≤ row_left self.old }

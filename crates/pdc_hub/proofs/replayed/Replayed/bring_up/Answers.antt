@@ -11,7 +11,7 @@ invariant_of-self-2 g c =
     let same : c.deref.result.now ≡ old.events.items = c.deref.ensures.value in
     let follows : Replaying g.C.Core.rules (g.C.Settings.Reads.says (g.C.Core.settings_of old.base)) (g.C.Core.stands_for old.base) (g.C.Core.stands_for c.replay.new.base) old.events.items = rw (← same) c.replay.ensures.replayed in
     record {
-      replays = ∥∥₁_map old.replays (rebased g.C.Core.rules (g.C.Settings.Reads.says (g.C.Core.settings_of old.base)) (g.C.Settings.Reads.says (g.C.Core.settings_of c.replay.new.base)) g.N.Naming.given (g.C.Core.stands_for old.base) (g.C.Core.stands_for old.state) (g.C.Core.stands_for c.replay.new.base) old.events.items c.clear.new.self.items c.clear.ensures.items follows);
+      replays = ∥∥₁_map old.replays (rebased g.C.Core.rules (g.C.Settings.Reads.says (g.C.Core.settings_of old.base)) (g.C.Settings.Reads.says (g.C.Core.settings_of c.replay.new.base)) g.N.Naming.given (g.C.Core.stands_for old.base) (g.C.Core.stands_for old.state) (g.C.Core.stands_for c.replay.new.base) old.first c.saturating_add.result old.events.items c.clear.new.self.items c.saturating_add.ensures c.clear.ensures.items follows);
       base_settings = still g.N.Naming.settings (g.C.Core.settings_of old.base) (g.C.Core.settings_of c.replay.new.base) c.replay.ensures.settings old.base_settings;
       state_settings = old.state_settings;
       allowed = search rules;
