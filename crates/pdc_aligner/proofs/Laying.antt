@@ -10,7 +10,7 @@ use Rattle.pdc_life.specs.Given.{Given}
 use Rattle.pdc_life.specs.Life.{changes}
 use Rattle.pdc_pipe.specs.declared.message.Message.{Message}
 use Rattle.pdc_pipe.specs.declared.message.Message.TheVariants.{Data, Layout, End}
-use Rattle.pdc_hub.specs.Replay.{InSomeLife, Lives}
+use Rattle.pdc_hub.specs.Replay.{InSomeLife, Lives, number_in}
 use Rattle.pdc_hub.specs.declared.fault.HubFault.{HubFault}
 use Rattle.pdc_output.specs.declared.output.Output.{Output}
 use Rattle.pdc_row.specs.RowView.{RowView}
@@ -46,12 +46,12 @@ stored_on first [] last now s n = λ column. omega (arith, s column, n column)
 stored_on first (t ∷ ts) last now s n = ((λ column. omega (arith, s.0 column, n column)), s.1)
 
 -- what a tick was answered with, where a change number is what it adopted
-pub answered_with : {C : Type 0} (Stands : C → Lives) (named : Option Given) (now : ℕ) (handed stored : List ℕ) (ticked : Ticked) (adopts : Bool)
-    → ∥ InSomeLife Stands named (λ state g E. ticked ≡ ticked_of (changes E) (tick_answer g E now handed)) ∥₁ → stored ≡ handed → adopts ≡ is_some ticked.change
+pub answered_with : {C : Type 0} (Stands : C → Lives) (named : Option Given) (now : ℕ) (handed stored : List ℕ) (ticked : Ticked) (step : ℕ) (adopts : Bool)
+    → ∥ InSomeLife Stands named (λ state g E. (ticked ≡ ticked_of (changes E) (tick_answer g E now handed)) × (step ≡ number_in E)) ∥₁ → stored ≡ handed → adopts ≡ is_some ticked.change
     → IsAnswered Stands named (turn_at now stored adopts)
-answered_with Stands named now handed stored ticked adopts h e a =
+answered_with Stands named now handed stored ticked step adopts h e a =
     subst (λ (counts : List ℕ). IsAnswered Stands named (turn_at now counts adopts)) (sym e)
-    (∥∥₁_map h (λ x. record { core = x.core; given = x.given; is_named = x.is_named; life = x.life; stands = x.stands; fact = a ∙ ap (λ t. is_some t.change) x.fact }))
+    (∥∥₁_map h (λ x. record { core = x.core; given = x.given; is_named = x.is_named; life = x.life; stands = x.stands; fact = a ∙ ap (λ t. is_some t.change) x.fact.0 }))
 
 -- a ticker that gave one more, and one that gave none
 pub given_on : {K : Type 0} (gave : K → List ℕ → Type 0) (old middle new : K) (nows : List ℕ) (now : ℕ) → HasGiven gave old middle nows

@@ -9,16 +9,22 @@ use Rattle.pdc_row.specs.declared.due_row.DueRow.{DueRow}
 use Rattle.pdc_tag.specs.declared.limits.TheConstants.{SECONDS}
 use Rattle.pdc_hub.specs.Replay.{InSomeLife, Lives}
 use Rattle.pdc_pipe.specs.Layout.{IsOfSomeLayout}
+use Rattle.pdc_ports.specs.declared.numbered.Numbered.{Numbered}
 use Rattle.pdc_aligner.specs.Rate.{IsAtRate}
 
--- what is popped in some life can be tagged at the rate of what is named
-pub all_tagged : {C E : Type 0} (Stands : C → Lives) (named : Option Given) (Fact : Option DueRow → C → Given → List Entry → Type 0) (rate : ℕ) (r : Result (Option DueRow) E)
-    → IfOk r (λ row. ∥ InSomeLife Stands named (Fact row) ∥₁)
-    → IfOk r (λ popped. IfSome popped (λ row. (g : Given) → named ≡ Some g → row.instant < SECONDS * g.output.rate))
-    → IsAtRate named rate → IfOk r (λ popped. IfSome popped (λ row. row.instant < SECONDS * rate))
-all_tagged Stands named Fact rate (Ok None) some tagged is = tt
-all_tagged Stands named Fact rate (Ok (Some row)) some tagged is =
+tagged_so : {C : Type 0} (Stands : C → Lives) (named : Option Given) (Fact : C → Given → List Entry → Type 0) (rate : ℕ) (popped : Option DueRow)
+    → ∥ InSomeLife Stands named Fact ∥₁ → IfSome popped (λ row. (g : Given) → named ≡ Some g → row.instant < SECONDS * g.output.rate)
+    → IsAtRate named rate → IfSome popped (λ row. row.instant < SECONDS * rate)
+tagged_so Stands named Fact rate None some tagged is = tt
+tagged_so Stands named Fact rate (Some row) some tagged is =
     ∥∥₁_elim some (search props) (λ x. subst (λ (n : ℕ). row.instant < SECONDS * n) (is.at x.given x.is_named) (tagged x.given x.is_named))
+
+-- what is popped in some life can be tagged at the rate of what is named
+pub all_tagged : {C E : Type 0} (Stands : C → Lives) (named : Option Given) (Fact : Numbered {0} (Option DueRow) → C → Given → List Entry → Type 0) (rate : ℕ) (r : Result (Numbered {0} (Option DueRow)) E)
+    → IfOk r (λ numbered. ∥ InSomeLife Stands named (Fact numbered) ∥₁)
+    → IfOk r (λ numbered. IfSome numbered.answer (λ row. (g : Given) → named ≡ Some g → row.instant < SECONDS * g.output.rate))
+    → IsAtRate named rate → IfOk r (λ numbered. IfSome numbered.answer (λ row. row.instant < SECONDS * rate))
+all_tagged Stands named Fact rate (Ok numbered) some tagged is = tagged_so Stands named (Fact numbered) rate numbered.answer some tagged is
 all_tagged Stands named Fact rate (Err e) some tagged is = tt
 
 -- bytes that were appended to none are of some layout

@@ -21,11 +21,38 @@ use pdc_core::Core;
 use pdc_hub::{Hub, HubFault, Naming};
 use pdc_mark::Mark;
 use pdc_pipe::{Log, Message, Sender, close};
-use pdc_ports::{Ticker, Told};
+use pdc_align::Ticked;
+use pdc_ports::{Did, MAX_PMUS, Numbered, Ticker, Told};
 use pdc_publisher::Publisher;
 use std::alloc::Global;
 use std::sync::Wait;
 use std::sync::ledger::{Ledger, Share};
+
+/// Tells the ticker of a tick.
+fn note_tick<K: Ticker>(
+    ticker: &mut K,
+    now: u64,
+    counts: &[u16; MAX_PMUS],
+    ticked: &Numbered<Ticked>,
+)
+    ensures { (nows : List ℕ) → K.gave ticker.old nows → K.gave ticker.new nows }
+{
+    let Ticked {
+        closed,
+        change,
+        used_up,
+    } = ticked.answer;
+    ticker.note(
+        ticked.step,
+        &Did::Ticked {
+            now,
+            counts,
+            closed,
+            change,
+            used_up,
+        },
+    );
+}
 
 /// One tick: first the mark is raised, and after it all due rows go out, and then the layout, where the tick adopted or it is to be
 /// repeated. Whether the tick adopted.
@@ -37,6 +64,7 @@ fn turn<
     G: Ledger,
     P: Ledger,
     M: Mark,
+    K: Ticker,
     R: Wait,
 >(
     rt: &R,
@@ -44,6 +72,7 @@ fn turn<
     hub: &Hub<C, N, T, F, G, P>,
     top: &mut Share<P>,
     publisher: &mut Publisher<M>,
+    ticker: &mut K,
     sender: &Sender,
     pass: &mut Pass<Message, Log>,
     now: u64,
@@ -69,17 +98,20 @@ fn turn<
     ensures out { OnOk result (last_in publisher.new ≡ top.new.amount) }
     ensures causes { IfErr result IsOfAligner }
     ensures device { HasDevice (standing_of publisher.old) (standing_of publisher.new) result }
+    ensures gave { (nows : List ℕ) → K.gave ticker.old nows → K.gave ticker.new nows }
 {
     let ticked = match tick_cleared(rt, hub, publisher, now) {
         Ok(ticked) => ticked,
         Err(fault) => return Err(fault),
     };
-    if let Err(fault) = publish_due(rt, hub, top, publisher, sender, pass, published) {
-        return Err(fault);
-    }
-    let adopted = ticked.change.is_some();
+    note_tick(ticker, now, &publisher.counts(), &ticked);
+    let step = match publish_due(rt, hub, top, publisher, ticker, sender, pass, published) {
+        Ok(step) => step,
+        Err(fault) => return Err(fault),
+    };
+    let adopted = ticked.answer.change.is_some();
     let is_wanted = adopted || repeat;
-    match put_layout_where(rt, alloc, hub, soc, is_wanted, sender, pass) {
+    match put_layout_where(rt, alloc, ticker, step, hub, soc, is_wanted, sender, pass) {
         Ok(()) => Ok(adopted),
         Err(fault) => Err(fault),
     }
@@ -179,6 +211,7 @@ fn turns<
             hub,
             top,
             publisher,
+            ticker,
             sender,
             pass,
             now,

@@ -6,12 +6,13 @@ ghost use Rattle.pdc_aligner.specs.Turns.{NoneFalls};
 ghost use Rattle.pdc_life.specs.Answer.{tick_answer};
 ghost use Rattle.pdc_life.specs.Life.{changes};
 ghost use Rattle.pdc_publisher.specs.Publisher.{last_in, mark_in, output_in};
-ghost use Rattle.pdc_hub.specs.Replay.{InSomeLife};
+ghost use Rattle.pdc_hub.specs.Replay.{InSomeLife, number_in};
 
 use pdc_align::Ticked;
 use pdc_core::Core;
 use pdc_hub::{Hub, HubFault, Naming};
 use pdc_mark::{COUNTS, Mark, raised};
+use pdc_ports::Numbered;
 use pdc_publisher::Publisher;
 use std::sync::Wait;
 use std::sync::ledger::Ledger;
@@ -58,10 +59,10 @@ pub fn tick_cleared<
     hub: &Hub<C, N, T, F, G, P>,
     publisher: &mut Publisher<M>,
     now: u64,
-) -> Result<Ticked, HubFault>
-    // The tick was handed the counts that are stored.
-    ensures stored { IfOk result (λ ticked. ∥ InSomeLife C.stands_for N.given (λ state g E.
-        ticked ≡ ticked_of (changes E) (tick_answer g E now (M.stored (mark_in publisher.new)).counts)) ∥₁) }
+) -> Result<Numbered<Ticked>, HubFault>
+    // The tick was handed the counts that are stored, and its answer bears its number.
+    ensures stored { IfOk result (λ numbered. ∥ InSomeLife C.stands_for N.given (λ state g E.
+        (numbered.answer ≡ ticked_of (changes E) (tick_answer g E now (M.stored (mark_in publisher.new)).counts)) × (numbered.step ≡ number_in E)) ∥₁) }
     // No stored count falls.
     ensures none_falls { NoneFalls (M.stored (mark_in publisher.old)).counts (M.stored (mark_in publisher.new)).counts }
     ensures floor { (M.stored (mark_in publisher.new)).floor ≡ (M.stored (mark_in publisher.old)).floor }

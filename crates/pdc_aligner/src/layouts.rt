@@ -1,5 +1,5 @@
 //! Layouts are put on the channel.
-ghost use Rattle.std.specs.Prelude.{◌≡◌, IfErr, IfOk, OnErr, OnOk, [], false, true};
+ghost use Rattle.std.specs.Prelude.{◌≡◌, ℕ, IfErr, IfOk, List, OnErr, OnOk, [], false, true};
 ghost use Rattle.crossbeam_channel.specs.Claims.{IsSeatAt, view};
 ghost use Rattle.crossbeam_channel.specs.Ends.{sends_on};
 ghost use Rattle.pdc_aligner.specs.Device.{IsOfLayout};
@@ -14,6 +14,7 @@ use crossbeam_channel::Pass;
 use pdc_core::Core;
 use pdc_hub::{Hub, HubFault, Naming};
 use pdc_pipe::{LayoutFrame, Log, Message, Sender, put};
+use pdc_ports::{Did, Ticker};
 use std::alloc::Global;
 use std::sync::Wait;
 use std::sync::ledger::Ledger;
@@ -45,7 +46,7 @@ fn layout_of<
     Ok(LayoutFrame { bytes })
 }
 
-/// Puts the frame of the layout in force on the channel.
+/// Puts the frame of the layout in force on the channel, after the step with this number. The ticker is told of it.
 fn put_layout<
     C: Core + Drop,
     N: Naming<C::Settings>,
@@ -53,10 +54,13 @@ fn put_layout<
     F: Ledger,
     G: Ledger,
     P: Ledger,
+    K: Ticker,
     R: Wait,
 >(
     rt: &R,
     alloc: Global,
+    ticker: &mut K,
+    step: u64,
     hub: &Hub<C, N, T, F, G, P>,
     soc: u32,
     sender: &Sender,
@@ -68,18 +72,20 @@ fn put_layout<
     ensures err { OnErr result ((view pass.new).put ≡ (view pass.old).put) }
     ensures instants { instants_of (view pass.new).put ≡ instants_of (view pass.old).put }
     ensures causes { IfErr result IsOfLayout }
+    ensures gave { (nows : List ℕ) → K.gave ticker.old nows → K.gave ticker.new nows }
 {
     let frame = match layout_of(rt, alloc, hub, soc) {
         Ok(frame) => frame,
         Err(fault) => return Err(fault),
     };
+    ticker.note(step, &Did::Laid(frame.bytes.as_slice()));
     if !put(rt, sender, pass, Message::Layout(frame)) {
         return Err(HubFault::Stuck);
     }
     Ok(())
 }
 
-/// Puts the frame of the layout in force on the channel, where it is wanted.
+/// Puts the frame of the layout in force on the channel, where it is wanted, after the step with this number. The ticker is told of it.
 pub fn put_layout_where<
     C: Core + Drop,
     N: Naming<C::Settings>,
@@ -87,10 +93,13 @@ pub fn put_layout_where<
     F: Ledger,
     G: Ledger,
     P: Ledger,
+    K: Ticker,
     R: Wait,
 >(
     rt: &R,
     alloc: Global,
+    ticker: &mut K,
+    step: u64,
     hub: &Hub<C, N, T, F, G, P>,
     soc: u32,
     is_wanted: bool,
@@ -103,9 +112,10 @@ pub fn put_layout_where<
     ensures err { OnErr result ((view pass.new).put ≡ (view pass.old).put) }
     ensures instants { instants_of (view pass.new).put ≡ instants_of (view pass.old).put }
     ensures causes { IfErr result IsOfLayout }
+    ensures gave { (nows : List ℕ) → K.gave ticker.old nows → K.gave ticker.new nows }
 {
     if !is_wanted {
         return Ok(());
     }
-    put_layout(rt, alloc, hub, soc, sender, pass)
+    put_layout(rt, alloc, ticker, step, hub, soc, sender, pass)
 }

@@ -5,7 +5,7 @@ use crate::journal::Journal;
 use crate::spell::{LONG, Spell};
 use crate::tally::Tally;
 use crate::watchers::Watchers;
-use pdc_ports::{Next, Outcome, Refusal, Source};
+use pdc_ports::{Next, Numbered, Outcome, Refusal, Source};
 use std::alloc::{AllocError, Global};
 use std::rt::Clock;
 use std::sync::Wait;
@@ -156,10 +156,10 @@ impl<'a, S: Source + Drop, R: Wait + Clock> Source for ObservedSource<'a, S, R> 
         next
     }
 
-    fn answered(&mut self, outcome: Option<Outcome>) {
+    fn answered(&mut self, answer: Option<Numbered<Outcome>>) {
         let (rt, alloc, journal, tally) = (self.rt, self.alloc, self.journal, self.tally);
-        self.inner.answered(outcome);
-        let Some(outcome) = outcome else {
+        self.inner.answered(answer);
+        let Some(Numbered { answer: outcome, .. }) = answer else {
             journal.tell(
                 rt,
                 ended_text(

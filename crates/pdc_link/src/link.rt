@@ -3,7 +3,7 @@ ghost use Rattle.std.specs.Prelude.{◌≡◌, ◌≤◌, ◌<◌, ℕ, length};
 
 use crate::connection::Connection;
 use crate::port::Port;
-use pdc_ports::{Next, Outcome, Source};
+use pdc_ports::{Next, Numbered, Outcome, Source};
 use std::net::{Net, TcpListener, TcpStream};
 use std::rt::Clock;
 use std::sync::Wait;
@@ -96,7 +96,8 @@ impl<'a, R: Net<Listener = TcpListener, Stream = TcpStream> + Clock + Wait> Sour
         next
     }
 
-    fn answered(&mut self, outcome: Option<Outcome>) {
+    fn answered(&mut self, answer: Option<Numbered<Outcome>>) {
+        let outcome = answer.map(|numbered| numbered.answer);
         match &mut self.way {
             Way::Port(port) => port.answered(outcome),
             Way::Connection(connection) => connection.answered(outcome),

@@ -216,7 +216,7 @@ impl<
         }
     }
 
-    fn answered(&mut self, _outcome: Option<Outcome>) {}
+    fn answered(&mut self, _answer: Option<Numbered<Outcome>>) {}
 
     fn failures(&self) -> u64 {
         self.failures

@@ -34,9 +34,10 @@ pub returns-in-Err-clause-turned : goal.returns-in-Err-clause-turned
 returns-in-Err-clause-turned g c =
     turned_in_part g.C.Core.stands_for g.N.Naming.given (output_in c.args.publisher.now) c.args.pace.now.rate c.args.pace.now.layout_every (g.M.Mark.stored (mark_in c.args.publisher.now)).counts
     (g.M.Mark.stored (mark_in c.loop.publisher)).counts (g.M.Mark.stored (mark_in c.turn.new.publisher)).counts
-    (HasGiven g.K.Ticker.gave c.args.ticker.now c.loop.ticker) (HasGiven g.K.Ticker.gave c.args.ticker.now c.next-in-loop.new.self) (view c.loop.pass).put (view c.turn.new.pass).put
+    (HasGiven g.K.Ticker.gave c.args.ticker.now c.loop.ticker) (HasGiven g.K.Ticker.gave c.args.ticker.now c.turn.new.ticker) (view c.loop.pass).put (view c.turn.new.pass).put
     c.loop.adopted c.loop.place c.in-Some-next.now c.in-Err.fault c.loop.invariant.9 c.turn.ensures.none_falls
-    (λ nows h. given_on g.K.Ticker.gave c.args.ticker.now c.loop.ticker c.next-in-loop.new.self nows c.in-Some-next.now h c.in-Some-next.ensures.some)
+    (λ nows h. given_same g.K.Ticker.gave c.args.ticker.now c.next-in-loop.new.self c.turn.new.ticker (nows ++ c.in-Some-next.now ∷ [])
+    (given_on g.K.Ticker.gave c.args.ticker.now c.loop.ticker c.next-in-loop.new.self nows c.in-Some-next.now h c.in-Some-next.ensures.some) c.turn.ensures.gave)
     (subst (λ (o : Output). HasPutData {C = g.row.C.Denot} g.C.Core.stands_for g.N.Naming.given o (view c.loop.pass).put (view c.turn.new.pass).put) c.loop.invariant.5 c.in-Err.ensures.failed)
 
 pub loop-preserved : goal.loop-preserved
@@ -47,7 +48,8 @@ loop-preserved g c =
     let laid = subst (λ (o : Output). HasPut {C = g.row.C.Denot} g.C.Core.stands_for g.N.Naming.given o c.second_of-soc.result (c.in-Ok.adopts || c.if-adopted.repeat) (view c.loop.pass).put (view c.turn.new.pass).put) c.loop.invariant.5 c.in-Ok.ensures.laid in
     let gives : (nows : List ℕ) → HasGiven g.K.Ticker.gave c.args.ticker.now c.loop.ticker nows → HasGiven g.K.Ticker.gave c.args.ticker.now c.tell.new.ticker (nows ++ c.in-Some-next.now ∷ []) =
     λ nows h. given_same g.K.Ticker.gave c.args.ticker.now c.next-in-loop.new.self c.tell.new.ticker (nows ++ c.in-Some-next.now ∷ [])
-    (given_on g.K.Ticker.gave c.args.ticker.now c.loop.ticker c.next-in-loop.new.self nows c.in-Some-next.now h c.in-Some-next.ensures.some) c.tell.ensures in (
+    (given_on g.K.Ticker.gave c.args.ticker.now c.loop.ticker c.next-in-loop.new.self nows c.in-Some-next.now h c.in-Some-next.ensures.some)
+    (λ ns x. c.tell.ensures ns (c.turn.ensures.gave ns x)) in (
       search rules,
       search rules,
       search rules,

@@ -1,4 +1,4 @@
-use Rattle.std.proofs.Common.{◌≡◌, ◌≤◌, true, false, [], ℕ}
+use Rattle.std.proofs.Common.{◌≡◌, ◌≤◌, true, false, List, [], ℕ}
 use Rattle.crossbeam_channel.specs.Claims.{view, IsSeatAt}
 use Rattle.crossbeam_channel.specs.Ends.{sends_on}
 use Rattle.pdc_pipe.specs.Pipe.{log}
@@ -19,3 +19,4 @@ invariant-loop g l =
     × HasPutData {C = g.row.C.Denot} g.C.Core.stands_for g.N.Naming.given (output_in l.initial.publisher) (view l.initial.pass).put (view l.pass).put
     × ((g.M.Mark.stored (mark_in l.publisher)).counts ≡ (g.M.Mark.stored (mark_in l.initial.publisher)).counts)
     × IsSound (standing_of l.initial.publisher) (standing_of l.publisher)
+    × ((nows : List ℕ) → g.K.Ticker.gave l.initial.ticker nows → g.K.Ticker.gave l.ticker nows)
