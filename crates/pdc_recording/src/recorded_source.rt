@@ -1,0 +1,108 @@
+//! A source whose datagrams are recorded.
+ghost use Rattle.std.specs.Prelude.{◌≡◌, ◌≤◌, ◌<◌, ℕ, length};
+
+use crate::recording::Recording;
+use crate::time::nanoseconds_now;
+use pdc_ports::{Next, Numbered, Outcome, Source};
+use pdc_record::{Entry, What};
+use std::alloc::Global;
+use std::rt::Clock;
+use std::sync::Wait;
+
+/// A stream that is recorded: what came last of it, until it is answered.
+#[derive(Drop)]
+struct Recorded<'a> {
+    recording: &'a Recording,
+    stream: u16,
+    /// When the last datagram came.
+    time: u64,
+    /// Its bytes.
+    datagram: Vec<u8>,
+}
+
+/// Gives what the inner source gives. Where the life is recorded, it notes each datagram with the time at which it came, once it is
+/// answered.
+#[derive(Drop)]
+pub struct RecordedSource<'a, S: Source + Drop, R: Wait + Clock> {
+    rt: &'a R,
+    inner: S,
+    recorded: Option<Recorded<'a>>,
+}
+
+impl<'a, S: Source + Drop, R: Wait + Clock> RecordedSource<'a, S, R> {
+    /// Records the stream with this number, counted from 0, where the life is recorded.
+    pub fn new(
+        rt: &'a R,
+        alloc: Global,
+        recording: Option<&'a Recording>,
+        stream: u16,
+        inner: S,
+    ) -> RecordedSource<'a, S, R> {
+        let recorded = recording.map(|recording| Recorded {
+            recording,
+            stream,
+            time: 0,
+            datagram: Vec::new(alloc),
+        });
+        RecordedSource { rt, inner, recorded }
+    }
+}
+
+/// Keeps a datagram that came.
+fn keep<R: Clock>(rt: &R, recorded: &mut Recorded<'_>, bytes: &[u8]) {
+    recorded.time = nanoseconds_now(rt);
+    recorded.datagram.clear();
+    if recorded.datagram.extend_from_slice(bytes).is_err() {
+        recorded.datagram.clear();
+    }
+}
+
+/// Notes the datagram that was kept, with its answer.
+fn note<R: Wait>(rt: &R, recorded: &Recorded<'_>, answer: Option<Numbered<Outcome>>) {
+    let datagram = recorded.datagram.as_slice();
+    let stream = recorded.stream;
+    let entry = match answer {
+        Some(Numbered { step, answer }) => Entry {
+            step,
+            time: recorded.time,
+            what: What::Arrived {
+                stream,
+                outcome: answer,
+                datagram,
+            },
+        },
+        None => Entry {
+            step: 0,
+            time: recorded.time,
+            what: What::Unanswered { stream, datagram },
+        },
+    };
+    recorded.recording.note(rt, &entry);
+}
+
+impl<'a, S: Source + Drop, R: Wait + Clock> Source for RecordedSource<'a, S, R> {
+    ghost told = { λ s heard. S.told s.inner heard };
+
+    ghost failures_of = { λ s. S.failures_of s.inner };
+
+    ghost row_left = { λ s. S.row_left s.inner };
+
+    fn next(&mut self, buffer: &mut [u8]) -> Next {
+        let next = self.inner.next(buffer);
+        if let (Next::Datagram(len), Some(recorded)) = (next, &mut self.recorded) {
+            keep(self.rt, recorded, &buffer[..len]);
+        }
+        next
+    }
+
+    fn answered(&mut self, answer: Option<Numbered<Outcome>>) {
+        self.inner.answered(answer);
+        if let Some(recorded) = &self.recorded {
+            note(self.rt, recorded, answer);
+        }
+    }
+
+    fn failures(&self) -> u64 {
+        self.inner.failures()
+    }
+}

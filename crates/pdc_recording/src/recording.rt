@@ -1,0 +1,121 @@
+//! Entries on their way to a record.
+
+use circular_buffer::HeapCircularBuffer;
+use pdc_record::{Entry, What, entry_len, write_entry};
+use std::alloc::{AllocError, Global};
+use std::sync::{Mutex, Wait};
+
+/// How many entries wait at most.
+const MOST_WAITING: usize = 16384;
+
+/// Where an entry belongs.
+#[derive(Clone, Copy, Debug, PartialEq, Eq)]
+pub enum Place {
+    /// It is the step with this number.
+    Step(u64),
+    /// It comes behind the step with this number, and before the next one.
+    Behind(u64),
+    /// Anywhere.
+    Anywhere,
+}
+
+/// An entry that waits to be written.
+#[derive(Drop)]
+pub struct Waiting {
+    /// Where it belongs.
+    pub place: Place,
+    /// Its bytes.
+    pub bytes: Vec<u8>,
+}
+
+/// What comes out of a recording next.
+#[derive(Drop)]
+pub enum Turn {
+    /// The entry that waits longest.
+    Entry(Waiting),
+    /// None waits.
+    Nothing,
+    /// None waits, and none will come.
+    End,
+}
+
+/// The entries that wait.
+#[derive(Drop)]
+struct Queue {
+    waiting: HeapCircularBuffer<Waiting>,
+    is_closed: bool,
+}
+
+/// The entries of a life that are to be written down. Whoever notes one waits for nothing but a short lock. At most 16384 wait; what does
+/// not fit is lacking in the record.
+#[derive(Drop)]
+pub struct Recording {
+    alloc: Global,
+    queue: Mutex<Queue>,
+}
+
+/// Where an entry belongs.
+fn place_of(entry: &Entry<'_>) -> Place {
+    match entry.what {
+        What::Arrived { .. } | What::Ticked { .. } | What::FoundNone | What::Popped { .. } => {
+            Place::Step(entry.step)
+        }
+        What::Laid { .. } => Place::Behind(entry.step),
+        What::Begun(_) | What::Unanswered { .. } | What::Missing { .. } => Place::Anywhere,
+    }
+}
+
+/// The bytes of an entry.
+fn bytes_of(alloc: Global, entry: &Entry<'_>) -> Option<Vec<u8>> {
+    let mut bytes = Vec::with_capacity(alloc, entry_len(entry)).ok()?;
+    match write_entry(entry, &mut bytes) {
+        Ok(()) => Some(bytes),
+        Err(_) => None,
+    }
+}
+
+impl Recording {
+    /// No entry waits yet.
+    ///
+    /// # Errors
+    ///
+    /// [`AllocError`] where there is no memory for the queue.
+    pub fn new(alloc: Global) -> Result<Recording, AllocError> {
+        let queue = Queue {
+            waiting: HeapCircularBuffer::with_capacity(alloc, MOST_WAITING)?,
+            is_closed: false,
+        };
+        Ok(Recording {
+            alloc,
+            queue: Mutex::new(queue),
+        })
+    }
+
+    /// Notes an entry. Where the queue is full, or there is no memory, it is passed over.
+    pub fn note<R: Wait>(&self, rt: &R, entry: &Entry<'_>) {
+        let Some(bytes) = bytes_of(self.alloc, entry) else {
+            return;
+        };
+        let waiting = Waiting {
+            place: place_of(entry),
+            bytes,
+        };
+        let mut queue = self.queue.lock(rt);
+        let _put = queue.waiting.try_push_back(waiting);
+    }
+
+    /// No more entries will be noted.
+    pub fn close<R: Wait>(&self, rt: &R) {
+        self.queue.lock(rt).is_closed = true;
+    }
+
+    /// What comes out next.
+    pub fn turn<R: Wait>(&self, rt: &R) -> Turn {
+        let mut queue = self.queue.lock(rt);
+        match queue.waiting.pop_front() {
+            Some(waiting) => Turn::Entry(waiting),
+            None if queue.is_closed => Turn::End,
+            None => Turn::Nothing,
+        }
+    }
+}
