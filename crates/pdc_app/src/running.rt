@@ -3,7 +3,9 @@
 use crate::DONE;
 use crate::loading::report_load;
 use pdc_command_line::Running;
-use pdc_service::{Files, Host, RunOptions, ServiceFault, serve_merger, serve_node};
+use pdc_service::{
+    Files, Host, Limits, RecordFile, RunOptions, ServiceFault, serve_merger, serve_node,
+};
 use pdc_threads::Totals;
 use std::io;
 
@@ -42,6 +44,10 @@ fn report_fault(
             let settings = request.settings;
             eprintln!(rt; "pdc {command}: {settings}: where stream {id} is asked for: {error}")?
         }
+        ServiceFault::Record(error) => {
+            let name = request.record.map_or("", |record| record.name);
+            eprintln!(rt; "pdc {command}: the first file of the record {name}: {error}")?
+        }
         ServiceFault::Run(_) => eprintln!(rt; "pdc {command}: the run ended early")?,
         ServiceFault::Clock => eprintln!(rt; "pdc {command}: the clock cannot be read")?,
     }
@@ -61,11 +67,21 @@ fn report_run<R: Print + Eprint>(
     }
 }
 
+/// The bytes of a mebibyte.
+const MEBIBYTE: u64 = 1048576;
+
 /// The files that a command names.
 fn files_of<'a>(request: &Running<'a>) -> Files<'a> {
     Files {
         settings: request.settings,
         mark: request.mark,
+        record: request.record.map(|record| RecordFile {
+            name: record.name,
+            limits: Limits {
+                size: u64::from(record.size) * MEBIBYTE,
+                keep: record.keep,
+            },
+        }),
     }
 }
 

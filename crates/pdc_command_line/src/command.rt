@@ -30,6 +30,10 @@ const EXAMPLES: &str = "Examples:
   pdc watch a.toml b.toml m.toml
                               show the pair on a page: a program of its own,
                               which is installed as pdc-watch
+  pdc replay a.record.*       play a record of a run again, and compare
+  pdc explain a.record.* 2026-11-24T12:03:04.580Z
+                              tell what became of each PMU at an instant: both
+                              in a program of their own, installed as pdc-record
   pdc help show               tell more of a command
 
 Exit status: 0 done, 1 refused input, 2 wrong arguments, 3 a device failed or memory ran out";

@@ -13,6 +13,12 @@ pub const MAX_RATE: u16 = 240;
 /// The most places that a simulated PMU sends to.
 pub const MAX_PLACES: usize = 16;
 
+/// The most mebibytes of a file of a record.
+pub const MAX_RECORD_SIZE: u32 = 65536;
+
+/// How many mebibytes it has where nothing is said.
+pub const RECORD_SIZE: u32 = 64;
+
 /// The most seconds from one line of counters, or one configuration, to the next: a day.
 pub const MAX_SECONDS: u32 = 86400;
 
@@ -96,6 +102,19 @@ pub struct Running<'a> {
     pub every: Option<u32>,
     /// Whether faults alone are told, and counters where they are asked for.
     pub is_quiet: bool,
+    /// Where it is recorded, if it is.
+    pub record: Option<Record<'a>>,
+}
+
+/// The record of a run that is to be written.
+#[derive(Clone, Copy, Debug)]
+pub struct Record<'a> {
+    /// What the names of its files begin with.
+    pub name: &'a str,
+    /// How many mebibytes a file has at most, 1 to 65536.
+    pub size: u32,
+    /// How many files stay, at least 1; where there is none, all do.
+    pub keep: Option<u32>,
 }
 
 /// A UDP port that is to be listened at.

@@ -1,7 +1,7 @@
 //! The commands `node` and `merge`.
 
 use crate::number::number;
-use crate::request::{MAX_SECONDS, Running};
+use crate::request::{MAX_RECORD_SIZE, MAX_SECONDS, RECORD_SIZE, Record, Running};
 use crate::words::{Form, Wanted, command_with, out_of_range};
 use clap::{ArgMatches, Command, Error};
 use std::alloc::{AllocError, Global};
@@ -30,11 +30,16 @@ then: the same as at the end, the instant that was published last, how many fram
 many datagrams each cause refused, in all and of each PMU. A reader that stops holds nothing up: lines are
 dropped then, and their number is told.
 
+With --record it writes down each datagram with its time and its answer, each tick, and each frame that goes out,
+for `pdc replay`, which checks them, and `pdc explain`, which tells why a block is absent. START is the number of the
+life, one more at each run, so that no file is written over. The run does not wait for the disk: where that is too slow,
+the record has a gap, and a line tells it.
+
 Consumers ask for its header, configuration and data over TCP at `session_port`, by the commands of the standard.
 
 Faults, on standard error, with status 1: S1 Toml, S2 Range and S3 DoubledId of the settings; M1 NoMark,
 M2 Damaged, M3 OtherOwner, M5 StartsUsedUp and M6 OldMark of the mark. With status 3: `device fault` where
-a file or a port cannot be opened, where another process has the mark, and where the clock cannot be read; and
+a file or a port cannot be opened, where another process has the mark, where a file of the record is there already, and where the clock cannot be read; and
 what stops a run: H1 SourceFault, H2 SinkFault, H3 NoMemory, M4 Device. A frame that the system does not send is
 lost for its reader alone: it is counted, and the run goes on.
 
@@ -65,7 +70,7 @@ pub enum Concentrator {
 }
 
 /// What both want.
-const WANTED: [Wanted<'static>; 5] = [
+const WANTED: [Wanted<'static>; 8] = [
     Wanted("SETTINGS", Form::Word, "The settings file"),
     Wanted("MARK", Form::Word, "The mark file"),
     Wanted(
@@ -82,6 +87,21 @@ const WANTED: [Wanted<'static>; 5] = [
         "quiet",
         Form::Flag,
         "Tell faults alone on standard error, and counters where --every asks for them",
+    ),
+    Wanted(
+        "record",
+        Form::Option("FILE"),
+        "Write down what happens, to FILE.START.000001 and files that follow it",
+    ),
+    Wanted(
+        "record-size",
+        Form::Option("MEBIBYTES"),
+        "How large a file of the record grows, 1 to 65536; left out, 64",
+    ),
+    Wanted(
+        "record-keep",
+        Form::Option("FILES"),
+        "How many files of the record stay, the last ones; left out, all",
     ),
 ];
 
@@ -110,11 +130,54 @@ fn command<'a>(alloc: Global, asked: Concentrator) -> Result<Command<'a>, AllocE
     }
 }
 
+/// The number of a word that may be left out, as it is shown in the help, from 1 to the most.
+fn optional_number(
+    alloc: Global,
+    asked: Concentrator,
+    text: Option<&str>,
+    shown: &'static str,
+    most: u32,
+) -> Result<Option<u32>, Error> {
+    let Some(text) = text else {
+        return Ok(None);
+    };
+    match number(text, 1, most) {
+        Some(number) => Ok(Some(number)),
+        None => Err(out_of_range(
+            alloc,
+            command(alloc, asked)?,
+            shown,
+            text,
+            most,
+        )?),
+    }
+}
+
+/// The record that is asked for.
+fn record_of<'a>(
+    alloc: Global,
+    asked: Concentrator,
+    matches: &ArgMatches<'a>,
+) -> Result<Option<Record<'a>>, Error> {
+    let size = matches.get_str("record-size");
+    let size = optional_number(alloc, asked, size, "--record-size <MEBIBYTES>", MAX_RECORD_SIZE)?;
+    let keep = matches.get_str("record-keep");
+    let keep = optional_number(alloc, asked, keep, "--record-keep <FILES>", u32::MAX)?;
+    match matches.get_str("record") {
+        Some(name) => Ok(Some(Record {
+            name,
+            size: size.unwrap_or(RECORD_SIZE),
+            keep,
+        })),
+        None => Ok(None),
+    }
+}
+
 /// What is asked by these words; `None` where one is missing, which the parser refuses before.
 ///
 /// # Errors
 ///
-/// TICKS or SECONDS is no number, or out of its range.
+/// A number is none, or out of its range.
 pub fn running_request<'a>(
     alloc: Global,
     asked: Concentrator,
@@ -123,39 +186,16 @@ pub fn running_request<'a>(
     let (Some(settings), Some(mark)) = (matches.get_str("SETTINGS"), matches.get_str("MARK")) else {
         return Ok(None);
     };
-    let ticks = match matches.get_str("TICKS") {
-        None => None,
-        Some(text) => match number(text, 1, u32::MAX) {
-            Some(ticks) => Some(ticks),
-            None => return Err(out_of_range(
-                alloc,
-                command(alloc, asked)?,
-                "[TICKS]",
-                text,
-                u32::MAX,
-            )?),
-        },
-    };
-    let every = match matches.get_str("every") {
-        None => None,
-        Some(text) => match number(text, 1, MAX_SECONDS) {
-            Some(seconds) => Some(seconds),
-            None => {
-                return Err(out_of_range(
-                    alloc,
-                    command(alloc, asked)?,
-                    "--every <SECONDS>",
-                    text,
-                    MAX_SECONDS,
-                )?);
-            }
-        },
-    };
+    let ticks = matches.get_str("TICKS");
+    let ticks = optional_number(alloc, asked, ticks, "[TICKS]", u32::MAX)?;
+    let every = matches.get_str("every");
+    let every = optional_number(alloc, asked, every, "--every <SECONDS>", MAX_SECONDS)?;
     Ok(Some(Running {
         settings,
         mark,
         ticks,
         every,
         is_quiet: matches.get_flag("quiet"),
+        record: record_of(alloc, asked, matches)?,
     }))
 }

@@ -21,4 +21,5 @@ pub use recorded_source::RecordedSource;
 pub use recorded_ticker::RecordedTicker;
 pub use recording::Recording;
 pub use series::{Limits, Series};
+pub use time::nanoseconds_now;
 pub use writing::write_record;

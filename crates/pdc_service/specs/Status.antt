@@ -5,7 +5,7 @@ use Rattle.pdc_settings.specs.declared.fault.SettingsFault.TheVariants.{Toml, Ra
 use Rattle.pdc_service.specs.declared.fault.LoadFault.{LoadFault}
 use Rattle.pdc_service.specs.declared.fault.LoadFault.TheVariants.{Unread, Refused}
 use Rattle.pdc_service.specs.declared.fault.ServiceFault.{ServiceFault}
-use Rattle.pdc_service.specs.declared.fault.ServiceFault.TheVariants.{Settings, MarkUnopened, MarkInUse, Mark, Port, Output, Input, Run, Clock}
+use Rattle.pdc_service.specs.declared.fault.ServiceFault.TheVariants.{Settings, MarkUnopened, MarkInUse, Mark, Port, Output, Input, Record, Run, Clock}
 
 -- of a settings file
 abbrev pub status_of_load : LoadFault → ℕ
@@ -29,5 +29,6 @@ status_of (Mark OldMark) = 1
 status_of (Port port error) = 3
 status_of (Output number error) = 3
 status_of (Input id error) = 3
+status_of (Record error) = 3
 status_of (Run fault) = 3
 status_of Clock = 3

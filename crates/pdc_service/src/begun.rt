@@ -3,7 +3,7 @@ ghost use Rattle.std.specs.Prelude.{◌≡◌, ◌⊎◌, IfOk, IsErrOf, OnErr};
 ghost use Rattle.pdc_mark.specs.Stored.{with_next_start};
 ghost use Rattle.pdc_service.specs.Begun.{begun_mark};
 
-use pdc_mark::{Mark, MarkFault};
+use pdc_mark::{COUNTS, Mark, MarkFault};
 
 /// A mark whose next start number was stored: one life may begin with what it stores, and no other will have this start.
 #[derive(Drop)]
@@ -43,6 +43,13 @@ impl<M: Mark + Drop> Begun<M> {
     {
         let (_, floor) = self.mark.stored();
         floor
+    }
+
+    /// For each column the count that is stored.
+    pub fn counts(&self) -> [u16; COUNTS]
+        ensures { result ≡ (M.stored (begun_mark self.now)).counts }
+    {
+        self.mark.counts()
     }
 
     /// The mark.

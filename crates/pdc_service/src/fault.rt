@@ -41,6 +41,9 @@ pub enum ServiceFault {
     /// The further destination with this number, counted from 1, is not known, or no socket can be opened for it.
     #[error("device fault")]
     Output(usize, io::Error),
+    /// A new file of the record cannot be made or written.
+    #[error("device fault")]
+    Record(io::Error),
     /// The place where the stream with this id is asked for is not known.
     #[error("device fault")]
     Input(u16, io::Error),
@@ -84,6 +87,7 @@ impl ServiceFault {
             | ServiceFault::Port(..)
             | ServiceFault::Output(..)
             | ServiceFault::Input(..)
+            | ServiceFault::Record(_)
             | ServiceFault::Run(_)
             | ServiceFault::Clock => FAILED,
         }

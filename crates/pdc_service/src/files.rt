@@ -21,25 +21,17 @@ pub fn read_settings_text<R: Files<File = File> + AllocGlobal>(
     String::from_utf8(bytes).map_err(|_| LoadFault::Refused(SettingsFault::Toml))
 }
 
-/// The node that the settings in this file describe, and where it is on the network.
-pub fn read_node<R: Files<File = File> + AllocGlobal>(
-    rt: &R,
-    file: &str,
-) -> Result<(Concentrator, Network), LoadFault> {
-    let text = read_settings_text(rt, file)?;
-    let settings = NodeSettings::from_toml(rt.alloc(), &text).map_err(LoadFault::Refused)?;
-    let network = Network::from_toml(rt.alloc(), &text).map_err(LoadFault::Refused)?;
+/// The node that these settings describe, and where it is on the network.
+pub fn node_of(alloc: Global, text: &str) -> Result<(Concentrator, Network), LoadFault> {
+    let settings = NodeSettings::from_toml(alloc, text).map_err(LoadFault::Refused)?;
+    let network = Network::from_toml(alloc, text).map_err(LoadFault::Refused)?;
     Ok((Concentrator::Node(settings), network))
 }
 
-/// The merger that the settings in this file describe, and where it is on the network.
-pub fn read_merger<R: Files<File = File> + AllocGlobal>(
-    rt: &R,
-    file: &str,
-) -> Result<(Concentrator, Network), LoadFault> {
-    let text = read_settings_text(rt, file)?;
-    let settings = MergerSettings::from_toml(rt.alloc(), &text).map_err(LoadFault::Refused)?;
-    let network = Network::from_toml(rt.alloc(), &text).map_err(LoadFault::Refused)?;
+/// The merger that these settings describe, and where it is on the network.
+pub fn merger_of(alloc: Global, text: &str) -> Result<(Concentrator, Network), LoadFault> {
+    let settings = MergerSettings::from_toml(alloc, text).map_err(LoadFault::Refused)?;
+    let network = Network::from_toml(alloc, text).map_err(LoadFault::Refused)?;
     Ok((Concentrator::Merger(settings), network))
 }
 

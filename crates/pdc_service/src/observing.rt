@@ -8,6 +8,7 @@ use pdc_journal::{
     Tags, Tally, Watchers,
 };
 use pdc_metrics::Metered;
+use pdc_recording::{RecordedSource, Recording};
 use pdc_settings::Network;
 use pdc_threads::Source;
 use std::alloc::{AllocError, Global};
@@ -15,7 +16,7 @@ use std::rt::Clock;
 use std::sync::Wait;
 
 /// What is watched of a run: the lines that it tells, the tally of each stream, in their order, and of each further destination, what its
-/// threads say, what the merger leaves out, and how the run stands, where that is served.
+/// threads say, what the merger leaves out, how the run stands, where that is served, and what is recorded of it.
 #[derive(Drop)]
 pub struct Observed {
     pub journal: Journal,
@@ -24,6 +25,7 @@ pub struct Observed {
     pub signs: Signs,
     pub left_out: Option<LeftOut>,
     pub measured: Option<Measured>,
+    pub recording: Option<Recording>,
 }
 
 /// The tally of each stream of the concentrator, in their order.
@@ -75,6 +77,7 @@ impl Observed {
         concentrator: &Concentrator,
         network: &Network,
         is_quiet: bool,
+        is_recorded: bool,
     ) -> Result<Observed, AllocError> {
         Ok(Observed {
             journal: Journal::new(alloc, is_quiet)?,
@@ -86,6 +89,11 @@ impl Observed {
                 Concentrator::Merger(settings) => Some(LeftOut::new(&settings.life.sources)),
             },
             measured: measured_of(concentrator, network),
+            recording: if is_recorded {
+                Some(Recording::new(alloc)?)
+            } else {
+                None
+            },
         })
     }
 
@@ -127,14 +135,14 @@ fn watchers_of(observed: &Observed, tags: Option<Tags>) -> Watchers<'_> {
     }
 }
 
-/// The sources, each watched; none where there is no memory for them.
+/// The sources, each watched, and recorded where the run is; none where there is no memory for them.
 pub fn observe_all<'a, S: Source + Drop, R: Wait + Clock>(
     rt: &'a R,
     alloc: Global,
     concentrator: &Concentrator,
     observed: &'a Observed,
     sources: Vec<S>,
-) -> Option<Vec<ObservedSource<'a, S, R>>>
+) -> Option<Vec<RecordedSource<'a, ObservedSource<'a, S, R>, R>>>
     ensures { IfSome result (λ watched. vec_len watched ≡ vec_len sources) }
 {
     let mut watched = Vec::new(alloc);
@@ -144,6 +152,9 @@ pub fn observe_all<'a, S: Source + Drop, R: Wait + Clock>(
         };
         let watchers = watchers_of(observed, concentrator.stream_tags(watched.len()));
         let source = ObservedSource::new(rt, alloc, &observed.journal, tally, watchers, source);
+        let number = u16::try_from(watched.len()).unwrap_or(u16::MAX);
+        let recording = observed.recording.as_ref();
+        let source = RecordedSource::new(rt, alloc, recording, number, source);
         if watched.push(source).is_err() {
             return None;
         }

@@ -3,12 +3,13 @@ ghost use Rattle.std.specs.Prelude.{◌≡◌};
 
 use crate::concentrator::Concentrator;
 use crate::fault::ServiceFault;
-use crate::files::{begin_mark, read_merger, read_node};
+use crate::files::{begin_mark, merger_of, node_of, read_settings_text};
 use crate::host::Host;
 use crate::observing::Observed;
 use crate::options::RunOptions;
 use crate::ports::{open_links, open_listener, open_metrics, open_sink};
 use crate::serving::{Consumers, Opened, run_serving};
+use crate::recorded::{RecordFile, open_record};
 use crate::telling::begun_text;
 use pdc_settings::Network;
 use pdc_threads::{HubFault, Totals};
@@ -20,24 +21,38 @@ pub struct Files<'a> {
     pub settings: &'a str,
     /// Its mark.
     pub mark: &'a str,
+    /// Where its life is recorded, if it is.
+    pub record: Option<RecordFile<'a>>,
 }
 
-/// Runs a concentrator with its mark in this file.
+/// Runs a concentrator of these settings, with its mark in this file.
 fn serve_concentrator<R: Host>(
     rt: &R,
     concentrator: &Concentrator,
     network: &Network,
-    mark: &str,
+    settings: &str,
+    files: &Files<'_>,
     options: &RunOptions,
 ) -> Result<Totals, ServiceFault> {
     let alloc = rt.alloc();
     let output = concentrator.output();
     let service = concentrator.service_settings();
-    let mark = begin_mark(rt, mark, output.id, output.rate)?;
-    let Ok(observed) = Observed::new(alloc, concentrator, network, options.is_quiet) else {
+    let mark = begin_mark(rt, files.mark, output.id, output.rate)?;
+    let is_recorded = files.record.is_some();
+    let Ok(observed) = Observed::new(
+        alloc,
+        concentrator,
+        network,
+        options.is_quiet,
+        is_recorded,
+    ) else {
         return Err(ServiceFault::Run(HubFault::NoMemory));
     };
     let (start, floor) = (mark.start(), mark.floor());
+    let record = match files.record {
+        Some(record) => Some(open_record(rt, alloc, record, concentrator, &mark, settings)?),
+        None => None,
+    };
     let sources = open_links(rt, alloc, network, concentrator, &observed)?;
     let buffer = sources.first().and_then(|source| source.buffer());
     let opened = Opened {
@@ -50,6 +65,7 @@ fn serve_concentrator<R: Host>(
             service.out_port,
             observed.outputs.as_slice(),
         )?,
+        record,
     };
     let consumers = Consumers {
         listener: open_listener(rt, network, service.session_port)?,
@@ -76,28 +92,30 @@ fn serve_concentrator<R: Host>(
 ///
 /// # Errors
 ///
-/// The first fault: of the settings file, the mark file, the start that is stored, the ports and places of the PMUs in their order, the
+/// The first fault: of the settings file, the mark file, the start that is stored, the first file of the record, the ports and places of the PMUs in their order, the
 /// port of the frames, the further destinations in their order, the port of the sessions, that of the counters, or the run.
 pub fn serve_node<R: Host>(
     rt: &R,
     files: &Files<'_>,
     options: &RunOptions,
 ) -> Result<Totals, ServiceFault> {
-    let (node, network) = read_node(rt, files.settings).map_err(ServiceFault::Settings)?;
-    serve_concentrator(rt, &node, &network, files.mark, options)
+    let text = read_settings_text(rt, files.settings).map_err(ServiceFault::Settings)?;
+    let (node, network) = node_of(rt.alloc(), &text).map_err(ServiceFault::Settings)?;
+    serve_concentrator(rt, &node, &network, &text, files, options)
 }
 
 /// Runs the merger, serves its consumers as long, and tells what [`serve_node`] does.
 ///
 /// # Errors
 ///
-/// The first fault: of the settings file, the mark file, the start that is stored, the ports or places of node A and node B, the
+/// The first fault: of the settings file, the mark file, the start that is stored, the first file of the record, the ports or places of node A and node B, the
 /// port of the frames, the further destinations in their order, the port of the sessions, that of the counters, or the run.
 pub fn serve_merger<R: Host>(
     rt: &R,
     files: &Files<'_>,
     options: &RunOptions,
 ) -> Result<Totals, ServiceFault> {
-    let (merger, network) = read_merger(rt, files.settings).map_err(ServiceFault::Settings)?;
-    serve_concentrator(rt, &merger, &network, files.mark, options)
+    let text = read_settings_text(rt, files.settings).map_err(ServiceFault::Settings)?;
+    let (merger, network) = merger_of(rt.alloc(), &text).map_err(ServiceFault::Settings)?;
+    serve_concentrator(rt, &merger, &network, &text, files, options)
 }

@@ -17,24 +17,27 @@ use pdc_mark::DiskMark;
 use pdc_metrics::{Metered, serve_metrics};
 use pdc_network::{ClockTicker, OutputsSink};
 use pdc_recent::{Naming, Recent, RememberingSink};
+use pdc_recording::{RecordedTicker, Series, write_record};
 use pdc_server::serve;
 use pdc_threads::{HubFault, Source, Totals};
 use std::alloc::Global;
+use std::fs::File;
 use std::marker::Brand;
 use std::net::TcpListener;
 use std::random::RandomSource;
-use std::rt::Clock;
+use std::rt::{Clock, Files};
 use std::sync::Wait;
 use std::sync::atomic::{AtomicU64, Ordering};
 use std::thread;
 use std::thread::{Scope, Threads};
 
-/// What is open for a run: its mark, a source for each stream, and where frames go.
+/// What is open for a run: its mark, a source for each stream, where frames go, and the files of its record, where it is recorded.
 #[derive(Drop)]
 pub struct Opened<'a, S: Source + Drop> {
     pub mark: Begun<DiskMark<FileDisk>>,
     pub sources: Vec<S>,
     pub sink: OutputsSink<'a>,
+    pub record: Option<Series<'a>>,
 }
 
 /// Where consumers come, how many are served at once, and where the counters are asked for.
@@ -131,6 +134,26 @@ fn start_metrics<'s, E: 's, R: Wait + Clock + RandomSource + Sync + 's>(
     }
 }
 
+/// Starts the thread that writes the record, where there is one, and answers whether it was started, or none is wanted.
+fn start_record<'s, E: 's, R: Wait + Clock + Files<File = File> + Sync + 's>(
+    scope: &'s Scope<'s, E>,
+    rt: &'s R,
+    alloc: Global,
+    record: Option<Series<'s>>,
+    observed: &'s Observed,
+) -> bool {
+    match (record, &observed.recording) {
+        (Some(series), Some(recording)) => {
+            scope
+                .spawn(move || -> () {
+                    write_record(rt, alloc, recording, series, &observed.journal)
+                })
+                .is_ok()
+        }
+        _ => true,
+    }
+}
+
 /// Runs, and tells at the end how many frames could not be sent.
 fn run_observed<
     's,
@@ -169,6 +192,7 @@ fn run_observed<
         clock,
         options.every,
     );
+    let ticker = RecordedTicker::new(rt, observed.recording.as_ref(), ticker);
     let sink = RememberingSink::new(rt, alloc, recent, output, sink);
     let sink = CountingSink::new(sink, &signs.unsent);
     let sink = AnnouncingSink::new(rt, alloc, journal, observed.followers(), sink);
@@ -190,7 +214,7 @@ fn conduct<
     E: 's,
     S: Source + Send + Drop + 's,
     N: Naming + Send + 's,
-    R: Threads + Wait + Clock + Eprint + RandomSource + Sync + 's,
+    R: Threads + Wait + Clock + Eprint + RandomSource + Files<File = File> + Sync + 's,
 >(
     scope: &'s Scope<'s, E>,
     rt: &'s R,
@@ -209,9 +233,11 @@ fn conduct<
         mark,
         sources,
         sink,
+        record,
     } = opened;
     let id = concentrator.output().id;
     let is_begun = start_journal(scope, rt, &observed.journal)
+        && start_record(scope, rt, alloc, record, observed)
         && start_metrics(scope, rt, alloc, consumers, observed)
         && start_sessions(
             scope,
@@ -239,6 +265,9 @@ fn conduct<
     };
     recent.close(rt);
     observed.signs.has_ended.store(true, Ordering::SeqCst);
+    if let Some(recording) = &observed.recording {
+        recording.close(rt);
+    }
     observed.journal.close(rt);
     outcome
 }
@@ -249,7 +278,7 @@ fn run_keeping<
     'x,
     S: Source + Send + Drop + 'x,
     N: Naming + Send + 'x,
-    R: Threads + Wait + Clock + Eprint + RandomSource + Sync + 'x,
+    R: Threads + Wait + Clock + Eprint + RandomSource + Files<File = File> + Sync + 'x,
 >(
     rt: &'x R,
     alloc: Global,
@@ -289,7 +318,7 @@ fn run_keeping<
 fn run_named<
     S: Source + Send + Drop,
     N: Naming + Send,
-    R: Threads + Wait + Clock + Eprint + RandomSource + Sync,
+    R: Threads + Wait + Clock + Eprint + RandomSource + Files<File = File> + Sync,
 >(
     rt: &R,
     alloc: Global,
@@ -320,7 +349,7 @@ fn run_named<
 /// Runs a concentrator, serves its consumers and prints what is told, for as long as it runs.
 pub fn run_serving<
     S: Source + Send + Drop,
-    R: Threads + Wait + Clock + Eprint + RandomSource + Sync,
+    R: Threads + Wait + Clock + Eprint + RandomSource + Files<File = File> + Sync,
 >(
     rt: &R,
     alloc: Global,

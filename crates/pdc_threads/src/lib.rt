@@ -15,6 +15,8 @@ pub use pdc_hub::{Blanks, Hub, HubFault, Naming, Received, Shares, receive};
 pub use pdc_pipe::{
     CAPACITY, Ended, InOrder, LayoutFrame, Log, Message, Receiver, Sender, send_out,
 };
-pub use pdc_ports::{Counts, MemorySink, Next, Outcome, Sink, SinkFault, Source, Ticker, Told};
+pub use pdc_ports::{
+    Counts, Did, MemorySink, Next, Numbered, Outcome, Sink, SinkFault, Source, Ticker, Told,
+};
 pub use receivers::{Counted, Input};
 pub use runs::{Ran, Totals, run};

@@ -4,7 +4,7 @@ ghost use Rattle.std.specs.Prelude.{◌≡◌, ◌≤◌, ℕ, length};
 use pdc_cfg::read_config;
 use pdc_core::Core;
 use pdc_frame::read_frame;
-use pdc_threads::{Hub, Naming, Next, Outcome, Source, Ticker, Told};
+use pdc_threads::{Hub, Naming, Next, Numbered, Outcome, Source, Ticker, Told};
 use std::alloc::Global;
 use std::sync::Wait;
 use std::sync::atomic::{AtomicBool, AtomicU64, Ordering};

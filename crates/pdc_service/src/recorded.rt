@@ -1,0 +1,61 @@
+//! The record of a run.
+
+use crate::begun::Begun;
+use crate::concentrator::Concentrator;
+use crate::fault::ServiceFault;
+use pdc_mark::Mark;
+use pdc_recording::{Begun as BegunEntry, Limits, Role, Series, nanoseconds_now};
+use std::alloc::Global;
+use std::fs::File;
+use std::rt::{Clock, Files};
+
+/// The version of the program: major, minor, patch.
+const PROGRAM: [u16; 3] = [0, 1, 0];
+
+/// Where a life is recorded.
+#[derive(Clone, Copy, Debug)]
+pub struct RecordFile<'a> {
+    /// What the names of its files begin with.
+    pub name: &'a str,
+    /// How large they grow, and how many stay.
+    pub limits: Limits,
+}
+
+/// Whose life it is.
+fn role_of(concentrator: &Concentrator) -> Role {
+    match concentrator {
+        Concentrator::Node(_) => Role::Node,
+        Concentrator::Merger(_) => Role::Merger,
+    }
+}
+
+/// The files of the record of a life that begins with this mark, under these settings.
+pub fn open_record<'a, M: Mark + Drop, R: Clock + Files<File = File>>(
+    rt: &R,
+    alloc: Global,
+    record: RecordFile<'a>,
+    concentrator: &Concentrator,
+    mark: &Begun<M>,
+    settings: &'a str,
+) -> Result<Series<'a>, ServiceFault> {
+    let output = concentrator.output();
+    let begun = BegunEntry {
+        role: role_of(concentrator),
+        id: output.id,
+        rate: output.rate,
+        start: mark.start(),
+        floor: mark.floor(),
+        counts: mark.counts(),
+        now: 0,
+        program: PROGRAM,
+        settings: settings.as_bytes(),
+    };
+    Series::open(
+        rt,
+        alloc,
+        record.name,
+        record.limits,
+        begun,
+        nanoseconds_now(rt),
+    ).map_err(ServiceFault::Record)
+}
