@@ -9,18 +9,18 @@ use Rattle.pdc_session.specs.declared.recent.SentFrame.{SentFrame}
 use Rattle.pdc_session.specs.Recent.{AreAbove, AreCovered, AreRising, Kept, above, bytes_of, frame_of, greatest_of, is_old, last_256}
 
 -- the frame at an index, and those behind it
-pub at_frame : (frames : List SentFrame) (k : ℕ) (frame : SentFrame) → k < length frames → frame ≡ get_or frames k frame
+pub at_frame : {A : Type 0} (frames : List (SentFrame A)) (k : ℕ) (frame : SentFrame A) → k < length frames → frame ≡ get_or frames k frame
     → map frame_of (drop k frames) ≡ frame_of frame ∷ map frame_of (drop (suc k) frames)
-at_frame frames k frame lt is = ap (λ (fs : List SentFrame). map frame_of fs) (drop-cons frames k frame lt ∙ ap (λ (f : SentFrame). f ∷ drop (suc k) frames) (sym is))
+at_frame {A} frames k frame lt is = ap (λ (fs : List (SentFrame A)). map frame_of fs) (drop-cons frames k frame lt ∙ ap (λ (f : SentFrame A). f ∷ drop (suc k) frames) (sym is))
 
 above_first : (instant : ℕ) (frame : Kept) (frames : List Kept) → instant < frame.instant → above instant (frame ∷ frames) ≡ frame ∷ above instant frames
 above_first instant frame frames lt = ap (λ (b : Bool). cond b (frame ∷ above instant frames) (above instant frames)) (lt-ltb instant frame.instant lt)
 
 -- there is room for a frame where there is room for all
-pub room_for_one : (instant k : ℕ) (frames : List SentFrame) (frame : SentFrame) (held start : List ℕ) (room before : ℕ) → k < length frames → frame ≡ get_or frames k frame → instant < frame.instant
+pub room_for_one : {A : Type 0} (instant k : ℕ) (frames : List (SentFrame A)) (frame : SentFrame A) (held start : List ℕ) (room before : ℕ) → k < length frames → frame ≡ get_or frames k frame → instant < frame.instant
     → held ++ bytes_of (above instant (map frame_of (drop k frames))) ≡ start ++ bytes_of (above instant (map frame_of frames))
     → length start + length (bytes_of (above instant (map frame_of frames))) ≤ before → room ≡ before → length held + length frame.bytes.items ≤ room
-room_for_one instant k frames frame held start room before lt is later e fits same =
+room_for_one {A} instant k frames frame held start room before lt is later e fits same =
     let rest : List Kept = map frame_of (drop (suc k) frames) in
     let first : above instant (map frame_of (drop k frames)) ≡ frame_of frame ∷ above instant rest = ap (above instant) (at_frame frames k frame lt is) ∙ above_first instant (frame_of frame) rest later in
     let joined : held ++ (frame.bytes.items ++ bytes_of (above instant rest)) ≡ start ++ bytes_of (above instant (map frame_of frames)) = ap (λ (fs : List Kept). held ++ bytes_of fs) (sym first) ∙ e in
@@ -33,11 +33,11 @@ greatest-append : (n : ℕ) (first second : List Kept) → greatest_of n (first 
 greatest-append n [] second = refl
 greatest-append n (f ∷ fs) second = greatest-append (max n f.instant) fs second
 
-pub two_parts_above : (instant : ℕ) (first second frames : List SentFrame) → first ++ second ≡ frames
+pub two_parts_above : {A : Type 0} (instant : ℕ) (first second frames : List (SentFrame A)) → first ++ second ≡ frames
     → above instant (map frame_of frames) ≡ above instant (map frame_of first) ++ above instant (map frame_of second)
-two_parts_above instant first second frames e = ap (λ (fs : List SentFrame). above instant (map frame_of fs)) (sym e) ∙ ap (above instant) (map-append frame_of first second) ∙ filter-append (λ (f : Kept). nat_lt instant f.instant) (map frame_of first) (map frame_of second)
+two_parts_above {A} instant first second frames e = ap (λ (fs : List (SentFrame A)). above instant (map frame_of fs)) (sym e) ∙ ap (above instant) (map-append frame_of first second) ∙ filter-append (λ (f : Kept). nat_lt instant f.instant) (map frame_of first) (map frame_of second)
 
-pub greatest_above : (instant : ℕ) (first second frames : List SentFrame) → first ++ second ≡ frames
+pub greatest_above : {A : Type 0} (instant : ℕ) (first second frames : List (SentFrame A)) → first ++ second ≡ frames
     → greatest_of (greatest_of instant (above instant (map frame_of first))) (above instant (map frame_of second)) ≡ greatest_of instant (above instant (map frame_of frames))
 greatest_above instant first second frames e = sym (ap (greatest_of instant) (two_parts_above instant first second frames e) ∙ greatest-append instant (above instant (map frame_of first)) (above instant (map frame_of second)))
 

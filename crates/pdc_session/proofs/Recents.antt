@@ -6,7 +6,7 @@ use Rattle.circular_buffer.specs.Buffer.{keep_last}
 use Rattle.pdc_session.specs.declared.recent.SentFrame.{SentFrame}
 use Rattle.pdc_session.specs.Recent.{Kept, RecentView, frame_of, last_256}
 
-pub pushed_frames : (items : List SentFrame) (capacity : ℕ) (sent : SentFrame) (frame : Kept) (old : List Kept) → capacity ≡ 256 → old ≡ map frame_of items → frame_of sent ≡ frame
+pub pushed_frames : {A : Type 0} (items : List (SentFrame A)) (capacity : ℕ) (sent : SentFrame A) (frame : Kept) (old : List Kept) → capacity ≡ 256 → old ≡ map frame_of items → frame_of sent ≡ frame
     → map frame_of (keep_last capacity (items ++ sent ∷ [])) ≡ last_256 (old ++ frame ∷ [])
 pushed_frames items capacity sent frame old cap is same =
     let all : map frame_of (items ++ sent ∷ []) ≡ old ++ frame ∷ [] = map-append frame_of items (sent ∷ []) ∙ ap₂ (λ (xs : List Kept) (k : Kept). xs ++ k ∷ []) (sym is) same in

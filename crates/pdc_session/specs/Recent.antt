@@ -9,7 +9,7 @@ pub record Kept : Type 0 where
   pub bytes : List ℕ
 
 -- what is kept of a frame
-abbrev pub frame_of : SentFrame → Kept
+abbrev pub frame_of : {A : Type 0} → SentFrame A → Kept
 frame_of sent = record { instant = sent.instant; bytes = sent.bytes.items }
 
 -- the frames, the oldest first, and the greatest instant of all that were pushed

@@ -4,7 +4,7 @@ ghost use Rattle.pdc_session.specs.Recent.{AreRising, above, bytes_of, frame_of,
 
 use circular_buffer::HeapCircularBuffer;
 use pdc_frame::Buffer;
-use std::alloc::{AllocError, Global};
+use std::alloc::{AllocError, Allocator, Global};
 use std::marker::Model;
 
 /// How many frames are kept.
@@ -12,19 +12,19 @@ const KEPT_FRAMES: usize = 256;
 
 /// A frame that was sent, and its instant.
 #[derive(Drop)]
-struct SentFrame {
+struct SentFrame<A: Allocator> {
     instant: u64,
-    bytes: Vec<u8>,
+    bytes: Vec<u8, A>,
 }
 
 /// The last 256 frames pushed, in the order of their instants.
 #[derive(Drop)]
-pub struct Frames {
-    ring: HeapCircularBuffer<SentFrame>,
+pub struct Frames<A: Allocator = Global> {
+    ring: HeapCircularBuffer<SentFrame<A>, A>,
     greatest: Option<u64>,
 }
 
-impl Model for Frames {
+impl<A: Allocator> Model for Frames<A> {
     ghost use Rattle.std.specs.Prelude.{◌≡◌, map};
     ghost use Rattle.pdc_session.specs.Recent.{AreCovered, AreRising, RecentView, frame_of};
     ghost use Rattle.pdc_session.specs.declared.recent.TheConstants.{KEPT_FRAMES};
@@ -41,7 +41,7 @@ impl Model for Frames {
 }
 
 /// How many bytes the frames above the instant have; none where a `usize` cannot tell.
-fn len_above(frames: &[SentFrame], instant: u64) -> Option<usize>
+fn len_above<A: Allocator>(frames: &[SentFrame<A>], instant: u64) -> Option<usize>
     ensures some { (n : ℕ) → result ≡ Some n → n ≡ length (bytes_of (above instant (map frame_of frames.now))) }
     ensures none { result ≡ None → usize.MAX < length (bytes_of (above instant (map frame_of frames.now))) }
 {
@@ -55,7 +55,12 @@ fn len_above(frames: &[SentFrame], instant: u64) -> Option<usize>
 }
 
 /// Appends the frames above the instant, for which there is room, and answers the greatest of their instants and this one.
-fn append_above<B: Buffer>(frames: &[SentFrame], instant: u64, so_far: u64, out: &mut B) -> u64
+fn append_above<B: Buffer, A: Allocator>(
+    frames: &[SentFrame<A>],
+    instant: u64,
+    so_far: u64,
+    out: &mut B,
+) -> u64
     requires { length (B.content out.old) + length (bytes_of (above instant (map frame_of frames.now))) ≤ B.capacity out.old }
     ensures bytes { B.content out.new ≡ B.content out.old ++ bytes_of (above instant (map frame_of frames.now)) }
     ensures in_place { B.capacity out.new ≡ B.capacity out.old }
@@ -71,13 +76,13 @@ fn append_above<B: Buffer>(frames: &[SentFrame], instant: u64, so_far: u64, out:
     greatest
 }
 
-impl Frames {
+impl<A: Allocator> Frames<A> {
     /// No frame yet.
     ///
     /// # Errors
     ///
     /// [`AllocError`] where there is no memory for the ring.
-    pub fn new(alloc: Global) -> Result<Frames, AllocError>
+    pub fn new(alloc: A) -> Result<Frames<A>, AllocError>
         ensures { IfOk result (λ frames. frames ≡ record { frames = []; greatest = None }) }
     {
         Ok(Frames {
@@ -92,7 +97,7 @@ impl Frames {
     /// # Errors
     ///
     /// [`AllocError`] where there is no memory for the frame's bytes. Nothing is changed then.
-    pub fn push(&mut self, alloc: Global, instant: u64, bytes: &[u8]) -> Result<(), AllocError>
+    pub fn push(&mut self, alloc: A, instant: u64, bytes: &[u8]) -> Result<(), AllocError>
         ensures later { is_old self.old.greatest instant ≡ false → OnOk result (self.new ≡ pushed self.old instant bytes.now) }
         ensures old { is_old self.old.greatest instant ≡ true → OnOk result (self.new ≡ self.old) }
         ensures err { OnErr result (self.new ≡ self.old) }

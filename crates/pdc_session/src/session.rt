@@ -14,7 +14,7 @@ use crate::told::Told;
 use pdc_cfg::write_config;
 use pdc_command::{Command, read_command, write_header};
 use pdc_frame::{Buffer, Frame, Framer, Kind, MAX_ID, Step, streams_split_in_one_way};
-use std::alloc::{AllocError, Global};
+use std::alloc::{AllocError, Allocator, Global};
 use std::marker::Model;
 
 /// The command that the frame tells the stream `id`.
@@ -63,9 +63,9 @@ fn obey<B: Buffer>(
 }
 
 /// Takes in a piece of the stream, and appends the replies to the frames that end in it.
-fn hear<B: Buffer>(
+fn hear<B: Buffer, A: Allocator>(
     id: u16,
-    framer: &mut Framer,
+    framer: &mut Framer<A>,
     told: &mut Told,
     piece: &[u8],
     serving: &Serving,
@@ -104,14 +104,14 @@ fn hear<B: Buffer>(
 
 /// A session with a consumer: it finds the command frames in what the consumer sends, and answers them.
 #[derive(Drop)]
-pub struct Session {
+pub struct Session<A: Allocator = Global> {
     id: u16,
-    framer: Framer,
+    framer: Framer<A>,
     told: Told,
     ended: Option<SessionFault>,
 }
 
-impl Model for Session {
+impl<A: Allocator> Model for Session<A> {
     ghost use Rattle.std.specs.Prelude.{◌≡◌, ◌<◌, ◌≤◌, None};
     ghost use Rattle.pdc_frame.specs.declared.limits.TheConstants.{MAX_ID};
     ghost use Rattle.pdc_frame.specs.Stream.{IsBad};
@@ -128,13 +128,13 @@ impl Model for Session {
     } };
 }
 
-impl Session {
+impl<A: Allocator> Session<A> {
     /// A session of the stream `id`, 1 to 65534, to which no byte came yet.
     ///
     /// # Errors
     ///
     /// [`AllocError`] where there is no memory for the longest frame.
-    pub fn new(alloc: Global, id: u16) -> Result<Session, AllocError>
+    pub fn new(alloc: A, id: u16) -> Result<Session<A>, AllocError>
         requires id_low { 0 < id }
         requires id_high { id ≤ MAX_ID }
         ensures id { IfOk result (λ session. session.id ≡ id) }
