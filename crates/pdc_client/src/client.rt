@@ -16,24 +16,24 @@ use crate::telling::tell;
 use crate::unread::Unread;
 use pdc_command::Command;
 use pdc_frame::{Framer, Kind, MAX_ID};
-use std::alloc::{AllocError, Global};
+use std::alloc::{AllocError, Allocator, Global};
 use std::io::{Read, Write};
 
 /// A client of the sender of one stream, over a reader and writer. Frames of other streams and kinds are passed over, and commands are
 /// dated with second 0. What was read behind an answer is kept for the next one.
 #[derive(Drop)]
-pub struct Pdc<S> {
+pub struct Pdc<S, A: Allocator = Global> {
     id: u16,
     stream: S,
-    framer: Framer,
-    unread: Unread,
+    framer: Framer<A>,
+    unread: Unread<A>,
     reads_left: u32,
     ended: Option<ClientFault>,
     pub ghost id_low: { 0 < id },
     pub ghost id_high: { id ≤ MAX_ID },
 }
 
-impl<S: Read + Write> Pdc<S> {
+impl<S: Read + Write, A: Allocator> Pdc<S, A> {
     ghost use Rattle.pdc_client.specs.Client.{KeepsFaults, ended_in, held_in, id_in, reads_left_in, stream_in, unread_in};
 
     /// A client of the stream `id`, 1 to 65534. It reads and writes nothing yet.
@@ -41,9 +41,10 @@ impl<S: Read + Write> Pdc<S> {
     /// # Errors
     ///
     /// [`AllocError`] where there is no memory for the longest frame and for a read. The reader and writer is let go then.
-    pub fn new(alloc: Global, id: u16, stream: S) -> Result<Pdc<S>, AllocError>
+    pub fn new(alloc: A, id: u16, stream: S) -> Result<Pdc<S, A>, AllocError>
     where
         S: Drop,
+        A: Copy,
         requires id_low { 0 < id }
         requires id_high { id ≤ MAX_ID }
         ensures id { IfOk result (λ pdc. id_in pdc ≡ id) }
@@ -112,7 +113,10 @@ impl<S: Read + Write> Pdc<S> {
     }
 
     /// Ends the client for want of memory, where the copy of an answer wanted it.
-    fn keep_copy(&mut self, copy: Result<Vec<u8>, AllocError>) -> Result<Vec<u8>, ClientFault>
+    fn keep_copy<B: Allocator>(
+        &mut self,
+        copy: Result<Vec<u8, B>, AllocError>,
+    ) -> Result<Vec<u8, B>, ClientFault>
         requires { ended_in self.old ≡ None }
         ensures keeps { KeepsFaults self.old self.new result }
         ensures ok { IfOk result (λ bytes. IsOkAnd copy (λ kept. bytes.items ≡ kept.items)) }
@@ -138,7 +142,7 @@ impl<S: Read + Write> Pdc<S> {
     /// `NoAnswer` where none came within [`MAX_FRAMES`](crate::MAX_FRAMES) frames and [`MAX_READS`] reads, or before
     /// the end of the input; `BadStream` where the stream shows a fault; `Device` where a read failed; `NoMemory` where there is none
     /// for the answer. Each ends the client: every later call answers it again.
-    pub fn get(&mut self, alloc: Global) -> Result<Vec<u8>, ClientFault>
+    pub fn get<B: Allocator>(&mut self, alloc: B) -> Result<Vec<u8, B>, ClientFault>
         ensures keeps { KeepsFaults self.old self.new result }
         ensures searches { ended_in self.old ≡ None → Searches (id_in self.old) DataFrame (held_in self.old) (unread_in self.old) (S.remaining (stream_in self.old)) (held_in self.new) (unread_in self.new) (S.remaining (stream_in self.new)) (reads_left_in self.new) result }
         ensures answer { IfOk result (λ bytes. bytes.items ≡ (held_in self.new).bytes) }
@@ -153,7 +157,7 @@ impl<S: Read + Write> Pdc<S> {
     /// # Errors
     ///
     /// Those of [`get`](Pdc::get), and `Device` where the command could not be written.
-    pub fn get_config(&mut self, alloc: Global) -> Result<Vec<u8>, ClientFault>
+    pub fn get_config<B: Allocator>(&mut self, alloc: B) -> Result<Vec<u8, B>, ClientFault>
         ensures keeps { KeepsFaults self.old self.new result }
         ensures searches { ended_in self.old ≡ None → IsErrOf result ClientFault.Device
             ⊎ ((asked : S) × Appends (S.contents (stream_in self.old)) (S.contents asked) (spelling_of (command_fields (id_in self.old) COMMAND_SOC Command.SendCfg2))
@@ -171,7 +175,7 @@ impl<S: Read + Write> Pdc<S> {
     /// # Errors
     ///
     /// Those of [`get`](Pdc::get), and `Device` where the command could not be written.
-    pub fn get_header(&mut self, alloc: Global) -> Result<Vec<u8>, ClientFault>
+    pub fn get_header<B: Allocator>(&mut self, alloc: B) -> Result<Vec<u8, B>, ClientFault>
         ensures keeps { KeepsFaults self.old self.new result }
         ensures searches { ended_in self.old ≡ None → IsErrOf result ClientFault.Device
             ⊎ ((asked : S) × Appends (S.contents (stream_in self.old)) (S.contents asked) (spelling_of (command_fields (id_in self.old) COMMAND_SOC Command.SendHeader))

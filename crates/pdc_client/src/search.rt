@@ -8,6 +8,7 @@ ghost use Rattle.pdc_client.specs.Search.{Follows, IsOther, IsWanted, Searches};
 use crate::fault::ClientFault;
 use crate::unread::Unread;
 use pdc_frame::{Framer, Kind, Step};
+use std::alloc::Allocator;
 use std::io::{ErrorKind, Read};
 
 /// The most frames that a call looks through.
@@ -17,7 +18,10 @@ pub const MAX_FRAMES: u32 = 1000;
 pub const MAX_READS: u32 = 1_000_000;
 
 /// Reads once, where no byte is left. A read that was interrupted brings none.
-fn read_more<R: Read>(unread: &mut Unread, reader: &mut R) -> Result<(), ClientFault>
+fn read_more<R: Read, A: Allocator>(
+    unread: &mut Unread<A>,
+    reader: &mut R,
+) -> Result<(), ClientFault>
     requires { unread.old ≡ [] }
     ensures ok { OnOk result (Consumes (R.remaining reader.old) (R.remaining reader.new) unread.new) }
     ensures end { IsErrOf result ClientFault.NoAnswer → IsAtEnd (R.remaining reader.new) }
@@ -33,9 +37,9 @@ fn read_more<R: Read>(unread: &mut Unread, reader: &mut R) -> Result<(), ClientF
 }
 
 /// Reads up to the end of a frame, with at most so many reads.
-fn next_frame<R: Read>(
-    framer: &mut Framer,
-    unread: &mut Unread,
+fn next_frame<R: Read, A: Allocator>(
+    framer: &mut Framer<A>,
+    unread: &mut Unread<A>,
     reader: &mut R,
     reads: &mut u32,
 ) -> Result<(), ClientFault>
@@ -62,7 +66,7 @@ fn next_frame<R: Read>(
 }
 
 /// Whether the frame is of this stream and kind.
-fn is_wanted(framer: &Framer, id: u16, kind: Kind) -> bool
+fn is_wanted<A: Allocator>(framer: &Framer<A>, id: u16, kind: Kind) -> bool
     requires { framer.now.step ≡ Whole }
     ensures wanted { result ≡ true → IsWanted id kind framer.now.bytes }
     ensures other { result ≡ false → IsOther id kind framer.now.bytes }
@@ -77,11 +81,11 @@ fn is_wanted(framer: &Framer, id: u16, kind: Kind) -> bool
 ///
 /// `NoAnswer` where it did not come within the frames and reads of a call, or before the end of the input; `BadStream` where the
 /// stream shows a fault; `Device` where a read failed.
-pub fn find_frame<R: Read>(
+pub fn find_frame<R: Read, A: Allocator>(
     id: u16,
     kind: Kind,
-    framer: &mut Framer,
-    unread: &mut Unread,
+    framer: &mut Framer<A>,
+    unread: &mut Unread<A>,
     reader: &mut R,
     reads: &mut u32,
 ) -> Result<(), ClientFault>

@@ -2,7 +2,7 @@
 ghost use Rattle.std.specs.Prelude.{◌≡◌, ◌≤◌, ◌<◌, [], length, drop, IfOk, OnErr};
 ghost use Rattle.std.specs.Io.KnownBytes.{Consumes, IsAtEnd, Keeps};
 
-use std::alloc::{AllocError, Global};
+use std::alloc::{AllocError, Allocator, Global};
 use std::io;
 use std::io::Read;
 use std::marker::Model;
@@ -12,13 +12,13 @@ const PIECE_LEN: usize = 4096;
 
 /// The bytes that were read and not taken yet.
 #[derive(Drop)]
-pub struct Unread {
-    piece: Vec<u8>,
+pub struct Unread<A: Allocator = Global> {
+    piece: Vec<u8, A>,
     begin: usize,
     end: usize,
 }
 
-impl Model for Unread {
+impl<A: Allocator> Model for Unread<A> {
     ghost use Rattle.std.specs.Prelude.{◌≤◌, ◌-◌, ◌<◌, ℕ, List, length, take, drop};
 
     ghost Value = { List ℕ };
@@ -28,13 +28,13 @@ impl Model for Unread {
     ghost invariant = { λ u. record { begin : u.begin ≤ u.end; end : u.end ≤ length u.piece.items; room : 0 < length u.piece.items } };
 }
 
-impl Unread {
+impl<A: Allocator> Unread<A> {
     /// None yet.
     ///
     /// # Errors
     ///
     /// [`AllocError`] where there is no memory for a read.
-    pub fn new(alloc: Global) -> Result<Unread, AllocError>
+    pub fn new(alloc: A) -> Result<Unread<A>, AllocError>
         ensures { IfOk result (λ unread. unread ≡ []) }
     {
         Ok(Unread {

@@ -3,6 +3,6 @@ use Rattle.pdc_client.proofs.Following.{skipped}
 use Rattle.pdc_client.proofs.unread.Unread.skip.Goals as goal
 
 pub returns : goal.returns
-returns c = skipped c.self.inside.piece.items c.self.inside.begin c.self.inside.end c.args.count c.self.invariant.begin
+returns g c = skipped c.self.inside.piece.items c.self.inside.begin c.self.inside.end c.args.count c.self.invariant.begin
     (subst (λ (xs : List ℕ). c.args.count ≤ length xs) (sym c.self.view_is) c.requires)
     ∙ ap (drop c.args.count) c.self.view_is
