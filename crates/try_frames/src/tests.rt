@@ -4,7 +4,6 @@ mod commands;
 mod configurations;
 mod damaged;
 mod frames;
-mod refused_memory;
 mod same;
 mod show_failures;
 mod vectors;

@@ -1,19 +1,15 @@
 //! The calls that append to a caller's bytes, where the memory for them is refused. The contracts say that such a call fails only where
 //! there was no room and leaves the bytes as they were; here it really happens, on a small heap.
 
+use crate::tests::same::same;
+use crate::tests::vectors::CONFIG_11;
 use linked_list_allocator::LocalHeap;
 use pdc_block::{join, read_body};
 use pdc_cfg::{Shape, read_config, write_config};
 use pdc_command::{Command, write_command, write_header};
 use pdc_frame::{Frame, Kind, read_frame, write_frame};
-use std::fmt::Debug;
 use std::process::Abort;
 use std::test::*;
-
-/// Asserts that the two are the same, and says of which heap where they are not.
-fn same<T: PartialEq + Debug>(rt: &impl Abort, found: &T, wanted: &T, size: usize) {
-    assert_eq!(rt; found, wanted, "on a heap of {size} bytes");
-}
 
 /// What stands before the frame.
 const BEFORE: [u8; 3] = [1, 2, 3];
@@ -96,15 +92,6 @@ fn write_command_refused(rt: HostRuntime) -> Result<(), Fail> {
     seen.saw_both(&rt);
     Ok(())
 }
-
-/// CFG-2 of PMU 11.
-const CONFIG_11: [u8; 74] = [
-    0xAA, 0x32, 0x00, 0x4A, 0x00, 0x0B, 0x44, 0x85, 0x27, 0xF0, 0x00, 0x00, 0x00, 0x00, 0x00, 0x0F,
-    0x42, 0x40, 0x00, 0x01, 0x50, 0x4D, 0x55, 0x20, 0x31, 0x31, 0x20, 0x20, 0x20, 0x20, 0x20, 0x20,
-    0x20, 0x20, 0x20, 0x20, 0x00, 0x0B, 0x00, 0x00, 0x00, 0x01, 0x00, 0x00, 0x00, 0x00, 0x56, 0x41,
-    0x20, 0x20, 0x20, 0x20, 0x20, 0x20, 0x20, 0x20, 0x20, 0x20, 0x20, 0x20, 0x20, 0x20, 0x00, 0x0D,
-    0xF8, 0x47, 0x00, 0x01, 0x00, 0x01, 0x00, 0x32, 0xC2, 0xCE,
-];
 
 #[test]
 fn write_config_refused(rt: HostRuntime) -> Result<(), Fail> {

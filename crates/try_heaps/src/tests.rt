@@ -1,0 +1,7 @@
+//! Tests by what they are of.
+mod falling;
+mod makers;
+mod recent_frames;
+mod same;
+mod vectors;
+mod writers;

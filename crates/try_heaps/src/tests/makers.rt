@@ -1,0 +1,138 @@
+//! The calls that reserve their room once, on heaps of all sizes from ample down to the smallest: each succeeds exactly from the size on
+//! that its blocks have, and what the smallest such heap holds works there.
+
+use crate::tests::falling::{BLOCK, Falling};
+use crate::tests::same::same;
+use crate::tests::vectors::{CONFIG_11, DATA_11, DATA_ON, HEADER, SEND_HEADER, SOC, TEXT};
+use linked_list_allocator::LocalHeap;
+use pdc_cfg::read_config;
+use pdc_client::Pdc;
+use pdc_frame::{Framer, Step, read_frame};
+use pdc_session::{Serving, Session};
+use std::io;
+use std::io::{Read, Write};
+use std::test::*;
+
+/// How many sizes of heaps there are above the smallest: up to some blocks more than a client wants.
+const SIZES: usize = 4400;
+
+/// The block of a framer: the longest frame, 65535 bytes.
+const FRAMER: usize = 65_536;
+
+/// The blocks of a client: those of its framer and of a read, a page.
+const CLIENT: usize = FRAMER + 4096;
+
+#[test]
+fn framer_on_falling_heaps(rt: HostRuntime) -> Result<(), Fail> {
+    let mut falling = Falling::default();
+    for step in 0..=SIZES {
+        let size = BLOCK * (SIZES - step);
+        let heap = LocalHeap::new(rt.alloc(), size)?;
+        falling.see(&rt, size, Framer::new(&heap).is_ok());
+    }
+    falling.ends_at(&rt, FRAMER);
+    Ok(())
+}
+
+#[test]
+fn framer_on_the_smallest_heap(rt: HostRuntime) -> Result<(), Fail> {
+    let heap = LocalHeap::new(rt.alloc(), FRAMER)?;
+    let mut framer = Framer::new(&heap)?;
+    let (taken, step) = framer.feed(&DATA_ON);
+    same(&rt, &taken, &DATA_ON.len(), FRAMER);
+    same(&rt, &step, &Step::Whole, FRAMER);
+    same(&rt, &framer.frame(), &DATA_ON.as_slice(), FRAMER);
+    Ok(())
+}
+
+#[test]
+fn session_on_falling_heaps(rt: HostRuntime) -> Result<(), Fail> {
+    let mut falling = Falling::default();
+    for step in 0..=SIZES {
+        let size = BLOCK * (SIZES - step);
+        let heap = LocalHeap::new(rt.alloc(), size)?;
+        falling.see(&rt, size, Session::new(&heap, 11).is_ok());
+    }
+    falling.ends_at(&rt, FRAMER);
+    Ok(())
+}
+
+#[test]
+fn session_on_the_smallest_heap(rt: HostRuntime) -> Result<(), Fail> {
+    let heap = LocalHeap::new(rt.alloc(), FRAMER)?;
+    let mut session = Session::new(&heap, 11)?;
+    let frame = read_frame(&CONFIG_11)?;
+    let serving = Serving {
+        soc: SOC,
+        header: &TEXT,
+        layout: read_config(&frame)?,
+    };
+    let mut replies = Vec::new(rt.alloc());
+    session.feed(&SEND_HEADER, &serving, &mut replies)?;
+    same(&rt, &replies.as_slice(), &HEADER.as_slice(), FRAMER);
+    Ok(())
+}
+
+/// Gives the data frame of PMU 11 once, and takes all that is written.
+#[derive(Drop, Default)]
+struct Line {
+    at: usize,
+}
+
+impl Read for Line {
+    fn read(&mut self, buf: &mut [u8]) -> io::Result<usize> {
+        let rest = DATA_11.get(self.at..).unwrap_or(&[]);
+        let count = rest.len().min(buf.len());
+        buf[..count].copy_from_slice(&rest[..count]);
+        self.at = self.at.saturating_add(count);
+        Ok(count)
+    }
+}
+
+impl Write for Line {
+    fn write(&mut self, buf: &[u8]) -> io::Result<usize> {
+        Ok(buf.len())
+    }
+
+    fn flush(&mut self) -> io::Result<()> {
+        Ok(())
+    }
+}
+
+#[test]
+fn client_on_falling_heaps(rt: HostRuntime) -> Result<(), Fail> {
+    let mut falling = Falling::default();
+    for step in 0..=SIZES {
+        let size = BLOCK * (SIZES - step);
+        let heap = LocalHeap::new(rt.alloc(), size)?;
+        falling.see(&rt, size, Pdc::new(&heap, 11, Line::default()).is_ok());
+    }
+    falling.ends_at(&rt, CLIENT);
+    Ok(())
+}
+
+#[test]
+fn client_on_the_smallest_heap(rt: HostRuntime) -> Result<(), Fail> {
+    let heap = LocalHeap::new(rt.alloc(), CLIENT)?;
+    let mut client = Pdc::new(&heap, 11, Line::default())?;
+    let data = client.get(rt.alloc())?;
+    same(&rt, &data.as_slice(), &DATA_11.as_slice(), CLIENT);
+    Ok(())
+}
+
+#[test]
+fn client_without_memory_for_an_answer(rt: HostRuntime) -> Result<(), Fail> {
+    let heap = LocalHeap::new(rt.alloc(), CLIENT)?;
+    let mut client = Pdc::new(&heap, 11, Line::default())?;
+    same(&rt, &client.get(&heap).is_err(), &true, CLIENT);
+    let heap = LocalHeap::new(rt.alloc(), CLIENT + 2 * BLOCK)?;
+    let mut client = Pdc::new(&heap, 11, Line::default())?;
+    let data = client.get(&heap)?;
+    same(
+        &rt,
+        &data.as_slice(),
+        &DATA_11.as_slice(),
+        CLIENT + 2 * BLOCK,
+    );
+    Ok(())
+}
