@@ -5,99 +5,17 @@
 ghost use Rattle.std.specs.Prelude.{◌≡◌, IfSome};
 ghost use Rattle.pdc_mark.specs.DiskMark.{stored_of};
 
-mod scene;
-mod scripted;
-mod sinks;
+mod play;
 
 use pdc_disk::{FuseDisk, MemoryDisk};
 use pdc_mark::{DiskMark, Mark, ModelMark};
-use pdc_settings::NodeSettings;
-use scene::{Scene, play};
-use scripted::{Act, Shown};
-use std::alloc::Global;
+use play::play;
 use std::io;
 use std::process::ExitCode;
-
-/// Node A of the worked scenarios: PMUs 11 and 12, at 50 frames a second.
-const SETTINGS: &str = "id = 201
-rate = 50
-nominal = 50
-time_base = 1000000
-wait = 2
-window = 64
-ahead = 32
-layout_every = 100
-out_port = 4712
-session_port = 4713
-[[pmu]]
-stream = 11
-source = 11
-time_base = 1000000
-port = 4811
-[[pmu]]
-stream = 12
-source = 12
-time_base = 1000000
-port = 4812
-";
-
-/// The configurations of PMU 11 and of PMU 12: one phasor, count 1.
-const CONFIG_11: &str =
-    "aa32004a000b448527f000000000000f42400001504d5520313120202020202020202020000b000000010000000056412020202020202020202020202020000df847000100010032c2ce";
-
-const CONFIG_12: &str =
-    "aa32004a000c448527f000000000000f42400001504d5520313220202020202020202020000c000000010000000056412020202020202020202020202020000df847000100010032c29b";
-
-/// Their data for the instant 57478860001.
-const DATA_11: &str = "aa02001a000b448527f000004e200000392b000009c400002623";
-
-const DATA_12: &str = "aa02001a000c448527f000004e2000001388ec78fffe0000ce65";
-
-/// Their data for the instant 57478860002.
-const NEXT_DATA_11: &str = "aa02001a000b448527f000009c400000392b000009c400008ed7";
-
-const NEXT_DATA_12: &str = "aa02001a000c448527f000009c4000001388ec78fffe00006691";
-
-/// What a source of each PMU does in the runs that end well: its configuration, then its data once the layout shows both PMUs.
-const PLAIN_11: &[Act] = &[
-    Act::Give(CONFIG_11),
-    Act::AwaitLayout(3),
-    Act::Give(DATA_11),
-];
-
-const PLAIN_12: &[Act] = &[
-    Act::Give(CONFIG_12),
-    Act::AwaitLayout(3),
-    Act::Give(DATA_12),
-];
-
-/// What they do where each waits for the other in the call that gives its data.
-const MEETS_11: &[Act] = &[
-    Act::Give(CONFIG_11),
-    Act::AwaitLayout(3),
-    Act::Meet(DATA_11),
-];
-
-const MEETS_12: &[Act] = &[
-    Act::Give(CONFIG_12),
-    Act::AwaitLayout(3),
-    Act::Meet(DATA_12),
-];
-
-/// What they do where each gives data for two instants.
-const TWICE_11: &[Act] = &[
-    Act::Give(CONFIG_11),
-    Act::AwaitLayout(3),
-    Act::Give(DATA_11),
-    Act::Give(NEXT_DATA_11),
-];
-
-const TWICE_12: &[Act] = &[
-    Act::Give(CONFIG_12),
-    Act::AwaitLayout(3),
-    Act::Give(DATA_12),
-    Act::Give(NEXT_DATA_12),
-];
+use try_scene::{
+    Act, CONFIG_12, MEETS_11, MEETS_12, PLAIN_11, PLAIN_12, Scene, Shown, TWICE_11, TWICE_12,
+    settings_of,
+};
 
 /// A source that fails at its second call.
 const FAILS: &[Act] = &[Act::Give(CONFIG_12), Act::Fail];
@@ -132,11 +50,6 @@ fn fused_mark() -> Option<DiskMark<FuseDisk<MemoryDisk>>>
         return None;
     }
     Some(mark)
-}
-
-/// The settings of node A.
-fn settings_of(alloc: Global) -> Option<NodeSettings> {
-    NodeSettings::from_toml(alloc, SETTINGS).ok()
 }
 
 fn main(rt: HostRuntime) -> io::Result<ExitCode> {

@@ -1,11 +1,11 @@
 //! Sources and a ticker that wait for what the core shows.
 ghost use Rattle.std.specs.Prelude.{◌≡◌, ◌≤◌, ℕ, length};
 
+use arrayvec::ArrayVec;
 use pdc_cfg::read_config;
 use pdc_core::Core;
 use pdc_frame::read_frame;
 use pdc_threads::{Hub, Naming, Next, Numbered, Outcome, Source, Ticker, Told};
-use std::alloc::Global;
 use std::sync::Wait;
 use std::sync::atomic::{AtomicBool, AtomicU64, Ordering};
 use std::sync::ledger::Ledger;
@@ -13,6 +13,9 @@ use std::thread;
 
 /// How often a source or a ticker looks before it gives up.
 const TURNS: u32 = 10_000_000;
+
+/// The room for the layout of node A, 1194 bytes: a source that looks asks for no memory.
+const LAYOUT_ROOM: usize = 1500;
 
 /// What a source does at a call.
 #[derive(Clone, Copy, Debug)]
@@ -27,11 +30,13 @@ pub enum Act<'a> {
     Fail,
 }
 
-/// What sources and ticker of a run show: the flag of each of two sources, and what the ticker was told last.
+/// What sources and ticker of a run show: the flag of each of two sources, whether the run failed to answer one, and what the ticker was
+/// told last.
 #[derive(Drop)]
 pub struct Shown {
     first: AtomicBool,
     second: AtomicBool,
+    unanswered: AtomicBool,
     pub published: AtomicU64,
     pub last: AtomicU64,
 }
@@ -42,6 +47,7 @@ impl Shown {
         Shown {
             first: AtomicBool::new(false),
             second: AtomicBool::new(false),
+            unanswered: AtomicBool::new(false),
             published: AtomicU64::new(0),
             last: AtomicU64::new(0),
         }
@@ -69,15 +75,14 @@ pub struct Scripted<
     P: Ledger,
     R: Wait,
 > {
-    pub rt: &'r R,
-    pub alloc: Global,
-    pub hub: &'h Hub<C, N, T, F, G, P>,
+    rt: &'r R,
+    hub: &'h Hub<C, N, T, F, G, P>,
     shown: &'r Shown,
     is_second: bool,
     acts: &'r [Act<'r>],
-    pub done: usize,
-    pub turns: u32,
-    pub failures: u64,
+    done: usize,
+    turns: u32,
+    failures: u64,
 }
 
 /// How many sections the frame of a layout has; 0 where it is none.
@@ -105,7 +110,6 @@ impl<
     /// A source that has done none of these things yet, with what both show; it is the first source or the second one.
     pub fn new(
         rt: &'r R,
-        alloc: Global,
         hub: &'h Hub<C, N, T, F, G, P>,
         shown: &'r Shown,
         is_second: bool,
@@ -113,7 +117,6 @@ impl<
     ) -> Self {
         Scripted {
             rt,
-            alloc,
             hub,
             shown,
             is_second,
@@ -126,9 +129,9 @@ impl<
 
     /// How many sections the layout in force has.
     fn sections(&self) -> usize {
-        let mut layout = Vec::new(self.alloc);
+        let mut layout: ArrayVec<u8, LAYOUT_ROOM> = ArrayVec::new();
         match self.hub.layout(self.rt, 0, &mut layout) {
-            Ok(()) => section_count(&layout),
+            Ok(()) => section_count(layout.as_slice()),
             Err(_) => 0,
         }
     }
@@ -216,14 +219,19 @@ impl<
         }
     }
 
-    fn answered(&mut self, _answer: Option<Numbered<Outcome>>) {}
+    fn answered(&mut self, answer: Option<Numbered<Outcome>>) {
+        if answer.is_none() {
+            self.shown.unanswered.store(true, Ordering::SeqCst);
+        }
+    }
 
     fn failures(&self) -> u64 {
         self.failures
     }
 }
 
-/// Gives the instant `first` once two configurations were held, the next one once so many data frames were taken, and then ends.
+/// Gives the instant `first` once two configurations were held, the next one once so many data frames were taken, and then ends; before,
+/// where the run failed to answer a source.
 #[derive(Drop)]
 pub struct Following<
     'h,
@@ -270,6 +278,9 @@ impl<
             };
             if is_reached {
                 return self.first.checked_add(given);
+            }
+            if self.shown.unanswered.load(Ordering::SeqCst) {
+                return None;
             }
         }
         None

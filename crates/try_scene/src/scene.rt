@@ -1,4 +1,4 @@
-//! One run, and what is printed of it.
+//! One run, and what came of it.
 ghost use Rattle.std.specs.Prelude.{◌≡◌, ◌≤◌, ◌<◌, ◌+◌, Some, [], length, vec_len};
 ghost use Rattle.pdc_life.specs.Given.{given_of};
 ghost use Rattle.pdc_node.specs.Node.{StandsFor};
@@ -26,6 +26,7 @@ const FIRST: u64 = 57_478_860_000;
 /// A run of node A.
 #[derive(Clone, Copy)]
 pub struct Scene<'a> {
+    /// What is printed right before the run.
     pub name: &'a str,
     /// After how many steps the base is brought up.
     pub limit: usize,
@@ -45,11 +46,11 @@ pub struct Scene<'a> {
 /// What came of a run, how much data the core had taken, and what the ticker was told last: how many rows were published, and the last
 /// instant of them.
 #[derive(Drop)]
-struct Played<M: Mark> {
-    ran: Ran<M, Fused>,
-    taken: u64,
-    published: u64,
-    last: u64,
+pub struct Played<M: Mark> {
+    pub ran: Ran<M, Fused>,
+    pub taken: u64,
+    pub published: u64,
+    pub last: u64,
 }
 
 /// Runs two nodes that were opened alike: one is the base, the other the state.
@@ -61,7 +62,7 @@ fn opened<
     G: Ledger + Send + Sync,
     P: Ledger + Send + Sync,
     M: Mark + Drop,
-    R: Threads + Wait + Sync,
+    R: Threads + Wait + Sync + Print,
 >(
     rt: &'h R,
     alloc: Global,
@@ -74,7 +75,7 @@ fn opened<
     blanks: Blanks,
     publisher: Publisher<M>,
     sink: Fused,
-) -> Option<Played<M>>
+) -> io::Result<Option<Played<M>>>
     requires given { N.given ≡ Some (given_of settings.now start 0 counts.now 0) }
     requires alike { StandsFor (given_of settings.now start 0 counts.now 0) [] base × StandsFor (given_of settings.now start 0 counts.now 0) [] state }
     requires settings { (N.settings ≡ Some settings.now) × (base.settings ≡ settings.now) × (state.settings ≡ settings.now) }
@@ -98,10 +99,11 @@ fn opened<
     );
     let shared = &hub;
     let mut sources = Vec::new(alloc);
-    let one = Scripted::new(rt, alloc, shared, scene.shown, false, scene.first);
-    sources.push(one).ok()?;
-    let other = Scripted::new(rt, alloc, shared, scene.shown, true, scene.second);
-    sources.push(other).ok()?;
+    let one = Scripted::new(rt, shared, scene.shown, false, scene.first);
+    let other = Scripted::new(rt, shared, scene.shown, true, scene.second);
+    if sources.push(one).is_err() || sources.push(other).is_err() {
+        return Ok(None);
+    }
     let ticker = Following {
         rt,
         hub: shared,
@@ -114,28 +116,30 @@ fn opened<
         rate: settings.output.rate,
         layout_every: scene.layout_every,
     };
+    let name = scene.name;
+    println!(rt; "{name}")?;
     let ran = run(
         rt, alloc, shared, settings, shares, top, sources, publisher, ticker, pace, sink,
     );
     let taken = hub.counts(rt).taken;
     let published = scene.shown.published.load(Ordering::SeqCst);
     let last = scene.shown.last.load(Ordering::SeqCst);
-    Some(Played {
+    Ok(Some(Played {
         ran,
         taken,
         published,
         last,
-    })
+    }))
 }
 
-/// Runs node A over this mark, if there is memory for it.
-fn run_scene<M: Mark + Drop, R: Threads + Wait + Sync>(
+/// Runs node A over this mark, if there is memory for it; right before the run it prints the name.
+pub fn run_scene<M: Mark + Drop, R: Threads + Wait + Sync + Print>(
     rt: &R,
     alloc: Global,
     settings: &Settings,
     mark: M,
     scene: &Scene<'_>,
-) -> Option<Played<M>>
+) -> io::Result<Option<Played<M>>>
     requires floor { (M.stored mark).floor ≡ 0 }
     requires limit { 1 ≤ scene.now.limit }
     requires pace { 1 ≤ scene.now.layout_every }
@@ -144,10 +148,10 @@ fn run_scene<M: Mark + Drop, R: Threads + Wait + Sync>(
     let (start, _) = mark.stored();
     let counts = mark.counts();
     let Ok(base) = Node::open(alloc, copy_of(settings), start, 0, &counts, 0) else {
-        return None;
+        return Ok(None);
     };
     let Ok(state) = Node::open(alloc, copy_of(settings), start, 0, &counts, 0) else {
-        return None;
+        return Ok(None);
     };
     let publisher = Publisher::new(mark, settings.output, 0);
     let blanks = Blanks {
@@ -165,53 +169,4 @@ fn run_scene<M: Mark + Drop, R: Threads + Wait + Sync>(
     opened::<Brand, Brand, Brand, Brand, Brand, M, R>(
         rt, alloc, settings, start, &counts, base, state, scene, blanks, publisher, sink,
     )
-}
-
-/// Prints how a run ended, and each frame that the sink took: a layout by its length, data whole.
-fn print_played<M: Mark, R: Print>(rt: &R, alloc: Global, played: &Played<M>) -> io::Result<()> {
-    match &played.ran.outcome {
-        Ok(totals) => {
-            let (taken, refused, published) = (totals.taken, totals.refused, totals.published);
-            println!(rt; "  taken={taken} refused={refused} published={published}")?;
-            for counted in &totals.receivers {
-                let (taken, refused) = (counted.taken, counted.refused);
-                println!(rt; "  receiver: taken={taken} refused={refused}")?;
-            }
-        }
-        Err(fault) => println!(rt; "  {fault}")?,
-    }
-    let taken = played.taken;
-    println!(rt; "  core: taken={taken}")?;
-    let (published, last) = (played.published, played.last);
-    println!(rt; "  told: published={published} last={last}")?;
-    for frame in &played.ran.sink.inner.frames {
-        let len = frame.len();
-        if len > 100 {
-            println!(rt; "  frame of {len} bytes")?;
-        } else {
-            let text = hex::encode(alloc, frame)?;
-            println!(rt; "  {text}")?;
-        }
-    }
-    Ok(())
-}
-
-/// Runs node A over a mark that stores no instant, and prints what came of it.
-pub fn play<M: Mark + Drop, R: Threads + Wait + Sync + Print>(
-    rt: &R,
-    alloc: Global,
-    settings: &Settings,
-    mark: M,
-    scene: &Scene<'_>,
-) -> io::Result<()> {
-    let name = scene.name;
-    println!(rt; "{name}")?;
-    let (_, floor) = mark.stored();
-    if scene.limit == 0 || scene.layout_every == 0 || settings.pmus.len() != 2 || floor != 0 {
-        return println!(rt; "  no such run");
-    }
-    match run_scene(rt, alloc, settings, mark, scene) {
-        Some(played) => print_played(rt, alloc, &played),
-        None => println!(rt; "  out of memory"),
-    }
 }

@@ -1,6 +1,6 @@
 use Rattle.std.proofs.Common.{Some}
 use Rattle.pdc_life.specs.Given.{given_of}
-use Rattle.try_threads.proofs.scene.run_scene.Given as goal
+use Rattle.try_scene.proofs.scene.run_scene.Given as goal
 
 abbrev pub ghosts-opened-N-Naming : goal.ghosts-opened-N-Naming
 ghosts-opened-N-Naming g a = record { given = Some (given_of a.settings.now a.start 0 a.counts.now 0); settings = Some a.settings.now }
