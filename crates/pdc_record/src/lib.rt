@@ -6,10 +6,13 @@
 //! back as the same entry, whatever follows; what is read is the entry whose bytes these are; and a check word lies over each.
 #![tactic(auto)]
 
+mod answer;
 mod begun;
+mod bodies;
 mod entry;
 mod limits;
 mod reading;
+mod words;
 mod writing;
 
 pub use begun::{Begun, Role};
@@ -17,4 +20,4 @@ pub use entry::{Entry, What};
 pub use limits::{MAX_REST, VERSION};
 pub use pdc_life::{CfgFault, FrameFault, MAX_PMUS, Outcome, Refusal};
 pub use reading::{Unread, read_entry};
-pub use writing::{entry_len, write_entry};
+pub use writing::{WriteFault, entry_len, write_entry};
