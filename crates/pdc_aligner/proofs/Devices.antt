@@ -66,7 +66,7 @@ popped_so Stands named None step h = tt
 popped_so Stands named (Some row) step h = ∥∥₁_map h (λ x. record { core = x.core; given = x.given; is_named = x.is_named; life = x.life; stands = x.stands; fact = x.fact.0 })
 
 -- what was popped is a row of some life
-pub all_popped : {C : Type 0} (Stands : C → Lives) (named : Option Given) (r : Result (Numbered {0} (Option DueRow)) HubFault)
+pub all_popped : {C : Type 0} (Stands : C → Lives) (named : Option Given) (r : Result (Numbered (Option DueRow)) HubFault)
     → IfOk r (λ numbered. ∥ InSomeLife Stands named (λ state g E. (option_map row_view numbered.answer ≡ pop_answer E) × (numbered.step ≡ number_in E)) ∥₁) → IfOk r (λ numbered. IfSome numbered.answer (λ row. IsPopped Stands named (row_view row)))
 all_popped Stands named (Ok numbered) h = popped_so Stands named numbered.answer numbered.step h
 all_popped Stands named (Err fault) h = tt

@@ -20,7 +20,7 @@ tagged_so Stands named Fact rate (Some row) some tagged is =
     ∥∥₁_elim some (search props) (λ x. subst (λ (n : ℕ). row.instant < SECONDS * n) (is.at x.given x.is_named) (tagged x.given x.is_named))
 
 -- what is popped in some life can be tagged at the rate of what is named
-pub all_tagged : {C E : Type 0} (Stands : C → Lives) (named : Option Given) (Fact : Numbered {0} (Option DueRow) → C → Given → List Entry → Type 0) (rate : ℕ) (r : Result (Numbered {0} (Option DueRow)) E)
+pub all_tagged : {C E : Type 0} (Stands : C → Lives) (named : Option Given) (Fact : Numbered (Option DueRow) → C → Given → List Entry → Type 0) (rate : ℕ) (r : Result (Numbered (Option DueRow)) E)
     → IfOk r (λ numbered. ∥ InSomeLife Stands named (Fact numbered) ∥₁)
     → IfOk r (λ numbered. IfSome numbered.answer (λ row. (g : Given) → named ≡ Some g → row.instant < SECONDS * g.output.rate))
     → IsAtRate named rate → IfOk r (λ numbered. IfSome numbered.answer (λ row. row.instant < SECONDS * rate))

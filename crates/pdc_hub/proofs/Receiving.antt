@@ -114,7 +114,7 @@ answer_for rules Stands named Says counts_of stream taken refused configured byt
     ∥∥₁_map h (λ x. (taken_view kept, says, record { core = x.core; given = x.given; is_named = x.is_named; life = x.life; stands = x.stands; fact = x.fact.0 }))
 
 -- where it was answered
-pub all_answered : {C : Type 0} (rules : Rules) (Stands : C → Lives) (named : Option Given) (Says : Sayings) (counts_of : C → Counts) (stream taken refused configured : ℕ) (bytes : List ℕ) (kept : KeptArrival) (result : Result (Numbered {0} Outcome) HubFault)
+pub all_answered : {C : Type 0} (rules : Rules) (Stands : C → Lives) (named : Option Given) (Says : Sayings) (counts_of : C → Counts) (stream taken refused configured : ℕ) (bytes : List ℕ) (kept : KeptArrival) (result : Result (Numbered Outcome) HubFault)
     → Says stream bytes (taken_view kept)
     → IfOk result (λ numbered. ∥ InSomeLife Stands named (λ state g E. (numbered.answer ≡ (rules g E stream (taken_view kept)).outcome) × CountsAtLeast (counts_of state) taken refused configured × (numbered.step ≡ number_in E)) ∥₁)
     → IfOk result (λ numbered. IsAnswerFor rules Stands named Says stream bytes numbered.answer)

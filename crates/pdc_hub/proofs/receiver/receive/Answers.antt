@@ -23,8 +23,8 @@ loop-preserved-in-Ok g c =
     let answers : Answering = IsAnswerFor g.C.Core.rules g.C.Core.stands_for g.N.Naming.given (g.C.Settings.Reads.says c.args.settings.now) c.args.stream in
     let same : c.deref.result.now ≡ c.next-in-loop.new.buffer = left_whole _ _ _ _ c.deref.ensures.value (search rules) in
     let answer : answers bytes c.in-Ok.answer.answer = subst (λ (buffer : List ℕ). answers (take c.in-Datagram.len buffer) c.in-Ok.answer.answer) same c.in-Ok.ensures.answer in
-    let taken : c.match-outcome.taken ≡ c.loop.taken + taken_by c.in-Ok.answer.answer = search (rules, c.match-outcome.branch) in
-    let refused : c.match-outcome.refused ≡ c.loop.refused + refused_by c.in-Ok.answer.answer = search (rules, c.match-outcome.branch) in
+    let taken : c.match-answer.taken ≡ c.loop.taken + taken_by c.in-Ok.answer.answer = search (rules, c.match-answer.branch) in
+    let refused : c.match-answer.refused ≡ c.loop.refused + refused_by c.in-Ok.answer.answer = search (rules, c.match-answer.branch) in
     let told : (hs : List Heard) → g.S.Source.told c.loop.source hs → g.S.Source.told c.answered.new.self (hs ++ Gave bytes ∷ []) = λ hs t. c.answered.ensures.tells _ (c.in-Datagram.ensures.tells hs t) in (
       search rules,
       search rules,
@@ -32,7 +32,7 @@ loop-preserved-in-Ok g c =
       search rules,
       search rules,
       search rules,
-      receiving_on g.S.Source.told c.args.source.now c.loop.source c.answered.new.self answers c.loop.taken c.loop.refused c.match-outcome.taken c.match-outcome.refused bytes c.in-Ok.answer.answer
+      receiving_on g.S.Source.told c.args.source.now c.loop.source c.answered.new.self answers c.loop.taken c.loop.refused c.match-answer.taken c.match-answer.refused bytes c.in-Ok.answer.answer
           c.loop.invariant.6 told answer taken refused,
     )
 
