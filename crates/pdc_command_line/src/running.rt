@@ -143,13 +143,7 @@ fn optional_number(
     };
     match number(text, 1, most) {
         Some(number) => Ok(Some(number)),
-        None => Err(out_of_range(
-            alloc,
-            command(alloc, asked)?,
-            shown,
-            text,
-            most,
-        )?),
+        None => Err(out_of_range(alloc, command(alloc, asked)?, shown, text, most)?),
     }
 }
 
@@ -160,7 +154,13 @@ fn record_of<'a>(
     matches: &ArgMatches<'a>,
 ) -> Result<Option<Record<'a>>, Error> {
     let size = matches.get_str("record-size");
-    let size = optional_number(alloc, asked, size, "--record-size <MEBIBYTES>", MAX_RECORD_SIZE)?;
+    let size = optional_number(
+        alloc,
+        asked,
+        size,
+        "--record-size <MEBIBYTES>",
+        MAX_RECORD_SIZE,
+    )?;
     let keep = matches.get_str("record-keep");
     let keep = optional_number(alloc, asked, keep, "--record-keep <FILES>", u32::MAX)?;
     match matches.get_str("record") {

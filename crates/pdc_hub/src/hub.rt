@@ -145,7 +145,11 @@ impl<C: Core + Drop, N: Naming<C::Settings>, T: Ledger, F: Ledger, G: Ledger, P:
     /// # Errors
     ///
     /// `NoMemory` where there is no memory for the step. Nothing is added then.
-    pub fn pop<R: Wait>(&self, rt: &R, all: &mut Share<P>) -> Result<Numbered<Option<DueRow>>, HubFault>
+    pub fn pop<R: Wait>(
+        &self,
+        rt: &R,
+        all: &mut Share<P>,
+    ) -> Result<Numbered<Option<DueRow>>, HubFault>
         requires { (all.old.parts ≡ P.parts) × (0 < all.old.parts) }
         ensures some { IfOk result (λ numbered. ∥ InSomeLife C.stands_for N.given (λ state g E. (option_map row_view numbered.answer ≡ pop_answer E) × (numbered.step ≡ number_in E)) ∥₁) }
         ensures row { IfOk result (λ numbered. IfSome numbered.answer (λ row. (all.old.amount < row.instant) × (all.new.amount ≡ row.instant))) }

@@ -159,7 +159,13 @@ impl<'a, S: Source + Drop, R: Wait + Clock> Source for ObservedSource<'a, S, R> 
     fn answered(&mut self, answer: Option<Numbered<Outcome>>) {
         let (rt, alloc, journal, tally) = (self.rt, self.alloc, self.journal, self.tally);
         self.inner.answered(answer);
-        let Some(Numbered { answer: outcome, .. }) = answer else {
+        let Some(
+            Numbered {
+                answer: outcome,
+                ..
+            },
+        ) = answer
+        else {
             journal.tell(
                 rt,
                 ended_text(

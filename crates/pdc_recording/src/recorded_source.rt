@@ -44,7 +44,11 @@ impl<'a, S: Source + Drop, R: Wait + Clock> RecordedSource<'a, S, R> {
             time: 0,
             datagram: Vec::new(alloc),
         });
-        RecordedSource { rt, inner, recorded }
+        RecordedSource {
+            rt,
+            inner,
+            recorded,
+        }
     }
 }
 

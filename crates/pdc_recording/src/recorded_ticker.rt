@@ -18,11 +18,7 @@ pub struct RecordedTicker<'a, K: Ticker + Drop, R: Wait + Clock> {
 
 impl<'a, K: Ticker + Drop, R: Wait + Clock> RecordedTicker<'a, K, R> {
     /// Records what the aligner does, where the life is recorded.
-    pub fn new(
-        rt: &'a R,
-        recording: Option<&'a Recording>,
-        inner: K,
-    ) -> RecordedTicker<'a, K, R> {
+    pub fn new(rt: &'a R, recording: Option<&'a Recording>, inner: K) -> RecordedTicker<'a, K, R> {
         RecordedTicker {
             rt,
             recording,

@@ -134,8 +134,9 @@ impl<'a> Series<'a> {
         if let Some(keep) = self.limits.keep {
             if number > keep {
                 let start = self.begun.start;
-                let old = name_of(self.alloc, self.name, start, number - keep)
-                    .map_err(|_| no_memory())?;
+                let old = name_of(self.alloc, self.name, start, number - keep).map_err(
+                    |_| no_memory(),
+                )?;
                 let _removed = fs::remove_file(rt, old.as_str());
             }
         }

@@ -8,12 +8,11 @@ use pdc_journal::Journal;
 use pdc_record::{Entry, What, write_entry};
 use std::alloc::{AllocError, Global};
 use std::fs::File;
-use std::io;
 use std::io::ErrorKind;
 use std::rt::{Clock, Files};
 use std::sync::Wait;
-use std::thread;
 use std::time::Duration;
+use std::{io, thread};
 
 /// How long nobody looks for an entry after there was none, in milliseconds.
 const PAUSE: u64 = 20;

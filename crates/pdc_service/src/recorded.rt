@@ -57,5 +57,6 @@ pub fn open_record<'a, M: Mark + Drop, R: Clock + Files<File = File>>(
         record.limits,
         begun,
         nanoseconds_now(rt),
-    ).map_err(ServiceFault::Record)
+    )
+    .map_err(ServiceFault::Record)
 }

@@ -8,8 +8,8 @@ use crate::host::Host;
 use crate::observing::Observed;
 use crate::options::RunOptions;
 use crate::ports::{open_links, open_listener, open_metrics, open_sink};
-use crate::serving::{Consumers, Opened, run_serving};
 use crate::recorded::{RecordFile, open_record};
+use crate::serving::{Consumers, Opened, run_serving};
 use crate::telling::begun_text;
 use pdc_settings::Network;
 use pdc_threads::{HubFault, Totals};
@@ -39,13 +39,8 @@ fn serve_concentrator<R: Host>(
     let service = concentrator.service_settings();
     let mark = begin_mark(rt, files.mark, output.id, output.rate)?;
     let is_recorded = files.record.is_some();
-    let Ok(observed) = Observed::new(
-        alloc,
-        concentrator,
-        network,
-        options.is_quiet,
-        is_recorded,
-    ) else {
+    let Ok(observed) = Observed::new(alloc, concentrator, network, options.is_quiet, is_recorded)
+    else {
         return Err(ServiceFault::Run(HubFault::NoMemory));
     };
     let (start, floor) = (mark.start(), mark.floor());

@@ -13,9 +13,9 @@ loop-preserved g c =
     let before = (view c.loop.pass).put in
     let after = (view c.publish_one.new.pass).put in
     let output = output_in c.args.publisher.now in
-    let framed = subst (λ (o : Output). HasPutRow o (row_view c.in-Some.row) before after) c.loop.invariant.5 c.in_default.ensures.frame in
-    let popped = popped_some g.C.Core.stands_for g.N.Naming.given c.in-Ok.numbered.answer c.in-Some.row (search rules) c.in-Ok.ensures.popped in
-    let one = one_put g.C.Core.stands_for g.N.Naming.given output (row_view c.in-Some.row) before after popped framed in (
+    let framed = subst (λ (o : Output). HasPutRow o (row_view c.in-Some-answer.row) before after) c.loop.invariant.5 c.in_default-publish_one.ensures.frame in
+    let popped = popped_some g.C.Core.stands_for g.N.Naming.given c.in-Ok.numbered.answer c.in-Some-answer.row (search rules) c.in-Ok.ensures.popped in
+    let one = one_put g.C.Core.stands_for g.N.Naming.given output (row_view c.in-Some-answer.row) before after popped framed in (
       search rules,
       search rules,
       search rules,
@@ -26,6 +26,6 @@ loop-preserved g c =
       search rules,
       more_put g.C.Core.stands_for g.N.Naming.given output (view c.args.pass.now).put before after c.loop.invariant.8 one,
       search rules,
-      sound_on _ _ _ c.loop.invariant.10 (sound_of _ _ _ c.in_default.ensures.device),
+      sound_on _ _ _ c.loop.invariant.10 (sound_of _ _ _ c.in_default-publish_one.ensures.device),
       λ nows h. c.publish_one.ensures.gave nows (c.loop.invariant.11 nows h),
     )
