@@ -1,9 +1,15 @@
 //! The number of an answer in an entry.
 
+ghost use Rattle.std.specs.Prelude.{◌≡◌, ◌<◌, ◌≤◌, MatchOption};
+ghost use Rattle.pdc_record.specs.Answers.{answer_number, refusal_number};
+
+use crate::limits::{ANSWERS, REFUSALS};
 use pdc_life::{CfgFault, FrameFault, Outcome, Refusal};
 
 /// The number that stands for the answer.
-pub(crate) fn answer_number(outcome: Outcome) -> u8 {
+pub(crate) fn answer_number(outcome: Outcome) -> u8
+    ensures { result ≡ answer_number outcome }
+{
     match outcome {
         Outcome::Taken => 0,
         Outcome::Candidate => 1,
@@ -13,7 +19,10 @@ pub(crate) fn answer_number(outcome: Outcome) -> u8 {
 }
 
 /// The place of the refusal among the refusals.
-fn refusal_number(refusal: Refusal) -> u8 {
+fn refusal_number(refusal: Refusal) -> u8
+    ensures value { result ≡ refusal_number refusal }
+    ensures small { result < REFUSALS }
+{
     match refusal {
         Refusal::NoFrame(FrameFault::Short) => 0,
         Refusal::NoFrame(FrameFault::BadSync) => 1,
@@ -46,7 +55,9 @@ fn refusal_number(refusal: Refusal) -> u8 {
 }
 
 /// The answer that the number stands for.
-pub(crate) fn answer_of(number: u8) -> Option<Outcome> {
+pub(crate) fn answer_of(number: u8) -> Option<Outcome>
+    ensures { MatchOption result (ANSWERS ≤ number) (λ outcome. answer_number outcome ≡ number) }
+{
     match number {
         0 => Some(Outcome::Taken),
         1 => Some(Outcome::Candidate),
@@ -56,35 +67,37 @@ pub(crate) fn answer_of(number: u8) -> Option<Outcome> {
 }
 
 /// The refusal in this place.
-fn refusal_of(number: u8) -> Option<Refusal> {
-    Some(match number {
-        0 => Refusal::NoFrame(FrameFault::Short),
-        1 => Refusal::NoFrame(FrameFault::BadSync),
-        2 => Refusal::NoFrame(FrameFault::SizeMismatch),
-        3 => Refusal::NoFrame(FrameFault::BadCheck),
-        4 => Refusal::NoFrame(FrameFault::BadId),
-        5 => Refusal::WrongId,
-        6 => Refusal::NoConfiguration(CfgFault::WrongKind),
-        7 => Refusal::NoConfiguration(CfgFault::Cut),
-        8 => Refusal::NoConfiguration(CfgFault::TooMany),
-        9 => Refusal::NoConfiguration(CfgFault::FloatFormat),
-        10 => Refusal::WrongTimeBase,
-        11 => Refusal::WrongRate,
-        12 => Refusal::WrongSource,
-        13 => Refusal::BadOwnBlock,
-        14 => Refusal::UnknownSource,
-        15 => Refusal::OldStamp,
-        16 => Refusal::StaleCount,
-        17 => Refusal::CountConflict,
-        18 => Refusal::BadTag,
-        19 => Refusal::NoConfig,
-        20 => Refusal::WrongLength,
-        21 => Refusal::OtherStamp,
-        22 => Refusal::Late,
-        23 => Refusal::Ahead,
-        24 => Refusal::OutOfWindow,
-        25 => Refusal::Duplicate,
-        26 => Refusal::Conflict,
-        _ => return None,
-    })
+fn refusal_of(number: u8) -> Option<Refusal>
+    ensures { MatchOption result (REFUSALS ≤ number) (λ refusal. refusal_number refusal ≡ number) }
+{
+    match number {
+        0 => Some(Refusal::NoFrame(FrameFault::Short)),
+        1 => Some(Refusal::NoFrame(FrameFault::BadSync)),
+        2 => Some(Refusal::NoFrame(FrameFault::SizeMismatch)),
+        3 => Some(Refusal::NoFrame(FrameFault::BadCheck)),
+        4 => Some(Refusal::NoFrame(FrameFault::BadId)),
+        5 => Some(Refusal::WrongId),
+        6 => Some(Refusal::NoConfiguration(CfgFault::WrongKind)),
+        7 => Some(Refusal::NoConfiguration(CfgFault::Cut)),
+        8 => Some(Refusal::NoConfiguration(CfgFault::TooMany)),
+        9 => Some(Refusal::NoConfiguration(CfgFault::FloatFormat)),
+        10 => Some(Refusal::WrongTimeBase),
+        11 => Some(Refusal::WrongRate),
+        12 => Some(Refusal::WrongSource),
+        13 => Some(Refusal::BadOwnBlock),
+        14 => Some(Refusal::UnknownSource),
+        15 => Some(Refusal::OldStamp),
+        16 => Some(Refusal::StaleCount),
+        17 => Some(Refusal::CountConflict),
+        18 => Some(Refusal::BadTag),
+        19 => Some(Refusal::NoConfig),
+        20 => Some(Refusal::WrongLength),
+        21 => Some(Refusal::OtherStamp),
+        22 => Some(Refusal::Late),
+        23 => Some(Refusal::Ahead),
+        24 => Some(Refusal::OutOfWindow),
+        25 => Some(Refusal::Duplicate),
+        26 => Some(Refusal::Conflict),
+        _ => None,
+    }
 }

@@ -10,8 +10,10 @@ mod answer;
 mod begun;
 mod bodies;
 mod entry;
+mod fixed;
 mod limits;
 mod reading;
+mod starts;
 mod words;
 mod writing;
 

@@ -15,6 +15,12 @@ pub(crate) const OVERHEAD: usize = 23;
 /// The longest entry: what a life began with, before the longest text.
 pub(crate) const MAX_LEN: usize = 1048664;
 
+/// How many refusals there are.
+pub(crate) const REFUSALS: u8 = 27;
+
+/// How many answers there are.
+pub(crate) const ANSWERS: u8 = 30;
+
 /// The number of counts, one for each column.
 pub(crate) const COUNTS: usize = 16;
 
@@ -26,6 +32,12 @@ pub(crate) const BEGUN_FRONT: usize = 19;
 
 /// and NOW and PROGRAM, which stand behind them.
 pub(crate) const BEGUN_BACK: usize = 14;
+
+/// The bytes of an instant that is now.
+pub(crate) const NOW_LEN: usize = 8;
+
+/// The bytes of the version of a program.
+pub(crate) const PROGRAM_LEN: usize = 6;
 
 /// The fixed part of Begun.
 pub(crate) const BEGUN_LEN: usize = 65;

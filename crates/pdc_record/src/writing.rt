@@ -1,8 +1,14 @@
 //! Entries are written.
+ghost use Rattle.std.specs.Prelude.{◌≡◌, ◌+◌, ◌^◌, ◌≤◌, ◌<◌, ◌++◌, ◌↔◌, length, OnOk, OnErr, IsOk, IsErrOf};
+ghost use Rattle.pdc_record.specs.Told.{fields_of, told_of};
+ghost use Rattle.pdc_record.specs.Bodies.{rest_of};
+ghost use Rattle.pdc_record.specs.Entries.{Fits, head_of, spelling_of};
+ghost use Rattle.pdc_record.specs.declared.writing.WriteFault.TheVariants.{TooLong};
 
-use crate::bodies::{append_fixed, fixed_len, kind_number, rest_of};
+use crate::bodies::{kind_number, rest_of};
 use crate::entry::Entry;
-use crate::limits::{HEAD_LEN, MAX_REST, OVERHEAD};
+use crate::fixed::{append_fixed, fixed_len};
+use crate::limits::{BEGUN_LEN, HEAD_LEN, MAX_REST, OVERHEAD};
 use byteorder::{BigEndian, ByteOrder};
 use pdc_frame::{Buffer, check_word};
 
@@ -16,12 +22,20 @@ pub enum WriteFault {
 }
 
 /// How many bytes the entry has.
-pub fn entry_len(entry: &Entry<'_>) -> usize {
+pub fn entry_len(entry: &Entry<'_>) -> usize
+    ensures value { result ≡ length (spelling_of (fields_of entry.now)) }
+    ensures most { result ≤ OVERHEAD + BEGUN_LEN + length (rest_of (told_of entry.now.what)) }
+{
     OVERHEAD + fixed_len(&entry.what) + rest_of(&entry.what).len()
 }
 
 /// LEN, KIND, STEP and TIME, in an entry of so many bytes.
-fn head_bytes(entry: &Entry<'_>, len: u32) -> [u8; HEAD_LEN] {
+fn head_bytes(entry: &Entry<'_>, len: u32) -> [u8; HEAD_LEN]
+    ensures value { result ≡ head_of (fields_of entry.now) len }
+    ensures len { length result ≡ HEAD_LEN }
+    ensures step { entry.now.step < 2 ^ 64 }
+    ensures time { entry.now.time < 2 ^ 64 }
+{
     let mut head = [0; HEAD_LEN];
     BigEndian::write_u32(&mut head, len);
     head[4] = kind_number(&entry.what);
@@ -30,12 +44,25 @@ fn head_bytes(entry: &Entry<'_>, len: u32) -> [u8; HEAD_LEN] {
     head
 }
 
-/// Appends the bytes of an entry.
+/// Appends the bytes of an entry: the one spelling of its fields. It takes no memory where there is room for them.
 ///
 /// # Errors
 ///
-/// The first cause that holds, in the order of [`WriteFault`]. Then nothing is appended.
-pub fn write_entry<B: Buffer>(entry: &Entry<'_>, out: &mut B) -> Result<(), WriteFault> {
+/// The first cause that holds, in the order of [`WriteFault`].
+pub fn write_entry<B: Buffer>(entry: &Entry<'_>, out: &mut B) -> Result<(), WriteFault>
+    // What is appended is the entry,
+    ensures ok { OnOk result (B.content out.new ≡ B.content out.old ++ spelling_of (fields_of entry.now)) }
+    // which is read back with these fields.
+    ensures fits { OnOk result (Fits (fields_of entry.now)) }
+    // It fails only for these causes, and then nothing is appended.
+    ensures long { IsErrOf result TooLong ↔ (MAX_REST < length (rest_of (told_of entry.now.what))) }
+    ensures err { OnErr result ((B.content out.new ≡ B.content out.old) × (B.capacity out.new ≡ B.capacity out.old)) }
+    ensures room { length (B.content out.old) + length (spelling_of (fields_of entry.now)) ≤ B.capacity out.old
+        → length (rest_of (told_of entry.now.what)) ≤ MAX_REST → IsOk result }
+    // Where there was room, it takes no memory.
+    ensures in_place { length (B.content out.old) + length (spelling_of (fields_of entry.now)) ≤ B.capacity out.old → B.capacity out.new ≡ B.capacity out.old }
+    ensures capacity { B.capacity out.old ≤ B.capacity out.new }
+{
     let rest = rest_of(&entry.what);
     if rest.len() > MAX_REST {
         return Err(WriteFault::TooLong);

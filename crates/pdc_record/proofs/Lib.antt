@@ -1,0 +1,4 @@
+pub mod Numbers
+pub mod Beginnings
+pub mod Sayings
+pub mod Entries

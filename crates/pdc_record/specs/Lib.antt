@@ -1,0 +1,4 @@
+pub mod Answers
+pub mod Told
+pub mod Bodies
+pub mod Entries
