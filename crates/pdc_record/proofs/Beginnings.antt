@@ -29,10 +29,13 @@ role_below Node = omega arith
 role_below Merger = omega arith
 
 pub length-began : (s : Start) → FitsStart s → length (body_of (Began s)) ≡ 65 + length s.settings
+unfolding spelled
 length-began s h =
     let counts : length (words_of s.counts) ≡ 32 = omega (arith, length-words_of s.counts, h.counts.size) in
     let program : length (words_of s.program) ≡ 6 = omega (arith, length-words_of s.program, h.program.size) in
-    omega (arith, ap length (chain s), counts, program)
+    let last : List ℕ = to_be_bytes w64 s.now ++ (words_of s.program ++ s.settings) in
+    let behind : length last ≡ 14 + length s.settings = omega (arith, length-append (words_of s.program) s.settings, program) in
+    ap length (chain s) ∙ omega (arith, length-append (words_of s.counts) last, counts, behind)
 
 same_fields : (s t : Start) → s.role ≡ t.role → s.id ≡ t.id → s.rate ≡ t.rate → s.start ≡ t.start → s.floor ≡ t.floor → s.counts ≡ t.counts → s.now ≡ t.now → s.program ≡ t.program → s.settings ≡ t.settings → s ≡ t
 same_fields s t role id rate start floor counts now program settings =

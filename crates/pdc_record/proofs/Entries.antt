@@ -1,15 +1,16 @@
 -- What bytes begin with is told by them.
-use Rattle.std.proofs.Common.{◌≡◌, ◌⊎◌, inl, inr, ℕ, ◌+◌, ◌-◌, ◌*◌, ◌/◌, ◌%◌, ◌^◌, ◌<◌, ◌≤◌, List, ◌∷◌, ◌++◌, length, slice_index, take, drop, refl, sym, ap, ◌∙◌, append_assoc, arith, length-append}
+use Rattle.std.proofs.Common.{◌≡◌, ◌⊎◌, inl, inr, ℕ, ◌+◌, ◌-◌, ◌*◌, ◌/◌, ◌%◌, ◌^◌, ◌<◌, ◌≤◌, List, ◌∷◌, ◌++◌, length, slice_index, take, drop, refl, sym, ap, subst, ◌∙◌, append_assoc, arith, length-append}
 use Rattle.std.proofs.Math.Seq.{take-append_seam, drop-append_seam}
 use Rattle.std.proofs.lemmas.List.{append_cancel_left, get_or-drop, length-take, take-append-drop}
 use Rattle.std.specs.Int.{w16, w32, w64, to_be_bytes}
 use Rattle.pdc_frame.specs.Bytes.{word_at, long_at}
 use Rattle.pdc_frame.specs.CheckWord.{check_word_of}
 use Rattle.pdc_record.specs.declared.limits.TheConstants.{MAX_REST, MAX_LEN, OVERHEAD}
+use Rattle.pdc_record.specs.declared.reading.Unread.{Unread}
 use Rattle.pdc_record.specs.declared.reading.Unread.TheVariants.{Cut, NoEntry, BadCheck}
-use Rattle.pdc_record.specs.Told.{Fields, Told}
-use Rattle.pdc_record.specs.Bodies.{IsTold, body_of, fixed_of, kind_number, rest_of}
-use Rattle.pdc_record.specs.Entries.{Begins, Fits, IsFirstCause, IsSaid, IsSized, IsWhole, before_check, head_of, spelling_of, unchecked_of}
+use Rattle.pdc_record.specs.Told.{Fields}
+use Rattle.pdc_record.specs.Bodies.{body_of, fixed_of, kind_number, rest_of}
+use Rattle.pdc_record.specs.Entries.{Begins, Fits, IsFirstCause, IsSaid, IsSizeCause, IsWhole, before_check, head_of, spelling_of, unchecked_of}
 use Rattle.pdc_record.proofs.Numbers.{same_word, same_long, same_wide, same_byte}
 use Rattle.pdc_record.proofs.Sayings.{same_told, length-body}
 
@@ -46,9 +47,14 @@ same_entry f g r s h k e =
 long_front : (n : ℕ) (r : List ℕ) → n < 2 ^ 32 → long_at (to_be_bytes w32 n ++ r) 0 ≡ n
 long_front n r fits = omega (arith, fits)
 
+len_front : (f : Fields) (more : List ℕ) → length (body_of f.told) + 23 < 2 ^ 32 → long_at (spelling_of f ++ more) 0 ≡ length (body_of f.told) + 23
+len_front f more fits =
+    let check : List ℕ = to_be_bytes w16 (check_word_of (before_check f)) in
+    long_front (length (body_of f.told) + 23) (kind_number f.told ∷ (to_be_bytes w64 f.step ++ (to_be_bytes w64 f.time ++ ((body_of f.told ++ check) ++ more)))) fits
+
 module _ (bytes : List ℕ) (f : Fields) (h : Begins bytes f) where
   pub begins-len : long_at bytes 0 ≡ length (body_of f.told) + 23
-  begins-len = ap (λ (xs : List ℕ). long_at xs 0) h.spelled ∙ long_front (length (body_of f.told) + 23) _ (omega (arith, sized f h.fits))
+  begins-len = ap (λ (xs : List ℕ). long_at xs 0) h.spelled ∙ len_front f h.more (omega (arith, sized f h.fits))
 
   length-bytes : length bytes ≡ 23 + length (body_of f.told) + length h.more
   length-bytes = ap length h.spelled ∙ length-append (spelling_of f) h.more ∙ omega (arith, length-spelling f)
@@ -66,24 +72,20 @@ module _ (bytes : List ℕ) (f : Fields) (h : Begins bytes f) where
   place = omega (arith, begins-len, length-before f)
 
   pub begins-said : unchecked_of bytes ≡ before_check f
-  begins-said = ap (λ (n : ℕ). take n bytes) place ∙ ap (take (length (before_check f))) apart ∙ take-append_seam (before_check f) _
+  begins-said = ap (λ (n : ℕ). take n bytes) place ∙ ap (take (length (before_check f))) apart ∙ take-append_seam (before_check f) (to_be_bytes w16 (check_word_of (before_check f)) ++ h.more)
 
-  pub no_cut : IsFirstCause bytes Cut → ⊥
-  no_cut (inl short) = absurd (omega (arith, short, length-bytes))
-  no_cut (inr cut) = absurd (omega (arith, cut.1, begins-whole.enough))
-
-  pub no_other : IsFirstCause bytes NoEntry → ⊥
-  no_other cause = elim cause.1 [
-    | inl unsized ↦ unsized begins-whole.sized
-    | inr unsaid ↦ unsaid.1 f (record { fits = h.fits; spelled = begins-said })
-  ]
+  pub no_size_cause : (cause : Unread) → IsSizeCause bytes cause → ⊥
+  no_size_cause Cut (inl short) = absurd (omega (arith, short, length-bytes))
+  no_size_cause Cut (inr cut) = absurd (omega (arith, cut.1, begins-whole.enough))
+  no_size_cause NoEntry unsized = unsized.1 begins-whole.sized
+  no_size_cause BadCheck none = none
 
   -- and CHK is its check word
   pub begins-check : (check : ℕ) (rest : List ℕ) → check < 2 ^ 16 → check_word_of (unchecked_of bytes) < 2 ^ 16 → drop (long_at bytes 0 - 2) bytes ≡ to_be_bytes w16 check ++ rest → check ≡ check_word_of (unchecked_of bytes)
   begins-check check rest fits word_fits e =
       let same : check_word_of (unchecked_of bytes) ≡ check_word_of (before_check f) = ap check_word_of begins-said in
       let behind : to_be_bytes w16 (check_word_of (before_check f)) ++ h.more ≡ to_be_bytes w16 check ++ rest =
-      sym (drop-append_seam (before_check f) _) ∙ ap (drop (length (before_check f))) (sym apart) ∙ ap (λ (n : ℕ). drop n bytes) (sym place) ∙ e in
+      sym (drop-append_seam (before_check f) (to_be_bytes w16 (check_word_of (before_check f)) ++ h.more)) ∙ ap (drop (length (before_check f))) (sym apart) ∙ ap (λ (n : ℕ). drop n bytes) (sym place) ∙ e in
       sym (same ∙ (same_word (check_word_of (before_check f)) check h.more rest (omega (arith, same, word_fits)) fits behind).0)
 
 -- what says something, under its check word, is an entry
@@ -105,31 +107,46 @@ word_behind n bytes rest check fits e =
     let low : slice_index bytes (n + 1) ≡ check % 256 = sym (get_or-drop n bytes 1 0) ∙ ap (λ (xs : List ℕ). slice_index xs 1) e in
     omega (arith, high, low, fits)
 
--- what stands before CHK
-module _ (bytes b1 b2 b3 body : List ℕ) (len kind step time : ℕ) (len_fits : len < 2 ^ 32) (step_fits : step < 2 ^ 64) (time_fits : time < 2 ^ 64)
-    (e1 : bytes ≡ to_be_bytes w32 len ++ b1) (e2 : b1 ≡ kind ∷ b2) (e3 : b2 ≡ to_be_bytes w64 step ++ b3) (e4 : b3 ≡ to_be_bytes w64 time ++ body)
-    (size : long_at bytes 0 ≡ length bytes + 2) where
-  chain : bytes ≡ to_be_bytes w32 len ++ (kind ∷ (to_be_bytes w64 step ++ (to_be_bytes w64 time ++ body)))
-  chain = e1 ∙ ap (λ (xs : List ℕ). to_be_bytes w32 len ++ xs) (e2 ∙ ap (λ (xs : List ℕ). kind ∷ xs) (e3 ∙ ap (λ (xs : List ℕ). to_be_bytes w64 step ++ xs) e4))
+-- the size tells a cause
+pub size_cause : (bytes : List ℕ) (cause : Unread) → IsSizeCause bytes cause → IsFirstCause bytes cause
+size_cause bytes Cut h = h
+size_cause bytes NoEntry h = (h.0, inl h.1)
+size_cause bytes BadCheck h = absurd h
 
-  len-is : len ≡ length body + 23
-  len-is = let at : long_at bytes 0 ≡ len = ap (λ (xs : List ℕ). long_at xs 0) e1 ∙ long_front len b1 len_fits in omega (arith, at, size, ap length chain)
+-- the reader's exits and its end, by the bytes before CHK and those behind them
+module _ (bytes unchecked : List ℕ) (len : ℕ) (whole : IsWhole bytes) (len-is : len ≡ long_at bytes 0) (front : unchecked ≡ take (len - 2) bytes) where
+  said-is : unchecked_of bytes ≡ unchecked
+  said-is = ap (λ (n : ℕ). take (n - 2) bytes) (sym len-is) ∙ sym front
 
-  pub said_found : (told : Told) → IsTold kind body told → length (rest_of told) ≤ MAX_REST → IsSaid bytes (record { step = step; time = time; told = told })
-  said_found told h rest = record {
-    fits = record { step = step_fits; time = time_fits; widths = h.fits; rest = rest };
-    spelled = chain ∙ ap (λ (n : ℕ). to_be_bytes w32 n ++ (kind ∷ (to_be_bytes w64 step ++ (to_be_bytes w64 time ++ body)))) (len-is ∙ ap (λ (xs : List ℕ). length xs + 23) h.spelled)
-    ∙ ap (λ (n : ℕ). to_be_bytes w32 (length (body_of told) + 23) ++ (n ∷ (to_be_bytes w64 step ++ (to_be_bytes w64 time ++ body)))) (sym h.kind_is)
-    ∙ ap (λ (xs : List ℕ). to_be_bytes w32 (length (body_of told) + 23) ++ (kind_number told ∷ (to_be_bytes w64 step ++ (to_be_bytes w64 time ++ xs)))) h.spelled;
-  }
+  pub unsaid_cause : ((f : Fields) → IsSaid unchecked f → ⊥) → IsFirstCause bytes NoEntry
+  unsaid_cause none = (whole.sized.room, inr (whole, λ f said. none f (subst (λ (xs : List ℕ). IsSaid xs f) said-is said)))
 
-  pub said_told : (f : Fields) → IsSaid bytes f → IsTold kind body f.told
-  said_told f h =
-      let first = same_long len (length (body_of f.told) + 23) _ _ len_fits (omega (arith, sized f h.fits)) (sym chain ∙ h.spelled) in
-      let second = same_byte kind (kind_number f.told) _ _ first.1 in
-      let third = same_wide step f.step _ _ step_fits h.fits.step second.1 in
-      let fourth = same_wide time f.time body (body_of f.told) time_fits h.fits.time third.1 in
-      record { kind_is = sym second.0; spelled = fourth.1; fits = h.fits.widths }
+  pub unsaid : ((f : Fields) → IsSaid unchecked f → ⊥) → (g : Fields) → Begins bytes g → ⊥
+  unsaid none g h = none g (record { fits = h.fits; spelled = sym said-is ∙ begins-said bytes g h })
+
+  module _ (behind rest : List ℕ) (check word : ℕ) (back : behind ≡ drop (len - 2) bytes) (cells : behind ≡ to_be_bytes w16 check ++ rest) (fits : check < 2 ^ 16) (word_fits : word < 2 ^ 16)
+      (word-is : word ≡ check_word_of unchecked) where
+    cells-are : drop (long_at bytes 0 - 2) bytes ≡ to_be_bytes w16 check ++ rest
+    cells-are = ap (λ (n : ℕ). drop (n - 2) bytes) (sym len-is) ∙ sym back ∙ cells
+
+    word-said : word ≡ check_word_of (unchecked_of bytes)
+    word-said = word-is ∙ ap check_word_of (sym said-is)
+
+    pub check_cause : (f : Fields) → IsSaid unchecked f → (check ≡ word → ⊥) → IsFirstCause bytes BadCheck
+    check_cause f said other = (whole, (f, subst (λ (xs : List ℕ). IsSaid xs f) (sym said-is) said), λ same.
+        other (sym (word_behind (long_at bytes 0 - 2) bytes rest check fits cells-are) ∙ same ∙ sym word-said))
+
+    pub misread : (check ≡ word → ⊥) → (g : Fields) → Begins bytes g → ⊥
+    misread other g h = other (begins-check bytes g h check rest fits (omega (arith, word-said, word_fits)) cells-are ∙ sym word-said)
+
+    pub read_found : (f : Fields) → IsSaid unchecked f → check ≡ word → Begins bytes f
+    read_found f said same = begins bytes f check rest whole (subst (λ (xs : List ℕ). IsSaid xs f) (sym said-is) said) cells-are (same ∙ word-said)
+
+    pub read_len : (f : Fields) → Begins bytes f → len ≡ length (spelling_of f)
+    read_len f h = omega (arith, len-is, begins-len bytes f h, length-spelling f)
+
+    pub read_only : (f g : Fields) → IsSaid unchecked f → check ≡ word → Begins bytes g → f ≡ g
+    read_only f g said same h = let found = read_found f said same in (same_entry f g found.more h.more found.fits h.fits (sym found.spelled ∙ h.spelled)).0
 
 -- an entry written in parts
 pub written : (f : Fields) (old begun fixed joined whole : List ℕ) (start : ℕ) → start ≡ length old → begun ≡ old ++ head_of f (length (body_of f.told) + 23) → fixed ≡ begun ++ fixed_of f.told

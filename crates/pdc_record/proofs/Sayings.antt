@@ -67,7 +67,18 @@ change_known None None false false e n = (refl, refl)
 change_known None None true true e n = (refl, refl)
 change_known (Some x) (Some y) false false e n = (ap Some n, refl)
 change_known (Some x) (Some y) true true e n = (ap Some n, refl)
-change_known c d a b e n = absurd (omega (arith, e))
+change_known None None false true e n = absurd (omega (arith, e))
+change_known None None true false e n = absurd (omega (arith, e))
+change_known (Some x) (Some y) false true e n = absurd (omega (arith, e))
+change_known (Some x) (Some y) true false e n = absurd (omega (arith, e))
+change_known None (Some y) false false e n = absurd (omega (arith, e))
+change_known None (Some y) false true e n = absurd (omega (arith, e))
+change_known None (Some y) true false e n = absurd (omega (arith, e))
+change_known None (Some y) true true e n = absurd (omega (arith, e))
+change_known (Some x) None false false e n = absurd (omega (arith, e))
+change_known (Some x) None false true e n = absurd (omega (arith, e))
+change_known (Some x) None true false e n = absurd (omega (arith, e))
+change_known (Some x) None true true e n = absurd (omega (arith, e))
 
 -- the fields of a tick one behind another
 spelled : ℕ → List ℕ → ℕ → ℕ → ℕ → List ℕ → List ℕ
@@ -135,61 +146,15 @@ length-body (Popped i (Some x)) h = omega arith
 length-body (Laid d) h = omega arith
 length-body (Missing a) h = omega arith
 
--- what holds of the sayings of a kind holds of all that a body of it says
-pub only_began : (body : List ℕ) → ((s : Start) → IsTold 0 body (Began s) → ⊥) → (t : Told) → IsTold 0 body t → ⊥
-only_began body h (Began s) told = h s told
-only_began body h t told = absurd (omega (arith, told.kind_is))
-
-pub no_arrived : (body : List ℕ) → ((a : ℕ) (o : Outcome) (d : List ℕ) → body ≡ to_be_bytes w16 a ++ (answer_number o ∷ d) → a < 2 ^ 16 → ⊥) → (t : Told) → IsTold 1 body t → ⊥
-no_arrived body h (Arrived a o d) told = h a o d told.spelled told.fits
-no_arrived body h t told = absurd (omega (arith, told.kind_is))
-
-pub short_unanswered : (body : List ℕ) → length body < 2 → (t : Told) → IsTold 2 body t → ⊥
-short_unanswered body short (Unanswered a d) told = absurd (omega (arith, short, ap length told.spelled))
-short_unanswered body short t told = absurd (omega (arith, told.kind_is))
-
-pub no_ticked : (body : List ℕ) → ((t : Tick) → FitsTick t → body ≡ body_of (Ticked t) → ⊥) → (t : Told) → IsTold 3 body t → ⊥
+-- a body of another length is that of no tick
+no_ticked : (body : List ℕ) → ((t : Tick) → FitsTick t → body ≡ body_of (Ticked t) → ⊥) → (t : Told) → IsTold 3 body t → ⊥
 no_ticked body h (Ticked t) told = h t told.fits told.spelled
 no_ticked body h t told = absurd (omega (arith, told.kind_is))
-
-pub long_found_none : (body : List ℕ) → 0 < length body → (t : Told) → IsTold 4 body t → ⊥
-long_found_none body long FoundNone told = absurd (omega (arith, long, ap length told.spelled))
-long_found_none body long t told = absurd (omega (arith, told.kind_is))
-
-pub no_popped : (body : List ℕ) → ((i : ℕ) (frame : Option (List ℕ)) → i < 2 ^ 64 → body ≡ to_be_bytes w64 i ++ (flag_of frame ∷ rest_of (Popped i frame)) → ⊥) → (t : Told) → IsTold 5 body t → ⊥
-no_popped body h (Popped i f) told = h i f told.fits told.spelled
-no_popped body h t told = absurd (omega (arith, told.kind_is))
-
-pub no_missing : (body : List ℕ) → (length body ≡ 8 → ⊥) → (t : Told) → IsTold 7 body t → ⊥
-no_missing body h (Missing a) told = h (ap length told.spelled)
-no_missing body h t told = absurd (omega (arith, told.kind_is))
-
-kind_below : (t : Told) → kind_number t < 8
-kind_below (Began s) = omega arith
-kind_below (Arrived a o d) = omega arith
-kind_below (Unanswered a d) = omega arith
-kind_below (Ticked t) = omega arith
-kind_below FoundNone = omega arith
-kind_below (Popped i f) = omega arith
-kind_below (Laid d) = omega arith
-kind_below (Missing a) = omega arith
-
-pub no_kind : (kind : ℕ) (body : List ℕ) → 8 ≤ kind → (t : Told) → IsTold kind body t → ⊥
-no_kind kind body above t told = absurd (omega (arith, above, told.kind_is, kind_below t))
-
--- the exits of the readers
-pub arrived_short : (body : List ℕ) → length body < 3 → (t : Told) → IsTold 1 body t → ⊥
-arrived_short body short = no_arrived body (λ a o d e fits. absurd (omega (arith, short, ap length e)))
-
-pub arrived_other : (body behind rest : List ℕ) (stream answer : ℕ) → stream < 2 ^ 16 → 30 ≤ answer → body ≡ to_be_bytes w16 stream ++ behind → behind ≡ answer ∷ rest → (t : Told) → IsTold 1 body t → ⊥
-arrived_other body behind rest stream answer fits above front next = no_arrived body (λ a o d e a_fits.
-    let first = same_word stream a behind (answer_number o ∷ d) fits a_fits (sym front ∙ e) in
-    let second = same_byte answer (answer_number o) rest d (sym next ∙ first.1) in
-    absurd (omega (arith, above, second.0, answer_below o)))
 
 pub ticked_sized : (body : List ℕ) → (length body ≡ 49 → ⊥) → (t : Told) → IsTold 3 body t → ⊥
 ticked_sized body other = no_ticked body (λ t fits e. other (ap length e ∙ length-ticked t fits))
 
+-- and neither is one whose FLAGS and CHANGE say nothing
 pub ticked_other : (body b1 b2 b3 b4 b5 : List ℕ) (now closed flags change : ℕ) (counts : List ℕ) → now < 2 ^ 64 → closed < 2 ^ 32 → change < 2 ^ 32 → AreWords COUNTS counts
     → ((number : Option ℕ) (used_up : Bool) → flags ≡ flags_of number used_up → change ≡ change_number number → ⊥)
     → body ≡ to_be_bytes w64 now ++ b1 → b1 ≡ words_of counts ++ b2 → b2 ≡ to_be_bytes w32 closed ++ b3 → b3 ≡ flags ∷ b4 → b4 ≡ to_be_bytes w32 change ++ b5 → (t : Told) → IsTold 3 body t → ⊥
@@ -201,30 +166,3 @@ ticked_other body b1 b2 b3 b4 b5 now closed flags change counts now_fits closed_
     let fourth = same_byte flags (flags_of t.change t.used_up) b4 _ (sym e4 ∙ third.1) in
     let fifth = same_long change (change_number t.change) b5 [] change_fits h.change (sym e5 ∙ fourth.1) in
     none t.change t.used_up fourth.0 fifth.0)
-
-pub ticked_found : (body b1 b2 b3 b4 b5 : List ℕ) (t : Tick) (flags change : ℕ) → FitsTick t → flags ≡ flags_of t.change t.used_up → change ≡ change_number t.change → length b5 ≡ 0
-    → body ≡ to_be_bytes w64 t.now ++ b1 → b1 ≡ words_of t.counts ++ b2 → b2 ≡ to_be_bytes w32 t.closed ++ b3 → b3 ≡ flags ∷ b4 → b4 ≡ to_be_bytes w32 change ++ b5 → IsTold 3 body (Ticked t)
-unfolding spelled
-ticked_found body b1 b2 b3 b4 b5 t flags change fits flags-is change-is none e1 e2 e3 e4 e5 =
-    let last : b4 ≡ to_be_bytes w32 (change_number t.change) ++ [] = e5 ∙ ap (λ (xs : List ℕ). to_be_bytes w32 change ++ xs) (nothing b5 none) ∙ ap (λ (n : ℕ). to_be_bytes w32 n ++ []) change-is in
-    let behind : b3 ≡ flags_of t.change t.used_up ∷ (to_be_bytes w32 (change_number t.change) ++ []) = e4 ∙ ap (λ (xs : List ℕ). flags ∷ xs) last ∙ ap (λ (n : ℕ). n ∷ (to_be_bytes w32 (change_number t.change) ++ [])) flags-is in
-    record {
-      kind_is = refl;
-      spelled = e1 ∙ ap (λ (xs : List ℕ). to_be_bytes w64 t.now ++ xs) (e2 ∙ ap (λ (xs : List ℕ). words_of t.counts ++ xs) (e3 ∙ ap (λ (xs : List ℕ). to_be_bytes w32 t.closed ++ xs) behind)) ∙ sym (chain t);
-      fits = fits;
-    }
-
-pub popped_short : (body : List ℕ) → length body < 9 → (t : Told) → IsTold 5 body t → ⊥
-popped_short body short = no_popped body (λ i f fits e. absurd (omega (arith, short, ap length e)))
-
--- FLAG 0 has nothing behind it, and no FLAG is above 1
-flag_known : (i : ℕ) (f : Option (List ℕ)) (flag : ℕ) (rest : List ℕ) → flag ≡ flag_of f → rest ≡ rest_of (Popped i f) → (flag ≡ 0 → 0 < length rest) → (flag ≡ 1 → ⊥) → ⊥
-flag_known i None flag rest flag-is rest-is some one = absurd (omega (arith, some flag-is, ap length rest-is))
-flag_known i (Some x) flag rest flag-is rest-is some one = one flag-is
-
-pub popped_other : (body behind rest : List ℕ) (instant flag : ℕ) → instant < 2 ^ 64 → (flag ≡ 0 → 0 < length rest) → (flag ≡ 1 → ⊥) → body ≡ to_be_bytes w64 instant ++ behind → behind ≡ flag ∷ rest
-    → (t : Told) → IsTold 5 body t → ⊥
-popped_other body behind rest instant flag fits some one front next = no_popped body (λ i f i_fits e.
-    let first = same_wide instant i behind (flag_of f ∷ rest_of (Popped i f)) fits i_fits (sym front ∙ e) in
-    let second = same_byte flag (flag_of f) rest (rest_of (Popped i f)) (sym next ∙ first.1) in
-    flag_known i f flag rest second.0 second.1 some one)

@@ -59,3 +59,9 @@ abbrev pub IsFirstCause : List ℕ → Unread → Type 0
 IsFirstCause bytes Cut = (length bytes < 4) ⊎ (IsSized bytes × (length bytes < long_at bytes 0))
 IsFirstCause bytes NoEntry = (4 ≤ length bytes) × ((IsSized bytes → ⊥) ⊎ (IsWhole bytes × ((f : Fields) → IsSaid (unchecked_of bytes) f → ⊥)))
 IsFirstCause bytes BadCheck = IsWhole bytes × ((f : Fields) × IsSaid (unchecked_of bytes) f) × (word_at bytes (long_at bytes 0 - 2) ≢ check_word_of (unchecked_of bytes))
+
+-- of these, those that LEN tells before the body is read
+abbrev pub IsSizeCause : List ℕ → Unread → Type 0
+IsSizeCause bytes Cut = IsFirstCause bytes Cut
+IsSizeCause bytes NoEntry = (4 ≤ length bytes) × (IsSized bytes → ⊥)
+IsSizeCause bytes BadCheck = ⊥

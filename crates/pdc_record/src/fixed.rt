@@ -78,7 +78,7 @@ fn popped_bytes(instant: u64, flag: u8) -> [u8; POPPED_LEN]
 }
 
 fn append_begun<B: Buffer>(begun: &Begun<'_>, out: &mut B)
-    requires { length (B.content out.old) + length (fixed_of (Began (start_of begun.entry.now))) ≤ B.capacity out.old }
+    requires { length (B.content out.old) + length (fixed_of (Began (start_of begun.now))) ≤ B.capacity out.old }
     ensures bytes { B.content out.new ≡ B.content out.old ++ fixed_of (Began (start_of begun.entry.now)) }
     ensures fits { FitsStart (start_of begun.entry.now) }
     ensures in_place { B.capacity out.new ≡ B.capacity out.old }

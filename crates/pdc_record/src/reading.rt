@@ -2,7 +2,7 @@
 ghost use Rattle.std.specs.Prelude.{◌≡◌, ◌+◌, ◌≤◌, length, IfOk, IfErr, IsOkAnd, MatchOption};
 ghost use Rattle.pdc_frame.specs.Bytes.{long_at};
 ghost use Rattle.pdc_record.specs.Told.{Fields, fields_of};
-ghost use Rattle.pdc_record.specs.Entries.{Begins, IsFirstCause, IsSaid, IsWhole, spelling_of};
+ghost use Rattle.pdc_record.specs.Entries.{Begins, IsFirstCause, IsSaid, IsSizeCause, IsWhole, spelling_of};
 
 use crate::bodies::read_what;
 use crate::entry::Entry;
@@ -24,7 +24,7 @@ pub enum Unread {
 /// The number of bytes of the entry that the bytes begin with, by its LEN. There are as many.
 fn whole_len(bytes: &[u8]) -> Result<usize, Unread>
     ensures whole { IfOk result (λ len. IsWhole bytes.now × (len ≡ long_at bytes.now 0)) }
-    ensures fault { IfErr result (IsFirstCause bytes.now) }
+    ensures fault { IfErr result (IsSizeCause bytes.now) }
 {
     if bytes.len() < 4 {
         return Err(Unread::Cut);
@@ -66,13 +66,16 @@ pub fn read_entry(bytes: &[u8]) -> Result<(Entry<'_>, usize), Unread>
     // Which cause it is.
     ensures fault { IfErr result (IsFirstCause bytes.now) }
 {
-    let len = whole_len(bytes)?;
-    let check_place = len - CHECK_LEN;
-    let unchecked = &bytes[..check_place];
-    let Some(entry) = read_unchecked(unchecked) else {
-        return Err(Unread::NoEntry);
+    let len = match whole_len(bytes) {
+        Ok(len) => len,
+        Err(cause) => return Err(cause),
     };
-    let (check, _) = split_word(&bytes[check_place..]);
+    let (unchecked, behind) = bytes.split_at(len - CHECK_LEN);
+    let entry = match read_unchecked(unchecked) {
+        Some(entry) => entry,
+        None => return Err(Unread::NoEntry),
+    };
+    let (check, _) = split_word(behind);
     if check != check_word(unchecked) {
         return Err(Unread::BadCheck);
     }

@@ -1,8 +1,9 @@
 //! Entries are written.
-ghost use Rattle.std.specs.Prelude.{◌≡◌, ◌+◌, ◌^◌, ◌≤◌, ◌<◌, ◌++◌, ◌↔◌, length, OnOk, OnErr, IsOk, IsErrOf};
+ghost use Rattle.std.specs.Prelude.{◌≡◌, ◌+◌, ◌^◌, ◌≤◌, ◌<◌, ◌∷◌, ◌++◌, ◌↔◌, length, OnOk, OnErr, IsOk, IsErrOf};
+ghost use Rattle.std.specs.Int.{w32, w64, to_be_bytes};
 ghost use Rattle.pdc_record.specs.Told.{fields_of, told_of};
 ghost use Rattle.pdc_record.specs.Bodies.{rest_of};
-ghost use Rattle.pdc_record.specs.Entries.{Fits, head_of, spelling_of};
+ghost use Rattle.pdc_record.specs.Entries.{Fits, spelling_of};
 ghost use Rattle.pdc_record.specs.declared.writing.WriteFault.TheVariants.{TooLong};
 
 use crate::bodies::{kind_number, rest_of};
@@ -10,7 +11,7 @@ use crate::entry::Entry;
 use crate::fixed::{append_fixed, fixed_len};
 use crate::limits::{BEGUN_LEN, HEAD_LEN, MAX_REST, OVERHEAD};
 use byteorder::{BigEndian, ByteOrder};
-use pdc_frame::{Buffer, check_word};
+use pdc_frame::{Buffer, end_frame};
 
 /// Why an entry was not written.
 #[derive(Clone, Copy, Debug, PartialEq, Eq)]
@@ -29,18 +30,18 @@ pub fn entry_len(entry: &Entry<'_>) -> usize
     OVERHEAD + fixed_len(&entry.what) + rest_of(&entry.what).len()
 }
 
-/// LEN, KIND, STEP and TIME, in an entry of so many bytes.
-fn head_bytes(entry: &Entry<'_>, len: u32) -> [u8; HEAD_LEN]
-    ensures value { result ≡ head_of (fields_of entry.now) len }
+/// LEN, KIND, STEP and TIME.
+fn head_bytes(len: u32, kind: u8, step: u64, time: u64) -> [u8; HEAD_LEN]
+    ensures value { result ≡ to_be_bytes w32 len ++ (kind ∷ (to_be_bytes w64 step ++ to_be_bytes w64 time)) }
     ensures len { length result ≡ HEAD_LEN }
-    ensures step { entry.now.step < 2 ^ 64 }
-    ensures time { entry.now.time < 2 ^ 64 }
+    ensures step { step < 2 ^ 64 }
+    ensures time { time < 2 ^ 64 }
 {
     let mut head = [0; HEAD_LEN];
     BigEndian::write_u32(&mut head, len);
-    head[4] = kind_number(&entry.what);
-    BigEndian::write_u64(&mut head[5..], entry.step);
-    BigEndian::write_u64(&mut head[13..], entry.time);
+    head[4] = kind;
+    BigEndian::write_u64(&mut head[5..], step);
+    BigEndian::write_u64(&mut head[13..], time);
     head
 }
 
@@ -72,10 +73,11 @@ pub fn write_entry<B: Buffer>(entry: &Entry<'_>, out: &mut B) -> Result<(), Writ
     if out.make_room(len).is_err() {
         return Err(WriteFault::NoMemory);
     }
-    out.append_bytes(&head_bytes(entry, len as u32));
+    let kind = kind_number(&entry.what);
+    let head = head_bytes(len as u32, kind, entry.step, entry.time);
+    out.append_bytes(&head);
     append_fixed(&entry.what, out);
     out.append_bytes(rest);
-    let check = check_word(&out.content()[start..]);
-    out.append_bytes(&check.to_be_bytes());
+    end_frame(start, out);
     Ok(())
 }

@@ -1,0 +1,8 @@
+use Rattle.std.proofs.Common.{◌≡◌, length, arith, rules}
+use Rattle.pdc_record.proofs.Numbers.{length-words_of}
+use Rattle.pdc_record.proofs.words.counts_len.Goals as goal
+
+pub returns-clause-value : goal.returns-clause-value
+returns-clause-value c =
+    let size : length c.args.counts.now ≡ 16 = search rules in
+    omega (arith, length-words_of c.args.counts.now, size)
