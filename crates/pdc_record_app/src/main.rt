@@ -1,0 +1,33 @@
+//! `pdc replay` and `pdc explain`: what plays the record of a life again, and what explains it. They read files and change nothing.
+#![tactic(auto)]
+
+mod files;
+mod replaying;
+mod walking;
+mod words;
+
+use replaying::run_replay;
+use std::io;
+use std::process::ExitCode;
+use words::{Asked, words_of};
+
+/// The exit statuses.
+const DONE: u8 = 0;
+
+const REFUSED: u8 = 1;
+
+const FAILED: u8 = 3;
+
+fn main(rt: HostRuntime) -> io::Result<ExitCode> {
+    let alloc = rt.alloc();
+    let words: Vec<String> = std::env::args(&rt)?.collect(alloc)?;
+    let arguments = words.as_slice().get(1..).unwrap_or(&[]);
+    let status = match words_of(alloc, arguments) {
+        Ok(Asked::Replay(asked)) => run_replay(&rt, &asked)?,
+        Err(error) => {
+            error.print(&rt)?;
+            error.exit_code() as u8
+        }
+    };
+    Ok(ExitCode::from(status))
+}
