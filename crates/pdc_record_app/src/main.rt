@@ -1,11 +1,13 @@
 //! `pdc replay` and `pdc explain`: what plays the record of a life again, and what explains it. They read files and change nothing.
 #![tactic(auto)]
 
+mod explaining;
 mod files;
 mod replaying;
 mod walking;
 mod words;
 
+use explaining::run_explain;
 use replaying::run_replay;
 use std::io;
 use std::process::ExitCode;
@@ -24,6 +26,7 @@ fn main(rt: HostRuntime) -> io::Result<ExitCode> {
     let arguments = words.as_slice().get(1..).unwrap_or(&[]);
     let status = match words_of(alloc, arguments) {
         Ok(Asked::Replay(asked)) => run_replay(&rt, &asked)?,
+        Ok(Asked::Explain(asked)) => run_explain(&rt, &asked)?,
         Err(error) => {
             error.print(&rt)?;
             error.exit_code() as u8

@@ -1,6 +1,8 @@
 //! The words of the command line.
 
+use clap::error::ErrorKind;
 use clap::{Arg, ArgAction, ArgMatches, Command, Error};
+use pdc_explain::{Wanted, wanted_of};
 use std::alloc::{AllocError, Global};
 
 const ABOUT: &str = "Play the record of a life again, and explain it";
@@ -20,6 +22,23 @@ Examples:
   pdc replay a.rec.0*
   pdc replay --frames a.rec.0* | pdc show";
 
+const EXPLAIN: &str =
+    "Tells out of the record of a life what became of an instant: a line for each PMU, whether it was shown, and why not; when the row
+opened, what it waited for, at which tick it closed and when its frame went out. At the merger it tells of each PMU which node's block
+was shown. Times are in UTC, and are those at which it was written down.
+
+FILE.. are the files of a record in their order; the first ones may be gone. INSTANT is the number of the instant, as `pdc show` prints
+it, or its time, as 2026-11-24T12:03:04.580Z.
+
+--absent lists each instant of which a block is absent, with its cause, and at its end how often each cause was.
+--delays gives for each PMU how many milliseconds after its instant 10, 50, 90, 99 and 99.9 of a hundred frames came, and the greatest
+delay; and the `wait` that would have kept all but one in a thousand.
+
+Examples:
+  pdc explain a.rec.0* 2026-11-24T12:03:04.580Z
+  pdc explain a.rec.0* --absent
+  pdc explain a.rec.0* --delays";
+
 /// What is asked of `replay`.
 #[derive(Drop)]
 pub struct Replayed<'a> {
@@ -28,10 +47,25 @@ pub struct Replayed<'a> {
     pub frames: bool,
 }
 
+/// What `explain` is to tell.
+#[derive(Clone, Copy)]
+pub enum Question {
+    Instants(Wanted),
+    Delays,
+}
+
+/// What is asked of `explain`.
+#[derive(Drop)]
+pub struct Explained<'a> {
+    pub files: Vec<&'a str>,
+    pub question: Question,
+}
+
 /// What is asked for.
 #[derive(Drop)]
 pub enum Asked<'a> {
     Replay(Replayed<'a>),
+    Explain(Explained<'a>),
 }
 
 /// The words that have to be there, one or more.
@@ -65,6 +99,21 @@ fn replay<'a>(alloc: Global) -> Result<Command<'a>, AllocError> {
         ))
 }
 
+/// The command `explain`.
+fn explain<'a>(alloc: Global) -> Result<Command<'a>, AllocError> {
+    Command::new(alloc, "explain")
+        .bin_name("pdc explain")?
+        .about("Tell out of a record what became of an instant")
+        .long_about(EXPLAIN)
+        .arg(many(
+            alloc,
+            "FILE.. INSTANT",
+            "The files of the record, in their order, and the instant",
+        ))?
+        .arg(flag(alloc, "absent", "List the instants with an absent block"))?
+        .arg(flag(alloc, "delays", "Tell how late the data of each PMU comes"))
+}
+
 /// Both commands.
 fn program<'a>(alloc: Global) -> Result<Command<'a>, AllocError> {
     Command::new(alloc, "pdc")
@@ -73,7 +122,8 @@ fn program<'a>(alloc: Global) -> Result<Command<'a>, AllocError> {
         .subcommand_required(true)
         .arg_required_else_help(true)
         .bin_name("pdc")?
-        .subcommand(replay(alloc)?)
+        .subcommand(replay(alloc)?)?
+        .subcommand(explain(alloc)?)
 }
 
 /// The words that were given for this name.
@@ -87,6 +137,35 @@ fn given<'a>(
     Ok(words)
 }
 
+/// What is wrong with the words of `explain`.
+fn wrong(alloc: Global, message: &str) -> Result<Error, AllocError> {
+    let mut command = explain(alloc)?;
+    command.error(ErrorKind::ValueValidation, message)
+}
+
+/// What is asked of `explain`.
+fn question_of<'a>(alloc: Global, matches: &ArgMatches<'a>) -> Result<Explained<'a>, Error> {
+    let mut files = given(alloc, matches, "FILE.. INSTANT")?;
+    let question = match (matches.get_flag("absent"), matches.get_flag("delays")) {
+        (true, true) => return Err(wrong(alloc, "--absent and --delays are asked for one by one")?),
+        (true, false) => Question::Instants(Wanted::All),
+        (false, true) => Question::Delays,
+        (false, false) => match files.pop().and_then(wanted_of) {
+            Some(wanted) => Question::Instants(wanted),
+            None => {
+                return Err(wrong(
+                    alloc,
+                    "behind the files an instant is wanted: its number, or its time as 2026-11-24T12:03:04.580Z",
+                )?);
+            }
+        },
+    };
+    if files.is_empty() {
+        return Err(wrong(alloc, "before the instant the files of a record are wanted")?);
+    }
+    Ok(Explained { files, question })
+}
+
 /// What these words ask for.
 ///
 /// # Errors
@@ -95,6 +174,7 @@ fn given<'a>(
 pub fn words_of<'a>(alloc: Global, words: &'a [String]) -> Result<Asked<'a>, Error> {
     let matches = program(alloc)?.try_get_matches_from(words)?;
     match matches.subcommand() {
+        Some(("explain", inner)) => Ok(Asked::Explain(question_of(alloc, inner)?)),
         Some((_, inner)) => Ok(Asked::Replay(Replayed {
             files: given(alloc, inner, "FILE")?,
             frames: inner.get_flag("frames"),

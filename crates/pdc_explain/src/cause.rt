@@ -1,0 +1,212 @@
+//! What became of a stream's data for an instant, and why a block is absent.
+
+use crate::about::About;
+use crate::moments::{time_of, write_span};
+use crate::story::{Arrived, Came, Cell, Story};
+use crate::texts::{write_at, write_ordinal, write_wait};
+use pdc_life::{Outcome, Refusal};
+use std::io;
+use std::io::Write;
+
+/// What became of a stream's data for a column of an instant.
+#[derive(Clone, Copy, Debug, PartialEq, Eq)]
+pub enum Fate {
+    /// It was taken, and is there.
+    Present,
+    /// It was taken, and has the words of an absent block.
+    SentAbsent,
+    /// It was taken, and dropped when the section of this count was adopted.
+    Dropped(u16),
+    /// It was taken, and has the block under this count, which was not in force.
+    OtherCount(u16),
+    /// It was taken, and has no block of the column.
+    NoPlace,
+    /// Nothing came.
+    Nothing,
+    /// It came when the row had closed.
+    Late,
+    /// It was of a section of this count that was taken, and not adopted yet; and at which tick after it that was.
+    NotAdopted {
+        /// The count.
+        count: u16,
+        /// The number of the tick after the data, from 1.
+        tick: Option<u64>,
+    },
+    /// No configuration had come.
+    NoConfiguration,
+    /// It was not answered.
+    Unanswered,
+    /// It was refused for another cause.
+    Refused(Refusal),
+}
+
+/// Why data of an arrival that was not taken is not there.
+fn fate_of_arrival(arrived: &Arrived) -> Fate {
+    let Some(outcome) = arrived.outcome else {
+        return Fate::Unanswered;
+    };
+    let Outcome::Refused(refusal) = outcome else {
+        return Fate::NoPlace;
+    };
+    match (refusal, arrived.waiting) {
+        (Refusal::NoConfig | Refusal::WrongLength, Some(count)) => Fate::NotAdopted {
+            count,
+            tick: arrived.adopted.map(|ticks| ticks.saturating_sub(arrived.ticks)),
+        },
+        (Refusal::NoConfig, None) => Fate::NoConfiguration,
+        (Refusal::Late, _) => Fate::Late,
+        (refusal, _) => Fate::Refused(refusal),
+    }
+}
+
+/// What became of a stream's data for a column of the instant.
+pub fn fate_of(story: &Story, stream: usize, column: usize) -> Fate {
+    let Some(came) = story.of_stream(stream) else {
+        return Fate::Nothing;
+    };
+    if came.taken.is_some() {
+        return match came.cell(column, story.closed) {
+            Cell::Missing => Fate::NoPlace,
+            Cell::OtherCount(count) => Fate::OtherCount(count),
+            Cell::Absent => Fate::SentAbsent,
+            Cell::Present { .. } => Fate::Present,
+            Cell::Dropped(count) => Fate::Dropped(count),
+        };
+    }
+    match came.arrivals.as_slice().first() {
+        Some(arrived) => fate_of_arrival(arrived),
+        None => Fate::Nothing,
+    }
+}
+
+/// That it came too late.
+fn write_late<W: Write>(
+    writer: &mut W,
+    about: &About,
+    story: &Story,
+    time: u64,
+) -> io::Result<()> {
+    match (story.opened, story.closed) {
+        (Some(opened), Some(closed)) => {
+            write!(writer, "its data came ")?;
+            write_span(writer, opened.time, time)?;
+            write!(writer, " after the first, ")?;
+            write_span(writer, closed.time, time)?;
+            write!(writer, " after the row had closed (")?;
+            write_wait(writer, about)?;
+            write!(writer, "): B4 Late")
+        }
+        _ => {
+            write_at(writer, "its data came at ", time)?;
+            write!(writer, ", when a later instant had closed: B4 Late")
+        }
+    }
+}
+
+/// That nothing came.
+fn write_nothing<W: Write>(
+    writer: &mut W,
+    about: &About,
+    story: &Story,
+    came: Option<&Came>,
+) -> io::Result<()> {
+    write!(writer, "nothing came for this instant")?;
+    let before = match came {
+        Some(came) => came.before,
+        None => None,
+    };
+    match before {
+        Some((instant, time)) if instant.saturating_add(1) == story.instant => {
+            write_at(writer, "; the instant before came at ", time)
+        }
+        Some((instant, time)) => {
+            write_at(
+                writer,
+                "; the last before it, that of ",
+                time_of(instant, about.rate()),
+            )?;
+            write_at(writer, ", came at ", time)
+        }
+        None => write!(writer, ", and none before it"),
+    }
+}
+
+/// When its configuration was adopted.
+fn write_adopted<W: Write>(writer: &mut W, count: u16, tick: Option<u64>) -> io::Result<()> {
+    write!(writer, "its configuration under count {count} was taken, and ")?;
+    match tick {
+        Some(0 | 1) => write!(writer, "adopted only at the next tick"),
+        Some(number) => {
+            write!(writer, "adopted only at the ")?;
+            write_ordinal(writer, number)?;
+            write!(writer, " tick after its data")
+        }
+        None => write!(writer, "not adopted as long as it is recorded"),
+    }
+}
+
+/// Writes what became of a stream's data, in words.
+///
+/// # Errors
+///
+/// What the writer answers.
+pub fn write_fate<W: Write>(
+    writer: &mut W,
+    about: &About,
+    story: &Story,
+    stream: usize,
+    fate: Fate,
+) -> io::Result<()> {
+    let came = story.of_stream(stream);
+    let first = came.and_then(|came| came.arrivals.as_slice().first().copied());
+    let taken = came.and_then(|came| came.taken);
+    let time = match (taken, first) {
+        (Some(arrived), _) | (None, Some(arrived)) => arrived.time,
+        (None, None) => 0,
+    };
+    match fate {
+        Fate::Nothing => return write_nothing(writer, about, story, came),
+        Fate::Late => return write_late(writer, about, story, time),
+        Fate::NotAdopted { count, tick } => return write_adopted(writer, count, tick),
+        _ => write_at(writer, "its data came at ", time)?,
+    }
+    match fate {
+        Fate::SentAbsent => write!(writer, " with the words of an absent block"),
+        Fate::Dropped(count) => write!(
+            writer,
+            ", and was dropped when its configuration under count {count} was adopted"
+        ),
+        Fate::OtherCount(count) => {
+            write!(writer, ", with its block under count {count}, which was not in force")
+        }
+        Fate::NoPlace => write!(writer, ", and has no block of it"),
+        Fate::NoConfiguration => {
+            write!(writer, ", and no configuration of it had come: B1 NoConfig")
+        }
+        Fate::Unanswered => write!(writer, ", and was not answered, for want of memory"),
+        Fate::Refused(refusal) => write!(writer, ", and was refused: {}", refusal.text()),
+        _ => Ok(()),
+    }
+}
+
+/// Writes the kind of a cause, in few words, as it is counted.
+///
+/// # Errors
+///
+/// What the writer answers.
+pub fn write_kind<W: Write>(writer: &mut W, fate: Fate) -> io::Result<()> {
+    let text = match fate {
+        Fate::Present => "shown",
+        Fate::SentAbsent => "sent absent",
+        Fate::Dropped(_) => "dropped by a new configuration",
+        Fate::OtherCount(_) => "under a count not in force",
+        Fate::NoPlace => "no block of it",
+        Fate::Nothing => "nothing came",
+        Fate::Late => "B4 Late",
+        Fate::NotAdopted { .. } => "its configuration not adopted yet",
+        Fate::NoConfiguration => "B1 NoConfig",
+        Fate::Unanswered => "not answered",
+        Fate::Refused(refusal) => refusal.text(),
+    };
+    write!(writer, "{text}")
+}

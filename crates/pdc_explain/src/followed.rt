@@ -1,0 +1,284 @@
+//! A life is followed, step by step.
+
+use crate::about::{About, Unexplained};
+use crate::moments::instant_near;
+use crate::sections::{Held, Sections};
+use crate::stories::Stories;
+use crate::story::{Arrived, Cell, Closed, Opened, Story, cells_of};
+use crate::wanted::Wanted;
+use arrayvec::ArrayVec;
+use pdc_align::{Arrival, ColumnSection};
+use pdc_cfg::{read_config, read_frame};
+use pdc_life::{MAX_PMUS, Outcome};
+use pdc_record::Begun;
+use std::alloc::{AllocError, Global};
+
+/// The bytes of a concentrator's own block, which stands before those of PMUs.
+const OWN_BLOCK_LEN: usize = 14;
+
+/// The sections of a node's layout, in their order.
+type Layout = ArrayVec<Held, MAX_PMUS>;
+
+/// Rows that closed at a tick.
+#[derive(Clone, Copy)]
+pub(crate) struct Closing {
+    tick: Closed,
+    /// How many of them were not popped yet.
+    left: u32,
+}
+
+/// A life that is followed.
+#[derive(Drop)]
+pub(crate) struct Followed {
+    pub about: About,
+    sections: Sections,
+    /// At the merger the layout that is held of each node.
+    layouts: [Option<Layout>; 2],
+    pub stories: Stories,
+    pub closings: Vec<Closing>,
+    /// The tick before.
+    last: Option<Closed>,
+    /// How many ticks there were.
+    ticks: u64,
+}
+
+/// A datagram and its answer.
+#[derive(Clone, Copy)]
+pub(crate) struct Heard<'a> {
+    pub time: u64,
+    pub stream: usize,
+    pub outcome: Option<Outcome>,
+    pub datagram: &'a [u8],
+}
+
+impl Followed {
+    pub fn new(
+        alloc: Global,
+        begun: &Begun<'_>,
+        is_first: bool,
+        wanted: Wanted,
+    ) -> Result<Followed, Unexplained> {
+        let about = About::of(alloc, begun)?;
+        let stories = Stories::new(alloc, about.streams(), wanted.instant(about.rate()))?;
+        Ok(Followed {
+            about,
+            sections: Sections::new(is_first),
+            layouts: [None, None],
+            stories,
+            closings: Vec::new(alloc),
+            last: None,
+            ticks: 0,
+        })
+    }
+
+    /// The instant that is now, or nearest to this time before the first tick.
+    fn now(&self, time: u64) -> u64 {
+        match self.last {
+            Some(tick) => tick.now,
+            None => instant_near(time, self.about.rate()),
+        }
+    }
+
+    /// What each column has in a payload that was taken.
+    fn cells(&self, stream: usize, payload: &[u8]) -> Option<[Cell; MAX_PMUS]> {
+        if !self.about.is_merger() {
+            let held = self.sections.of_column(stream)?;
+            return cells_of(payload, 0, &[held]);
+        }
+        let layout = self.layouts.get(stream)?.as_ref()?;
+        let mut cells = cells_of(payload, OWN_BLOCK_LEN, layout.as_slice())?;
+        for held in layout.as_slice() {
+            let is_same = match self.sections.of_column(held.column) {
+                Some(in_force) => in_force.count == held.count,
+                None => false,
+            };
+            if let Some(cell) = cells.get_mut(held.column) {
+                if !is_same {
+                    *cell = Cell::OtherCount(held.count);
+                }
+            }
+        }
+        Some(cells)
+    }
+
+    /// Data came for a stream.
+    fn hear_data(
+        &mut self,
+        heard: &Heard<'_>,
+        instant: u64,
+        payload: &[u8],
+    ) -> Result<(), AllocError> {
+        let is_taken = heard.outcome == Some(Outcome::Taken);
+        let cells = if is_taken {
+            self.cells(heard.stream, payload)
+        } else {
+            None
+        };
+        let waiting = if self.about.is_merger() {
+            None
+        } else {
+            self.sections.waiting(heard.stream)
+        };
+        let (now, ticks) = (self.now(heard.time), self.ticks);
+        let arrived = Arrived {
+            time: heard.time,
+            outcome: heard.outcome,
+            ticks,
+            waiting: waiting.map(|held| held.count),
+            adopted: None,
+        };
+        let Some(story) = self.stories.at(instant, now)? else {
+            self.stories.pass(heard.stream, instant, heard.time);
+            return Ok(());
+        };
+        if is_taken && story.opened.is_none() {
+            story.opened = Some(Opened {
+                time: heard.time,
+                ticks,
+                stream: heard.stream,
+            });
+        }
+        let Some(came) = story.came.as_mut_slice().get_mut(heard.stream) else {
+            return Ok(());
+        };
+        came.note(arrived);
+        if is_taken {
+            came.take(arrived, payload)?;
+            came.cells = cells.unwrap_or([Cell::Missing; MAX_PMUS]);
+        }
+        Ok(())
+    }
+
+    /// A configuration came for a stream, and is new.
+    fn hear_layout(&mut self, stream: usize, sections: &[ColumnSection<'_>]) {
+        let mut layout = Layout::new();
+        for part in sections {
+            let held = Held::of(part.column, &part.section);
+            self.sections.hold(held);
+            if !layout.is_full() {
+                layout.push(held);
+            }
+        }
+        if let Some(place) = self.layouts.get_mut(stream) {
+            *place = Some(layout);
+        }
+    }
+
+    /// A datagram came.
+    pub fn hear(&mut self, heard: &Heard<'_>) -> Result<(), AllocError> {
+        let read = self.about.read(heard.stream, heard.datagram);
+        match &read {
+            Some(Arrival::Data {
+                instant, payload, ..
+            }) => self.hear_data(heard, *instant, payload),
+            Some(Arrival::Layout { sections, .. }) => {
+                if heard.outcome == Some(Outcome::Candidate) {
+                    self.hear_layout(heard.stream, sections.as_slice());
+                }
+                Ok(())
+            }
+            _ => Ok(()),
+        }
+    }
+
+    /// A tick.
+    pub fn tick(
+        &mut self,
+        time: u64,
+        now: u64,
+        counts: &[u16; MAX_PMUS],
+        closed: u32,
+        is_changed: bool,
+    ) -> Result<(), AllocError> {
+        self.ticks = self.ticks.saturating_add(1);
+        let tick = Closed {
+            time,
+            now,
+            ticks: self.ticks,
+            in_force: self.sections.in_force(),
+        };
+        self.last = Some(tick);
+        if closed > 0 {
+            self.closings.push(Closing { tick, left: closed })?;
+        }
+        let adopted = self.sections.adopt(counts, is_changed);
+        if is_changed {
+            self.stories.adopt(&adopted, self.ticks);
+        }
+        Ok(())
+    }
+
+    /// The tick at which the row closed that is popped.
+    fn closing(&mut self) -> Option<Closed> {
+        let Some(first) = self.closings.as_mut_slice().first_mut() else {
+            return self.last;
+        };
+        let tick = first.tick;
+        first.left = first.left.saturating_sub(1);
+        if first.left == 0 {
+            self.closings.remove(0);
+        }
+        Some(tick)
+    }
+
+    /// A row was popped.
+    pub fn pop(
+        &mut self,
+        alloc: Global,
+        time: u64,
+        instant: u64,
+        frame: Option<&[u8]>,
+    ) -> Result<(), AllocError> {
+        let closed = self.closing();
+        let now = self.now(time).max(instant);
+        let Some(story) = self.stories.at(instant, now)? else {
+            return Ok(());
+        };
+        story.popped = Some(time);
+        story.closed = closed;
+        if let Some(frame) = frame {
+            show_in(alloc, story, closed, frame)?;
+        }
+        Ok(())
+    }
+
+    /// The frame of the layout was put.
+    pub fn lay(&mut self, frame: &[u8]) {
+        if let Ok(frame) = read_frame(frame) {
+            if let Ok(config) = read_config(&frame) {
+                self.sections.lay(&self.about, &config);
+            }
+        }
+    }
+}
+
+/// Notes the frame that was published of an instant.
+fn show_in(
+    alloc: Global,
+    story: &mut Story,
+    closed: Option<Closed>,
+    bytes: &[u8],
+) -> Result<(), AllocError> {
+    let Ok(frame) = read_frame(bytes) else {
+        return Ok(());
+    };
+    let mut payload = Vec::new(alloc);
+    payload.extend_from_slice(frame.payload)?;
+    story.payload = Some(payload);
+    if let Some(Closed {
+        in_force: Some(in_force),
+        ..
+    }) = closed
+    {
+        let mut sections = Layout::new();
+        for held in in_force {
+            if let Some(held) = held {
+                if !sections.is_full() {
+                    sections.push(held);
+                }
+            }
+        }
+        story.shown = cells_of(frame.payload, OWN_BLOCK_LEN, sections.as_slice());
+    }
+    Ok(())
+}

@@ -1,0 +1,85 @@
+//! At the merger: which node's block a column shows, and why.
+
+use crate::about::About;
+use crate::cause::{Fate, fate_of, write_fate, write_kind};
+use crate::story::{Came, Story};
+use crate::texts::{node_letter, write_at, write_node};
+use std::io;
+use std::io::Write;
+
+/// The stream whose block a column shows: node A's where both have one.
+pub fn chosen(story: &Story, column: usize) -> Option<usize> {
+    (0..2).find(|stream| fate_of(story, *stream, column) == Fate::Present)
+}
+
+/// Whether both nodes have the same block of a column.
+fn are_same(first: &Came, second: &Came, column: usize, story: &Story) -> bool {
+    first.bytes(first.cell(column, story.closed)) == second.bytes(second.cell(column, story.closed))
+}
+
+/// What became of the block of the node that is not shown.
+fn write_other<W: Write>(
+    writer: &mut W,
+    about: &About,
+    story: &Story,
+    stream: usize,
+    column: usize,
+) -> io::Result<()> {
+    let fate = fate_of(story, stream, column);
+    write_node(writer, about, stream)?;
+    write!(writer, ": ")?;
+    write_fate(writer, about, story, stream, fate)?;
+    match (fate, story.came.as_slice()) {
+        (Fate::Present, [first, second]) if are_same(first, second, column, story) => {
+            write!(writer, ", and was equal")
+        }
+        (Fate::Present, _) => write!(writer, ", and was other"),
+        _ => Ok(()),
+    }
+}
+
+/// Writes which node's block a column shows, and why; or of both why it is not there.
+///
+/// # Errors
+///
+/// What the writer answers.
+pub fn write_lanes<W: Write>(
+    writer: &mut W,
+    about: &About,
+    story: &Story,
+    column: usize,
+) -> io::Result<()> {
+    let Some(stream) = chosen(story, column) else {
+        write!(writer, "absent: ")?;
+        write_other(writer, about, story, 0, column)?;
+        write!(writer, "; ")?;
+        return write_other(writer, about, story, 1, column);
+    };
+    write!(writer, "shown: of ")?;
+    write_node(writer, about, stream)?;
+    if let Some(Some(taken)) = story.of_stream(stream).map(|came| came.taken) {
+        write_at(writer, ", whose data came at ", taken.time)?;
+    }
+    let other = 1 - stream;
+    if stream == 0 && fate_of(story, other, column) == Fate::Present {
+        write!(writer, " and goes before node B's")?;
+    }
+    write!(writer, "; ")?;
+    write_other(writer, about, story, other, column)
+}
+
+/// Writes the kinds of the causes of both nodes.
+///
+/// # Errors
+///
+/// What the writer answers.
+pub fn write_lane_kinds<W: Write>(writer: &mut W, story: &Story, column: usize) -> io::Result<()> {
+    for stream in 0..2 {
+        if stream > 0 {
+            write!(writer, ", ")?;
+        }
+        write!(writer, "node {}: ", node_letter(stream))?;
+        write_kind(writer, fate_of(story, stream, column))?;
+    }
+    Ok(())
+}

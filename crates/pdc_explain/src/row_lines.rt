@@ -1,0 +1,146 @@
+//! What became of a row, in words.
+
+use crate::about::About;
+use crate::story::{Closed, Opened, Story};
+use crate::texts::{node_letter, write_at, write_ordinal, write_wait};
+use pdc_life::MAX_PMUS;
+use std::io;
+use std::io::Write;
+
+/// Which streams a row waits for.
+type Streams = [bool; MAX_PMUS];
+
+/// The ids of these streams, joined by commas.
+fn write_streams<W: Write>(writer: &mut W, about: &About, streams: &Streams) -> io::Result<()> {
+    let mut separator = "";
+    for stream in 0..about.streams() {
+        if streams.get(stream).copied().unwrap_or(false) {
+            write!(writer, "{separator}")?;
+            write_stream(writer, about, stream)?;
+            separator = ", ";
+        }
+    }
+    Ok(())
+}
+
+/// The id of a stream, and which node it is.
+fn write_stream<W: Write>(writer: &mut W, about: &About, stream: usize) -> io::Result<()> {
+    if about.is_merger() {
+        write!(writer, "node {} ({})", node_letter(stream), about.stream_id(stream))
+    } else {
+        write!(writer, "{}", about.stream_id(stream))
+    }
+}
+
+/// Whether a stream has a section in force, so that a row waits for it; of a node's stream it may be unknown.
+fn is_wanted(about: &About, closed: Closed, stream: usize) -> bool {
+    if about.is_merger() {
+        return true;
+    }
+    match closed.in_force {
+        Some(in_force) => matches!(in_force.get(stream), Some(Some(_))),
+        None => true,
+    }
+}
+
+/// Of which streams that were wanted nothing was taken, and after how many ticks the last was that was taken.
+fn waited_for(about: &About, story: &Story, closed: Closed) -> (Streams, usize, u64) {
+    let mut missing = [false; MAX_PMUS];
+    let mut last: u64 = 0;
+    let mut last_stream = 0;
+    for stream in 0..about.streams() {
+        let taken = story.of_stream(stream).and_then(|came| came.taken);
+        match taken {
+            Some(taken) => {
+                if taken.time >= last {
+                    last = taken.time;
+                    last_stream = stream;
+                }
+            }
+            None => {
+                if let Some(place) = missing.get_mut(stream) {
+                    *place = is_wanted(about, closed, stream);
+                }
+            }
+        }
+    }
+    (missing, last_stream, last)
+}
+
+/// What a row waited for.
+fn write_waited<W: Write>(
+    writer: &mut W,
+    about: &About,
+    story: &Story,
+    opened: Opened,
+    closed: Closed,
+) -> io::Result<()> {
+    let (missing, last_stream, last) = waited_for(about, story, closed);
+    if missing.contains(&true) {
+        write!(writer, "; it waited for ")?;
+        write_streams(writer, about, &missing)?;
+        return Ok(());
+    }
+    if last_stream == opened.stream {
+        return Ok(());
+    }
+    write!(writer, "; it waited for ")?;
+    write_stream(writer, about, last_stream)?;
+    write_at(writer, ", which came last, at ", last)
+}
+
+/// At which tick a row closed.
+fn write_closed<W: Write>(
+    writer: &mut W,
+    about: &About,
+    opened: Option<Opened>,
+    closed: Closed,
+) -> io::Result<()> {
+    write_at(writer, "; it closed at ", closed.time)?;
+    if let Some(opened) = opened {
+        write!(writer, ", at the ")?;
+        write_ordinal(writer, closed.ticks.saturating_sub(opened.ticks))?;
+        write!(writer, " tick after that")?;
+    }
+    write!(writer, " (now {}, ", closed.now)?;
+    write_wait(writer, about)?;
+    write!(writer, ")")
+}
+
+/// Tells when the row opened, what it waited for, at which tick it closed and when its frame went out.
+///
+/// # Errors
+///
+/// What the writer answers.
+pub fn tell_row<W: Write>(
+    writer: &mut W,
+    about: &About,
+    story: &Story,
+    end: u64,
+) -> io::Result<()> {
+    write!(writer, "the row ")?;
+    match (story.opened, story.popped) {
+        (Some(opened), _) => {
+            write_at(writer, "opened at ", opened.time)?;
+            write!(writer, " with ")?;
+            write_stream(writer, about, opened.stream)?;
+        }
+        (None, Some(_)) => write!(writer, "opened before the record begins")?,
+        (None, None) => return writeln!(writer, "did not open: nothing was taken for this instant"),
+    }
+    let Some(popped) = story.popped else {
+        write_at(writer, "; it had not closed when the record ends, at ", end)?;
+        return writeln!(writer);
+    };
+    if let Some(closed) = story.closed {
+        if let Some(opened) = story.opened {
+            write_waited(writer, about, story, opened, closed)?;
+        }
+        write_closed(writer, about, story.opened, closed)?;
+    }
+    match story.payload {
+        Some(_) => write_at(writer, "; its frame went out at ", popped)?,
+        None => write_at(writer, "; no frame of it was published, it was popped at ", popped)?,
+    }
+    writeln!(writer)
+}

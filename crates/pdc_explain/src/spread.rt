@@ -1,0 +1,100 @@
+//! How far delays are spread.
+ghost use Rattle.std.specs.Prelude.{◌≡◌, length};
+
+use crate::moments::NANOS;
+use std::alloc::{AllocError, Global};
+
+/// How many nanoseconds are told apart: a tenth of a millisecond.
+const STEP: u64 = 100_000;
+
+/// The longest delay that is told apart, in steps: ten seconds.
+const STEPS: u64 = 10 * NANOS / STEP;
+
+/// The longest wait that settings may have.
+pub const MAX_WAIT: u64 = 1000;
+
+/// The delays of one stream.
+#[derive(Drop)]
+pub struct Spread {
+    /// How many delays there were of each length, the last of them all that are longer.
+    delays: Vec<u64>,
+    /// How many were kept by each wait and no shorter one, the last of them those that no wait keeps.
+    waits: Vec<u64>,
+    /// How many there were.
+    pub count: u64,
+    /// The longest one, in nanoseconds.
+    pub greatest: u64,
+}
+
+/// So many zeros.
+fn zeros(alloc: Global, count: u64) -> Result<Vec<u64>, AllocError> {
+    let mut numbers = Vec::new(alloc);
+    for _ in 0..count {
+        numbers.push(0)?;
+    }
+    Ok(numbers)
+}
+
+/// Counts one more at this place.
+fn count_at(numbers: &mut Vec<u64>, place: u64) {
+    if let Some(number) = numbers.as_mut_slice().get_mut(place as usize) {
+        *number = number.saturating_add(1);
+    }
+}
+
+/// The first place up to which so many are counted.
+fn place_of(numbers: &[u64], wanted: u64) -> u64 {
+    let mut sum: u64 = 0;
+    let mut place: u64 = 0;
+    for number in numbers {
+        sum = sum.saturating_add(*number);
+        if sum >= wanted {
+            return place;
+        }
+        place = place.saturating_add(1);
+    }
+    place
+}
+
+impl Spread {
+    /// No delay yet.
+    ///
+    /// # Errors
+    ///
+    /// [`AllocError`] where there is no memory.
+    pub fn new(alloc: Global) -> Result<Spread, AllocError> {
+        Ok(Spread {
+            delays: zeros(alloc, STEPS + 1)?,
+            waits: zeros(alloc, MAX_WAIT + 2)?,
+            count: 0,
+            greatest: 0,
+        })
+    }
+
+    /// One more: how long it was, in nanoseconds, and the wait that keeps it.
+    pub fn add(&mut self, delay: u64, wait: u64) {
+        count_at(&mut self.delays, (delay / STEP).min(STEPS));
+        count_at(&mut self.waits, wait.min(MAX_WAIT + 1));
+        self.count = self.count.saturating_add(1);
+        self.greatest = self.greatest.max(delay);
+    }
+
+    /// The delay that so many in a thousand are not above, in tenths of a millisecond.
+    pub fn tenths(&self, thousandths: u64) -> u64 {
+        place_of(&self.delays, share(self.count, thousandths))
+    }
+
+    /// The wait that keeps all but one in a thousand; none where no wait does.
+    pub fn wait(&self) -> Option<u64> {
+        let wait = place_of(&self.waits, share(self.count, 999));
+        if wait <= MAX_WAIT { Some(wait) } else { None }
+    }
+}
+
+/// So many in a thousand of a count, rounded up.
+fn share(count: u64, thousandths: u64) -> u64 {
+    let (whole, part) = (count / 1000, count % 1000);
+    whole
+        .saturating_mul(thousandths)
+        .saturating_add(part.saturating_mul(thousandths).saturating_add(999) / 1000)
+}

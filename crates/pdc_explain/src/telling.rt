@@ -1,0 +1,181 @@
+//! The story of an instant, in lines.
+
+use crate::about::About;
+use crate::cause::{Fate, fate_of, write_fate};
+use crate::lanes::{chosen, write_lanes};
+use crate::moments::{time_of, write_time};
+use crate::row_lines::tell_row;
+use crate::story::{Came, Cell, Story};
+use crate::texts::{write_at, write_number, write_ordinal};
+use pdc_life::{Outcome, Refusal};
+use std::io;
+use std::io::Write;
+
+/// Whether the frame that was published shows a column, as far as that is known.
+fn is_shown(story: &Story, column: usize) -> Option<bool> {
+    let cells = story.shown?;
+    let cell = cells.get(column).copied()?;
+    Some(matches!(cell, Cell::Present { .. }))
+}
+
+/// Whether a column's data is there, as it was answered.
+pub(crate) fn is_there(about: &About, story: &Story, column: usize) -> bool {
+    if about.is_merger() {
+        chosen(story, column).is_some()
+    } else {
+        fate_of(story, column, column) == Fate::Present
+    }
+}
+
+/// Whether the column is absent from the row: as the frame that was published has it, else as its data was answered.
+pub(crate) fn is_absent(about: &About, story: &Story, column: usize) -> bool {
+    match is_shown(story, column) {
+        Some(shown) => !shown,
+        None => !is_there(about, story, column),
+    }
+}
+
+/// What the other arrivals of a stream were answered.
+fn outcome_words(outcome: Option<Outcome>) -> (&'static str, &'static str) {
+    match outcome {
+        Some(Outcome::Refused(refusal)) => match refusal {
+            Refusal::Duplicate => ("equal", "B7 Duplicate"),
+            Refusal::Conflict => ("other", "B8 Conflict"),
+            Refusal::Late => ("late", "B4 Late"),
+            refusal => ("refused", refusal.text()),
+        },
+        Some(outcome) => ("answered", outcome.text()),
+        None => ("not answered", "no memory"),
+    }
+}
+
+/// The place of the arrival that was taken among all of its stream, and what became of the others.
+fn write_place<W: Write>(writer: &mut W, came: &Came) -> io::Result<()> {
+    let mut place: u64 = 0;
+    for arrived in came.arrivals.as_slice() {
+        place = place.saturating_add(1);
+        if arrived.outcome == Some(Outcome::Taken) {
+            write!(writer, ", the ")?;
+            write_ordinal(writer, place)?;
+            write!(writer, " of ")?;
+            write_number(writer, u64::from(came.count))?;
+        }
+    }
+    place = 0;
+    for arrived in came.arrivals.as_slice() {
+        place = place.saturating_add(1);
+        if arrived.outcome != Some(Outcome::Taken) {
+            let (word, text) = outcome_words(arrived.outcome);
+            write!(writer, ", the ")?;
+            write_ordinal(writer, place)?;
+            write!(writer, " {word} ({text})")?;
+        }
+    }
+    Ok(())
+}
+
+/// Why a column of a node's row is there, or is not.
+fn write_column<W: Write>(
+    writer: &mut W,
+    about: &About,
+    story: &Story,
+    column: usize,
+) -> io::Result<()> {
+    let fate = fate_of(story, column, column);
+    let (Fate::Present, Some(came)) = (fate, story.of_stream(column)) else {
+        write!(writer, "absent: ")?;
+        return write_fate(writer, about, story, column, fate);
+    };
+    if let Some(taken) = came.taken {
+        write_at(writer, "shown: came at ", taken.time)?;
+    }
+    if came.count > 1 {
+        write_place(writer, came)?;
+    }
+    Ok(())
+}
+
+/// What the frame that was published says otherwise than the answers.
+fn write_disagreement<W: Write>(
+    writer: &mut W,
+    about: &About,
+    story: &Story,
+    column: usize,
+) -> io::Result<()> {
+    let there = is_there(about, story, column);
+    match is_shown(story, column) {
+        Some(true) if !there => write!(writer, "; yet the frame that was published shows it"),
+        Some(false) if there => {
+            write!(writer, "; yet the frame that was published does not show it")
+        }
+        _ => Ok(()),
+    }
+}
+
+/// Writes what became of a column.
+fn write_story_of<W: Write>(
+    writer: &mut W,
+    about: &About,
+    story: &Story,
+    column: usize,
+) -> io::Result<()> {
+    write!(writer, "{} ", about.column_id(column))?;
+    if about.is_merger() {
+        write_lanes(writer, about, story, column)?;
+    } else {
+        write_column(writer, about, story, column)?;
+    }
+    write_disagreement(writer, about, story, column)
+}
+
+/// The instant with its time.
+fn write_instant<W: Write>(writer: &mut W, about: &About, story: &Story) -> io::Result<()> {
+    write!(writer, "{} ", story.instant)?;
+    write_time(writer, time_of(story.instant, about.rate()))
+}
+
+/// Tells what became of an instant: a line for each PMU, and what became of the row. `end` is the time of the last entry of the record.
+///
+/// # Errors
+///
+/// What the writer answers.
+pub fn tell_story<W: Write>(
+    writer: &mut W,
+    about: &About,
+    story: &Story,
+    end: u64,
+) -> io::Result<()> {
+    write_instant(writer, about, story)?;
+    let role = if about.is_merger() { "merger" } else { "node" };
+    writeln!(writer, " at {role} {}", about.id())?;
+    for column in 0..about.columns() {
+        write_story_of(writer, about, story, column)?;
+        writeln!(writer)?;
+    }
+    tell_row(writer, about, story, end)
+}
+
+/// Tells in a line which blocks of the instant's row are absent, and why; nothing where none is, or no row was published.
+///
+/// # Errors
+///
+/// What the writer answers.
+pub fn tell_absent<W: Write>(writer: &mut W, about: &About, story: &Story) -> io::Result<()> {
+    if story.popped.is_none() {
+        return Ok(());
+    }
+    let mut separator = " ";
+    let mut is_any = false;
+    for column in 0..about.columns() {
+        if is_absent(about, story, column) {
+            if !is_any {
+                write_instant(writer, about, story)?;
+            }
+            write!(writer, "{separator}")?;
+            write_story_of(writer, about, story, column)?;
+            separator = "; ";
+            is_any = true;
+        }
+    }
+    if is_any { writeln!(writer) } else { Ok(()) }
+}

@@ -1,0 +1,74 @@
+//! Words of what is told.
+
+use crate::about::About;
+use crate::moments::write_time;
+use std::io;
+use std::io::Write;
+
+/// The ordinal numbers that have a word.
+const ORDINALS: [&str; 5] = ["first", "second", "third", "fourth", "fifth"];
+
+/// The numbers that have a word.
+const NUMBERS: [&str; 5] = ["one", "two", "three", "four", "five"];
+
+/// The ending of an ordinal number.
+fn ending(number: u64) -> &'static str {
+    match (number % 10, number % 100) {
+        (_, 11..=13) => "th",
+        (1, _) => "st",
+        (2, _) => "nd",
+        (3, _) => "rd",
+        _ => "th",
+    }
+}
+
+/// The word at the place before this number.
+fn word_of(words: &[&'static str], number: u64) -> Option<&'static str> {
+    let place = usize::try_from(number.checked_sub(1)?).ok()?;
+    words.get(place).copied()
+}
+
+/// `first`, `second`, and from six on `6th`.
+pub(crate) fn write_ordinal<W: Write>(writer: &mut W, number: u64) -> io::Result<()> {
+    match word_of(&ORDINALS, number) {
+        Some(word) => write!(writer, "{word}"),
+        None => write!(writer, "{number}{}", ending(number)),
+    }
+}
+
+/// `two`, and from six on `6`.
+pub(crate) fn write_number<W: Write>(writer: &mut W, number: u64) -> io::Result<()> {
+    match word_of(&NUMBERS, number) {
+        Some(word) => write!(writer, "{word}"),
+        None => write!(writer, "{number}"),
+    }
+}
+
+/// `wait 2 ticks`, or of an absolute wait `wait 2 instants`.
+pub(crate) fn write_wait<W: Write>(writer: &mut W, about: &About) -> io::Result<()> {
+    let wait = about.wait();
+    let (one, more) = if about.is_relative() {
+        ("tick", "ticks")
+    } else {
+        ("instant", "instants")
+    };
+    let unit = if wait == 1 { one } else { more };
+    write!(writer, "wait {wait} {unit}")
+}
+
+/// `node A (201)`.
+pub(crate) fn write_node<W: Write>(writer: &mut W, about: &About, stream: usize) -> io::Result<()> {
+    let id = about.stream_id(stream);
+    write!(writer, "node {} ({id})", node_letter(stream))
+}
+
+/// A or B.
+pub(crate) fn node_letter(stream: usize) -> &'static str {
+    if stream == 0 { "A" } else { "B" }
+}
+
+/// A text and a time.
+pub(crate) fn write_at<W: Write>(writer: &mut W, text: &str, time: u64) -> io::Result<()> {
+    write!(writer, "{text}")?;
+    write_time(writer, time)
+}

@@ -1,0 +1,42 @@
+//! The instants that are asked for.
+
+ghost use Rattle.std.specs.Prelude.{◌<◌, ◌≤◌};
+ghost use Rattle.pdc_explain.specs.declared.moments.TheConstants.{MAX_RATE};
+
+use crate::moments::instant_near;
+use jiff::Timestamp;
+
+/// Which instants are asked for.
+#[derive(Clone, Copy, Debug, PartialEq, Eq)]
+pub enum Wanted {
+    /// All of them.
+    All,
+    /// The one with this number.
+    Number(u64),
+    /// The one nearest to this time, in nanoseconds since 1970.
+    Time(u64),
+}
+
+impl Wanted {
+    /// The number of the only instant that is asked for, at a rate of 1 to 240.
+    pub(crate) fn instant(self, rate: u64) -> Option<u64>
+        requires low { 0 < rate }
+        requires high { rate ≤ MAX_RATE }
+    {
+        match self {
+            Wanted::All => None,
+            Wanted::Number(instant) => Some(instant),
+            Wanted::Time(time) => Some(instant_near(time, rate)),
+        }
+    }
+}
+
+/// The instant that a text names: by its number, or by its time, as `2026-11-24T12:03:04.580Z`.
+pub fn wanted_of(text: &str) -> Option<Wanted> {
+    if let Ok(instant) = text.parse::<u64>() {
+        return Some(Wanted::Number(instant));
+    }
+    let time: Timestamp = text.parse().ok()?;
+    let nanos = u64::try_from(time.as_nanosecond()).ok()?;
+    Some(Wanted::Time(nanos))
+}
