@@ -1,10 +1,8 @@
 //! What became of a stream's data for an instant, and why a block is absent.
 
-use crate::about::About;
-use crate::moments::{time_of, write_span};
-use crate::story::{Arrived, Came, Cell, Story};
 use crate::texts::{write_at, write_ordinal, write_wait};
 use pdc_life::{Outcome, Refusal};
+use pdc_story::{About, Arrived, Came, Cell, Story, time_of, write_span};
 use std::io;
 use std::io::Write;
 
@@ -45,17 +43,27 @@ fn fate_of_arrival(arrived: &Arrived) -> Fate {
     let Some(outcome) = arrived.outcome else {
         return Fate::Unanswered;
     };
-    let Outcome::Refused(refusal) = outcome else {
-        return Fate::NoPlace;
-    };
-    match (refusal, arrived.waiting) {
-        (Refusal::NoConfig | Refusal::WrongLength, Some(count)) => Fate::NotAdopted {
-            count,
-            tick: arrived.adopted.map(|ticks| ticks.saturating_sub(arrived.ticks)),
-        },
-        (Refusal::NoConfig, None) => Fate::NoConfiguration,
-        (Refusal::Late, _) => Fate::Late,
-        (refusal, _) => Fate::Refused(refusal),
+    match outcome {
+        Outcome::Refused(refusal) => fate_of_refused(arrived, refusal),
+        _ => Fate::NoPlace,
+    }
+}
+
+/// Why data that was refused is not there: data of a section that is held and not in force yet is refused for want of one, or for its length.
+fn fate_of_refused(arrived: &Arrived, refusal: Refusal) -> Fate {
+    let is_unfit = matches!(refusal, Refusal::NoConfig | Refusal::WrongLength);
+    if is_unfit {
+        if let Some(count) = arrived.waiting {
+            return Fate::NotAdopted {
+                count,
+                tick: arrived.adopted.map(|ticks| ticks.saturating_sub(arrived.ticks)),
+            };
+        }
+    }
+    match refusal {
+        Refusal::NoConfig => Fate::NoConfiguration,
+        Refusal::Late => Fate::Late,
+        refusal => Fate::Refused(refusal),
     }
 }
 
@@ -135,7 +143,7 @@ fn write_nothing<W: Write>(
 fn write_adopted<W: Write>(writer: &mut W, count: u16, tick: Option<u64>) -> io::Result<()> {
     write!(writer, "its configuration under count {count} was taken, and ")?;
     match tick {
-        Some(0 | 1) => write!(writer, "adopted only at the next tick"),
+        Some(number) if number < 2 => write!(writer, "adopted only at the next tick"),
         Some(number) => {
             write!(writer, "adopted only at the ")?;
             write_ordinal(writer, number)?;
@@ -160,9 +168,9 @@ pub fn write_fate<W: Write>(
     let came = story.of_stream(stream);
     let first = came.and_then(|came| came.arrivals.as_slice().first().copied());
     let taken = came.and_then(|came| came.taken);
-    let time = match (taken, first) {
-        (Some(arrived), _) | (None, Some(arrived)) => arrived.time,
-        (None, None) => 0,
+    let time = match taken.or(first) {
+        Some(arrived) => arrived.time,
+        None => 0,
     };
     match fate {
         Fate::Nothing => return write_nothing(writer, about, story, came),

@@ -1,12 +1,10 @@
 //! How late the data of each stream comes.
 
-use crate::about::{About, Unexplained};
-use crate::moments::time_of;
 use crate::spread::{MAX_WAIT, Spread};
-use crate::texts::node_letter;
 use pdc_align::Arrival;
 use pdc_life::{Outcome, Refusal};
 use pdc_record::{Entry, What};
+use pdc_story::{About, Unexplained, time_of};
 use std::alloc::{AllocError, Global};
 use std::io;
 use std::io::Write;
@@ -38,10 +36,13 @@ pub struct Delays {
 
 /// Whether data is of the stream's own instant, and says how late it came.
 fn is_counted(outcome: Outcome) -> bool {
-    matches!(
-        outcome,
-        Outcome::Taken | Outcome::Refused(Refusal::Late | Refusal::OutOfWindow)
-    )
+    match outcome {
+        Outcome::Taken => true,
+        Outcome::Refused(refusal) => {
+            matches!(refusal, Refusal::Late | Refusal::OutOfWindow)
+        }
+        _ => false,
+    }
 }
 
 impl Delays {
@@ -153,6 +154,11 @@ fn write_tenths<W: Write>(writer: &mut W, tenths: u64) -> io::Result<()> {
     write!(writer, " {:>7}.{}", tenths / 10, tenths % 10)
 }
 
+/// The letter of a node before its id.
+fn node_prefix(stream: usize) -> &'static str {
+    if stream == 0 { "A " } else { "B " }
+}
+
 /// The line of a stream.
 fn tell_spread<W: Write>(writer: &mut W, name: &str, id: u16, spread: &Spread) -> io::Result<()> {
     write!(writer, "{name}{id:<7} {:>10}", spread.count)?;
@@ -186,10 +192,10 @@ pub fn tell_delays<W: Write>(writer: &mut W, delays: &Delays) -> io::Result<()> 
     )?;
     let mut stream = 0;
     for spread in &delays.spreads {
-        let name = match (about.is_merger(), node_letter(stream)) {
-            (false, _) => "",
-            (true, "A") => "A ",
-            (true, _) => "B ",
+        let name = if about.is_merger() {
+            node_prefix(stream)
+        } else {
+            ""
         };
         tell_spread(writer, name, about.stream_id(stream), spread)?;
         stream = stream.saturating_add(1);

@@ -1,9 +1,8 @@
 //! At the merger: which node's block a column shows, and why.
 
-use crate::about::About;
 use crate::cause::{Fate, fate_of, write_fate, write_kind};
-use crate::story::{Came, Story};
 use crate::texts::{node_letter, write_at, write_node};
+use pdc_story::{About, Came, Story};
 use std::io;
 use std::io::Write;
 

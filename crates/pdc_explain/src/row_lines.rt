@@ -1,9 +1,8 @@
 //! What became of a row, in words.
 
-use crate::about::About;
-use crate::story::{Closed, Opened, Story};
 use crate::texts::{node_letter, write_at, write_ordinal, write_wait};
 use pdc_life::MAX_PMUS;
+use pdc_story::{About, Closed, Opened, Story};
 use std::io;
 use std::io::Write;
 
@@ -38,7 +37,7 @@ fn is_wanted(about: &About, closed: Closed, stream: usize) -> bool {
         return true;
     }
     match closed.in_force {
-        Some(in_force) => matches!(in_force.get(stream), Some(Some(_))),
+        Some(in_force) => in_force.get(stream).copied().flatten().is_some(),
         None => true,
     }
 }

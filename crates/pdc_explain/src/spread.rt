@@ -1,14 +1,11 @@
 //! How far delays are spread.
-ghost use Rattle.std.specs.Prelude.{◌≡◌, length};
-
-use crate::moments::NANOS;
 use std::alloc::{AllocError, Global};
 
 /// How many nanoseconds are told apart: a tenth of a millisecond.
 const STEP: u64 = 100_000;
 
 /// The longest delay that is told apart, in steps: ten seconds.
-const STEPS: u64 = 10 * NANOS / STEP;
+const STEPS: u64 = 100_000;
 
 /// The longest wait that settings may have.
 pub const MAX_WAIT: u64 = 1000;

@@ -1,10 +1,9 @@
 //! How often each cause was.
 
-use crate::about::About;
 use crate::cause::{fate_of, write_kind};
 use crate::lanes::write_lane_kinds;
-use crate::story::Story;
 use crate::telling::is_absent;
+use pdc_story::{About, Story};
 use std::alloc::Global;
 use std::io;
 use std::io::Write;

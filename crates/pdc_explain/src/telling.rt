@@ -1,13 +1,11 @@
 //! The story of an instant, in lines.
 
-use crate::about::About;
 use crate::cause::{Fate, fate_of, write_fate};
 use crate::lanes::{chosen, write_lanes};
-use crate::moments::{time_of, write_time};
 use crate::row_lines::tell_row;
-use crate::story::{Came, Cell, Story};
 use crate::texts::{write_at, write_number, write_ordinal};
 use pdc_life::{Outcome, Refusal};
+use pdc_story::{About, Came, Cell, Story, time_of, write_time};
 use std::io;
 use std::io::Write;
 

@@ -1,7 +1,6 @@
 //! Words of what is told.
 
-use crate::about::About;
-use crate::moments::write_time;
+use pdc_story::{About, write_time};
 use std::io;
 use std::io::Write;
 
@@ -13,11 +12,13 @@ const NUMBERS: [&str; 5] = ["one", "two", "three", "four", "five"];
 
 /// The ending of an ordinal number.
 fn ending(number: u64) -> &'static str {
-    match (number % 10, number % 100) {
-        (_, 11..=13) => "th",
-        (1, _) => "st",
-        (2, _) => "nd",
-        (3, _) => "rd",
+    if number % 100 / 10 == 1 {
+        return "th";
+    }
+    match number % 10 {
+        1 => "st",
+        2 => "nd",
+        3 => "rd",
         _ => "th",
     }
 }

@@ -3,6 +3,7 @@
 use pdc_record::{Entry, Unread, read_entry};
 
 /// What comes next in a file.
+#[derive(Drop)]
 pub enum Next<'a> {
     /// An entry.
     Entry(Entry<'a>),
@@ -28,6 +29,16 @@ impl<'a> Entries<'a> {
     /// The entries that these bytes are.
     pub fn of(bytes: &'a [u8]) -> Entries<'a> {
         Entries { bytes, at: 0 }
+    }
+
+    /// Those from this place on.
+    pub fn from(bytes: &'a [u8], at: usize) -> Entries<'a> {
+        Entries { bytes, at }
+    }
+
+    /// The place of the next entry.
+    pub fn place(&self) -> usize {
+        self.at
     }
 
     /// The next entry, or why there is none.

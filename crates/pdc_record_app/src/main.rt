@@ -3,7 +3,9 @@
 
 mod explaining;
 mod files;
+mod pair;
 mod replaying;
+mod source;
 mod walking;
 mod words;
 

@@ -1,5 +1,6 @@
 //! `pdc replay`.
 
+use crate::pair::{grouped, run_pair};
 use crate::walking::{Takes, Walked, walk};
 use crate::words::Replayed;
 use crate::{DONE, FAILED, REFUSED};
@@ -56,19 +57,30 @@ fn tell<R: Print + Eprint>(rt: &R, frames: bool, text: &str) -> io::Result<()> {
 }
 
 /// The text of why a replay halted, without the end of its last line.
-fn halt_text(alloc: Global, halt: &Halt) -> io::Result<String> {
+pub fn halt_text(alloc: Global, halt: &Halt) -> io::Result<String> {
     let mut text = Vec::new(alloc);
     write_halt(&mut text, alloc, halt)?;
     text.pop();
     String::from_utf8(text).map_err(|_| io::ErrorKind::InvalidData.into())
 }
 
-/// Runs the command, and answers its exit status.
+/// Runs the command, and answers its exit status: one record is replayed, those of a pair are compared.
 ///
 /// # Errors
 ///
 /// A standard stream cannot be written, or there is no memory.
 pub fn run_replay<R: Files<File = File> + AllocGlobal + Print + Eprint>(
+    rt: &R,
+    asked: &Replayed<'_>,
+) -> io::Result<u8> {
+    match grouped(rt, asked.files.as_slice())? {
+        Some(mut pair) => run_pair(rt, &mut pair),
+        None => run_one(rt, asked),
+    }
+}
+
+/// Replays one record, and those of the lives behind it.
+fn run_one<R: Files<File = File> + AllocGlobal + Print + Eprint>(
     rt: &R,
     asked: &Replayed<'_>,
 ) -> io::Result<u8> {

@@ -16,6 +16,11 @@ FILE.. are the files of a record in their order, as `a.rec.0*`, and those of the
 and gives status 0; else the first difference is told with its number and both sides, with status 1. Steps that are not in the
 record end the replay there, with status 1; a file that is cut off is read up to the cut, and that is said.
 
+The records of node A and node B, with or without the merger's, may be given together: each is replayed, and of each instant it is told
+which of them had which block; and that they agree on every block that is present under one count, or the first that does not.
+  57478860001 2006-06-06T07:00:00.020Z  11 A B M  12 A . M
+A point stands where a row has no block of the PMU, a dash where there is no row.
+
 --frames prints the layouts and frames in hexadecimal, for `pdc show`; what is said of them then goes to standard error.
 
 Examples:

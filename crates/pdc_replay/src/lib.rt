@@ -7,12 +7,16 @@
 //! The promise to the layers above: an entry is passed only where each part of it that can be compared was equal.
 #![tactic(auto)]
 
+mod agreement;
 mod begins;
 mod halt;
 mod player;
 mod replay;
+mod seen;
 
+pub use agreement::{Disagreement, NAMES, Three, disagreement_of, write_presence};
 pub use begins::{Begins, Unbegun};
 pub use halt::{Difference, Halt, write_halt};
 pub use player::Player;
 pub use replay::Replay;
+pub use seen::{Section, SeenRow};

@@ -1,7 +1,9 @@
 //! Records of either role, played life after life.
 
+use crate::begins::Unbegun;
 use crate::halt::Halt;
 use crate::replay::Replay;
+use crate::seen::SeenRow;
 use pdc_merge::Merger;
 use pdc_node::Node;
 use pdc_record::{Begun, Entry, Role, What};
@@ -9,8 +11,6 @@ use pdc_settings::SettingsFault;
 use pdc_table::RingTable;
 use std::alloc::Global;
 use std::str;
-
-use crate::begins::Unbegun;
 
 /// A life of either role.
 #[derive(Drop)]
@@ -90,6 +90,15 @@ impl Player {
         match &self.life {
             Some(life) => self.frames.saturating_add(life.frames()),
             None => self.frames,
+        }
+    }
+
+    /// The row that was popped last; of instant 0 where none was.
+    pub fn last_row(&self) -> Option<SeenRow<'_>> {
+        match &self.life {
+            Some(Life::Node(replay)) => Some(replay.last_row()),
+            Some(Life::Merger(replay)) => Some(replay.last_row()),
+            None => None,
         }
     }
 

@@ -8,6 +8,7 @@ ghost use Rattle.pdc_core.specs.Core.{Hears};
 
 use crate::begins::{Begins, Unbegun};
 use crate::halt::{Difference, Halt};
+use crate::seen::{Layout, Section, SeenRow, layout_of};
 use pdc_core::Ticked;
 use pdc_life::{MAX_PMUS, Outcome};
 use pdc_output::{Output, append_row};
@@ -35,6 +36,8 @@ pub struct Replay<C: Begins> {
     row: DueRow,
     /// The frame of a row or of a layout.
     wire: Vec<u8>,
+    /// The layouts of rows that were not popped yet, and that in force, the oldest first.
+    layouts: Vec<Layout>,
 }
 
 /// The bytes, kept.
@@ -70,6 +73,7 @@ impl<C: Begins> Replay<C> {
             frames: 0,
             row: spare_row(),
             wire: Vec::new(alloc),
+            layouts: Vec::new(alloc),
         })
     }
 
@@ -83,14 +87,19 @@ impl<C: Begins> Replay<C> {
         self.frames
     }
 
-    /// The core, as it is after the steps that were played.
-    pub fn core(&self) -> &C {
-        &self.core
-    }
-
-    /// The row that was popped last.
-    pub fn row(&self) -> &DueRow {
-        &self.row
+    /// The row that was popped last, with the sections that it closed under.
+    pub fn last_row(&self) -> SeenRow<'_> {
+        let mut sections: &[Section] = &[];
+        for layout in &self.layouts {
+            if layout.change == self.row.change {
+                sections = layout.sections.as_slice();
+            }
+        }
+        SeenRow {
+            instant: self.row.instant,
+            blocks: self.row.blocks.as_slice(),
+            sections,
+        }
     }
 
     /// What differs at the step that is played.
@@ -252,17 +261,43 @@ impl<C: Begins> Replay<C> {
         }
     }
 
+    /// Keeps the layout that a tick brought into force.
+    fn keep_layout(&mut self, change: u32) -> Result<(), AllocError> {
+        self.wire.clear();
+        self.core.layout_frame(0, &mut self.wire)?;
+        self.layouts.push(layout_of(change, &self.wire))?;
+        Ok(())
+    }
+
+    /// Lets the layouts go of which no row is to come.
+    fn drop_layouts(&mut self) {
+        let change = self.row.change;
+        let count = self.layouts.iter().take_while(|layout| layout.change < change).count();
+        for _ in 0..count {
+            if !self.layouts.is_empty() {
+                self.layouts.remove(0);
+            }
+        }
+    }
+
     /// Makes the step of an entry, which is the next one, and compares the frame where one was published.
     fn play_step(&mut self, entry: &Entry<'_>) -> Result<(), Halt> {
         self.is_next(entry.step)?;
         if let Err(what) = self.step(&entry.what) {
             return Err(self.differs(what));
         }
-        if let What::Popped {
-            frame: Some(frame), ..
-        } = entry.what
-        {
-            self.compare_frame(frame)?;
+        match entry.what {
+            What::Popped { frame, .. } => {
+                self.drop_layouts();
+                if let Some(frame) = frame {
+                    self.compare_frame(frame)?;
+                }
+            }
+            What::Ticked {
+                change: Some(change),
+                ..
+            } => self.keep_layout(change)?,
+            _ => {}
         }
         self.next = self.next.saturating_add(1);
         Ok(())

@@ -1,7 +1,7 @@
 //! The instants that are asked for.
 
 ghost use Rattle.std.specs.Prelude.{◌<◌, ◌≤◌};
-ghost use Rattle.pdc_explain.specs.declared.moments.TheConstants.{MAX_RATE};
+ghost use Rattle.pdc_story.specs.declared.moments.TheConstants.{MAX_RATE};
 
 use crate::moments::instant_near;
 use jiff::Timestamp;
@@ -19,7 +19,7 @@ pub enum Wanted {
 
 impl Wanted {
     /// The number of the only instant that is asked for, at a rate of 1 to 240.
-    pub(crate) fn instant(self, rate: u64) -> Option<u64>
+    pub fn instant(self, rate: u64) -> Option<u64>
         requires low { 0 < rate }
         requires high { rate ≤ MAX_RATE }
     {
