@@ -49,6 +49,14 @@ fn fate_of_arrival(arrived: &Arrived) -> Fate {
     }
 }
 
+/// The number of the tick after the data that adopted its section, from 1.
+fn tick_of(arrived: &Arrived) -> Option<u64> {
+    match arrived.adopted {
+        Some(ticks) => Some(ticks.saturating_sub(arrived.ticks)),
+        None => None,
+    }
+}
+
 /// Why data that was refused is not there: data of a section that is held and not in force yet is refused for want of one, or for its length.
 fn fate_of_refused(arrived: &Arrived, refusal: Refusal) -> Fate {
     let is_unfit = matches!(refusal, Refusal::NoConfig | Refusal::WrongLength);
@@ -56,7 +64,7 @@ fn fate_of_refused(arrived: &Arrived, refusal: Refusal) -> Fate {
         if let Some(count) = arrived.waiting {
             return Fate::NotAdopted {
                 count,
-                tick: arrived.adopted.map(|ticks| ticks.saturating_sub(arrived.ticks)),
+                tick: tick_of(arrived),
             };
         }
     }
@@ -102,11 +110,11 @@ fn write_late<W: Write>(
             write_span(writer, closed.time, time)?;
             write!(writer, " after the row had closed (")?;
             write_wait(writer, about)?;
-            write!(writer, "): B4 Late")
+            write!(writer, "): {}", Refusal::Late.text())
         }
         _ => {
             write_at(writer, "its data came at ", time)?;
-            write!(writer, ", when a later instant had closed: B4 Late")
+            write!(writer, ", when a later instant had closed: {}", Refusal::Late.text())
         }
     }
 }
@@ -153,6 +161,18 @@ fn write_adopted<W: Write>(writer: &mut W, count: u16, tick: Option<u64>) -> io:
     }
 }
 
+/// When the data came that was taken, else the first; 0 where none came.
+fn time_of_data(came: Option<&Came>) -> u64 {
+    let Some(came) = came else {
+        return 0;
+    };
+    match (came.taken, came.arrivals.as_slice().first()) {
+        (Some(taken), _) => taken.time,
+        (None, Some(first)) => first.time,
+        (None, None) => 0,
+    }
+}
+
 /// Writes what became of a stream's data, in words.
 ///
 /// # Errors
@@ -166,12 +186,7 @@ pub fn write_fate<W: Write>(
     fate: Fate,
 ) -> io::Result<()> {
     let came = story.of_stream(stream);
-    let first = came.and_then(|came| came.arrivals.as_slice().first().copied());
-    let taken = came.and_then(|came| came.taken);
-    let time = match taken.or(first) {
-        Some(arrived) => arrived.time,
-        None => 0,
-    };
+    let time = time_of_data(came);
     match fate {
         Fate::Nothing => return write_nothing(writer, about, story, came),
         Fate::Late => return write_late(writer, about, story, time),
@@ -189,7 +204,8 @@ pub fn write_fate<W: Write>(
         }
         Fate::NoPlace => write!(writer, ", and has no block of it"),
         Fate::NoConfiguration => {
-            write!(writer, ", and no configuration of it had come: B1 NoConfig")
+            let text = Refusal::NoConfig.text();
+            write!(writer, ", and no configuration of it had come: {text}")
         }
         Fate::Unanswered => write!(writer, ", and was not answered, for want of memory"),
         Fate::Refused(refusal) => write!(writer, ", and was refused: {}", refusal.text()),
@@ -210,9 +226,9 @@ pub fn write_kind<W: Write>(writer: &mut W, fate: Fate) -> io::Result<()> {
         Fate::OtherCount(_) => "under a count not in force",
         Fate::NoPlace => "no block of it",
         Fate::Nothing => "nothing came",
-        Fate::Late => "B4 Late",
+        Fate::Late => Refusal::Late.text(),
         Fate::NotAdopted { .. } => "its configuration not adopted yet",
-        Fate::NoConfiguration => "B1 NoConfig",
+        Fate::NoConfiguration => Refusal::NoConfig.text(),
         Fate::Unanswered => "not answered",
         Fate::Refused(refusal) => refusal.text(),
     };

@@ -8,7 +8,12 @@ use std::io::Write;
 
 /// The stream whose block a column shows: node A's where both have one.
 pub fn chosen(story: &Story, column: usize) -> Option<usize> {
-    (0..2).find(|stream| fate_of(story, *stream, column) == Fate::Present)
+    for stream in 0..2 {
+        if fate_of(story, stream, column) == Fate::Present {
+            return Some(stream);
+        }
+    }
+    None
 }
 
 /// Whether both nodes have the same block of a column.
@@ -56,10 +61,12 @@ pub fn write_lanes<W: Write>(
     };
     write!(writer, "shown: of ")?;
     write_node(writer, about, stream)?;
-    if let Some(Some(taken)) = story.of_stream(stream).map(|came| came.taken) {
-        write_at(writer, ", whose data came at ", taken.time)?;
+    if let Some(came) = story.of_stream(stream) {
+        if let Some(taken) = came.taken {
+            write_at(writer, ", whose data came at ", taken.time)?;
+        }
     }
-    let other = 1 - stream;
+    let other = if stream == 0 { 1 } else { 0 };
     if stream == 0 && fate_of(story, other, column) == Fate::Present {
         write!(writer, " and goes before node B's")?;
     }

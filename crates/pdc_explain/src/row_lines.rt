@@ -2,7 +2,7 @@
 
 use crate::texts::{node_letter, write_at, write_ordinal, write_wait};
 use pdc_life::MAX_PMUS;
-use pdc_story::{About, Closed, Opened, Story};
+use pdc_story::{About, Arrived, Closed, Opened, Story};
 use std::io;
 use std::io::Write;
 
@@ -37,8 +37,19 @@ fn is_wanted(about: &About, closed: Closed, stream: usize) -> bool {
         return true;
     }
     match closed.in_force {
-        Some(in_force) => in_force.get(stream).copied().flatten().is_some(),
+        Some(in_force) => match in_force.get(stream) {
+            Some(held) => held.is_some(),
+            None => false,
+        },
         None => true,
+    }
+}
+
+/// What was taken of a stream.
+fn taken_of(story: &Story, stream: usize) -> Option<Arrived> {
+    match story.of_stream(stream) {
+        Some(came) => came.taken,
+        None => None,
     }
 }
 
@@ -48,8 +59,7 @@ fn waited_for(about: &About, story: &Story, closed: Closed) -> (Streams, usize, 
     let mut last: u64 = 0;
     let mut last_stream = 0;
     for stream in 0..about.streams() {
-        let taken = story.of_stream(stream).and_then(|came| came.taken);
-        match taken {
+        match taken_of(story, stream) {
             Some(taken) => {
                 if taken.time >= last {
                     last = taken.time;

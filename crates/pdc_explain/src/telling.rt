@@ -33,15 +33,20 @@ pub(crate) fn is_absent(about: &About, story: &Story, column: usize) -> bool {
     }
 }
 
+/// How data was that was refused beside some that was taken.
+fn refused_word(refusal: Refusal) -> &'static str {
+    match refusal {
+        Refusal::Duplicate => "equal",
+        Refusal::Conflict => "other",
+        Refusal::Late => "late",
+        _ => "refused",
+    }
+}
+
 /// What the other arrivals of a stream were answered.
 fn outcome_words(outcome: Option<Outcome>) -> (&'static str, &'static str) {
     match outcome {
-        Some(Outcome::Refused(refusal)) => match refusal {
-            Refusal::Duplicate => ("equal", "B7 Duplicate"),
-            Refusal::Conflict => ("other", "B8 Conflict"),
-            Refusal::Late => ("late", "B4 Late"),
-            refusal => ("refused", refusal.text()),
-        },
+        Some(Outcome::Refused(refusal)) => (refused_word(refusal), refusal.text()),
         Some(outcome) => ("answered", outcome.text()),
         None => ("not answered", "no memory"),
     }

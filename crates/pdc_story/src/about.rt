@@ -1,4 +1,6 @@
 //! Whose record it is.
+ghost use Rattle.std.specs.Prelude.{◌<◌, ◌≤◌};
+ghost use Rattle.pdc_story.specs.declared.moments.TheConstants.{MAX_RATE};
 
 use crate::moments::MAX_RATE;
 use pdc_align::Arrival;
@@ -99,7 +101,10 @@ impl About {
     }
 
     /// Its frames a second, 1 to 240.
-    pub fn rate(&self) -> u64 {
+    pub fn rate(&self) -> u64
+        ensures low { 0 < result }
+        ensures high { result ≤ MAX_RATE }
+    {
         let rate = match &self.lived {
             Lived::Node(settings) => settings.output.rate,
             Lived::Merger(settings) => settings.output.rate,
