@@ -11,7 +11,7 @@ const REPLAY: &str =
     "Plays the record of a life again on a node, or on the merger, that begins as the record says: each datagram, tick and pop is made
 again, and each answer, each published frame and each layout is compared with what was recorded.
 
-FILE.. are the files of a record in their order, as `a.rec.0*`, and those of the lives behind it. What is recorded alike prints
+FILE.. are the files of a record in their order, as `a.record.*`, and those of the lives behind it. What is recorded alike prints
   12000345 steps, 239998 frames: as recorded
 and gives status 0; else the first difference is told with its number and both sides, with status 1. Steps that are not in the
 record end the replay there, with status 1; a file that is cut off is read up to the cut, and that is said.
@@ -24,8 +24,8 @@ A point stands where a row has no block of the PMU, a dash where there is no row
 --frames prints the layouts and frames in hexadecimal, for `pdc show`; what is said of them then goes to standard error.
 
 Examples:
-  pdc replay a.rec.0*
-  pdc replay --frames a.rec.0* | pdc show";
+  pdc replay a.record.*
+  pdc replay --frames a.record.* | pdc show";
 
 const EXPLAIN: &str =
     "Tells out of the record of a life what became of an instant: a line for each PMU, whether it was shown, and why not; when the row
@@ -40,9 +40,9 @@ it, or its time, as 2026-11-24T12:03:04.580Z.
 delay; and the `wait` that would have kept all but one in a thousand.
 
 Examples:
-  pdc explain a.rec.0* 2026-11-24T12:03:04.580Z
-  pdc explain a.rec.0* --absent
-  pdc explain a.rec.0* --delays";
+  pdc explain a.record.* 2026-11-24T12:03:04.580Z
+  pdc explain a.record.* --absent
+  pdc explain a.record.* --delays";
 
 /// What is asked of `replay`.
 #[derive(Drop)]
