@@ -80,12 +80,15 @@ module _ (bytes : List ℕ) (f : Fields) (h : Begins bytes f) where
   no_size_cause NoEntry unsized = unsized.1 begins-whole.sized
   no_size_cause BadCheck none = none
 
-  -- and CHK is its check word
+  -- and CHK behind them
+  pub begins-behind : drop (long_at bytes 0 - 2) bytes ≡ to_be_bytes w16 (check_word_of (before_check f)) ++ h.more
+  begins-behind = ap (λ (n : ℕ). drop n bytes) place ∙ ap (drop (length (before_check f))) apart ∙ drop-append_seam (before_check f) (to_be_bytes w16 (check_word_of (before_check f)) ++ h.more)
+
+  -- which is its check word
   pub begins-check : (check : ℕ) (rest : List ℕ) → check < 2 ^ 16 → check_word_of (unchecked_of bytes) < 2 ^ 16 → drop (long_at bytes 0 - 2) bytes ≡ to_be_bytes w16 check ++ rest → check ≡ check_word_of (unchecked_of bytes)
   begins-check check rest fits word_fits e =
       let same : check_word_of (unchecked_of bytes) ≡ check_word_of (before_check f) = ap check_word_of begins-said in
-      let behind : to_be_bytes w16 (check_word_of (before_check f)) ++ h.more ≡ to_be_bytes w16 check ++ rest =
-      sym (drop-append_seam (before_check f) (to_be_bytes w16 (check_word_of (before_check f)) ++ h.more)) ∙ ap (drop (length (before_check f))) (sym apart) ∙ ap (λ (n : ℕ). drop n bytes) (sym place) ∙ e in
+      let behind : to_be_bytes w16 (check_word_of (before_check f)) ++ h.more ≡ to_be_bytes w16 check ++ rest = sym begins-behind ∙ e in
       sym (same ∙ (same_word (check_word_of (before_check f)) check h.more rest (omega (arith, same, word_fits)) fits behind).0)
 
 -- what says something, under its check word, is an entry
@@ -106,6 +109,40 @@ word_behind n bytes rest check fits e =
     let high : slice_index bytes n ≡ check / 256 % 256 = sym (ap (slice_index bytes) start) ∙ sym (get_or-drop n bytes 0 0) ∙ ap (λ (xs : List ℕ). slice_index xs 0) e in
     let low : slice_index bytes (n + 1) ≡ check % 256 = sym (get_or-drop n bytes 1 0) ∙ ap (λ (xs : List ℕ). slice_index xs 1) e in
     omega (arith, high, low, fits)
+
+-- where bytes begin with an entry, there is no cause why not
+pub no_cause : (bytes : List ℕ) (f : Fields) (h : Begins bytes f) → check_word_of (unchecked_of bytes) < 2 ^ 16 → (cause : Unread) → IsFirstCause bytes cause → ⊥
+no_cause bytes f h fits Cut cut = no_size_cause bytes f h Cut cut
+no_cause bytes f h fits NoEntry (room, inl unsized) = unsized (begins-whole bytes f h).sized
+no_cause bytes f h fits NoEntry (room, inr (whole, none)) = none f (record { fits = h.fits; spelled = begins-said bytes f h })
+no_cause bytes f h fits BadCheck (whole, said, other) =
+    let same : check_word_of (unchecked_of bytes) ≡ check_word_of (before_check f) = ap check_word_of (begins-said bytes f h) in
+    other (word_behind (long_at bytes 0 - 2) bytes h.more (check_word_of (before_check f)) (omega (arith, same, fits)) (begins-behind bytes f h) ∙ sym same)
+
+cut_or_whole : (bytes : List ℕ) → IsFirstCause bytes Cut → IsWhole bytes → ⊥
+cut_or_whole bytes (inl short) whole = absurd (omega (arith, short, whole.sized.room))
+cut_or_whole bytes (inr cut) whole = absurd (omega (arith, cut.1, whole.enough))
+
+cut_or_not : (bytes : List ℕ) → IsFirstCause bytes Cut → IsFirstCause bytes NoEntry → ⊥
+cut_or_not bytes (inl short) k = absurd (omega (arith, short, k.0))
+cut_or_not bytes (inr cut) (room, inl unsized) = unsized cut.0
+cut_or_not bytes (inr cut) (room, inr (whole, none)) = absurd (omega (arith, cut.1, whole.enough))
+
+none_or_said : (bytes : List ℕ) → IsFirstCause bytes NoEntry → IsWhole bytes → ((f : Fields) × IsSaid (unchecked_of bytes) f) → ⊥
+none_or_said bytes (room, inl unsized) whole said = unsized whole.sized
+none_or_said bytes (room, inr (all, none)) whole said = none said.0 said.1
+
+-- and there is one cause at most
+pub one_cause : (bytes : List ℕ) (a b : Unread) → IsFirstCause bytes a → IsFirstCause bytes b → a ≡ b
+one_cause bytes Cut Cut h k = refl
+one_cause bytes NoEntry NoEntry h k = refl
+one_cause bytes BadCheck BadCheck h k = refl
+one_cause bytes Cut NoEntry h k = absurd (cut_or_not bytes h k)
+one_cause bytes NoEntry Cut h k = absurd (cut_or_not bytes k h)
+one_cause bytes Cut BadCheck h k = absurd (cut_or_whole bytes h k.0)
+one_cause bytes BadCheck Cut h k = absurd (cut_or_whole bytes k h.0)
+one_cause bytes NoEntry BadCheck h k = absurd (none_or_said bytes h k.0 k.1)
+one_cause bytes BadCheck NoEntry h k = absurd (none_or_said bytes k h.0 h.1)
 
 -- the size tells a cause
 pub size_cause : (bytes : List ℕ) (cause : Unread) → IsSizeCause bytes cause → IsFirstCause bytes cause

@@ -11,6 +11,7 @@ mod begun;
 mod bodies;
 mod entry;
 mod fixed;
+mod laws;
 mod limits;
 mod reading;
 mod starts;
@@ -19,6 +20,7 @@ mod writing;
 
 pub use begun::{Begun, Role};
 pub use entry::{Entry, What};
+pub use laws::entries_are_read_in_one_way;
 pub use limits::{MAX_REST, VERSION};
 pub use pdc_life::{CfgFault, FrameFault, MAX_PMUS, Outcome, Refusal};
 pub use reading::{Unread, read_entry};
