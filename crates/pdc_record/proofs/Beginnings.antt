@@ -1,11 +1,11 @@
 -- The body of an entry that begins a record: what it says is told by its bytes.
-use Rattle.std.proofs.Common.{◌≡◌, ℕ, ◌+◌, ◌*◌, ◌^◌, ◌<◌, ◌≤◌, List, [], ◌∷◌, ◌++◌, length, refl, sym, ap, ◌∙◌, append_assoc, arith, length-append}
+use Rattle.std.proofs.Common.{◌≡◌, ℕ, ◌+◌, ◌^◌, ◌<◌, List, [], ◌∷◌, ◌++◌, length, refl, sym, ap, ◌∙◌, append_assoc, arith, length-append}
 use Rattle.std.specs.Int.{w16, w32, w64, to_be_bytes}
 use Rattle.pdc_record.specs.declared.begun.Role.{Role}
 use Rattle.pdc_record.specs.declared.begun.Role.TheVariants.{Node, Merger}
 use Rattle.pdc_record.specs.declared.limits.TheConstants.{COUNTS}
-use Rattle.pdc_record.specs.Told.{Start, Told, Began}
-use Rattle.pdc_record.specs.Bodies.{AreWords, FitsStart, IsTold, back_of, body_of, front_of, role_number, words_of}
+use Rattle.pdc_record.specs.Told.{Start, Began}
+use Rattle.pdc_record.specs.Bodies.{FitsStart, IsTold, back_of, body_of, front_of, role_number, words_of}
 use Rattle.pdc_record.proofs.Numbers.{same_word, same_long, same_wide, same_byte, same_words, length-words_of}
 
 -- the fields one behind another
@@ -85,6 +85,6 @@ start_found body b1 b2 b3 b4 b5 b6 b7 b8 b9 b10 s role major minor patch fits pr
     record {
       kind_is = refl;
       spelled = e1 ∙ ap (λ (xs : List ℕ). to_be_bytes w16 1 ++ xs) (front
-      ∙ ap (λ (xs : List ℕ). role_number s.role ∷ (to_be_bytes w16 s.id ++ (to_be_bytes w16 s.rate ++ (to_be_bytes w32 s.start ++ (to_be_bytes w64 s.floor ++ xs))))) tail) ∙ sym (chain s);
+          ∙ ap (λ (xs : List ℕ). role_number s.role ∷ (to_be_bytes w16 s.id ++ (to_be_bytes w16 s.rate ++ (to_be_bytes w32 s.start ++ (to_be_bytes w64 s.floor ++ xs))))) tail) ∙ sym (chain s);
       fits = fits;
     }

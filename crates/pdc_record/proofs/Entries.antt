@@ -1,11 +1,10 @@
 -- What bytes begin with is told by them.
-use Rattle.std.proofs.Common.{◌≡◌, ◌⊎◌, inl, inr, ℕ, ◌+◌, ◌-◌, ◌*◌, ◌/◌, ◌%◌, ◌^◌, ◌<◌, ◌≤◌, List, ◌∷◌, ◌++◌, length, slice_index, take, drop, refl, sym, ap, subst, ◌∙◌, append_assoc, arith, length-append}
+use Rattle.std.proofs.Common.{◌≡◌, inl, inr, ℕ, ◌+◌, ◌-◌, ◌/◌, ◌%◌, ◌^◌, ◌<◌, ◌≤◌, List, ◌∷◌, ◌++◌, length, slice_index, take, drop, refl, sym, ap, subst, ◌∙◌, append_assoc, arith, length-append}
 use Rattle.std.proofs.Math.Seq.{take-append_seam, drop-append_seam}
-use Rattle.std.proofs.lemmas.List.{append_cancel_left, get_or-drop, length-take, take-append-drop}
+use Rattle.std.proofs.lemmas.List.{append_cancel_left, get_or-drop, take-append-drop}
 use Rattle.std.specs.Int.{w16, w32, w64, to_be_bytes}
 use Rattle.pdc_frame.specs.Bytes.{word_at, long_at}
 use Rattle.pdc_frame.specs.CheckWord.{check_word_of}
-use Rattle.pdc_record.specs.declared.limits.TheConstants.{MAX_REST, MAX_LEN, OVERHEAD}
 use Rattle.pdc_record.specs.declared.reading.Unread.{Unread}
 use Rattle.pdc_record.specs.declared.reading.Unread.TheVariants.{Cut, NoEntry, BadCheck}
 use Rattle.pdc_record.specs.Told.{Fields}
@@ -98,8 +97,8 @@ begins bytes f check rest whole said behind check-is = record {
   fits = said.fits;
   more = rest;
   spelled = sym (take-append-drop (long_at bytes 0 - 2) bytes) ∙ ap (λ (xs : List ℕ). xs ++ drop (long_at bytes 0 - 2) bytes) said.spelled
-  ∙ ap (λ (xs : List ℕ). before_check f ++ xs) (behind ∙ ap (λ (n : ℕ). to_be_bytes w16 n ++ rest) (check-is ∙ ap check_word_of said.spelled))
-  ∙ sym (append_assoc (before_check f) (to_be_bytes w16 (check_word_of (before_check f))) rest);
+      ∙ ap (λ (xs : List ℕ). before_check f ++ xs) (behind ∙ ap (λ (n : ℕ). to_be_bytes w16 n ++ rest) (check-is ∙ ap check_word_of said.spelled))
+      ∙ sym (append_assoc (before_check f) (to_be_bytes w16 (check_word_of (before_check f))) rest);
 }
 
 -- the number behind so many bytes
@@ -170,8 +169,12 @@ module _ (bytes unchecked : List ℕ) (len : ℕ) (whole : IsWhole bytes) (len-i
     word-said = word-is ∙ ap check_word_of (sym said-is)
 
     pub check_cause : (f : Fields) → IsSaid unchecked f → (check ≡ word → ⊥) → IsFirstCause bytes BadCheck
-    check_cause f said other = (whole, (f, subst (λ (xs : List ℕ). IsSaid xs f) (sym said-is) said), λ same.
-        other (sym (word_behind (long_at bytes 0 - 2) bytes rest check fits cells-are) ∙ same ∙ sym word-said))
+    check_cause f said other = (
+      whole,
+      (f, subst (λ (xs : List ℕ). IsSaid xs f) (sym said-is) said),
+      λ same.
+          other (sym (word_behind (long_at bytes 0 - 2) bytes rest check fits cells-are) ∙ same ∙ sym word-said),
+    )
 
     pub misread : (check ≡ word → ⊥) → (g : Fields) → Begins bytes g → ⊥
     misread other g h = other (begins-check bytes g h check rest fits (omega (arith, word-said, word_fits)) cells-are ∙ sym word-said)

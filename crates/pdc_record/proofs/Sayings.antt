@@ -1,6 +1,6 @@
 -- What the body of an entry says is told by its kind and its bytes.
-use Rattle.std.proofs.Common.{◌≡◌, ℕ, ◌+◌, ◌*◌, ◌^◌, ◌<◌, ◌≤◌, Bool, true, false, Option, Some, None, List, [], ◌∷◌, ◌++◌, length, get_or, refl, sym, ap, ◌∙◌, append_assoc, arith, length-append}
-use Rattle.std.specs.Int.{w16, w32, w64, to_be_bytes}
+use Rattle.std.proofs.Common.{◌≡◌, ℕ, ◌+◌, ◌^◌, ◌<◌, ◌≤◌, Bool, true, false, Option, Some, None, List, [], ◌∷◌, ◌++◌, length, get_or, refl, sym, ap, ◌∙◌, append_assoc, arith, length-append}
+use Rattle.std.specs.Int.{w32, w64, to_be_bytes}
 use Rattle.pdc_life.specs.pdc_cfg.declared.fault.CfgFault.TheVariants.{WrongKind, Cut, TooMany, FloatFormat}
 use Rattle.pdc_life.specs.pdc_frame.declared.fault.FrameFault.TheVariants.{Short, BadSync, SizeMismatch, BadCheck, BadId}
 use Rattle.pdc_life.specs.declared.outcome.Outcome.{Outcome}
@@ -9,9 +9,9 @@ use Rattle.pdc_life.specs.declared.outcome.Refusal.{Refusal}
 use Rattle.pdc_life.specs.declared.outcome.Refusal.TheVariants.{NoFrame, WrongId, NoConfiguration, WrongTimeBase, WrongRate, WrongSource, BadOwnBlock, UnknownSource, OldStamp, StaleCount, CountConflict, BadTag, NoConfig, WrongLength, OtherStamp, Late, Ahead, OutOfWindow, Duplicate, Conflict}
 use Rattle.pdc_record.specs.declared.limits.TheConstants.{COUNTS}
 use Rattle.pdc_record.specs.Answers.{answer_number, refusal_number}
-use Rattle.pdc_record.specs.Told.{Start, Tick, Told, Began, Arrived, Unanswered, Ticked, FoundNone, Popped, Laid, Missing}
-use Rattle.pdc_record.specs.Bodies.{AreWords, FitsTick, FitsWidths, IsTold, body_of, change_number, fixed_of, flag_of, flags_of, kind_number, outcome_of, rest_of, words_of}
-use Rattle.pdc_record.proofs.Numbers.{same_word, same_long, same_wide, same_byte, same_words, length-words_of, nothing}
+use Rattle.pdc_record.specs.Told.{Tick, Told, Began, Arrived, Unanswered, Ticked, FoundNone, Popped, Laid, Missing}
+use Rattle.pdc_record.specs.Bodies.{AreWords, FitsTick, FitsWidths, IsTold, body_of, change_number, flags_of, kind_number, outcome_of, rest_of, words_of}
+use Rattle.pdc_record.proofs.Numbers.{same_word, same_long, same_wide, same_byte, same_words, length-words_of}
 use Rattle.pdc_record.proofs.Beginnings.{same_start, length-began}
 
 -- the refusals by their numbers

@@ -1,5 +1,5 @@
 -- What an entry says, without where its bytes lie in memory.
-use Rattle.std.specs.Prelude.{ℕ, Bool, List, [], length, Option, Some, None}
+use Rattle.std.specs.Prelude.{ℕ, Bool, List, Option, Some, None}
 use Rattle.pdc_life.specs.declared.outcome.Outcome.{Outcome}
 use Rattle.pdc_record.specs.declared.begun.Role.{Role}
 use Rattle.pdc_record.specs.declared.begun.Begun.{Begun}

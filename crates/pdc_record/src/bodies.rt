@@ -19,8 +19,7 @@ pub(crate) fn kind_number(what: &What<'_>) -> u8
         What::Unanswered { .. } => 2,
         What::Ticked { .. } => 3,
         What::FoundNone => 4,
-        What::Popped { frame: None, .. }
-        | What::Popped { frame: Some(_), .. } => 5,
+        What::Popped { frame: None, .. } | What::Popped { frame: Some(_), .. } => 5,
         What::Laid { .. } => 6,
         What::Missing { .. } => 7,
     }
@@ -38,7 +37,8 @@ pub(crate) fn rest_of<'a>(what: &What<'a>) -> &'a [u8]
         What::FoundNone => &[],
         What::Popped { frame: None, .. } => &[],
         What::Popped {
-            frame: Some(frame), ..
+            frame: Some(frame),
+            ..
         } => frame,
         What::Laid { frame } => frame,
         What::Missing { .. } => &[],

@@ -98,7 +98,9 @@ pub(crate) fn append_fixed<B: Buffer>(what: &What<'_>, out: &mut B)
     match what {
         What::Begun(begun) => append_begun(begun, out),
         What::Arrived {
-            stream, outcome, ..
+            stream,
+            outcome,
+            ..
         } => out.append_bytes(&arrived_bytes(*stream, *outcome)),
         What::Unanswered { stream, .. } => out.append_bytes(&stream.to_be_bytes()),
         What::Ticked {

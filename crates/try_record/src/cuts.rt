@@ -25,7 +25,8 @@ impl Record {
     /// Adds the entry that the bytes are.
     pub fn add(&mut self, entry: &[u8]) -> Result<(), AllocError> {
         self.bytes.extend_from_slice(entry)?;
-        self.ends.push(self.bytes.len())
+        self.ends.push(self.bytes.len())?;
+        Ok(())
     }
 }
 

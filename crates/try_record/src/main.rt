@@ -10,6 +10,7 @@ use cuts::{Record, cuts_that_differ};
 use pdc_record::read_entry;
 use std::alloc::Global;
 use std::io;
+use std::io::Read;
 
 /// Prints what the bytes begin with, and plays the entry that they are.
 fn play(rt: &HostRuntime, alloc: Global, bytes: &[u8], record: &mut Record) -> io::Result<()> {
@@ -28,7 +29,9 @@ fn play(rt: &HostRuntime, alloc: Global, bytes: &[u8], record: &mut Record) -> i
                 bad_check,
                 read,
             } = answers_to_changes(alloc, bytes)?;
-            println!(rt; "  {written}; changed: {cut} Cut, {no_entry} NoEntry, {bad_check} BadCheck, {read} read")?;
+            println!(rt;
+                "  {written}; changed: {cut} Cut, {no_entry} NoEntry, {bad_check} BadCheck, {read} read"
+            )?;
             record.add(bytes)?;
         }
     }

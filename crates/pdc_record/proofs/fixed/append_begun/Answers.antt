@@ -1,4 +1,3 @@
-use Rattle.std.proofs.Common.{List, ℕ, ◌++◌, ap, ◌∙◌, append_assoc}
 use Rattle.pdc_record.specs.Told.{start_of}
 use Rattle.pdc_record.specs.Bodies.{back_of, front_of, words_of}
 use Rattle.pdc_record.proofs.Numbers.{three_parts}

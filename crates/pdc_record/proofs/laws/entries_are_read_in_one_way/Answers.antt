@@ -1,4 +1,4 @@
-use Rattle.std.proofs.Common.{◌≡◌, ◌-◌, ◌∙◌, refl, sym}
+use Rattle.std.proofs.Common.{◌-◌, ◌∙◌, refl, sym}
 use Rattle.pdc_frame.specs.Bytes.{long_at}
 use Rattle.pdc_record.specs.Entries.{unchecked_of}
 use Rattle.pdc_record.proofs.Entries.{no_cause, one_cause, same_entry}

@@ -1,7 +1,7 @@
 use Rattle.std.proofs.Common.{◌≡◌, ◌+◌, List, ℕ, ◌∷◌, ◌++◌, length, ap, ◌∙◌, arith}
 use Rattle.std.specs.Int.{w32, w64, to_be_bytes}
 use Rattle.pdc_record.specs.Told.{Fields, fields_of}
-use Rattle.pdc_record.specs.Bodies.{body_of, kind_number}
+use Rattle.pdc_record.specs.Bodies.{body_of}
 use Rattle.pdc_record.proofs.Entries.{length-spelling, written}
 use Rattle.pdc_record.proofs.writing.write_entry.Goals as goal
 
