@@ -96,12 +96,7 @@ pub fn fate_of(story: &Story, stream: usize, column: usize) -> Fate {
 }
 
 /// That it came too late.
-fn write_late<W: Write>(
-    writer: &mut W,
-    about: &About,
-    story: &Story,
-    time: u64,
-) -> io::Result<()> {
+fn write_late<W: Write>(writer: &mut W, about: &About, story: &Story, time: u64) -> io::Result<()> {
     match (story.opened, story.closed) {
         (Some(opened), Some(closed)) => {
             write!(writer, "its data came ")?;
@@ -114,7 +109,11 @@ fn write_late<W: Write>(
         }
         _ => {
             write_at(writer, "its data came at ", time)?;
-            write!(writer, ", when a later instant had closed: {}", Refusal::Late.text())
+            write!(
+                writer,
+                ", when a later instant had closed: {}",
+                Refusal::Late.text()
+            )
         }
     }
 }
@@ -149,7 +148,10 @@ fn write_nothing<W: Write>(
 
 /// When its configuration was adopted.
 fn write_adopted<W: Write>(writer: &mut W, count: u16, tick: Option<u64>) -> io::Result<()> {
-    write!(writer, "its configuration under count {count} was taken, and ")?;
+    write!(
+        writer,
+        "its configuration under count {count} was taken, and "
+    )?;
     match tick {
         Some(number) if number < 2 => write!(writer, "adopted only at the next tick"),
         Some(number) => {
@@ -200,7 +202,10 @@ pub fn write_fate<W: Write>(
             ", and was dropped when its configuration under count {count} was adopted"
         ),
         Fate::OtherCount(count) => {
-            write!(writer, ", with its block under count {count}, which was not in force")
+            write!(
+                writer,
+                ", with its block under count {count}, which was not in force"
+            )
         }
         Fate::NoPlace => write!(writer, ", and has no block of it"),
         Fate::NoConfiguration => {

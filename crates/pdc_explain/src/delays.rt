@@ -38,9 +38,7 @@ pub struct Delays {
 fn is_counted(outcome: Outcome) -> bool {
     match outcome {
         Outcome::Taken => true,
-        Outcome::Refused(refusal) => {
-            matches!(refusal, Refusal::Late | Refusal::OutOfWindow)
-        }
+        Outcome::Refused(refusal) => { matches!(refusal, Refusal::Late | Refusal::OutOfWindow) }
         _ => false,
     }
 }
@@ -185,7 +183,11 @@ pub fn tell_delays<W: Write>(writer: &mut W, delays: &Delays) -> io::Result<()> 
     let Some(about) = &delays.about else {
         return Ok(());
     };
-    let head = if about.is_merger() { "node     " } else { "PMU    " };
+    let head = if about.is_merger() {
+        "node     "
+    } else {
+        "PMU    "
+    };
     writeln!(
         writer,
         "{head}       data      10 %      50 %      90 %      99 %    99.9 %  greatest   wait"

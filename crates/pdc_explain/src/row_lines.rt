@@ -25,7 +25,12 @@ fn write_streams<W: Write>(writer: &mut W, about: &About, streams: &Streams) -> 
 /// The id of a stream, and which node it is.
 fn write_stream<W: Write>(writer: &mut W, about: &About, stream: usize) -> io::Result<()> {
     if about.is_merger() {
-        write!(writer, "node {} ({})", node_letter(stream), about.stream_id(stream))
+        write!(
+            writer,
+            "node {} ({})",
+            node_letter(stream),
+            about.stream_id(stream)
+        )
     } else {
         write!(writer, "{}", about.stream_id(stream))
     }
@@ -149,7 +154,11 @@ pub fn tell_row<W: Write>(
     }
     match story.payload {
         Some(_) => write_at(writer, "; its frame went out at ", popped)?,
-        None => write_at(writer, "; no frame of it was published, it was popped at ", popped)?,
+        None => write_at(
+            writer,
+            "; no frame of it was published, it was popped at ",
+            popped,
+        )?,
     }
     writeln!(writer)
 }

@@ -91,7 +91,7 @@ impl Spread {
 /// So many in a thousand of a count, rounded up.
 fn share(count: u64, thousandths: u64) -> u64 {
     let (whole, part) = (count / 1000, count % 1000);
-    whole
-        .saturating_mul(thousandths)
-        .saturating_add(part.saturating_mul(thousandths).saturating_add(999) / 1000)
+    whole.saturating_mul(thousandths).saturating_add(
+        part.saturating_mul(thousandths).saturating_add(999) / 1000,
+    )
 }

@@ -5,9 +5,8 @@ use crate::lanes::write_lane_kinds;
 use crate::telling::is_absent;
 use pdc_story::{About, Story};
 use std::alloc::Global;
-use std::io;
 use std::io::Write;
-use std::str;
+use std::{io, str};
 
 /// A cause, as it is written, and how often it was.
 #[derive(Drop)]
@@ -86,7 +85,11 @@ impl Tally {
     ///
     /// What the writer answers.
     pub fn tell<W: Write>(&self, writer: &mut W) -> io::Result<()> {
-        writeln!(writer, "{} of {} rows with an absent block", self.rows, self.all)?;
+        writeln!(
+            writer,
+            "{} of {} rows with an absent block",
+            self.rows, self.all
+        )?;
         for counted in &self.counted {
             let text = str::from_utf8(&counted.text).unwrap_or("");
             writeln!(writer, "{:>10} {text}", counted.count)?;

@@ -109,7 +109,10 @@ fn write_disagreement<W: Write>(
     match is_shown(story, column) {
         Some(true) if !there => write!(writer, "; yet the frame that was published shows it"),
         Some(false) if there => {
-            write!(writer, "; yet the frame that was published does not show it")
+            write!(
+                writer,
+                "; yet the frame that was published does not show it"
+            )
         }
         _ => Ok(()),
     }

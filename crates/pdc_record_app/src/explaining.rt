@@ -9,10 +9,9 @@ use pdc_explain::{
 use pdc_record::{Entry, What};
 use std::alloc::Global;
 use std::fs::File;
-use std::io;
 use std::io::Write;
 use std::rt::Files;
-use std::str;
+use std::{io, str};
 
 /// How many bytes are printed at once.
 const PIECE: usize = 32768;
@@ -93,7 +92,11 @@ impl Instants {
         }
         for gap in self.follower.gaps() {
             let last = gap.until.saturating_sub(1);
-            writeln!(self.out, "steps {} to {last} are not in the record", gap.from)?;
+            writeln!(
+                self.out,
+                "steps {} to {last} are not in the record",
+                gap.from
+            )?;
         }
         Ok(())
     }

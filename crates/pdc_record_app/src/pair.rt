@@ -6,12 +6,10 @@ use crate::{DONE, FAILED, REFUSED};
 use pdc_explain::{time_of, write_time};
 use pdc_record::Role;
 use pdc_replay::{Disagreement, Halt, Three, disagreement_of, write_presence};
-use std::fs;
 use std::fs::File;
-use std::io;
 use std::io::Write;
 use std::rt::Files;
-use std::str;
+use std::{fs, io, str};
 
 /// The records of a pair.
 #[derive(Drop)]
@@ -85,7 +83,9 @@ fn instant_of(source: &Source<'_>) -> u64 {
 impl Pair<'_> {
     /// The lowest instant at which one of them is.
     fn lowest(&self) -> u64 {
-        instant_of(&self.a).min(instant_of(&self.b)).min(instant_of(&self.m))
+        instant_of(&self.a)
+            .min(instant_of(&self.b))
+            .min(instant_of(&self.m))
     }
 
     /// Those at the instant go on.
@@ -105,7 +105,11 @@ impl Pair<'_> {
     /// The rows of the instant.
     fn rows(&self, instant: u64) -> Three<'_> {
         let mut rows = [None; 3];
-        for (place, source) in rows.as_mut_slice().iter_mut().zip([&self.a, &self.b, &self.m]) {
+        for (place, source) in rows
+            .as_mut_slice()
+            .iter_mut()
+            .zip([&self.a, &self.b, &self.m])
+        {
             if instant_of(source) == instant {
                 *place = source.row();
             }

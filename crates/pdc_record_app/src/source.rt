@@ -4,10 +4,9 @@ use crate::files::{Entries, Next};
 use pdc_record::{Role, What};
 use pdc_replay::{Halt, Player, SeenRow};
 use std::alloc::{AllocError, Global};
-use std::fs;
 use std::fs::File;
-use std::io;
 use std::rt::Files;
+use std::{fs, io};
 
 /// Where a record is.
 #[derive(Clone, Copy, Debug, PartialEq, Eq)]
@@ -109,7 +108,12 @@ impl<'a> Source<'a> {
 
     /// Plays entries up to the next row.
     fn play_file<R: Eprint>(&mut self, rt: &R) -> io::Result<Played> {
-        let file = self.files.as_slice().get(self.opened.saturating_sub(1)).copied().unwrap_or("");
+        let file = self
+            .files
+            .as_slice()
+            .get(self.opened.saturating_sub(1))
+            .copied()
+            .unwrap_or("");
         for _ in 0..=self.bytes.len() {
             let mut entries = Entries::from(&self.bytes, self.played);
             let next = entries.next_entry();

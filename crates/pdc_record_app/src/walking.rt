@@ -2,10 +2,9 @@
 
 use crate::files::{Entries, Next};
 use pdc_record::Entry;
-use std::fs;
 use std::fs::File;
-use std::io;
 use std::rt::Files;
+use std::{fs, io};
 
 /// How far files were read.
 #[derive(Clone, Copy, Debug, PartialEq, Eq)]
@@ -51,7 +50,9 @@ fn walk_bytes<R: Print + Eprint, T: Takes>(
                 return Ok(Walked::ToTheEnd);
             }
             Next::BadCheck(at) => {
-                eprintln!(rt; "{file}: the entry behind {at} bytes is damaged: its check word is another")?;
+                eprintln!(rt;
+                    "{file}: the entry behind {at} bytes is damaged: its check word is another"
+                )?;
                 return Ok(Walked::Damaged);
             }
             Next::NoEntry(at) => {

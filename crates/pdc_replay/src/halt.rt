@@ -149,7 +149,10 @@ fn write_difference<W: Write>(
 ) -> io::Result<()> {
     match what {
         Difference::NoStream { stream } => {
-            writeln!(writer, "step {step} differs: a datagram for stream {stream}, which the life does not have")
+            writeln!(
+                writer,
+                "step {step} differs: a datagram for stream {stream}, which the life does not have"
+            )
         }
         Difference::Answer {
             stream,
@@ -182,7 +185,10 @@ fn write_difference<W: Write>(
             recorded,
             replayed,
         } => {
-            writeln!(writer, "step {step} differs: the frame of instant {instant}")?;
+            writeln!(
+                writer,
+                "step {step} differs: the frame of instant {instant}"
+            )?;
             write_both(writer, alloc, recorded, replayed)
         }
         Difference::Layout { recorded, replayed } => {
@@ -202,7 +208,10 @@ pub fn write_halt<W: Write>(writer: &mut W, alloc: Global, halt: &Halt) -> io::R
         Halt::Differs { step, what } => write_difference(writer, alloc, *step, what),
         Halt::Missing { from, until } => {
             let last = until.saturating_sub(1);
-            writeln!(writer, "steps {from} to {last} are not in the record: replayed up to there")
+            writeln!(
+                writer,
+                "steps {from} to {last} are not in the record: replayed up to there"
+            )
         }
         Halt::OutOfOrder { step, wanted } => {
             writeln!(writer, "step {step} stands where step {wanted} is wanted")

@@ -272,7 +272,11 @@ impl<C: Begins> Replay<C> {
     /// Lets the layouts go of which no row is to come.
     fn drop_layouts(&mut self) {
         let change = self.row.change;
-        let count = self.layouts.iter().take_while(|layout| layout.change < change).count();
+        let count = self
+            .layouts
+            .iter()
+            .take_while(|layout| layout.change < change)
+            .count();
         for _ in 0..count {
             if !self.layouts.is_empty() {
                 self.layouts.remove(0);

@@ -62,9 +62,7 @@ fn lived_of(alloc: Global, begun: &Begun<'_>) -> Result<Lived, SettingsFault> {
         return Err(SettingsFault::Toml);
     };
     match begun.role {
-        Role::Node => Ok(Lived::Node(
-            pdc_settings::NodeSettings::from_toml(alloc, text)?.life,
-        )),
+        Role::Node => Ok(Lived::Node(pdc_settings::NodeSettings::from_toml(alloc, text)?.life)),
         Role::Merger => Ok(Lived::Merger(
             pdc_settings::MergerSettings::from_toml(alloc, text)?.life,
         )),
@@ -142,7 +140,12 @@ impl About {
         match &self.lived {
             Lived::Node(_) => self.stream_id(column),
             Lived::Merger(settings) => {
-                settings.sources.as_slice().get(column).copied().unwrap_or(0)
+                settings
+                    .sources
+                    .as_slice()
+                    .get(column)
+                    .copied()
+                    .unwrap_or(0)
             }
         }
     }

@@ -168,9 +168,13 @@ impl Followed {
     pub fn hear(&mut self, heard: &Heard<'_>) -> Result<(), AllocError> {
         let read = self.about.read(heard.stream, heard.datagram);
         match &read {
-            Some(Arrival::Data {
-                instant, payload, ..
-            }) => self.hear_data(heard, *instant, payload),
+            Some(
+                Arrival::Data {
+                    instant,
+                    payload,
+                    ..
+                },
+            ) => self.hear_data(heard, *instant, payload),
             Some(Arrival::Layout { sections, .. }) => {
                 if heard.outcome == Some(Outcome::Candidate) {
                     self.hear_layout(heard.stream, sections.as_slice());
@@ -265,10 +269,12 @@ fn show_in(
     let mut payload = Vec::new(alloc);
     payload.extend_from_slice(frame.payload)?;
     story.payload = Some(payload);
-    if let Some(Closed {
-        in_force: Some(in_force),
-        ..
-    }) = closed
+    if let Some(
+        Closed {
+            in_force: Some(in_force),
+            ..
+        },
+    ) = closed
     {
         let mut sections = Layout::new();
         for held in in_force {

@@ -81,7 +81,12 @@ impl Stories {
             return Ok(());
         };
         let mut story = story;
-        for (came, last) in story.came.as_mut_slice().iter_mut().zip(self.last.as_mut_slice()) {
+        for (came, last) in story
+            .came
+            .as_mut_slice()
+            .iter_mut()
+            .zip(self.last.as_mut_slice())
+        {
             came.before = *last;
             if let Some(arrived) = came.arrivals.as_slice().first() {
                 *last = Some((story.instant, arrived.time));

@@ -58,9 +58,7 @@ fn head(
 
 /// The table of a PMU at a node.
 fn pmu(alloc: Global, id: u16) -> Result<String, AllocError> {
-    format!(in alloc;
-        "[[pmu]]\nstream = {id}\nsource = {id}\ntime_base = 1000000\nport = {id}\n"
-    )
+    format!(in alloc; "[[pmu]]\nstream = {id}\nsource = {id}\ntime_base = 1000000\nport = {id}\n")
 }
 
 /// The tables of the merger's nodes and PMUs.
@@ -99,7 +97,13 @@ impl<T: Table> Lives for Node<T> {
             return Ok(None);
         };
         let settings = &told.settings;
-        let mut text = head(alloc, 201, settings.window, settings.wait, settings.wait_kind)?;
+        let mut text = head(
+            alloc,
+            201,
+            settings.window,
+            settings.wait,
+            settings.wait_kind,
+        )?;
         for each in settings.pmus.as_slice() {
             let table = pmu(alloc, each.stream)?;
             text.push_str(table.as_str())?;
@@ -132,7 +136,13 @@ impl<T: Table> Lives for Merger<T> {
             return Ok(None);
         };
         let settings = &told.settings;
-        let mut text = head(alloc, 301, settings.window, settings.wait, settings.wait_kind)?;
+        let mut text = head(
+            alloc,
+            301,
+            settings.window,
+            settings.wait,
+            settings.wait_kind,
+        )?;
         text.push_str(SOURCES)?;
         Ok(Some(Beginning {
             text,

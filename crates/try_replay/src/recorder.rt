@@ -18,8 +18,8 @@
 //! | `told INSTANT LINE`, `told absent LINE`, `told delays LINE` | a line of what is explained, from 0 |
 
 use crate::lives::{Beginning, Lives};
-use crate::tellers::told_line;
 use crate::replaying::{changed_text, replayed_text};
+use crate::tellers::told_line;
 use pdc_life::{MAX_PMUS, Outcome};
 use pdc_output::{Output, append_row};
 use pdc_record::{Begun, Entry, What, write_entry};
@@ -249,9 +249,10 @@ impl<'a, C: Lives> Recorder<'a, C> {
         recorded: &str,
         words: &[&str],
     ) -> Result<String, AllocError> {
-        let (Some(recorded), Some(LifeCall::Arrive { stream, bytes })) =
-            (self.frames.named(recorded), life_call(self.frames, words))
-        else {
+        let (Some(recorded), Some(LifeCall::Arrive { stream, bytes })) = (
+            self.frames.named(recorded),
+            life_call(self.frames, words),
+        ) else {
             return "no such frame".to_string(alloc);
         };
         self.arrive(alloc, stream, bytes, recorded)

@@ -5,8 +5,7 @@ use pdc_explain::{
 };
 use pdc_record::{Entry, read_entry};
 use std::alloc::{AllocError, Global};
-use std::io;
-use std::str;
+use std::{io, str};
 
 /// What takes the entries of a record.
 trait Hears {
