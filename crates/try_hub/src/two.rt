@@ -5,7 +5,7 @@ ghost use Rattle.try_hub.specs.Mine.{IsFit};
 use pdc_core::{Core, Reads};
 use pdc_life::MAX_PMUS;
 use pdc_row::DueRow;
-use pdc_threads::{Hub, Naming, Shares};
+use pdc_threads::{Hub, Naming, Numbered, Shares};
 use std::alloc::Global;
 use std::sync::Wait;
 use std::sync::ledger::{Ledger, Share};
@@ -20,19 +20,19 @@ pub struct Mine<C, T: Ledger, F: Ledger, G: Ledger, P: Ledger> {
     pub calls: u32,
     /// How many rows were popped.
     pub rows: u32,
-    /// Whether all answers were alike.
+    /// Whether all answers were alike, and each step bore its number.
     pub alike: bool,
 }
 
 impl<C, T: Ledger, F: Ledger, G: Ledger, P: Ledger> Mine<C, T, F, G, P> {
-    /// Adds a call, and whether its answers were alike.
-    fn saw(&mut self, is_alike: bool)
+    /// Adds a call, with the number of its step, which is to be how many calls were made before, and whether its answers were alike.
+    fn saw(&mut self, step: u64, is_alike: bool)
         ensures bare { self.new.bare ≡ self.old.bare }
         ensures shares { self.new.shares ≡ self.old.shares }
         ensures top { self.new.top ≡ self.old.top }
     {
+        self.alike = self.alike && is_alike && step == u64::from(self.calls);
         self.calls = self.calls.saturating_add(1);
-        self.alike = self.alike && is_alike;
     }
 }
 
@@ -63,11 +63,11 @@ pub fn deliver<
     let Ok(datagram) = settings.read_kept(alloc, stream, bytes) else {
         return None;
     };
-    let Ok(answer) = hub.deliver(rt, stream, datagram, &mut mine.shares) else {
+    let Ok(Numbered { step, answer }) = hub.deliver(rt, stream, datagram, &mut mine.shares) else {
         return None;
     };
     let bare_answer = mine.bare.put_datagram(stream, bytes);
-    mine.saw(answer == bare_answer);
+    mine.saw(step, answer == bare_answer);
     Some(())
 }
 
@@ -86,11 +86,11 @@ pub fn tick<
     ensures fit { IsFit mine.new P.parts }
 {
     let counts = [u16::MAX; MAX_PMUS];
-    let Ok(answer) = hub.tick(rt, now, &counts) else {
+    let Ok(Numbered { step, answer }) = hub.tick(rt, now, &counts) else {
         return None;
     };
     let bare_answer = mine.bare.tick(now, &counts);
-    mine.saw(answer == bare_answer);
+    mine.saw(step, answer == bare_answer);
     Some(())
 }
 
@@ -122,7 +122,7 @@ pub fn pop<
     ensures settings { C.settings_of mine.new.bare ≡ C.settings_of mine.old.bare }
     ensures fit { IsFit mine.new P.parts }
 {
-    let Ok(answer) = hub.pop(rt, &mut mine.top) else {
+    let Ok(Numbered { step, answer }) = hub.pop(rt, &mut mine.top) else {
         return None;
     };
     let is_alike = match (&answer, &mine.bare.pop_due()) {
@@ -133,7 +133,7 @@ pub fn pop<
     if answer.is_some() {
         mine.rows = mine.rows.saturating_add(1);
     }
-    mine.saw(is_alike);
+    mine.saw(step, is_alike);
     Some(())
 }
 

@@ -40,6 +40,7 @@ fn play_node<R: Host + Print>(
     let files = Files {
         settings: settings.as_str(),
         mark: mark.as_str(),
+        record: None,
     };
     match serve_node(rt, &files, &ticks(3)) {
         Ok(totals) => {
@@ -130,6 +131,7 @@ pub fn play<R: Host + Env + Print>(
     let files = Files {
         settings: paths.good.as_str(),
         mark: paths.mark.as_str(),
+        record: None,
     };
     if let Err(fault) = serve_merger(rt, &files, &ticks(1)) {
         let status = fault.status();
