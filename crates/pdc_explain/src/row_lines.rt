@@ -114,7 +114,7 @@ fn write_closed<W: Write>(
     if let Some(opened) = opened {
         write!(writer, ", at the ")?;
         write_ordinal(writer, closed.ticks.saturating_sub(opened.ticks))?;
-        write!(writer, " tick after that")?;
+        write!(writer, " tick after it opened")?;
     }
     write!(writer, " (now {}, ", closed.now)?;
     write_wait(writer, about)?;

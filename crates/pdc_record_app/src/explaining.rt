@@ -6,7 +6,7 @@ use crate::{DONE, FAILED, REFUSED};
 use pdc_explain::{
     Delays, Follower, Story, Tally, Unexplained, Wanted, tell_absent, tell_delays, tell_story,
 };
-use pdc_record::{Entry, What};
+use pdc_record::Entry;
 use std::alloc::Global;
 use std::fs::File;
 use std::io::Write;
@@ -104,7 +104,7 @@ impl Instants {
 
 impl Takes for Instants {
     fn take<R: Print + Eprint>(&mut self, rt: &R, entry: &Entry<'_>) -> io::Result<bool> {
-        if entry.step == 0 && matches!(entry.what, What::Begun(_)) {
+        if self.follower.is_other_life(entry) {
             self.end()?;
         }
         if let Err(fault) = self.follower.take(entry) {

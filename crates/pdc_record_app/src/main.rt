@@ -4,6 +4,7 @@
 mod explaining;
 mod files;
 mod pair;
+mod plain;
 mod replaying;
 mod source;
 mod walking;

@@ -5,7 +5,7 @@ use crate::source::{Owner, Source, owner_of};
 use crate::{DONE, FAILED, REFUSED};
 use pdc_explain::{time_of, write_time};
 use pdc_record::Role;
-use pdc_replay::{Disagreement, Halt, Three, disagreement_of, write_presence};
+use pdc_replay::{Disagreement, Halt, SeenRow, Three, disagreement_of, write_presence};
 use std::fs::File;
 use std::io::Write;
 use std::rt::Files;
@@ -80,6 +80,27 @@ fn instant_of(source: &Source<'_>) -> u64 {
     }
 }
 
+/// A record at the instant goes on.
+fn advance_from<R: Files<File = File> + AllocGlobal + Eprint>(
+    rt: &R,
+    source: &mut Source<'_>,
+    instant: u64,
+) -> io::Result<()> {
+    if instant_of(source) == instant {
+        source.advance(rt)?;
+    }
+    Ok(())
+}
+
+/// The row of a record for the instant.
+fn row_at<'s>(source: &'s Source<'_>, instant: u64) -> Option<SeenRow<'s>> {
+    if instant_of(source) == instant {
+        source.row()
+    } else {
+        None
+    }
+}
+
 impl Pair<'_> {
     /// The lowest instant at which one of them is.
     fn lowest(&self) -> u64 {
@@ -88,33 +109,31 @@ impl Pair<'_> {
             .min(instant_of(&self.m))
     }
 
+    /// Each goes to its first row.
+    fn begin<R: Files<File = File> + AllocGlobal + Eprint>(&mut self, rt: &R) -> io::Result<()> {
+        self.a.advance(rt)?;
+        self.b.advance(rt)?;
+        self.m.advance(rt)
+    }
+
     /// Those at the instant go on.
     fn advance<R: Files<File = File> + AllocGlobal + Eprint>(
         &mut self,
         rt: &R,
         instant: u64,
     ) -> io::Result<()> {
-        for source in [&mut self.a, &mut self.b, &mut self.m] {
-            if instant_of(source) == instant {
-                source.advance(rt)?;
-            }
-        }
-        Ok(())
+        advance_from(rt, &mut self.a, instant)?;
+        advance_from(rt, &mut self.b, instant)?;
+        advance_from(rt, &mut self.m, instant)
     }
 
     /// The rows of the instant.
     fn rows(&self, instant: u64) -> Three<'_> {
-        let mut rows = [None; 3];
-        for (place, source) in rows
-            .as_mut_slice()
-            .iter_mut()
-            .zip([&self.a, &self.b, &self.m])
-        {
-            if instant_of(source) == instant {
-                *place = source.row();
-            }
-        }
-        rows
+        [
+            row_at(&self.a, instant),
+            row_at(&self.b, instant),
+            row_at(&self.m, instant),
+        ]
     }
 }
 
@@ -159,9 +178,7 @@ fn compare_all<R: Files<File = File> + AllocGlobal + Print + Eprint>(
 ) -> io::Result<Compared> {
     let mut out = Vec::new(rt.alloc());
     let mut instants: u64 = 0;
-    for source in [&mut pair.a, &mut pair.b, &mut pair.m] {
-        source.advance(rt)?;
-    }
+    pair.begin(rt)?;
     for _ in 0..u64::MAX {
         let instant = pair.lowest();
         if instant == u64::MAX {
@@ -183,8 +200,11 @@ fn compare_all<R: Files<File = File> + AllocGlobal + Print + Eprint>(
     })
 }
 
-/// Tells what became of a record; the exit status that it gives.
+/// Tells what became of a record, where it is given; the exit status that it gives.
 fn tell_source<R: AllocGlobal + Print>(rt: &R, source: &Source<'_>) -> io::Result<u8> {
+    if !source.is_given() {
+        return Ok(DONE);
+    }
     let (name, steps, frames) = (source.name(), source.steps(), source.frames());
     if let Some(halt) = source.halt() {
         let text = halt_text(rt.alloc(), halt)?;
@@ -209,12 +229,9 @@ pub fn run_pair<R: Files<File = File> + AllocGlobal + Print + Eprint>(
     pair: &mut Pair<'_>,
 ) -> io::Result<u8> {
     let compared = compare_all(rt, pair)?;
-    let mut status = DONE;
-    for source in [&pair.a, &pair.b, &pair.m] {
-        if source.is_given() {
-            status = status.max(tell_source(rt, source)?);
-        }
-    }
+    let status = tell_source(rt, &pair.a)?
+        .max(tell_source(rt, &pair.b)?)
+        .max(tell_source(rt, &pair.m)?);
     if !compared.agree {
         return Ok(REFUSED.max(status));
     }

@@ -1,6 +1,7 @@
 //! `pdc replay`.
 
 use crate::pair::{grouped, run_pair};
+use crate::plain::run_plain;
 use crate::walking::{Takes, Walked, walk};
 use crate::words::Replayed;
 use crate::{DONE, FAILED, REFUSED};
@@ -112,6 +113,9 @@ fn run_one<R: Files<File = File> + AllocGlobal + Print + Eprint>(
         Walked::ToTheEnd => {
             let text = format!(in alloc; "{steps} steps, {frames} frames: as recorded")?;
             tell(rt, asked.frames, text.as_str())?;
+            if asked.plain {
+                return run_plain(rt, asked.files.as_slice());
+            }
             Ok(DONE)
         }
     }

@@ -22,6 +22,8 @@ which of them had which block; and that they agree on every block that is presen
 A point stands where a row has no block of the PMU, a dash where there is no row.
 
 --frames prints the layouts and frames in hexadecimal, for `pdc show`; what is said of them then goes to standard error.
+--plain plays the record beside it on the plain program of a life, which asks each rule of the whole list of steps. It is for short
+records, of at most 4000 steps: its time grows with the square of their number.
 
 Examples:
   pdc replay a.record.*
@@ -50,6 +52,8 @@ pub struct Replayed<'a> {
     pub files: Vec<&'a str>,
     /// The frames are printed.
     pub frames: bool,
+    /// It is played on the plain program too.
+    pub plain: bool,
 }
 
 /// What `explain` is to tell.
@@ -101,7 +105,8 @@ fn replay<'a>(alloc: Global) -> Result<Command<'a>, AllocError> {
             alloc,
             "frames",
             "Print the layouts and frames in hexadecimal",
-        ))
+        ))?
+        .arg(flag(alloc, "plain", "Play it on the plain program too"))
 }
 
 /// The command `explain`.
@@ -183,10 +188,12 @@ pub fn words_of<'a>(alloc: Global, words: &'a [String]) -> Result<Asked<'a>, Err
         Some((_, inner)) => Ok(Asked::Replay(Replayed {
             files: given(alloc, inner, "FILE")?,
             frames: inner.get_flag("frames"),
+            plain: inner.get_flag("plain"),
         })),
         None => Ok(Asked::Replay(Replayed {
             files: Vec::new(alloc),
             frames: false,
+            plain: false,
         })),
     }
 }

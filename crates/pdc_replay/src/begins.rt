@@ -47,7 +47,7 @@ pub trait Begins: Opens {
     ///
     /// The text is no settings, or those of another id or rate, or there is no memory.
     fn begin(alloc: Global, begun: &Begun<'_>, text: &str) -> Result<Self, Unbegun>
-        ensures { IfOk result (λ core. Self.popped_of core ≡ begun.now.floor) };
+        ensures { IfOk result (λ core. Self.popped_of core ≡ begun.entry.now.floor) };
 
     /// How many streams arrive.
     fn streams(&self) -> usize

@@ -67,11 +67,18 @@ impl Follower {
         self.end
     }
 
-    /// A file begins: with another life, or it goes on with the same.
-    fn begin(&mut self, step: u64, begun: &Begun<'_>) -> Result<(), Unexplained> {
-        if step > 0 && self.life.is_some() {
-            return Ok(());
+    /// Whether an entry begins another life than the one that is followed: [`Follower::end`] is to be called before it is taken.
+    pub fn is_other_life(&self, entry: &Entry<'_>) -> bool {
+        match (&self.life, &entry.what) {
+            (Some(life), What::Begun(begun)) => {
+                entry.step == 0 || begun.start != life.about.start || begun.id != life.about.id()
+            }
+            _ => false,
         }
+    }
+
+    /// A life begins, or a record of its later steps.
+    fn begin(&mut self, step: u64, begun: &Begun<'_>) -> Result<(), Unexplained> {
         let life = Followed::new(self.alloc, begun, step == 0, self.wanted)?;
         self.life = Some(life);
         Ok(())
@@ -86,6 +93,9 @@ impl Follower {
         let (alloc, time) = (self.alloc, entry.time);
         self.end = time;
         if let What::Begun(begun) = &entry.what {
+            if self.life.is_some() && !self.is_other_life(entry) {
+                return Ok(());
+            }
             return self.begin(entry.step, begun);
         }
         let Some(life) = &mut self.life else {

@@ -4,7 +4,7 @@
 //! The first type to look at is [`Follower`], which takes the entries of a record and gives the [`Story`] of each instant. It does not play the
 //! life again: it goes by what was recorded, so it serves a record whose first file is gone all the same.
 //!
-//! The promise to the layer above: it returns whatever it is given, and follows at most 1024 instants at once.
+//! The promise to the layer above: it returns whatever it is given, and follows at most 2048 instants at once.
 #![tactic(auto)]
 
 mod about;

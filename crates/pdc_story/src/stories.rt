@@ -8,7 +8,7 @@ use std::alloc::{AllocError, Global};
 use std::mem;
 
 /// How many instants are followed at once: data that comes later than that is not told of.
-const SPAN: u64 = 1024;
+const SPAN: u64 = 2048;
 
 /// The instants that are followed, each at the remainder of its number.
 #[derive(Drop)]
@@ -52,7 +52,7 @@ impl Stories {
     fn is_followed(&self, instant: u64, now: u64) -> bool {
         match self.wanted {
             Some(wanted) => instant == wanted || instant.saturating_add(1) == wanted,
-            None => instant <= now.saturating_add(SPAN),
+            None => instant <= now.saturating_add(SPAN / 2),
         }
     }
 

@@ -14,11 +14,12 @@
 //! | `published` | the frames that are published, in hexadecimal |
 //! | `layout SOC` | the length of the layout's frame, its first 14 bytes and its last two; it is laid |
 //! | `replayed` | how the record is replayed |
+//! | `plain` | how it is played on the plain program |
 //! | `changed` | whether each changed byte of the record is found |
 //! | `told INSTANT LINE`, `told absent LINE`, `told delays LINE` | a line of what is explained, from 0 |
 
 use crate::lives::{Beginning, Lives};
-use crate::replaying::{changed_text, replayed_text};
+use crate::replaying::{changed_text, plain_text, replayed_text};
 use crate::tellers::told_line;
 use pdc_life::{MAX_PMUS, Outcome};
 use pdc_output::{Output, append_row};
@@ -271,6 +272,7 @@ impl<C: Lives> Player for Recorder<'_, C> {
             ["unanswered", stream, name] => self.leave(alloc, stream, name),
             ["as", recorded, words @ ..] => self.swap(alloc, recorded, words),
             ["replayed"] => replayed_text(alloc, &self.record),
+            ["plain"] => plain_text(alloc, &self.record),
             ["changed"] => changed_text(alloc, &self.record),
             ["told", question, line] => told_line(alloc, &self.record, question, line),
             _ => "no such call".to_string(alloc),

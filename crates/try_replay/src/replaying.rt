@@ -1,7 +1,8 @@
 //! What is tried on a record.
 
-use pdc_record::read_entry;
+use pdc_record::{Entry, read_entry};
 use pdc_replay::{Halt, Player, write_halt};
+use pdc_replay_plain::play_plain;
 use std::alloc::{AllocError, Global};
 use std::str;
 
@@ -53,6 +54,32 @@ pub fn replayed_text(alloc: Global, record: &[u8]) -> Result<String, AllocError>
             text.lines().next().unwrap_or("").to_string(alloc)
         }
         Replayed::Unread => "no whole entry".to_string(alloc),
+    }
+}
+
+/// The entries of a record.
+fn entries_of(alloc: Global, record: &[u8]) -> Result<Vec<Entry<'_>>, AllocError> {
+    let mut entries = Vec::new(alloc);
+    let mut at = 0;
+    for _ in 0..=record.len() {
+        match read_entry(record.get(at..).unwrap_or(&[])) {
+            Ok((entry, len)) => {
+                at = at.saturating_add(len);
+                entries.push(entry)?;
+            }
+            Err(_) => return Ok(entries),
+        }
+    }
+    Ok(entries)
+}
+
+/// The text of how a record is played on the plain program.
+pub fn plain_text(alloc: Global, record: &[u8]) -> Result<String, AllocError> {
+    let entries = entries_of(alloc, record)?;
+    match play_plain(alloc, &entries) {
+        Ok(Ok(steps)) => format!(in alloc; "{steps} steps: as recorded"),
+        Ok(Err(step)) => format!(in alloc; "step {step} differs"),
+        Err(cause) => cause.to_string(alloc),
     }
 }
 
