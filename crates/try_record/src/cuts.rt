@@ -33,7 +33,7 @@ impl Record {
 /// How many entries are read, one behind another, until one is not.
 fn entries_read(bytes: &[u8]) -> usize {
     let mut at: usize = 0;
-    let mut entries = 0;
+    let mut entries = 0usize;
     for _ in 0..bytes.len() {
         let Some(rest) = bytes.get(at..) else {
             return entries;
@@ -42,7 +42,7 @@ fn entries_read(bytes: &[u8]) -> usize {
             return entries;
         };
         at = at.saturating_add(len);
-        entries += 1;
+        entries = entries.saturating_add(1);
     }
     entries
 }
