@@ -13,6 +13,7 @@ mod recorded_source;
 mod recorded_ticker;
 mod recording;
 mod series;
+mod shelf;
 mod time;
 mod writing;
 
@@ -21,5 +22,6 @@ pub use recorded_source::RecordedSource;
 pub use recorded_ticker::RecordedTicker;
 pub use recording::Recording;
 pub use series::{Limits, Series};
+pub use shelf::Shelf;
 pub use time::nanoseconds_now;
 pub use writing::write_record;

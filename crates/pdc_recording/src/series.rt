@@ -1,11 +1,11 @@
 //! The files of a record.
 
+use crate::shelf::Shelf;
 use pdc_record::{Begun, Entry, What, entry_len, write_entry};
 use std::alloc::{AllocError, Global};
 use std::fs::File;
+use std::io;
 use std::io::{ErrorKind, Write};
-use std::rt::Files;
-use std::{fs, io};
 
 /// How many bytes are gathered before they are written, unless a pause comes first.
 const GATHERED: usize = 65536;
@@ -46,7 +46,7 @@ fn no_memory() -> io::Error {
 }
 
 /// A new file of this number; one that is there already is an error.
-fn open_numbered<R: Files<File = File>>(
+fn open_numbered<R: Shelf>(
     rt: &R,
     alloc: Global,
     name: &str,
@@ -54,7 +54,7 @@ fn open_numbered<R: Files<File = File>>(
     number: u32,
 ) -> io::Result<File> {
     let path = name_of(alloc, name, start, number).map_err(|_| no_memory())?;
-    File::create_new(rt, path.as_str())
+    rt.make(path.as_str())
 }
 
 /// Appends the entry with which a file begins whose first step has this number.
@@ -81,7 +81,7 @@ impl<'a> Series<'a> {
     /// # Errors
     ///
     /// The file is there already, or cannot be made or written, or there is no memory.
-    pub fn open<R: Files<File = File>>(
+    pub fn open<R: Shelf>(
         rt: &R,
         alloc: Global,
         name: &'a str,
@@ -119,12 +119,7 @@ impl<'a> Series<'a> {
     }
 
     /// Begins the next file, and removes the one that is not to stay.
-    fn begin_next<R: Files<File = File>>(
-        &mut self,
-        rt: &R,
-        step: u64,
-        time: u64,
-    ) -> io::Result<()> {
+    fn begin_next<R: Shelf>(&mut self, rt: &R, step: u64, time: u64) -> io::Result<()> {
         self.flush()?;
         let number = self.number.saturating_add(1);
         self.file = open_numbered(rt, self.alloc, self.name, self.begun.start, number)?;
@@ -137,7 +132,7 @@ impl<'a> Series<'a> {
                 let old = name_of(self.alloc, self.name, start, number - keep).map_err(
                     |_| no_memory(),
                 )?;
-                let _removed = fs::remove_file(rt, old.as_str());
+                let _removed = rt.remove(old.as_str());
             }
         }
         Ok(())
@@ -148,7 +143,7 @@ impl<'a> Series<'a> {
     /// # Errors
     ///
     /// A file cannot be made or written, or there is no memory.
-    pub fn append<R: Files<File = File>>(
+    pub fn append<R: Shelf>(
         &mut self,
         rt: &R,
         bytes: &[u8],

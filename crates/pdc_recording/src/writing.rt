@@ -3,13 +3,13 @@
 use crate::ordering::{Ordering, Ready};
 use crate::recording::{Recording, Turn};
 use crate::series::Series;
+use crate::shelf::Shelf;
 use crate::time::nanoseconds_now;
 use pdc_journal::Journal;
 use pdc_record::{Entry, What, write_entry};
 use std::alloc::{AllocError, Global};
-use std::fs::File;
 use std::io::ErrorKind;
-use std::rt::{Clock, Files};
+use std::rt::Clock;
 use std::sync::Wait;
 use std::time::Duration;
 use std::{io, thread};
@@ -37,7 +37,7 @@ fn lost_text(
 }
 
 /// Writes that steps are missing.
-fn append_gap<R: Clock + Files<File = File>>(
+fn append_gap<R: Clock + Shelf>(
     rt: &R,
     alloc: Global,
     series: &mut Series<'_>,
@@ -58,7 +58,7 @@ fn append_gap<R: Clock + Files<File = File>>(
 }
 
 /// Writes what is ready.
-fn append_ready<R: Wait + Clock + Files<File = File>>(
+fn append_ready<R: Wait + Clock + Shelf>(
     rt: &R,
     alloc: Global,
     series: &mut Series<'_>,
@@ -83,7 +83,7 @@ fn append_ready<R: Wait + Clock + Files<File = File>>(
 }
 
 /// Takes all that waits, and answers whether no more will come.
-fn take_all<R: Wait + Clock + Files<File = File>>(
+fn take_all<R: Wait + Clock + Shelf>(
     rt: &R,
     recording: &Recording,
     series: &mut Series<'_>,
@@ -105,7 +105,7 @@ fn take_all<R: Wait + Clock + Files<File = File>>(
 }
 
 /// Writes entries until no more come.
-fn write_all<R: Wait + Clock + Files<File = File>>(
+fn write_all<R: Wait + Clock + Shelf>(
     rt: &R,
     alloc: Global,
     recording: &Recording,
@@ -135,7 +135,7 @@ fn write_all<R: Wait + Clock + Files<File = File>>(
 /// Writes the entries of a recording to its files, in the order of their numbers, as they come, until it is closed and all are written. Steps
 /// that are not there after two seconds are a gap, which the journal tells. Where a file cannot be written the journal tells it, and the rest
 /// is lost; the run goes on.
-pub fn write_record<R: Wait + Clock + Files<File = File>>(
+pub fn write_record<R: Wait + Clock + Shelf>(
     rt: &R,
     alloc: Global,
     recording: &Recording,

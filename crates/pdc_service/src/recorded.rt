@@ -4,10 +4,9 @@ use crate::begun::Begun;
 use crate::concentrator::Concentrator;
 use crate::fault::ServiceFault;
 use pdc_mark::Mark;
-use pdc_recording::{Begun as BegunEntry, Limits, Role, Series, nanoseconds_now};
+use pdc_recording::{Begun as BegunEntry, Limits, Role, Series, Shelf, nanoseconds_now};
 use std::alloc::Global;
-use std::fs::File;
-use std::rt::{Clock, Files};
+use std::rt::Clock;
 
 /// The version of the program: major, minor, patch.
 const PROGRAM: [u16; 3] = [0, 1, 0];
@@ -30,7 +29,7 @@ fn role_of(concentrator: &Concentrator) -> Role {
 }
 
 /// The files of the record of a life that begins with this mark, under these settings.
-pub fn open_record<'a, M: Mark + Drop, R: Clock + Files<File = File>>(
+pub fn open_record<'a, M: Mark + Drop, R: Clock + Shelf>(
     rt: &R,
     alloc: Global,
     record: RecordFile<'a>,

@@ -17,15 +17,14 @@ use pdc_mark::DiskMark;
 use pdc_metrics::{Metered, serve_metrics};
 use pdc_network::{ClockTicker, OutputsSink};
 use pdc_recent::{Naming, Recent, RememberingSink};
-use pdc_recording::{RecordedTicker, Series, write_record};
+use pdc_recording::{RecordedTicker, Series, Shelf, write_record};
 use pdc_server::serve;
 use pdc_threads::{HubFault, Source, Totals};
 use std::alloc::Global;
-use std::fs::File;
 use std::marker::Brand;
 use std::net::TcpListener;
 use std::random::RandomSource;
-use std::rt::{Clock, Files};
+use std::rt::Clock;
 use std::sync::Wait;
 use std::sync::atomic::{AtomicU64, Ordering};
 use std::thread;
@@ -135,7 +134,7 @@ fn start_metrics<'s, E: 's, R: Wait + Clock + RandomSource + Sync + 's>(
 }
 
 /// Starts the thread that writes the record, where there is one, and answers whether it was started, or none is wanted.
-fn start_record<'s, E: 's, R: Wait + Clock + Files<File = File> + Sync + 's>(
+fn start_record<'s, E: 's, R: Wait + Clock + Shelf + Sync + 's>(
     scope: &'s Scope<'s, E>,
     rt: &'s R,
     alloc: Global,
@@ -214,7 +213,7 @@ fn conduct<
     E: 's,
     S: Source + Send + Drop + 's,
     N: Naming + Send + 's,
-    R: Threads + Wait + Clock + Eprint + RandomSource + Files<File = File> + Sync + 's,
+    R: Threads + Wait + Clock + Eprint + RandomSource + Shelf + Sync + 's,
 >(
     scope: &'s Scope<'s, E>,
     rt: &'s R,
@@ -278,7 +277,7 @@ fn run_keeping<
     'x,
     S: Source + Send + Drop + 'x,
     N: Naming + Send + 'x,
-    R: Threads + Wait + Clock + Eprint + RandomSource + Files<File = File> + Sync + 'x,
+    R: Threads + Wait + Clock + Eprint + RandomSource + Shelf + Sync + 'x,
 >(
     rt: &'x R,
     alloc: Global,
@@ -318,7 +317,7 @@ fn run_keeping<
 fn run_named<
     S: Source + Send + Drop,
     N: Naming + Send,
-    R: Threads + Wait + Clock + Eprint + RandomSource + Files<File = File> + Sync,
+    R: Threads + Wait + Clock + Eprint + RandomSource + Shelf + Sync,
 >(
     rt: &R,
     alloc: Global,
@@ -349,7 +348,7 @@ fn run_named<
 /// Runs a concentrator, serves its consumers and prints what is told, for as long as it runs.
 pub fn run_serving<
     S: Source + Send + Drop,
-    R: Threads + Wait + Clock + Eprint + RandomSource + Files<File = File> + Sync,
+    R: Threads + Wait + Clock + Eprint + RandomSource + Shelf + Sync,
 >(
     rt: &R,
     alloc: Global,

@@ -50,11 +50,11 @@ fn entries_read(bytes: &[u8]) -> usize {
 /// At how many places the record can be cut so that other entries are read than those that end before the cut.
 pub fn cuts_that_differ(record: &Record) -> usize {
     let bytes = record.bytes();
-    let mut differ = 0;
+    let mut differ = 0usize;
     for cut in 0..bytes.len() {
         let whole = record.ends.iter().filter(|end| **end <= cut).count();
         if entries_read(&bytes[..cut]) != whole {
-            differ += 1;
+            differ = differ.saturating_add(1);
         }
     }
     differ

@@ -5,7 +5,7 @@ use arrayvec::ArrayVec;
 use pdc_cfg::read_config;
 use pdc_core::Core;
 use pdc_frame::read_frame;
-use pdc_threads::{Hub, Naming, Next, Numbered, Outcome, Source, Ticker, Told};
+use pdc_threads::{Did, Hub, Naming, Next, Numbered, Outcome, Source, Ticker, Told};
 use std::sync::Wait;
 use std::sync::atomic::{AtomicBool, AtomicU64, Ordering};
 use std::sync::ledger::Ledger;
@@ -263,6 +263,8 @@ impl<
     P: Ledger,
     R: Wait,
 > Ticker for Following<'h, 'r, C, N, T, F, G, P, R> {
+    fn note(&mut self, _step: u64, _did: &Did<'_>) {}
+
     fn next(&mut self) -> Option<u64> {
         let given = self.given;
         if given >= 2 {
