@@ -3,10 +3,7 @@
 
 mod explaining;
 mod files;
-mod pair;
-mod plain;
 mod replaying;
-mod source;
 mod walking;
 mod words;
 

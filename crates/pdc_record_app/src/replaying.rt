@@ -1,7 +1,5 @@
 //! `pdc replay`.
 
-use crate::pair::{grouped, run_pair};
-use crate::plain::run_plain;
 use crate::walking::{Takes, Walked, walk};
 use crate::words::Replayed;
 use crate::{DONE, FAILED, REFUSED};
@@ -58,30 +56,19 @@ fn tell<R: Print + Eprint>(rt: &R, frames: bool, text: &str) -> io::Result<()> {
 }
 
 /// The text of why a replay halted, without the end of its last line.
-pub fn halt_text(alloc: Global, halt: &Halt) -> io::Result<String> {
+fn halt_text(alloc: Global, halt: &Halt) -> io::Result<String> {
     let mut text = Vec::new(alloc);
     write_halt(&mut text, alloc, halt)?;
     text.pop();
     String::from_utf8(text).map_err(|_| io::ErrorKind::InvalidData.into())
 }
 
-/// Runs the command, and answers its exit status: one record is replayed, those of a pair are compared.
+/// Runs the command: replays a record, and those of the lives behind it. Answers the exit status.
 ///
 /// # Errors
 ///
 /// A standard stream cannot be written, or there is no memory.
 pub fn run_replay<R: Files<File = File> + AllocGlobal + Print + Eprint>(
-    rt: &R,
-    asked: &Replayed<'_>,
-) -> io::Result<u8> {
-    match grouped(rt, asked.files.as_slice())? {
-        Some(mut pair) => run_pair(rt, &mut pair),
-        None => run_one(rt, asked),
-    }
-}
-
-/// Replays one record, and those of the lives behind it.
-fn run_one<R: Files<File = File> + AllocGlobal + Print + Eprint>(
     rt: &R,
     asked: &Replayed<'_>,
 ) -> io::Result<u8> {
@@ -113,9 +100,6 @@ fn run_one<R: Files<File = File> + AllocGlobal + Print + Eprint>(
         Walked::ToTheEnd => {
             let text = format!(in alloc; "{steps} steps, {frames} frames: as recorded")?;
             tell(rt, asked.frames, text.as_str())?;
-            if asked.plain {
-                return run_plain(rt, asked.files.as_slice());
-            }
             Ok(DONE)
         }
     }

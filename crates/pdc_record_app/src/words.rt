@@ -16,14 +16,7 @@ FILE.. are the files of a record in their order, as `a.record.*`, and those of t
 and gives status 0; else the first difference is told with its number and both sides, with status 1. Steps that are not in the
 record end the replay there, with status 1; a file that is cut off is read up to the cut, and that is said.
 
-The records of node A and node B, with or without the merger's, may be given together: each is replayed, and of each instant it is told
-which of them had which block; and that they agree on every block that is present under one count, or the first that does not.
-  57478860001 2006-06-06T07:00:00.020Z  11 A B M  12 A . M
-A point stands where a row has no block of the PMU, a dash where there is no row.
-
 --frames prints the layouts and frames in hexadecimal, for `pdc show`; what is said of them then goes to standard error.
---plain plays the record beside it on the plain program of a life, which asks each rule of the whole list of steps. It is for short
-records, of at most 4000 steps: its time grows with the square of their number.
 
 Examples:
   pdc replay a.record.*
@@ -52,8 +45,6 @@ pub struct Replayed<'a> {
     pub files: Vec<&'a str>,
     /// The frames are printed.
     pub frames: bool,
-    /// It is played on the plain program too.
-    pub plain: bool,
 }
 
 /// What `explain` is to tell.
@@ -105,8 +96,7 @@ fn replay<'a>(alloc: Global) -> Result<Command<'a>, AllocError> {
             alloc,
             "frames",
             "Print the layouts and frames in hexadecimal",
-        ))?
-        .arg(flag(alloc, "plain", "Play it on the plain program too"))
+        ))
 }
 
 /// The command `explain`.
@@ -188,12 +178,10 @@ pub fn words_of<'a>(alloc: Global, words: &'a [String]) -> Result<Asked<'a>, Err
         Some((_, inner)) => Ok(Asked::Replay(Replayed {
             files: given(alloc, inner, "FILE")?,
             frames: inner.get_flag("frames"),
-            plain: inner.get_flag("plain"),
         })),
         None => Ok(Asked::Replay(Replayed {
             files: Vec::new(alloc),
             frames: false,
-            plain: false,
         })),
     }
 }
