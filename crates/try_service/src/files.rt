@@ -31,11 +31,11 @@ fn ticks(count: u32) -> RunOptions {
 }
 
 /// Runs the node with these files for three ticks, and prints what came of it.
-fn play_node<R: Host + Print>(
+fn play_node<'x, R: Host + Print>(
     rt: &R,
     name: &str,
-    settings: &PathBuf,
-    mark: &PathBuf,
+    settings: &'x PathBuf,
+    mark: &'x PathBuf,
 ) -> io::Result<()> {
     let files = Files {
         settings: settings.as_str(),
