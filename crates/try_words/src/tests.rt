@@ -86,7 +86,7 @@ listen -> status 2
 "#;
 
 /// How many they are.
-const ROWS: usize = 74;
+const ROWS: usize = 77;
 
 /// The words of a line.
 fn words(alloc: Global, line: &str) -> Result<Vec<String>, AllocError> {
