@@ -6,14 +6,14 @@ ghost use Rattle.pdc_frame.specs.Stream.{Splits, IsBad, GoesOn};
 use crate::fault::FrameFault;
 use crate::framer::Framer;
 use crate::step::Step;
-use std::alloc::{AllocError, Global};
+use std::alloc::{AllocError, Allocator};
 
 /// Adds the frames that end in this piece, up to a fault.
-fn add_frames(
-    alloc: Global,
-    framer: &mut Framer,
+fn add_frames<A: Allocator + Copy>(
+    alloc: A,
+    framer: &mut Framer<A>,
     piece: &[u8],
-    frames: &mut Vec<Vec<u8>>,
+    frames: &mut Vec<Vec<u8, A>, A>,
 ) -> Result<Option<FrameFault>, AllocError>
     requires { IsBad framer.old.step → ⊥ }
     ensures none { IfOk result (λ fault. fault ≡ None → (IsBad framer.new.step → ⊥)
@@ -40,10 +40,10 @@ fn add_frames(
 /// # Errors
 ///
 /// [`AllocError`] where there is no memory for the frames.
-pub fn frames_of(
-    alloc: Global,
-    pieces: &[Vec<u8>],
-) -> Result<(Vec<Vec<u8>>, Option<FrameFault>), AllocError>
+pub fn frames_of<A: Allocator + Copy>(
+    alloc: A,
+    pieces: &[Vec<u8, A>],
+) -> Result<(Vec<Vec<u8, A>, A>, Option<FrameFault>), AllocError>
     // The stream is these frames, and then a rest that is none.
     ensures split { IfOk result (λ found. (rest : List ℕ) × Splits (flat_map (λ piece. piece.items) pieces.now) (map (λ f. f.items) found.0.items) rest found.1) }
     // No other frames are, so it doesn't matter how the stream was cut into pieces.

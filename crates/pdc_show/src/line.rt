@@ -2,7 +2,7 @@
 
 use hex::FromHexError;
 use memchr::memchr2;
-use std::alloc::{AllocError, Global};
+use std::alloc::{AllocError, Allocator, Global};
 
 /// The most digits of a line that are kept: those of one byte more than the longest frame has.
 const MAX_DIGITS: usize = 131_072;
@@ -10,8 +10,8 @@ const MAX_DIGITS: usize = 131_072;
 /// What was read of a line: its bytes without spaces. A line that is longer than any frame is not kept whole: its first digits tell
 /// what it is refused for, as all of them would.
 #[derive(Drop)]
-pub struct Line {
-    kept: Vec<u8>,
+pub struct Line<A: Allocator = Global> {
+    kept: Vec<u8, A>,
     /// Some byte behind those that are kept is no digit.
     broken: bool,
     /// There is an odd number of digits behind those that are kept.
@@ -20,9 +20,9 @@ pub struct Line {
     has_return: bool,
 }
 
-impl Line {
+impl<A: Allocator> Line<A> {
     /// An empty line.
-    pub fn new(alloc: Global) -> Line {
+    pub fn new(alloc: A) -> Line<A> {
         Line {
             kept: Vec::new(alloc),
             broken: false,
@@ -100,7 +100,7 @@ impl Line {
     /// # Errors
     ///
     /// What is no hexadecimal in it, or [`FromHexError::OutOfMemory`].
-    pub fn bytes(&self, alloc: Global) -> Result<Option<Vec<u8>>, FromHexError> {
+    pub fn bytes<B: Allocator>(&self, alloc: B) -> Result<Option<Vec<u8, B>>, FromHexError> {
         if self.broken || self.odd {
             return Err(FromHexError::OddLength);
         }

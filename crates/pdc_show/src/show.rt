@@ -9,7 +9,7 @@ use pdc_block::cut;
 use pdc_cfg::read_config;
 use pdc_command::{read_command, read_header};
 use pdc_frame::{Frame, Kind, read_frame};
-use std::alloc::{AllocError, AllocFailed, Global};
+use std::alloc::{AllocError, AllocFailed, Allocator};
 use std::io;
 use std::io::{ErrorKind, Read, Write};
 use thiserror::Error;
@@ -60,20 +60,20 @@ impl<T: Drop> From<AllocFailed<T>> for ShowFault {
 
 /// What is kept from one line to the next.
 #[derive(Drop)]
-struct Show {
-    alloc: Global,
+struct Show<A: Allocator + Copy> {
+    alloc: A,
     /// The number of lines before the one that is read now.
     number: u64,
     /// What was read of it.
-    line: Line,
+    line: Line<A>,
     /// The CFG-2 frame that was shown last.
     held: Option<Held>,
     /// Whether each line was shown.
     shown: Shown,
 }
 
-impl Show {
-    fn new(alloc: Global) -> Show {
+impl<A: Allocator + Copy> Show<A> {
+    fn new(alloc: A) -> Show<A> {
         Show {
             alloc,
             number: 0,
@@ -201,8 +201,8 @@ impl Show {
 /// # Errors
 ///
 /// The first failure of the reader or the writer, an input that goes on after [`MAX_READS`] reads, or want of memory.
-pub fn run_show<R: Read, W: Write>(
-    alloc: Global,
+pub fn run_show<R: Read, W: Write, A: Allocator + Copy>(
+    alloc: A,
     reader: &mut R,
     writer: &mut W,
 ) -> Result<Shown, ShowFault> {

@@ -1,4 +1,4 @@
-use Rattle.std.proofs.Common.{◌≡◌, inl, inr, ℕ, ◌+◌, ◌-◌, ◌≤◌, List, [], ◌∷◌, ◌++◌, length, take, drop, Vec, Global, ap, sym, subst, ◌∙◌, arith, length-take, length-drop}
+use Rattle.std.proofs.Common.{◌≡◌, inl, inr, ℕ, ◌+◌, ◌-◌, ◌≤◌, List, [], ◌∷◌, ◌++◌, length, take, drop, Vec, ap, sym, subst, ◌∙◌, arith, length-take, length-drop}
 use Rattle.std.specs.Prelude.{map}
 use Rattle.std.proofs.lemmas.List.{take_all, map-append}
 use Rattle.pdc_frame.specs.declared.fault.FrameFault.{FrameFault}
@@ -8,7 +8,7 @@ use Rattle.pdc_frame.specs.Stream.{Held, HasTaken, GoesOn, given_at}
 use Rattle.pdc_frame.proofs.Streams.{goes_further, none_given, none_bad}
 use Rattle.pdc_frame.proofs.stream.add_frames.Goals as goal
 
-abbrev texts : List (Vec ℕ Global) → List (List ℕ)
+abbrev texts : {A : Type 0} → List (Vec ℕ A) → List (List ℕ)
 texts frames = map (λ f. f.items) frames
 
 within_piece : (piece : List ℕ) (at n : ℕ) → at ≤ length piece → n ≤ length (take (length piece - at) (drop at piece)) → at + n ≤ length piece
@@ -20,16 +20,16 @@ no_frame a e h = let same : More ≡ Whole = sym e ∙ h in cc
 no_frame-bad : (a : Step) (fault : FrameFault) → a ≡ Bad fault → a ≡ Whole → ⊥
 no_frame-bad a fault e h = let same : Bad fault ≡ Whole = sym e ∙ h in cc
 
-pushed : (frames new : List (Vec ℕ Global)) (frame : Vec ℕ Global) (step : Step) (bytes text : List ℕ) → new ≡ frames ++ frame ∷ [] → step ≡ Whole → frame.items ≡ text → text ≡ bytes
+pushed : {A : Type 0} (frames new : List (Vec ℕ A)) (frame : Vec ℕ A) (step : Step) (bytes text : List ℕ) → new ≡ frames ++ frame ∷ [] → step ≡ Whole → frame.items ≡ text → text ≡ bytes
     → texts new ≡ texts frames ++ given_at step bytes
-pushed frames new frame step bytes text e at items same =
-    ap texts e ∙ map-append (λ (f : Vec ℕ Global). f.items) frames (frame ∷ []) ∙ ap (λ (xs : List ℕ). texts frames ++ xs ∷ []) (items ∙ same) ∙ ap (λ (s : Step). texts frames ++ given_at s bytes) (sym at)
+pushed {A} frames new frame step bytes text e at items same =
+    ap texts e ∙ map-append (λ (f : Vec ℕ A). f.items) frames (frame ∷ []) ∙ ap (λ (xs : List ℕ). texts frames ++ xs ∷ []) (items ∙ same) ∙ ap (λ (s : Step). texts frames ++ given_at s bytes) (sym at)
 
 all_taken : (piece : List ℕ) (at : ℕ) (first : List (List ℕ)) (start : Held) (frames : List (List ℕ)) (new : Held) → length piece ≤ at → GoesOn (take at piece) first start frames new → GoesOn piece first start frames new
 all_taken piece at first start frames new le h stream taken = subst (λ (xs : List ℕ). HasTaken (stream ++ xs) frames new) (take_all at piece le) (h stream taken)
 
 pub loop-at-preserved-in-More : goal.loop-at-preserved-in-More
-loop-at-preserved-in-More c =
+loop-at-preserved-in-More g c =
     record {
       within = within_piece _ _ _ c.loop-at.invariant.within c.feed-taken.ensures.taken;
       good = none_bad _ _ c.feed-taken.ensures.step (inl c.in-More.is);
@@ -38,7 +38,7 @@ loop-at-preserved-in-More c =
     }
 
 pub loop-at-preserved : goal.loop-at-preserved
-loop-at-preserved c =
+loop-at-preserved g c =
     record {
       within = within_piece _ _ _ c.loop-at.invariant.within c.feed-taken.ensures.taken;
       good = none_bad _ _ c.feed-taken.ensures.step (inr c.in-Whole.is);
@@ -48,7 +48,7 @@ loop-at-preserved c =
     }
 
 pub returns-in-Bad-clause-some : goal.returns-in-Bad-clause-some
-returns-in-Bad-clause-some c = λ why e.
+returns-in-Bad-clause-some g c = λ why e.
     let fault : c.in-Bad.fault ≡ why = cc in (
       c.feed-taken.ensures.step ∙ c.in-Bad.is ∙ ap Bad fault,
       c.loop-at.at + c.feed-taken.result.0,
@@ -57,4 +57,4 @@ returns-in-Bad-clause-some c = λ why e.
     )
 
 pub returns-clause-none : goal.returns-clause-none
-returns-clause-none c = λ e. (c.loop-at.invariant.good, all_taken _ _ _ _ _ _ c.loop-at-test.false c.loop-at.invariant.follows)
+returns-clause-none g c = λ e. (c.loop-at.invariant.good, all_taken _ _ _ _ _ _ c.loop-at-test.false c.loop-at.invariant.follows)

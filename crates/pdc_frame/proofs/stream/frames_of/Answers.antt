@@ -1,4 +1,4 @@
-use Rattle.std.proofs.Common.{◌≡◌, ℕ, suc, ◌<◌, List, [], ◌∷◌, ◌++◌, length, take, drop, get_or, Option, Some, None, Vec, Global, refl, ap, sym, subst, ◌∙◌, append_assoc}
+use Rattle.std.proofs.Common.{◌≡◌, ℕ, suc, ◌<◌, List, [], ◌∷◌, ◌++◌, length, take, drop, get_or, Option, Some, None, Vec, refl, ap, sym, subst, ◌∙◌, append_assoc}
 use Rattle.std.specs.Prelude.{flat_map}
 use Rattle.std.proofs.Math.Seq.{drop-cons}
 use Rattle.std.proofs.lemmas.List.{take_all, append-nil, take-append-drop}
@@ -10,18 +10,18 @@ use Rattle.pdc_frame.specs.Stream.{Held, HasTaken, IsBad, Splits, pending_of, fa
 use Rattle.pdc_frame.proofs.Streams.{taken_split, no_others}
 use Rattle.pdc_frame.proofs.stream.frames_of.Goals as goal
 
-abbrev joined : List (Vec ℕ Global) → List ℕ
+abbrev joined : {A : Type 0} → List (Vec ℕ A) → List ℕ
 joined pieces = flat_map (λ piece. piece.items) pieces
 
 -- the pieces before one, that one, and those behind it
-at_piece : (pieces : List (Vec ℕ Global)) (k : ℕ) (piece : Vec ℕ Global) → k < length pieces → piece ≡ get_or pieces k piece
+at_piece : {A : Type 0} (pieces : List (Vec ℕ A)) (k : ℕ) (piece : Vec ℕ A) → k < length pieces → piece ≡ get_or pieces k piece
     → joined pieces ≡ joined (take k pieces) ++ (piece.items ++ joined (drop (suc k) pieces))
-at_piece pieces k piece lt is =
-    let cut : drop k pieces ≡ piece ∷ drop (suc k) pieces = drop-cons pieces k piece lt ∙ ap (λ (p : Vec ℕ Global). p ∷ drop (suc k) pieces) (sym is) in
-    ap joined (sym (take-append-drop k pieces)) ∙ flat_map-append (λ (p : Vec ℕ Global). p.items) (take k pieces) (drop k pieces) ∙ ap (λ (ps : List (Vec ℕ Global)). joined (take k pieces) ++ joined ps) cut
+at_piece {A} pieces k piece lt is =
+    let cut : drop k pieces ≡ piece ∷ drop (suc k) pieces = drop-cons pieces k piece lt ∙ ap (λ (p : Vec ℕ A). p ∷ drop (suc k) pieces) (sym is) in
+    ap joined (sym (take-append-drop k pieces)) ∙ flat_map-append (λ (p : Vec ℕ A). p.items) (take k pieces) (drop k pieces) ∙ ap (λ (ps : List (Vec ℕ A)). joined (take k pieces) ++ joined ps) cut
 
 -- what is unread behind a fault
-behind : (pieces : List (Vec ℕ Global)) (k n : ℕ) (piece : Vec ℕ Global) → k < length pieces → piece ≡ get_or pieces k piece
+behind : {A : Type 0} (pieces : List (Vec ℕ A)) (k n : ℕ) (piece : Vec ℕ A) → k < length pieces → piece ≡ get_or pieces k piece
     → (joined (take k pieces) ++ take n piece.items) ++ (drop n piece.items ++ joined (drop (suc k) pieces)) ≡ joined pieces
 behind pieces k n piece lt is =
     append_assoc (joined (take k pieces)) (take n piece.items) (drop n piece.items ++ joined (drop (suc k) pieces))
@@ -51,7 +51,7 @@ good_split stream whole frames held good h e = (
 )
 
 pub returns-in-Some-clause-split : goal.returns-in-Some-clause-split
-returns-in-Some-clause-split c =
+returns-in-Some-clause-split g c =
     let some = c.in_ok-fault.ensures.some c.in-Some.fault c.in-Some.is in
     bad_split _ _ (drop some.1 c.piece-item.result.items ++ joined (drop (suc c.loop-piece.piece-index) c.args.pieces.now)) _ c.add_frames.new.framer c.in-Some.fault some.0
     (some.2 _ c.loop-piece.invariant.taken)
@@ -59,10 +59,10 @@ returns-in-Some-clause-split c =
     ∙ behind c.args.pieces.now c.loop-piece.piece-index some.1 c.piece-item.result c.loop-piece-test.true c.piece-item.is)
 
 pub returns-in-Some-clause-only : goal.returns-in-Some-clause-only
-returns-in-Some-clause-only c = let found = returns-in-Some-clause-split c in no_others _ _ found.0 _ found.1
+returns-in-Some-clause-only g c = let found = returns-in-Some-clause-split g c in no_others _ _ found.0 _ found.1
 
 pub returns-clause-split : goal.returns-clause-split
-returns-clause-split c = good_split _ _ _ c.loop-piece.framer c.loop-piece.invariant.good c.loop-piece.invariant.taken (ap joined (take_all _ _ c.loop-piece-test.false))
+returns-clause-split g c = good_split _ _ _ c.loop-piece.framer c.loop-piece.invariant.good c.loop-piece.invariant.taken (ap joined (take_all _ _ c.loop-piece-test.false))
 
 pub returns-clause-only : goal.returns-clause-only
-returns-clause-only c = let found = returns-clause-split c in no_others _ _ found.0 _ found.1
+returns-clause-only g c = let found = returns-clause-split g c in no_others _ _ found.0 _ found.1
