@@ -1,3 +1,4 @@
 pub mod Configs
+pub mod OneEach
 pub mod Rising
 pub mod Words

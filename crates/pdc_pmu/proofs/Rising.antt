@@ -23,23 +23,23 @@ below-later (Some last) instant ns h l = below-higher (last + 1) instant ns (ome
 
 rising : (p : PmuView) (frames : List Sent) (q : PmuView) → p.last ≡ None → HasSent p frames q → IsLast q.last (instants_of frames) × AreFalling (instants_of frames)
 rising p [] q h s = (subst (λ last. IsLast last []) (sym h ∙ ap (λ (r : PmuView). r.last) s) tt, tt)
-rising p (HeaderSent ∷ frames) q h s = let e = rising p frames s.0 h s.1 in
-    (subst (λ (r : PmuView). IsLast r.last (instants_of frames)) (sym s.2) e.0, e.1)
-rising p (ConfigSent section ∷ frames) q h s = let e = rising p frames s.0 h s.1 in
-    (subst (λ (r : PmuView). IsLast r.last (instants_of frames)) (sym s.3) e.0, e.1)
-rising p (DataSent instant ∷ frames) q h s =
+rising p (HeaderSent soc text ∷ frames) q h s = let e = rising p frames s.0 h s.1 in
+    (subst (λ (r : PmuView). IsLast r.last (instants_of frames)) (sym s.2.left) e.0, e.1)
+rising p (ConfigSent soc section ∷ frames) q h s = let e = rising p frames s.0 h s.1 in
+    (subst (λ (r : PmuView). IsLast r.last (instants_of frames)) (sym s.2.left) e.0, e.1)
+rising p (DataSent instant words ∷ frames) q h s =
     let e = rising p frames s.0 h s.1 in
-    let below : AreBelow instant (instants_of frames) = below-later s.0.last instant (instants_of frames) s.2 e.0 in
-    (subst (λ (r : PmuView). IsLast r.last (instant ∷ instants_of frames)) (sym s.3) (omega arith, below-higher instant (instant + 1) (instants_of frames) (omega arith) below), (below, e.1))
+    let below : AreBelow instant (instants_of frames) = below-later s.0.last instant (instants_of frames) s.2.allowed e.0 in
+    (subst (λ (r : PmuView). IsLast r.last (instant ∷ instants_of frames)) (sym s.2.left) (omega arith, below-higher instant (instant + 1) (instants_of frames) (omega arith) below), (below, e.1))
 
 pub instants_rise : InstantsRise
 instants_rise id rate time_base frames pmu s = (rising (new_pmu id rate time_base) frames pmu refl s).1
 
 counted : (p : PmuView) (frames : List Sent) (q : PmuView) → p.count ≡ 0 → HasSent p frames q → q.count ≡ config_count frames
 counted p [] q h s = ap (λ (r : PmuView). r.count) (sym s) ∙ h
-counted p (HeaderSent ∷ frames) q h s = ap (λ (r : PmuView). r.count) s.2 ∙ counted p frames s.0 h s.1
-counted p (ConfigSent section ∷ frames) q h s = ap (λ (r : PmuView). r.count) s.3 ∙ ap (λ n. n + 1) (counted p frames s.0 h s.1)
-counted p (DataSent instant ∷ frames) q h s = ap (λ (r : PmuView). r.count) s.3 ∙ counted p frames s.0 h s.1
+counted p (HeaderSent soc text ∷ frames) q h s = ap (λ (r : PmuView). r.count) s.2.left ∙ counted p frames s.0 h s.1
+counted p (ConfigSent soc section ∷ frames) q h s = ap (λ (r : PmuView). r.count) s.2.left ∙ ap (λ n. n + 1) (counted p frames s.0 h s.1)
+counted p (DataSent instant words ∷ frames) q h s = ap (λ (r : PmuView). r.count) s.2.left ∙ counted p frames s.0 h s.1
 
 pub counts_rise : CountsRise
 counts_rise id rate time_base frames pmu s = counted (new_pmu id rate time_base) frames pmu refl s

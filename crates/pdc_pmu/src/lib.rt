@@ -11,5 +11,5 @@ mod pmu;
 mod renamed;
 
 pub use fault::PmuFault;
-pub use laws::what_is_sent_rises;
+pub use laws::{what_is_read_is_one, what_is_sent_rises};
 pub use pmu::{MAX_COUNT, Pmu};

@@ -3,7 +3,7 @@ ghost use Rattle.std.specs.Prelude.{◌≡◌, ◌<◌, ◌≤◌, ◌+◌, ◌*
 ghost use Rattle.pdc_frame.specs.Frame.{IsFrame, spelling_of};
 ghost use Rattle.pdc_frame.specs.declared.frame.Kind.TheVariants.{Cfg2};
 ghost use Rattle.pdc_frame.specs.declared.limits.TheConstants.{MAX_ID, OVERHEAD};
-ghost use Rattle.pdc_cfg.specs.Config.{config_frame_of};
+ghost use Rattle.pdc_cfg.specs.Config.{IsConfig, config_frame_of, payload_of};
 ghost use Rattle.pdc_cfg.specs.Section.{fields_of_section, fields_of_view};
 ghost use Rattle.pdc_cfg.specs.Shape.{word_count_of};
 ghost use Rattle.pdc_command.specs.Command.{header_fields};
@@ -164,6 +164,7 @@ impl Pmu {
     ) -> Result<(), PmuFault>
         ensures ok { OnOk result (B.content out.new ≡ B.content out.old ++ config_of self.old soc (fields_of_view section.now)) }
         ensures frame { OnOk result (IsFrame (config_of self.old soc (fields_of_view section.now)) (config_frame_of Cfg2 self.old.id soc (next_config self.old (fields_of_view section.now)))) }
+        ensures config { OnOk result (IsConfig (payload_of (next_config self.old (fields_of_view section.now))) (next_config self.old (fields_of_view section.now))) }
         ensures sent { OnOk result (self.new ≡ after_config self.old (fields_of_view section.now)) }
         ensures err { OnErr result ((B.content out.new ≡ B.content out.old) × (self.new ≡ self.old)) }
         ensures used_up { self.old.count ≡ MAX_COUNT → IsErrOf result PmuFault.CountsUsedUp }
@@ -246,6 +247,7 @@ impl Pmu {
         requires { self.now.count < MAX_COUNT }
         ensures ok { OnOk result (B.content out.new ≡ B.content out.old ++ config_of self.now soc (fields_of_view section.now)) }
         ensures frame { IsFrame (config_of self.now soc (fields_of_view section.now)) (config_frame_of Cfg2 self.now.id soc (next_config self.now (fields_of_view section.now))) }
+        ensures config { OnOk result (IsConfig (payload_of (next_config self.now (fields_of_view section.now))) (next_config self.now (fields_of_view section.now))) }
         ensures err { OnErr result (B.content out.new ≡ B.content out.old) }
         ensures room { length (B.content out.old) + length (config_of self.now soc (fields_of_view section.now)) ≤ B.capacity out.old → IsOk result }
     {
