@@ -3,5 +3,6 @@ mod falling;
 mod makers;
 mod recent_frames;
 mod same;
+mod streams;
 mod vectors;
 mod writers;
