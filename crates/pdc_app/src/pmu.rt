@@ -34,12 +34,12 @@ fn report_simulation(
             report_place(rt, "UDP", asked.places.as_slice().get(*number), error)
         }
         SimulationFault::Listener(error) => report_place(rt, "TCP", asked.tcp.as_ref(), error),
-        SimulationFault::NotSent(to) => {
+        SimulationFault::NotSent(Some(to)) => {
             let (port, address) = (to.port(), to.ip());
             eprintln!(rt; "pdc pmu: UDP port {port} of {address}: a frame is not sent")
         }
         SimulationFault::Clock(error) => eprintln!(rt; "pdc pmu: the clock: {error}"),
-        SimulationFault::Pmu(_) | SimulationFault::NoMemory => {
+        SimulationFault::NotSent(None) | SimulationFault::Pmu(_) | SimulationFault::NoMemory => {
             eprintln!(rt; "pdc pmu: it ended early")
         }
     }

@@ -93,6 +93,13 @@ impl Pmu {
         }
     }
 
+    /// The frames that it sends in a second.
+    pub fn rate(&self) -> u16
+        ensures { result ≡ self.now.rate }
+    {
+        self.rate
+    }
+
     /// The shape of its last configuration: of what `send` may be given.
     pub fn shape(&self) -> Option<Shape>
         ensures { result ≡ self.now.shape }

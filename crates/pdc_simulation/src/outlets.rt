@@ -1,6 +1,7 @@
 //! Where the frames of a simulated PMU go.
 
-use crate::simulation::SimulationFault;
+use crate::fault::SimulationFault;
+use pdc_ports::{Sink, SinkFault};
 use std::alloc::Global;
 use std::io;
 use std::io::ErrorKind;
@@ -59,31 +60,64 @@ impl Outlet {
     }
 }
 
-/// An outlet for each place.
-pub fn open_outlets<R: Net>(
-    rt: &R,
-    alloc: Global,
-    places: &[Place<'_>],
-) -> Result<Vec<Outlet>, SimulationFault> {
-    let mut outlets = Vec::new(alloc);
-    for place in places {
-        let number = outlets.len();
-        let outlet = Outlet::open(rt, place).map_err(|error| SimulationFault::Place(
-            number, error,
-        ))?;
-        outlets.push(outlet).map_err(|_| SimulationFault::NoMemory)?;
-    }
-    Ok(outlets)
+/// An outlet for each place. It tells nothing of what it took.
+#[derive(Drop)]
+pub struct Outlets {
+    outlets: Vec<Outlet>,
+    failures: u64,
+    /// Where the last frame that was not sent was to go.
+    pub unsent: Option<SocketAddr>,
 }
 
-/// Sends the bytes to each place.
-pub fn send_to_all(outlets: &[Outlet], bytes: &[u8]) -> Result<(), SimulationFault> {
-    for outlet in outlets {
-        if !outlet.send(bytes) {
-            return Err(SimulationFault::NotSent(outlet.to));
+impl Outlets {
+    /// Opens a socket for each place.
+    ///
+    /// # Errors
+    ///
+    /// The first place that cannot be opened, or want of memory.
+    pub fn open<R: Net>(
+        rt: &R,
+        alloc: Global,
+        places: &[Place<'_>],
+    ) -> Result<Outlets, SimulationFault> {
+        let mut outlets = Vec::new(alloc);
+        for place in places {
+            let number = outlets.len();
+            let outlet = Outlet::open(rt, place).map_err(|error| SimulationFault::Place(
+                number, error,
+            ))?;
+            outlets.push(outlet).map_err(|_| SimulationFault::NoMemory)?;
+        }
+        Ok(Outlets {
+            outlets,
+            failures: 0,
+            unsent: None,
+        })
+    }
+}
+
+impl Sink for Outlets {
+    ghost took = { λ _ _ _. Unit {0} };
+
+    ghost nothing = { λ _. tt };
+
+    ghost failures_of = { λ s. s.failures };
+
+    /// Sends the bytes to each place, up to the first where that fails.
+    fn send(&mut self, bytes: &[u8]) -> Result<(), SinkFault> {
+        match self.outlets.iter().find(|outlet| !outlet.send(bytes)) {
+            Some(outlet) => {
+                self.unsent = Some(outlet.to);
+                self.failures = self.failures.saturating_add(1);
+                Err(SinkFault)
+            }
+            None => Ok(()),
         }
     }
-    Ok(())
+
+    fn failures(&self) -> u64 {
+        self.failures
+    }
 }
 
 /// A listener at the place, whose `accept` does not wait.
