@@ -18,10 +18,12 @@ struct Recorded<'a> {
     time: u64,
     /// Its bytes.
     datagram: Vec<u8>,
+    /// Whether there was memory for them.
+    is_kept: bool,
 }
 
 /// Gives what the inner source gives. Where the life is recorded, it notes each datagram with the time at which it came, once it is
-/// answered.
+/// answered. A datagram of which no copy could be kept, for want of memory, is not noted: its step is lacking in the record.
 #[derive(Drop)]
 pub struct RecordedSource<'a, S: Source + Drop, R: Wait + Clock> {
     rt: &'a R,
@@ -43,6 +45,7 @@ impl<'a, S: Source + Drop, R: Wait + Clock> RecordedSource<'a, S, R> {
             stream,
             time: 0,
             datagram: Vec::new(alloc),
+            is_kept: false,
         });
         RecordedSource {
             rt,
@@ -52,17 +55,18 @@ impl<'a, S: Source + Drop, R: Wait + Clock> RecordedSource<'a, S, R> {
     }
 }
 
-/// Keeps a datagram that came.
+/// Keeps a datagram that came, where there is memory for it.
 fn keep<R: Clock>(rt: &R, recorded: &mut Recorded<'_>, bytes: &[u8]) {
     recorded.time = nanoseconds_now(rt);
     recorded.datagram.clear();
-    if recorded.datagram.extend_from_slice(bytes).is_err() {
-        recorded.datagram.clear();
-    }
+    recorded.is_kept = recorded.datagram.extend_from_slice(bytes).is_ok();
 }
 
-/// Notes the datagram that was kept, with its answer.
+/// Notes the datagram that was kept, with its answer; nothing where none was.
 fn note<R: Wait>(rt: &R, recorded: &Recorded<'_>, answer: Option<Numbered<Outcome>>) {
+    if !recorded.is_kept {
+        return;
+    }
     let datagram = recorded.datagram.as_slice();
     let stream = recorded.stream;
     let entry = match answer {
