@@ -2,8 +2,7 @@
 use Rattle.std.proofs.Common.{◌≡◌, ℕ, List, [], Option, take, refl, sym, subst, inl, inr}
 use Rattle.std.specs.Prelude.{Result, Ok, Err, IfErr, IsErrAnd, OnErr, OnOk, Some, None, true}
 use Rattle.pdc_session.specs.Session.{SessionView}
-use Rattle.pdc_recent.specs.Stream.{Stream}
-use Rattle.pdc_server.specs.Turn.{HasEnded, HasHeard, HasMade, HasWritten, IsMade, IsUnheard, IsUnwritten, Standing}
+use Rattle.pdc_server.specs.Turn.{Dated, HasEnded, HasHeard, HasMade, HasWritten, IsMade, IsUnheard, IsUnwritten, Standing}
 use Rattle.pdc_server.specs.declared.ended.Ended.{Ended}
 use Rattle.pdc_server.specs.declared.ended.Ended.TheVariants.{EndOfStream, Session, Device, NoMemory, Closed}
 
@@ -25,51 +24,51 @@ of_err P (Ok a) e is p = tt
 of_err P (Err x) e is p = subst P (sym is) p
 
 -- A piece that is not answered to its end is what is to be written.
-made : (ended : Ended) (stream : Stream) (id : ℕ) (piece : List ℕ) (before later : Standing) (bytes : List ℕ) → later.got ≡ before.got
-    → IsUnheard ended stream id piece before.session later.session [] bytes → IsMade (Some ended) stream id piece before later bytes
-made EndOfStream stream id piece before later bytes got unheard = (got, unheard)
-made (Session fault) stream id piece before later bytes got unheard = (got, unheard)
-made Device stream id piece before later bytes got unheard = (got, unheard)
-made NoMemory stream id piece before later bytes got unheard = (got, inl unheard)
-made Closed stream id piece before later bytes got unheard = (got, unheard)
+made : (ended : Ended) (dated : Dated) (id : ℕ) (piece : List ℕ) (before later : Standing) (bytes : List ℕ) → later.got ≡ before.got
+    → IsUnheard ended dated id piece before.session later.session [] bytes → IsMade (Some ended) dated id piece before later bytes
+made EndOfStream dated id piece before later bytes got unheard = (got, unheard)
+made (Session fault) dated id piece before later bytes got unheard = (got, unheard)
+made Device dated id piece before later bytes got unheard = (got, unheard)
+made NoMemory dated id piece before later bytes got unheard = (got, inl unheard)
+made Closed dated id piece before later bytes got unheard = (got, unheard)
 
-pub unheard_made : (ended : Ended) (stream : Stream) (id : ℕ) (items held : List ℕ) (n : ℕ) (before later : Standing) (out bytes : List ℕ) → held ≡ items → out ≡ []
-    → later.got ≡ before.got → IsUnheard ended stream id (take n held) before.session later.session out bytes → IsMade (Some ended) stream id (take n items) before later bytes
-unheard_made ended stream id items held n before later out bytes is none got unheard =
-    made ended stream id (take n items) before later bytes got
-    (subst (λ (xs : List ℕ). IsUnheard ended stream id (take n xs) before.session later.session [] bytes) is
-    (subst (λ (xs : List ℕ). IsUnheard ended stream id (take n held) before.session later.session xs bytes) none unheard))
+pub unheard_made : (ended : Ended) (dated : Dated) (id : ℕ) (items held : List ℕ) (n : ℕ) (before later : Standing) (out bytes : List ℕ) → held ≡ items → out ≡ []
+    → later.got ≡ before.got → IsUnheard ended dated id (take n held) before.session later.session out bytes → IsMade (Some ended) dated id (take n items) before later bytes
+unheard_made ended dated id items held n before later out bytes is none got unheard =
+    made ended dated id (take n items) before later bytes got
+    (subst (λ (xs : List ℕ). IsUnheard ended dated id (take n xs) before.session later.session [] bytes) is
+    (subst (λ (xs : List ℕ). IsUnheard ended dated id (take n held) before.session later.session xs bytes) none unheard))
 
-pub heard_alone : (stream : Stream) (id : ℕ) (items held : List ℕ) (n : ℕ) (session later : SessionView) (out replies : List ℕ) → held ≡ items → out ≡ []
-    → HasHeard stream id (take n held) session later out replies → HasHeard stream id (take n items) session later [] replies
-heard_alone stream id items held n session later out replies is none heard =
-    subst (λ (xs : List ℕ). HasHeard stream id (take n xs) session later [] replies) is
-    (subst (λ (xs : List ℕ). HasHeard stream id (take n held) session later xs replies) none heard)
+pub heard_alone : (dated : Dated) (id : ℕ) (items held : List ℕ) (n : ℕ) (session later : SessionView) (out replies : List ℕ) → held ≡ items → out ≡ []
+    → HasHeard dated id (take n held) session later out replies → HasHeard dated id (take n items) session later [] replies
+heard_alone dated id items held n session later out replies is none heard =
+    subst (λ (xs : List ℕ). HasHeard dated id (take n xs) session later [] replies) is
+    (subst (λ (xs : List ℕ). HasHeard dated id (take n held) session later xs replies) none heard)
 
-pub lacking_made : (ended : Ended) (stream : Stream) (id : ℕ) (piece : List ℕ) (before later : Standing) (replies bytes : List ℕ) → ended ≡ NoMemory → later.session.told.on ≡ true
-    → later.got ≡ before.got → bytes ≡ replies → HasHeard stream id piece before.session later.session [] replies → IsMade (Some ended) stream id piece before later bytes
-lacking_made ended stream id piece before later replies bytes is on got same heard =
-    subst (λ (e : Ended). IsMade (Some e) stream id piece before later bytes) (sym is)
-    (got, inr (subst (λ (xs : List ℕ). HasHeard stream id piece before.session later.session [] xs) (sym same) heard, on))
+pub lacking_made : (ended : Ended) (dated : Dated) (id : ℕ) (piece : List ℕ) (before later : Standing) (replies bytes : List ℕ) → ended ≡ NoMemory → later.session.told.on ≡ true
+    → later.got ≡ before.got → bytes ≡ replies → HasHeard dated id piece before.session later.session [] replies → IsMade (Some ended) dated id piece before later bytes
+lacking_made ended dated id piece before later replies bytes is on got same heard =
+    subst (λ (e : Ended). IsMade (Some e) dated id piece before later bytes) (sym is)
+    (got, inr (subst (λ (xs : List ℕ). HasHeard dated id piece before.session later.session [] xs) (sym same) heard, on))
 
 -- Whatever it is, something is to be written.
-pub some_made : {U : Type 0} (answer : Result U Ended) (stream : Stream) (id : ℕ) (piece : List ℕ) (before later : Standing) (bytes : List ℕ) → OnOk answer (IsMade None stream id piece before later bytes)
-    → IfErr answer (λ ended. IsMade (Some ended) stream id piece before later bytes) → (ended : Option Ended) × IsMade ended stream id piece before later bytes
-some_made (Ok u) stream id piece before later bytes ok err = (None, ok)
-some_made (Err e) stream id piece before later bytes ok err = (Some e, err)
+pub some_made : {U : Type 0} (answer : Result U Ended) (dated : Dated) (id : ℕ) (piece : List ℕ) (before later : Standing) (bytes : List ℕ) → OnOk answer (IsMade None dated id piece before later bytes)
+    → IfErr answer (λ ended. IsMade (Some ended) dated id piece before later bytes) → (ended : Option Ended) × IsMade ended dated id piece before later bytes
+some_made (Ok u) dated id piece before later bytes ok err = (None, ok)
+some_made (Err e) dated id piece before later bytes ok err = (Some e, err)
 
-pub ended_unwritten : {S : Type 0} (remaining contents : S → Option (List ℕ)) (stream : Stream) (id : ℕ) (before later : Standing) (line now : S) (why : Ended) (ended : Option Ended)
-    (m : HasMade remaining ended stream id before later line) → IsUnwritten why (contents m.read) (contents now) m.made → HasEnded remaining contents stream id before later line now why
-ended_unwritten remaining contents stream id before later line now EndOfStream ended m why = absurd why
-ended_unwritten remaining contents stream id before later line now (Session fault) ended m why = absurd why
-ended_unwritten remaining contents stream id before later line now Device ended m why = inr (ended, m)
-ended_unwritten remaining contents stream id before later line now NoMemory ended m why = absurd why
-ended_unwritten remaining contents stream id before later line now Closed ended m why = (ended, m, why.0, why.1, why.2)
+pub ended_unwritten : {S : Type 0} (remaining contents : S → Option (List ℕ)) (dated : Dated) (id : ℕ) (before later : Standing) (line now : S) (why : Ended) (ended : Option Ended)
+    (m : HasMade remaining ended dated id before later line) → IsUnwritten why (contents m.read) (contents now) m.made → HasEnded remaining contents dated id before later line now why
+ended_unwritten remaining contents dated id before later line now EndOfStream ended m why = absurd why
+ended_unwritten remaining contents dated id before later line now (Session fault) ended m why = absurd why
+ended_unwritten remaining contents dated id before later line now Device ended m why = inr (ended, m)
+ended_unwritten remaining contents dated id before later line now NoMemory ended m why = absurd why
+ended_unwritten remaining contents dated id before later line now Closed ended m why = (ended, m, why.0, why.1, why.2)
 
-pub ended_written : {S : Type 0} (remaining contents : S → Option (List ℕ)) (stream : Stream) (id : ℕ) (before later : Standing) (line now : S) (ended : Ended)
-    → HasWritten remaining contents (Some ended) stream id before later line now → HasEnded remaining contents stream id before later line now ended
-ended_written remaining contents stream id before later line now EndOfStream h = absurd h.0.is_made.1
-ended_written remaining contents stream id before later line now (Session fault) h = h
-ended_written remaining contents stream id before later line now Device h = absurd h.0.is_made.1
-ended_written remaining contents stream id before later line now NoMemory h = h
-ended_written remaining contents stream id before later line now Closed h = absurd h.0.is_made.1
+pub ended_written : {S : Type 0} (remaining contents : S → Option (List ℕ)) (dated : Dated) (id : ℕ) (before later : Standing) (line now : S) (ended : Ended)
+    → HasWritten remaining contents (Some ended) dated id before later line now → HasEnded remaining contents dated id before later line now ended
+ended_written remaining contents dated id before later line now EndOfStream h = absurd h.0.is_made.1
+ended_written remaining contents dated id before later line now (Session fault) h = h
+ended_written remaining contents dated id before later line now Device h = absurd h.0.is_made.1
+ended_written remaining contents dated id before later line now NoMemory h = h
+ended_written remaining contents dated id before later line now Closed h = absurd h.0.is_made.1

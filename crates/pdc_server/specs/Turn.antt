@@ -12,32 +12,39 @@ use Rattle.pdc_server.specs.Header.{header_text}
 use Rattle.pdc_server.specs.declared.ended.Ended.{Ended}
 use Rattle.pdc_server.specs.declared.ended.Ended.TheVariants.{EndOfStream, Session, Device, NoMemory, Closed}
 
--- Replies are made with this text as the header, and with the configuration of a layout frame of the stream. Which second they are dated
--- with is not said.
-abbrev pub IsServing : Stream → (header : List ℕ) → Serving → Type 0
-IsServing stream header serving =
-    (serving.header.now ≡ header) × ∥ ((bytes : List ℕ) × IsLayoutWith stream bytes (config_fields_of serving.layout)) ∥₁
+-- the stream that a consumer asks, and the second that it is answered in
+pub record Dated : Type 0 where
+  pub stream : Stream
+  pub soc : ℕ
+
+abbrev pub dated_at : Stream → ℕ → Dated
+dated_at stream soc = record { stream = stream; soc = soc }
+
+-- Replies are made with this text as the header, with the configuration of a layout frame of the stream, and dated with the second.
+abbrev pub IsServing : Dated → (header : List ℕ) → Serving → Type 0
+IsServing dated header serving =
+    (serving.header.now ≡ header) × (serving.soc ≡ dated.soc) × ∥ ((bytes : List ℕ) × IsLayoutWith dated.stream bytes (config_fields_of serving.layout)) ∥₁
 
 -- The session went on with this piece, and the replies to the commands that end in it were appended.
-abbrev pub IsAnswered : Stream → (header piece : List ℕ) (session later : SessionView) (out grown : List ℕ) → Type 0
-IsAnswered stream header piece session later out grown =
-    (serving : Serving) × IsServing stream header serving × HasAnswered session.id serving piece session.held session.told out later.held later.told grown
+abbrev pub IsAnswered : Dated → (header piece : List ℕ) (session later : SessionView) (out grown : List ℕ) → Type 0
+IsAnswered dated header piece session later out grown =
+    (serving : Serving) × IsServing dated header serving × HasAnswered session.id serving piece session.held session.told out later.held later.told grown
 
 -- With this piece the session has ended by the fault, and the replies to the commands before it were appended.
-abbrev pub HasFailed : Stream → (header piece : List ℕ) (session later : SessionView) (out grown : List ℕ) → SessionFault → Type 0
-HasFailed stream header piece session later out grown fault =
-    (serving : Serving) × IsServing stream header serving × (later.ended ≡ Some fault) × IsFed serving piece session out later grown
+abbrev pub HasFailed : Dated → (header piece : List ℕ) (session later : SessionView) (out grown : List ℕ) → SessionFault → Type 0
+HasFailed dated header piece session later out grown fault =
+    (serving : Serving) × IsServing dated header serving × (later.ended ≡ Some fault) × IsFed serving piece session out later grown
 
 -- Where no piece came nothing is appended, and the session stays.
-abbrev pub HasHeard : Stream → (id : ℕ) (piece : List ℕ) (session later : SessionView) (out grown : List ℕ) → Type 0
-HasHeard stream id piece session later out grown =
-    ((piece ≡ []) × (grown ≡ out) × (later ≡ session)) ⊎ IsAnswered stream (header_text id) piece session later out grown
+abbrev pub HasHeard : Dated → (id : ℕ) (piece : List ℕ) (session later : SessionView) (out grown : List ℕ) → Type 0
+HasHeard dated id piece session later out grown =
+    ((piece ≡ []) × (grown ≡ out) × (later ≡ session)) ⊎ IsAnswered dated (header_text id) piece session later out grown
 
 -- Why a piece was not answered to its end: the session has ended; or there was no memory for the layout, and nothing was done.
-abbrev pub IsUnheard : Ended → Stream → (id : ℕ) (piece : List ℕ) (session later : SessionView) (out grown : List ℕ) → Type 0
-IsUnheard (Session fault) stream id piece session later out grown = HasFailed stream (header_text id) piece session later out grown fault
-IsUnheard NoMemory stream id piece session later out grown = (piece ≡ [] → ⊥) × (grown ≡ out) × (later ≡ session)
-IsUnheard _ stream id piece session later out grown = ⊥
+abbrev pub IsUnheard : Ended → Dated → (id : ℕ) (piece : List ℕ) (session later : SessionView) (out grown : List ℕ) → Type 0
+IsUnheard (Session fault) dated id piece session later out grown = HasFailed dated (header_text id) piece session later out grown fault
+IsUnheard NoMemory dated id piece session later out grown = (piece ≡ [] → ⊥) × (grown ≡ out) × (later ≡ session)
+IsUnheard _ dated id piece session later out grown = ⊥
 
 -- where a consumer stands: its session, and up to which instant it got data
 pub record Standing : Type 0 where
@@ -46,51 +53,51 @@ pub record Standing : Type 0 where
 
 -- All that is to be written once a piece came: the replies, and behind them, while data is on, the frames above the instant that the
 -- consumer got; the greatest instant is what it has then.
-pub record IsWhole (stream : Stream) (id : ℕ) (piece : List ℕ) (before later : Standing) (made : List ℕ) : Type 0 where
+pub record IsWhole (dated : Dated) (id : ℕ) (piece : List ℕ) (before later : Standing) (made : List ℕ) : Type 0 where
   pub replies : List ℕ
-  pub heard : HasHeard stream id piece before.session later.session [] replies
+  pub heard : HasHeard dated id piece before.session later.session [] replies
   pub off : later.session.told.on ≡ false → (later.got ≡ before.got) × (made ≡ replies)
-  pub on : later.session.told.on ≡ true → IsGiven stream before.got replies later.got made
+  pub on : later.session.told.on ≡ true → IsGiven dated.stream before.got replies later.got made
 
 -- The replies alone, since there was no memory for the frames.
-abbrev pub LacksFrames : Stream → (id : ℕ) (piece : List ℕ) (before later : Standing) (made : List ℕ) → Type 0
-LacksFrames stream id piece before later made = HasHeard stream id piece before.session later.session [] made × (later.session.told.on ≡ true)
+abbrev pub LacksFrames : Dated → (id : ℕ) (piece : List ℕ) (before later : Standing) (made : List ℕ) → Type 0
+LacksFrames dated id piece before later made = HasHeard dated id piece before.session later.session [] made × (later.session.told.on ≡ true)
 
 -- What is to be written, all of it or as much as there is where the session is to end.
-abbrev pub IsMade : Option Ended → Stream → (id : ℕ) (piece : List ℕ) (before later : Standing) (made : List ℕ) → Type 0
-IsMade None stream id piece before later made = IsWhole stream id piece before later made
-IsMade (Some NoMemory) stream id piece before later made = (later.got ≡ before.got)
-    × (IsUnheard NoMemory stream id piece before.session later.session [] made ⊎ LacksFrames stream id piece before later made)
-IsMade (Some ended) stream id piece before later made = (later.got ≡ before.got) × IsUnheard ended stream id piece before.session later.session [] made
+abbrev pub IsMade : Option Ended → Dated → (id : ℕ) (piece : List ℕ) (before later : Standing) (made : List ℕ) → Type 0
+IsMade None dated id piece before later made = IsWhole dated id piece before later made
+IsMade (Some NoMemory) dated id piece before later made = (later.got ≡ before.got)
+    × (IsUnheard NoMemory dated id piece before.session later.session [] made ⊎ LacksFrames dated id piece before later made)
+IsMade (Some ended) dated id piece before later made = (later.got ≡ before.got) × IsUnheard ended dated id piece before.session later.session [] made
 
 -- A piece was read, perhaps none, and this is what is to be written.
-pub record HasMade {S : Type 0} (remaining : S → Option (List ℕ)) (ended : Option Ended) (stream : Stream) (id : ℕ) (before later : Standing) (line : S) : Type 0 where
+pub record HasMade {S : Type 0} (remaining : S → Option (List ℕ)) (ended : Option Ended) (dated : Dated) (id : ℕ) (before later : Standing) (line : S) : Type 0 where
   pub read : S
   pub piece : List ℕ
   pub made : List ℕ
   pub came : Consumes (remaining line) (remaining read) piece
-  pub is_made : IsMade ended stream id piece before later made
+  pub is_made : IsMade ended dated id piece before later made
 
 -- and it was written
-abbrev pub HasWritten : {S : Type 0} (remaining contents : S → Option (List ℕ)) → Option Ended → Stream → (id : ℕ) (before later : Standing) (line now : S) → Type 0
-HasWritten remaining contents ended stream id before later line now =
-    (m : HasMade remaining ended stream id before later line) × Appends (contents m.read) (contents now) m.made
+abbrev pub HasWritten : {S : Type 0} (remaining contents : S → Option (List ℕ)) → Option Ended → Dated → (id : ℕ) (before later : Standing) (line now : S) → Type 0
+HasWritten remaining contents ended dated id before later line now =
+    (m : HasMade remaining ended dated id before later line) × Appends (contents m.read) (contents now) m.made
 
 -- What a turn does that goes on.
-abbrev pub HasTurned : {S : Type 0} (remaining contents : S → Option (List ℕ)) → Stream → (id : ℕ) (before later : Standing) (line now : S) → Type 0
-HasTurned remaining contents stream id before later line now = HasWritten remaining contents None stream id before later line now
+abbrev pub HasTurned : {S : Type 0} (remaining contents : S → Option (List ℕ)) → Dated → (id : ℕ) (before later : Standing) (line now : S) → Type 0
+HasTurned remaining contents dated id before later line now = HasWritten remaining contents None dated id before later line now
 
 -- What a turn did that ended so. Where nothing more is to come, nothing came, and the consumer stands where it stood. A device fault is
 -- one of a read, by which nothing came, or one of a write. The concentrator has ended before all was written that was to be. A fault of
 -- the session, and a want of memory, are told once the replies before them are written.
-abbrev pub HasEnded : {S : Type 0} (remaining contents : S → Option (List ℕ)) → Stream → (id : ℕ) (before later : Standing) (line now : S) → Ended → Type 0
-HasEnded remaining contents stream id before later line now EndOfStream =
+abbrev pub HasEnded : {S : Type 0} (remaining contents : S → Option (List ℕ)) → Dated → (id : ℕ) (before later : Standing) (line now : S) → Ended → Type 0
+HasEnded remaining contents dated id before later line now EndOfStream =
     (later ≡ before) × IsAtEnd (remaining now) × Consumes (remaining line) (remaining now) []
-HasEnded remaining contents stream id before later line now Device =
-    ((later ≡ before) × Keeps (remaining line) (remaining now)) ⊎ ((ended : Option Ended) × HasMade remaining ended stream id before later line)
-HasEnded remaining contents stream id before later line now Closed =
-    (ended : Option Ended) × (m : HasMade remaining ended stream id before later line) × (n : ℕ) × (n < length m.made) × Appends (contents m.read) (contents now) (take n m.made)
-HasEnded remaining contents stream id before later line now ended = HasWritten remaining contents (Some ended) stream id before later line now
+HasEnded remaining contents dated id before later line now Device =
+    ((later ≡ before) × Keeps (remaining line) (remaining now)) ⊎ ((ended : Option Ended) × HasMade remaining ended dated id before later line)
+HasEnded remaining contents dated id before later line now Closed =
+    (ended : Option Ended) × (m : HasMade remaining ended dated id before later line) × (n : ℕ) × (n < length m.made) × Appends (contents m.read) (contents now) (take n m.made)
+HasEnded remaining contents dated id before later line now ended = HasWritten remaining contents (Some ended) dated id before later line now
 
 -- Why bytes were not written: the connection failed; or the concentrator has ended, and some of the first were written.
 abbrev pub IsUnwritten : Ended → (contents now : Option (List ℕ)) (bytes : List ℕ) → Type 0

@@ -1,7 +1,7 @@
 //! One session, turn by turn.
 ghost use Rattle.std.specs.Prelude.{◌≡◌, ◌≤◌, ◌<◌, take, Some, None, OnOk, IfOk, IfErr, vec_len};
 ghost use Rattle.pdc_frame.specs.declared.limits.TheConstants.{MAX_ID};
-ghost use Rattle.pdc_server.specs.Turn.{HasEnded, HasTurned, IsMade};
+ghost use Rattle.pdc_server.specs.Turn.{HasEnded, HasTurned, IsMade, dated_at};
 ghost use Rattle.pdc_session.specs.Served.{IsNew};
 
 use crate::ended::Ended;
@@ -12,7 +12,6 @@ use pdc_recent::{Naming, Recent};
 use pdc_session::Session;
 use std::alloc::{AllocError, Global};
 use std::io::{Read, Write};
-use std::rt::Clock;
 use std::sync::Wait;
 
 /// The most bytes that are read in one turn.
@@ -75,21 +74,23 @@ impl Consumer {
 
     /// Makes what is to be written once so many bytes came: the replies to the commands that end there, and behind them, while data is
     /// on, the frames that were sent last and lie above what it got.
-    fn make<N: Naming, R: Wait + Clock>(
+    fn make<N: Naming, R: Wait>(
         &mut self,
         rt: &R,
         recent: &Recent<N>,
+        soc: u32,
         count: usize,
     ) -> Result<(), Ended>
         requires { count ≤ vec_len self.old.piece }
         ensures id { id_in self.new ≡ id_in self.old }
-        ensures ok { OnOk result (IsMade None N.stream (id_in self.old) (take count self.old.piece.items) (standing_in self.old) (standing_in self.new) self.new.out.items) }
-        ensures err { IfErr result (λ ended. IsMade (Some ended) N.stream (id_in self.old) (take count self.old.piece.items) (standing_in self.old) (standing_in self.new) self.new.out.items) }
+        ensures ok { OnOk result (IsMade None (dated_at N.stream soc) (id_in self.old) (take count self.old.piece.items) (standing_in self.old) (standing_in self.new) self.new.out.items) }
+        ensures err { IfErr result (λ ended. IsMade (Some ended) (dated_at N.stream soc) (id_in self.old) (take count self.old.piece.items) (standing_in self.old) (standing_in self.new) self.new.out.items) }
     {
         self.out.clear();
         answer(
             rt,
             recent,
+            soc,
             self.id,
             &mut self.session,
             &self.piece[..count],
@@ -100,25 +101,26 @@ impl Consumer {
         Ok(())
     }
 
-    /// Reads once what the consumer sends, and writes the replies to the commands that end there, and behind them, while data is on, the
-    /// frames that were sent last and lie above what it got.
+    /// Reads once what the consumer sends, and writes the replies to the commands that end there, dated with the second `soc`, and behind
+    /// them, while data is on, the frames that were sent last and lie above what it got.
     ///
     /// # Errors
     ///
     /// Why the session ended. Replies to commands before a fault of the session, and before a want of memory, are written.
-    pub fn turn<N: Naming, S: Read + Write, R: Wait + Clock>(
+    pub fn turn<N: Naming, S: Read + Write, R: Wait>(
         &mut self,
         rt: &R,
         recent: &Recent<N>,
+        soc: u32,
         stream: &mut S,
     ) -> Result<(), Ended>
         ensures id { id_in self.new ≡ id_in self.old }
-        ensures ok { OnOk result (HasTurned S.remaining S.contents N.stream (id_in self.old) (standing_in self.old) (standing_in self.new) stream.old stream.new) }
-        ensures ended { IfErr result (HasEnded S.remaining S.contents N.stream (id_in self.old) (standing_in self.old) (standing_in self.new) stream.old stream.new) }
+        ensures ok { OnOk result (HasTurned S.remaining S.contents (dated_at N.stream soc) (id_in self.old) (standing_in self.old) (standing_in self.new) stream.old stream.new) }
+        ensures ended { IfErr result (HasEnded S.remaining S.contents (dated_at N.stream soc) (id_in self.old) (standing_in self.old) (standing_in self.new) stream.old stream.new) }
     {
         let count = read_once(stream, &mut self.piece)?;
         self.heard = count > 0;
-        let made = self.make(rt, recent, count);
+        let made = self.make(rt, recent, soc, count);
         write_out(rt, recent, stream, &self.out)?;
         made
     }

@@ -4,7 +4,7 @@ ghost use Rattle.pdc_cfg.specs.Config.{config_fields_of};
 ghost use Rattle.pdc_command.specs.declared.header.TheConstants.{MAX_TEXT};
 ghost use Rattle.pdc_recent.specs.Given.{IsGiven};
 ghost use Rattle.pdc_recent.specs.Stream.{IsLayout, IsLayoutWith};
-ghost use Rattle.pdc_server.specs.Turn.{HasFailed, HasHeard, IsAnswered, IsUnheard};
+ghost use Rattle.pdc_server.specs.Turn.{HasFailed, HasHeard, IsAnswered, IsUnheard, dated_at};
 
 use crate::ended::Ended;
 use crate::header::header_of;
@@ -12,9 +12,7 @@ use pdc_cfg::{ConfigView, read_config};
 use pdc_frame::read_frame;
 use pdc_recent::{Naming, Recent};
 use pdc_session::{Serving, Session, SessionFault};
-use std::rt::Clock;
 use std::sync::Wait;
-use std::time::{Duration, SystemTime};
 
 /// The configuration in the bytes of a layout frame.
 fn config_of<N: Naming>(layout: &[u8]) -> ConfigView<'_>
@@ -23,17 +21,6 @@ fn config_of<N: Naming>(layout: &[u8]) -> ConfigView<'_>
 {
     let frame = read_frame(layout).unwrap();
     read_config(&frame).unwrap()
-}
-
-/// The second that the clock shows; 0 where it cannot be read or shows a time before 1970.
-fn second_now<C: Clock>(clock: &C) -> u32 {
-    let Ok(now) = SystemTime::now(clock) else {
-        return 0;
-    };
-    let since = now
-        .duration_since(SystemTime::UNIX_EPOCH)
-        .unwrap_or(Duration::ZERO);
-    u32::try_from(since.as_secs()).unwrap_or(u32::MAX)
 }
 
 /// Appends the replies to the commands that end in the piece, dated with this second, of this header and layout.
@@ -52,8 +39,8 @@ fn hear<N: Naming>(
     requires header { length header.now ≤ MAX_TEXT }
     requires layout { ∥ IsLayout N.stream layout.now ∥₁ }
     ensures id { session.new.id ≡ session.old.id }
-    ensures ok { OnOk result (IsAnswered N.stream header.now piece.now session.old session.new out.old.items out.new.items) }
-    ensures failed { IfErr result (λ fault. HasFailed N.stream header.now piece.now session.old session.new out.old.items out.new.items fault) }
+    ensures ok { OnOk result (IsAnswered (dated_at N.stream soc) header.now piece.now session.old session.new out.old.items out.new.items) }
+    ensures failed { IfErr result (λ fault. HasFailed (dated_at N.stream soc) header.now piece.now session.old session.new out.old.items out.new.items fault) }
 {
     let serving = Serving {
         soc,
@@ -63,15 +50,16 @@ fn hear<N: Naming>(
     session.feed(piece, &serving, out)
 }
 
-/// Appends the replies of the stream `id` to the commands that end in the piece; nothing where there is no piece. The layout is read into
-/// `layout`.
+/// Appends the replies of the stream `id` to the commands that end in the piece, dated with the second `soc`; nothing where there is no
+/// piece. The layout is read into `layout`.
 ///
 /// # Errors
 ///
 /// Where the session ends; `out` has the replies to the commands before. And where there is no memory for the layout.
-pub fn answer<N: Naming, R: Wait + Clock>(
+pub fn answer<N: Naming, R: Wait>(
     rt: &R,
     recent: &Recent<N>,
+    soc: u32,
     id: u16,
     session: &mut Session,
     piece: &[u8],
@@ -79,8 +67,8 @@ pub fn answer<N: Naming, R: Wait + Clock>(
     out: &mut Vec<u8>,
 ) -> Result<(), Ended>
     ensures id { session.new.id ≡ session.old.id }
-    ensures ok { OnOk result (HasHeard N.stream id piece.now session.old session.new out.old.items out.new.items) }
-    ensures unheard { IfErr result (λ ended. IsUnheard ended N.stream id piece.now session.old session.new out.old.items out.new.items) }
+    ensures ok { OnOk result (HasHeard (dated_at N.stream soc) id piece.now session.old session.new out.old.items out.new.items) }
+    ensures unheard { IfErr result (λ ended. IsUnheard ended (dated_at N.stream soc) id piece.now session.old session.new out.old.items out.new.items) }
 {
     if piece.is_empty() {
         return Ok(());
@@ -90,7 +78,7 @@ pub fn answer<N: Naming, R: Wait + Clock>(
         Ok(()) => {}
         Err(_) => return Err(Ended::NoMemory),
     }
-    let heard = hear::<N>(session, piece, second_now(rt), &header_of(id), layout, out);
+    let heard = hear::<N>(session, piece, soc, &header_of(id), layout, out);
     match heard {
         Ok(()) => Ok(()),
         Err(fault) => Err(Ended::Session(fault)),

@@ -11,7 +11,7 @@ use std::net::{OpenListener, OpenStream};
 use std::rt::Clock;
 use std::sync::Wait;
 use std::sync::atomic::{AtomicU64, Ordering};
-use std::time::{Duration, Instant};
+use std::time::{Duration, Instant, SystemTime};
 use std::{io, thread};
 
 /// How long a read waits for a consumer, and how long nobody is looked for after nobody came, in milliseconds.
@@ -28,6 +28,17 @@ fn set_up<S: OpenStream>(stream: &S) -> io::Result<()> {
     stream.set_read_timeout(Some(Duration::from_millis(TURN)))?;
     stream.set_write_timeout(Some(Duration::from_millis(WRITE_LIMIT)))?;
     stream.set_nodelay(true)
+}
+
+/// The second that the clock shows; 0 where it cannot be read or shows a time before 1970.
+fn second_now<C: Clock>(clock: &C) -> u32 {
+    let Ok(now) = SystemTime::now(clock) else {
+        return 0;
+    };
+    let since = now
+        .duration_since(SystemTime::UNIX_EPOCH)
+        .unwrap_or(Duration::ZERO);
+    u32::try_from(since.as_secs()).unwrap_or(u32::MAX)
 }
 
 /// Whether a silence that began then has lasted as long as it may; where the clock cannot be read it has not.
@@ -61,7 +72,7 @@ fn serve_one<N: Naming, S: Read + Write + OpenStream, R: Wait + Clock>(
     };
     let mut since = Instant::now(rt).ok();
     for _ in rt.forever() {
-        if recent.closed(rt) || consumer.turn(rt, recent, stream).is_err() {
+        if recent.closed(rt) || consumer.turn(rt, recent, second_now(rt), stream).is_err() {
             return;
         }
         if !consumer.is_silent() {

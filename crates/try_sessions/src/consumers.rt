@@ -12,8 +12,10 @@ use pdc_server::Consumer;
 use std::alloc::{AllocError, Global};
 use std::io;
 use std::marker::Brand;
-use std::rt::Clock;
 use std::sync::Wait;
+
+/// The second in which all turns are.
+const SOC: u32 = 1_149_577_200;
 
 /// A consumer, and its end of the connection.
 #[derive(Drop)]
@@ -31,9 +33,13 @@ fn describe(alloc: Global, bytes: &[u8]) -> Result<String, AllocError> {
             Kind::HeaderFrame => {
                 let text = read_header(&frame).unwrap_or(&[]);
                 let text = std::str::from_utf8(text).unwrap_or("no text");
-                format!(in alloc; "a header of {count} bytes: {text}")
+                let soc = frame.soc;
+                format!(in alloc; "a header of {count} bytes, of second {soc}: {text}")
             }
-            Kind::Cfg2 => format!(in alloc; "a configuration of {count} bytes"),
+            Kind::Cfg2 => {
+                let soc = frame.soc;
+                format!(in alloc; "a configuration of {count} bytes, of second {soc}")
+            }
             _ => format!(in alloc; "a frame of {count} bytes"),
         },
         Err(_) => format!(in alloc; "{count} bytes"),
@@ -41,14 +47,14 @@ fn describe(alloc: Global, bytes: &[u8]) -> Result<String, AllocError> {
 }
 
 /// One turn, and what was written in it.
-fn turn<N: Naming, R: Wait + Clock + Print>(
+fn turn<N: Naming, R: Wait + Print>(
     rt: &R,
     alloc: Global,
     pair: &mut Pair<N>,
     name: &str,
 ) -> io::Result<()> {
     pair.line.written.clear();
-    let answer = pair.consumer.turn(rt, &pair.recent, &mut pair.line);
+    let answer = pair.consumer.turn(rt, &pair.recent, SOC, &mut pair.line);
     let written = describe(alloc, &pair.line.written)?;
     match answer {
         Ok(()) => println!(rt; "  {name}: {written}"),
@@ -57,7 +63,7 @@ fn turn<N: Naming, R: Wait + Clock + Print>(
 }
 
 /// A turn in which this command comes.
-fn command<N: Naming, R: Wait + Clock + Print>(
+fn command<N: Naming, R: Wait + Print>(
     rt: &R,
     alloc: Global,
     pair: &mut Pair<N>,
@@ -80,7 +86,7 @@ fn new_pair<N: Naming>(alloc: Global, output: &Output) -> Result<Pair<N>, AllocE
 }
 
 /// What a consumer asks, and data that is sent meanwhile.
-fn play_commands<N: Naming, R: Wait + Clock + Print>(
+fn play_commands<N: Naming, R: Wait + Print>(
     rt: &R,
     alloc: Global,
     output: &Output,
@@ -109,11 +115,7 @@ fn play_commands<N: Naming, R: Wait + Clock + Print>(
 }
 
 /// How sessions end.
-fn play_ends<N: Naming, R: Wait + Clock + Print>(
-    rt: &R,
-    alloc: Global,
-    output: &Output,
-) -> io::Result<()>
+fn play_ends<N: Naming, R: Wait + Print>(rt: &R, alloc: Global, output: &Output) -> io::Result<()>
     requires { N.stream ≡ stream_of output.now }
 {
     let mut pair = new_pair::<N>(alloc, output)?;
@@ -133,11 +135,7 @@ fn play_ends<N: Naming, R: Wait + Clock + Print>(
 }
 
 /// Sessions of a concentrator with this output.
-fn play_named<N: Naming, R: Wait + Clock + Print>(
-    rt: &R,
-    alloc: Global,
-    output: &Output,
-) -> io::Result<()>
+fn play_named<N: Naming, R: Wait + Print>(rt: &R, alloc: Global, output: &Output) -> io::Result<()>
     requires { N.stream ≡ stream_of output.now }
 {
     println!(rt; "a session in memory")?;
@@ -147,6 +145,6 @@ fn play_named<N: Naming, R: Wait + Clock + Print>(
 }
 
 /// Sessions in memory.
-pub fn play<R: Wait + Clock + Print>(rt: &R, alloc: Global) -> io::Result<()> {
+pub fn play<R: Wait + Print>(rt: &R, alloc: Global) -> io::Result<()> {
     play_named::<Brand, R>(rt, alloc, &node_a())
 }
