@@ -1,10 +1,14 @@
 //! Laws of every world: each is the contract of a function that does nothing but call the laws that it stands on.
-ghost use Rattle.std.specs.Prelude.{◌≡◌};
+ghost use Rattle.std.specs.Prelude.{◌≡◌, List};
+ghost use Rattle.std.specs.List.{AllByRecursion};
 ghost use Rattle.pdc_headline.specs.Agree.{FramesAgree, PublishedAgree};
 ghost use Rattle.pdc_headline.specs.Frames.{HasGenuineFrames, LayoutsAreOne, PmusSendOneBody, PmusSendOneSection};
 ghost use Rattle.pdc_headline.specs.Published.{InstantsRise, RowsAreSentData};
 ghost use Rattle.pdc_headline.specs.Seen.{seen_of};
-ghost use Rattle.pdc_history.specs.World.{A, B, M};
+ghost use Rattle.pdc_history.specs.Genuine.{IsPublishedData};
+ghost use Rattle.pdc_history.specs.Lives.{IsRowAt};
+ghost use Rattle.pdc_history.specs.World.{A, B, Happened, M, World as Fixed, published};
+ghost use Rattle.pdc_world.specs.Holds.{Holds};
 
 use pdc_block::payloads_are_cut_in_one_way;
 use pdc_cfg::configurations_are_read_in_one_way;
@@ -76,4 +80,15 @@ pub fn frames_agree<S: Store>(world: &World<S>)
 {
     world.holds_some_history();
     pdc_history::frames_agree();
+}
+
+/// In whichever history the world holds, the frame of each row that was published was sent, and is the row's; and a tick closed the row,
+/// which shows at the place of each column the present block that its stream gave by then, since the column was adopted, and the absent one
+/// where it gave none.
+pub fn blocks_are_present_exactly_where_given<S: Store>(world: &World<S>)
+    ensures sent { (W : Fixed) (H : List Happened) → Holds W H world.now → AllByRecursion (IsPublishedData W H) (published H) }
+    ensures exact { (W : Fixed) (H : List Happened) → Holds W H world.now → AllByRecursion (IsRowAt W H) (published H) }
+{
+    pdc_history::stamps_have_one_layout();
+    pdc_history::lives_are_lives();
 }

@@ -7,7 +7,8 @@
 //! The first definition to look at is `specs/Seen.antt`, and the first law [`instants_rise`].
 //!
 //! To the layers above this crate promises that the instants of each owner rise over all its lives, that a frame's blocks are absent or
-//! what their PMU sent for its instant, and that any two frames for one instant agree.
+//! what their PMU sent for its instant, that a block is present exactly where one was given in time, and that any two frames for one
+//! instant agree.
 #![tactic(auto)]
 
 mod headline;
@@ -15,6 +16,6 @@ mod laws;
 
 pub use headline::{headline_holds, play_under_headline};
 pub use laws::{
-    frames_agree, instants_rise, merged_blocks_are_genuine, node_blocks_are_genuine, pmus_send_one,
-    stamps_have_one_layout,
+    blocks_are_present_exactly_where_given, frames_agree, instants_rise, merged_blocks_are_genuine,
+    node_blocks_are_genuine, pmus_send_one, stamps_have_one_layout,
 };

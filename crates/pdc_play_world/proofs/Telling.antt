@@ -3,6 +3,9 @@ use Rattle.std.proofs.Common.{◌≡◌, inl, ℕ, ◌+◌, List, [], ◌∷◌,
 use Rattle.std.specs.Io.KnownBytes.{Consumes}
 use Rattle.std.specs.List.{slice_get}
 use Rattle.std.specs.Str.Lines.{strip_carriage_return}
+use Rattle.pdc_headline.specs.Headline.{Headline}
+use Rattle.pdc_headline.specs.Seen.{seen_of}
+use Rattle.pdc_history.specs.Lives.{PublishedRowsAreThose}
 use Rattle.pdc_history.specs.World.{World, Happened}
 use Rattle.pdc_play.specs.Run.{HasEnded}
 use Rattle.pdc_play.specs.Script.{Ends, EndsBy, EndsEarly, HasPlayed, PlaysText, counted, events_in, frame_of}
@@ -121,19 +124,23 @@ all_told W first read (ending.Refused fault) printed last holds e =
 
 -- A script that was played on a world that held the empty history is told.
 pub told : (W : World) (first : WorldView) (start : Option (List ℕ)) (read : List ℕ) (end : Ending) (last : WorldView) (contents : Option (List ℕ))
-    → Holds W [] first → HasEnded RepliesSeen RefusesSeen frames_seen first start read end last contents → IsTold W start read end contents
-told W first start read end last contents holds h =
+    → Holds W [] first → HasEnded RepliesSeen RefusesSeen frames_seen first start read end last contents → Headline (seen_of last) → PublishedRowsAreThose → IsTold W start read end contents
+told W first start read end last contents holds h headline exact =
     let all : TellsAll W read end h.printed last = all_told W first read end h.printed last holds h.ends in
     record {
       after = all.after;
       history = all.holds.history;
       ended = record { printed = h.printed; ends = all.ends; written = h.written };
+      last = last;
+      holds = all.holds;
+      headline = headline;
+      exact = exact W all.after all.holds.history;
     }
 
 pub run_told : (W : World) (first world : WorldView) (remaining rest start contents : Option (List ℕ)) (last : WorldView) (r : Result Ending PlayFault)
-    → first ≡ world → Holds W [] world
+    → first ≡ world → Holds W [] world → Headline (seen_of last) → PublishedRowsAreThose
     → IfOk r (λ end. (read : List ℕ) × Consumes remaining rest read × HasEnded RepliesSeen RefusesSeen frames_seen first start read end last contents)
     → IfOk r (IsPlayedOn W remaining rest start contents)
-run_told W first world remaining rest start contents last (Ok end) e holds h =
-    inl (record { read = h.0; consumed = h.1; told = told W first start h.0 end last contents (subst (λ (v : WorldView). Holds W [] v) (sym e) holds) h.2 })
-run_told W first world remaining rest start contents last (Err fault) e holds h = tt
+run_told W first world remaining rest start contents last (Ok end) e holds headline exact h =
+    inl (record { read = h.0; consumed = h.1; told = told W first start h.0 end last contents (subst (λ (v : WorldView). Holds W [] v) (sym e) holds) h.2 headline exact })
+run_told W first world remaining rest start contents last (Err fault) e holds headline exact h = tt

@@ -1,5 +1,5 @@
 -- Settings of either kind, and which three a world is made of (this profile).
-use Rattle.std.specs.Prelude.{◌≡◌, List, ℕ, Option, Some, None, true, false}
+use Rattle.std.specs.Prelude.{◌≡◌, Option, Some, None, true, false}
 use Rattle.toml.specs.Data.{Members}
 use Rattle.pdc_settings.specs.Kind.{is_merger}
 use Rattle.pdc_settings.specs.Settings.{IsMergerFault, IsMergerSettings, IsNodeFault, IsNodeSettings}

@@ -1,15 +1,18 @@
 -- A script that is told by a history (this profile): what is printed of it follows from the settings and the script alone.
 use Rattle.std.specs.Prelude.{◌≡◌, ◌⊎◌, ℕ, List, [], ◌∷◌, Option, None, Some}
 use Rattle.std.specs.Io.KnownBytes.{Appends, Consumes}
-use Rattle.std.specs.List.{slice_get}
+use Rattle.std.specs.List.{AllByRecursion, slice_get}
 use Rattle.pdc_event.specs.declared.fault.Fault.{Fault}
 use Rattle.pdc_event.specs.declared.fault.Fault.TheVariants.{PremiseBroken}
 use Rattle.pdc_event.specs.declared.fault.Premise.TheVariants.{OneTable}
 use Rattle.pdc_event.specs.declared.reply.Reply.{Reply}
+use Rattle.pdc_headline.specs.Headline.{Headline}
+use Rattle.pdc_headline.specs.Seen.{seen_of}
 use Rattle.pdc_history.specs.Asked.{Asked}
 use Rattle.pdc_history.specs.History.{IsHistory}
+use Rattle.pdc_history.specs.Lives.{IsRowAt}
 use Rattle.pdc_history.specs.Play.{IsStepOf}
-use Rattle.pdc_history.specs.World.{World, Happened, sent}
+use Rattle.pdc_history.specs.World.{World, Happened, published, sent}
 use Rattle.pdc_mark.specs.Stored.{first_stored}
 use Rattle.pdc_mark.specs.declared.stored.Stored.{Stored}
 use Rattle.pdc_play.specs.Run.{HasEnded}
@@ -18,8 +21,10 @@ use Rattle.pdc_play.specs.declared.ending.Ending.TheVariants.{Refused}
 use Rattle.pdc_play_lines.specs.Printed.{fault_line}
 use Rattle.pdc_play_world.specs.declared.any.Roles.{Roles}
 use Rattle.pdc_world.specs.Acts.{IsWhy}
+use Rattle.pdc_world.specs.Holds.{Holds}
 use Rattle.pdc_world.specs.Opening.{IsWhyNot, world_of}
 use Rattle.pdc_world.specs.Replies.{reply_of}
+use Rattle.pdc_world.specs.Views.{WorldView}
 
 -- What was asked made this happen, and that is told.
 pub record Tells (W : World) (H : List Happened) (asked : Asked) (reply : Reply) (after : List Happened) : Type 0 where
@@ -32,11 +37,16 @@ pub record Tells (W : World) (H : List Happened) (asked : Asked) (reply : Reply)
 abbrev pub frames_in : World → List Happened → ℕ → Option (List ℕ)
 frames_in W H number = slice_get (sent W H) number
 
--- The script whose first bytes were read ended so, and what was printed of it is told by a history of this world.
+-- The script whose first bytes were read ended so, and what was printed of it is told by a history of this world. The headline holds of all
+-- that is seen of the world then, and each row that was published shows a block exactly where one was given in time.
 pub record IsTold (W : World) (start : Option (List ℕ)) (read : List ℕ) (end : Ending) (contents : Option (List ℕ)) : Type 0 where
   pub after : List Happened
   pub history : IsHistory W after
   pub ended : HasEnded (Tells W) (IsWhy W) (frames_in W) [] start read end after contents
+  pub last : WorldView
+  pub holds : Holds W after last
+  pub headline : Headline (seen_of last)
+  pub exact : AllByRecursion (IsRowAt W after) (published after)
 
 -- these bytes were read, and the script of them is told
 pub record IsReadAndTold (W : World) (remaining rest start : Option (List ℕ)) (end : Ending) (contents : Option (List ℕ)) : Type 0 where

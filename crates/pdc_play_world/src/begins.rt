@@ -9,6 +9,8 @@ ghost use Rattle.pdc_play_world.specs.Told.{IsPlayedBy, IsPlayedOn, world_over};
 use crate::any::{AnySettings, Roles, roles_of_three};
 use crate::on_world::OnWorld;
 use pdc_event::{Fault, Premise};
+use pdc_headline::headline_holds;
+use pdc_history::lives_are_lives;
 use pdc_mark::{ModelMark, Store};
 use pdc_play::{Ending, PlayFault, run_script, tell_unbegun};
 use pdc_world::{Leads, World};
@@ -39,7 +41,13 @@ pub fn play_over<S: Store + Drop, R: Read, W: Write>(
     };
     let Roles { a, b, m } = roles;
     match World::over(alloc, a.life, b.life, m.life, leads, stores) {
-        Ok(world) => run_script(alloc, &mut OnWorld::new(world), reader, writer),
+        Ok(world) => {
+            let mut on = OnWorld::new(world);
+            let ended = run_script(alloc, &mut on, reader, writer);
+            lives_are_lives();
+            headline_holds(on.world());
+            ended
+        }
         Err(error) => tell_unbegun(alloc, error.fault, writer),
     }
 }

@@ -29,6 +29,13 @@ impl<S: Store> OnWorld<S> {
     {
         OnWorld { world }
     }
+
+    /// The world.
+    pub(crate) fn world(&self) -> &World<S>
+        ensures { result.now ≡ self.now }
+    {
+        &self.world
+    }
 }
 
 impl<S: Store> Plays for OnWorld<S> {
