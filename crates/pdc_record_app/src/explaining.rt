@@ -1,20 +1,16 @@
 //! `pdc explain`.
 
-use crate::walking::{Takes, Walked, walk};
+use crate::printing::{PIECE, Tells, print, status_of, walk};
 use crate::words::{Explained, Question};
-use crate::{DONE, FAILED, REFUSED};
+use crate::{FAILED, REFUSED};
+use pdc_compare::{Files, Takes, Verdict};
 use pdc_explain::{
     Delays, Follower, Story, Tally, Unexplained, Wanted, tell_absent, tell_delays, tell_story,
 };
 use pdc_record::Entry;
 use std::alloc::Global;
-use std::fs::File;
+use std::io;
 use std::io::Write;
-use std::rt::Files;
-use std::{io, str};
-
-/// How many bytes are printed at once.
-const PIECE: usize = 32768;
 
 /// What tells of instants.
 #[derive(Drop)]
@@ -28,14 +24,6 @@ struct Instants {
     /// What is to be printed.
     out: Vec<u8>,
     fault: Option<Unexplained>,
-}
-
-/// Prints what is to be printed.
-fn print<R: Print>(rt: &R, out: &mut Vec<u8>) -> io::Result<()> {
-    let text = str::from_utf8(out).unwrap_or("");
-    print!(rt; "{text}")?;
-    out.clear();
-    Ok(())
 }
 
 impl Instants {
@@ -103,7 +91,7 @@ impl Instants {
 }
 
 impl Takes for Instants {
-    fn take<R: Print + Eprint>(&mut self, rt: &R, entry: &Entry<'_>) -> io::Result<bool> {
+    fn take(&mut self, entry: &Entry<'_>) -> io::Result<bool> {
         if self.follower.is_other_life(entry) {
             self.end()?;
         }
@@ -112,10 +100,17 @@ impl Takes for Instants {
             return Ok(false);
         }
         self.tell_finished()?;
-        if self.out.len() > PIECE {
-            print(rt, &mut self.out)?;
-        }
-        Ok(true)
+        Ok(self.out.len() <= PIECE)
+    }
+}
+
+impl Tells for Instants {
+    fn out(&mut self) -> &mut Vec<u8> {
+        &mut self.out
+    }
+
+    fn is_done(&self) -> bool {
+        self.fault.is_some()
     }
 }
 
@@ -123,11 +118,13 @@ impl Takes for Instants {
 #[derive(Drop)]
 struct Lateness {
     delays: Delays,
+    /// What is to be printed.
+    out: Vec<u8>,
     fault: Option<Unexplained>,
 }
 
 impl Takes for Lateness {
-    fn take<R: Print + Eprint>(&mut self, _rt: &R, entry: &Entry<'_>) -> io::Result<bool> {
+    fn take(&mut self, entry: &Entry<'_>) -> io::Result<bool> {
         if let Err(fault) = self.delays.take(entry) {
             self.fault = Some(fault);
             return Ok(false);
@@ -136,55 +133,54 @@ impl Takes for Lateness {
     }
 }
 
-/// The exit status of files that were walked through so; a fault is told.
-fn status_of<R: Eprint>(rt: &R, walked: Walked, fault: Option<Unexplained>) -> io::Result<u8> {
-    if let Some(fault) = fault {
-        eprintln!(rt; "pdc explain: {fault}")?;
-        return Ok(if fault == Unexplained::Memory {
-            FAILED
-        } else {
-            REFUSED
-        });
+impl Tells for Lateness {
+    fn out(&mut self) -> &mut Vec<u8> {
+        &mut self.out
     }
-    match walked {
-        Walked::ToTheEnd => Ok(DONE),
-        Walked::Stopped | Walked::Damaged => Ok(REFUSED),
-        Walked::Unread => Ok(FAILED),
+
+    fn is_done(&self) -> bool {
+        self.fault.is_some()
     }
+}
+
+/// The exit status of files that were read so; a fault is told.
+fn ended(rt: &HostRuntime, verdict: Verdict, fault: Option<Unexplained>) -> io::Result<u8> {
+    let Some(fault) = fault else {
+        return Ok(status_of(verdict));
+    };
+    eprintln!(rt; "pdc explain: {fault}")?;
+    Ok(if fault == Unexplained::Memory {
+        FAILED
+    } else {
+        REFUSED
+    })
 }
 
 /// Tells of instants.
-fn explain_instants<R: Files<File = File> + AllocGlobal + Print + Eprint>(
-    rt: &R,
-    files: &[&str],
-    wanted: Wanted,
-) -> io::Result<u8> {
+fn explain_instants(rt: &HostRuntime, files: &mut Files<'_>, wanted: Wanted) -> io::Result<u8> {
     let mut instants = Instants::new(rt.alloc(), wanted);
-    let walked = walk(rt, files, &mut instants)?;
-    if walked != Walked::Unread && instants.fault.is_none() {
+    walk(rt, files, &mut instants)?;
+    if files.verdict() != Verdict::Failed && instants.fault.is_none() {
         instants.tell_end()?;
     }
     print(rt, &mut instants.out)?;
-    status_of(rt, walked, instants.fault)
+    ended(rt, files.verdict(), instants.fault)
 }
 
 /// Tells of delays.
-fn explain_delays<R: Files<File = File> + AllocGlobal + Print + Eprint>(
-    rt: &R,
-    files: &[&str],
-) -> io::Result<u8> {
+fn explain_delays(rt: &HostRuntime, files: &mut Files<'_>) -> io::Result<u8> {
     let alloc = rt.alloc();
     let mut lateness = Lateness {
         delays: Delays::new(alloc)?,
+        out: Vec::new(alloc),
         fault: None,
     };
-    let walked = walk(rt, files, &mut lateness)?;
-    let mut out = Vec::new(alloc);
+    walk(rt, files, &mut lateness)?;
     if lateness.fault.is_none() {
-        tell_delays(&mut out, &lateness.delays)?;
+        tell_delays(&mut lateness.out, &lateness.delays)?;
     }
-    print(rt, &mut out)?;
-    status_of(rt, walked, lateness.fault)
+    print(rt, &mut lateness.out)?;
+    ended(rt, files.verdict(), lateness.fault)
 }
 
 /// Runs the command, and answers its exit status.
@@ -192,13 +188,10 @@ fn explain_delays<R: Files<File = File> + AllocGlobal + Print + Eprint>(
 /// # Errors
 ///
 /// A standard stream cannot be written, or there is no memory.
-pub fn run_explain<R: Files<File = File> + AllocGlobal + Print + Eprint>(
-    rt: &R,
-    asked: &Explained<'_>,
-) -> io::Result<u8> {
-    let files = asked.files.as_slice();
+pub fn run_explain(rt: &HostRuntime, asked: &Explained<'_>) -> io::Result<u8> {
+    let mut files = Files::of(rt.alloc(), asked.files.as_slice())?;
     match asked.question {
-        Question::Instants(wanted) => explain_instants(rt, files, wanted),
-        Question::Delays => explain_delays(rt, files),
+        Question::Instants(wanted) => explain_instants(rt, &mut files, wanted),
+        Question::Delays => explain_delays(rt, &mut files),
     }
 }

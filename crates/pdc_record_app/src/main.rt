@@ -1,10 +1,11 @@
 //! `pdc replay` and `pdc explain`: what plays the record of a life again, and what explains it. They read files and change nothing.
 #![tactic(auto)]
 
+mod comparing;
 mod explaining;
-mod files;
+mod plain;
+mod printing;
 mod replaying;
-mod walking;
 mod words;
 
 use explaining::run_explain;

@@ -1,14 +1,16 @@
 //! `pdc replay`.
 
-use crate::walking::{Takes, Walked, walk};
+use crate::comparing::compare;
+use crate::plain::played_plainly;
+use crate::printing::{Disk, PIECE, Tells, status_of, walk};
 use crate::words::Replayed;
 use crate::{DONE, FAILED, REFUSED};
+use pdc_compare::{Files, Grouped, Takes, Verdict, group_files, halt_text};
 use pdc_record::{Entry, What};
-use pdc_replay::{Halt, Player, write_halt};
-use std::alloc::Global;
-use std::fs::File;
+use pdc_replay::{Halt, Player};
+use std::alloc::{AllocError, Global};
 use std::io;
-use std::rt::Files;
+use std::io::Write;
 
 /// What plays the entries.
 #[derive(Drop)]
@@ -19,6 +21,8 @@ struct Playing {
     frames: bool,
     /// Why it halted.
     halt: Option<Halt>,
+    /// What is to be printed.
+    out: Vec<u8>,
 }
 
 /// The frame that an entry has.
@@ -31,7 +35,7 @@ fn frame_of<'a>(entry: &Entry<'a>) -> Option<&'a [u8]> {
 }
 
 impl Takes for Playing {
-    fn take<R: Print + Eprint>(&mut self, rt: &R, entry: &Entry<'_>) -> io::Result<bool> {
+    fn take(&mut self, entry: &Entry<'_>) -> io::Result<bool> {
         if let Err(halt) = self.player.play(entry) {
             self.halt = Some(halt);
             return Ok(false);
@@ -39,15 +43,25 @@ impl Takes for Playing {
         if self.frames {
             if let Some(frame) = frame_of(entry) {
                 let text = hex::encode_upper(self.alloc, frame)?;
-                println!(rt; "{text}")?;
+                writeln!(self.out, "{text}")?;
             }
         }
-        Ok(true)
+        Ok(self.out.len() <= PIECE)
+    }
+}
+
+impl Tells for Playing {
+    fn out(&mut self) -> &mut Vec<u8> {
+        &mut self.out
+    }
+
+    fn is_done(&self) -> bool {
+        self.halt.is_some()
     }
 }
 
 /// Prints a text: to standard error where frames go to standard output.
-fn tell<R: Print + Eprint>(rt: &R, frames: bool, text: &str) -> io::Result<()> {
+fn tell(rt: &HostRuntime, frames: bool, text: &str) -> io::Result<()> {
     if frames {
         eprintln!(rt; "{text}")
     } else {
@@ -55,52 +69,77 @@ fn tell<R: Print + Eprint>(rt: &R, frames: bool, text: &str) -> io::Result<()> {
     }
 }
 
-/// The text of why a replay halted, without the end of its last line.
-fn halt_text(alloc: Global, halt: &Halt) -> io::Result<String> {
-    let mut text = Vec::new(alloc);
-    write_halt(&mut text, alloc, halt)?;
-    text.pop();
-    String::from_utf8(text).map_err(|_| io::ErrorKind::InvalidData.into())
+/// The exit status of a replay that halted.
+fn status_at(halt: &Halt) -> u8 {
+    match halt {
+        Halt::Memory => FAILED,
+        _ => REFUSED,
+    }
 }
 
-/// Runs the command: replays a record, and those of the lives behind it. Answers the exit status.
-///
-/// # Errors
-///
-/// A standard stream cannot be written, or there is no memory.
-pub fn run_replay<R: Files<File = File> + AllocGlobal + Print + Eprint>(
-    rt: &R,
-    asked: &Replayed<'_>,
-) -> io::Result<u8> {
+/// What is told of so many steps and frames that were as recorded; before something that is wrong, where not to the end.
+fn alike_text(alloc: Global, player: &Player, is_to_the_end: bool) -> Result<String, AllocError> {
+    let (steps, frames) = (player.steps(), player.frames());
+    let before = if is_to_the_end { "" } else { " before it" };
+    format!(in alloc; "{steps} steps, {frames} frames{before}: as recorded")
+}
+
+/// What is told of a record that was played, and the exit status.
+fn result_of(alloc: Global, playing: &Playing, verdict: Verdict) -> io::Result<(String, u8)> {
+    match &playing.halt {
+        Some(halt) => Ok((halt_text(alloc, halt)?, status_at(halt))),
+        None => {
+            let is_to_the_end = verdict == Verdict::AsRecorded;
+            let text = alike_text(alloc, &playing.player, is_to_the_end)?;
+            Ok((text, status_of(verdict)))
+        }
+    }
+}
+
+/// Replays the record of one concentrator, and those of the lives behind it.
+fn replay(rt: &HostRuntime, asked: &Replayed<'_>) -> io::Result<u8> {
     let alloc = rt.alloc();
+    let names = asked.files.as_slice();
     let mut playing = Playing {
         alloc,
         player: Player::new(alloc),
         frames: asked.frames,
         halt: None,
+        out: Vec::new(alloc),
     };
-    let walked = walk(rt, asked.files.as_slice(), &mut playing)?;
-    let (steps, frames) = (playing.player.steps(), playing.player.frames());
-    if let Some(halt) = &playing.halt {
-        let text = halt_text(alloc, halt)?;
-        tell(rt, asked.frames, text.as_str())?;
-        return Ok(if matches!(halt, Halt::Memory) {
-            FAILED
-        } else {
-            REFUSED
-        });
+    let mut files = Files::of(alloc, names)?;
+    walk(rt, &mut files, &mut playing)?;
+    if playing.halt.is_none() && files.verdict() == Verdict::Failed {
+        return Ok(FAILED);
     }
-    match walked {
-        Walked::Unread => Ok(FAILED),
-        Walked::Damaged | Walked::Stopped => {
-            let text = format!(in alloc; "{steps} steps, {frames} frames before it: as recorded")?;
-            tell(rt, asked.frames, text.as_str())?;
+    let (text, status) = result_of(alloc, &playing, files.verdict())?;
+    tell(rt, asked.frames, text.as_str())?;
+    if status != DONE || !asked.plain {
+        return Ok(status);
+    }
+    let (text, status) = played_plainly(rt, names, playing.player.steps())?;
+    tell(rt, asked.frames, text.as_str())?;
+    Ok(status)
+}
+
+/// Runs the command, and answers its exit status: the record of one concentrator is replayed, those of several are compared.
+///
+/// # Errors
+///
+/// A standard stream cannot be written, or there is no memory.
+pub fn run_replay(rt: &HostRuntime, asked: &Replayed<'_>) -> io::Result<u8> {
+    match group_files(rt.alloc(), &mut Disk { rt }, asked.files.as_slice())? {
+        Grouped::One => replay(rt, asked),
+        Grouped::Several(_) if asked.frames || asked.plain => {
+            eprintln!(rt;
+                "pdc replay: --frames and --plain are for the record of one concentrator"
+            )?;
             Ok(REFUSED)
         }
-        Walked::ToTheEnd => {
-            let text = format!(in alloc; "{steps} steps, {frames} frames: as recorded")?;
-            tell(rt, asked.frames, text.as_str())?;
-            Ok(DONE)
+        Grouped::Several(mut comparison) => compare(rt, &mut comparison),
+        Grouped::Misfit(file, cause) => {
+            eprintln!(rt; "{file}: {cause}")?;
+            Ok(REFUSED)
         }
     }
 }

@@ -16,16 +16,25 @@ FILE.. are the files of a record in their order, as `a.record.*`, and those of t
 and gives status 0; else the first difference is told with its number and both sides, with status 1. Steps that are not in the
 record end the replay there, with status 1; a file that is cut off is read up to the cut, and that is said.
 
+Files of two nodes, A and then B, of the merger M, or of two of the three may be given together. Each record is replayed, and of each
+instant it is told which of them had which block
+  57478860001 2006-06-06T07:00:00.020Z  11 A B M  12 A . M
+with a point where a row has no block of the PMU, a dash where there is no row, and counts behind the names where they are not the
+same. At the end it is told that all agree on every block that is present under one count; or, with status 1, the first two that do not.
+
 --frames prints the layouts and frames in hexadecimal, for `pdc show`; what is said of them then goes to standard error.
+--plain plays the record of one life also on a plain program, which is written another way and proved by itself: it asks each rule of
+the whole list of steps. So it is for short records, of at most 4000 steps.
 
 Examples:
   pdc replay a.record.*
+  pdc replay a.record.* b.record.* m.record.*
   pdc replay --frames a.record.* | pdc show";
 
 const EXPLAIN: &str =
     "Tells out of the record of a life what became of an instant: a line for each PMU, whether it was shown, and why not; when the row
 opened, what it waited for, at which tick it closed and when its frame went out. At the merger it tells of each PMU which node's block
-was shown. Times are in UTC, and are those at which it was written down.
+was shown. Times are in UTC: a datagram's is when it came, that of all else when it was written down.
 
 FILE.. are the files of a record in their order; the first ones may be gone. INSTANT is the number of the instant, as `pdc show` prints
 it, or its time, as 2026-11-24T12:03:04.580Z.
@@ -45,6 +54,8 @@ pub struct Replayed<'a> {
     pub files: Vec<&'a str>,
     /// The frames are printed.
     pub frames: bool,
+    /// It is played on the plain program too.
+    pub plain: bool,
 }
 
 /// What `explain` is to tell.
@@ -68,8 +79,33 @@ pub enum Asked<'a> {
     Explain(Explained<'a>),
 }
 
+/// A choice: its name, and what help says of it.
+type Choice = (&'static str, &'static str);
+
+/// The choices of `replay`,
+const OF_REPLAY: [Choice; 2] = [
+    ("frames", "Print the layouts and frames in hexadecimal"),
+    ("plain", "Play it on the plain program too"),
+];
+
+/// and those of `explain`.
+const OF_EXPLAIN: [Choice; 2] = [
+    ("absent", "List the instants with an absent block"),
+    ("delays", "Tell how late the data of each PMU comes"),
+];
+
+/// The words of `replay`,
+const FILES: Choice = ("FILE", "The files of the record, in their order");
+
+/// and those of `explain`.
+const FILES_AND_INSTANT: Choice = (
+    "FILE.. INSTANT",
+    "The files of the record, in their order, and the instant",
+);
+
 /// The words that have to be there, one or more.
-fn many<'a>(alloc: Global, name: &'a str, help: &'a str) -> Arg<'a> {
+fn many<'a>(alloc: Global, words: &Choice) -> Arg<'a> {
+    let (name, help) = *words;
     Arg::new(alloc, name)
         .required(true)
         .num_args(1..)
@@ -78,40 +114,52 @@ fn many<'a>(alloc: Global, name: &'a str, help: &'a str) -> Arg<'a> {
 }
 
 /// A choice.
-fn flag<'a>(alloc: Global, name: &'a str, help: &'a str) -> Arg<'a> {
+fn flag<'a>(alloc: Global, choice: &Choice) -> Arg<'a> {
+    let (name, help) = *choice;
     Arg::new(alloc, name)
         .long(name)
         .action(ArgAction::SetTrue)
         .help(help)
 }
 
+/// A command without words and choices.
+fn named<'a>(
+    alloc: Global,
+    name: &'a str,
+    full_name: &str,
+    about: &'a str,
+    long: &'a str,
+) -> Result<Command<'a>, AllocError> {
+    let command = Command::new(alloc, name).bin_name(full_name)?;
+    Ok(command.about(about).long_about(long))
+}
+
+/// The command, which takes these words, one or more, and has these two choices.
+fn with_words<'a>(
+    alloc: Global,
+    command: Command<'a>,
+    words: &Choice,
+    choices: &[Choice; 2],
+) -> Result<Command<'a>, AllocError> {
+    let [first, second] = choices;
+    command
+        .arg(many(alloc, words))?
+        .arg(flag(alloc, first))?
+        .arg(flag(alloc, second))
+}
+
 /// The command `replay`.
 fn replay<'a>(alloc: Global) -> Result<Command<'a>, AllocError> {
-    Command::new(alloc, "replay")
-        .bin_name("pdc replay")?
-        .about("Play a record again, and compare each answer and each frame")
-        .long_about(REPLAY)
-        .arg(many(alloc, "FILE", "The files of the record, in their order"))?
-        .arg(flag(
-            alloc,
-            "frames",
-            "Print the layouts and frames in hexadecimal",
-        ))
+    let about = "Play records again, and compare each answer and each frame";
+    let command = named(alloc, "replay", "pdc replay", about, REPLAY)?;
+    with_words(alloc, command, &FILES, &OF_REPLAY)
 }
 
 /// The command `explain`.
 fn explain<'a>(alloc: Global) -> Result<Command<'a>, AllocError> {
-    Command::new(alloc, "explain")
-        .bin_name("pdc explain")?
-        .about("Tell out of a record what became of an instant")
-        .long_about(EXPLAIN)
-        .arg(many(
-            alloc,
-            "FILE.. INSTANT",
-            "The files of the record, in their order, and the instant",
-        ))?
-        .arg(flag(alloc, "absent", "List the instants with an absent block"))?
-        .arg(flag(alloc, "delays", "Tell how late the data of each PMU comes"))
+    let about = "Tell out of a record what became of an instant";
+    let command = named(alloc, "explain", "pdc explain", about, EXPLAIN)?;
+    with_words(alloc, command, &FILES_AND_INSTANT, &OF_EXPLAIN)
 }
 
 /// Both commands.
@@ -166,6 +214,15 @@ fn question_of<'a>(alloc: Global, matches: &ArgMatches<'a>) -> Result<Explained<
     Ok(Explained { files, question })
 }
 
+/// What is asked of `replay`.
+fn replayed_of<'a>(alloc: Global, matches: &ArgMatches<'a>) -> Result<Replayed<'a>, AllocError> {
+    Ok(Replayed {
+        files: given(alloc, matches, "FILE")?,
+        frames: matches.get_flag("frames"),
+        plain: matches.get_flag("plain"),
+    })
+}
+
 /// What these words ask for.
 ///
 /// # Errors
@@ -175,13 +232,7 @@ pub fn words_of<'a>(alloc: Global, words: &'a [String]) -> Result<Asked<'a>, Err
     let matches = program(alloc)?.try_get_matches_from(words)?;
     match matches.subcommand() {
         Some(("explain", inner)) => Ok(Asked::Explain(question_of(alloc, inner)?)),
-        Some((_, inner)) => Ok(Asked::Replay(Replayed {
-            files: given(alloc, inner, "FILE")?,
-            frames: inner.get_flag("frames"),
-        })),
-        None => Ok(Asked::Replay(Replayed {
-            files: Vec::new(alloc),
-            frames: false,
-        })),
+        Some((_, inner)) => Ok(Asked::Replay(replayed_of(alloc, inner)?)),
+        None => Ok(Asked::Replay(replayed_of(alloc, &matches)?)),
     }
 }
