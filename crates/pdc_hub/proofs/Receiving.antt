@@ -91,9 +91,9 @@ receiving_idle told old middle new Answers taken refused h more = record {
 }
 
 -- where it ends
-pub received : {S : Type 0} (told : S → List Heard → Type 0) (old middle new : S) (Answers : Answering) (taken refused : ℕ) (last : Heard) (fault : Option HubFault)
-    → IsReceiving (HasTold told old middle) Answers taken refused → ((hs : List Heard) → told middle hs → told new (hs ++ last ∷ [])) → EndsBy last fault
-    → HasReceived (HasTold told old new) Answers taken refused fault
+pub received : {S Closed : Type 0} (told : S → List Heard → Type 0) (old middle new : S) (Answers : Answering) (taken refused : ℕ) (last : Heard) (fault : Option HubFault)
+    → IsReceiving (HasTold told old middle) Answers taken refused → ((hs : List Heard) → told middle hs → told new (hs ++ last ∷ [])) → EndsBy Closed last fault
+    → HasReceived (HasTold told old new) Answers Closed taken refused fault
 received told old middle new Answers taken refused last fault h more ends = record {
   served = h.served;
   last = last;

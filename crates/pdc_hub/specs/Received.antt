@@ -27,24 +27,24 @@ AreServed Answers (Gave bytes ∷ hs) (outcome ∷ os) = Answers bytes outcome �
 AreServed Answers (Idled ∷ hs) os = AreServed Answers hs os
 AreServed Answers hs os = ⊥
 
--- A receiver ends so by what it heard last: by a datagram only where it could not be delivered, by a pause at the close alone, and by
--- the end of its source; by the failure of its source, or where that gave up.
-abbrev pub EndsBy : Heard → Option HubFault → Type 0
-EndsBy (Gave bytes) (Some fault) = IsOfDelivery fault
-EndsBy Idled None = Unit {0}
-EndsBy Ended None = Unit {0}
-EndsBy Failed (Some SourceFault) = Unit {0}
-EndsBy GaveUp (Some Stuck) = Unit {0}
-EndsBy last fault = ⊥
+-- A receiver ends so by what it heard last: by a datagram only where it could not be delivered, by a pause only where the hub was closed,
+-- and by the end of its source; by the failure of its source, or where that gave up.
+abbrev pub EndsBy : (Closed : Type 0) → Heard → Option HubFault → Type 0
+EndsBy Closed (Gave bytes) (Some fault) = IsOfDelivery fault
+EndsBy Closed Idled None = Closed
+EndsBy Closed Ended None = Unit {0}
+EndsBy Closed Failed (Some SourceFault) = Unit {0}
+EndsBy Closed GaveUp (Some Stuck) = Unit {0}
+EndsBy Closed last fault = ⊥
 
 -- All that a receiver heard: each datagram was delivered and answered, but for the last thing heard, by which it ended. So many were
 -- taken, and so many refused.
-pub record HasReceived (Told : List Heard → Type 0) (Answers : Answering) (taken refused : ℕ) (fault : Option HubFault) : Type 0 where
+pub record HasReceived (Told : List Heard → Type 0) (Answers : Answering) (Closed : Type 0) (taken refused : ℕ) (fault : Option HubFault) : Type 0 where
   pub served : List Heard
   pub last : Heard
   pub told : Told (served ++ last ∷ [])
   pub outcomes : List Outcome
   pub are_served : AreServed Answers served outcomes
-  pub ends : EndsBy last fault
+  pub ends : EndsBy Closed last fault
   pub taken_counted : taken ≡ sum (map taken_by outcomes)
   pub refused_counted : refused ≡ sum (map refused_by outcomes)

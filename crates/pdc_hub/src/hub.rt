@@ -6,6 +6,7 @@ ghost use Rattle.pdc_life.specs.Answer.{pop_answer, tick_answer, waiting_counts}
 ghost use Rattle.pdc_life.specs.Given.{Given};
 ghost use Rattle.pdc_life.specs.Life.{Entry, changes};
 ghost use Rattle.pdc_life.specs.Published.{layout_wire};
+ghost use Rattle.pdc_hub.specs.Closing.{closing_of};
 ghost use Rattle.pdc_hub.specs.Counted.{CountsAtLeast, configurations, configured_by, refused_by, taken_by};
 ghost use Rattle.pdc_hub.specs.Faults.{IsOfDelivery};
 ghost use Rattle.pdc_hub.specs.Replay.{InSomeLife, WasRead, number_in};
@@ -23,12 +24,14 @@ use pdc_ports::Numbered;
 use pdc_row::DueRow;
 use std::alloc::Global;
 use std::sync::ledger::{Ledger, Share};
-use std::sync::{Mutex, Wait};
+use std::sync::{Mutex, OnceLock, OnceToken, Wait};
 
-/// The lock round a recorder. Each call takes it once, and may wait for it.
+/// The lock round a recorder, and beside it whether no more is to be delivered. Each call but [`Hub::closed`] takes the lock once, and may
+/// wait for it.
 #[derive(Drop)]
 pub struct Hub<C: Core + Drop, N: Naming<C::Settings>, T: Ledger, F: Ledger, G: Ledger, P: Ledger> {
     table: Mutex<Recorder<C, N, T, F, G, P>>,
+    closing: OnceLock<()>,
 }
 
 impl<C: Core + Drop, N: Naming<C::Settings>, T: Ledger, F: Ledger, G: Ledger, P: Ledger> Hub<
@@ -78,6 +81,7 @@ impl<C: Core + Drop, N: Naming<C::Settings>, T: Ledger, F: Ledger, G: Ledger, P:
         (
             Hub {
                 table: Mutex::new(Recorder::new(alloc, base, now, limit, floor, books)),
+                closing: OnceLock::new(),
             },
             Shares {
                 taken: mine_taken,
@@ -183,7 +187,9 @@ impl<C: Core + Drop, N: Naming<C::Settings>, T: Ledger, F: Ledger, G: Ledger, P:
     /// How arrivals were answered. Who has all parts learns that these are the amounts of the shares.
     pub fn totals<R: Wait>(&self, rt: &R, all: &mut Shares<T, F, G>) -> Counts
         requires { (all.old.taken.parts ≡ T.parts) × (all.old.refused.parts ≡ F.parts) × (all.old.configured.parts ≡ G.parts) }
-        ensures { (result.taken ≡ all.old.taken.amount) × (result.refused ≡ all.old.refused.amount) × (configurations result ≡ all.old.configured.amount) }
+        ensures amounts { (result.taken ≡ all.old.taken.amount) × (result.refused ≡ all.old.refused.amount) × (configurations result ≡ all.old.configured.amount) }
+        ensures kept { (all.new.taken.amount ≡ all.old.taken.amount) × (all.new.refused.amount ≡ all.old.refused.amount) × (all.new.configured.amount ≡ all.old.configured.amount) }
+        ensures parts { (all.new.taken.parts ≡ all.old.taken.parts) × (all.new.refused.parts ≡ all.old.refused.parts) × (all.new.configured.parts ≡ all.old.configured.parts) }
     {
         self.table.lock(rt).totals(all)
     }
@@ -195,13 +201,20 @@ impl<C: Core + Drop, N: Naming<C::Settings>, T: Ledger, F: Ledger, G: Ledger, P:
         self.table.lock(rt).waiting()
     }
 
-    /// No more is to be delivered.
-    pub fn close<R: Wait>(&self, rt: &R) {
-        self.table.lock(rt).close();
+    /// No more is to be delivered. Only who has all parts of the aligner's share closes it, so no receiver does. Answers what shows it.
+    pub fn close<R: Wait>(&self, rt: &R, all: &mut Share<P>) -> OnceToken<'_, ()>
+        requires { (all.old.parts ≡ P.parts) × (0 < all.old.parts) }
+        ensures closed { result.of ≡ closing_of self.now }
+        ensures kept { all.new ≡ all.old }
+    {
+        let _ = all;
+        self.closing.init(rt, || -> () {})
     }
 
-    /// Whether no more is to be delivered.
-    pub fn closed<R: Wait>(&self, rt: &R) -> bool {
-        self.table.lock(rt).closed()
+    /// What shows that no more is to be delivered, if that is so.
+    pub fn closed(&self) -> Option<OnceToken<'_, ()>>
+        ensures { IfSome result (λ token. token.of ≡ closing_of self.now) }
+    {
+        self.closing.witness()
     }
 }

@@ -1,5 +1,6 @@
 //! One receiver: what it reads of its source, outside the lock, it delivers.
-ghost use Rattle.std.specs.Prelude.{◌≡◌, ◌<◌, ◌≤◌, ◌+◌, ◌^◌, ℕ, IfErr, IfOk, IfSome, OnErr, Some, length};
+ghost use Rattle.std.specs.Prelude.{◌≡◌, ◌<◌, ◌≤◌, ◌+◌, ◌^◌, ℕ, IfErr, IfOk, IfSome, IsSome, OnErr, Some, length};
+ghost use Rattle.pdc_hub.specs.Closing.{closing_of};
 ghost use Rattle.pdc_hub.specs.Counted.{refused_by, taken_by};
 ghost use Rattle.pdc_ports.specs.Failures.{HasRisen};
 ghost use Rattle.pdc_ports.specs.Heard.{HasTold};
@@ -14,12 +15,12 @@ use pdc_core::{Core, Reads};
 use pdc_life::Outcome;
 use pdc_ports::{Next, Numbered, Source};
 use std::alloc::Global;
-use std::sync::Wait;
 use std::sync::ledger::Ledger;
+use std::sync::{OnceToken, Wait};
 
 /// What a receiver hands back: its shares, what they count, and why it ended, if by a fault.
 #[derive(Drop)]
-pub struct Received<T: Ledger, F: Ledger, G: Ledger> {
+pub struct Received<'h, T: Ledger, F: Ledger, G: Ledger> {
     /// Its shares, of one part each.
     pub shares: Shares<T, F, G>,
     /// How many of its datagrams were taken.
@@ -28,6 +29,8 @@ pub struct Received<T: Ledger, F: Ledger, G: Ledger> {
     pub refused: u64,
     /// Why it ended, if not with its source or at the close.
     pub fault: Option<HubFault>,
+    /// What shows that the hub was closed, where it ended at the close.
+    pub closed: Option<OnceToken<'h, ()>>,
     pub ghost one_part: { (shares.taken.parts ≡ 1) × (shares.refused.parts ≡ 1) × (shares.configured.parts ≡ 1) },
     pub ghost same: { (shares.taken.amount ≡ taken) × (shares.refused.amount ≡ refused) },
 }
@@ -70,6 +73,7 @@ fn hand_in<
 /// Reads a source to its end, or to the first idle turn after the close, and delivers each datagram whole, for the stream. What is read is
 /// read, checked and kept outside the lock.
 pub fn receive<
+    'h,
     C: Core + Drop,
     N: Naming<C::Settings>,
     T: Ledger,
@@ -85,16 +89,17 @@ pub fn receive<
     stream: usize,
     source: &mut S,
     buffer: Vec<u8>,
-    hub: &Hub<C, N, T, F, G, P>,
+    hub: &'h Hub<C, N, T, F, G, P>,
     shares: Shares<T, F, G>,
-) -> Received<T, F, G>
+) -> Received<'h, T, F, G>
     requires settings { N.settings ≡ Some settings.now }
     requires stream { stream < C.Settings.streams settings.now }
     requires parts { (shares.taken.parts ≡ 1) × (shares.refused.parts ≡ 1) × (shares.configured.parts ≡ 1) }
     requires amounts { (shares.taken.amount ≡ 0) × (shares.refused.amount ≡ 0) }
     // Each datagram that the source gave was delivered whole, for this stream, and answered, but for one by which it ended; it ended by the
-    // last thing that it heard.
-    ensures received { HasReceived (HasTold S.told source.old source.new) (IsAnswerFor C.rules C.stands_for N.given (C.Settings.says settings.now) stream) result.taken result.refused result.fault }
+    // last thing that it heard, and by a pause only where it hands back what shows that the hub was closed.
+    ensures received { HasReceived (HasTold S.told source.old source.new) (IsAnswerFor C.rules C.stands_for N.given (C.Settings.says settings.now) stream) (IsSome result.closed) result.taken result.refused result.fault }
+    ensures closed { IfSome result.closed (λ token. token.of ≡ closing_of hub.now) }
     ensures causes { IfSome result.fault IsOfReceiver }
     ensures fault { result.fault ≡ Some HubFault.SourceFault → HasRisen (S.failures_of source.old) (S.failures_of source.new) }
 {
@@ -124,40 +129,42 @@ pub fn receive<
                     }
                     Err(fault) => {
                         source.answered(None);
-                        return handed_back(shares, taken, refused, Some(fault));
+                        return handed_back(shares, taken, refused, Some(fault), None);
                     }
                 }
             }
             Next::Idle => {
-                if hub.closed(rt) {
-                    return handed_back(shares, taken, refused, None);
+                if let Some(token) = hub.closed() {
+                    return handed_back(shares, taken, refused, None, Some(token));
                 }
             }
-            Next::End => return handed_back(shares, taken, refused, None),
+            Next::End => return handed_back(shares, taken, refused, None, None),
             Next::Fault => {
-                return handed_back(shares, taken, refused, Some(HubFault::SourceFault));
+                return handed_back(shares, taken, refused, Some(HubFault::SourceFault), None);
             }
-            Next::Stuck => return handed_back(shares, taken, refused, Some(HubFault::Stuck)),
+            Next::Stuck => return handed_back(shares, taken, refused, Some(HubFault::Stuck), None),
         }
     }
     unreachable!()
 }
 
 /// What is handed back.
-fn handed_back<T: Ledger, F: Ledger, G: Ledger>(
+fn handed_back<'h, T: Ledger, F: Ledger, G: Ledger>(
     shares: Shares<T, F, G>,
     taken: u64,
     refused: u64,
     fault: Option<HubFault>,
-) -> Received<T, F, G>
+    closed: Option<OnceToken<'h, ()>>,
+) -> Received<'h, T, F, G>
     requires parts { (shares.taken.parts ≡ 1) × (shares.refused.parts ≡ 1) × (shares.configured.parts ≡ 1) }
     requires amounts { (shares.taken.amount ≡ taken) × (shares.refused.amount ≡ refused) }
-    ensures { (result.fault ≡ fault) × (result.taken ≡ taken) × (result.refused ≡ refused) }
+    ensures { (result.fault ≡ fault) × (result.taken ≡ taken) × (result.refused ≡ refused) × (result.closed ≡ closed.entry) }
 {
     Received {
         shares,
         taken,
         refused,
         fault,
+        closed,
     }
 }

@@ -47,8 +47,6 @@ pub struct Recorder<
     pub top: Book<P>,
     /// That instant.
     pub popped: u64,
-    /// No more is to be delivered.
-    pub closed: bool,
     pub ghost taken_is: { (C.counts_of core.state).taken ≡ taken.total },
     pub ghost refused_is: { (C.counts_of core.state).refused ≡ refused.total },
     pub ghost configured_is: { configurations (C.counts_of core.state) ≡ configured.total },
@@ -83,7 +81,6 @@ impl<C: Core + Drop, N: Naming<C::Settings>, T: Ledger, F: Ledger, G: Ledger, P:
         ensures state { result.core.state ≡ now }
         ensures events { result.core.events.items ≡ [] }
         ensures limit { result.core.limit ≡ limit }
-        ensures goes { result.closed ≡ false }
     {
         let Books {
             taken,
@@ -99,7 +96,6 @@ impl<C: Core + Drop, N: Naming<C::Settings>, T: Ledger, F: Ledger, G: Ledger, P:
             configured,
             top,
             popped: floor,
-            closed: false,
         }
     }
 
@@ -140,7 +136,6 @@ impl<C: Core + Drop, N: Naming<C::Settings>, T: Ledger, F: Ledger, G: Ledger, P:
         ensures causes { IfErr result IsOfDelivery }
         ensures err { OnErr result ((self.new.core.state ≡ self.old.core.state) × (mine.new.taken.amount ≡ mine.old.taken.amount)
             × (mine.new.refused.amount ≡ mine.old.refused.amount) × (mine.new.configured.amount ≡ mine.old.configured.amount)) }
-        ensures goes { self.new.closed ≡ self.old.closed }
     {
         self.audit(mine);
         if self.is_used_up() {
@@ -154,7 +149,6 @@ impl<C: Core + Drop, N: Naming<C::Settings>, T: Ledger, F: Ledger, G: Ledger, P:
         ensures core { self.new.core ≡ self.old.core }
         ensures totals { (self.new.taken.total ≡ self.old.taken.total) × (self.new.refused.total ≡ self.old.refused.total)
             × (self.new.configured.total ≡ self.old.configured.total) }
-        ensures goes { self.new.closed ≡ self.old.closed }
         ensures counted { CountsAtLeast (C.counts_of self.old.core.state) mine.old.taken.amount mine.old.refused.amount mine.old.configured.amount }
         ensures most { (mine.new.taken.amount < 2 ^ 64) × (mine.new.refused.amount < 2 ^ 64) }
         ensures amounts { (mine.new.taken.amount ≡ mine.old.taken.amount) × (mine.new.refused.amount ≡ mine.old.refused.amount)
@@ -203,7 +197,6 @@ impl<C: Core + Drop, N: Naming<C::Settings>, T: Ledger, F: Ledger, G: Ledger, P:
         ensures causes { OnErr result (result ≡ Err HubFault.NoMemory) }
         ensures err { OnErr result ((self.new.core.state ≡ self.old.core.state) × (mine.new.taken.amount ≡ mine.old.taken.amount)
             × (mine.new.refused.amount ≡ mine.old.refused.amount) × (mine.new.configured.amount ≡ mine.old.configured.amount)) }
-        ensures goes { self.new.closed ≡ self.old.closed }
     {
         let Recorder {
             core,
@@ -237,7 +230,6 @@ impl<C: Core + Drop, N: Naming<C::Settings>, T: Ledger, F: Ledger, G: Ledger, P:
             (numbered.answer ≡ ticked_of (changes E) (tick_answer g E now counts.now)) × (numbered.step ≡ number_in E)) ∥₁) }
         ensures causes { OnErr result (result ≡ Err HubFault.NoMemory) }
         ensures err { OnErr result (self.new.core.state ≡ self.old.core.state) }
-        ensures goes { self.new.closed ≡ self.old.closed }
     {
         let Recorder { core, .. } = self;
         let step = core.step();
@@ -264,7 +256,6 @@ impl<C: Core + Drop, N: Naming<C::Settings>, T: Ledger, F: Ledger, G: Ledger, P:
         ensures parts { all.new.parts ≡ all.old.parts }
         ensures causes { OnErr result (result ≡ Err HubFault.NoMemory) }
         ensures err { OnErr result ((self.new.core.state ≡ self.old.core.state) × (all.new.amount ≡ all.old.amount)) }
-        ensures goes { self.new.closed ≡ self.old.closed }
     {
         let Recorder {
             core,
@@ -316,7 +307,9 @@ impl<C: Core + Drop, N: Naming<C::Settings>, T: Ledger, F: Ledger, G: Ledger, P:
     /// How arrivals were answered. Who has all parts learns that these are the amounts of the shares.
     pub fn totals(&mut self, all: &mut Shares<T, F, G>) -> Counts
         requires { (all.old.taken.parts ≡ T.parts) × (all.old.refused.parts ≡ F.parts) × (all.old.configured.parts ≡ G.parts) }
-        ensures { (result.taken ≡ all.old.taken.amount) × (result.refused ≡ all.old.refused.amount) × (configurations result ≡ all.old.configured.amount) }
+        ensures amounts { (result.taken ≡ all.old.taken.amount) × (result.refused ≡ all.old.refused.amount) × (configurations result ≡ all.old.configured.amount) }
+        ensures kept { (all.new.taken.amount ≡ all.old.taken.amount) × (all.new.refused.amount ≡ all.old.refused.amount) × (all.new.configured.amount ≡ all.old.configured.amount) }
+        ensures parts { (all.new.taken.parts ≡ all.old.taken.parts) × (all.new.refused.parts ≡ all.old.refused.parts) × (all.new.configured.parts ≡ all.old.configured.parts) }
     {
         let counts = self.counts();
         let Recorder {
@@ -337,21 +330,6 @@ impl<C: Core + Drop, N: Naming<C::Settings>, T: Ledger, F: Ledger, G: Ledger, P:
         ensures some { ∥ InSomeLife C.stands_for N.given (λ state g E. result ≡ waiting_counts g E) ∥₁ }
     {
         self.core.state.waiting()
-    }
-
-    /// No more is to be delivered.
-    pub fn close(&mut self)
-        ensures core { self.new.core ≡ self.old.core }
-        ensures closed { self.new.closed ≡ true }
-    {
-        self.closed = true;
-    }
-
-    /// Whether no more is to be delivered.
-    pub fn closed(&self) -> bool
-        ensures { result ≡ self.now.closed }
-    {
-        self.closed
     }
 }
 

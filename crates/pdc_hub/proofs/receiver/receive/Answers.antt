@@ -1,4 +1,4 @@
-use Rattle.std.proofs.Common.{rules, ◌≡◌, ◌+◌, ℕ, List, ◌∷◌, ◌++◌, [], Some, None, subst, take}
+use Rattle.std.proofs.Common.{rules, ◌≡◌, ◌+◌, ℕ, List, ◌∷◌, ◌++◌, [], Some, None, refl, subst, take}
 use Rattle.pdc_ports.specs.Heard.{Heard, Gave, Idled, Ended, Failed, GaveUp}
 use Rattle.pdc_hub.specs.declared.fault.HubFault.TheVariants.{SourceFault, Stuck}
 use Rattle.pdc_hub.specs.Counted.{refused_by, taken_by}
@@ -53,10 +53,10 @@ loop-preserved g c = (
   receiving_idle g.S.Source.told c.args.source.now c.loop.source c.next-in-loop.new.self _ c.loop.taken c.loop.refused c.loop.invariant.6 c.in-Idle.ensures.tells,
 )
 
-pub returns-then-closed-clause-received : goal.returns-then-closed-clause-received
-returns-then-closed-clause-received g c =
-    let h = received g.S.Source.told c.args.source.now c.loop.source c.next-in-loop.new.self _ c.loop.taken c.loop.refused Idled None c.loop.invariant.6 c.in-Idle.ensures.tells tt in
-    rw (c.handed_back-then-closed.ensures.0, c.handed_back-then-closed.ensures.1, c.handed_back-then-closed.ensures.2) h
+pub returns-in-Some-closed-clause-received : goal.returns-in-Some-closed-clause-received
+returns-in-Some-closed-clause-received g c =
+    let h = received g.S.Source.told c.args.source.now c.loop.source c.next-in-loop.new.self _ c.loop.taken c.loop.refused Idled None c.loop.invariant.6 c.in-Idle.ensures.tells refl in
+    rw (c.handed_back-in-Some-closed.ensures.0, c.handed_back-in-Some-closed.ensures.1, c.handed_back-in-Some-closed.ensures.2, c.handed_back-in-Some-closed.ensures.3) h
 
 pub returns-in-End-clause-received : goal.returns-in-End-clause-received
 returns-in-End-clause-received g c =
