@@ -7,10 +7,11 @@ ghost use Rattle.pdc_aligner.specs.Opened.{IsOpenedWith};
 ghost use Rattle.pdc_aligner.specs.Rate.{IsAtRate};
 ghost use Rattle.pdc_aligner.specs.Sequence.{HasPutData, IsCounted, Rises, instants_of};
 ghost use Rattle.pdc_aligner.specs.Turns.{HasGiven, HasPut, HasTurned, IsAligned, IsAnswered, NoneFalls, turn_at};
+ghost use Rattle.pdc_hub.specs.Closing.{closing_of};
 ghost use Rattle.pdc_pipe.specs.Pipe.{log};
 ghost use Rattle.pdc_pipe.specs.declared.message.Message.{Message};
 ghost use Rattle.pdc_pipe.specs.declared.message.Message.TheVariants.{End};
-ghost use Rattle.pdc_publisher.specs.Publisher.{last_in, mark_in, output_in};
+ghost use Rattle.pdc_publisher.specs.Publisher.{last_in, lead_in, mark_in, output_in};
 
 use crate::clearing::tick_cleared;
 use crate::layouts::{put_layout_where, second_of};
@@ -25,8 +26,8 @@ use pdc_pipe::{Log, Message, Sender, close};
 use pdc_ports::{Did, MAX_PMUS, Numbered, Ticker, Told};
 use pdc_publisher::Publisher;
 use std::alloc::Global;
-use std::sync::Wait;
 use std::sync::ledger::{Ledger, Share};
+use std::sync::{OnceToken, Wait};
 
 /// Tells the ticker of a tick.
 fn note_tick<K: Ticker>(
@@ -95,6 +96,7 @@ fn turn<
     ensures failed { OnErr result (HasPutData C.stands_for N.given (output_in publisher.old) (view pass.old).put (view pass.new).put) }
     ensures none_falls { NoneFalls (M.stored (mark_in publisher.old)).counts (M.stored (mark_in publisher.new)).counts }
     ensures output { output_in publisher.new ≡ output_in publisher.old }
+    ensures lead { lead_in publisher.new ≡ lead_in publisher.old }
     ensures out { OnOk result (last_in publisher.new ≡ top.new.amount) }
     ensures causes { IfErr result IsOfAligner }
     ensures device { HasDevice (standing_of publisher.old) (standing_of publisher.new) result }
@@ -189,7 +191,9 @@ fn turns<
     ensures counted { IfOk result (λ published. published ≡ length (instants_of (view pass.new).put)) }
     ensures turned { HasTurned C.stands_for N.given (output_in publisher.old) pace.now.rate pace.now.layout_every (M.stored (mark_in publisher.old)).counts (M.stored (mark_in publisher.new)).counts (HasGiven K.gave ticker.old ticker.new) result (view pass.new).put }
     ensures output { output_in publisher.new ≡ output_in publisher.old }
+    ensures lead { lead_in publisher.new ≡ lead_in publisher.old }
     ensures out { OnOk result (last_in publisher.new ≡ top.new.amount) }
+    ensures parts { top.new.parts ≡ top.old.parts }
     ensures causes { IfErr result IsOfAligner }
     ensures device { HasDevice (standing_of publisher.old) (standing_of publisher.new) result }
 {
@@ -227,16 +231,26 @@ fn turns<
     unreachable!()
 }
 
+/// How the aligner ended.
+#[derive(Drop)]
+pub struct Aligned<'h> {
+    /// How many rows were published, or by what it failed.
+    pub outcome: Result<u64, HubFault>,
+    /// What shows that the hub is closed.
+    pub closed: OnceToken<'h, ()>,
+}
+
 /// Ticks until the ticker ends or a call fails; then closes the hub and puts the end mark. At each tick the mark is first raised to the
 /// counts that wait, all due rows are popped, published and put on the channel in rising order, and then the layout frame is, where the
 /// tick adopted, or where an earlier one did and the tick's number is a multiple of `layout_every`. Then the ticker is told how the run
-/// stands, where it wants to be. Answers how many rows were published.
+/// stands, where it wants to be.
 ///
 /// # Errors
 ///
 /// `Device` where the mark's device failed; `NoMemory` where memory was wanted, and a row that was popped is then lost; `Stuck` where the
 /// channel's other end is gone.
 pub fn align<
+    'h,
     C: Core + Drop,
     N: Naming<C::Settings>,
     T: Ledger,
@@ -249,14 +263,14 @@ pub fn align<
 >(
     rt: &R,
     alloc: Global,
-    hub: &Hub<C, N, T, F, G, P>,
+    hub: &'h Hub<C, N, T, F, G, P>,
     top: &mut Share<P>,
     publisher: &mut Publisher<M>,
     ticker: &mut K,
     pace: &Pace,
     sender: &Sender,
     pass: &mut Pass<Message, Log>,
-) -> Result<u64, HubFault>
+) -> Aligned<'h>
     requires top { (top.old.parts ≡ P.parts) × (0 < top.old.parts) × (top.old.amount ≡ last_in publisher.old) }
     requires rate { IsAtRate N.given (output_in publisher.old).rate }
     // The core was opened with the start, the floor and the counts that the publisher's mark stores.
@@ -267,22 +281,31 @@ pub fn align<
     // The instants put strictly rise, lie above the last one published before, and are at most the floor that is stored then.
     ensures rising { Rises (last_in publisher.old) (instants_of (view pass.new).put) (M.stored (mark_in publisher.new)).floor }
     // Where it is Ok, all that were published were put, and so many they are; and the end mark was put last.
-    ensures published { IfOk result (λ published. published ≡ length (instants_of (view pass.new).put)) }
-    ensures closed { OnOk result ((body : List Message) × ((view pass.new).put ≡ body ++ End ∷ [])) }
+    ensures published { IfOk result.outcome (λ published. published ≡ length (instants_of (view pass.new).put)) }
+    ensures closed { OnOk result.outcome ((body : List Message) × ((view pass.new).put ≡ body ++ End ∷ [])) }
     // Tick by tick of those that the ticker gave: the data frames of rows as they were popped, and then the layout where it is told. The counts that ticks were handed
     // never fall, from those that were stored before to those that are stored then.
-    ensures laid { IsAligned C.stands_for N.given (output_in publisher.old) pace.now.rate pace.now.layout_every (M.stored (mark_in publisher.old)).counts (M.stored (mark_in publisher.new)).counts (HasGiven K.gave ticker.old ticker.new) result (view pass.new).put }
+    ensures laid { IsAligned C.stands_for N.given (output_in publisher.old) pace.now.rate pace.now.layout_every (M.stored (mark_in publisher.old)).counts (M.stored (mark_in publisher.new)).counts (HasGiven K.gave ticker.old ticker.new) result.outcome (view pass.new).put }
     ensures output { output_in publisher.new ≡ output_in publisher.old }
+    ensures lead { lead_in publisher.new ≡ lead_in publisher.old }
+    // The hub is closed.
+    ensures shut { result.closed.of ≡ closing_of hub.now }
     // Where it is Ok, the greatest instant that was popped is the last one that was published.
-    ensures out { OnOk result (last_in publisher.new ≡ top.new.amount) }
+    ensures out { OnOk result.outcome (last_in publisher.new ≡ top.new.amount) }
     // It fails only so, and by the device only where that failed.
-    ensures causes { IfErr result IsOfAligner }
-    ensures device { HasDevice (standing_of publisher.old) (standing_of publisher.new) result }
+    ensures causes { IfErr result.outcome IsOfAligner }
+    ensures device { HasDevice (standing_of publisher.old) (standing_of publisher.new) result.outcome }
 {
     let done = turns(rt, alloc, hub, top, publisher, ticker, pace, sender, pass);
-    hub.close(rt);
+    let closed = hub.close(rt, top);
     if !close(rt, sender, pass) {
-        return Err(HubFault::Stuck);
+        return Aligned {
+            outcome: Err(HubFault::Stuck),
+            closed,
+        };
     }
-    done
+    Aligned {
+        outcome: done,
+        closed,
+    }
 }

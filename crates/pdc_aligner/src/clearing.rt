@@ -5,7 +5,7 @@ ghost use Rattle.pdc_aligner.specs.Device.{HasDevice, IsOfAligner, standing_of};
 ghost use Rattle.pdc_aligner.specs.Turns.{NoneFalls};
 ghost use Rattle.pdc_life.specs.Answer.{tick_answer};
 ghost use Rattle.pdc_life.specs.Life.{changes};
-ghost use Rattle.pdc_publisher.specs.Publisher.{last_in, mark_in, output_in};
+ghost use Rattle.pdc_publisher.specs.Publisher.{last_in, lead_in, mark_in, output_in};
 ghost use Rattle.pdc_hub.specs.Replay.{InSomeLife, number_in};
 
 use pdc_align::Ticked;
@@ -28,6 +28,7 @@ fn clear_counts<M: Mark>(
     ensures floor { (M.stored (mark_in publisher.new)).floor ≡ (M.stored (mark_in publisher.old)).floor }
     ensures last { last_in publisher.new ≡ last_in publisher.old }
     ensures output { output_in publisher.new ≡ output_in publisher.old }
+    ensures lead { lead_in publisher.new ≡ lead_in publisher.old }
     ensures causes { OnErr result (result ≡ Err HubFault.Device) }
     ensures device { HasDevice (standing_of publisher.old) (standing_of publisher.new) result }
 {
@@ -68,6 +69,7 @@ pub fn tick_cleared<
     ensures floor { (M.stored (mark_in publisher.new)).floor ≡ (M.stored (mark_in publisher.old)).floor }
     ensures last { last_in publisher.new ≡ last_in publisher.old }
     ensures output { output_in publisher.new ≡ output_in publisher.old }
+    ensures lead { lead_in publisher.new ≡ lead_in publisher.old }
     ensures causes { IfErr result IsOfAligner }
     // Only a device that failed ends it so.
     ensures device { HasDevice (standing_of publisher.old) (standing_of publisher.new) result }

@@ -7,7 +7,7 @@ ghost use Rattle.pdc_aligner.specs.Device.{HasDevice, IsOfAligner, standing_of};
 ghost use Rattle.pdc_aligner.specs.Faulted.{fault_by};
 ghost use Rattle.pdc_aligner.specs.Sequence.{HasPutData, HasPutRow, IsCounted, IsPopped, Rises, instants_of};
 ghost use Rattle.pdc_pipe.specs.Pipe.{log};
-ghost use Rattle.pdc_publisher.specs.Publisher.{last_in, mark_in, output_in};
+ghost use Rattle.pdc_publisher.specs.Publisher.{last_in, lead_in, mark_in, output_in};
 ghost use Rattle.pdc_row.specs.RowView.{row_view};
 ghost use Rattle.pdc_tag.specs.declared.limits.TheConstants.{SECONDS};
 
@@ -63,6 +63,7 @@ fn publish_one<M: Mark, K: Ticker, R: Wait>(
     ensures device { HasDevice (standing_of publisher.old) (standing_of publisher.new) result }
     ensures counts { (M.stored (mark_in publisher.new)).counts ≡ (M.stored (mark_in publisher.old)).counts }
     ensures output { output_in publisher.new ≡ output_in publisher.old }
+    ensures lead { lead_in publisher.new ≡ lead_in publisher.old }
     ensures gave { (nows : List ℕ) → K.gave ticker.old nows → K.gave ticker.new nows }
 {
     let mut out: ArrayVec<u8, MAX_ROW_LEN> = ArrayVec::new();
@@ -162,6 +163,7 @@ pub fn publish_due<
     ensures device { HasDevice (standing_of publisher.old) (standing_of publisher.new) result }
     ensures counts { (M.stored (mark_in publisher.new)).counts ≡ (M.stored (mark_in publisher.old)).counts }
     ensures output { output_in publisher.new ≡ output_in publisher.old }
+    ensures lead { lead_in publisher.new ≡ lead_in publisher.old }
     ensures gave { (nows : List ℕ) → K.gave ticker.old nows → K.gave ticker.new nows }
 {
     for _ in rt.forever() {

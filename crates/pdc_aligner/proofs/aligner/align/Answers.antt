@@ -10,27 +10,27 @@ use Rattle.pdc_aligner.proofs.aligner.align.Goals as goal
 
 pub returns-then-not-close-clause-rising : goal.returns-then-not-close-clause-rising
 returns-then-not-close-clause-rising g c =
-    let same : (view c.close-2.new.pass).put ≡ (view c.turns-done.new.pass).put = search rules in
+    let same : (view c.close.new.pass).put ≡ (view c.turns-done.new.pass).put = search rules in
     rw same (rises_on _ _ _ _ c.turns-done.ensures.rising c.turns-done.ensures.stored)
 
 pub returns-clause-rising : goal.returns-clause-rising
 returns-clause-rising g c =
-    let more : (view c.close-2.new.pass).put ≡ (view c.turns-done.new.pass).put ++ End ∷ [] = search rules in
+    let more : (view c.close.new.pass).put ≡ (view c.turns-done.new.pass).put ++ End ∷ [] = search rules in
     rw (put_end _ _ more) (rises_on _ _ _ _ c.turns-done.ensures.rising c.turns-done.ensures.stored)
 
 pub returns-clause-published : goal.returns-clause-published
 returns-clause-published g c =
-    let more : (view c.close-2.new.pass).put ≡ (view c.turns-done.new.pass).put ++ End ∷ [] = search rules in
+    let more : (view c.close.new.pass).put ≡ (view c.turns-done.new.pass).put ++ End ∷ [] = search rules in
     rw (put_end _ _ more) c.turns-done.ensures.counted
 
 pub returns-then-not-close-clause-laid : goal.returns-then-not-close-clause-laid
 returns-then-not-close-clause-laid g c =
-    let same : (view c.close-2.new.pass).put ≡ (view c.turns-done.new.pass).put = search rules in
+    let same : (view c.close.new.pass).put ≡ (view c.turns-done.new.pass).put = search rules in
     aligned_open g.C.Core.stands_for g.N.Naming.given (output_in c.args.publisher.now) c.args.pace.now.rate c.args.pace.now.layout_every (g.M.Mark.stored (mark_in c.args.publisher.now)).counts (g.M.Mark.stored (mark_in c.turns-done.new.publisher)).counts (HasGiven g.K.Ticker.gave c.args.ticker.now c.turns-done.new.ticker)
-    c.turns-done.result (view c.turns-done.new.pass).put (view c.close-2.new.pass).put Stuck c.turns-done.ensures.turned same
+    c.turns-done.result (view c.turns-done.new.pass).put (view c.close.new.pass).put Stuck c.turns-done.ensures.turned same
 
 pub returns-clause-laid : goal.returns-clause-laid
 returns-clause-laid g c =
-    let more : (view c.close-2.new.pass).put ≡ (view c.turns-done.new.pass).put ++ End ∷ [] = search rules in
+    let more : (view c.close.new.pass).put ≡ (view c.turns-done.new.pass).put ++ End ∷ [] = search rules in
     aligned_ended g.C.Core.stands_for g.N.Naming.given (output_in c.args.publisher.now) c.args.pace.now.rate c.args.pace.now.layout_every (g.M.Mark.stored (mark_in c.args.publisher.now)).counts (g.M.Mark.stored (mark_in c.turns-done.new.publisher)).counts (HasGiven g.K.Ticker.gave c.args.ticker.now c.turns-done.new.ticker)
-    c.turns-done.result (view c.turns-done.new.pass).put (view c.close-2.new.pass).put c.turns-done.ensures.turned more
+    c.turns-done.result (view c.turns-done.new.pass).put (view c.close.new.pass).put c.turns-done.ensures.turned more

@@ -21,6 +21,7 @@ loop-init g c = (
   search rules,
   turning_begins g.C.Core.stands_for g.N.Naming.given (output_in c.args.publisher.now) g.K.Ticker.gave c.args.ticker.now c.args.pace.now.rate c.args.pace.now.layout_every (g.M.Mark.stored (mark_in c.args.publisher.now)).counts (view c.args.pass.now).put (search rules) 0 (search rules),
   sound_same _ _ refl,
+  search rules,
 )
 
 pub returns-in_default-clause-turned : goal.returns-in_default-clause-turned
@@ -65,4 +66,5 @@ loop-preserved g c =
           c.loop.place c.in-Some-next.now c.second_of-soc.result c.loop.adopted c.in-Ok.adopts c.if-adopted.repeat c.if-adopted-2.adopted
           c.loop.invariant.9 c.in-Ok.ensures.answered c.turn.ensures.none_falls gives c.second_of-soc.ensures repeats after laid,
       sound_on _ _ _ c.loop.invariant.10 (sound_of _ _ _ c.in-Ok.ensures.device),
+      search rules,
     )

@@ -4,7 +4,7 @@ use Rattle.crossbeam_channel.specs.Ends.{sends_on}
 use Rattle.pdc_pipe.specs.Pipe.{log}
 use Rattle.pdc_aligner.specs.Sequence.{instants_of, IsCounted, Rises}
 use Rattle.pdc_aligner.specs.Turns.{HasGiven}
-use Rattle.pdc_publisher.specs.Publisher.{last_in, mark_in, output_in}
+use Rattle.pdc_publisher.specs.Publisher.{last_in, lead_in, mark_in, output_in}
 use Rattle.pdc_aligner.specs.Device.{standing_of}
 use Rattle.pdc_aligner.proofs.Devices.{IsSound}
 use Rattle.pdc_aligner.proofs.Laying.{IsTurning}
@@ -21,3 +21,4 @@ invariant-loop g l =
     × (l.place < l.every)
     × IsTurning {C = g.row.C.Denot} g.C.Core.stands_for g.N.Naming.given (output_in l.initial.publisher) l.pace.rate l.every (g.M.Mark.stored (mark_in l.initial.publisher)).counts (g.M.Mark.stored (mark_in l.publisher)).counts (HasGiven g.K.Ticker.gave l.initial.ticker l.ticker) (view l.pass).put l.adopted l.place
     × IsSound (standing_of l.initial.publisher) (standing_of l.publisher)
+    × (lead_in l.publisher ≡ lead_in l.initial.publisher)

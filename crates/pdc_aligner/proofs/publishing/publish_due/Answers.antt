@@ -28,4 +28,5 @@ loop-preserved g c =
       search rules,
       sound_on _ _ _ c.loop.invariant.10 (sound_of _ _ _ c.in_default-publish_one.ensures.device),
       λ nows h. c.publish_one.ensures.gave nows (c.loop.invariant.11 nows h),
+      search rules,
     )

@@ -5,7 +5,7 @@ use Rattle.pdc_pipe.specs.Pipe.{log}
 use Rattle.pdc_aligner.specs.Device.{standing_of}
 use Rattle.pdc_aligner.proofs.Devices.{IsSound}
 use Rattle.pdc_aligner.specs.Sequence.{HasPutData, instants_of, IsCounted, Rises}
-use Rattle.pdc_publisher.specs.Publisher.{last_in, mark_in, output_in}
+use Rattle.pdc_publisher.specs.Publisher.{last_in, lead_in, mark_in, output_in}
 use Rattle.pdc_aligner.proofs.publishing.publish_due.Given as goal
 
 abbrev pub invariant-loop : goal.invariant-loop
@@ -20,3 +20,4 @@ invariant-loop g l =
     × ((g.M.Mark.stored (mark_in l.publisher)).counts ≡ (g.M.Mark.stored (mark_in l.initial.publisher)).counts)
     × IsSound (standing_of l.initial.publisher) (standing_of l.publisher)
     × ((nows : List ℕ) → g.K.Ticker.gave l.initial.ticker nows → g.K.Ticker.gave l.ticker nows)
+    × (lead_in l.publisher ≡ lead_in l.initial.publisher)
