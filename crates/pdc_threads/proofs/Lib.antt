@@ -1,1 +1,2 @@
+mod Endings
 mod Outcomes

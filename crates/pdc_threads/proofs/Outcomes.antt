@@ -1,23 +1,26 @@
 -- What a run tells of what was put.
-use Rattle.std.proofs.Common.{arith, ◌≡◌, ℕ, Option, Result, Ok, Err, IfOk, OnOk, Bool, true, false, List, [], ◌∷◌, ◌++◌, refl, sym, ap, ◌∙◌, subst, append-nil, vec_len}
-use Rattle.pdc_aligner.specs.Sequence.{instants_of}
+use Rattle.std.proofs.Common.{arith, rules, ◌≡◌, ◌≤◌, ℕ, Option, Result, Ok, Err, IfOk, OnOk, Bool, true, false, List, [], ◌∷◌, ◌++◌, length, map, refl, sym, ap, ◌∙◌, subst, append-nil, vec_len}
+use Rattle.pdc_aligner.specs.Device.{HasDevice, Standing}
+use Rattle.pdc_aligner.specs.Sequence.{Rises, instants_of}
+use Rattle.pdc_aligner.specs.declared.pace.Pace.{Pace}
 use Rattle.pdc_aligner.specs.Turns.{HasGiven, IsAligned, end_mark}
 use Rattle.pdc_life.specs.Given.{Given}
 use Rattle.pdc_output.specs.declared.output.Output.{Output}
+use Rattle.pdc_hub.specs.Received.{Answering}
 use Rattle.pdc_hub.specs.Replay.{Lives}
+use Rattle.pdc_hub.specs.declared.fault.HubFault.TheVariants.{NoMemory}
+use Rattle.pdc_ports.specs.Heard.{Heard}
 use Rattle.pdc_pipe.specs.declared.message.Message.{Message}
 use Rattle.pdc_pipe.specs.declared.message.Message.TheVariants.{End}
 use Rattle.pdc_pipe.specs.declared.senders.Ended.{Ended}
-use Rattle.pdc_pipe.specs.declared.senders.Ended.TheVariants.{AtEndMark}
-use Rattle.pdc_pipe.specs.HandedOn.{HasHandedOn}
+use Rattle.pdc_pipe.specs.declared.senders.Ended.TheVariants.{AtEndMark, AlignerGone}
+use Rattle.pdc_pipe.specs.HandedOn.{HasHandedOn, HasSinkCause}
 use Rattle.pdc_hub.specs.declared.fault.HubFault.{HubFault}
-use Rattle.pdc_threads.specs.declared.runs.Totals.{Totals}
+use Rattle.pdc_threads.specs.declared.telling.Totals.{Totals}
+use Rattle.pdc_threads.specs.Conducted.{HasConducted, Publishing}
+use Rattle.pdc_threads.specs.Ended.{Ending, fault_in, first_fault, first_of}
 use Rattle.pdc_threads.specs.Run.{GivesFrom, HasEach}
-
--- what is put alone, where there was nothing before, is the end mark at most
-pub ended_alone : (put after : List Message) (r : Bool) → put ≡ [] → (r ≡ true → after ≡ put ++ End ∷ []) → (r ≡ false → after ≡ put) → instants_of after ≡ []
-ended_alone put after true e h k = ap instants_of (h refl ∙ ap (λ l. l ++ End ∷ []) e)
-ended_alone put after false e h k = ap instants_of (k refl ∙ e)
+use Rattle.pdc_threads.specs.declared.receivers.Counted.{Counted}
 
 -- an Ok run handed all of it on
 pub all_handed_on : {Took : List (List ℕ) → Type 0} (outcome : Result Totals HubFault) (put : List Message) (ended : Ended) (sent : HasHandedOn Took put ended) → OnOk outcome (ended ≡ AtEndMark) → OnOk outcome (sent.rest ≡ [])
@@ -82,3 +85,65 @@ ended_or_not put after false e h k = k refl ∙ e
 pub all_each : (outcome : Result Totals HubFault) (receivers count : ℕ) (complete : Bool) → IfOk outcome (λ totals. (vec_len totals.receivers ≡ receivers) × (complete ≡ true)) → (complete ≡ true → receivers ≡ count) → HasEach outcome count
 all_each (Ok totals) receivers count complete same h = same.0 ∙ h same.1
 all_each (Err fault) receivers count complete same h = tt
+
+-- and they are what the receivers counted
+pub all_entries : (outcome : Result Totals HubFault) (receivers : List Counted) (count : ℕ) (endings : List Ending) (complete : Bool) → IfOk outcome (λ totals. (vec_len totals.receivers ≡ count) × (complete ≡ true))
+    → IfOk outcome (λ totals. totals.receivers.items ≡ receivers) → (complete ≡ true → receivers ≡ map (λ e. e.counted) endings) → IfOk outcome (λ totals. totals.receivers.items ≡ map (λ e. e.counted) endings)
+all_entries (Ok totals) receivers count endings complete same is h = is ∙ h same.1
+all_entries (Err fault) receivers count endings complete same is h = tt
+
+-- the fault that is told, of what the receivers ended by
+pub told_of : (outcome : Result Totals HubFault) (endings : List Ending) (fault : Option HubFault) (complete : Bool) (aligned : Result ℕ HubFault) (sent : Ended) → first_of endings ≡ fault
+    → fault_in outcome ≡ first_fault fault complete aligned sent → fault_in outcome ≡ first_fault (first_of endings) complete aligned sent
+told_of outcome endings fault complete aligned sent same told = told ∙ ap (λ f. first_fault f complete aligned sent) (sym same)
+
+none_put : (ended : Bool) → instants_of (end_mark ended) ≡ []
+none_put true = refl
+none_put false = refl
+
+-- Where nothing was handed on
+pub nothing_sent : {Took : List (List ℕ) → Type 0} → Took [] → HasHandedOn Took [] AlignerGone
+nothing_sent took = record { given = []; rest = []; took = took; first = refl; whole = search rules }
+
+-- Where nothing was aligned for want of memory, it ran so, with no receiver that is told of.
+pub none_conducted : {C S I : Type 0} (Stands : C → Lives) (named : Option Given) (Answers : ℕ → Answering) (told : S → List Heard → Type 0) (sources : List S) (pace : Pace) (gave : I → List ℕ → Type 0) (ticker : I)
+    {Took : List (List ℕ) → Type 0} (failures more : ℕ) (publishing : Publishing) (put : List Message) (ended : Bool) (sent : Ended)
+    → put ≡ end_mark ended → HasHandedOn Took put sent → HasSinkCause sent failures more → publishing.last ≤ publishing.stored.floor
+    → HasConducted Stands named Answers told sources pace (GivesFrom gave ticker) Took failures more publishing publishing (Err NoMemory)
+none_conducted Stands named Answers told sources pace gave ticker failures more publishing put ended sent e t cause low =
+    let none : instants_of put ≡ [] = ap instants_of e ∙ none_put ended in record {
+      totals = tt;
+      each = tt;
+      kept = (refl, refl);
+      sink = search rules;
+      mark = search rules;
+      turned = record {
+        run = record {
+          put = put;
+          given = t.given;
+          rest = t.rest;
+          took = t.took;
+          first = t.first;
+          rising = subst (λ (ns : List ℕ). Rises publishing.last ns publishing.stored.floor) (sym none) low;
+          whole = tt;
+          published = tt;
+        };
+        aligned = none_aligned Stands named publishing.output pace.rate pace.layout_every publishing.stored.counts gave ticker NoMemory ended put e;
+      };
+      ended = record {
+        endings = [];
+        are_ended = tt;
+        complete = false;
+        whole = search rules;
+        entries = tt;
+        put = put;
+        aligned = Err NoMemory;
+        is_aligned = (
+          none_aligned Stands named publishing.output pace.rate pace.layout_every publishing.stored.counts gave ticker NoMemory ended put e,
+          record { no_fewer = omega arith; caused = search rules; sound = tt },
+        );
+        sent = sent;
+        is_sent = (t, cause);
+        told = refl;
+      };
+    }

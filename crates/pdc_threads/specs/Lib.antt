@@ -1,5 +1,8 @@
 -- What a run does.
+pub mod Conducted
+pub mod Counted
 pub mod Crew
+pub mod Ended
 pub mod Opened
 pub mod Rate
 pub mod Run

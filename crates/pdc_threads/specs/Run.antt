@@ -13,7 +13,7 @@ use Rattle.pdc_hub.specs.Replay.{Lives}
 use Rattle.pdc_pipe.specs.declared.message.Message.{Message}
 use Rattle.pdc_pipe.specs.Sequence.{bytes_of}
 use Rattle.pdc_ports.specs.Failures.{HasRisen}
-use Rattle.pdc_threads.specs.declared.runs.Totals.{Totals}
+use Rattle.pdc_threads.specs.declared.telling.Totals.{Totals}
 
 -- The totals are the sums over the receivers.
 abbrev pub IsSummed : Result Totals HubFault → Type 0

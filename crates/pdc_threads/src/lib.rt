@@ -9,8 +9,9 @@
 
 mod receivers;
 mod runs;
+mod telling;
 
-pub use pdc_aligner::{Pace, align, tick_cleared};
+pub use pdc_aligner::{Aligned, Pace, align, tick_cleared};
 pub use pdc_hub::{Blanks, Hub, HubFault, Naming, Received, Shares, receive};
 pub use pdc_pipe::{
     CAPACITY, Ended, InOrder, LayoutFrame, Log, Message, Receiver, Sender, send_out,
@@ -19,4 +20,5 @@ pub use pdc_ports::{
     Counts, Did, MemorySink, Next, Numbered, Outcome, Sink, SinkFault, Source, Ticker, Told,
 };
 pub use receivers::{Counted, Input};
-pub use runs::{Ran, Totals, run};
+pub use runs::{Finished, Ran, run};
+pub use telling::Totals;

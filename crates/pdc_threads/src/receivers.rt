@@ -1,12 +1,15 @@
 //! The receivers: each in a thread of its own, started and joined.
+ghost use Rattle.std.specs.Prelude.{◌≡◌, ◌≤◌, ◌<◌, ◌+◌, ◌++◌, ℕ, IfSome, List, Some, [], length, map, sum, true, vec_len};
 ghost use Rattle.pdc_hub.specs.Faults.{IsOfReceiver};
-ghost use Rattle.std.specs.Prelude.{◌≡◌, ◌≤◌, ◌<◌, ◌+◌, ℕ, IfSome, List, Some, length, map, sum, true, vec_len};
+ghost use Rattle.pdc_threads.specs.Ended.{AreFor, HasEndedAs, HaveJoined, ending_by, or_else};
 
 use pdc_core::Core;
 use pdc_frame::MAX_SIZE;
 use pdc_hub::{Hub, HubFault, Naming, Received, Shares, receive};
 use pdc_ports::Source;
 use std::alloc::{AllocError, Global};
+use std::marker::PhantomData;
+use std::snapshot::Snapshot;
 use std::sync::Wait;
 use std::sync::ledger::Ledger;
 use std::thread::{Promise, PromisedHandle, Scope, Threads};
@@ -32,7 +35,8 @@ fn buffer(alloc: Global) -> Result<Vec<u8>, AllocError> {
 
 /// The sources, each with a buffer.
 pub fn buffered<S: Source + Drop>(alloc: Global, sources: Vec<S>) -> Option<Vec<Input<S>>>
-    ensures { IfSome result (λ inputs. vec_len inputs ≡ vec_len sources) }
+    ensures len { IfSome result (λ inputs. vec_len inputs ≡ vec_len sources) }
+    ensures same { IfSome result (λ inputs. map (λ i. i.source) inputs.items ≡ sources.items) }
 {
     let mut inputs = Vec::new(alloc);
     for source in sources {
@@ -46,27 +50,45 @@ pub fn buffered<S: Source + Drop>(alloc: Global, sources: Vec<S>) -> Option<Vec<
     Some(inputs)
 }
 
-/// What a receiver's thread promises: that it fails as a receiver does.
-#[derive(Clone, Copy, Drop)]
-pub struct EndsAsReceiver;
-
-impl<T: Ledger, F: Ledger, G: Ledger> Promise<Received<T, F, G>> for EndsAsReceiver {
-    ghost use Rattle.std.specs.Prelude.{IfSome};
-    ghost use Rattle.pdc_hub.specs.Faults.{IsOfReceiver};
-
-    ghost kept_by = { λ p r. IfSome r.fault IsOfReceiver };
+/// What a receiver's thread hands back: its shares, what they count, and why it ended, if by a fault.
+#[derive(Drop)]
+pub struct Delivered<T: Ledger, F: Ledger, G: Ledger> {
+    shares: Shares<T, F, G>,
+    taken: u64,
+    refused: u64,
+    fault: Option<HubFault>,
+    pub ghost one_part: { (shares.taken.parts ≡ 1) × (shares.refused.parts ≡ 1) × (shares.configured.parts ≡ 1) },
+    pub ghost same: { (shares.taken.amount ≡ taken) × (shares.refused.amount ≡ refused) },
 }
 
-/// The receivers that were started, and the shares that are left.
+/// What a receiver's thread promises, of the source that it was given and the number of its stream: that all that the source told was
+/// received for this stream.
 #[derive(Drop)]
-pub struct Started<T: Ledger, F: Ledger, G: Ledger> {
-    running: Vec<PromisedHandle<Received<T, F, G>, EndsAsReceiver>>,
-    left: Shares<T, F, G>,
+pub struct Receives<C: Core, N: Naming<C::Settings>, S> {
+    /// The source as it was given.
+    pub source: Snapshot<S>,
+    /// The number of its stream, from 0.
+    pub stream: usize,
+    of: PhantomData<(C, N)>,
+}
+
+impl<C: Core, N: Naming<C::Settings>, S: Source, T: Ledger, F: Ledger, G: Ledger> Promise<
+    Delivered<T, F, G>,
+> for Receives<C, N, S> {
+    ghost use Rattle.pdc_threads.specs.Ended.{HasEndedAs, ending_by};
+
+    ghost kept_by = { λ p r. HasEndedAs C.rules C.stands_for N.given N.settings C.Settings.says S.told p.source.value p.stream (ending_by r.taken r.refused r.fault) };
+}
+
+/// The receivers that were started, in the order of the streams.
+#[derive(Drop)]
+pub struct Started<C: Core, N: Naming<C::Settings>, S: Source, T: Ledger, F: Ledger, G: Ledger> {
+    running: Vec<PromisedHandle<Delivered<T, F, G>, Receives<C, N, S>>>,
     /// Whether all were started.
     pub complete: bool,
 }
 
-/// Starts a receiver for each source, in a thread of its own.
+/// Starts a receiver for each source, in a thread of its own, each with a part of the shares.
 pub fn start_all<
     's,
     E: 's,
@@ -85,18 +107,18 @@ pub fn start_all<
     hub: &'s Hub<C, N, T, F, G, P>,
     settings: &'s C::Settings,
     inputs: Vec<Input<S>>,
-    shares: Shares<T, F, G>,
-) -> Started<T, F, G>
+    shares: &mut Shares<T, F, G>,
+) -> Started<C, N, S, T, F, G>
 where
     C::Settings: Sync + 's,
     requires settings { N.settings ≡ Some settings.now }
     requires streams { vec_len inputs ≡ C.Settings.streams settings.now }
     requires few { vec_len inputs ≤ 16 }
-    requires parts { (shares.taken.parts ≡ vec_len inputs + 1) × (shares.refused.parts ≡ vec_len inputs + 1) × (shares.configured.parts ≡ vec_len inputs + 1) }
-    requires amounts { (shares.taken.amount ≡ 0) × (shares.refused.amount ≡ 0) × (shares.configured.amount ≡ 0) }
-    ensures { result.complete ≡ true → (result.left.taken.amount ≡ 0) × (result.left.refused.amount ≡ 0) × (result.left.taken.parts ≡ 1) × (result.left.refused.parts ≡ 1) × (result.left.configured.parts ≡ 1) × (vec_len result.running ≡ vec_len inputs) }
+    requires parts { (shares.old.taken.parts ≡ vec_len inputs + 1) × (shares.old.refused.parts ≡ vec_len inputs + 1) × (shares.old.configured.parts ≡ vec_len inputs + 1) }
+    requires amounts { (shares.old.taken.amount ≡ 0) × (shares.old.refused.amount ≡ 0) × (shares.old.configured.amount ≡ 0) }
+    ensures complete { result.complete ≡ true → (shares.new.taken.amount ≡ 0) × (shares.new.refused.amount ≡ 0) × (shares.new.taken.parts ≡ 1) × (shares.new.refused.parts ≡ 1) × (shares.new.configured.parts ≡ 1) × (vec_len result.running ≡ vec_len inputs) }
+    ensures placed { AreFor (λ source stream handle. (handle.promise.source.value ≡ source) × (handle.promise.stream ≡ stream)) 0 (map (λ i. i.source) inputs.items) result.running.items }
 {
-    let mut left = shares;
     let mut running = Vec::new(alloc);
     let mut complete = true;
     let mut stream = 0usize;
@@ -105,26 +127,29 @@ where
             continue;
         }
         let Input { source, buffer } = input;
-        let mine = split_one(&mut left);
-        match scope.spawn_with(
-            EndsAsReceiver,
-            move || -> Received<T, F, G>
+        let mine = split_one(shares);
+        let promise = Receives {
+            source: Snapshot::of(&source),
+            stream,
+            of: PhantomData,
+        };
+        let Ok(handle) = scope.spawn_with(
+            promise,
+            move || -> Delivered<T, F, G>
                 requires { (N.settings ≡ Some settings.now) × (stream < C.Settings.streams settings.now) × ((mine.taken.parts ≡ 1) × (mine.refused.parts ≡ 1) × (mine.configured.parts ≡ 1)) × ((mine.taken.amount ≡ 0) × (mine.refused.amount ≡ 0)) }
-                ensures { IfSome result.fault IsOfReceiver }
+                ensures { HasEndedAs C.rules C.stands_for N.given N.settings C.Settings.says S.told source stream (ending_by result.taken result.refused result.fault) }
             { receive_owned(rt, alloc, hub, settings, stream, source, buffer, mine) },
-        ) {
-            Ok(handle) => complete = running.push(handle).is_ok(),
-            Err(_) => complete = false,
+        ) else {
+            complete = false;
+            continue;
+        };
+        if running.push(handle).is_err() {
+            complete = false;
+            continue;
         }
-        if complete {
-            stream += 1;
-        }
+        stream += 1;
     }
-    Started {
-        running,
-        left,
-        complete,
-    }
+    Started { running, complete }
 }
 
 /// One part of each ledger, which has counted nothing.
@@ -161,15 +186,21 @@ fn receive_owned<
     source: S,
     buffer: Vec<u8>,
     shares: Shares<T, F, G>,
-) -> Received<T, F, G>
+) -> Delivered<T, F, G>
     requires settings { N.settings ≡ Some settings.now }
     requires stream { stream < C.Settings.streams settings.now }
     requires parts { (shares.taken.parts ≡ 1) × (shares.refused.parts ≡ 1) × (shares.configured.parts ≡ 1) }
     requires amounts { (shares.taken.amount ≡ 0) × (shares.refused.amount ≡ 0) }
-    ensures causes { IfSome result.fault IsOfReceiver }
+    ensures { HasEndedAs C.rules C.stands_for N.given N.settings C.Settings.says S.told source stream (ending_by result.taken result.refused result.fault) }
 {
     let mut source = source;
-    receive(
+    let Received {
+        shares,
+        taken,
+        refused,
+        fault,
+        closed: _,
+    } = receive(
         rt,
         alloc,
         settings,
@@ -178,14 +209,18 @@ fn receive_owned<
         buffer,
         hub,
         shares,
-    )
+    );
+    Delivered {
+        shares,
+        taken,
+        refused,
+        fault,
+    }
 }
 
 /// The receivers' results, once all have ended.
 #[derive(Drop)]
-pub struct Joined<T: Ledger, F: Ledger, G: Ledger> {
-    /// All shares that were handed back.
-    pub all: Shares<T, F, G>,
+pub struct Joined {
     /// What each counted, in the order of the streams.
     pub receivers: Vec<Counted>,
     /// The first one's fault that had one.
@@ -194,46 +229,56 @@ pub struct Joined<T: Ledger, F: Ledger, G: Ledger> {
     pub complete: bool,
 }
 
-/// Joins what was started. All are joined, whatever they answered.
-pub fn join_all<T: Ledger, F: Ledger, G: Ledger, R: Threads>(
-    rt: &R,
-    alloc: Global,
-    started: Started<T, F, G>,
-) -> Joined<T, F, G>
-    requires parts { started.complete ≡ true → (started.left.taken.parts + vec_len started.running ≡ T.parts) × (started.left.refused.parts + vec_len started.running ≡ F.parts) × (started.left.configured.parts + vec_len started.running ≡ G.parts) }
-    requires amounts { started.complete ≡ true → (started.left.taken.amount ≡ 0) × (started.left.refused.amount ≡ 0) }
-    ensures parts { result.complete ≡ true → (result.all.taken.parts ≡ T.parts) × (result.all.refused.parts ≡ F.parts) × (result.all.configured.parts ≡ G.parts) }
+/// The first fault of these two.
+fn first_of(fault: Option<HubFault>, other: Option<HubFault>) -> Option<HubFault>
+    ensures { result ≡ or_else fault other }
+{
+    match fault {
+        Some(cause) => Some(cause),
+        None => other,
+    }
+}
+
+/// Joins what was started, and their shares with these. All are joined, whatever they answered.
+pub fn join_all<
+    C: Core,
+    N: Naming<C::Settings>,
+    S: Source,
+    T: Ledger,
+    F: Ledger,
+    G: Ledger,
+    R: Threads,
+>(rt: &R, alloc: Global, started: Started<C, N, S, T, F, G>, shares: &mut Shares<T, F, G>) -> Joined
+    requires parts { started.complete ≡ true → (shares.old.taken.parts + vec_len started.running ≡ T.parts) × (shares.old.refused.parts + vec_len started.running ≡ F.parts) × (shares.old.configured.parts + vec_len started.running ≡ G.parts) }
+    requires amounts { started.complete ≡ true → (shares.old.taken.amount ≡ 0) × (shares.old.refused.amount ≡ 0) }
+    ensures parts { result.complete ≡ true → (shares.new.taken.parts ≡ T.parts) × (shares.new.refused.parts ≡ F.parts) × (shares.new.configured.parts ≡ G.parts) }
     ensures started { result.complete ≡ true → started.complete ≡ true }
     ensures each { result.complete ≡ true → vec_len result.receivers ≡ vec_len started.running }
     ensures fault { IfSome result.fault IsOfReceiver }
-    ensures sums { result.complete ≡ true → (result.all.taken.amount ≡ sum (map (λ c. c.taken) result.receivers.items)) × (result.all.refused.amount ≡ sum (map (λ c. c.refused) result.receivers.items)) }
+    ensures sums { result.complete ≡ true → (shares.new.taken.amount ≡ sum (map (λ c. c.taken) result.receivers.items)) × (shares.new.refused.amount ≡ sum (map (λ c. c.refused) result.receivers.items)) }
+    ensures ended { HaveJoined (λ handle place ending. HasEndedAs C.rules C.stands_for N.given N.settings C.Settings.says S.told handle.promise.source.value handle.promise.stream ending) started.running.items [] result.receivers.items result.fault result.complete }
 {
     let Started {
         running,
-        left,
         complete: started_all,
     } = started;
-    let mut all = left;
     let mut receivers = Vec::new(alloc);
     let mut fault = None;
     let mut complete = started_all;
     for handle in running {
-        let Received {
-            shares,
+        let Delivered {
+            shares: more,
             taken,
             refused,
             fault: cause,
         } = handle.join(rt);
-        merge(&mut all, shares);
-        if fault.is_none() {
-            fault = cause;
-        }
+        merge(shares, more);
+        fault = first_of(fault, cause);
         if receivers.push(Counted { taken, refused }).is_err() {
             complete = false;
         }
     }
     Joined {
-        all,
         receivers,
         fault,
         complete,

@@ -1,28 +1,31 @@
 //! A run of all receivers beside the aligner and the sender.
-ghost use Rattle.std.specs.Prelude.{◌≡◌, ◌≤◌, ◌<◌, ◌+◌, ◌++◌, ◌∷◌, ℕ, Bool, Err, IfErr, IfOk, IfSome, IsErrOf, List, None, Ok, OnOk, Option, Some, [], false, length, map, sum, true, vec_len};
+ghost use Rattle.std.specs.Prelude.{◌≡◌, ◌≤◌, ◌<◌, ◌+◌, ◌++◌, ◌∷◌, ℕ, Bool, Err, IfErr, IfOk, List, None, Ok, OnOk, Option, Some, [], false, length, map, sum, true, vec_len};
 ghost use Rattle.crossbeam_channel.specs.Claims.{IsSeatAt, view};
 ghost use Rattle.crossbeam_channel.specs.Ends.{receives_on, sends_on};
 ghost use Rattle.pdc_pipe.specs.Pipe.{log};
 ghost use Rattle.pdc_aligner.specs.Device.{HasDevice, IsOfAligner, standing_of};
-ghost use Rattle.pdc_hub.specs.Faults.{IsOfReceiver};
 ghost use Rattle.pdc_aligner.specs.Opened.{IsOpenedWith};
 ghost use Rattle.pdc_aligner.specs.Rate.{IsAtRate};
-ghost use Rattle.pdc_threads.specs.Crew.{CanRun};
-ghost use Rattle.pdc_threads.specs.Run.{GivesFrom, HasEach, HasRun, HasRunInTurns, IsCausedByMark, IsCausedBySink, IsSummed};
 ghost use Rattle.pdc_aligner.specs.Sequence.{Rises, instants_of};
 ghost use Rattle.pdc_aligner.specs.Turns.{IsAligned};
-ghost use Rattle.pdc_pipe.specs.declared.message.Message.{Message};
+ghost use Rattle.pdc_hub.specs.Received.{IsAnswerFor};
 ghost use Rattle.pdc_pipe.specs.HandedOn.{HasHandedOn, HasSinkCause};
-ghost use Rattle.pdc_publisher.specs.Publisher.{last_in, mark_in, output_in};
+ghost use Rattle.pdc_publisher.specs.Publisher.{last_in, lead_in, mark_in, output_in};
+ghost use Rattle.pdc_threads.specs.Conducted.{HasConducted, publishing_of};
+ghost use Rattle.pdc_threads.specs.Counted.{HasCounted};
+ghost use Rattle.pdc_threads.specs.Crew.{CanRun};
+ghost use Rattle.pdc_threads.specs.Ended.{HasEnded, HasEndedOf};
+ghost use Rattle.pdc_threads.specs.Run.{GivesFrom, HasEach, HasRun, HasRunInTurns, IsCausedByMark, IsCausedBySink, IsSummed};
 
-use crate::receivers::{Counted, Input, Joined, buffered, join_all, start_all};
+use crate::receivers::{Input, buffered, join_all, start_all};
+use crate::telling::{Totals, outcome};
 use crossbeam_channel::Pass;
 use pdc_aligner::{Pace, align};
 use pdc_core::Core;
 use pdc_hub::{Hub, HubFault, Naming, Shares};
 use pdc_mark::Mark;
 use pdc_pipe::{
-    Ended, Ends, HandsOn, Log, Message, Receiver, Sender, Sent, channel, close, send_owned, settle,
+    Ends, HandsOn, Log, Message, Receiver, Sender, Sent, channel, close, send_owned, settle,
 };
 use pdc_ports::{Sink, Source, Ticker};
 use pdc_publisher::Publisher;
@@ -33,77 +36,6 @@ use std::sync::ledger::{Ledger, Share};
 use std::thread;
 use std::thread::{Scope, Threads};
 
-/// What a run counted.
-#[derive(Debug, Drop)]
-pub struct Totals {
-    pub receivers: Vec<Counted>,
-    pub taken: u64,
-    pub refused: u64,
-    /// How many rows were published and handed on.
-    pub published: u64,
-}
-
-/// The first fault in the order receivers, aligner, sender, or the totals.
-fn outcome<
-    C: Core + Drop,
-    N: Naming<C::Settings>,
-    T: Ledger,
-    F: Ledger,
-    G: Ledger,
-    P: Ledger,
-    R: Wait,
->(
-    rt: &R,
-    hub: &Hub<C, N, T, F, G, P>,
-    joined: Joined<T, F, G>,
-    aligned: Result<u64, HubFault>,
-    ended: Ended,
-) -> Result<Totals, HubFault>
-    requires parts { joined.complete ≡ true → (joined.all.taken.parts ≡ T.parts) × (joined.all.refused.parts ≡ F.parts) × (joined.all.configured.parts ≡ G.parts) }
-    requires sums { joined.complete ≡ true → (joined.all.taken.amount ≡ sum (map (λ c. c.taken) joined.receivers.items)) × (joined.all.refused.amount ≡ sum (map (λ c. c.refused) joined.receivers.items)) }
-    requires receiver { IfSome joined.fault IsOfReceiver }
-    requires aligner { IfErr aligned IsOfAligner }
-    ensures totals { IsSummed result }
-    ensures receivers { IfOk result (λ totals. (vec_len totals.receivers ≡ vec_len joined.receivers) × (joined.complete ≡ true)) }
-    ensures ended { OnOk result (ended ≡ Ended.AtEndMark) }
-    ensures published { IfOk result (λ totals. aligned ≡ Ok totals.published) }
-    ensures sink { IsErrOf result HubFault.SinkFault → ended ≡ Ended.SinkFault }
-    ensures mark { IsErrOf result HubFault.Device → IsErrOf aligned HubFault.Device }
-    // The first fault in the order receivers, aligner, sender.
-    ensures first { IfSome joined.fault (λ cause. result ≡ Err cause) }
-    ensures second { joined.fault ≡ None → joined.complete ≡ true → IfErr aligned (λ cause. result ≡ Err cause) }
-{
-    let Joined {
-        all,
-        receivers,
-        fault,
-        complete,
-    } = joined;
-    let mut all = all;
-    if let Some(cause) = fault {
-        return Err(cause);
-    }
-    if !complete {
-        return Err(HubFault::NoMemory);
-    }
-    let published = match aligned {
-        Ok(published) => published,
-        Err(cause) => return Err(cause),
-    };
-    match ended {
-        Ended::AtEndMark => {}
-        Ended::SinkFault => return Err(HubFault::SinkFault),
-        Ended::AlignerGone => return Err(HubFault::Stuck),
-    }
-    let counts = hub.totals(rt, &mut all);
-    Ok(Totals {
-        receivers,
-        taken: counts.taken,
-        refused: counts.refused,
-        published,
-    })
-}
-
 /// What a run hands back: the publisher and the sink that it was given, and what it counted.
 #[derive(Drop)]
 pub struct Ran<M: Mark, K> {
@@ -113,6 +45,33 @@ pub struct Ran<M: Mark, K> {
     pub sink: K,
     /// The totals, or the first fault in the order receivers, aligner, sender.
     pub outcome: Result<Totals, HubFault>,
+}
+
+/// A run that is over: what it hands back, and the shares of those who received.
+#[derive(Drop)]
+pub struct Finished<M: Mark, K, T: Ledger, F: Ledger, G: Ledger> {
+    /// The publisher, the sink and the outcome.
+    pub ran: Ran<M, K>,
+    /// The shares that it was given, as far as they came back: all of them where it was Ok.
+    pub shares: Shares<T, F, G>,
+}
+
+/// A run that did not begin, for want of memory.
+fn not_begun<M: Mark, K, T: Ledger, F: Ledger, G: Ledger>(
+    publisher: Publisher<M>,
+    sink: K,
+    shares: Shares<T, F, G>,
+) -> Finished<M, K, T, F, G>
+    ensures { (result.ran.publisher ≡ publisher) × (result.ran.sink ≡ sink) × (result.ran.outcome ≡ Err HubFault.NoMemory) }
+{
+    Finished {
+        ran: Ran {
+            publisher,
+            sink,
+            outcome: Err(HubFault::NoMemory),
+        },
+        shares,
+    }
 }
 
 /// What a run is given beside its core: the shares, a source with its buffer for each stream, and who publishes, ticks and sends.
@@ -153,7 +112,7 @@ fn conduct<
     writer: Pass<Message, Log>,
     reader: Pass<Message, Log>,
     crew: Crew<T, F, G, P, S, M, I, K>,
-) -> Ran<M, K>
+) -> Finished<M, K, T, F, G>
 where
     C::Settings: Sync + 's,
     requires settings { N.settings ≡ Some settings.now }
@@ -163,11 +122,8 @@ where
     requires ends { receives_on from.now ≡ sends_on to.now }
     requires writer { IsSeatAt (sends_on to.now) writer × (view writer ≡ log true false false [] []) }
     requires reader { IsSeatAt (receives_on from.now) reader × (view reader ≡ log false true false [] []) }
-    ensures totals { IsSummed result.outcome }
-    ensures each { HasEach result.outcome (vec_len crew.inputs) }
-    ensures mark { IsCausedByMark result.outcome (standing_of crew.publisher) (standing_of result.publisher) }
-    ensures sink { IsCausedBySink result.outcome (K.failures_of crew.sink) (K.failures_of result.sink) }
-    ensures turned { HasRunInTurns C.stands_for N.given (output_in crew.publisher) crew.pace (GivesFrom I.gave crew.ticker) (K.took crew.sink result.sink) (last_in crew.publisher) (M.stored (mark_in crew.publisher)) (M.stored (mark_in result.publisher)) result.outcome }
+    ensures conducted { HasConducted C.stands_for N.given (IsAnswerFor C.rules C.stands_for N.given (C.Settings.says settings.now)) S.told (map (λ i. i.source) crew.inputs.items) crew.pace (GivesFrom I.gave crew.ticker) (K.took crew.sink result.ran.sink) (K.failures_of crew.sink) (K.failures_of result.ran.sink) (publishing_of crew.publisher) (publishing_of result.ran.publisher) result.ran.outcome }
+    ensures counted { IfOk result.ran.outcome (HasCounted result.shares T.parts F.parts G.parts) }
 {
     let Crew {
         shares,
@@ -180,6 +136,8 @@ where
     } = crew;
     let mut writer = writer;
     let mut publisher = publisher;
+    let mut shares = shares;
+    let mut top = top;
     let was = Snapshot::of(&sink);
     let child = match scope.spawn_with(
         HandsOn { sink: was, from },
@@ -190,37 +148,37 @@ where
     ) {
         Ok(child) => child,
         Err(refused) => {
-            hub.close(rt);
+            hub.close(rt, &mut top);
             let _closed = close(rt, to, &mut writer);
             let sent = (refused.value)();
             let (sink, _ended) = settle(to, writer, sent);
-            return Ran {
-                publisher,
-                sink,
-                outcome: Err(HubFault::NoMemory),
-            };
+            return not_begun(publisher, sink, shares);
         }
     };
-    let started = start_all(scope, rt, alloc, hub, settings, inputs, shares);
+    let started = start_all(scope, rt, alloc, hub, settings, inputs, &mut shares);
     let aligned = align_or_close(
         rt,
         alloc,
         hub,
         started.complete,
-        top,
+        &mut top,
         &mut publisher,
         ticker,
         pace,
         to,
         &mut writer,
     );
-    let joined = join_all(rt, alloc, started);
+    let joined = join_all(rt, alloc, started, &mut shares);
     let sent = child.join(rt);
     let (sink, ended) = settle(to, writer, sent);
-    Ran {
-        publisher,
-        sink,
-        outcome: outcome(rt, hub, joined, aligned, ended),
+    let outcome = outcome(rt, hub, &mut shares, joined, aligned, ended);
+    Finished {
+        ran: Ran {
+            publisher,
+            sink,
+            outcome,
+        },
+        shares,
     }
 }
 
@@ -240,14 +198,14 @@ fn align_or_close<
     alloc: Global,
     hub: &Hub<C, N, T, F, G, P>,
     complete: bool,
-    top: Share<P>,
+    top: &mut Share<P>,
     publisher: &mut Publisher<M>,
     ticker: I,
     pace: Pace,
     to: &Sender,
     writer: &mut Pass<Message, Log>,
 ) -> Result<u64, HubFault>
-    requires top { (top.parts ≡ P.parts) × (0 < top.parts) × (top.amount ≡ last_in publisher.old) × (last_in publisher.old ≤ (M.stored (mark_in publisher.old)).floor) }
+    requires top { (top.old.parts ≡ P.parts) × (0 < top.old.parts) × (top.old.amount ≡ last_in publisher.old) × (last_in publisher.old ≤ (M.stored (mark_in publisher.old)).floor) }
     requires rate { IsAtRate N.given (output_in publisher.old).rate }
     requires opened { IsOpenedWith N.given (M.stored (mark_in publisher.old)) }
     requires seat { IsSeatAt (sends_on to.now) writer.old × (view writer.old ≡ log true false false [] []) }
@@ -255,14 +213,14 @@ fn align_or_close<
     ensures rising { Rises (last_in publisher.old) (instants_of (view writer.new).put) ((M.stored (mark_in publisher.new)).floor) }
     ensures published { IfOk result (λ published. published ≡ length (instants_of (view writer.new).put)) }
     ensures laid { IsAligned C.stands_for N.given (output_in publisher.old) pace.rate pace.layout_every (M.stored (mark_in publisher.old)).counts (M.stored (mark_in publisher.new)).counts (GivesFrom I.gave ticker) result (view writer.new).put }
+    ensures kept { (output_in publisher.new ≡ output_in publisher.old) × (lead_in publisher.new ≡ lead_in publisher.old) }
     ensures complete { OnOk result (complete ≡ true) }
     ensures causes { IfErr result IsOfAligner }
     ensures device { HasDevice (standing_of publisher.old) (standing_of publisher.new) result }
 {
-    let mut top = top;
     let mut ticker = ticker;
     if !complete {
-        hub.close(rt);
+        hub.close(rt, top);
         let _closed = close(rt, to, writer);
         return Err(HubFault::NoMemory);
     }
@@ -270,13 +228,14 @@ fn align_or_close<
         rt,
         alloc,
         hub,
-        &mut top,
+        top,
         publisher,
         &mut ticker,
         &pace,
         to,
         writer,
     )
+    .outcome
 }
 
 /// As `run`, over a channel that is there.
@@ -303,7 +262,7 @@ fn run_over<
     writer: Pass<Message, Log>,
     reader: Pass<Message, Log>,
     crew: Crew<T, F, G, P, S, M, I, K>,
-) -> Ran<M, K>
+) -> Finished<M, K, T, F, G>
 where
     C::Settings: Sync + 'x,
     requires settings { N.settings ≡ Some settings.now }
@@ -313,16 +272,13 @@ where
     requires ends { receives_on from.now ≡ sends_on to.now }
     requires writer { IsSeatAt (sends_on to.now) writer × (view writer ≡ log true false false [] []) }
     requires reader { IsSeatAt (receives_on from.now) reader × (view reader ≡ log false true false [] []) }
-    ensures totals { IsSummed result.outcome }
-    ensures each { HasEach result.outcome (vec_len crew.inputs) }
-    ensures mark { IsCausedByMark result.outcome (standing_of crew.publisher) (standing_of result.publisher) }
-    ensures sink { IsCausedBySink result.outcome (K.failures_of crew.sink) (K.failures_of result.sink) }
-    ensures turned { HasRunInTurns C.stands_for N.given (output_in crew.publisher) crew.pace (GivesFrom I.gave crew.ticker) (K.took crew.sink result.sink) (last_in crew.publisher) (M.stored (mark_in crew.publisher)) (M.stored (mark_in result.publisher)) result.outcome }
+    ensures conducted { HasConducted C.stands_for N.given (IsAnswerFor C.rules C.stands_for N.given (C.Settings.says settings.now)) S.told (map (λ i. i.source) crew.inputs.items) crew.pace (GivesFrom I.gave crew.ticker) (K.took crew.sink result.ran.sink) (K.failures_of crew.sink) (K.failures_of result.ran.sink) (publishing_of crew.publisher) (publishing_of result.ran.publisher) result.ran.outcome }
+    ensures counted { IfOk result.ran.outcome (HasCounted result.shares T.parts F.parts G.parts) }
 {
     thread::scope(
         thread::scope_env(),
         rt,
-        move |scope| -> Ran<M, K>
+        move |scope| -> Finished<M, K, T, F, G>
             requires settings { N.settings ≡ Some settings.now }
             requires can { CanRun crew (C.Settings.streams settings.now) T.parts F.parts G.parts P.parts (M.stored (mark_in crew.publisher)).floor }
             requires rate { IsAtRate N.given (output_in crew.publisher).rate }
@@ -330,11 +286,8 @@ where
             requires ends { receives_on from.now ≡ sends_on to.now }
             requires writer { IsSeatAt (sends_on to.now) writer × (view writer ≡ log true false false [] []) }
             requires reader { IsSeatAt (receives_on from.now) reader × (view reader ≡ log false true false [] []) }
-            ensures totals { IsSummed result.outcome }
-            ensures each { HasEach result.outcome (vec_len crew.inputs) }
-            ensures mark { IsCausedByMark result.outcome (standing_of crew.publisher) (standing_of result.publisher) }
-            ensures sink { IsCausedBySink result.outcome (K.failures_of crew.sink) (K.failures_of result.sink) }
-            ensures turned { HasRunInTurns C.stands_for N.given (output_in crew.publisher) crew.pace (GivesFrom I.gave crew.ticker) (K.took crew.sink result.sink) (last_in crew.publisher) (M.stored (mark_in crew.publisher)) (M.stored (mark_in result.publisher)) result.outcome }
+            ensures conducted { HasConducted C.stands_for N.given (IsAnswerFor C.rules C.stands_for N.given (C.Settings.says settings.entry.now)) S.told (map (λ i. i.source) crew.inputs.items) crew.pace (GivesFrom I.gave crew.ticker) (K.took crew.sink result.ran.sink) (K.failures_of crew.sink) (K.failures_of result.ran.sink) (publishing_of crew.publisher) (publishing_of result.ran.publisher) result.ran.outcome }
+            ensures counted { IfOk result.ran.outcome (HasCounted result.shares T.parts F.parts G.parts) }
         {
             conduct(
                 scope, rt, alloc, hub, settings, to, from, writer, reader, crew,
@@ -362,25 +315,18 @@ fn run_buffered<
     hub: &Hub<C, N, T, F, G, P>,
     settings: &C::Settings,
     crew: Crew<T, F, G, P, S, M, I, K>,
-) -> Ran<M, K>
+) -> Finished<M, K, T, F, G>
 where
     C::Settings: Sync,
     requires settings { N.settings ≡ Some settings.now }
     requires can { CanRun crew (C.Settings.streams settings.now) T.parts F.parts G.parts P.parts (M.stored (mark_in crew.publisher)).floor }
     requires rate { IsAtRate N.given (output_in crew.publisher).rate }
     requires opened { IsOpenedWith N.given (M.stored (mark_in crew.publisher)) }
-    ensures totals { IsSummed result.outcome }
-    ensures each { HasEach result.outcome (vec_len crew.inputs) }
-    ensures mark { IsCausedByMark result.outcome (standing_of crew.publisher) (standing_of result.publisher) }
-    ensures sink { IsCausedBySink result.outcome (K.failures_of crew.sink) (K.failures_of result.sink) }
-    ensures turned { HasRunInTurns C.stands_for N.given (output_in crew.publisher) crew.pace (GivesFrom I.gave crew.ticker) (K.took crew.sink result.sink) (last_in crew.publisher) (M.stored (mark_in crew.publisher)) (M.stored (mark_in result.publisher)) result.outcome }
+    ensures conducted { HasConducted C.stands_for N.given (IsAnswerFor C.rules C.stands_for N.given (C.Settings.says settings.now)) S.told (map (λ i. i.source) crew.inputs.items) crew.pace (GivesFrom I.gave crew.ticker) (K.took crew.sink result.ran.sink) (K.failures_of crew.sink) (K.failures_of result.ran.sink) (publishing_of crew.publisher) (publishing_of result.ran.publisher) result.ran.outcome }
+    ensures counted { IfOk result.ran.outcome (HasCounted result.shares T.parts F.parts G.parts) }
 {
     let Ok(ends) = channel(alloc) else {
-        return Ran {
-            publisher: crew.publisher,
-            sink: crew.sink,
-            outcome: Err(HubFault::NoMemory),
-        };
+        return not_begun(crew.publisher, crew.sink, crew.shares);
     };
     let Ends {
         to,
@@ -391,8 +337,8 @@ where
     run_over(rt, alloc, hub, settings, &to, &from, writer, reader, crew)
 }
 
-/// Runs a receiver for each source, the aligner and the sender, each in a thread of its own but the aligner, and joins them. The publisher
-/// and the sink are handed back.
+/// Runs a receiver for each source, the aligner and the sender, each in a thread of its own but the aligner, and joins them. The publisher,
+/// the sink and the shares are handed back.
 ///
 /// # Errors
 ///
@@ -423,7 +369,7 @@ pub fn run<
     ticker: I,
     pace: Pace,
     sink: K,
-) -> Ran<M, K>
+) -> Finished<M, K, T, F, G>
 // Each stream has a source, in order; the shares are whole and have counted nothing; and the core was opened with what the publisher's
 // mark stores, at its rate.
 where
@@ -436,26 +382,31 @@ where
     requires top { (top.parts ≡ P.parts) × (0 < top.parts) × (top.amount ≡ last_in publisher) × (last_in publisher ≤ (M.stored (mark_in publisher)).floor) }
     requires rate { IsAtRate N.given (output_in publisher).rate }
     requires opened { IsOpenedWith N.given (M.stored (mark_in publisher)) }
-    // The totals are the sums over the receivers.
-    ensures totals { IfOk result.outcome (λ t. (t.taken ≡ sum (map (λ c. c.taken) t.receivers.items)) × (t.refused ≡ sum (map (λ c. c.refused) t.receivers.items))) }
+    // The totals are the sums over the receivers, and the amounts of the shares, which are whole again: so they are the core's counters.
+    ensures totals { IfOk result.ran.outcome (λ t. (t.taken ≡ sum (map (λ c. c.taken) t.receivers.items)) × (t.refused ≡ sum (map (λ c. c.refused) t.receivers.items))) }
+    ensures counted { IfOk result.ran.outcome (HasCounted result.shares T.parts F.parts G.parts) }
     // Each source has an entry.
-    ensures each { HasEach result.outcome (vec_len sources) }
+    ensures each { HasEach result.ran.outcome (vec_len sources) }
+    // Each receiver read its own source, as the stream of the source's place, and the entries are what they counted. What the run tells is the
+    // first fault in the order receivers, aligner, sender.
+    ensures ended { HasEnded (HasEndedOf S.told (IsAnswerFor C.rules C.stands_for N.given (C.Settings.says settings.now)))
+        (λ put aligned. IsAligned C.stands_for N.given (output_in publisher) pace.rate pace.layout_every (M.stored (mark_in publisher)).counts (M.stored (mark_in result.ran.publisher)).counts (GivesFrom I.gave ticker) aligned put
+        × HasDevice (standing_of publisher) (standing_of result.ran.publisher) aligned)
+        (λ put sent. HasHandedOn (K.took sink result.ran.sink) put sent × HasSinkCause sent (K.failures_of sink) (K.failures_of result.ran.sink)) sources.items result.ran.outcome }
     // Only a sink that failed ends it by the sink's fault, and only the mark's device by the device's.
-    ensures sink { IsCausedBySink result.outcome (K.failures_of sink) (K.failures_of result.sink) }
-    ensures mark { IsCausedByMark result.outcome (standing_of publisher) (standing_of result.publisher) }
+    ensures sink { IsCausedBySink result.ran.outcome (K.failures_of sink) (K.failures_of result.ran.sink) }
+    ensures mark { IsCausedByMark result.ran.outcome (standing_of publisher) (standing_of result.ran.publisher) }
+    // The publisher keeps what its frames say, and how many instants it reserves ahead.
+    ensures kept { (output_in result.ran.publisher ≡ output_in publisher) × (lead_in result.ran.publisher ≡ lead_in publisher) }
     // What the sink took is a prefix of what was put, whose instants strictly rise, lie above the last one published before, and are at most
     // the floor that is stored then; all of it where the run was Ok, and then so many rows were published.
-    ensures sent { HasRun (K.took sink result.sink) (last_in publisher) (M.stored (mark_in result.publisher)).floor result.outcome }
+    ensures sent { HasRun (K.took sink result.ran.sink) (last_in publisher) (M.stored (mark_in result.ran.publisher)).floor result.ran.outcome }
     // And tick by tick of those that the ticker gave: what was put are the data frames of each, and then its layout where it is told. The
     // counts that ticks were handed never fall, from those that were stored before to those that are stored then.
-    ensures turned { HasRunInTurns C.stands_for N.given (output_in publisher) pace (GivesFrom I.gave ticker) (K.took sink result.sink) (last_in publisher) (M.stored (mark_in publisher)) (M.stored (mark_in result.publisher)) result.outcome }
+    ensures turned { HasRunInTurns C.stands_for N.given (output_in publisher) pace (GivesFrom I.gave ticker) (K.took sink result.ran.sink) (last_in publisher) (M.stored (mark_in publisher)) (M.stored (mark_in result.ran.publisher)) result.ran.outcome }
 {
     let Some(inputs) = buffered(alloc, sources) else {
-        return Ran {
-            publisher,
-            sink,
-            outcome: Err(HubFault::NoMemory),
-        };
+        return not_begun(publisher, sink, shares);
     };
     let crew = Crew {
         shares,

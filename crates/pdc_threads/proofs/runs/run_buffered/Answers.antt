@@ -1,11 +1,11 @@
-use Rattle.std.proofs.Common.{false, [], refl}
-use Rattle.pdc_publisher.specs.Publisher.{mark_in, output_in}
-use Rattle.pdc_hub.specs.declared.fault.HubFault.TheVariants.{NoMemory}
-use Rattle.pdc_threads.proofs.Outcomes.{none_aligned}
+use Rattle.std.proofs.Common.{rules, false, [], refl}
+use Rattle.pdc_pipe.specs.declared.senders.Ended.TheVariants.{AlignerGone}
+use Rattle.pdc_threads.specs.Conducted.{publishing_of}
+use Rattle.pdc_threads.proofs.Outcomes.{none_conducted, nothing_sent}
 use Rattle.pdc_threads.proofs.runs.run_buffered.Goals as goal
 
-pub returns-in_default-clause-turned : goal.returns-in_default-clause-turned
-returns-in_default-clause-turned g c = record {
-  run = record { put = []; given = []; rest = []; took = g.K.Sink.nothing c.args.crew.sink; first = refl; rising = c.requires.can.14; whole = tt; published = tt };
-  aligned = none_aligned g.C.Core.stands_for g.N.Naming.given (output_in c.args.crew.publisher) c.args.crew.pace.rate c.args.crew.pace.layout_every (g.M.Mark.stored (mark_in c.args.crew.publisher)).counts g.I.Ticker.gave c.args.crew.ticker NoMemory false [] refl;
-}
+pub returns-in_default-clause-conducted : goal.returns-in_default-clause-conducted
+returns-in_default-clause-conducted g c =
+    rw (c.not_begun.ensures.0, c.not_begun.ensures.1, c.not_begun.ensures.2)
+    (none_conducted g.C.Core.stands_for g.N.Naming.given _ g.S.Source.told _ c.args.crew.pace g.I.Ticker.gave c.args.crew.ticker _ _ (publishing_of c.args.crew.publisher) [] false AlignerGone
+    refl (nothing_sent (g.K.Sink.nothing c.args.crew.sink)) (search rules) c.requires.can.14)

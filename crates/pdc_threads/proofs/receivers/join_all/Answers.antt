@@ -1,0 +1,48 @@
+use Rattle.std.proofs.Common.{rules, arith, ◌≡◌, ◌∷◌, ◌++◌, ap, length, refl, subst, sym, [], IfSome}
+use Rattle.std.specs.Vec.Iter.{into_iter_items}
+use Rattle.pdc_hub.specs.Faults.{IsOfReceiver}
+use Rattle.pdc_threads.specs.Ended.{ending_by}
+use Rattle.pdc_threads.specs.declared.receivers.Counted.{Counted}
+use Rattle.pdc_threads.proofs.Endings.{is_either, joined_on, length_pushed, sum_pushed}
+use Rattle.pdc_threads.proofs.receivers.join_all.Goals as goal
+
+pub loop-handle-init : goal.loop-handle-init
+loop-handle-init g c = (
+  search rules,
+  search rules,
+  search rules,
+  search rules,
+  record { endings = []; are_kept = tt; left = sym c.into_iter-handle-iterator.ensures.into_iter_gives.0; first = refl; entries = λ _. c.new-receivers.ensures.items },
+)
+
+pub loop-handle-preserved-then-is_err : goal.loop-handle-preserved-then-is_err
+loop-handle-preserved-then-is_err g c =
+    let steps = c.in-Some.ensures.steps in (
+      search rules,
+      subst (λ f. IfSome f IsOfReceiver) (sym c.first_of-fault.ensures) (is_either c.loop-handle.fault c.join-more.result.fault c.loop-handle.invariant.1 c.join-more.ensures.1),
+      search rules,
+      omega (arith, ap length steps.0, steps.1, c.loop-handle.invariant.3),
+      joined_on _ c.args.started.running.items c.in-Some.handle (into_iter_items c.loop-handle.handle-iterator) (into_iter_items c.next.new.self) c.loop-handle.receivers.items c.push.new.self.items c.loop-handle.fault c.first_of-fault.result
+          c.loop-handle.complete _ (ending_by c.join-more.result.taken c.join-more.result.refused c.join-more.result.fault) steps.0 c.first_of-fault.ensures c.loop-handle.invariant.4 (λ n. c.join-more.ensures) (search rules),
+    )
+
+pub loop-handle-preserved : goal.loop-handle-preserved
+loop-handle-preserved g c =
+    let steps = c.in-Some.ensures.steps in
+    let counted : Counted = record { taken = c.join-more.result.taken; refused = c.join-more.result.refused } in
+    let items : c.push.new.self.items ≡ c.loop-handle.receivers.items ++ counted ∷ [] = search rules in (
+      λ h.
+          let i = c.loop-handle.invariant.0 h in (
+            omega (arith, c.merge.ensures.parts.0, c.join-more.result.one_part.0, i.0, steps.1),
+            omega (arith, c.merge.ensures.parts.1, c.join-more.result.one_part.1, i.1, steps.1),
+            omega (arith, c.merge.ensures.parts.2, c.join-more.result.one_part.2, i.2, steps.1),
+            omega (arith, c.merge.ensures.amounts.0, c.join-more.result.same.0, i.3, sum_pushed (λ r. r.taken) c.loop-handle.receivers.items c.push.new.self.items counted items),
+            omega (arith, c.merge.ensures.amounts.1, c.join-more.result.same.1, i.4, sum_pushed (λ r. r.refused) c.loop-handle.receivers.items c.push.new.self.items counted items),
+            omega (arith, length_pushed c.loop-handle.receivers.items c.push.new.self.items counted items, i.5, steps.1),
+          ),
+      subst (λ f. IfSome f IsOfReceiver) (sym c.first_of-fault.ensures) (is_either c.loop-handle.fault c.join-more.result.fault c.loop-handle.invariant.1 c.join-more.ensures.1),
+      search rules,
+      omega (arith, ap length steps.0, steps.1, c.loop-handle.invariant.3),
+      joined_on _ c.args.started.running.items c.in-Some.handle (into_iter_items c.loop-handle.handle-iterator) (into_iter_items c.next.new.self) c.loop-handle.receivers.items c.push.new.self.items c.loop-handle.fault c.first_of-fault.result
+          c.loop-handle.complete c.loop-handle.complete (ending_by c.join-more.result.taken c.join-more.result.refused c.join-more.result.fault) steps.0 c.first_of-fault.ensures c.loop-handle.invariant.4 (λ n. c.join-more.ensures) (λ t. (t, items)),
+    )
