@@ -13,6 +13,8 @@ use try_script::{told_merger, told_node};
 /// What a life begins with.
 #[derive(Drop)]
 pub struct Beginning {
+    /// The id of its frames.
+    pub id: u16,
     /// The text of its settings.
     pub text: String,
     /// The opening counts.
@@ -24,18 +26,18 @@ pub trait Lives: Begins {
     /// Whose life it is.
     fn role() -> Role;
 
-    /// The id of its frames.
+    /// The id of its frames, where nothing else is told.
     fn id() -> u16;
 
     /// How many columns it aligns.
     fn columns(&self) -> usize;
 
-    /// What the words of a call tell of a life; none where they tell of none.
+    /// What the words of a call tell of a life with this id; none where they tell of none.
     ///
     /// # Errors
     ///
     /// [`AllocError`] where there is no room and none is got.
-    fn beginning(alloc: Global, words: &[&str]) -> Result<Option<Beginning>, AllocError>;
+    fn beginning(alloc: Global, id: u16, words: &[&str]) -> Result<Option<Beginning>, AllocError>;
 }
 
 /// What node and merger are told alike.
@@ -89,7 +91,7 @@ impl<T: Table> Lives for Node<T> {
         self.settings().pmus.len()
     }
 
-    fn beginning(alloc: Global, words: &[&str]) -> Result<Option<Beginning>, AllocError> {
+    fn beginning(alloc: Global, id: u16, words: &[&str]) -> Result<Option<Beginning>, AllocError> {
         let ["node", words @ ..] = words else {
             return Ok(None);
         };
@@ -99,7 +101,7 @@ impl<T: Table> Lives for Node<T> {
         let settings = &told.settings;
         let mut text = head(
             alloc,
-            201,
+            id,
             settings.window,
             settings.wait,
             settings.wait_kind,
@@ -109,6 +111,7 @@ impl<T: Table> Lives for Node<T> {
             text.push_str(table.as_str())?;
         }
         Ok(Some(Beginning {
+            id,
             text,
             counts: told.counts,
         }))
@@ -128,7 +131,7 @@ impl<T: Table> Lives for Merger<T> {
         self.settings().sources.len()
     }
 
-    fn beginning(alloc: Global, words: &[&str]) -> Result<Option<Beginning>, AllocError> {
+    fn beginning(alloc: Global, id: u16, words: &[&str]) -> Result<Option<Beginning>, AllocError> {
         let ["merger", words @ ..] = words else {
             return Ok(None);
         };
@@ -138,13 +141,14 @@ impl<T: Table> Lives for Merger<T> {
         let settings = &told.settings;
         let mut text = head(
             alloc,
-            301,
+            id,
             settings.window,
             settings.wait,
             settings.wait_kind,
         )?;
         text.push_str(SOURCES)?;
         Ok(Some(Beginning {
+            id,
             text,
             counts: told.counts,
         }))

@@ -1,10 +1,11 @@
-//! Records worked lives, replays and explains them, and complains of each line whose answer is not the wanted one.
+//! Records worked lives, replays, compares and explains them, and complains of each line whose answer is not the wanted one.
 //!
 //! The arguments are pairs: who plays, and the script. `names` reads the frames that scripts call by name; `node` plays on a node and `merger` on
 //! a merger, and each life is recorded entry by entry. Where the next life begins, the record of the one before is replayed.
 //! `recorder.rt` tells the calls, `try_script` how a script is written.
 #![tactic(auto)]
 
+mod comparing;
 mod lives;
 mod recorder;
 mod replaying;
@@ -42,7 +43,7 @@ impl Trials {
         script: &str,
         told: &[&str],
     ) -> io::Result<Played> {
-        match Recorder::<C>::new(alloc, &self.frames, told)? {
+        match Recorder::<C>::new(alloc, &self.frames, C::id(), told)? {
             Some(mut recorder) => play_script(rt, alloc, script, &mut recorder),
             None => Ok(Played::of(false)),
         }

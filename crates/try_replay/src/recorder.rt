@@ -17,7 +17,11 @@
 //! | `plain` | how it is played on the plain program |
 //! | `changed` | whether each changed byte of the record is found |
 //! | `told INSTANT LINE`, `told absent LINE`, `told delays LINE` | a line of what is explained, from 0 |
+//! | `of ID node ..`, `of ID merger ..` | as without `of`, and its id is this |
+//! | `keep`, `keep cut` | `ok`; the record is kept beside those that were; or all but its last byte |
+//! | `compared LINE` | a line of what is told where those that are kept are compared, from 0; none is kept any more behind `compared end` |
 
+use crate::comparing::compared_line;
 use crate::lives::{Beginning, Lives};
 use crate::replaying::{changed_text, plain_text, replayed_text};
 use crate::tellers::told_line;
@@ -26,6 +30,7 @@ use pdc_output::{Output, append_row};
 use pdc_record::{Begun, Entry, What, write_entry};
 use pdc_tag::SECONDS;
 use std::alloc::{AllocError, Global};
+use std::mem;
 use try_script::{
     Frames, LifeCall, Player, counts_text, frame_text, life_call, row_text, tick_text,
 };
@@ -45,13 +50,15 @@ pub struct Recorder<'a, C: Lives> {
     time: u64,
     record: Vec<u8>,
     published: Vec<u8>,
+    /// The records that are kept.
+    kept: Vec<Vec<u8>>,
 }
 
 /// What a record begins with.
 fn begun_of<'b, C: Lives>(beginning: &'b Beginning) -> Begun<'b> {
     Begun {
         role: C::role(),
-        id: C::id(),
+        id: beginning.id,
         rate: 50,
         start: 1,
         floor: 0,
@@ -63,7 +70,7 @@ fn begun_of<'b, C: Lives>(beginning: &'b Beginning) -> Begun<'b> {
 }
 
 impl<'a, C: Lives> Recorder<'a, C> {
-    /// The life that is told of; none where there is no such one.
+    /// The life with this id that is told of; none where there is no such one.
     ///
     /// # Errors
     ///
@@ -71,9 +78,10 @@ impl<'a, C: Lives> Recorder<'a, C> {
     pub fn new(
         alloc: Global,
         frames: &'a Frames,
+        id: u16,
         words: &[&str],
     ) -> Result<Option<Recorder<'a, C>>, AllocError> {
-        let Some(beginning) = C::beginning(alloc, words)? else {
+        let Some(beginning) = C::beginning(alloc, id, words)? else {
             return Ok(None);
         };
         let begun = begun_of::<C>(&beginning);
@@ -89,6 +97,7 @@ impl<'a, C: Lives> Recorder<'a, C> {
             time: START,
             record: Vec::new(alloc),
             published: Vec::new(alloc),
+            kept: Vec::new(alloc),
         };
         recorder.write(What::Begun(begun))?;
         Ok(Some(recorder))
@@ -111,14 +120,15 @@ impl<'a, C: Lives> Recorder<'a, C> {
         Ok(())
     }
 
-    /// Begins another life, where the record of this one is as replayed.
-    fn begin(&mut self, alloc: Global, words: &[&str]) -> Result<String, AllocError> {
+    /// Begins another life with this id, where the record of this one is as replayed.
+    fn begin(&mut self, alloc: Global, id: u16, words: &[&str]) -> Result<String, AllocError> {
         let text = replayed_text(alloc, &self.record)?;
         if !text.as_str().ends_with(": as recorded") {
             return Ok(text);
         }
-        match Recorder::new(alloc, self.frames, words)? {
-            Some(recorder) => {
+        match Recorder::new(alloc, self.frames, id, words)? {
+            Some(mut recorder) => {
+                mem::swap(&mut recorder.kept, &mut self.kept);
                 *self = recorder;
                 "ok".to_string(alloc)
             }
@@ -243,6 +253,32 @@ impl<'a, C: Lives> Recorder<'a, C> {
         "ok".to_string(alloc)
     }
 
+    /// Begins another life with this id.
+    fn begin_of(&mut self, alloc: Global, id: &str, words: &[&str]) -> Result<String, AllocError> {
+        match id.parse::<u16>() {
+            Ok(id) => self.begin(alloc, id, words),
+            Err(_) => "no such id".to_string(alloc),
+        }
+    }
+
+    /// Keeps the record, but for so many bytes of its end.
+    fn keep(&mut self, alloc: Global, cut: usize) -> Result<String, AllocError> {
+        let mut copy = Vec::new(alloc);
+        copy.extend_from_slice(&self.record)?;
+        copy.truncate(copy.len().saturating_sub(cut));
+        self.kept.push(copy)?;
+        "ok".to_string(alloc)
+    }
+
+    /// A line of what is told where the records that are kept are compared.
+    fn compared(&mut self, alloc: Global, line: &str) -> Result<String, AllocError> {
+        if line == "end" {
+            self.kept.clear();
+            return "ok".to_string(alloc);
+        }
+        compared_line(alloc, &self.kept, line)
+    }
+
     /// A datagram in whose place another one is recorded.
     fn swap(
         &mut self,
@@ -267,7 +303,11 @@ impl<C: Lives> Player for Recorder<'_, C> {
             return self.answer(alloc, call);
         }
         match words.as_slice() {
-            ["node" | "merger", ..] => self.begin(alloc, &words),
+            ["node" | "merger", ..] => self.begin(alloc, C::id(), &words),
+            ["of", id, words @ ..] => self.begin_of(alloc, id, words),
+            ["keep"] => self.keep(alloc, 0),
+            ["keep", "cut"] => self.keep(alloc, 1),
+            ["compared", line] => self.compared(alloc, line),
             ["at", millis] => self.set_time(alloc, millis),
             ["unanswered", stream, name] => self.leave(alloc, stream, name),
             ["as", recorded, words @ ..] => self.swap(alloc, recorded, words),

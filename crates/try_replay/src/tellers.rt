@@ -90,7 +90,7 @@ fn write_delays(alloc: Global, record: &[u8], out: &mut Vec<u8>) -> io::Result<(
 }
 
 /// The line with this number, from 0.
-fn line_of(alloc: Global, out: &[u8], line: &str) -> Result<String, AllocError> {
+pub fn line_of(alloc: Global, out: &[u8], line: &str) -> Result<String, AllocError> {
     let number = line.parse::<usize>().unwrap_or(usize::MAX);
     let text = str::from_utf8(out).unwrap_or("");
     for (place, line) in text.lines().enumerate() {
