@@ -6,7 +6,7 @@ use Rattle.pdc_hub.specs.declared.fault.HubFault.TheVariants.{NoMemory}
 use Rattle.pdc_life.specs.Given.{Given}
 use Rattle.pdc_output.specs.declared.output.Output.{Output}
 use Rattle.pdc_threads.specs.Run.{GivesFrom}
-use Rattle.pdc_threads.specs.declared.runs.Totals.{Totals}
+use Rattle.pdc_threads.specs.declared.telling.Totals.{Totals}
 
 -- Where nothing was run, nothing was put, and the ticker was not asked.
 pub nothing_put : {C I : Type 0} (Stands : C → Lives) (named : Option Given) (output : Output) (rate every : ℕ) (counts : List ℕ) (gave : I → List ℕ → Type 0) (ticker : I)

@@ -7,7 +7,7 @@ use Rattle.pdc_aligner.specs.declared.pace.Pace.{Pace}
 use Rattle.pdc_hub.specs.Replay.{Lives}
 use Rattle.pdc_hub.specs.declared.fault.HubFault.{HubFault}
 use Rattle.pdc_threads.specs.Run.{HasRunInTurns}
-use Rattle.pdc_threads.specs.declared.runs.Totals.{Totals}
+use Rattle.pdc_threads.specs.declared.telling.Totals.{Totals}
 
 -- It ran tick by tick, as what was given to its life says: at the rate of its frames, with the layout again after so many ticks, above the
 -- floor that was stored, and with the counts that were stored.

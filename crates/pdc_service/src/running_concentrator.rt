@@ -9,7 +9,7 @@ ghost use Rattle.pdc_life.specs.Given.{Given, given_of};
 ghost use Rattle.pdc_life.specs.MergerReading.{given_of_merger};
 ghost use Rattle.pdc_merge.specs.Merger.{StandsFor as MergerStandsFor};
 ghost use Rattle.pdc_node.specs.Node.{StandsFor};
-ghost use Rattle.pdc_publisher.specs.Publisher.{last_in, mark_in, output_in};
+ghost use Rattle.pdc_publisher.specs.Publisher.{last_in, lead_in, mark_in, output_in};
 ghost use Rattle.pdc_service.specs.Begun.{begun_mark};
 ghost use Rattle.pdc_service.specs.Turned.{HasRunAsGiven, begun_standing};
 
@@ -72,6 +72,7 @@ where
     requires rate { IsAtRate N.given (output_in publisher).rate }
     requires opened { IsOpenedWith N.given (M.stored (mark_in publisher)) }
     ensures totals { IsSummed result.outcome }
+    ensures kept { (output_in result.publisher ≡ output_in publisher) × (lead_in result.publisher ≡ lead_in publisher) }
     ensures sink { IsCausedBySink result.outcome (K.failures_of sink) (K.failures_of result.sink) }
     ensures each { HasEach result.outcome (vec_len sources) }
     ensures mark { IsCausedByMark result.outcome (standing_of publisher) (standing_of result.publisher) }
@@ -86,6 +87,7 @@ where
     run(
         rt, alloc, &hub, settings, shares, top, sources, publisher, ticker, pace, sink,
     )
+    .ran
 }
 
 /// A ledger of so many parts for each of the three totals, and one for the greatest instant popped.
@@ -143,6 +145,7 @@ where
     requires counts { (start floor : ℕ) (counts : List ℕ) → (C.given_with settings.now start floor counts).counts ≡ counts }
     requires streams { (vec_len sources ≡ C.Settings.streams settings.now) × (vec_len sources ≤ MAX_PMUS) }
     ensures totals { IsSummed result.outcome }
+    ensures kept { (output_in result.publisher ≡ output) × (lead_in result.publisher ≡ plan.now.lead) }
     ensures sink { IsCausedBySink result.outcome (K.failures_of sink) (K.failures_of result.sink) }
     ensures each { HasEach result.outcome (vec_len sources) }
     ensures mark { IsCausedByMark result.outcome (begun_standing (M.is_broken (begun_mark mark)) (M.failures (begun_mark mark))) (standing_of result.publisher) }
@@ -200,6 +203,8 @@ pub fn run_node<
     ensures sent { HasRun (K.took sink result.sink) (M.stored (begun_mark mark)).floor (M.stored (mark_in result.publisher)).floor result.outcome }
     // Each source has an entry.
     ensures each { HasEach result.outcome (vec_len sources) }
+    // The publisher is one of the node's frames, and reserves as many instants ahead as the plan says.
+    ensures kept { (output_in result.publisher ≡ settings.now.output) × (lead_in result.publisher ≡ plan.now.lead) }
     // Only a mark that stood broken, or whose device failed, ends it by the device's fault.
     ensures mark { IsCausedByMark result.outcome (begun_standing (M.is_broken (begun_mark mark)) (M.failures (begun_mark mark))) (standing_of result.publisher) }
     // And tick by tick: what was put for each tick are the data frames of the node's life, begun with what the mark stored, and then its
@@ -247,6 +252,7 @@ pub fn run_merger<
     ensures sink { IsCausedBySink result.outcome (K.failures_of sink) (K.failures_of result.sink) }
     ensures sent { HasRun (K.took sink result.sink) (M.stored (begun_mark mark)).floor (M.stored (mark_in result.publisher)).floor result.outcome }
     ensures each { HasEach result.outcome (vec_len sources) }
+    ensures kept { (output_in result.publisher ≡ settings.now.output) × (lead_in result.publisher ≡ plan.now.lead) }
     ensures mark { IsCausedByMark result.outcome (begun_standing (M.is_broken (begun_mark mark)) (M.failures (begun_mark mark))) (standing_of result.publisher) }
     ensures turned { HasRunAsGiven (λ m g E. MergerStandsFor g E m) (given_of_merger settings.now (M.stored (begun_mark mark)).start (M.stored (begun_mark mark)).floor (M.stored (begun_mark mark)).counts 0) plan.now.layout_every (GivesFrom I.gave ticker) (K.took sink result.sink) (M.stored (begun_mark mark)) (M.stored (mark_in result.publisher)) result.outcome }
 {

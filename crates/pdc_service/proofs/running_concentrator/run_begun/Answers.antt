@@ -6,7 +6,7 @@ use Rattle.pdc_life.specs.Given.{Given}
 use Rattle.pdc_mark.specs.declared.stored.Stored.{Stored}
 use Rattle.pdc_output.specs.declared.output.Output.{Output}
 use Rattle.pdc_threads.specs.Run.{HasRunInTurns}
-use Rattle.pdc_threads.specs.declared.runs.Totals.{Totals}
+use Rattle.pdc_threads.specs.declared.telling.Totals.{Totals}
 use Rattle.pdc_publisher.specs.Publisher.{mark_in}
 use Rattle.pdc_service.specs.Begun.{begun_mark}
 use Rattle.pdc_service.proofs.Nothing.{nothing_put}
