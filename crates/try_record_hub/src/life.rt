@@ -1,0 +1,289 @@
+//! A life that is lived through a hub in one thread, and recorded as a running one is.
+ghost use Rattle.std.specs.Prelude.{◌≡◌, ◌<◌, Some, []};
+
+use crate::listed::{Listed, Silent};
+use pdc_core::{Core, Opens, Reads};
+use pdc_life::MAX_PMUS;
+use pdc_output::{Output, append_row};
+use pdc_recording::{RecordedSource, RecordedTicker, Recording};
+use pdc_tag::SECONDS;
+use pdc_threads::{Blanks, Did, Hub, Naming, Next, Numbered, Shares, Source, Ticker};
+use std::alloc::Global;
+use std::marker::Brand;
+use std::rt::Clock;
+use std::sync::Wait;
+use std::sync::ledger::{Blank, Ledger, Share};
+
+/// The instant of the first tick, and its second.
+const FIRST: u64 = 57_478_860_000;
+
+const SOC: u32 = 1_149_577_200;
+
+/// After how many steps the hub's base is brought up.
+const LIMIT: usize = 3;
+
+/// The longest datagram, in bytes.
+const MOST: usize = 128;
+
+/// What both PMUs send.
+#[derive(Clone, Copy)]
+pub struct Sent {
+    /// PMU 11, stream 0,
+    pub first: &'static [&'static str],
+    /// and PMU 12, stream 1.
+    pub second: &'static [&'static str],
+}
+
+/// The next datagram of a source, delivered. None where memory was wanted, or there is none.
+fn arrive<
+    C: Core + Drop,
+    N: Naming<C::Settings>,
+    T: Ledger,
+    F: Ledger,
+    G: Ledger,
+    P: Ledger,
+    R: Wait + Clock,
+>(
+    rt: &R,
+    alloc: Global,
+    settings: &C::Settings,
+    hub: &Hub<C, N, T, F, G, P>,
+    shares: &mut Shares<T, F, G>,
+    stream: usize,
+    source: &mut RecordedSource<'_, Listed, R>,
+) -> Option<()>
+    requires settings { N.settings ≡ Some settings.now }
+    requires stream { stream < C.Settings.streams settings.now }
+    requires parts { (0 < shares.old.taken.parts) × (0 < shares.old.refused.parts) × (0 < shares.old.configured.parts) }
+    ensures parts { (shares.new.taken.parts ≡ shares.old.taken.parts) × (shares.new.refused.parts ≡ shares.old.refused.parts) × (shares.new.configured.parts ≡ shares.old.configured.parts) }
+{
+    let Ok(mut buffer) = vec![in alloc; 0u8; MOST] else {
+        return None;
+    };
+    let Next::Datagram(len) = source.next(buffer.as_mut_slice()) else {
+        return None;
+    };
+    let Ok(datagram) = settings.read_kept(alloc, stream, &buffer[..len]) else {
+        return None;
+    };
+    let Ok(answer) = hub.deliver(rt, stream, datagram, shares) else {
+        return None;
+    };
+    source.answered(Some(answer));
+    Some(())
+}
+
+/// A tick. The number of its step; none where memory was wanted.
+fn tick<
+    C: Core + Drop,
+    N: Naming<C::Settings>,
+    T: Ledger,
+    F: Ledger,
+    G: Ledger,
+    P: Ledger,
+    R: Wait + Clock,
+>(
+    rt: &R,
+    hub: &Hub<C, N, T, F, G, P>,
+    ticker: &mut RecordedTicker<'_, Silent, R>,
+    now: u64,
+) -> Option<u64> {
+    let counts = [u16::MAX; MAX_PMUS];
+    let Ok(Numbered { step, answer }) = hub.tick(rt, now, &counts) else {
+        return None;
+    };
+    ticker.note(
+        step,
+        &Did::Ticked {
+            now,
+            counts: &counts,
+            closed: answer.closed,
+            change: answer.change,
+            used_up: answer.used_up,
+        },
+    );
+    Some(step)
+}
+
+/// The layout in force is laid, behind the step with this number. None where memory was wanted.
+fn lay<
+    C: Core + Drop,
+    N: Naming<C::Settings>,
+    T: Ledger,
+    F: Ledger,
+    G: Ledger,
+    P: Ledger,
+    R: Wait + Clock,
+>(
+    rt: &R,
+    alloc: Global,
+    hub: &Hub<C, N, T, F, G, P>,
+    ticker: &mut RecordedTicker<'_, Silent, R>,
+    step: u64,
+) -> Option<()> {
+    let mut frame = Vec::new(alloc);
+    if hub.layout(rt, SOC, &mut frame).is_err() {
+        return None;
+    }
+    ticker.note(step, &Did::Laid(frame.as_slice()));
+    Some(())
+}
+
+/// A pop, whose row is published. None where memory was wanted.
+fn pop<
+    C: Core + Drop,
+    N: Naming<C::Settings>,
+    T: Ledger,
+    F: Ledger,
+    G: Ledger,
+    P: Ledger,
+    R: Wait + Clock,
+>(
+    rt: &R,
+    alloc: Global,
+    output: &Output,
+    hub: &Hub<C, N, T, F, G, P>,
+    top: &mut Share<P>,
+    ticker: &mut RecordedTicker<'_, Silent, R>,
+) -> Option<()>
+    requires top { (top.old.parts ≡ P.parts) × (0 < top.old.parts) }
+    ensures top { top.new.parts ≡ top.old.parts }
+{
+    let Ok(Numbered { step, answer }) = hub.pop(rt, top) else {
+        return None;
+    };
+    let Some(row) = answer else {
+        ticker.note(step, &Did::FoundNone);
+        return Some(());
+    };
+    let mut frame = Vec::new(alloc);
+    if row.instant >= SECONDS * u64::from(output.rate) {
+        return None;
+    }
+    if append_row(output, &row, &mut frame).is_err() {
+        return None;
+    }
+    let instant = row.instant;
+    ticker.note(
+        step,
+        &Did::Popped {
+            instant,
+            frame: Some(frame.as_slice()),
+        },
+    );
+    Some(())
+}
+
+/// The life: both configurations, the tick that adopts them, its layout, the data of both for one instant, and its row. None where memory
+/// was wanted.
+fn live<
+    C: Core + Drop,
+    N: Naming<C::Settings>,
+    T: Ledger,
+    F: Ledger,
+    G: Ledger,
+    P: Ledger,
+    R: Wait + Clock,
+>(
+    rt: &R,
+    alloc: Global,
+    settings: &C::Settings,
+    output: &Output,
+    hub: &Hub<C, N, T, F, G, P>,
+    shares: &mut Shares<T, F, G>,
+    top: &mut Share<P>,
+    recording: &Recording,
+    sent: &Sent,
+) -> Option<()>
+    requires settings { N.settings ≡ Some settings.now }
+    requires streams { C.Settings.streams settings.now ≡ 2 }
+    requires parts { (0 < shares.old.taken.parts) × (0 < shares.old.refused.parts) × (0 < shares.old.configured.parts) }
+    requires top { (top.old.parts ≡ P.parts) × (0 < top.old.parts) }
+{
+    let recording = Some(recording);
+    let mut first = RecordedSource::new(rt, alloc, recording, 0, Listed::of(sent.first));
+    let mut second = RecordedSource::new(rt, alloc, recording, 1, Listed::of(sent.second));
+    let mut ticker = RecordedTicker::new(rt, recording, Silent);
+    arrive(rt, alloc, settings, hub, shares, 0, &mut first)?;
+    arrive(rt, alloc, settings, hub, shares, 1, &mut second)?;
+    let step = tick(rt, hub, &mut ticker, FIRST)?;
+    lay(rt, alloc, hub, &mut ticker, step)?;
+    pop(rt, alloc, output, hub, top, &mut ticker)?;
+    arrive(rt, alloc, settings, hub, shares, 1, &mut second)?;
+    arrive(rt, alloc, settings, hub, shares, 0, &mut first)?;
+    tick(rt, hub, &mut ticker, FIRST + 1)?;
+    pop(rt, alloc, output, hub, top, &mut ticker)?;
+    pop(rt, alloc, output, hub, top, &mut ticker)
+}
+
+/// The life of a core through a hub. None where memory was wanted.
+fn live_on<
+    C: Opens,
+    N: Naming<C::Settings>,
+    T: Ledger,
+    F: Ledger,
+    G: Ledger,
+    P: Ledger,
+    R: Wait + Clock,
+>(
+    rt: &R,
+    alloc: Global,
+    settings: &C::Settings,
+    base: C,
+    counts: &[u16; MAX_PMUS],
+    recording: &Recording,
+    sent: &Sent,
+    blanks: Blanks,
+) -> Option<()>
+    requires given { N.given ≡ Some (C.given_with settings.now 1 0 counts.now) }
+    requires stands { C.stands_for base (C.given_with settings.now 1 0 counts.now) [] }
+    requires settings { (N.settings ≡ Some settings.now) × (C.settings_of base ≡ settings.now) }
+    requires streams { C.Settings.streams settings.now ≡ 2 }
+    requires names { (blanks.taken.name ≡ T.name) × (blanks.refused.name ≡ F.name) × (blanks.configured.name ≡ G.name) × (blanks.top.name ≡ P.name) }
+    requires parts { (blanks.taken.parts ≡ T.parts) × (blanks.refused.parts ≡ F.parts) × (blanks.configured.parts ≡ G.parts) × (blanks.top.parts ≡ P.parts) }
+    requires count { (T.parts ≡ 1) × (F.parts ≡ 1) × (G.parts ≡ 1) × (P.parts ≡ 1) }
+{
+    let output = base.output();
+    let Ok(state) = base.open_next(alloc, 1, 0, counts) else {
+        return None;
+    };
+    let (hub, shares, top) = Hub::<C, N, T, F, G, P>::new(alloc, base, state, LIMIT, 0, blanks);
+    let mut shares = shares;
+    let mut top = top;
+    live(
+        rt,
+        alloc,
+        settings,
+        &output,
+        &hub,
+        &mut shares,
+        &mut top,
+        recording,
+        sent,
+    )
+}
+
+/// The life of a core, which is at its start. None where memory was wanted.
+pub fn record_life<C: Opens, R: Wait + Clock>(
+    rt: &R,
+    alloc: Global,
+    settings: &C::Settings,
+    first: C,
+    counts: &[u16; MAX_PMUS],
+    recording: &Recording,
+    sent: &Sent,
+) -> Option<()>
+    requires stands { C.stands_for first (C.given_with settings.now 1 0 counts.now) [] }
+    requires settings { C.settings_of first ≡ settings.now }
+    requires streams { C.Settings.streams settings.now ≡ 2 }
+{
+    let blanks = Blanks {
+        taken: Blank::new(1),
+        refused: Blank::new(1),
+        configured: Blank::new(1),
+        top: Blank::new(1),
+    };
+    live_on::<C, Brand, Brand, Brand, Brand, Brand, R>(
+        rt, alloc, settings, first, counts, recording, sent, blanks,
+    )
+}
