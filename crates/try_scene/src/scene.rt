@@ -120,7 +120,8 @@ fn opened<
     println!(rt; "{name}")?;
     let ran = run(
         rt, alloc, shared, settings, shares, top, sources, publisher, ticker, pace, sink,
-    ).ran;
+    )
+    .ran;
     let taken = hub.counts(rt).taken;
     let published = scene.shown.published.load(Ordering::SeqCst);
     let last = scene.shown.last.load(Ordering::SeqCst);
