@@ -46,12 +46,15 @@ fn text_of<R: Files<File = File> + AllocGlobal>(rt: &R, file: &str) -> Result<St
 
 /// Where a session is served that listens at this address: one that listens at all addresses is reached by the loopback.
 fn reached(address: IpAddr, port: u16) -> SocketAddr {
-    let ip = match address {
-        IpAddr::V4(ip) if ip.is_unspecified() => IpAddr::V4(Ipv4Addr::LOCALHOST),
-        IpAddr::V6(ip) if ip.is_unspecified() => IpAddr::V6(Ipv6Addr::LOCALHOST),
-        ip => ip,
+    if !address.is_unspecified() {
+        return SocketAddr::new(address, port);
+    }
+    let loopback = if address.is_ipv4() {
+        IpAddr::from(Ipv4Addr::LOCALHOST)
+    } else {
+        IpAddr::from(Ipv6Addr::LOCALHOST)
     };
-    SocketAddr::new(ip, port)
+    SocketAddr::new(loopback, port)
 }
 
 /// The session of the node that this text describes.
