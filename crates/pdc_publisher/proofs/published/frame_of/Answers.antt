@@ -1,26 +1,23 @@
-use Rattle.std.proofs.lemmas.Bool.{false≢true}
-use Rattle.std.proofs.Common.{ℕ, ◌++◌, ◌∙◌, List, Result, Ok, Err, IsOk, OnOk, length, refl, ap, arith}
+use Rattle.std.proofs.Common.{ap, arith, length}
 use Rattle.pdc_row.specs.RowView.{row_view}
 use Rattle.pdc_output.specs.Layout.{wire_of}
+use Rattle.pdc_publisher.proofs.Fitting.{appended, framed_of}
 use Rattle.pdc_publisher.proofs.published.frame_of.Goals as goal
 
 pub unwrap-requires : goal.unwrap-requires
 unwrap-requires c = c.append_row.ensures.room (omega (arith, c.append_row.ensures.most, ap length c.new-bytes.ensures))
 
--- what holds of `Ok` holds of what is `Ok`
-held : {T E P : Type 0} (r : Result T E) → IsOk r → OnOk r P → P
-held (Ok x) ok p = p
-held (Err e) ok p = absurd (false≢true ok)
+pub returns : goal.returns
+returns c =
+    let room = c.append_row.ensures.room (omega (arith, c.append_row.ensures.most, ap length c.new-bytes.ensures)) in
+    framed_of c.args.output.now c.args.row.now _ c.requires
+    (appended c.append_row.result c.append_row.new.out.items _ (wire_of c.args.output.now (row_view c.args.row.now)) room c.append_row.ensures.ok c.new-bytes.ensures)
 
 pub invariant_of-result : goal.invariant_of-result
 invariant_of-result c =
-    let wire : List ℕ = wire_of c.args.output.now (row_view c.args.row.now) in
     let room = c.append_row.ensures.room (omega (arith, c.append_row.ensures.most, ap length c.new-bytes.ensures)) in
     record {
-      of_some_row = λ none. none c.args.output.now (row_view c.args.row.now) (record {
-        at = refl;
-        begun = refl;
-        changed = refl;
-        wire = held c.append_row.result room c.append_row.ensures.ok ∙ ap (λ (old : List ℕ). old ++ wire) c.new-bytes.ensures;
-      });
+      of_some_row = λ none. none c.args.output.now (row_view c.args.row.now)
+          (framed_of c.args.output.now c.args.row.now _ c.requires
+          (appended c.append_row.result c.append_row.new.out.items _ (wire_of c.args.output.now (row_view c.args.row.now)) room c.append_row.ensures.ok c.new-bytes.ensures));
     }
