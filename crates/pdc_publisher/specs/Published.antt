@@ -1,22 +1,22 @@
 -- A published frame (this profile).
-use Rattle.std.specs.Prelude.{◌≡◌, ◌*◌, ◌<◌, ◌≤◌, ℕ, [], List, length}
-use Rattle.std.specs.List.{AllByRecursion}
+use Rattle.std.specs.Prelude.{◌≡◌, ◌*◌, ◌<◌, ◌≤◌, ℕ, [], List, length, map}
 use Rattle.pdc_tag.specs.declared.limits.TheConstants.{SECONDS}
 use Rattle.pdc_row.specs.CellView.{BlockView}
 use Rattle.pdc_row.specs.RowView.{RowView}
-use Rattle.pdc_row.specs.pdc_cfg.Shape.{word_count_of}
+use Rattle.pdc_row.specs.pdc_block.Block.{AreOfShapes}
+use Rattle.pdc_row.specs.pdc_cfg.declared.shape.Shape.{Shape}
 use Rattle.pdc_output.specs.declared.output.Output.{Output}
+use Rattle.pdc_output.specs.Laws.{words_of_row}
 use Rattle.pdc_output.specs.Layout.{wire_of}
 
--- A block has as many words as its shape says.
-abbrev pub IsShaped : BlockView → Type 0
-IsShaped block = length block.words ≡ word_count_of block.shape
+abbrev pub shapes_of : RowView → List Shape
+shapes_of row = map (λ (block : BlockView). block.shape) row.blocks
 
 -- The row fits a data frame of this rate: at most 16 blocks, each with the words of its shape, a time quality of four bits, and an instant
 -- whose second has 32 bits.
 pub record Fits (output : Output) (row : RowView) : Type 0 where
   pub few : length row.blocks ≤ 16
-  pub shaped : AllByRecursion IsShaped row.blocks
+  pub shaped : AreOfShapes (shapes_of row) (words_of_row row)
   pub quality : row.quality < 16
   pub tagged : row.instant < SECONDS * output.rate
 
@@ -28,11 +28,9 @@ pub record IsRowFrame (instant start change : ℕ) (bytes : List ℕ) (output : 
   pub wire : bytes ≡ wire_of output row
   pub fits : Fits output row
 
--- There is a row of which the bytes are the data frame: that there were none is absurd. A type keeps it, and a type keeps
--- only what has no content of its own, so it is said in this way.
-abbrev pub IsOfSomeRow : (instant start change : ℕ) → List ℕ → Type 0
-IsOfSomeRow instant start change bytes =
-    ((output : Output) → (row : RowView) → IsRowFrame instant start change bytes output row → ⊥) → ⊥
+-- There is a row of which the bytes are the data frame.
+abbrev pub IsOfSomeRow : Output → (instant start change : ℕ) → List ℕ → Type 0
+IsOfSomeRow output instant start change bytes = (row : RowView) × IsRowFrame instant start change bytes output row
 
 -- a row of instant 0 without blocks
 abbrev pub no_row : RowView

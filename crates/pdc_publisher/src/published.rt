@@ -11,6 +11,8 @@ use pdc_row::DueRow;
 /// The data frame of a row that was published (this profile; C37.118.2-2011, 6.3).
 #[derive(Drop)]
 pub struct Published {
+    /// What the concentrator says of itself that published it.
+    pub output: Output,
     /// The instant.
     pub instant: u64,
     /// The start number of the layout that the row closed under.
@@ -19,13 +21,14 @@ pub struct Published {
     pub change: u32,
     /// The frame, at most 3454 bytes.
     pub bytes: ArrayVec<u8, MAX_ROW_LEN>,
-    pub ghost of_some_row: { IsOfSomeRow instant start change bytes.items },
+    pub ghost of_some_row: { ∥ IsOfSomeRow output instant start change bytes.items ∥₁ },
 }
 
 /// A frame to be written over, by [`Publisher::publish_into`](crate::Publisher::publish_into): that of a row of instant 0 without
 /// blocks.
 pub fn spare_frame(output: &Output) -> Published
-    ensures { IsRowFrame result.instant result.start result.change result.bytes.items output.now no_row }
+    ensures output { result.output ≡ output.now }
+    ensures frame { IsRowFrame result.instant result.start result.change result.bytes.items output.now no_row }
 {
     let row = DueRow {
         instant: 0,
@@ -40,11 +43,13 @@ pub fn spare_frame(output: &Output) -> Published
 /// The frame of a row.
 pub fn frame_of(output: &Output, row: &DueRow) -> Published
     requires { row.now.instant < SECONDS * output.now.rate }
-    ensures { IsRowFrame result.instant result.start result.change result.bytes.items output.now (row_view row.now) }
+    ensures output { result.output ≡ output.now }
+    ensures frame { IsRowFrame result.instant result.start result.change result.bytes.items output.now (row_view row.now) }
 {
     let mut bytes = ArrayVec::new();
     append_row(output, row, &mut bytes).unwrap();
     Published {
+        output: *output,
         instant: row.instant,
         start: row.start,
         change: row.change,
@@ -55,10 +60,12 @@ pub fn frame_of(output: &Output, row: &DueRow) -> Published
 /// Writes the frame of a row over this one.
 pub fn write_over(output: &Output, row: &DueRow, frame: &mut Published)
     requires { row.now.instant < SECONDS * output.now.rate }
-    ensures { IsRowFrame frame.new.instant frame.new.start frame.new.change frame.new.bytes.items output.now (row_view row.now) }
+    ensures output { frame.new.output ≡ output.now }
+    ensures frame { IsRowFrame frame.new.instant frame.new.start frame.new.change frame.new.bytes.items output.now (row_view row.now) }
 {
     frame.bytes.clear();
     append_row(output, row, &mut frame.bytes).unwrap();
+    frame.output = *output;
     frame.instant = row.instant;
     frame.start = row.start;
     frame.change = row.change;

@@ -147,6 +147,7 @@ impl<M: Mark> Publisher<M> {
         ensures ok { OnOk result (B.content out.new ≡ B.content out.old ++ wire_of (output_in self.old) (row_view row)) }
         // and handed on.
         ensures published { IfOk result (λ p. IsRowFrame p.instant p.start p.change p.bytes.items (output_in self.old) (row_view row)) }
+        ensures output { IfOk result (λ p. p.output ≡ output_in self.old) }
         // Its instant was reserved before.
         ensures stored { OnOk result (M.stored (mark_in self.new) ≡ reserved (lead_in self.old) (M.stored (mark_in self.old)) row.instant) }
         ensures covered { OnOk result (row.instant ≤ (M.stored (mark_in self.new)).floor) }
@@ -201,6 +202,7 @@ impl<M: Mark> Publisher<M> {
         requires above { last_in self.old < row.now.instant }
         requires instant { row.now.instant < SECONDS * (output_in self.old).rate }
         // The frame is that of the row.
+        ensures output { OnOk result (frame.new.output ≡ output_in self.old) }
         ensures ok { OnOk result (IsRowFrame frame.new.instant frame.new.start frame.new.change frame.new.bytes.items (output_in self.old) (row_view row.now)) }
         // Its instant was reserved before.
         ensures stored { OnOk result (M.stored (mark_in self.new) ≡ reserved (lead_in self.old) (M.stored (mark_in self.old)) row.now.instant) }

@@ -7,8 +7,8 @@ use Rattle.pdc_publisher.proofs.published.write_over.Goals as goal
 pub unwrap-requires : goal.unwrap-requires
 unwrap-requires c = c.append_row.ensures.room (omega (arith, c.append_row.ensures.most, ap length c.clear.ensures))
 
-pub returns : goal.returns
-returns c =
+pub returns-clause-frame : goal.returns-clause-frame
+returns-clause-frame c =
     let room = c.append_row.ensures.room (omega (arith, c.append_row.ensures.most, ap length c.clear.ensures)) in
     framed_of c.args.output.now c.args.row.now _ c.requires
     (appended c.append_row.result c.append_row.new.out.items _ (wire_of c.args.output.now (row_view c.args.row.now)) room c.append_row.ensures.ok c.clear.ensures)
@@ -17,7 +17,9 @@ pub invariant_of-frame : goal.invariant_of-frame
 invariant_of-frame c =
     let room = c.append_row.ensures.room (omega (arith, c.append_row.ensures.most, ap length c.clear.ensures)) in
     record {
-      of_some_row = λ none. none c.args.output.now (row_view c.args.row.now)
-          (framed_of c.args.output.now c.args.row.now _ c.requires
-          (appended c.append_row.result c.append_row.new.out.items _ (wire_of c.args.output.now (row_view c.args.row.now)) room c.append_row.ensures.ok c.clear.ensures));
+      of_some_row = ∣ (
+        row_view c.args.row.now,
+        framed_of c.args.output.now c.args.row.now _ c.requires
+            (appended c.append_row.result c.append_row.new.out.items _ (wire_of c.args.output.now (row_view c.args.row.now)) room c.append_row.ensures.ok c.clear.ensures),
+      ) ∣₁;
     }
