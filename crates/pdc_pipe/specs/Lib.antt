@@ -3,3 +3,4 @@ pub mod HandedOn
 pub mod Layout
 pub mod Pipe
 pub mod Sequence
+pub use Rattle.pdc_publisher.specs as pdc_publisher

@@ -6,6 +6,7 @@ ghost use Rattle.pdc_pipe.specs.HandedOn.{HasHandedOn, HasSinkCause};
 ghost use Rattle.pdc_pipe.specs.Pipe.{log};
 
 use crate::message::Message;
+use crate::outlet::Outlet;
 use crate::pipe::{CAPACITY, InOrder, Log, Receiver, Roles, Sender, Total};
 use crate::senders::{Ended, send_out};
 use crossbeam_channel::{Pass, bounded_with};
@@ -80,7 +81,7 @@ impl<'a, K: Sink> Promise<Sent<K>> for HandsOn<'a, K> {
 }
 
 /// As [`send_out`], of a sink that is its own.
-pub fn send_owned<K: Sink, R: Wait>(
+pub fn send_owned<K: Outlet, R: Wait>(
     rt: &R,
     from: &Receiver,
     pass: Pass<Message, Log>,

@@ -9,9 +9,9 @@ ghost use Rattle.pdc_pipe.specs.declared.message.Message.TheVariants.{End};
 ghost use Rattle.pdc_ports.specs.Failures.{HasRisen};
 
 use crate::message::Message;
+use crate::outlet::Outlet;
 use crate::pipe::{Log, Receiver, take_next};
 use crossbeam_channel::Pass;
-use pdc_ports::Sink;
 use std::sync::Wait;
 
 /// How the sender ended.
@@ -26,7 +26,7 @@ pub enum Ended {
 }
 
 /// Hands what it takes to the sink, up to the end mark or the sink's first fault.
-fn hand_on<K: Sink, R: Wait>(
+fn hand_on<K: Outlet, R: Wait>(
     rt: &R,
     receiver: &Receiver,
     pass: &mut Pass<Message, Log>,
@@ -41,12 +41,12 @@ fn hand_on<K: Sink, R: Wait>(
     for _ in rt.forever() {
         match take_next(rt, receiver, pass) {
             Some(Message::Data(frame)) => {
-                if sink.send(frame.bytes.as_slice()).is_err() {
+                if sink.send_data(&frame).is_err() {
                     return Ended::SinkFault;
                 }
             }
             Some(Message::Layout(frame)) => {
-                if sink.send(frame.bytes.as_slice()).is_err() {
+                if sink.send_layout(&frame).is_err() {
                     return Ended::SinkFault;
                 }
             }
@@ -75,7 +75,7 @@ fn drain<R: Wait>(rt: &R, receiver: &Receiver, pass: &mut Pass<Message, Log>)
 
 /// Hands what it takes to the sink, each frame whole and once. After a fault of the sink it hands nothing more on, and goes on taking up to
 /// the end mark, so that the aligner is not held.
-pub fn send_out<K: Sink, R: Wait>(
+pub fn send_out<K: Outlet, R: Wait>(
     rt: &R,
     receiver: &Receiver,
     pass: &mut Pass<Message, Log>,

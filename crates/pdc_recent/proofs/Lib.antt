@@ -1,2 +1,3 @@
 mod Givens
 mod Pushes
+mod Keeping

@@ -43,3 +43,7 @@ made_alike {P = P} make a b p q s t is =
 pub where_err : {U E P Q : Type 0} (answer : Result U E) → (P → Q) → OnErr answer P → OnErr answer Q
 where_err (Ok u) f p = tt
 where_err (Err e) f p = f p
+
+pub where_ok : {U E P Q : Type 0} (answer : Result U E) → (P → Q) → OnOk answer P → OnOk answer Q
+where_ok (Ok u) f p = f p
+where_ok (Err e) f p = tt

@@ -53,7 +53,7 @@ impl<N: Naming> Recent<N> {
         instant: u64,
         bytes: &[u8],
     ) -> Result<(), AllocError>
-        requires { IsData N.stream instant bytes.now }
+        requires { ∥ IsData N.stream instant bytes.now ∥₁ }
     {
         self.remembered.lock(rt).push(alloc, instant, bytes)
     }

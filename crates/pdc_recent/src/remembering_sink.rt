@@ -1,40 +1,50 @@
 //! A sink that keeps what it sent.
-ghost use Rattle.std.specs.Prelude.{◌≡◌, List, ℕ};
-ghost use Rattle.pdc_frame.specs.Frame.{IsFrame, fields_of};
-ghost use Rattle.pdc_frame.specs.declared.frame.Kind.TheVariants.{Cfg2, DataFrame};
+ghost use Rattle.std.specs.Prelude.{◌≡◌, List, true, ℕ};
 ghost use Rattle.pdc_recent.specs.Stream.{stream_of};
 
+use crate::laws::rows_are_data;
 use crate::naming::Naming;
 use crate::recent::Recent;
 use pdc_cfg::read_config;
-use pdc_frame::{Frame, Kind, read_frame};
+use pdc_frame::{Kind, read_frame};
 use pdc_output::Output;
-use pdc_ports::{Sink, SinkFault};
-use pdc_tag::instant;
+use pdc_pipe::{LayoutFrame, Outlet, Published, Sink, SinkFault};
 use std::alloc::{AllocError, Global};
 use std::sync::Wait;
+use std::sync::atomic::{AtomicU64, Ordering};
 
-/// Sends each frame by another sink, and then keeps it, whether or not it was sent: a data frame under the instant of its time tag, a layout
-/// frame in place of the one before. A frame that cannot be sent, or not be kept for want of memory, is a fault. Each is read before it is kept, since a
-/// sink is given bytes alone.
+/// Sends each frame by another sink, and then keeps it, whether or not it was sent: a data frame under its instant, a layout frame in place
+/// of the one before. What cannot be kept for want of memory is counted, and lost for the readers of what is kept alone.
+///
+/// A data frame says itself of which instant it is and of which stream; a layout frame is read before it is kept. Bytes that do not say what
+/// they are ([`Sink::send`]) are sent and not kept.
 #[derive(Drop)]
 pub struct RememberingSink<'a, N: Naming, K: Sink + Drop, R: Wait> {
     rt: &'a R,
     alloc: Global,
     recent: &'a Recent<N>,
     output: Output,
+    unkept: &'a AtomicU64,
     inner: K,
-    failures: u64,
     pub ghost of_stream: { N.stream ≡ stream_of output },
 }
 
+/// Whether both are of one stream: the same id, TIME_BASE and rate.
+fn are_of_one_stream(one: &Output, other: &Output) -> bool
+    ensures { result ≡ true → stream_of one.now ≡ stream_of other.now }
+{
+    one.id == other.id && one.time_base == other.time_base && one.rate == other.rate
+}
+
 impl<'a, N: Naming, K: Sink + Drop, R: Wait> RememberingSink<'a, N, K, R> {
-    /// A sink that sends by `inner` the frames of a concentrator with this output, and keeps them in `recent`.
+    /// A sink that sends by `inner` the frames of a concentrator with this output, keeps them in `recent`, and counts in `unkept` those
+    /// that it cannot keep.
     pub fn new(
         rt: &'a R,
         alloc: Global,
         recent: &'a Recent<N>,
         output: Output,
+        unkept: &'a AtomicU64,
         inner: K,
     ) -> RememberingSink<'a, N, K, R>
         requires { N.stream ≡ stream_of output }
@@ -44,46 +54,30 @@ impl<'a, N: Naming, K: Sink + Drop, R: Wait> RememberingSink<'a, N, K, R> {
             alloc,
             recent,
             output,
+            unkept,
             inner,
-            failures: 0,
         }
     }
 
-    /// Keeps a frame that was sent; one that is no frame of the concentrator is passed over.
-    fn keep(&self, bytes: &[u8]) -> Result<(), AllocError> {
+    /// Keeps a data frame under its instant; one of another stream is passed over.
+    fn keep_data(&self, frame: &Published) -> Result<(), AllocError> {
+        rows_are_data();
+        if !are_of_one_stream(&frame.output, &self.output) {
+            return Ok(());
+        }
+        self.recent
+            .push(self.rt, self.alloc, frame.instant, frame.bytes.as_slice())
+    }
+
+    /// Keeps a layout frame of the stream, which can be read, and tells the concentrator's TIME_BASE and rate; another is passed over.
+    fn keep_layout(&self, bytes: &[u8]) -> Result<(), AllocError> {
         let Ok(frame) = read_frame(bytes) else {
             return Ok(());
         };
-        if frame.id != self.output.id {
+        if frame.id != self.output.id || frame.kind != Kind::Cfg2 {
             return Ok(());
         }
-        match frame.kind {
-            Kind::DataFrame => self.keep_data(&frame, bytes),
-            Kind::Cfg2 => self.keep_layout(&frame, bytes),
-            _ => Ok(()),
-        }
-    }
-
-    /// Keeps a data frame under the instant of its time tag.
-    fn keep_data(&self, frame: &Frame, bytes: &[u8]) -> Result<(), AllocError>
-        requires frame { IsFrame bytes.now (fields_of frame.now) }
-        requires kind { frame.now.kind ≡ DataFrame }
-        requires id { frame.now.id ≡ self.now.output.id }
-    {
-        let rate = u32::from(self.output.rate);
-        match instant(frame.soc, frame.frac, self.output.time_base, rate) {
-            Some(instant) => self.recent.push(self.rt, self.alloc, instant, bytes),
-            None => Ok(()),
-        }
-    }
-
-    /// Keeps a layout frame that can be read, and tells the concentrator's TIME_BASE and rate.
-    fn keep_layout(&self, frame: &Frame, bytes: &[u8]) -> Result<(), AllocError>
-        requires frame { IsFrame bytes.now (fields_of frame.now) }
-        requires kind { frame.now.kind ≡ Cfg2 }
-        requires id { frame.now.id ≡ self.now.output.id }
-    {
-        let Ok(config) = read_config(frame) else {
+        let Ok(config) = read_config(&frame) else {
             return Ok(());
         };
         let rate = config.rate.cast_unsigned();
@@ -94,27 +88,42 @@ impl<'a, N: Naming, K: Sink + Drop, R: Wait> RememberingSink<'a, N, K, R> {
         self.recent.keep_layout(self.rt, copy);
         Ok(())
     }
+
+    /// Counts what could not be kept.
+    fn count(&self, kept: Result<(), AllocError>) {
+        if kept.is_err() {
+            self.unkept.fetch_add(1, Ordering::Relaxed);
+        }
+    }
 }
 
-/// It tells what the other sink took, until it fails.
+/// It takes what the other sink takes.
 impl<'a, N: Naming, K: Sink + Drop, R: Wait> Sink for RememberingSink<'a, N, K, R> {
-    ghost took = { λ before now given. now.failures ≡ 0 → K.took before.inner now.inner given };
+    ghost took = { λ before now given. K.took before.inner now.inner given };
 
-    ghost nothing = { λ s. λ _. K.nothing s.inner };
+    ghost nothing = { λ s. K.nothing s.inner };
 
-    ghost failures_of = { λ s. s.failures };
+    ghost failures_of = { λ s. K.failures_of s.inner };
 
     fn send(&mut self, bytes: &[u8]) -> Result<(), SinkFault> {
-        let is_sent = self.inner.send(bytes).is_ok();
-        let is_kept = self.keep(bytes).is_ok();
-        if is_sent && is_kept {
-            return Ok(());
-        }
-        self.failures = self.failures.saturating_add(1);
-        Err(SinkFault)
+        self.inner.send(bytes)
     }
 
     fn failures(&self) -> u64 {
-        self.failures
+        self.inner.failures()
+    }
+}
+
+impl<'a, N: Naming, K: Sink + Drop, R: Wait> Outlet for RememberingSink<'a, N, K, R> {
+    fn send_data(&mut self, frame: &Published) -> Result<(), SinkFault> {
+        let sent = self.inner.send(frame.bytes.as_slice());
+        self.count(self.keep_data(frame));
+        sent
+    }
+
+    fn send_layout(&mut self, frame: &LayoutFrame) -> Result<(), SinkFault> {
+        let sent = self.inner.send(frame.bytes.as_slice());
+        self.count(self.keep_layout(frame.bytes.as_slice()));
+        sent
     }
 }
