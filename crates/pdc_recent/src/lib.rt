@@ -5,7 +5,8 @@
 //!
 //! To the layers above this crate promises that whatever other threads do, a reader that asks for the frames above an instant is given data
 //! frames of the stream, whose time tags tell instants that strictly rise above it, and is told the greatest of them; and that the layout
-//! that is kept is a CFG-2 frame of the stream. Until it fails, a remembering sink took what the other one took. That a reader is given the frames that were pushed, and no others, is shown by tests.
+//! that is kept is a CFG-2 frame of the stream. A remembering sink takes what the other one takes. That a reader is given the frames that were
+//! pushed, and no others, is shown by tests.
 #![tactic(auto)]
 
 mod laws;
@@ -16,5 +17,6 @@ mod remembering_sink;
 
 pub use laws::rows_are_data;
 pub use naming::Naming;
+pub use pdc_pipe::{Outlet, Published, Sink, SinkFault};
 pub use recent::Recent;
 pub use remembering_sink::RememberingSink;

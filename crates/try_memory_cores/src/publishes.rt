@@ -5,7 +5,7 @@ use crate::vectors::{BEFORE, FIRST, WORDS};
 use arrayvec::ArrayVec;
 use pdc_life::{Block, DueRow, Nominal, Output, Shape};
 use pdc_mark::{Mark, ModelMark};
-use pdc_publisher::{PublishFault, Publisher};
+use pdc_publisher::{PublishFault, Published, Publisher, spare_frame};
 use std::alloc::{AllocError, Global};
 use std::io;
 use try_memory::{DONE, NO_CALL, NO_MEMORY, State, Trial, make, state_of};
@@ -38,6 +38,14 @@ fn row(instant: u64) -> DueRow
         quality: 0,
         blocks,
     }
+}
+
+/// The frame of the row of the instant after the first one. It takes no memory.
+pub fn frame() -> Published {
+    let mut frame = spare_frame(&OUTPUT);
+    let mut publisher = Publisher::new(ModelMark::new(1, 0), OUTPUT, 0);
+    let _published = publisher.publish_into(&row(FIRST + 1), &mut frame);
+    frame
 }
 
 /// Whether it is the row of the first instant.

@@ -2,17 +2,17 @@
 ghost use Rattle.std.specs.Prelude.{◌≡◌};
 ghost use Rattle.pdc_recent.specs.Stream.{stream_of};
 
-use crate::publishes::OUTPUT;
+use crate::publishes::{OUTPUT, frame};
 use crate::silent::Silent;
-use crate::vectors::{BEFORE, SENT};
+use crate::vectors::BEFORE;
 use arrayvec::ArrayVec;
 use pdc_life::Output;
-use pdc_ports::Sink;
-use pdc_recent::{Naming, Recent, RememberingSink};
+use pdc_recent::{Naming, Outlet, Recent, RememberingSink};
 use std::alloc::Global;
 use std::io;
 use std::marker::Brand;
 use std::sync::Wait;
+use std::sync::atomic::{AtomicU64, Ordering};
 use try_memory::{DONE, State, begin, end, of_memory, state_of};
 
 /// What is called.
@@ -31,7 +31,7 @@ const ALL: [Called; 4] = [Called::New, Called::Send, Called::After, Called::Layo
 fn name_of(called: Called) -> &'static str {
     match called {
         Called::New => "Recent::new",
-        Called::Send => "RememberingSink::send",
+        Called::Send => "RememberingSink::send_data",
         Called::After => "Recent::after",
         Called::Layout => "Recent::layout",
     }
@@ -44,7 +44,7 @@ fn state<N: Naming, R: Wait>(rt: &R, recent: &Recent<N>, out: &[u8]) -> State {
     state_of(out, greatest)
 }
 
-/// Sends a frame by a sink that keeps it.
+/// Sends a frame by a sink that keeps it, and tells whether it was kept.
 fn send<N: Naming, R: Wait>(
     rt: &R,
     alloc: Global,
@@ -53,9 +53,11 @@ fn send<N: Naming, R: Wait>(
 ) -> &'static str
     requires named { N.stream ≡ stream_of output.now }
 {
-    let mut sink = RememberingSink::new(rt, alloc, recent, *output, Silent);
-    match sink.send(&SENT) {
-        Ok(()) => DONE,
+    let unkept = AtomicU64::new(0);
+    let mut sink = RememberingSink::new(rt, alloc, recent, *output, &unkept, Silent);
+    match sink.send_data(&frame()) {
+        Ok(()) if unkept.load(Ordering::Relaxed) == 0 => DONE,
+        Ok(()) => "sent and not kept",
         Err(_) => "H2 SinkFault",
     }
 }

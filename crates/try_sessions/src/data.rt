@@ -3,51 +3,65 @@ ghost use Rattle.std.specs.Prelude.{◌≡◌, ◌<◌, ◌≤◌};
 ghost use Rattle.pdc_frame.specs.declared.limits.TheConstants.{MAX_ID};
 ghost use Rattle.pdc_recent.specs.Stream.{stream_of};
 
-use pdc_frame::{Frame, Kind, write_frame};
+use arrayvec::ArrayVec;
+use pdc_mark::ModelMark;
 use pdc_output::{Nominal, Output};
-use pdc_ports::{MemorySink, Sink};
-use pdc_recent::{Naming, Recent, RememberingSink};
-use pdc_tag::tag_of;
+use pdc_ports::MemorySink;
+use pdc_publisher::{Publisher, spare_frame};
+use pdc_recent::{Naming, Outlet, Published, Recent, RememberingSink};
+use pdc_row::DueRow;
 use std::alloc::Global;
 use std::io;
 use std::sync::Wait;
+use std::sync::atomic::{AtomicU64, Ordering};
 
 /// The stream of node A.
 pub const ID: u16 = 201;
 
-/// How many bytes a data frame of a trial has.
-pub const DATA_LEN: usize = 18;
+/// How many bytes a data frame of a trial has: 14 before the payload, the own block, and the check word.
+pub const DATA_LEN: usize = 30;
 
-/// Where its payload begins.
-pub const PAYLOAD_PLACE: usize = 14;
+/// Where the low word of the start number stands in it: behind STAT, FREQ, DFREQ and the high word.
+pub const START_PLACE: usize = 22;
 
-/// What the frames of node A say.
-pub fn node_a() -> Output {
+/// What the frames of a stream say.
+fn output_of(id: u16) -> Output
+    requires id_low { 0 < id }
+    requires id_high { id ≤ MAX_ID }
+    ensures { result.rate ≡ 50 }
+{
     Output {
-        id: ID,
+        id,
         rate: 50,
         nominal: Nominal::Hz50,
         time_base: 1_000_000,
     }
 }
 
-/// Appends a data frame of this instant, with the instant as its payload.
-fn append_data(id: u16, instant: u16, out: &mut Vec<u8>) -> io::Result<()>
+/// What the frames of node A say.
+pub fn node_a() -> Output {
+    output_of(ID)
+}
+
+/// The data frame of a row of this instant without blocks, whose start number is the instant.
+fn frame_of(id: u16, instant: u16) -> Published
     requires id_low { 0 < id }
     requires id_high { id ≤ MAX_ID }
 {
-    let output = node_a();
-    let (soc, frac) = tag_of(u64::from(instant), output.time_base, u32::from(output.rate));
-    let frame = Frame {
-        kind: Kind::DataFrame,
-        version: 2,
-        id,
-        soc,
-        quality: 0,
-        frac,
-        payload: &instant.to_be_bytes(),
+    let output = output_of(id);
+    let row = DueRow {
+        instant: u64::from(instant),
+        start: u32::from(instant),
+        change: 0,
+        quality: 15,
+        blocks: ArrayVec::new(),
     };
-    Ok(write_frame(&frame, out)?)
+    let mut frame = spare_frame(&output);
+    let mut publisher = Publisher::new(ModelMark::new(1, 0), output, 0);
+    if publisher.last() < row.instant {
+        let _published = publisher.publish_into(&row, &mut frame);
+    }
+    frame
 }
 
 /// Sends a data frame of this stream and instant by a sink that keeps it.
@@ -63,11 +77,11 @@ pub fn send_data<N: Naming, R: Wait>(
     requires id_low { 0 < id }
     requires id_high { id ≤ MAX_ID }
 {
-    let mut bytes = Vec::new(alloc);
-    append_data(id, instant, &mut bytes)?;
-    let mut sink = RememberingSink::new(rt, alloc, recent, *output, MemorySink::new(alloc));
-    match sink.send(&bytes) {
-        Ok(()) => Ok(()),
-        Err(_) => Err(io::Error::from(io::ErrorKind::OutOfMemory)),
+    let unkept = AtomicU64::new(0);
+    let inner = MemorySink::new(alloc);
+    let mut sink = RememberingSink::new(rt, alloc, recent, *output, &unkept, inner);
+    match sink.send_data(&frame_of(id, instant)) {
+        Ok(()) if unkept.load(Ordering::Relaxed) == 0 => Ok(()),
+        _ => Err(io::Error::from(io::ErrorKind::OutOfMemory)),
     }
 }

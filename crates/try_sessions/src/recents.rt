@@ -2,7 +2,7 @@
 ghost use Rattle.std.specs.Prelude.{◌≡◌};
 ghost use Rattle.pdc_recent.specs.Stream.{stream_of};
 
-use crate::data::{DATA_LEN, ID, PAYLOAD_PLACE, node_a, send_data};
+use crate::data::{DATA_LEN, ID, START_PLACE, node_a, send_data};
 use pdc_output::Output;
 use pdc_recent::{Naming, Recent};
 use std::alloc::Global;
@@ -21,7 +21,7 @@ fn print_after<N: Naming, R: Wait + Print>(
     let answer = recent.after(rt, instant, &mut out)?;
     let frames = out.len() / DATA_LEN;
     println!(rt; "  after {instant}: {frames} frames, and the answer {answer}")?;
-    if let Some([high, low, ..]) = out.as_slice().get(PAYLOAD_PLACE..) {
+    if let Some([high, low, ..]) = out.as_slice().get(START_PLACE..) {
         let first = u16::from_be_bytes([*high, *low]);
         println!(rt; "  the first one is {first}")?;
     }
