@@ -1,5 +1,5 @@
 -- How the mark stands from call to call, and rows as they were popped.
-use Rattle.std.proofs.Common.{arith, ◌≡◌, ◌⊎◌, ℕ, ◌≤◌, ◌<◌, Bool, true, false, inl, inr, List, Option, None, Some, Result, Ok, Err, IsTrue, IsErrOf, IfOk, IfSome, OnErr, OnOk, refl, sym, ap, ◌∙◌, subst, option_map}
+use Rattle.std.proofs.Common.{arith, ◌≡◌, ℕ, ◌≤◌, true, inl, inr, Option, None, Some, Result, Ok, Err, IsTrue, IfOk, IfSome, OnErr, sym, ap, subst, option_map}
 use Rattle.std.proofs.Math.Logic.{∥∥₁_map}
 use Rattle.pdc_life.specs.Answer.{pop_answer}
 use Rattle.pdc_life.specs.Given.{Given}

@@ -15,7 +15,6 @@ use pdc_mark::{COUNTS, Mark, raised};
 use pdc_ports::Numbered;
 use pdc_publisher::Publisher;
 use std::sync::Wait;
-use std::sync::ledger::Ledger;
 
 /// Raises the mark to the counts that wait, where one of them is greater, and gives the stored ones.
 fn clear_counts<M: Mark>(
@@ -46,18 +45,9 @@ fn clear_counts<M: Mark>(
 /// # Errors
 ///
 /// `Device` where the mark's device failed; `NoMemory` where there is no memory for the step.
-pub fn tick_cleared<
-    C: Core + Drop,
-    N: Naming<C::Settings>,
-    T: Ledger,
-    F: Ledger,
-    G: Ledger,
-    P: Ledger,
-    M: Mark,
-    R: Wait,
->(
+pub fn tick_cleared<C: Core + Drop, N: Naming<C::Settings>, M: Mark, R: Wait>(
     rt: &R,
-    hub: &Hub<C, N, T, F, G, P>,
+    hub: &Hub<C, N>,
     publisher: &mut Publisher<M>,
     now: u64,
 ) -> Result<Numbered<Ticked>, HubFault>

@@ -12,6 +12,6 @@ mod layouts;
 mod pace;
 mod publishing;
 
-pub use aligner::{Aligned, align};
+pub use aligner::{Aligned, Aligner, align};
 pub use clearing::tick_cleared;
 pub use pace::Pace;

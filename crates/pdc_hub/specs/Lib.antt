@@ -1,6 +1,7 @@
 -- What is under the lock of a running core, what its steps count, and what a receiver hears.
 pub mod Closing
 pub mod Counted
+pub mod Cut
 pub mod Faults
 pub mod Received
 pub mod Replay

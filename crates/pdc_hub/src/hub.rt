@@ -14,6 +14,7 @@ ghost use Rattle.pdc_row.specs.RowView.{row_view};
 ghost use Rattle.pdc_tag.specs.declared.limits.TheConstants.{SECONDS};
 
 use crate::fault::HubFault;
+use crate::ledgers::{ConfiguredIn, RefusedIn, TakenIn, TopIn};
 use crate::naming::Naming;
 use crate::recorder::Recorder;
 use crate::shares::{Blanks, Books, Shares};
@@ -23,25 +24,18 @@ use pdc_life::{MAX_PMUS, Outcome};
 use pdc_ports::Numbered;
 use pdc_row::DueRow;
 use std::alloc::Global;
-use std::sync::ledger::{Ledger, Share};
+use std::sync::ledger::Share;
 use std::sync::{Mutex, OnceLock, OnceToken, Wait};
 
 /// The lock round a recorder, and beside it whether no more is to be delivered. Each call but [`Hub::closed`] takes the lock once, and may
 /// wait for it.
 #[derive(Drop)]
-pub struct Hub<C: Core + Drop, N: Naming<C::Settings>, T: Ledger, F: Ledger, G: Ledger, P: Ledger> {
-    table: Mutex<Recorder<C, N, T, F, G, P>>,
+pub struct Hub<C: Core + Drop, N: Naming<C::Settings>> {
+    table: Mutex<Recorder<C, N>>,
     closing: OnceLock<()>,
 }
 
-impl<C: Core + Drop, N: Naming<C::Settings>, T: Ledger, F: Ledger, G: Ledger, P: Ledger> Hub<
-    C,
-    N,
-    T,
-    F,
-    G,
-    P,
-> {
+impl<C: Core + Drop, N: Naming<C::Settings>> Hub<C, N> {
     /// A hub over two cores that were opened alike with this floor, with no step taken since; the shares with all parts; and the
     /// aligner's share. The base is brought up each time that so many steps are kept.
     pub fn new(
@@ -51,14 +45,14 @@ impl<C: Core + Drop, N: Naming<C::Settings>, T: Ledger, F: Ledger, G: Ledger, P:
         limit: usize,
         floor: u64,
         blanks: Blanks,
-    ) -> (Self, Shares<T, F, G>, Share<P>)
+    ) -> (Self, Shares<N>, Share<TopIn<N>>)
         requires alike { (g : Given) × (N.given ≡ Some g) × C.stands_for base g [] × C.stands_for now g [] }
         requires settings { (N.settings ≡ Some (C.settings_of base)) × (N.settings ≡ Some (C.settings_of now)) }
         requires limit { 1 ≤ limit }
         requires floor { C.popped_of now ≡ floor }
-        requires names { (blanks.taken.name ≡ T.name) × (blanks.refused.name ≡ F.name) × (blanks.configured.name ≡ G.name) × (blanks.top.name ≡ P.name) }
-        requires blank { (blanks.taken.parts ≡ T.parts) × (blanks.refused.parts ≡ F.parts) × (blanks.configured.parts ≡ G.parts) × (blanks.top.parts ≡ P.parts) × (0 < P.parts) }
-        ensures parts { (result.1.taken.parts ≡ T.parts) × (result.1.refused.parts ≡ F.parts) × (result.1.configured.parts ≡ G.parts) × (result.2.parts ≡ P.parts) }
+        requires names { (blanks.taken.name ≡ N.taken.name) × (blanks.refused.name ≡ N.refused.name) × (blanks.configured.name ≡ N.configured.name) × (blanks.top.name ≡ N.top.name) }
+        requires blank { (blanks.taken.parts ≡ N.taken.parts) × (blanks.refused.parts ≡ N.refused.parts) × (blanks.configured.parts ≡ N.configured.parts) × (blanks.top.parts ≡ N.top.parts) × (0 < N.top.parts) }
+        ensures parts { (result.1.taken.parts ≡ N.taken.parts) × (result.1.refused.parts ≡ N.refused.parts) × (result.1.configured.parts ≡ N.configured.parts) × (result.2.parts ≡ N.top.parts) }
         ensures amounts { (result.1.taken.amount ≡ 0) × (result.1.refused.amount ≡ 0) × (result.1.configured.amount ≡ 0) × (result.2.amount ≡ floor) }
     {
         let Blanks {
@@ -67,10 +61,10 @@ impl<C: Core + Drop, N: Naming<C::Settings>, T: Ledger, F: Ledger, G: Ledger, P:
             configured,
             top,
         } = blanks;
-        let (taken, mine_taken) = taken.open::<T>();
-        let (refused, mine_refused) = refused.open::<F>();
-        let (configured, mine_configured) = configured.open::<G>();
-        let (mut top, mut mine_top) = top.open::<P>();
+        let (taken, mine_taken) = taken.open::<TakenIn<N>>();
+        let (refused, mine_refused) = refused.open::<RefusedIn<N>>();
+        let (configured, mine_configured) = configured.open::<ConfiguredIn<N>>();
+        let (mut top, mut mine_top) = top.open::<TopIn<N>>();
         top.add(&mut mine_top, floor);
         let books = Books {
             taken,
@@ -105,7 +99,7 @@ impl<C: Core + Drop, N: Naming<C::Settings>, T: Ledger, F: Ledger, G: Ledger, P:
         rt: &R,
         stream: usize,
         datagram: KeptArrival,
-        mine: &mut Shares<T, F, G>,
+        mine: &mut Shares<N>,
     ) -> Result<Numbered<Outcome>, HubFault>
         requires read { WasRead C.Settings.says C.Settings.fits N.settings stream (taken_view datagram) }
         requires parts { (0 < mine.old.taken.parts) × (0 < mine.old.refused.parts) × (0 < mine.old.configured.parts) }
@@ -152,9 +146,9 @@ impl<C: Core + Drop, N: Naming<C::Settings>, T: Ledger, F: Ledger, G: Ledger, P:
     pub fn pop<R: Wait>(
         &self,
         rt: &R,
-        all: &mut Share<P>,
+        all: &mut Share<TopIn<N>>,
     ) -> Result<Numbered<Option<DueRow>>, HubFault>
-        requires { (all.old.parts ≡ P.parts) × (0 < all.old.parts) }
+        requires { (all.old.parts ≡ N.top.parts) × (0 < all.old.parts) }
         ensures some { IfOk result (λ numbered. ∥ InSomeLife C.stands_for N.given (λ state g E. (option_map row_view numbered.answer ≡ pop_answer E) × (numbered.step ≡ number_in E)) ∥₁) }
         ensures row { IfOk result (λ numbered. IfSome numbered.answer (λ row. (all.old.amount < row.instant) × (all.new.amount ≡ row.instant))) }
         ensures tagged { IfOk result (λ numbered. IfSome numbered.answer (λ row. (g : Given) → N.given ≡ Some g → row.instant < SECONDS * g.output.rate)) }
@@ -185,8 +179,8 @@ impl<C: Core + Drop, N: Naming<C::Settings>, T: Ledger, F: Ledger, G: Ledger, P:
     }
 
     /// How arrivals were answered. Who has all parts learns that these are the amounts of the shares.
-    pub fn totals<R: Wait>(&self, rt: &R, all: &mut Shares<T, F, G>) -> Counts
-        requires { (all.old.taken.parts ≡ T.parts) × (all.old.refused.parts ≡ F.parts) × (all.old.configured.parts ≡ G.parts) }
+    pub fn totals<R: Wait>(&self, rt: &R, all: &mut Shares<N>) -> Counts
+        requires { (all.old.taken.parts ≡ N.taken.parts) × (all.old.refused.parts ≡ N.refused.parts) × (all.old.configured.parts ≡ N.configured.parts) }
         ensures amounts { (result.taken ≡ all.old.taken.amount) × (result.refused ≡ all.old.refused.amount) × (configurations result ≡ all.old.configured.amount) }
         ensures kept { (all.new.taken.amount ≡ all.old.taken.amount) × (all.new.refused.amount ≡ all.old.refused.amount) × (all.new.configured.amount ≡ all.old.configured.amount) }
         ensures parts { (all.new.taken.parts ≡ all.old.taken.parts) × (all.new.refused.parts ≡ all.old.refused.parts) × (all.new.configured.parts ≡ all.old.configured.parts) }
@@ -202,8 +196,8 @@ impl<C: Core + Drop, N: Naming<C::Settings>, T: Ledger, F: Ledger, G: Ledger, P:
     }
 
     /// No more is to be delivered. Only who has all parts of the aligner's share closes it, so no receiver does. Answers what shows it.
-    pub fn close<R: Wait>(&self, rt: &R, all: &mut Share<P>) -> OnceToken<'_, ()>
-        requires { (all.old.parts ≡ P.parts) × (0 < all.old.parts) }
+    pub fn close<R: Wait>(&self, rt: &R, all: &mut Share<TopIn<N>>) -> OnceToken<'_, ()>
+        requires { (all.old.parts ≡ N.top.parts) × (0 < all.old.parts) }
         ensures closed { result.of ≡ closing_of self.now }
         ensures kept { all.new ≡ all.old }
     {

@@ -10,6 +10,8 @@
 
 mod fault;
 mod hub;
+mod intake;
+mod ledgers;
 mod naming;
 mod receiver;
 mod recorder;
@@ -18,6 +20,8 @@ mod shares;
 
 pub use fault::HubFault;
 pub use hub::Hub;
+pub use intake::{Intake, Place};
+pub use ledgers::{ConfiguredIn, Ledgers, RefusedIn, TakenIn, TopIn};
 pub use naming::Naming;
 pub use receiver::{Received, receive};
 pub use recorder::Recorder;

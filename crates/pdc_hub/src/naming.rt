@@ -2,11 +2,12 @@
 ghost use Rattle.std.specs.Prelude.{None, Option};
 ghost use Rattle.pdc_life.specs.Given.{Given};
 
+use crate::ledgers::Ledgers;
 use std::marker::Brand;
 
-/// Which life is recorded: what is given to it, and the settings by which its bytes are read. It exists for contracts alone, and each
-/// call of a program that makes a recorder picks it.
-pub trait Naming<S> {
+/// Which life is recorded, and in which ledgers: what is given to it, and the settings by which its bytes are read. It exists for contracts
+/// alone, and each call of a program that makes a recorder picks it.
+pub trait Naming<S>: Ledgers {
     ghost given: { Option Given };
 
     ghost settings: { Option S };

@@ -8,21 +8,21 @@ ghost use Rattle.pdc_hub.specs.Faults.{IsOfDelivery, IsOfReceiver};
 ghost use Rattle.pdc_hub.specs.Received.{HasReceived, IsAnswerFor};
 
 use crate::fault::HubFault;
-use crate::hub::Hub;
+use crate::intake::{Intake, Place};
+use crate::ledgers::Ledgers;
 use crate::naming::Naming;
 use crate::shares::Shares;
 use pdc_core::{Core, Reads};
 use pdc_life::Outcome;
 use pdc_ports::{Next, Numbered, Source};
 use std::alloc::Global;
-use std::sync::ledger::Ledger;
 use std::sync::{OnceToken, Wait};
 
 /// What a receiver hands back: its shares, what they count, and why it ended, if by a fault.
 #[derive(Drop)]
-pub struct Received<'h, T: Ledger, F: Ledger, G: Ledger> {
+pub struct Received<'h, N: Ledgers> {
     /// Its shares, of one part each.
-    pub shares: Shares<T, F, G>,
+    pub shares: Shares<N>,
     /// How many of its datagrams were taken.
     pub taken: u64,
     /// How many were refused.
@@ -36,27 +36,18 @@ pub struct Received<'h, T: Ledger, F: Ledger, G: Ledger> {
 }
 
 /// Reads a datagram, outside the lock, and delivers it.
-fn hand_in<
-    C: Core + Drop,
-    N: Naming<C::Settings>,
-    T: Ledger,
-    F: Ledger,
-    G: Ledger,
-    P: Ledger,
-    R: Wait,
->(
+fn hand_in<C: Core + Drop, N: Naming<C::Settings>, R: Wait>(
     rt: &R,
     alloc: Global,
-    settings: &C::Settings,
+    intake: &Intake<'_, C, N>,
     stream: usize,
     bytes: &[u8],
-    hub: &Hub<C, N, T, F, G, P>,
-    shares: &mut Shares<T, F, G>,
+    shares: &mut Shares<N>,
 ) -> Result<Numbered<Outcome>, HubFault>
-    requires settings { N.settings ≡ Some settings.now }
-    requires stream { stream < C.Settings.streams settings.now }
+    requires settings { N.settings ≡ Some intake.now.settings.now }
+    requires stream { stream < C.Settings.streams intake.now.settings.now }
     requires parts { (0 < shares.old.taken.parts) × (0 < shares.old.refused.parts) × (0 < shares.old.configured.parts) }
-    ensures answer { IfOk result (λ numbered. IsAnswerFor C.rules C.stands_for N.given (C.Settings.says settings.now) stream bytes.now numbered.answer) }
+    ensures answer { IfOk result (λ numbered. IsAnswerFor C.rules C.stands_for N.given (C.Settings.says intake.now.settings.now) stream bytes.now numbered.answer) }
     ensures taken { IfOk result (λ numbered. shares.new.taken.amount ≡ shares.old.taken.amount + taken_by numbered.answer) }
     ensures refused { IfOk result (λ numbered. shares.new.refused.amount ≡ shares.old.refused.amount + refused_by numbered.answer) }
     ensures most { IfOk result (λ _. (shares.new.taken.amount < 2 ^ 64) × (shares.new.refused.amount < 2 ^ 64)) }
@@ -64,45 +55,38 @@ fn hand_in<
     ensures causes { IfErr result IsOfDelivery }
     ensures err { OnErr result ((shares.new.taken.amount ≡ shares.old.taken.amount) × (shares.new.refused.amount ≡ shares.old.refused.amount)) }
 {
-    match settings.read_kept(alloc, stream, bytes) {
-        Ok(datagram) => hub.deliver(rt, stream, datagram, shares),
+    match intake.settings.read_kept(alloc, stream, bytes) {
+        Ok(datagram) => intake.hub.deliver(rt, stream, datagram, shares),
         Err(_) => Err(HubFault::NoMemory),
     }
 }
 
 /// Reads a source to its end, or to the first idle turn after the close, and delivers each datagram whole, for the stream. What is read is
 /// read, checked and kept outside the lock.
-pub fn receive<
-    'h,
-    C: Core + Drop,
-    N: Naming<C::Settings>,
-    T: Ledger,
-    F: Ledger,
-    G: Ledger,
-    P: Ledger,
-    S: Source,
-    R: Wait,
->(
+pub fn receive<'h, C: Core + Drop, N: Naming<C::Settings>, S: Source, R: Wait>(
     rt: &R,
     alloc: Global,
-    settings: &C::Settings,
-    stream: usize,
+    intake: &Intake<'h, C, N>,
     source: &mut S,
-    buffer: Vec<u8>,
-    hub: &'h Hub<C, N, T, F, G, P>,
-    shares: Shares<T, F, G>,
-) -> Received<'h, T, F, G>
-    requires settings { N.settings ≡ Some settings.now }
-    requires stream { stream < C.Settings.streams settings.now }
-    requires parts { (shares.taken.parts ≡ 1) × (shares.refused.parts ≡ 1) × (shares.configured.parts ≡ 1) }
-    requires amounts { (shares.taken.amount ≡ 0) × (shares.refused.amount ≡ 0) }
+    place: Place<N>,
+) -> Received<'h, N>
+    requires settings { N.settings ≡ Some intake.now.settings.now }
+    requires stream { place.stream < C.Settings.streams intake.now.settings.now }
+    requires parts { (place.shares.taken.parts ≡ 1) × (place.shares.refused.parts ≡ 1) × (place.shares.configured.parts ≡ 1) }
+    requires amounts { (place.shares.taken.amount ≡ 0) × (place.shares.refused.amount ≡ 0) }
     // Each datagram that the source gave was delivered whole, for this stream, and answered, but for one by which it ended; it ended by the
     // last thing that it heard, and by a pause only where it hands back what shows that the hub was closed.
-    ensures received { HasReceived (HasTold S.told source.old source.new) (IsAnswerFor C.rules C.stands_for N.given (C.Settings.says settings.now) stream) (IsSome result.closed) result.taken result.refused result.fault }
-    ensures closed { IfSome result.closed (λ token. token.of ≡ closing_of hub.now) }
+    ensures received { HasReceived (HasTold S.told source.old source.new) (IsAnswerFor C.rules C.stands_for N.given (C.Settings.says intake.now.settings.now) place.stream) (IsSome result.closed) result.taken result.refused result.fault }
+    ensures closed { IfSome result.closed (λ token. token.of ≡ closing_of intake.now.hub.now) }
     ensures causes { IfSome result.fault IsOfReceiver }
     ensures fault { result.fault ≡ Some HubFault.SourceFault → HasRisen (S.failures_of source.old) (S.failures_of source.new) }
 {
+    let Place {
+        stream,
+        buffer,
+        shares,
+    } = place;
+    let hub = intake.hub;
     let mut shares = shares;
     let mut buffer = buffer;
     let mut taken = 0u64;
@@ -110,15 +94,7 @@ pub fn receive<
     for _ in rt.forever() {
         match source.next(buffer.as_mut_slice()) {
             Next::Datagram(len) => {
-                match hand_in(
-                    rt,
-                    alloc,
-                    settings,
-                    stream,
-                    &buffer[..len],
-                    hub,
-                    &mut shares,
-                ) {
+                match hand_in(rt, alloc, intake, stream, &buffer[..len], &mut shares) {
                     Ok(answer) => {
                         match answer.answer {
                             Outcome::Taken => taken += 1,
@@ -149,13 +125,13 @@ pub fn receive<
 }
 
 /// What is handed back.
-fn handed_back<'h, T: Ledger, F: Ledger, G: Ledger>(
-    shares: Shares<T, F, G>,
+fn handed_back<'h, N: Ledgers>(
+    shares: Shares<N>,
     taken: u64,
     refused: u64,
     fault: Option<HubFault>,
     closed: Option<OnceToken<'h, ()>>,
-) -> Received<'h, T, F, G>
+) -> Received<'h, N>
     requires parts { (shares.taken.parts ≡ 1) × (shares.refused.parts ≡ 1) × (shares.configured.parts ≡ 1) }
     requires amounts { (shares.taken.amount ≡ taken) × (shares.refused.amount ≡ refused) }
     ensures { (result.fault ≡ fault) × (result.taken ≡ taken) × (result.refused ≡ refused) × (result.closed ≡ closed.entry) }

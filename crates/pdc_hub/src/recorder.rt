@@ -14,6 +14,7 @@ ghost use Rattle.pdc_row.specs.RowView.{row_view};
 ghost use Rattle.pdc_tag.specs.declared.limits.TheConstants.{SECONDS};
 
 use crate::fault::HubFault;
+use crate::ledgers::{ConfiguredIn, Ledgers, RefusedIn, TakenIn, TopIn};
 use crate::naming::Naming;
 use crate::replayed::Replayed;
 use crate::shares::{Books, Shares};
@@ -23,28 +24,21 @@ use pdc_life::{MAX_PMUS, Outcome};
 use pdc_ports::Numbered;
 use pdc_row::DueRow;
 use std::alloc::{AllocError, Global};
-use std::sync::ledger::{Book, Ledger, Share};
+use std::sync::ledger::{Book, Share};
 
 /// The value under the lock: a core beside its base and the steps since, and the books of what it counted.
 #[derive(Drop)]
-pub struct Recorder<
-    C: Core + Drop,
-    N: Naming<C::Settings>,
-    T: Ledger,
-    F: Ledger,
-    G: Ledger,
-    P: Ledger,
-> {
+pub struct Recorder<C: Core + Drop, N: Naming<C::Settings>> {
     /// The core, with its base and the steps since.
     pub core: Replayed<C, N>,
     /// The book of data that was taken.
-    pub taken: Book<T>,
+    pub taken: Book<TakenIn<N>>,
     /// The book of what was refused.
-    pub refused: Book<F>,
+    pub refused: Book<RefusedIn<N>>,
     /// The book of configurations that were new or held already.
-    pub configured: Book<G>,
+    pub configured: Book<ConfiguredIn<N>>,
     /// The book whose total is the greatest instant popped, at first the floor.
-    pub top: Book<P>,
+    pub top: Book<TopIn<N>>,
     /// That instant.
     pub popped: u64,
     pub ghost taken_is: { (C.counts_of core.state).taken ≡ taken.total },
@@ -54,24 +48,10 @@ pub struct Recorder<
     pub ghost popped_is: { top.total ≡ popped },
 }
 
-impl<C: Core + Drop, N: Naming<C::Settings>, T: Ledger, F: Ledger, G: Ledger, P: Ledger> Recorder<
-    C,
-    N,
-    T,
-    F,
-    G,
-    P,
-> {
+impl<C: Core + Drop, N: Naming<C::Settings>> Recorder<C, N> {
     /// A recorder over two cores that were opened alike, with no step taken since, and with its books. Its base is brought up each time
     /// that so many steps are kept.
-    pub fn new(
-        alloc: Global,
-        base: C,
-        now: C,
-        limit: usize,
-        floor: u64,
-        books: Books<T, F, G, P>,
-    ) -> Self
+    pub fn new(alloc: Global, base: C, now: C, limit: usize, floor: u64, books: Books<N>) -> Self
         requires alike { (g : Given) × (N.given ≡ Some g) × C.stands_for base g [] × C.stands_for now g [] }
         requires settings { (N.settings ≡ Some (C.settings_of base)) × (N.settings ≡ Some (C.settings_of now)) }
         requires limit { 1 ≤ limit }
@@ -109,7 +89,7 @@ impl<C: Core + Drop, N: Naming<C::Settings>, T: Ledger, F: Ledger, G: Ledger, P:
         &mut self,
         stream: usize,
         datagram: KeptArrival,
-        mine: &mut Shares<T, F, G>,
+        mine: &mut Shares<N>,
     ) -> Result<Numbered<Outcome>, HubFault>
         requires read { WasRead C.Settings.says C.Settings.fits N.settings stream (taken_view datagram) }
         requires parts { (0 < mine.old.taken.parts) × (0 < mine.old.refused.parts) × (0 < mine.old.configured.parts) }
@@ -145,7 +125,7 @@ impl<C: Core + Drop, N: Naming<C::Settings>, T: Ledger, F: Ledger, G: Ledger, P:
     }
 
     /// The caller's shares count no more than the core did.
-    fn audit(&mut self, mine: &mut Shares<T, F, G>)
+    fn audit(&mut self, mine: &mut Shares<N>)
         ensures core { self.new.core ≡ self.old.core }
         ensures totals { (self.new.taken.total ≡ self.old.taken.total) × (self.new.refused.total ≡ self.old.refused.total)
             × (self.new.configured.total ≡ self.old.configured.total) }
@@ -176,7 +156,7 @@ impl<C: Core + Drop, N: Naming<C::Settings>, T: Ledger, F: Ledger, G: Ledger, P:
         &mut self,
         stream: usize,
         datagram: KeptArrival,
-        mine: &mut Shares<T, F, G>,
+        mine: &mut Shares<N>,
     ) -> Result<Numbered<Outcome>, HubFault>
         requires read { WasRead C.Settings.says C.Settings.fits N.settings stream (taken_view datagram) }
         requires parts { (0 < mine.old.taken.parts) × (0 < mine.old.refused.parts) × (0 < mine.old.configured.parts) }
@@ -244,8 +224,8 @@ impl<C: Core + Drop, N: Naming<C::Settings>, T: Ledger, F: Ledger, G: Ledger, P:
     /// # Errors
     ///
     /// `NoMemory` where there is no memory for the step. Nothing is added then.
-    pub fn pop(&mut self, all: &mut Share<P>) -> Result<Numbered<Option<DueRow>>, HubFault>
-        requires { (all.old.parts ≡ P.parts) × (0 < all.old.parts) }
+    pub fn pop(&mut self, all: &mut Share<TopIn<N>>) -> Result<Numbered<Option<DueRow>>, HubFault>
+        requires { (all.old.parts ≡ N.top.parts) × (0 < all.old.parts) }
         ensures answer { IfOk result (λ numbered. (g : Given) (E : List Entry) → C.stands_for self.old.core.state g E → option_map row_view numbered.answer ≡ pop_answer E) }
         ensures stands { OnOk result (Follows C.rules (C.stands_for self.old.core.state) (C.stands_for self.new.core.state) ToPop) }
         ensures event { OnOk result (self.new.core.events.items ≡ since self.old.core.limit self.old.core.events.items ++ step.Pop ∷ []) }
@@ -305,8 +285,8 @@ impl<C: Core + Drop, N: Naming<C::Settings>, T: Ledger, F: Ledger, G: Ledger, P:
     }
 
     /// How arrivals were answered. Who has all parts learns that these are the amounts of the shares.
-    pub fn totals(&mut self, all: &mut Shares<T, F, G>) -> Counts
-        requires { (all.old.taken.parts ≡ T.parts) × (all.old.refused.parts ≡ F.parts) × (all.old.configured.parts ≡ G.parts) }
+    pub fn totals(&mut self, all: &mut Shares<N>) -> Counts
+        requires { (all.old.taken.parts ≡ N.taken.parts) × (all.old.refused.parts ≡ N.refused.parts) × (all.old.configured.parts ≡ N.configured.parts) }
         ensures amounts { (result.taken ≡ all.old.taken.amount) × (result.refused ≡ all.old.refused.amount) × (configurations result ≡ all.old.configured.amount) }
         ensures kept { (all.new.taken.amount ≡ all.old.taken.amount) × (all.new.refused.amount ≡ all.old.refused.amount) × (all.new.configured.amount ≡ all.old.configured.amount) }
         ensures parts { (all.new.taken.parts ≡ all.old.taken.parts) × (all.new.refused.parts ≡ all.old.refused.parts) × (all.new.configured.parts ≡ all.old.configured.parts) }
@@ -334,12 +314,12 @@ impl<C: Core + Drop, N: Naming<C::Settings>, T: Ledger, F: Ledger, G: Ledger, P:
 }
 
 /// Counts an answer in the caller's shares.
-fn count<T: Ledger, F: Ledger, G: Ledger>(
+fn count<N: Ledgers>(
     outcome: Outcome,
-    taken: &mut Book<T>,
-    refused: &mut Book<F>,
-    configured: &mut Book<G>,
-    mine: &mut Shares<T, F, G>,
+    taken: &mut Book<TakenIn<N>>,
+    refused: &mut Book<RefusedIn<N>>,
+    configured: &mut Book<ConfiguredIn<N>>,
+    mine: &mut Shares<N>,
 )
     requires { (0 < mine.old.taken.parts) × (0 < mine.old.refused.parts) × (0 < mine.old.configured.parts) }
     ensures taken { (taken.new.total ≡ taken.old.total + taken_by outcome) × (mine.new.taken.amount ≡ mine.old.taken.amount + taken_by outcome) }

@@ -1,29 +1,30 @@
 //! What a recorder counts, as tokens: they take no bytes.
 
-use std::sync::ledger::{Blank, Book, Ledger, Share};
+use crate::ledgers::{ConfiguredIn, Ledgers, RefusedIn, TakenIn, TopIn};
+use std::sync::ledger::{Blank, Book, Share};
 
 /// A receiver's parts of the three ledgers.
 #[derive(Drop)]
-pub struct Shares<T: Ledger, F: Ledger, G: Ledger> {
+pub struct Shares<N: Ledgers> {
     /// Of data that was taken.
-    pub taken: Share<T>,
+    pub taken: Share<TakenIn<N>>,
     /// Of what was refused.
-    pub refused: Share<F>,
+    pub refused: Share<RefusedIn<N>>,
     /// Of configurations that were new or held already.
-    pub configured: Share<G>,
+    pub configured: Share<ConfiguredIn<N>>,
 }
 
 /// The books of the four ledgers.
 #[derive(Drop)]
-pub struct Books<T: Ledger, F: Ledger, G: Ledger, P: Ledger> {
+pub struct Books<N: Ledgers> {
     /// Of data that was taken.
-    pub taken: Book<T>,
+    pub taken: Book<TakenIn<N>>,
     /// Of what was refused.
-    pub refused: Book<F>,
+    pub refused: Book<RefusedIn<N>>,
     /// Of configurations that were new or held already.
-    pub configured: Book<G>,
+    pub configured: Book<ConfiguredIn<N>>,
     /// Its total is the greatest instant popped, at first the floor.
-    pub top: Book<P>,
+    pub top: Book<TopIn<N>>,
 }
 
 /// Four new ledgers, which no type names yet.

@@ -3,4 +3,5 @@ pub mod HandedOn
 pub mod Layout
 pub mod Pipe
 pub mod Sequence
+pub mod Writing
 pub use Rattle.pdc_publisher.specs as pdc_publisher

@@ -4,11 +4,13 @@ ghost use Rattle.crossbeam_channel.specs.Claims.{IsSeatAt, view};
 ghost use Rattle.crossbeam_channel.specs.Ends.{receives_on, sends_on};
 ghost use Rattle.pdc_pipe.specs.HandedOn.{HasHandedOn, HasSinkCause};
 ghost use Rattle.pdc_pipe.specs.Pipe.{log};
+ghost use Rattle.pdc_pipe.specs.Writing.{IsOpen, put_by};
 
 use crate::message::Message;
 use crate::outlet::Outlet;
-use crate::pipe::{CAPACITY, InOrder, Log, Receiver, Roles, Sender, Total};
+use crate::pipe::{CAPACITY, InOrder, Log, Receiver, Roles, Total};
 use crate::senders::{Ended, send_out};
+use crate::writer::Writer;
 use crossbeam_channel::{Pass, bounded_with};
 use pdc_ports::Sink;
 use std::alloc::{AllocError, Global};
@@ -20,11 +22,9 @@ use std::thread::Promise;
 #[derive(Drop)]
 pub struct Ends {
     /// The aligner's end.
-    pub to: Sender,
+    pub writer: Writer,
     /// The sender's end.
     pub from: Receiver,
-    /// By which the aligner puts.
-    pub writer: Pass<Message, Log>,
     /// By which the sender takes.
     pub reader: Pass<Message, Log>,
 }
@@ -35,16 +35,15 @@ pub struct Ends {
 ///
 /// Where there is no memory for it.
 pub fn channel(alloc: Global) -> Result<Ends, AllocError>
-    ensures { IfOk result (λ ends. (receives_on ends.from ≡ sends_on ends.to)
-        × (IsSeatAt (sends_on ends.to) ends.writer × (view ends.writer ≡ log true false false [] []))
+    ensures { IfOk result (λ ends. (receives_on ends.from ≡ sends_on ends.writer.to)
+        × IsOpen ends.writer × (put_by ends.writer ≡ [])
         × (IsSeatAt (receives_on ends.from) ends.reader × (view ends.reader ≡ log false true false [] []))) }
 {
-    let (to, from, mut writer) = bounded_with::<Message, Log, InOrder, Global>(alloc, CAPACITY)?;
-    let reader = to.another::<Roles>(&mut writer);
+    let (to, from, mut pass) = bounded_with::<Message, Log, InOrder, Global>(alloc, CAPACITY)?;
+    let reader = to.another::<Roles>(&mut pass);
     Ok(Ends {
-        to,
+        writer: Writer { to, pass },
         from,
-        writer,
         reader,
     })
 }
@@ -99,15 +98,15 @@ pub fn send_owned<K: Outlet, R: Wait>(
 
 /// Joins both passes, and hands back the sink and how the sender ended. What the sink took are the first of the frames that were put, where
 /// they are the first of those that were taken.
-pub fn settle<K: Sink>(to: &Sender, writer: Pass<Message, Log>, sent: Sent<K>) -> (K, Ended)
-    requires writer { IsSeatAt (sends_on to.now) writer × ((view writer).puts ≡ true) }
-    requires reader { IsSeatAt (sends_on to.now) sent.pass × ((view sent.pass).takes ≡ true) }
+pub fn settle<K: Sink>(writer: Writer, sent: Sent<K>) -> (K, Ended)
+    requires reader { IsSeatAt (sends_on writer.to) sent.pass × ((view sent.pass).takes ≡ true) }
     ensures back { (result.0 ≡ sent.sink) × (result.1 ≡ sent.ended) }
-    ensures handed { (before : K) → HasHandedOn (K.took before sent.sink) (view sent.pass).taken sent.ended → HasHandedOn (K.took before result.0) (view writer).put result.1 }
+    ensures handed { (before : K) → HasHandedOn (K.took before sent.sink) (view sent.pass).taken sent.ended → HasHandedOn (K.took before result.0) (put_by writer) result.1 }
 {
-    let mut writer = writer;
+    let Writer { to, pass: own } = writer;
+    let mut own = own;
     let Sent { sink, pass, ended } = sent;
-    to.absorb::<Roles>(&mut writer, pass);
-    to.learn_as::<Total>(&mut writer);
+    to.absorb::<Roles>(&mut own, pass);
+    to.learn_as::<Total>(&mut own);
     (sink, ended)
 }

@@ -13,6 +13,7 @@ mod message;
 mod outlet;
 mod pipe;
 mod senders;
+mod writer;
 
 pub use ends::{Ends, HandsOn, Sent, channel, send_owned, settle};
 pub use message::{LayoutFrame, Message};
@@ -21,3 +22,4 @@ pub use pdc_ports::{Sink, SinkFault};
 pub use pdc_publisher::Published;
 pub use pipe::{CAPACITY, InOrder, Log, Receiver, Sender, close, put, take_next};
 pub use senders::{Ended, send_out};
+pub use writer::Writer;

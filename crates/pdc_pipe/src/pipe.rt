@@ -1,12 +1,14 @@
 //! The ruled channel between the aligner and the sender, and its steps.
 ghost use Rattle.std.specs.Prelude.{◌≡◌, Bool, true, false, ℕ, [], ◌∷◌, ◌++◌, List, IfSome, IfNone};
 ghost use Rattle.crossbeam_channel.specs.Claims.{view, IsSeatAt};
-ghost use Rattle.crossbeam_channel.specs.Ends.{sends_on, receives_on};
+ghost use Rattle.crossbeam_channel.specs.Ends.{receives_on};
 ghost use Rattle.pdc_pipe.specs.declared.message.Message.TheVariants.{Data, Layout, End};
 ghost use Rattle.pdc_pipe.specs.Sequence.{is_end, IsClosedBy};
 ghost use Rattle.pdc_pipe.specs.Pipe.{log, Piped};
+ghost use Rattle.pdc_pipe.specs.Writing.{GoesOn, IsOpen, put_by};
 
 use crate::message::Message;
+use crate::writer::Writer;
 use crossbeam_channel::protocol::{Join, Lesson, Outcome, Protocol, Split};
 use crossbeam_channel::{Pass, RuledReceiver, RuledSender};
 use std::alloc::Global;
@@ -101,29 +103,26 @@ pub type Sender = RuledSender<Message, Log, InOrder>;
 pub type Receiver = RuledReceiver<Message, Log, InOrder>;
 
 /// Puts a message that is no end mark. False where the channel's other end is gone.
-pub fn put<R: Wait>(
-    rt: &R,
-    sender: &Sender,
-    pass: &mut Pass<Message, Log>,
-    message: Message,
-) -> bool
+pub fn put<R: Wait>(rt: &R, writer: &mut Writer, message: Message) -> bool
     requires goes { is_end message ≡ false }
-    requires seat { IsSeatAt (sends_on sender.now) pass.old × (view pass.old ≡ log true false false (view pass.old).put []) }
-    ensures seat { IsSeatAt (sends_on sender.now) pass.new × (view pass.new ≡ log true false false (view pass.new).put []) }
-    ensures put { result ≡ true → (view pass.new).put ≡ (view pass.old).put ++ message ∷ [] }
-    ensures not { result ≡ false → (view pass.new).put ≡ (view pass.old).put }
+    requires open { IsOpen writer.old }
+    ensures on { GoesOn writer.old writer.new }
+    ensures put { result ≡ true → put_by writer.new ≡ put_by writer.old ++ message ∷ [] }
+    ensures not { result ≡ false → put_by writer.new ≡ put_by writer.old }
 {
-    sender.send_as::<Puts, R>(rt, pass, message).is_ok()
+    let Writer { to, pass } = writer;
+    to.send_as::<Puts, R>(rt, pass, message).is_ok()
 }
 
 /// Puts the end mark. False where the channel's other end is gone.
-pub fn close<R: Wait>(rt: &R, sender: &Sender, pass: &mut Pass<Message, Log>) -> bool
-    requires seat { IsSeatAt (sends_on sender.now) pass.old × (view pass.old ≡ log true false false (view pass.old).put []) }
-    ensures seat { IsSeatAt (sends_on sender.now) pass.new × (view pass.new ≡ log true false result (view pass.new).put []) }
-    ensures put { result ≡ true → (view pass.new).put ≡ (view pass.old).put ++ End ∷ [] }
-    ensures not { result ≡ false → (view pass.new).put ≡ (view pass.old).put }
+pub fn close<R: Wait>(rt: &R, writer: &mut Writer) -> bool
+    requires open { IsOpen writer.old }
+    ensures same { writer.new.to ≡ writer.old.to }
+    ensures put { result ≡ true → put_by writer.new ≡ put_by writer.old ++ End ∷ [] }
+    ensures not { result ≡ false → put_by writer.new ≡ put_by writer.old }
 {
-    sender.send_as::<Closes, R>(rt, pass, Message::End).is_ok()
+    let Writer { to, pass } = writer;
+    to.send_as::<Closes, R>(rt, pass, Message::End).is_ok()
 }
 
 /// Takes the next message. None where the channel's other end is gone.

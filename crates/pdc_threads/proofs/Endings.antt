@@ -9,7 +9,7 @@ use Rattle.pdc_hub.specs.declared.fault.HubFault.{HubFault}
 use Rattle.pdc_hub.specs.declared.fault.HubFault.TheVariants.{SourceFault, SinkFault, NoMemory, CountsUsedUp, Device, Stuck}
 use Rattle.pdc_life.specs.Answer.{Rules}
 use Rattle.pdc_life.specs.Given.{Given}
-use Rattle.pdc_ports.specs.Heard.{Heard, Gave, Idled, Ended, Failed, GaveUp, HasTold, TellsFrom}
+use Rattle.pdc_ports.specs.Heard.{Heard, Gave, Idled, Ended, Failed, GaveUp, HasTold}
 use Rattle.pdc_threads.specs.Ended.{AreFor, Ending, HasEndedAs, HasEndedOf, HaveJoined, ending_by, first_of, or_else}
 use Rattle.pdc_threads.specs.declared.receivers.Counted.{Counted}
 

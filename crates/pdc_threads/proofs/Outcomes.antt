@@ -1,9 +1,8 @@
 -- What a run tells of what was put.
-use Rattle.std.proofs.Common.{arith, rules, ◌≡◌, ◌≤◌, ℕ, Option, Result, Ok, Err, IfOk, OnOk, Bool, true, false, List, [], ◌∷◌, ◌++◌, length, map, refl, sym, ap, ◌∙◌, subst, append-nil, vec_len}
-use Rattle.pdc_aligner.specs.Device.{HasDevice, Standing}
+use Rattle.std.proofs.Common.{arith, rules, ◌≡◌, ◌≤◌, ℕ, Option, Result, Ok, Err, IfOk, OnOk, Bool, true, false, List, [], ◌∷◌, ◌++◌, map, refl, sym, ap, ◌∙◌, subst, append-nil, vec_len}
 use Rattle.pdc_aligner.specs.Sequence.{Rises, instants_of}
 use Rattle.pdc_aligner.specs.declared.pace.Pace.{Pace}
-use Rattle.pdc_aligner.specs.Turns.{HasGiven, IsAligned, end_mark}
+use Rattle.pdc_aligner.specs.Turns.{IsAligned, end_mark}
 use Rattle.pdc_life.specs.Given.{Given}
 use Rattle.pdc_output.specs.declared.output.Output.{Output}
 use Rattle.pdc_hub.specs.Received.{Answering}

@@ -1,5 +1,5 @@
 -- How the parts of a run ended, and which fault the run tells of them (this profile).
-use Rattle.std.specs.Prelude.{◌≡◌, ℕ, ◌+◌, ◌≤◌, Bool, drop, true, false, List, [], ◌∷◌, length, map, IfOk, IfSome, Option, None, Some, Result, Ok, Err}
+use Rattle.std.specs.Prelude.{◌≡◌, ℕ, ◌+◌, Bool, drop, true, false, List, [], ◌∷◌, length, map, IfOk, IfSome, Option, None, Some, Result, Ok, Err}
 use Rattle.pdc_hub.specs.Faults.{IsOfReceiver}
 use Rattle.pdc_hub.specs.Received.{Answering, HasReceived, IsAnswerFor}
 use Rattle.pdc_hub.specs.Replay.{Lives, Sayings}

@@ -7,18 +7,24 @@
 //! floor that was stored before, and are at most the floor that is stored then.
 #![tactic(auto)]
 
+mod crew;
+mod outside;
 mod receivers;
 mod runs;
 mod telling;
 
-pub use pdc_aligner::{Aligned, Pace, align, tick_cleared};
-pub use pdc_hub::{Blanks, Hub, HubFault, Naming, Received, Shares, receive};
+pub use crew::{Crew, Finished, Ran};
+pub use outside::{Beside, Outside};
+pub use pdc_aligner::{Aligned, Aligner, Pace, align, tick_cleared};
+pub use pdc_hub::{
+    Blanks, Hub, HubFault, Intake, Ledgers, Naming, Place, Received, Shares, TopIn, receive,
+};
 pub use pdc_pipe::{
-    CAPACITY, Ended, InOrder, LayoutFrame, Log, Message, Receiver, Sender, send_out,
+    CAPACITY, Ended, InOrder, LayoutFrame, Log, Message, Outlet, Receiver, Sender, send_out,
 };
 pub use pdc_ports::{
     Counts, Did, MemorySink, Next, Numbered, Outcome, Sink, SinkFault, Source, Ticker, Told,
 };
 pub use receivers::{Counted, Input};
-pub use runs::{Finished, Ran, run};
+pub use runs::run;
 pub use telling::Totals;

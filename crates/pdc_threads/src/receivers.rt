@@ -5,13 +5,12 @@ ghost use Rattle.pdc_threads.specs.Ended.{AreFor, HasEndedAs, HaveJoined, ending
 
 use pdc_core::Core;
 use pdc_frame::MAX_SIZE;
-use pdc_hub::{Hub, HubFault, Naming, Received, Shares, receive};
+use pdc_hub::{HubFault, Intake, Ledgers, Naming, Place, Received, Shares, receive};
 use pdc_ports::Source;
 use std::alloc::{AllocError, Global};
 use std::marker::PhantomData;
 use std::snapshot::Snapshot;
 use std::sync::Wait;
-use std::sync::ledger::Ledger;
 use std::thread::{Promise, PromisedHandle, Scope, Threads};
 
 /// A source beside its buffer.
@@ -52,8 +51,8 @@ pub fn buffered<S: Source + Drop>(alloc: Global, sources: Vec<S>) -> Option<Vec<
 
 /// What a receiver's thread hands back: its shares, what they count, and why it ended, if by a fault.
 #[derive(Drop)]
-pub struct Delivered<T: Ledger, F: Ledger, G: Ledger> {
-    shares: Shares<T, F, G>,
+pub struct Delivered<N: Ledgers> {
+    shares: Shares<N>,
     taken: u64,
     refused: u64,
     fault: Option<HubFault>,
@@ -72,9 +71,7 @@ pub struct Receives<C: Core, N: Naming<C::Settings>, S> {
     of: PhantomData<(C, N)>,
 }
 
-impl<C: Core, N: Naming<C::Settings>, S: Source, T: Ledger, F: Ledger, G: Ledger> Promise<
-    Delivered<T, F, G>,
-> for Receives<C, N, S> {
+impl<C: Core, N: Naming<C::Settings>, S: Source> Promise<Delivered<N>> for Receives<C, N, S> {
     ghost use Rattle.pdc_threads.specs.Ended.{HasEndedAs, ending_by};
 
     ghost kept_by = { λ p r. HasEndedAs C.rules C.stands_for N.given N.settings C.Settings.says S.told p.source.value p.stream (ending_by r.taken r.refused r.fault) };
@@ -82,8 +79,8 @@ impl<C: Core, N: Naming<C::Settings>, S: Source, T: Ledger, F: Ledger, G: Ledger
 
 /// The receivers that were started, in the order of the streams.
 #[derive(Drop)]
-pub struct Started<C: Core, N: Naming<C::Settings>, S: Source, T: Ledger, F: Ledger, G: Ledger> {
-    running: Vec<PromisedHandle<Delivered<T, F, G>, Receives<C, N, S>>>,
+pub struct Started<C: Core, N: Naming<C::Settings>, S: Source> {
+    running: Vec<PromisedHandle<Delivered<N>, Receives<C, N, S>>>,
     /// Whether all were started.
     pub complete: bool,
 }
@@ -93,26 +90,21 @@ pub fn start_all<
     's,
     E: 's,
     C: Core + Drop + Send + 's,
-    N: Naming<C::Settings> + Send + 's,
-    T: Ledger + Send + Sync + 's,
-    F: Ledger + Send + Sync + 's,
-    G: Ledger + Send + Sync + 's,
-    P: Ledger + Send + Sync + 's,
+    N: Naming<C::Settings> + Send + Sync + 's,
     S: Source + Send + Drop + 's,
     R: Wait + Sync,
 >(
     scope: &'s Scope<'s, E>,
     rt: &'s R,
     alloc: Global,
-    hub: &'s Hub<C, N, T, F, G, P>,
-    settings: &'s C::Settings,
+    intake: &'s Intake<'s, C, N>,
     inputs: Vec<Input<S>>,
-    shares: &mut Shares<T, F, G>,
-) -> Started<C, N, S, T, F, G>
+    shares: &mut Shares<N>,
+) -> Started<C, N, S>
 where
     C::Settings: Sync + 's,
-    requires settings { N.settings ≡ Some settings.now }
-    requires streams { vec_len inputs ≡ C.Settings.streams settings.now }
+    requires settings { N.settings ≡ Some intake.now.settings.now }
+    requires streams { vec_len inputs ≡ C.Settings.streams intake.now.settings.now }
     requires few { vec_len inputs ≤ 16 }
     requires parts { (shares.old.taken.parts ≡ vec_len inputs + 1) × (shares.old.refused.parts ≡ vec_len inputs + 1) × (shares.old.configured.parts ≡ vec_len inputs + 1) }
     requires amounts { (shares.old.taken.amount ≡ 0) × (shares.old.refused.amount ≡ 0) × (shares.old.configured.amount ≡ 0) }
@@ -127,7 +119,11 @@ where
             continue;
         }
         let Input { source, buffer } = input;
-        let mine = split_one(shares);
+        let place = Place {
+            stream,
+            buffer,
+            shares: split_one(shares),
+        };
         let promise = Receives {
             source: Snapshot::of(&source),
             stream,
@@ -135,10 +131,10 @@ where
         };
         let Ok(handle) = scope.spawn_with(
             promise,
-            move || -> Delivered<T, F, G>
-                requires { (N.settings ≡ Some settings.now) × (stream < C.Settings.streams settings.now) × ((mine.taken.parts ≡ 1) × (mine.refused.parts ≡ 1) × (mine.configured.parts ≡ 1)) × ((mine.taken.amount ≡ 0) × (mine.refused.amount ≡ 0)) }
-                ensures { HasEndedAs C.rules C.stands_for N.given N.settings C.Settings.says S.told source stream (ending_by result.taken result.refused result.fault) }
-            { receive_owned(rt, alloc, hub, settings, stream, source, buffer, mine) },
+            move || -> Delivered<N>
+                requires { (N.settings ≡ Some intake.now.settings.now) × (place.stream < C.Settings.streams intake.now.settings.now) × ((place.shares.taken.parts ≡ 1) × (place.shares.refused.parts ≡ 1) × (place.shares.configured.parts ≡ 1)) × ((place.shares.taken.amount ≡ 0) × (place.shares.refused.amount ≡ 0)) }
+                ensures { HasEndedAs C.rules C.stands_for N.given N.settings C.Settings.says S.told source place.stream (ending_by result.taken result.refused result.fault) }
+            { receive_owned(rt, alloc, intake, source, place) },
         ) else {
             complete = false;
             continue;
@@ -153,7 +149,7 @@ where
 }
 
 /// One part of each ledger, which has counted nothing.
-fn split_one<T: Ledger, F: Ledger, G: Ledger>(left: &mut Shares<T, F, G>) -> Shares<T, F, G>
+fn split_one<N: Ledgers>(left: &mut Shares<N>) -> Shares<N>
     requires parts { (1 < left.old.taken.parts) × (1 < left.old.refused.parts) × (1 < left.old.configured.parts) }
     ensures left { (left.new.taken.parts + 1 ≡ left.old.taken.parts) × (left.new.refused.parts + 1 ≡ left.old.refused.parts) × (left.new.configured.parts + 1 ≡ left.old.configured.parts) }
     ensures amounts { (left.new.taken.amount ≡ left.old.taken.amount) × (left.new.refused.amount ≡ left.old.refused.amount) × (left.new.configured.amount ≡ left.old.configured.amount) }
@@ -168,30 +164,18 @@ fn split_one<T: Ledger, F: Ledger, G: Ledger>(left: &mut Shares<T, F, G>) -> Sha
 }
 
 /// As `receive`, of a source that is its own.
-fn receive_owned<
-    C: Core + Drop,
-    N: Naming<C::Settings>,
-    T: Ledger,
-    F: Ledger,
-    G: Ledger,
-    P: Ledger,
-    S: Source + Drop,
-    R: Wait,
->(
+fn receive_owned<C: Core + Drop, N: Naming<C::Settings>, S: Source + Drop, R: Wait>(
     rt: &R,
     alloc: Global,
-    hub: &Hub<C, N, T, F, G, P>,
-    settings: &C::Settings,
-    stream: usize,
+    intake: &Intake<'_, C, N>,
     source: S,
-    buffer: Vec<u8>,
-    shares: Shares<T, F, G>,
-) -> Delivered<T, F, G>
-    requires settings { N.settings ≡ Some settings.now }
-    requires stream { stream < C.Settings.streams settings.now }
-    requires parts { (shares.taken.parts ≡ 1) × (shares.refused.parts ≡ 1) × (shares.configured.parts ≡ 1) }
-    requires amounts { (shares.taken.amount ≡ 0) × (shares.refused.amount ≡ 0) }
-    ensures { HasEndedAs C.rules C.stands_for N.given N.settings C.Settings.says S.told source stream (ending_by result.taken result.refused result.fault) }
+    place: Place<N>,
+) -> Delivered<N>
+    requires settings { N.settings ≡ Some intake.now.settings.now }
+    requires stream { place.stream < C.Settings.streams intake.now.settings.now }
+    requires parts { (place.shares.taken.parts ≡ 1) × (place.shares.refused.parts ≡ 1) × (place.shares.configured.parts ≡ 1) }
+    requires amounts { (place.shares.taken.amount ≡ 0) × (place.shares.refused.amount ≡ 0) }
+    ensures { HasEndedAs C.rules C.stands_for N.given N.settings C.Settings.says S.told source place.stream (ending_by result.taken result.refused result.fault) }
 {
     let mut source = source;
     let Received {
@@ -200,16 +184,7 @@ fn receive_owned<
         refused,
         fault,
         closed: _,
-    } = receive(
-        rt,
-        alloc,
-        settings,
-        stream,
-        &mut source,
-        buffer,
-        hub,
-        shares,
-    );
+    } = receive(rt, alloc, intake, &mut source, place);
     Delivered {
         shares,
         taken,
@@ -240,18 +215,15 @@ fn first_of(fault: Option<HubFault>, other: Option<HubFault>) -> Option<HubFault
 }
 
 /// Joins what was started, and their shares with these. All are joined, whatever they answered.
-pub fn join_all<
-    C: Core,
-    N: Naming<C::Settings>,
-    S: Source,
-    T: Ledger,
-    F: Ledger,
-    G: Ledger,
-    R: Threads,
->(rt: &R, alloc: Global, started: Started<C, N, S, T, F, G>, shares: &mut Shares<T, F, G>) -> Joined
-    requires parts { started.complete ≡ true → (shares.old.taken.parts + vec_len started.running ≡ T.parts) × (shares.old.refused.parts + vec_len started.running ≡ F.parts) × (shares.old.configured.parts + vec_len started.running ≡ G.parts) }
+pub fn join_all<C: Core, N: Naming<C::Settings>, S: Source, R: Threads>(
+    rt: &R,
+    alloc: Global,
+    started: Started<C, N, S>,
+    shares: &mut Shares<N>,
+) -> Joined
+    requires parts { started.complete ≡ true → (shares.old.taken.parts + vec_len started.running ≡ N.taken.parts) × (shares.old.refused.parts + vec_len started.running ≡ N.refused.parts) × (shares.old.configured.parts + vec_len started.running ≡ N.configured.parts) }
     requires amounts { started.complete ≡ true → (shares.old.taken.amount ≡ 0) × (shares.old.refused.amount ≡ 0) }
-    ensures parts { result.complete ≡ true → (shares.new.taken.parts ≡ T.parts) × (shares.new.refused.parts ≡ F.parts) × (shares.new.configured.parts ≡ G.parts) }
+    ensures parts { result.complete ≡ true → (shares.new.taken.parts ≡ N.taken.parts) × (shares.new.refused.parts ≡ N.refused.parts) × (shares.new.configured.parts ≡ N.configured.parts) }
     ensures started { result.complete ≡ true → started.complete ≡ true }
     ensures each { result.complete ≡ true → vec_len result.receivers ≡ vec_len started.running }
     ensures fault { IfSome result.fault IsOfReceiver }
@@ -286,7 +258,7 @@ pub fn join_all<
 }
 
 /// Adds the shares to those joined before.
-fn merge<T: Ledger, F: Ledger, G: Ledger>(all: &mut Shares<T, F, G>, more: Shares<T, F, G>)
+fn merge<N: Ledgers>(all: &mut Shares<N>, more: Shares<N>)
     ensures parts { (all.new.taken.parts ≡ all.old.taken.parts + more.taken.parts) × (all.new.refused.parts ≡ all.old.refused.parts + more.refused.parts) × (all.new.configured.parts ≡ all.old.configured.parts + more.configured.parts) }
     ensures amounts { (all.new.taken.amount ≡ all.old.taken.amount + more.taken.amount) × (all.new.refused.amount ≡ all.old.refused.amount + more.refused.amount) × (all.new.configured.amount ≡ all.old.configured.amount + more.configured.amount) }
 {

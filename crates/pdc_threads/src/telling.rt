@@ -10,7 +10,6 @@ use pdc_core::Core;
 use pdc_hub::{Hub, HubFault, Naming, Shares};
 use pdc_pipe::Ended;
 use std::sync::Wait;
-use std::sync::ledger::Ledger;
 
 /// What a run counted.
 #[derive(Debug, Drop)]
@@ -23,23 +22,15 @@ pub struct Totals {
 }
 
 /// The first fault in the order receivers, aligner, sender, or the totals.
-pub fn outcome<
-    C: Core + Drop,
-    N: Naming<C::Settings>,
-    T: Ledger,
-    F: Ledger,
-    G: Ledger,
-    P: Ledger,
-    R: Wait,
->(
+pub fn outcome<C: Core + Drop, N: Naming<C::Settings>, R: Wait>(
     rt: &R,
-    hub: &Hub<C, N, T, F, G, P>,
-    shares: &mut Shares<T, F, G>,
+    hub: &Hub<C, N>,
+    shares: &mut Shares<N>,
     joined: Joined,
     aligned: Result<u64, HubFault>,
     ended: Ended,
 ) -> Result<Totals, HubFault>
-    requires parts { joined.complete ≡ true → (shares.old.taken.parts ≡ T.parts) × (shares.old.refused.parts ≡ F.parts) × (shares.old.configured.parts ≡ G.parts) }
+    requires parts { joined.complete ≡ true → (shares.old.taken.parts ≡ N.taken.parts) × (shares.old.refused.parts ≡ N.refused.parts) × (shares.old.configured.parts ≡ N.configured.parts) }
     requires sums { joined.complete ≡ true → (shares.old.taken.amount ≡ sum (map (λ c. c.taken) joined.receivers.items)) × (shares.old.refused.amount ≡ sum (map (λ c. c.refused) joined.receivers.items)) }
     requires receiver { IfSome joined.fault IsOfReceiver }
     requires aligner { IfErr aligned IsOfAligner }

@@ -1,5 +1,5 @@
 use Rattle.std.proofs.Common.{rules, ◌≡◌, ◌++◌, ◌∷◌, []}
-use Rattle.crossbeam_channel.specs.Claims.{view}
+use Rattle.pdc_pipe.specs.Writing.{put_by}
 use Rattle.pdc_pipe.specs.declared.message.Message.TheVariants.{End}
 use Rattle.pdc_hub.specs.declared.fault.HubFault.TheVariants.{Stuck}
 use Rattle.pdc_publisher.specs.Publisher.{mark_in, output_in}
@@ -10,27 +10,27 @@ use Rattle.pdc_aligner.proofs.aligner.align.Goals as goal
 
 pub returns-then-not-close-clause-rising : goal.returns-then-not-close-clause-rising
 returns-then-not-close-clause-rising g c =
-    let same : (view c.close.new.pass).put ≡ (view c.turns-done.new.pass).put = search rules in
+    let same : put_by c.close.new.writer ≡ put_by c.turns-done.new.aligner.writer = search rules in
     rw same (rises_on _ _ _ _ c.turns-done.ensures.rising c.turns-done.ensures.stored)
 
 pub returns-clause-rising : goal.returns-clause-rising
 returns-clause-rising g c =
-    let more : (view c.close.new.pass).put ≡ (view c.turns-done.new.pass).put ++ End ∷ [] = search rules in
+    let more : put_by c.close.new.writer ≡ put_by c.turns-done.new.aligner.writer ++ End ∷ [] = search rules in
     rw (put_end _ _ more) (rises_on _ _ _ _ c.turns-done.ensures.rising c.turns-done.ensures.stored)
 
 pub returns-clause-published : goal.returns-clause-published
 returns-clause-published g c =
-    let more : (view c.close.new.pass).put ≡ (view c.turns-done.new.pass).put ++ End ∷ [] = search rules in
+    let more : put_by c.close.new.writer ≡ put_by c.turns-done.new.aligner.writer ++ End ∷ [] = search rules in
     rw (put_end _ _ more) c.turns-done.ensures.counted
 
 pub returns-then-not-close-clause-laid : goal.returns-then-not-close-clause-laid
 returns-then-not-close-clause-laid g c =
-    let same : (view c.close.new.pass).put ≡ (view c.turns-done.new.pass).put = search rules in
-    aligned_open g.C.Core.stands_for g.N.Naming.given (output_in c.args.publisher.now) c.args.pace.now.rate c.args.pace.now.layout_every (g.M.Mark.stored (mark_in c.args.publisher.now)).counts (g.M.Mark.stored (mark_in c.turns-done.new.publisher)).counts (HasGiven g.K.Ticker.gave c.args.ticker.now c.turns-done.new.ticker)
-    c.turns-done.result (view c.turns-done.new.pass).put (view c.close.new.pass).put Stuck c.turns-done.ensures.turned same
+    let same : put_by c.close.new.writer ≡ put_by c.turns-done.new.aligner.writer = search rules in
+    aligned_open g.C.Core.stands_for g.N.Naming.given (output_in c.args.aligner.now.publisher) c.args.pace.now.rate c.args.pace.now.layout_every (g.M.Mark.stored (mark_in c.args.aligner.now.publisher)).counts (g.M.Mark.stored (mark_in c.turns-done.new.aligner.publisher)).counts (HasGiven g.K.Ticker.gave c.args.aligner.now.ticker c.turns-done.new.aligner.ticker)
+    c.turns-done.result (put_by c.turns-done.new.aligner.writer) (put_by c.close.new.writer) Stuck c.turns-done.ensures.turned same
 
 pub returns-clause-laid : goal.returns-clause-laid
 returns-clause-laid g c =
-    let more : (view c.close.new.pass).put ≡ (view c.turns-done.new.pass).put ++ End ∷ [] = search rules in
-    aligned_ended g.C.Core.stands_for g.N.Naming.given (output_in c.args.publisher.now) c.args.pace.now.rate c.args.pace.now.layout_every (g.M.Mark.stored (mark_in c.args.publisher.now)).counts (g.M.Mark.stored (mark_in c.turns-done.new.publisher)).counts (HasGiven g.K.Ticker.gave c.args.ticker.now c.turns-done.new.ticker)
-    c.turns-done.result (view c.turns-done.new.pass).put (view c.close.new.pass).put c.turns-done.ensures.turned more
+    let more : put_by c.close.new.writer ≡ put_by c.turns-done.new.aligner.writer ++ End ∷ [] = search rules in
+    aligned_ended g.C.Core.stands_for g.N.Naming.given (output_in c.args.aligner.now.publisher) c.args.pace.now.rate c.args.pace.now.layout_every (g.M.Mark.stored (mark_in c.args.aligner.now.publisher)).counts (g.M.Mark.stored (mark_in c.turns-done.new.aligner.publisher)).counts (HasGiven g.K.Ticker.gave c.args.aligner.now.ticker c.turns-done.new.aligner.ticker)
+    c.turns-done.result (put_by c.turns-done.new.aligner.writer) (put_by c.close.new.writer) c.turns-done.ensures.turned more

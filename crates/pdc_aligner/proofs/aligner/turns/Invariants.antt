@@ -1,7 +1,5 @@
-use Rattle.std.proofs.Common.{◌≡◌, ◌≤◌, ◌<◌, true, false, []}
-use Rattle.crossbeam_channel.specs.Claims.{view, IsSeatAt}
-use Rattle.crossbeam_channel.specs.Ends.{sends_on}
-use Rattle.pdc_pipe.specs.Pipe.{log}
+use Rattle.std.proofs.Common.{◌≡◌, ◌≤◌, ◌<◌}
+use Rattle.pdc_pipe.specs.Writing.{IsOpen, put_by}
 use Rattle.pdc_aligner.specs.Sequence.{instants_of, IsCounted, Rises}
 use Rattle.pdc_aligner.specs.Turns.{HasGiven}
 use Rattle.pdc_publisher.specs.Publisher.{last_in, lead_in, mark_in, output_in}
@@ -12,13 +10,13 @@ use Rattle.pdc_aligner.proofs.aligner.turns.Given as goal
 
 abbrev pub invariant-loop : goal.invariant-loop
 invariant-loop g l =
-    IsSeatAt (sends_on l.sender) l.pass × (view l.pass ≡ log true false false (view l.pass).put [])
-    × (l.top.parts ≡ l.initial.top.parts) × (last_in l.publisher ≡ l.top.amount)
-    × (last_in l.publisher ≤ (g.M.Mark.stored (mark_in l.publisher)).floor)
-    × (output_in l.publisher ≡ output_in l.initial.publisher)
-    × IsCounted l.published (view l.pass).put (last_in l.publisher)
-    × Rises (last_in l.initial.publisher) (instants_of (view l.pass).put) (last_in l.publisher)
+    (l.aligner.writer.to ≡ l.initial.aligner.writer.to) × IsOpen l.aligner.writer
+    × (l.aligner.top.parts ≡ l.initial.aligner.top.parts) × (last_in l.aligner.publisher ≡ l.aligner.top.amount)
+    × (last_in l.aligner.publisher ≤ (g.M.Mark.stored (mark_in l.aligner.publisher)).floor)
+    × (output_in l.aligner.publisher ≡ output_in l.initial.aligner.publisher)
+    × IsCounted l.published (put_by l.aligner.writer) (last_in l.aligner.publisher)
+    × Rises (last_in l.initial.aligner.publisher) (instants_of (put_by l.aligner.writer)) (last_in l.aligner.publisher)
     × (l.place < l.every)
-    × IsTurning {C = g.row.C.Denot} g.C.Core.stands_for g.N.Naming.given (output_in l.initial.publisher) l.pace.rate l.every (g.M.Mark.stored (mark_in l.initial.publisher)).counts (g.M.Mark.stored (mark_in l.publisher)).counts (HasGiven g.K.Ticker.gave l.initial.ticker l.ticker) (view l.pass).put l.adopted l.place
-    × IsSound (standing_of l.initial.publisher) (standing_of l.publisher)
-    × (lead_in l.publisher ≡ lead_in l.initial.publisher)
+    × IsTurning {C = g.row.C.Denot} g.C.Core.stands_for g.N.Naming.given (output_in l.initial.aligner.publisher) l.pace.rate l.every (g.M.Mark.stored (mark_in l.initial.aligner.publisher)).counts (g.M.Mark.stored (mark_in l.aligner.publisher)).counts (HasGiven g.K.Ticker.gave l.initial.aligner.ticker l.aligner.ticker) (put_by l.aligner.writer) l.adopted l.place
+    × IsSound (standing_of l.initial.aligner.publisher) (standing_of l.aligner.publisher)
+    × (lead_in l.aligner.publisher ≡ lead_in l.initial.aligner.publisher)

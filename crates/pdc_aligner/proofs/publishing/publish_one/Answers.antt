@@ -1,5 +1,5 @@
 use Rattle.std.proofs.Common.{rules, arith, ◌≡◌, ◌++◌, ◌∷◌, [], ◌≤◌, ◌<◌}
-use Rattle.crossbeam_channel.specs.Claims.{view}
+use Rattle.pdc_pipe.specs.Writing.{put_by}
 use Rattle.pdc_publisher.specs.Publisher.{last_in}
 use Rattle.pdc_pipe.specs.declared.message.Message.TheVariants.{Data}
 use Rattle.pdc_aligner.proofs.Sequences.{counted_data, rises_on, rises_put, put_data}
@@ -7,25 +7,25 @@ use Rattle.pdc_aligner.proofs.publishing.publish_one.Goals as goal
 
 pub returns-then-not-put-clause-rising : goal.returns-then-not-put-clause-rising
 returns-then-not-put-clause-rising g c low r =
-    let same : (view c.put.new.pass).put ≡ (view c.args.pass.now).put = search (rules, c.put.ensures.not, c.if-not-put.true) in
-    let last : last_in c.publish.new.self ≡ c.args.row.instant = c.in-Ok.ensures.last in
+    let same : put_by c.put.new.writer ≡ put_by c.args.writer.now = search (rules, c.put.ensures.not, c.if-not-put.true) in
+    let last : last_in c.publish.new.self ≡ c.args.popped.answer.instant = c.in-Ok.ensures.last in
     let below : last_in c.args.publisher.now ≤ last_in c.publish.new.self = omega (arith, last, c.requires.above) in
     rw same (rises_on low _ _ _ r below)
 
 pub returns-clause-rising : goal.returns-clause-rising
 returns-clause-rising g c low r =
-    let more : (view c.put.new.pass).put ≡ (view c.args.pass.now).put ++ Data c.in-Ok.frame ∷ [] = search (rules, c.put.ensures.put, c.if-not-put.false) in
-    let at : c.args.row.instant ≡ c.in-Ok.frame.instant = search (rules, c.in-Ok.ensures.published) in
-    let last : last_in c.publish.new.self ≡ c.args.row.instant = c.in-Ok.ensures.last in
+    let more : put_by c.put.new.writer ≡ put_by c.args.writer.now ++ Data c.in-Ok.frame ∷ [] = search (rules, c.put.ensures.put, c.if-not-put.false) in
+    let at : c.args.popped.answer.instant ≡ c.in-Ok.frame.instant = search (rules, c.in-Ok.ensures.published) in
+    let last : last_in c.publish.new.self ≡ c.args.popped.answer.instant = c.in-Ok.ensures.last in
     let later : last_in c.args.publisher.now < c.in-Ok.frame.instant = omega (arith, at, c.requires.above) in
     let same : last_in c.publish.new.self ≡ c.in-Ok.frame.instant = omega (arith, at, last) in
     rw (put_data _ _ _ more) (rises_put low _ _ _ _ r later same)
 
 pub returns-clause-counted : goal.returns-clause-counted
 returns-clause-counted g c =
-    let more : (view c.put.new.pass).put ≡ (view c.args.pass.now).put ++ Data c.in-Ok.frame ∷ [] = search (rules, c.put.ensures.put, c.if-not-put.false) in
-    let at : c.args.row.instant ≡ c.in-Ok.frame.instant = search (rules, c.in-Ok.ensures.published) in
-    let last : last_in c.publish.new.self ≡ c.args.row.instant = c.in-Ok.ensures.last in
+    let more : put_by c.put.new.writer ≡ put_by c.args.writer.now ++ Data c.in-Ok.frame ∷ [] = search (rules, c.put.ensures.put, c.if-not-put.false) in
+    let at : c.args.popped.answer.instant ≡ c.in-Ok.frame.instant = search (rules, c.in-Ok.ensures.published) in
+    let last : last_in c.publish.new.self ≡ c.args.popped.answer.instant = c.in-Ok.ensures.last in
     let later : last_in c.args.publisher.now < c.in-Ok.frame.instant = omega (arith, at, c.requires.above) in
     let same : last_in c.publish.new.self ≡ c.in-Ok.frame.instant = omega (arith, at, last) in
     counted_data _ _ _ _ _ _ more c.requires.counted later same

@@ -14,13 +14,13 @@ loop-init g c = (
   search rules,
   search rules,
   search rules,
-  receiving_begins g.S.Source.told c.args.source.now (IsAnswerFor g.C.Core.rules g.C.Core.stands_for g.N.Naming.given (g.C.Settings.Reads.says c.args.settings.now) c.args.stream),
+  receiving_begins g.S.Source.told c.args.source.now (IsAnswerFor g.C.Core.rules g.C.Core.stands_for g.N.Naming.given (g.C.Settings.Reads.says c.args.intake.now.settings.now) c.args.place.stream),
 )
 
 pub loop-preserved-in-Ok : goal.loop-preserved-in-Ok
 loop-preserved-in-Ok g c =
     let bytes : List ℕ = take c.in-Datagram.len c.next-in-loop.new.buffer in
-    let answers : Answering = IsAnswerFor g.C.Core.rules g.C.Core.stands_for g.N.Naming.given (g.C.Settings.Reads.says c.args.settings.now) c.args.stream in
+    let answers : Answering = IsAnswerFor g.C.Core.rules g.C.Core.stands_for g.N.Naming.given (g.C.Settings.Reads.says c.args.intake.now.settings.now) c.args.place.stream in
     let same : c.deref.result.now ≡ c.next-in-loop.new.buffer = left_whole _ _ _ _ c.deref.ensures.value (search rules) in
     let answer : answers bytes c.in-Ok.answer.answer = subst (λ (buffer : List ℕ). answers (take c.in-Datagram.len buffer) c.in-Ok.answer.answer) same c.in-Ok.ensures.answer in
     let taken : c.match-answer.taken ≡ c.loop.taken + taken_by c.in-Ok.answer.answer = search (rules, c.match-answer.branch) in

@@ -8,4 +8,4 @@ abbrev pub invariant-loop : goal.invariant-loop
 invariant-loop g l =
     (l.shares.taken.parts ≡ 1) × (l.shares.refused.parts ≡ 1) × (l.shares.configured.parts ≡ 1) × (l.shares.taken.amount ≡ l.taken) × (l.shares.refused.amount ≡ l.refused)
     × (g.S.Source.failures_of l.initial.source ≤ g.S.Source.failures_of l.source)
-    × IsReceiving (HasTold g.S.Source.told l.initial.source l.source) (IsAnswerFor {C = g.row.C.Denot} g.C.Core.rules g.C.Core.stands_for g.N.Naming.given (g.C.Settings.Reads.says l.settings) l.stream) l.taken l.refused
+    × IsReceiving (HasTold g.S.Source.told l.initial.source l.source) (IsAnswerFor {C = g.row.C.Denot} g.C.Core.rules g.C.Core.stands_for g.N.Naming.given (g.C.Settings.Reads.says l.intake.settings.now) l.stream) l.taken l.refused

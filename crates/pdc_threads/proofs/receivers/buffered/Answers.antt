@@ -1,5 +1,5 @@
-use Rattle.std.proofs.Common.{rules, arith, ◌≡◌, ◌++◌, ◌∷◌, ◌∙◌, [], ap, append-nil, length, map, sym}
-use Rattle.std.specs.Vec.Iter.{into_iter_items, into_iter_len}
+use Rattle.std.proofs.Common.{rules, arith, ◌≡◌, ◌++◌, ◌∙◌, [], ap, append-nil, length, map, sym}
+use Rattle.std.specs.Vec.Iter.{into_iter_items}
 use Rattle.pdc_threads.proofs.Endings.{map_on, nothing_left}
 use Rattle.pdc_threads.proofs.receivers.buffered.Goals as goal
 

@@ -7,7 +7,7 @@ use Rattle.pdc_threads.proofs.receivers.join_all.Given as goal
 abbrev pub invariant-loop-handle : goal.invariant-loop-handle
 invariant-loop-handle g l =
     (l.complete ≡ true
-    → (l.shares.taken.parts + into_iter_len l.handle-iterator ≡ g.T.Ledger.parts) × (l.shares.refused.parts + into_iter_len l.handle-iterator ≡ g.F.Ledger.parts) × (l.shares.configured.parts + into_iter_len l.handle-iterator ≡ g.G.Ledger.parts)
+    → (l.shares.taken.parts + into_iter_len l.handle-iterator ≡ g.N.Ledgers.taken.parts) × (l.shares.refused.parts + into_iter_len l.handle-iterator ≡ g.N.Ledgers.refused.parts) × (l.shares.configured.parts + into_iter_len l.handle-iterator ≡ g.N.Ledgers.configured.parts)
     × (l.shares.taken.amount ≡ sum (map (λ c. c.taken) l.receivers.items)) × (l.shares.refused.amount ≡ sum (map (λ c. c.refused) l.receivers.items))
     × (length l.receivers.items + into_iter_len l.handle-iterator ≡ length l.fn.started.running.items))
     × IfSome l.fault IsOfReceiver

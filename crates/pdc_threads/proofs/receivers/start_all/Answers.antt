@@ -1,4 +1,4 @@
-use Rattle.std.proofs.Common.{rules, arith, ◌≡◌, ◌∷◌, ◌+◌, ◌∙◌, true, ap, drop, length, map, subst, sym}
+use Rattle.std.proofs.Common.{rules, arith, ◌≡◌, ◌∷◌, ◌∙◌, true, ap, drop, length, map, subst, sym}
 use Rattle.std.specs.Vec.Iter.{into_iter_items}
 use Rattle.pdc_threads.specs.Ended.{HasEndedAs, ending_by}
 use Rattle.pdc_threads.proofs.Endings.{drop_on, for_on}

@@ -1,31 +1,42 @@
-use Rattle.std.proofs.Common.{rules, ◌≡◌, List, false, [], length, map, refl, subst, sym, vec_len}
+use Rattle.std.proofs.Common.{rules, false, [], refl}
 use Rattle.pdc_hub.specs.Received.{IsAnswerFor}
 use Rattle.pdc_pipe.specs.declared.senders.Ended.TheVariants.{AlignerGone}
 use Rattle.pdc_threads.specs.Conducted.{publishing_of}
-use Rattle.pdc_threads.specs.Ended.{HasEnded, HasEndedOf}
-use Rattle.pdc_threads.specs.Run.{HasEach}
 use Rattle.pdc_threads.proofs.Outcomes.{none_conducted, nothing_sent}
 use Rattle.pdc_threads.proofs.runs.run.Goals as goal
 
 pub returns-in_default-clause-sent : goal.returns-in_default-clause-sent
 returns-in_default-clause-sent g c =
-    rw (c.not_begun.ensures.0, c.not_begun.ensures.1, c.not_begun.ensures.2)
-    record { put = []; given = []; rest = []; took = g.K.Sink.nothing c.args.sink; first = refl; rising = c.requires.top.3; whole = tt; published = tt }
+    let h = none_conducted g.C.Core.stands_for g.N.Naming.given (IsAnswerFor g.C.Core.rules g.C.Core.stands_for g.N.Naming.given (g.C.Settings.Reads.says c.args.settings.now)) g.W.Source.Source.told c.args.crew.sources.items c.args.crew.pace g.W.Ticker.Ticker.gave c.args.crew.ticker (g.W.Sink.Sink.failures_of c.args.crew.sink) (g.W.Sink.Sink.failures_of c.args.crew.sink) (publishing_of c.args.crew.publisher) [] false AlignerGone
+    refl (nothing_sent (g.W.Sink.Sink.nothing c.args.crew.sink)) (search rules) c.requires.top.3 in
+    rw (c.not_begun.ensures.0, c.not_begun.ensures.1, c.not_begun.ensures.2) h.turned.run
 
 pub returns-in_default-clause-turned : goal.returns-in_default-clause-turned
 returns-in_default-clause-turned g c =
-    let h = none_conducted g.C.Core.stands_for g.N.Naming.given (IsAnswerFor g.C.Core.rules g.C.Core.stands_for g.N.Naming.given (g.C.Settings.Reads.says c.args.settings.now)) g.S.Source.told c.args.sources.items c.args.pace g.I.Ticker.gave c.args.ticker (g.K.Sink.failures_of c.args.sink) (g.K.Sink.failures_of c.args.sink) (publishing_of c.args.publisher) [] false AlignerGone
-    refl (nothing_sent (g.K.Sink.nothing c.args.sink)) (search rules) c.requires.top.3 in
+    let h = none_conducted g.C.Core.stands_for g.N.Naming.given (IsAnswerFor g.C.Core.rules g.C.Core.stands_for g.N.Naming.given (g.C.Settings.Reads.says c.args.settings.now)) g.W.Source.Source.told c.args.crew.sources.items c.args.crew.pace g.W.Ticker.Ticker.gave c.args.crew.ticker (g.W.Sink.Sink.failures_of c.args.crew.sink) (g.W.Sink.Sink.failures_of c.args.crew.sink) (publishing_of c.args.crew.publisher) [] false AlignerGone
+    refl (nothing_sent (g.W.Sink.Sink.nothing c.args.crew.sink)) (search rules) c.requires.top.3 in
     rw (c.not_begun.ensures.0, c.not_begun.ensures.1, c.not_begun.ensures.2) h.turned
 
 pub returns-in_default-clause-ended : goal.returns-in_default-clause-ended
 returns-in_default-clause-ended g c =
-    let h = none_conducted g.C.Core.stands_for g.N.Naming.given (IsAnswerFor g.C.Core.rules g.C.Core.stands_for g.N.Naming.given (g.C.Settings.Reads.says c.args.settings.now)) g.S.Source.told c.args.sources.items c.args.pace g.I.Ticker.gave c.args.ticker (g.K.Sink.failures_of c.args.sink) (g.K.Sink.failures_of c.args.sink) (publishing_of c.args.publisher) [] false AlignerGone
-    refl (nothing_sent (g.K.Sink.nothing c.args.sink)) (search rules) c.requires.top.3 in
+    let h = none_conducted g.C.Core.stands_for g.N.Naming.given (IsAnswerFor g.C.Core.rules g.C.Core.stands_for g.N.Naming.given (g.C.Settings.Reads.says c.args.settings.now)) g.W.Source.Source.told c.args.crew.sources.items c.args.crew.pace g.W.Ticker.Ticker.gave c.args.crew.ticker (g.W.Sink.Sink.failures_of c.args.crew.sink) (g.W.Sink.Sink.failures_of c.args.crew.sink) (publishing_of c.args.crew.publisher) [] false AlignerGone
+    refl (nothing_sent (g.W.Sink.Sink.nothing c.args.crew.sink)) (search rules) c.requires.top.3 in
     rw (c.not_begun.ensures.0, c.not_begun.ensures.1, c.not_begun.ensures.2) h.ended
 
-pub returns-clause-sent : goal.returns-clause-sent
-returns-clause-sent g c = c.run_buffered.ensures.conducted.turned.run
+pub returns-in_default-channel-clause-sent : goal.returns-in_default-channel-clause-sent
+returns-in_default-channel-clause-sent g c =
+    let h = none_conducted g.C.Core.stands_for g.N.Naming.given (IsAnswerFor g.C.Core.rules g.C.Core.stands_for g.N.Naming.given (g.C.Settings.Reads.says c.args.settings.now)) g.W.Source.Source.told c.args.crew.sources.items c.args.crew.pace g.W.Ticker.Ticker.gave c.args.crew.ticker (g.W.Sink.Sink.failures_of c.args.crew.sink) (g.W.Sink.Sink.failures_of c.args.crew.sink) (publishing_of c.args.crew.publisher) [] false AlignerGone
+    refl (nothing_sent (g.W.Sink.Sink.nothing c.args.crew.sink)) (search rules) c.requires.top.3 in
+    rw (c.not_begun-in_default-channel.ensures.0, c.not_begun-in_default-channel.ensures.1, c.not_begun-in_default-channel.ensures.2) h.turned.run
 
-pub returns-clause-turned : goal.returns-clause-turned
-returns-clause-turned g c = c.run_buffered.ensures.conducted.turned
+pub returns-in_default-channel-clause-turned : goal.returns-in_default-channel-clause-turned
+returns-in_default-channel-clause-turned g c =
+    let h = none_conducted g.C.Core.stands_for g.N.Naming.given (IsAnswerFor g.C.Core.rules g.C.Core.stands_for g.N.Naming.given (g.C.Settings.Reads.says c.args.settings.now)) g.W.Source.Source.told c.args.crew.sources.items c.args.crew.pace g.W.Ticker.Ticker.gave c.args.crew.ticker (g.W.Sink.Sink.failures_of c.args.crew.sink) (g.W.Sink.Sink.failures_of c.args.crew.sink) (publishing_of c.args.crew.publisher) [] false AlignerGone
+    refl (nothing_sent (g.W.Sink.Sink.nothing c.args.crew.sink)) (search rules) c.requires.top.3 in
+    rw (c.not_begun-in_default-channel.ensures.0, c.not_begun-in_default-channel.ensures.1, c.not_begun-in_default-channel.ensures.2) h.turned
+
+pub returns-in_default-channel-clause-ended : goal.returns-in_default-channel-clause-ended
+returns-in_default-channel-clause-ended g c =
+    let h = none_conducted g.C.Core.stands_for g.N.Naming.given (IsAnswerFor g.C.Core.rules g.C.Core.stands_for g.N.Naming.given (g.C.Settings.Reads.says c.args.settings.now)) g.W.Source.Source.told c.args.crew.sources.items c.args.crew.pace g.W.Ticker.Ticker.gave c.args.crew.ticker (g.W.Sink.Sink.failures_of c.args.crew.sink) (g.W.Sink.Sink.failures_of c.args.crew.sink) (publishing_of c.args.crew.publisher) [] false AlignerGone
+    refl (nothing_sent (g.W.Sink.Sink.nothing c.args.crew.sink)) (search rules) c.requires.top.3 in
+    rw (c.not_begun-in_default-channel.ensures.0, c.not_begun-in_default-channel.ensures.1, c.not_begun-in_default-channel.ensures.2) h.ended

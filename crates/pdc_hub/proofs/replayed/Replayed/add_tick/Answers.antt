@@ -2,8 +2,8 @@ use Rattle.std.proofs.Common.{rules, refl, ◌∙◌, ◌++◌, ◌∷◌, [], �
 use Rattle.std.proofs.Math.Logic.{∥∥₁_map}
 use Rattle.pdc_core.specs.Step.{is_allowed}
 use Rattle.pdc_core.specs.declared.step.CoreStep.TheVariants as step
-use Rattle.pdc_life.specs.Answer.{ToPop, ToTick}
-use Rattle.pdc_hub.proofs.Held.{still, tagged}
+use Rattle.pdc_life.specs.Answer.{ToTick}
+use Rattle.pdc_hub.proofs.Held.{still}
 use Rattle.pdc_hub.proofs.Replays.{all_more, grown}
 use Rattle.pdc_hub.proofs.replayed.Replayed.add_tick.Goals as goal
 
