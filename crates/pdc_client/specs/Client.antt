@@ -1,6 +1,7 @@
 -- A client, and what its calls leave (this profile).
 use Rattle.std.specs.Prelude.{◌≡◌, ℕ, List, Option, Some, None, Result, IfErr, OnOk, IsErrOf}
 use Rattle.pdc_frame.specs.Stream.{Held}
+use Rattle.pdc_client.specs.Counting.{faults_of, inner_of, reads_of}
 use Rattle.pdc_client.specs.declared.client.Pdc.{Pdc}
 use Rattle.pdc_client.specs.declared.fault.ClientFault.{ClientFault}
 
@@ -10,7 +11,15 @@ id_in pdc = pdc.id
 
 -- what it reads from and writes to
 abbrev pub stream_in : {S A : Type 0} → Pdc S A → S
-stream_in pdc = pdc.stream
+stream_in pdc = inner_of pdc.stream
+
+-- how often that was read
+abbrev pub reads_in : {S A : Type 0} → Pdc S A → ℕ
+reads_in pdc = reads_of pdc.stream
+
+-- how often a read or a write of it failed
+abbrev pub faults_in : {S A : Type 0} → Pdc S A → ℕ
+faults_in pdc = faults_of pdc.stream
 
 -- what its framer holds
 abbrev pub held_in : {S A : Type 0} → Pdc S A → Held

@@ -1,2 +1,4 @@
 pub mod Client
+pub mod Counted
+pub mod Counting
 pub mod Search

@@ -1,15 +1,18 @@
 //! The client.
-ghost use Rattle.std.specs.Prelude.{◌≡◌, ◌⊎◌, ◌≤◌, ◌<◌, [], None, IfOk, IsErrOf, IsOkAnd, OnErr, OnOk};
+ghost use Rattle.std.specs.Prelude.{◌≡◌, ◌⊎◌, ◌≤◌, ◌<◌, ◌+◌, ◌-◌, [], None, IfOk, IsErrOf, IsOkAnd, OnErr, OnOk, is_err};
 ghost use Rattle.std.specs.Io.KnownBytes.{Appends};
 ghost use Rattle.pdc_frame.specs.Frame.{Fields, IsFrame, spelling_of};
 ghost use Rattle.pdc_frame.specs.Stream.{HasTaken};
 ghost use Rattle.pdc_frame.specs.declared.limits.TheConstants.{MAX_ID};
 ghost use Rattle.pdc_command.specs.Command.{command_fields};
+ghost use Rattle.pdc_client.specs.Counted.{faults_after, is_device, reads_after};
 ghost use Rattle.pdc_client.specs.Search.{Searches};
 ghost use Rattle.pdc_client.specs.declared.telling.TheConstants.{COMMAND_SOC};
+ghost use Rattle.pdc_client.specs.declared.search.TheConstants.{MAX_READS};
 ghost use Rattle.pdc_frame.specs.declared.frame.Kind.TheVariants.{Cfg2, DataFrame, HeaderFrame};
 ghost use Rattle.pdc_client.specs.declared.fault.ClientFault.{ClientFault};
 
+use crate::counting::Counting;
 use crate::fault::ClientFault;
 use crate::search::{MAX_READS, find_frame};
 use crate::telling::tell;
@@ -24,7 +27,7 @@ use std::io::{Read, Write};
 #[derive(Drop)]
 pub struct Pdc<S, A: Allocator = Global> {
     id: u16,
-    stream: S,
+    stream: Counting<S>,
     framer: Framer<A>,
     unread: Unread<A>,
     reads_left: u32,
@@ -34,7 +37,7 @@ pub struct Pdc<S, A: Allocator = Global> {
 }
 
 impl<S: Read + Write, A: Allocator> Pdc<S, A> {
-    ghost use Rattle.pdc_client.specs.Client.{KeepsFaults, ended_in, held_in, id_in, reads_left_in, stream_in, unread_in};
+    ghost use Rattle.pdc_client.specs.Client.{KeepsFaults, ended_in, faults_in, held_in, id_in, reads_in, reads_left_in, stream_in, unread_in};
 
     /// A client of the stream `id`, 1 to 65534. It reads and writes nothing yet.
     ///
@@ -52,10 +55,12 @@ impl<S: Read + Write, A: Allocator> Pdc<S, A> {
         ensures held { IfOk result (λ pdc. HasTaken [] [] (held_in pdc)) }
         ensures unread { IfOk result (λ pdc. unread_in pdc ≡ []) }
         ensures ended { IfOk result (λ pdc. ended_in pdc ≡ None) }
+        ensures reads { IfOk result (λ pdc. reads_in pdc ≡ 0) }
+        ensures faults { IfOk result (λ pdc. faults_in pdc ≡ 0) }
     {
         Ok(Pdc {
             id,
-            stream,
+            stream: Counting::new(stream),
             framer: Framer::new(alloc)?,
             unread: Unread::new(alloc)?,
             reads_left: MAX_READS,
@@ -70,6 +75,20 @@ impl<S: Read + Write, A: Allocator> Pdc<S, A> {
         self.reads_left
     }
 
+    /// How often its stream was read. It stays at its greatest value.
+    pub fn reads(&self) -> u64
+        ensures { result ≡ reads_in self.now }
+    {
+        self.stream.reads()
+    }
+
+    /// How often a read or a write of its stream failed; a read that was interrupted did not. It stays at its greatest value.
+    pub fn faults(&self) -> u64
+        ensures { result ≡ faults_in self.now }
+    {
+        self.stream.faults()
+    }
+
     /// Writes a command.
     fn order(&mut self, command: Command) -> Result<(), ClientFault>
         ensures keeps { KeepsFaults self.old self.new result }
@@ -77,6 +96,8 @@ impl<S: Read + Write, A: Allocator> Pdc<S, A> {
         ensures fault { ended_in self.old ≡ None → OnErr result (IsErrOf result ClientFault.Device) }
         ensures held { held_in self.new ≡ held_in self.old }
         ensures unread { unread_in self.new ≡ unread_in self.old }
+        ensures reads { reads_in self.new ≡ reads_in self.old }
+        ensures device { ended_in self.old ≡ None → faults_in self.new ≡ faults_after (is_err result) (faults_in self.old) }
     {
         if let Some(fault) = self.ended {
             return Err(fault);
@@ -93,6 +114,9 @@ impl<S: Read + Write, A: Allocator> Pdc<S, A> {
         ensures keeps { KeepsFaults self.old self.new result }
         ensures searches { ended_in self.old ≡ None → Searches (id_in self.old) kind (held_in self.old) (unread_in self.old) (S.remaining (stream_in self.old)) (held_in self.new) (unread_in self.new) (S.remaining (stream_in self.new)) (reads_left_in self.new) result }
         ensures memory { ended_in self.old ≡ None → IsErrOf result ClientFault.NoMemory → ⊥ }
+        ensures reads { ended_in self.old ≡ None → (reads_left_in self.new ≤ MAX_READS) × (reads_in self.new ≡ reads_after (MAX_READS - reads_left_in self.new) (reads_in self.old)) }
+        ensures device { ended_in self.old ≡ None → faults_in self.new ≡ faults_after (is_device result) (faults_in self.old) }
+        ensures few { reads_in self.new ≤ reads_in self.old + MAX_READS }
     {
         if let Some(fault) = self.ended {
             return Err(fault);
@@ -124,6 +148,8 @@ impl<S: Read + Write, A: Allocator> Pdc<S, A> {
         ensures unread { unread_in self.new ≡ unread_in self.old }
         ensures stream { stream_in self.new ≡ stream_in self.old }
         ensures reads_left { reads_left_in self.new ≡ reads_left_in self.old }
+        ensures reads { reads_in self.new ≡ reads_in self.old }
+        ensures faults { faults_in self.new ≡ faults_in self.old }
         ensures fault { OnErr result (IsErrOf result ClientFault.NoMemory) }
     {
         match copy {
@@ -146,6 +172,9 @@ impl<S: Read + Write, A: Allocator> Pdc<S, A> {
         ensures keeps { KeepsFaults self.old self.new result }
         ensures searches { ended_in self.old ≡ None → Searches (id_in self.old) DataFrame (held_in self.old) (unread_in self.old) (S.remaining (stream_in self.old)) (held_in self.new) (unread_in self.new) (S.remaining (stream_in self.new)) (reads_left_in self.new) result }
         ensures answer { IfOk result (λ bytes. bytes.items ≡ (held_in self.new).bytes) }
+        ensures few { reads_in self.new ≤ reads_in self.old + MAX_READS }
+        ensures reads { ended_in self.old ≡ None → (reads_left_in self.new ≤ MAX_READS) × (reads_in self.new ≡ reads_after (MAX_READS - reads_left_in self.new) (reads_in self.old)) }
+        ensures device { ended_in self.old ≡ None → faults_in self.new ≡ faults_after (is_device result) (faults_in self.old) }
     {
         self.find(Kind::DataFrame)?;
         let copy = Vec::from_slice(alloc, self.framer.frame());
@@ -163,6 +192,9 @@ impl<S: Read + Write, A: Allocator> Pdc<S, A> {
             ⊎ ((asked : S) × Appends (S.contents (stream_in self.old)) (S.contents asked) (spelling_of (command_fields (id_in self.old) COMMAND_SOC Command.SendCfg2))
             × Searches (id_in self.old) Cfg2 (held_in self.old) (unread_in self.old) (S.remaining asked) (held_in self.new) (unread_in self.new) (S.remaining (stream_in self.new)) (reads_left_in self.new) result) }
         ensures answer { IfOk result (λ bytes. bytes.items ≡ (held_in self.new).bytes) }
+        ensures few { reads_in self.new ≤ reads_in self.old + MAX_READS }
+        ensures reads { ended_in self.old ≡ None → IsErrOf result ClientFault.Device ⊎ ((reads_left_in self.new ≤ MAX_READS) × (reads_in self.new ≡ reads_after (MAX_READS - reads_left_in self.new) (reads_in self.old))) }
+        ensures device { ended_in self.old ≡ None → faults_in self.new ≡ faults_after (is_device result) (faults_in self.old) }
     {
         self.order(Command::SendCfg2)?;
         self.find(Kind::Cfg2)?;
@@ -181,6 +213,9 @@ impl<S: Read + Write, A: Allocator> Pdc<S, A> {
             ⊎ ((asked : S) × Appends (S.contents (stream_in self.old)) (S.contents asked) (spelling_of (command_fields (id_in self.old) COMMAND_SOC Command.SendHeader))
             × Searches (id_in self.old) HeaderFrame (held_in self.old) (unread_in self.old) (S.remaining asked) (held_in self.new) (unread_in self.new) (S.remaining (stream_in self.new)) (reads_left_in self.new) result) }
         ensures answer { IfOk result (λ text. (f : Fields) × IsFrame (held_in self.new).bytes f × (text.items ≡ f.payload)) }
+        ensures few { reads_in self.new ≤ reads_in self.old + MAX_READS }
+        ensures reads { ended_in self.old ≡ None → IsErrOf result ClientFault.Device ⊎ ((reads_left_in self.new ≤ MAX_READS) × (reads_in self.new ≡ reads_after (MAX_READS - reads_left_in self.new) (reads_in self.old))) }
+        ensures device { ended_in self.old ≡ None → faults_in self.new ≡ faults_after (is_device result) (faults_in self.old) }
     {
         self.order(Command::SendHeader)?;
         self.find(Kind::HeaderFrame)?;
@@ -199,6 +234,8 @@ impl<S: Read + Write, A: Allocator> Pdc<S, A> {
         ensures fault { ended_in self.old ≡ None → OnErr result (IsErrOf result ClientFault.Device) }
         ensures held { held_in self.new ≡ held_in self.old }
         ensures unread { unread_in self.new ≡ unread_in self.old }
+        ensures reads { reads_in self.new ≡ reads_in self.old }
+        ensures device { ended_in self.old ≡ None → faults_in self.new ≡ faults_after (is_err result) (faults_in self.old) }
     {
         self.order(Command::DataOn)
     }
@@ -214,6 +251,8 @@ impl<S: Read + Write, A: Allocator> Pdc<S, A> {
         ensures fault { ended_in self.old ≡ None → OnErr result (IsErrOf result ClientFault.Device) }
         ensures held { held_in self.new ≡ held_in self.old }
         ensures unread { unread_in self.new ≡ unread_in self.old }
+        ensures reads { reads_in self.new ≡ reads_in self.old }
+        ensures device { ended_in self.old ≡ None → faults_in self.new ≡ faults_after (is_err result) (faults_in self.old) }
     {
         self.order(Command::DataOff)
     }
@@ -228,6 +267,6 @@ impl<S: Read + Write, A: Allocator> Pdc<S, A> {
     {
         let mut pdc = self;
         let answer = pdc.order(Command::DataOff);
-        (pdc.stream, answer)
+        (pdc.stream.into_inner(), answer)
     }
 }

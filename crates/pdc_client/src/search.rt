@@ -1,15 +1,18 @@
 //! The next frame of a stream and a kind, in what a reader gives.
-ghost use Rattle.std.specs.Prelude.{◌≡◌, ◌⊎◌, ◌∷◌, [], true, false, OnOk, IsErrOf};
+ghost use Rattle.std.specs.Prelude.{◌≡◌, ◌≤◌, ◌-◌, ◌⊎◌, ◌∷◌, [], true, false, OnOk, IsErrOf};
 ghost use Rattle.std.specs.Io.KnownBytes.{Consumes, IsAtEnd};
 ghost use Rattle.pdc_frame.specs.declared.step.Step.TheVariants.{Whole};
 ghost use Rattle.pdc_frame.specs.Stream.{IsBad};
+ghost use Rattle.pdc_client.specs.Counted.{faults_after, is_device, reads_after};
+ghost use Rattle.pdc_client.specs.Counting.{faults_of, inner_of, reads_of};
 ghost use Rattle.pdc_client.specs.Search.{Follows, IsOther, IsWanted, Searches};
 
+use crate::counting::{Counting, is_interrupt};
 use crate::fault::ClientFault;
 use crate::unread::Unread;
 use pdc_frame::{Framer, Kind, Step};
 use std::alloc::Allocator;
-use std::io::{ErrorKind, Read};
+use std::io::Read;
 
 /// The most frames that a call looks through.
 pub const MAX_FRAMES: u32 = 1000;
@@ -20,18 +23,20 @@ pub const MAX_READS: u32 = 1_000_000;
 /// Reads once, where no byte is left. A read that was interrupted brings none.
 fn read_more<R: Read, A: Allocator>(
     unread: &mut Unread<A>,
-    reader: &mut R,
+    reader: &mut Counting<R>,
 ) -> Result<(), ClientFault>
     requires { unread.old ≡ [] }
-    ensures ok { OnOk result (Consumes (R.remaining reader.old) (R.remaining reader.new) unread.new) }
-    ensures end { IsErrOf result ClientFault.NoAnswer → IsAtEnd (R.remaining reader.new) }
+    ensures ok { OnOk result (Consumes (R.remaining (inner_of reader.old)) (R.remaining (inner_of reader.new)) unread.new) }
+    ensures end { IsErrOf result ClientFault.NoAnswer → IsAtEnd (R.remaining (inner_of reader.new)) }
     ensures bad { IsErrOf result ClientFault.BadStream → ⊥ }
     ensures memory { IsErrOf result ClientFault.NoMemory → ⊥ }
+    ensures reads { reads_of reader.new ≡ reads_after 1 (reads_of reader.old) }
+    ensures faults { faults_of reader.new ≡ faults_after (is_device result) (faults_of reader.old) }
 {
     match unread.fill(reader) {
         Ok(0) => Err(ClientFault::NoAnswer),
         Ok(_) => Ok(()),
-        Err(error) if error.kind() == ErrorKind::Interrupted => Ok(()),
+        Err(error) if is_interrupt(&error) => Ok(()),
         Err(_) => Err(ClientFault::Device),
     }
 }
@@ -40,14 +45,17 @@ fn read_more<R: Read, A: Allocator>(
 fn next_frame<R: Read, A: Allocator>(
     framer: &mut Framer<A>,
     unread: &mut Unread<A>,
-    reader: &mut R,
+    reader: &mut Counting<R>,
     reads: &mut u32,
 ) -> Result<(), ClientFault>
-    ensures ok { OnOk result (Follows framer.old unread.old (R.remaining reader.old) (framer.new.bytes ∷ []) framer.new unread.new (R.remaining reader.new)) }
+    ensures ok { OnOk result (Follows framer.old unread.old (R.remaining (inner_of reader.old)) (framer.new.bytes ∷ []) framer.new unread.new (R.remaining (inner_of reader.new))) }
     ensures whole { OnOk result (framer.new.step ≡ Whole) }
     ensures bad { IsErrOf result ClientFault.BadStream → IsBad framer.new.step }
-    ensures no_answer { IsErrOf result ClientFault.NoAnswer → (reads.new ≡ 0) ⊎ IsAtEnd (R.remaining reader.new) }
+    ensures no_answer { IsErrOf result ClientFault.NoAnswer → (reads.new ≡ 0) ⊎ IsAtEnd (R.remaining (inner_of reader.new)) }
     ensures memory { IsErrOf result ClientFault.NoMemory → ⊥ }
+    ensures few { reads.new ≤ reads.old }
+    ensures reads { reads_of reader.new ≡ reads_after (reads.old - reads.new) (reads_of reader.old) }
+    ensures faults { faults_of reader.new ≡ faults_after (is_device result) (faults_of reader.old) }
 {
     loop {
         let (taken, step) = framer.feed(unread.bytes());
@@ -86,11 +94,14 @@ pub fn find_frame<R: Read, A: Allocator>(
     kind: Kind,
     framer: &mut Framer<A>,
     unread: &mut Unread<A>,
-    reader: &mut R,
+    reader: &mut Counting<R>,
     reads: &mut u32,
 ) -> Result<(), ClientFault>
-    ensures searches { Searches id kind framer.old unread.old (R.remaining reader.old) framer.new unread.new (R.remaining reader.new) reads.new result }
+    ensures searches { Searches id kind framer.old unread.old (R.remaining (inner_of reader.old)) framer.new unread.new (R.remaining (inner_of reader.new)) reads.new result }
     ensures memory { IsErrOf result ClientFault.NoMemory → ⊥ }
+    ensures few { reads.new ≤ reads.old }
+    ensures reads { reads_of reader.new ≡ reads_after (reads.old - reads.new) (reads_of reader.old) }
+    ensures faults { faults_of reader.new ≡ faults_after (is_device result) (faults_of reader.old) }
 {
     for _ in 0..MAX_FRAMES {
         next_frame(framer, unread, reader, reads)?;

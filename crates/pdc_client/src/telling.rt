@@ -1,9 +1,12 @@
 //! Commands on their way out.
-ghost use Rattle.std.specs.Prelude.{◌≡◌, ◌≤◌, ◌<◌, OnOk, OnErr, IsErrOf};
+ghost use Rattle.std.specs.Prelude.{◌≡◌, ◌≤◌, ◌<◌, OnOk, OnErr, IsErrOf, is_err};
 ghost use Rattle.std.specs.Io.KnownBytes.{Appends};
 ghost use Rattle.pdc_frame.specs.Frame.{spelling_of};
 ghost use Rattle.pdc_command.specs.Command.{command_fields};
+ghost use Rattle.pdc_client.specs.Counted.{faults_after};
+ghost use Rattle.pdc_client.specs.Counting.{faults_of, inner_of, reads_of};
 
+use crate::counting::Counting;
 use crate::fault::ClientFault;
 use arrayvec::ArrayVec;
 use pdc_command::{COMMAND_SIZE, Command, write_command};
@@ -29,17 +32,20 @@ pub fn command_frame(id: u16, command: Command) -> ArrayVec<u8, COMMAND_SIZE>
 /// # Errors
 ///
 /// `Device` where the writer fails.
-pub fn tell<W: Write>(id: u16, command: Command, writer: &mut W) -> Result<(), ClientFault>
+pub fn tell<W: Write>(
+    id: u16,
+    command: Command,
+    writer: &mut Counting<W>,
+) -> Result<(), ClientFault>
     requires id_low { 0 < id }
     requires id_high { id ≤ MAX_ID }
-    ensures ok { OnOk result (Appends (W.contents writer.old) (W.contents writer.new) (spelling_of (command_fields id COMMAND_SOC command))) }
+    ensures ok { OnOk result (Appends (W.contents (inner_of writer.old)) (W.contents (inner_of writer.new)) (spelling_of (command_fields id COMMAND_SOC command))) }
     ensures err { OnErr result (IsErrOf result ClientFault.Device) }
+    ensures reads { reads_of writer.new ≡ reads_of writer.old }
+    ensures faults { faults_of writer.new ≡ faults_after (is_err result) (faults_of writer.old) }
 {
     let frame = command_frame(id, command);
-    if writer.write_all(frame.as_slice()).is_err() {
-        return Err(ClientFault::Device);
-    }
-    match writer.flush() {
+    match writer.write(frame.as_slice()) {
         Ok(()) => Ok(()),
         Err(_) => Err(ClientFault::Device),
     }

@@ -1,7 +1,10 @@
 //! Bytes that were read ahead.
 ghost use Rattle.std.specs.Prelude.{◌≡◌, ◌≤◌, ◌<◌, [], length, drop, IfOk, OnErr};
 ghost use Rattle.std.specs.Io.KnownBytes.{Consumes, IsAtEnd, Keeps};
+ghost use Rattle.pdc_client.specs.Counted.{faults_after, is_fault, reads_after};
+ghost use Rattle.pdc_client.specs.Counting.{faults_of, inner_of, reads_of};
 
+use crate::counting::Counting;
 use std::alloc::{AllocError, Allocator, Global};
 use std::io;
 use std::io::Read;
@@ -64,17 +67,23 @@ impl<A: Allocator> Unread<A> {
     /// # Errors
     ///
     /// What the reader answers.
-    pub fn fill<R: Read>(&mut self, reader: &mut R) -> io::Result<usize>
+    pub fn fill<R: Read>(&mut self, reader: &mut Counting<R>) -> io::Result<usize>
         requires { self.old ≡ [] }
         ensures len { IfOk result (λ count. count ≡ length self.new) }
-        ensures bytes { IfOk result (λ count. Consumes (R.remaining reader.old) (R.remaining reader.new) self.new) }
-        ensures end { IfOk result (λ count. count ≡ 0 → IsAtEnd (R.remaining reader.new)) }
-        ensures err { OnErr result ((self.new ≡ []) × Keeps (R.remaining reader.old) (R.remaining reader.new)) }
+        ensures bytes { IfOk result (λ count. Consumes (R.remaining (inner_of reader.old)) (R.remaining (inner_of reader.new)) self.new) }
+        ensures end { IfOk result (λ count. count ≡ 0 → IsAtEnd (R.remaining (inner_of reader.new))) }
+        ensures err { OnErr result ((self.new ≡ []) × Keeps (R.remaining (inner_of reader.old)) (R.remaining (inner_of reader.new))) }
+        ensures reads { reads_of reader.new ≡ reads_after 1 (reads_of reader.old) }
+        ensures faults { faults_of reader.new ≡ faults_after (is_fault result) (faults_of reader.old) }
     {
         self.begin = 0;
         self.end = 0;
-        let count = reader.read(self.piece.as_mut_slice())?;
-        self.end = count;
-        Ok(count)
+        match reader.read(self.piece.as_mut_slice()) {
+            Ok(count) => {
+                self.end = count;
+                Ok(count)
+            }
+            Err(error) => Err(error),
+        }
     }
 }

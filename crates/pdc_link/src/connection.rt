@@ -4,7 +4,7 @@ ghost use Rattle.pdc_frame.specs.declared.limits.TheConstants.{MAX_ID};
 
 use crate::loss::Loss;
 use crate::since::Since;
-use pdc_client::{Unread, tell};
+use pdc_client::{Counting, Unread, tell};
 use pdc_command::Command;
 use pdc_frame::{Framer, MAX_ID, Step};
 use pdc_journal::{Journal, Tally};
@@ -47,7 +47,7 @@ pub struct Connection<'a, R: Net<Listener = TcpListener, Stream = TcpStream> + C
     tally: &'a Tally,
     id: u16,
     to: SocketAddr,
-    stream: Option<TcpStream>,
+    stream: Option<Counting<TcpStream>>,
     framer: Framer,
     unread: Unread,
     /// Since when nothing came, or else the connection is lost.
@@ -89,10 +89,10 @@ fn set_up(stream: &TcpStream) -> io::Result<()> {
 fn connect<R: Net<Listener = TcpListener, Stream = TcpStream>>(
     rt: &R,
     to: &SocketAddr,
-) -> io::Result<TcpStream> {
+) -> io::Result<Counting<TcpStream>> {
     let stream = TcpStream::connect_timeout(rt, to, Duration::from_millis(CONNECT_LIMIT))?;
     set_up(&stream)?;
-    Ok(stream)
+    Ok(Counting::new(stream))
 }
 
 /// Whether a read only waited.
@@ -104,7 +104,7 @@ fn is_idle(kind: ErrorKind) -> bool {
 }
 
 /// Tells the stream to send its configuration, and then its data.
-fn ask(id: u16, stream: &mut TcpStream) -> Result<(), Loss>
+fn ask(id: u16, stream: &mut Counting<TcpStream>) -> Result<(), Loss>
     requires id_low { 0 < id }
     requires id_high { id ≤ MAX_ID }
 {
@@ -119,7 +119,7 @@ enum Heard {
 }
 
 /// Reads once, where no byte is left.
-fn read(unread: &mut Unread, stream: &mut TcpStream) -> Result<Heard, Loss> {
+fn read(unread: &mut Unread, stream: &mut Counting<TcpStream>) -> Result<Heard, Loss> {
     if !unread.bytes().is_empty() {
         return Ok(Heard::Bytes);
     }

@@ -4,7 +4,7 @@ ghost use Rattle.pdc_frame.specs.declared.limits.TheConstants.{MAX_ID};
 ghost use Rattle.pdc_frame.specs.declared.step.Step.TheVariants.{Whole};
 
 use crate::loading::Session;
-use pdc_client::{Unread, tell};
+use pdc_client::{Counting, Unread, tell};
 use pdc_command::Command;
 use pdc_frame::{Framer, MAX_ID, Step};
 use pdc_watch::{Watch, Who};
@@ -47,12 +47,12 @@ pub fn now_ms(clock: &impl Clock) -> u64 {
 fn connect<R: Net<Listener = TcpListener, Stream = TcpStream>>(
     rt: &R,
     to: &SocketAddr,
-) -> io::Result<TcpStream> {
+) -> io::Result<Counting<TcpStream>> {
     let stream = TcpStream::connect_timeout(rt, to, Duration::from_millis(LIMIT))?;
     stream.set_read_timeout(Some(Duration::from_millis(TURN)))?;
     stream.set_write_timeout(Some(Duration::from_millis(LIMIT)))?;
     stream.set_nodelay(true)?;
-    Ok(stream)
+    Ok(Counting::new(stream))
 }
 
 /// Whether a read only waited.
@@ -77,7 +77,7 @@ enum Turn {
 /// A connection to a session.
 #[derive(Drop)]
 struct Reading {
-    stream: TcpStream,
+    stream: Counting<TcpStream>,
     framer: Framer,
     unread: Unread,
 }
@@ -108,7 +108,7 @@ fn fill(reading: &mut Reading) -> Turn {
 
 impl<'a, R: Net<Listener = TcpListener, Stream = TcpStream> + Clock + Wait> Reader<'a, R> {
     /// Asks for the configuration.
-    fn ask(&self, stream: &mut TcpStream) -> bool {
+    fn ask(&self, stream: &mut Counting<TcpStream>) -> bool {
         tell(self.session.id, Command::SendCfg2, stream).is_ok()
     }
 
