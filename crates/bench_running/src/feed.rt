@@ -2,7 +2,7 @@
 ghost use Rattle.std.specs.Prelude.{◌≡◌, ◌≤◌, ℕ, length};
 
 use crate::frames::FLOOR;
-use pdc_threads::{Next, Sink, SinkFault, Source, Ticker};
+use pdc_threads::{Next, Outlet, Sink, SinkFault, Source, Ticker};
 use std::sync::atomic::{AtomicU64, Ordering};
 use std::thread;
 
@@ -145,3 +145,5 @@ impl Sink for Discard {
         0
     }
 }
+
+impl Outlet for Discard {}

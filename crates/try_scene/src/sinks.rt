@@ -1,7 +1,7 @@
 //! A sink in memory that fails at a chosen frame.
 ghost use Rattle.std.specs.Prelude.{◌≡◌, List, ℕ};
 
-use pdc_threads::{MemorySink, Sink, SinkFault};
+use pdc_threads::{MemorySink, Outlet, Sink, SinkFault};
 
 /// Keeps frames in memory, and fails at the frame of this number, from 1, and at each further one.
 #[derive(Drop)]
@@ -33,3 +33,5 @@ impl Sink for Fused {
         self.failures
     }
 }
+
+impl Outlet for Fused {}
