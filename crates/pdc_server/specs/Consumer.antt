@@ -16,10 +16,14 @@ session_in consumer = consumer.session
 abbrev pub got_in : Consumer → ℕ
 got_in consumer = consumer.got
 
--- it sent nothing in the last turn, and data is off
+-- whether bytes came when it was last heard
+abbrev pub heard_in : Consumer → Bool
+heard_in consumer = consumer.heard
+
+-- it sent nothing when it was last heard, and data is off
 abbrev pub is_silent_in : Consumer → Bool
 is_silent_in consumer = not consumer.heard && not consumer.session.told.on
 
 -- where it stands
 abbrev pub standing_in : Consumer → Standing
-standing_in consumer = record { session = consumer.session; got = consumer.got }
+standing_in consumer = record { session = consumer.session; got = consumer.got; heard = consumer.heard }

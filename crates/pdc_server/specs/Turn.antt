@@ -1,5 +1,5 @@
 -- One turn with a consumer (this profile).
-use Rattle.std.specs.Prelude.{◌≡◌, ◌⊎◌, ℕ, ◌<◌, List, [], length, take, Option, Some, None, true, false}
+use Rattle.std.specs.Prelude.{◌≡◌, ◌⊎◌, ℕ, ◌<◌, List, [], ◌∷◌, length, take, Option, Some, None, Bool, true, false}
 use Rattle.std.specs.Io.KnownBytes.{Appends, Consumes, IsAtEnd, Keeps}
 use Rattle.pdc_cfg.specs.Config.{config_fields_of}
 use Rattle.pdc_session.specs.Served.{IsFed}
@@ -46,10 +46,16 @@ IsUnheard (Session fault) dated id piece session later out grown = HasFailed dat
 IsUnheard NoMemory dated id piece session later out grown = (piece ≡ [] → ⊥) × (grown ≡ out) × (later ≡ session)
 IsUnheard _ dated id piece session later out grown = ⊥
 
--- where a consumer stands: its session, and up to which instant it got data
+-- where a consumer stands: its session, up to which instant it got data, and whether bytes came when it was last heard
 pub record Standing : Type 0 where
   pub session : SessionView
   pub got : ℕ
+  pub heard : Bool
+
+-- whether bytes came
+abbrev pub has_bytes : List ℕ → Bool
+has_bytes [] = false
+has_bytes (byte ∷ bytes) = true
 
 -- All that is to be written once a piece came: the replies, and behind them, while data is on, the frames above the instant that the
 -- consumer got; the greatest instant is what it has then.
@@ -70,12 +76,13 @@ IsMade (Some NoMemory) dated id piece before later made = (later.got ≡ before.
     × (IsUnheard NoMemory dated id piece before.session later.session [] made ⊎ LacksFrames dated id piece before later made)
 IsMade (Some ended) dated id piece before later made = (later.got ≡ before.got) × IsUnheard ended dated id piece before.session later.session [] made
 
--- A piece was read, perhaps none, and this is what is to be written.
+-- A piece was read, perhaps none; whether bytes came is noted, and this is what is to be written.
 pub record HasMade {S : Type 0} (remaining : S → Option (List ℕ)) (ended : Option Ended) (dated : Dated) (id : ℕ) (before later : Standing) (line : S) : Type 0 where
   pub read : S
   pub piece : List ℕ
   pub made : List ℕ
   pub came : Consumes (remaining line) (remaining read) piece
+  pub noted : later.heard ≡ has_bytes piece
   pub is_made : IsMade ended dated id piece before later made
 
 -- and it was written

@@ -1,7 +1,7 @@
 //! One session, turn by turn.
-ghost use Rattle.std.specs.Prelude.{◌≡◌, ◌≤◌, ◌<◌, take, Some, None, OnOk, IfOk, IfErr, vec_len};
+ghost use Rattle.std.specs.Prelude.{◌≡◌, ◌≤◌, ◌<◌, take, Some, None, false, OnOk, IfOk, IfErr, vec_len};
 ghost use Rattle.pdc_frame.specs.declared.limits.TheConstants.{MAX_ID};
-ghost use Rattle.pdc_server.specs.Turn.{HasEnded, HasTurned, IsMade, dated_at};
+ghost use Rattle.pdc_server.specs.Turn.{HasEnded, HasTurned, IsMade, dated_at, has_bytes};
 ghost use Rattle.pdc_session.specs.Served.{IsNew};
 
 use crate::ended::Ended;
@@ -23,7 +23,7 @@ pub struct Consumer {
     session: Session,
     id: u16,
     got: u64,
-    /// Whether bytes came in the last turn.
+    /// Whether bytes came in the last turn that read.
     heard: bool,
     piece: Vec<u8>,
     layout: Vec<u8>,
@@ -33,7 +33,7 @@ pub struct Consumer {
 }
 
 impl Consumer {
-    ghost use Rattle.pdc_server.specs.Consumer.{got_in, id_in, is_silent_in, session_in, standing_in};
+    ghost use Rattle.pdc_server.specs.Consumer.{got_in, heard_in, id_in, is_silent_in, session_in, standing_in};
 
     /// A consumer of the stream `id`, 1 to 65534, that sent nothing yet.
     ///
@@ -46,6 +46,7 @@ impl Consumer {
         ensures id { IfOk result (λ consumer. id_in consumer ≡ id) }
         ensures is_new { IfOk result (λ consumer. IsNew (session_in consumer)) }
         ensures got { IfOk result (λ consumer. got_in consumer ≡ 0) }
+        ensures heard { IfOk result (λ consumer. heard_in consumer ≡ false) }
     {
         Ok(Consumer {
             session: Session::new(alloc, id)?,
@@ -72,8 +73,8 @@ impl Consumer {
         !self.heard && !self.session.on()
     }
 
-    /// Makes what is to be written once so many bytes came: the replies to the commands that end there, and behind them, while data is
-    /// on, the frames that were sent last and lie above what it got.
+    /// Notes whether bytes came, and makes what is to be written once so many did: the replies to the commands that end there, and behind
+    /// them, while data is on, the frames that were sent last and lie above what it got.
     fn make<N: Naming, R: Wait>(
         &mut self,
         rt: &R,
@@ -83,9 +84,11 @@ impl Consumer {
     ) -> Result<(), Ended>
         requires { count ≤ vec_len self.old.piece }
         ensures id { id_in self.new ≡ id_in self.old }
+        ensures heard { heard_in self.new ≡ has_bytes (take count self.old.piece.items) }
         ensures ok { OnOk result (IsMade None (dated_at N.stream soc) (id_in self.old) (take count self.old.piece.items) (standing_in self.old) (standing_in self.new) self.new.out.items) }
         ensures err { IfErr result (λ ended. IsMade (Some ended) (dated_at N.stream soc) (id_in self.old) (take count self.old.piece.items) (standing_in self.old) (standing_in self.new) self.new.out.items) }
     {
+        self.heard = count > 0;
         self.out.clear();
         answer(
             rt,
@@ -119,7 +122,6 @@ impl Consumer {
         ensures ended { IfErr result (HasEnded S.remaining S.contents (dated_at N.stream soc) (id_in self.old) (standing_in self.old) (standing_in self.new) stream.old stream.new) }
     {
         let count = read_once(stream, &mut self.piece)?;
-        self.heard = count > 0;
         let made = self.make(rt, recent, soc, count);
         write_out(rt, recent, stream, &self.out)?;
         made
