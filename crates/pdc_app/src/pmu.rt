@@ -39,7 +39,10 @@ fn report_simulation(
             eprintln!(rt; "pdc pmu: UDP port {port} of {address}: a frame is not sent")
         }
         SimulationFault::Clock(error) => eprintln!(rt; "pdc pmu: the clock: {error}"),
-        SimulationFault::NotSent(None) | SimulationFault::Pmu(_) | SimulationFault::NoMemory => {
+        SimulationFault::NotSent(None)
+        | SimulationFault::Layout
+        | SimulationFault::Pmu(_)
+        | SimulationFault::NoMemory => {
             eprintln!(rt; "pdc pmu: it ended early")
         }
     }

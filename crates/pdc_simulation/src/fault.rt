@@ -20,6 +20,9 @@ pub enum SimulationFault {
     /// The clock cannot be read.
     #[error("device fault")]
     Clock(io::Error),
+    /// The configuration is not of as many words as are to be sent.
+    #[error("the configuration does not fit the data")]
+    Layout,
     /// The PMU refuses to send.
     #[error("{0}")]
     Pmu(PmuFault),

@@ -8,6 +8,8 @@
 //!
 //! The angles are those that this frequency makes, and differ from bus to bus. All is counted in whole numbers: frequency in µHz, time in
 //! ms, and angles in what a µHz turns in a ms, 1 000 000 000 of which are a turn.
+ghost use Rattle.std.specs.Prelude.{◌≡◌, ◌∷◌, ℕ, List, length};
+ghost use Rattle.pdc_simulation.specs.declared.grid.TheConstants.{WORDS};
 
 use std::alloc::{AllocError, Global};
 
@@ -184,7 +186,10 @@ fn size_word(number: i64) -> u16 {
 
 /// The words of the bus's block at so many milliseconds since 1970: STAT 0; voltages and currents of three phases, each as magnitude and
 /// angle; FREQ and DFREQ; and the breaker of the load, which is closed while the load is on.
-pub fn grid_words(id: u16, since: u64) -> [u16; WORDS] {
+pub fn grid_words(id: u16, since: u64) -> [u16; WORDS]
+    ensures stat { (values : List ℕ) × (result ≡ 0 ∷ values) }
+    ensures len { length result ≡ WORDS }
+{
     let ms = (since % 120_000) as u32;
     let course = course_of(id, ms);
     let is_on = ms < MINUTE;

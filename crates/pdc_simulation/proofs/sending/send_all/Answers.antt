@@ -1,9 +1,12 @@
-use Rattle.pdc_simulation.proofs.Handing.{first_config, none_yet}
+use Rattle.pdc_simulation.specs.Sent.{run_of}
+use Rattle.pdc_simulation.proofs.Taking.{for_err, for_ok, taken_all, taken_front, taken_nothing}
 use Rattle.pdc_simulation.proofs.sending.send_all.Goals as goal
 
-pub returns-in-Ok : goal.returns-in-Ok
-returns-in-Ok g c =
-    c.send_frames.ensures c.args.simulated.now.id c.args.simulated.now.rate c.args.sink.now (first_config (g.K.Sink.nothing c.args.sink.now) c.in-Ok.ensures.ok c.requires.begun)
+pub returns-in-Ok-clause-ok : goal.returns-in-Ok-clause-ok
+returns-in-Ok-clause-ok g c = for_ok c.send_frames.result (λ taken. taken_all (run_of c.args.simulated.now c.args.first) c.args.config.now c.in-Ok.ensures.ok taken) c.send_frames.ensures.ok
 
-pub returns : goal.returns
-returns g c = none_yet (g.K.Sink.nothing c.args.sink.now) c.in-Err.ensures.err
+pub returns-in-Ok-clause-cut : goal.returns-in-Ok-clause-cut
+returns-in-Ok-clause-cut g c = for_err c.send_frames.result (λ taken. taken_front (run_of c.args.simulated.now c.args.first) c.args.config.now c.in-Ok.ensures.ok taken) c.send_frames.ensures.cut
+
+pub returns-clause-cut : goal.returns-clause-cut
+returns-clause-cut g c = taken_nothing (run_of c.args.simulated.now c.args.first) c.args.config.now c.in-Err.ensures.none

@@ -1,7 +1,10 @@
-use Rattle.std.proofs.Common.{ℕ}
-use Rattle.pdc_simulation.specs.Sent.{Goes}
+use Rattle.std.proofs.Common.{◌≤◌}
+use Rattle.pdc_simulation.specs.Sent.{HasTaken, IsUpTo, Stands, run_of}
 use Rattle.pdc_simulation.proofs.sending.send_frames.Given as goal
 
 abbrev pub invariant-loop-number : goal.invariant-loop-number
-invariant-loop-number g l =
-    (id rate : ℕ) → (start : g.row.K.Denot) → Goes g.K.Sink.took id rate l.config start l.initial.sink l.initial.pmu → Goes g.K.Sink.took id rate l.config start l.sink l.pmu
+invariant-loop-number g l = record {
+  stands : Stands (run_of l.simulated l.first) l.number l.pmu;
+  taken : HasTaken g.K.Sink.took (run_of l.simulated l.first) l.config (IsUpTo (run_of l.simulated l.first) l.number) l.initial.sink l.sink;
+  more : g.K.Sink.failures_of l.initial.sink ≤ g.K.Sink.failures_of l.sink;
+}
