@@ -42,9 +42,7 @@ fn report_simulation(
         SimulationFault::NotSent(None)
         | SimulationFault::Layout
         | SimulationFault::Pmu(_)
-        | SimulationFault::NoMemory => {
-            eprintln!(rt; "pdc pmu: it ended early")
-        }
+        | SimulationFault::NoMemory => { eprintln!(rt; "pdc pmu: it ended early") }
     }
 }
 
