@@ -23,25 +23,20 @@ use pdc_node::{Node, copy_of};
 use pdc_output::Output;
 use pdc_publisher::Publisher;
 use pdc_table::RingTable;
-use pdc_threads::{Blanks, Hub, HubFault, Naming, Pace, Ran, Sink, Source, Ticker, run};
+use pdc_threads::{
+    Beside, Blanks, Crew, Hub, HubFault, Naming, Outside, Pace, Ran, Sink, Source, Ticker, run,
+};
 use std::alloc::Global;
 use std::marker::Brand;
 use std::sync::Wait;
-use std::sync::ledger::{Blank, Ledger};
+use std::sync::ledger::Blank;
 use std::thread::Threads;
 
 /// Runs a core at the start of its life, the base of the recorder, with another one that is opened like it, its present state.
 fn opened<
     C: Opens + Send,
-    N: Naming<C::Settings> + Send,
-    T: Ledger + Send + Sync,
-    F: Ledger + Send + Sync,
-    G: Ledger + Send + Sync,
-    P: Ledger + Send + Sync,
-    S: Source + Send + Drop,
-    M: Mark + Drop,
-    I: Ticker + Drop,
-    K: Sink + Send + Drop,
+    N: Naming<C::Settings> + Send + Sync,
+    W: Outside,
     R: Threads + Wait + Sync,
 >(
     rt: &R,
@@ -53,41 +48,47 @@ fn opened<
     limit: usize,
     pace: Pace,
     blanks: Blanks,
-    sources: Vec<S>,
-    publisher: Publisher<M>,
-    ticker: I,
-    sink: K,
-) -> Ran<M, K>
+    sources: Vec<W::Source>,
+    publisher: Publisher<W::Mark>,
+    ticker: W::Ticker,
+    sink: W::Sink,
+) -> Ran<W::Mark, W::Sink>
 where
     C::Settings: Sync,
     requires given { N.given ≡ Some (C.given_with settings.now start (last_in publisher) counts.now) }
     requires stands { C.stands_for base (C.given_with settings.now start (last_in publisher) counts.now) [] }
     requires settings { (N.settings ≡ Some settings.now) × (C.settings_of base ≡ settings.now) }
     requires limit { 1 ≤ limit }
-    requires names { (blanks.taken.name ≡ T.name) × (blanks.refused.name ≡ F.name) × (blanks.configured.name ≡ G.name) × (blanks.top.name ≡ P.name) }
-    requires parts { (blanks.taken.parts ≡ T.parts) × (blanks.refused.parts ≡ F.parts) × (blanks.configured.parts ≡ G.parts) × (blanks.top.parts ≡ P.parts) }
-    requires count { (T.parts ≡ vec_len sources + 1) × (F.parts ≡ vec_len sources + 1) × (G.parts ≡ vec_len sources + 1) × (P.parts ≡ 1) }
+    requires names { (blanks.taken.name ≡ N.taken.name) × (blanks.refused.name ≡ N.refused.name) × (blanks.configured.name ≡ N.configured.name) × (blanks.top.name ≡ N.top.name) }
+    requires parts { (blanks.taken.parts ≡ N.taken.parts) × (blanks.refused.parts ≡ N.refused.parts) × (blanks.configured.parts ≡ N.configured.parts) × (blanks.top.parts ≡ N.top.parts) }
+    requires count { (N.taken.parts ≡ vec_len sources + 1) × (N.refused.parts ≡ vec_len sources + 1) × (N.configured.parts ≡ vec_len sources + 1) × (N.top.parts ≡ 1) }
     requires streams { (vec_len sources ≡ C.Settings.streams settings.now) × (vec_len sources ≤ MAX_PMUS) }
-    requires floor { last_in publisher ≡ (M.stored (mark_in publisher)).floor }
+    requires floor { last_in publisher ≡ (W.Mark.stored (mark_in publisher)).floor }
     requires rate { IsAtRate N.given (output_in publisher).rate }
-    requires opened { IsOpenedWith N.given (M.stored (mark_in publisher)) }
+    requires opened { IsOpenedWith N.given (W.Mark.stored (mark_in publisher)) }
     ensures totals { IsSummed result.outcome }
     ensures kept { (output_in result.publisher ≡ output_in publisher) × (lead_in result.publisher ≡ lead_in publisher) }
-    ensures sink { IsCausedBySink result.outcome (K.failures_of sink) (K.failures_of result.sink) }
+    ensures sink { IsCausedBySink result.outcome (W.Sink.failures_of sink) (W.Sink.failures_of result.sink) }
     ensures each { HasEach result.outcome (vec_len sources) }
     ensures mark { IsCausedByMark result.outcome (standing_of publisher) (standing_of result.publisher) }
-    ensures turned { HasRunInTurns C.stands_for N.given (output_in publisher) pace (GivesFrom I.gave ticker) (K.took sink result.sink) (last_in publisher) (M.stored (mark_in publisher)) (M.stored (mark_in result.publisher)) result.outcome }
-    ensures sent { HasRun (K.took sink result.sink) (last_in publisher) (M.stored (mark_in result.publisher)).floor result.outcome }
+    ensures turned { HasRunInTurns C.stands_for N.given (output_in publisher) pace (GivesFrom W.Ticker.gave ticker) (W.Sink.took sink result.sink) (last_in publisher) (W.Mark.stored (mark_in publisher)) (W.Mark.stored (mark_in result.publisher)) result.outcome }
+    ensures sent { HasRun (W.Sink.took sink result.sink) (last_in publisher) (W.Mark.stored (mark_in result.publisher)).floor result.outcome }
 {
     let floor = publisher.last();
     let Ok(state) = base.open_next(alloc, start, floor, counts) else {
         return not_run(publisher, sink);
     };
-    let (hub, shares, top) = Hub::<C, N, T, F, G, P>::new(alloc, base, state, limit, floor, blanks);
-    run(
-        rt, alloc, &hub, settings, shares, top, sources, publisher, ticker, pace, sink,
-    )
-    .ran
+    let (hub, shares, top) = Hub::<C, N>::new(alloc, base, state, limit, floor, blanks);
+    let crew = Crew {
+        shares,
+        top,
+        sources,
+        publisher,
+        ticker,
+        pace,
+        sink,
+    };
+    run::<C, N, W, R>(rt, alloc, &hub, settings, crew).ran
 }
 
 /// A ledger of so many parts for each of the three totals, and one for the greatest instant popped.
@@ -164,7 +165,7 @@ where
         layout_every: plan.layout_every,
     };
     let blanks = blanks(sources.len() as u64 + 1);
-    opened::<C, Brand, Brand, Brand, Brand, Brand, S, M, I, K, R>(
+    opened::<C, Brand, Beside<S, M, I, K>, R>(
         rt, alloc, settings, core, start, &counts, plan.limit, pace, blanks, sources, publisher,
         ticker, sink,
     )

@@ -11,13 +11,13 @@ use pdc_mark::Mark;
 use pdc_node::{Node, copy_of};
 use pdc_publisher::Publisher;
 use pdc_table::RingTable;
-use pdc_threads::{Blanks, Hub, MemorySink, Naming, Pace, Ran, run};
+use pdc_threads::{Beside, Blanks, Crew, Hub, MemorySink, Naming, Pace, Ran, run};
 use std::alloc::Global;
 use std::io;
 use std::marker::Brand;
 use std::sync::Wait;
 use std::sync::atomic::Ordering;
-use std::sync::ledger::{Blank, Ledger};
+use std::sync::ledger::Blank;
 use std::thread::Threads;
 
 /// The first instant that the ticker gives.
@@ -54,16 +54,7 @@ pub struct Played<M: Mark> {
 }
 
 /// Runs two nodes that were opened alike: one is the base, the other the state.
-fn opened<
-    'h,
-    N: Naming<Settings> + Send + Sync,
-    T: Ledger + Send + Sync,
-    F: Ledger + Send + Sync,
-    G: Ledger + Send + Sync,
-    P: Ledger + Send + Sync,
-    M: Mark + Drop,
-    R: Threads + Wait + Sync + Print,
->(
+fn opened<'h, N: Naming<Settings> + Send + Sync, M: Mark + Drop, R: Threads + Wait + Sync + Print>(
     rt: &'h R,
     alloc: Global,
     settings: &Settings,
@@ -82,14 +73,14 @@ fn opened<
     requires popped { state.popped ≡ 0 }
     requires limit { 1 ≤ scene.now.limit }
     requires pace { 1 ≤ scene.now.layout_every }
-    requires names { (blanks.taken.name ≡ T.name) × (blanks.refused.name ≡ F.name) × (blanks.configured.name ≡ G.name) × (blanks.top.name ≡ P.name) }
-    requires parts { (blanks.taken.parts ≡ T.parts) × (blanks.refused.parts ≡ F.parts) × (blanks.configured.parts ≡ G.parts) × (blanks.top.parts ≡ P.parts) }
-    requires count { (T.parts ≡ 3) × (F.parts ≡ 3) × (G.parts ≡ 3) × (P.parts ≡ 1) }
+    requires names { (blanks.taken.name ≡ N.taken.name) × (blanks.refused.name ≡ N.refused.name) × (blanks.configured.name ≡ N.configured.name) × (blanks.top.name ≡ N.top.name) }
+    requires parts { (blanks.taken.parts ≡ N.taken.parts) × (blanks.refused.parts ≡ N.refused.parts) × (blanks.configured.parts ≡ N.configured.parts) × (blanks.top.parts ≡ N.top.parts) }
+    requires count { (N.taken.parts ≡ 3) × (N.refused.parts ≡ 3) × (N.configured.parts ≡ 3) × (N.top.parts ≡ 1) }
     requires streams { length settings.now.pmus.items ≡ 2 }
     requires publisher { (last_in publisher ≡ 0) × ((M.stored (mark_in publisher)).floor ≡ 0) × (output_in publisher ≡ settings.now.output) }
     requires begins { ((M.stored (mark_in publisher)).start ≡ start) × ((M.stored (mark_in publisher)).counts ≡ counts.now) }
 {
-    let (hub, shares, top) = Hub::<Node<RingTable>, N, T, F, G, P>::new(
+    let (hub, shares, top) = Hub::<Node<RingTable>, N>::new(
         alloc,
         base,
         state,
@@ -118,10 +109,26 @@ fn opened<
     };
     let name = scene.name;
     println!(rt; "{name}")?;
-    let ran = run(
-        rt, alloc, shared, settings, shares, top, sources, publisher, ticker, pace, sink,
-    )
-    .ran;
+    let crew = Crew {
+        shares,
+        top,
+        sources,
+        publisher,
+        ticker,
+        pace,
+        sink,
+    };
+    let ran = run::<
+        Node<RingTable>,
+        N,
+        Beside<
+            Scripted<'_, 'h, Node<RingTable>, N, R>,
+            M,
+            Following<'_, 'h, Node<RingTable>, N, R>,
+            Fused,
+        >,
+        R,
+    >(rt, alloc, shared, settings, crew).ran;
     let taken = hub.counts(rt).taken;
     let published = scene.shown.published.load(Ordering::SeqCst);
     let last = scene.shown.last.load(Ordering::SeqCst);
@@ -167,7 +174,7 @@ pub fn run_scene<M: Mark + Drop, R: Threads + Wait + Sync + Print>(
         sent: 0,
         failures: 0,
     };
-    opened::<Brand, Brand, Brand, Brand, Brand, M, R>(
+    opened::<Brand, M, R>(
         rt, alloc, settings, start, &counts, base, state, scene, blanks, publisher, sink,
     )
 }

@@ -8,7 +8,6 @@ use pdc_frame::read_frame;
 use pdc_threads::{Did, Hub, Naming, Next, Numbered, Outcome, Source, Ticker, Told};
 use std::sync::Wait;
 use std::sync::atomic::{AtomicBool, AtomicU64, Ordering};
-use std::sync::ledger::Ledger;
 use std::thread;
 
 /// How often a source or a ticker looks before it gives up.
@@ -64,19 +63,9 @@ impl Shown {
 
 /// A source that does one thing after the other, and then ends.
 #[derive(Drop)]
-pub struct Scripted<
-    'h,
-    'r,
-    C: Core + Drop,
-    N: Naming<C::Settings>,
-    T: Ledger,
-    F: Ledger,
-    G: Ledger,
-    P: Ledger,
-    R: Wait,
-> {
+pub struct Scripted<'h, 'r, C: Core + Drop, N: Naming<C::Settings>, R: Wait> {
     rt: &'r R,
-    hub: &'h Hub<C, N, T, F, G, P>,
+    hub: &'h Hub<C, N>,
     shown: &'r Shown,
     is_second: bool,
     acts: &'r [Act<'r>],
@@ -96,21 +85,11 @@ fn section_count(bytes: &[u8]) -> usize {
     }
 }
 
-impl<
-    'h,
-    'r,
-    C: Core + Drop,
-    N: Naming<C::Settings>,
-    T: Ledger,
-    F: Ledger,
-    G: Ledger,
-    P: Ledger,
-    R: Wait,
-> Scripted<'h, 'r, C, N, T, F, G, P, R> {
+impl<'h, 'r, C: Core + Drop, N: Naming<C::Settings>, R: Wait> Scripted<'h, 'r, C, N, R> {
     /// A source that has done none of these things yet, with what both show; it is the first source or the second one.
     pub fn new(
         rt: &'r R,
-        hub: &'h Hub<C, N, T, F, G, P>,
+        hub: &'h Hub<C, N>,
         shown: &'r Shown,
         is_second: bool,
         acts: &'r [Act<'r>],
@@ -175,17 +154,7 @@ fn raise_and_wait(mine: &AtomicBool, theirs: &AtomicBool) -> bool {
     false
 }
 
-impl<
-    'h,
-    'r,
-    C: Core + Drop,
-    N: Naming<C::Settings>,
-    T: Ledger,
-    F: Ledger,
-    G: Ledger,
-    P: Ledger,
-    R: Wait,
-> Source for Scripted<'h, 'r, C, N, T, F, G, P, R> {
+impl<'h, 'r, C: Core + Drop, N: Naming<C::Settings>, R: Wait> Source for Scripted<'h, 'r, C, N, R> {
     ghost use Rattle.std.specs.Prelude.{◌-◌, length};
 
     ghost failures_of = { λ s. s.failures };
@@ -233,36 +202,17 @@ impl<
 /// Gives the instant `first` once two configurations were held, the next one once so many data frames were taken, and then ends; before,
 /// where the run failed to answer a source.
 #[derive(Drop)]
-pub struct Following<
-    'h,
-    'r,
-    C: Core + Drop,
-    N: Naming<C::Settings>,
-    T: Ledger,
-    F: Ledger,
-    G: Ledger,
-    P: Ledger,
-    R: Wait,
-> {
+pub struct Following<'h, 'r, C: Core + Drop, N: Naming<C::Settings>, R: Wait> {
     pub rt: &'r R,
-    pub hub: &'h Hub<C, N, T, F, G, P>,
+    pub hub: &'h Hub<C, N>,
     pub first: u64,
     pub taken: u64,
     pub given: u64,
     pub shown: &'r Shown,
 }
 
-impl<
-    'h,
-    'r,
-    C: Core + Drop,
-    N: Naming<C::Settings>,
-    T: Ledger,
-    F: Ledger,
-    G: Ledger,
-    P: Ledger,
-    R: Wait,
-> Ticker for Following<'h, 'r, C, N, T, F, G, P, R> {
+impl<'h, 'r, C: Core + Drop, N: Naming<C::Settings>, R: Wait> Ticker
+    for Following<'h, 'r, C, N, R> {
     fn note(&mut self, _step: u64, _did: &Did<'_>) {}
 
     fn next(&mut self) -> Option<u64> {

@@ -15,6 +15,6 @@ pub returns-in_default-clause-turned : goal.returns-in_default-clause-turned
 returns-in_default-clause-turned g c =
     let kept = c.not_run.ensures.kept in
     rw (c.not_run.ensures.outcome, kept.0, kept.1) record {
-      run = record { put = []; given = []; rest = []; took = g.K.Sink.nothing c.args.sink; first = refl; rising = omega (arith, c.requires.floor); whole = tt; published = tt };
-      aligned = nothing_put g.C.Core.stands_for g.N.Naming.given (output_in c.args.publisher) c.args.pace.rate c.args.pace.layout_every (g.M.Mark.stored (mark_in c.args.publisher)).counts g.I.Ticker.gave c.args.ticker;
+      run = record { put = []; given = []; rest = []; took = g.W.Sink.Sink.nothing c.args.sink; first = refl; rising = omega (arith, c.requires.floor); whole = tt; published = tt };
+      aligned = nothing_put g.C.Core.stands_for g.N.Naming.given (output_in c.args.publisher) c.args.pace.rate c.args.pace.layout_every (g.W.Mark.Mark.stored (mark_in c.args.publisher)).counts g.W.Ticker.Ticker.gave c.args.ticker;
     }

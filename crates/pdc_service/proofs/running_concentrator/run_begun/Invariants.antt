@@ -8,14 +8,10 @@ ghosts-opened-N-Naming g a = record {
   settings = Some a.settings.now;
 }
 
-abbrev pub ghosts-opened-T-Ledger : goal.ghosts-opened-T-Ledger
-ghosts-opened-T-Ledger g a = record { name = a.blanks.taken.name; parts = a.blanks.taken.parts }
-
-abbrev pub ghosts-opened-F-Ledger : goal.ghosts-opened-F-Ledger
-ghosts-opened-F-Ledger g a = record { name = a.blanks.refused.name; parts = a.blanks.refused.parts }
-
-abbrev pub ghosts-opened-G-Ledger : goal.ghosts-opened-G-Ledger
-ghosts-opened-G-Ledger g a = record { name = a.blanks.configured.name; parts = a.blanks.configured.parts }
-
-abbrev pub ghosts-opened-P-Ledger : goal.ghosts-opened-P-Ledger
-ghosts-opened-P-Ledger g a = record { name = a.blanks.top.name; parts = a.blanks.top.parts }
+abbrev pub ghosts-opened-N-Ledgers : goal.ghosts-opened-N-Ledgers
+ghosts-opened-N-Ledgers g a = record {
+  taken = record { name = a.blanks.taken.name; parts = a.blanks.taken.parts };
+  refused = record { name = a.blanks.refused.name; parts = a.blanks.refused.parts };
+  configured = record { name = a.blanks.configured.name; parts = a.blanks.configured.parts };
+  top = record { name = a.blanks.top.name; parts = a.blanks.top.parts };
+}
