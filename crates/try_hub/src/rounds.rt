@@ -10,7 +10,7 @@ use pdc_threads::{Blanks, Hub, Naming};
 use std::alloc::Global;
 use std::marker::Brand;
 use std::sync::Wait;
-use std::sync::ledger::{Blank, Ledger};
+use std::sync::ledger::Blank;
 
 /// The first instant: that of the first frame of `SOC`.
 const FIRST: u64 = 57_478_860_000;
@@ -34,27 +34,19 @@ pub struct Seen {
 }
 
 /// The first ten calls: both configurations, of which the tick adopts, and each again.
-fn begin<
-    C: Core + Drop,
-    N: Naming<C::Settings>,
-    T: Ledger,
-    F: Ledger,
-    G: Ledger,
-    P: Ledger,
-    R: Wait,
->(
+fn begin<C: Core + Drop, N: Naming<C::Settings>, R: Wait>(
     rt: &R,
     alloc: Global,
     settings: &C::Settings,
-    hub: &Hub<C, N, T, F, G, P>,
-    mine: &mut Mine<C, T, F, G, P>,
+    hub: &Hub<C, N>,
+    mine: &mut Mine<C, N>,
     streams: &Streams,
 ) -> Option<()>
     requires settings { (N.settings ≡ Some settings.now) × (C.settings_of mine.old.bare ≡ settings.now) }
     requires streams { C.Settings.streams settings.now ≡ 2 }
-    requires fit { IsFit mine.old P.parts }
+    requires fit { IsFit mine.old N.top.parts }
     ensures settings { C.settings_of mine.new.bare ≡ C.settings_of mine.old.bare }
-    ensures fit { IsFit mine.new P.parts }
+    ensures fit { IsFit mine.new N.top.parts }
 {
     deliver(rt, alloc, settings, hub, mine, 0, &streams.first.config)?;
     deliver(rt, alloc, settings, hub, mine, 1, &streams.second.config)?;
@@ -70,28 +62,20 @@ fn begin<
 
 /// Ten calls: the data of an instant, of each stream and of the first one again, a tick, the row, and then data that is late, the
 /// configuration of the first stream in the second one, and its own again.
-fn round<
-    C: Core + Drop,
-    N: Naming<C::Settings>,
-    T: Ledger,
-    F: Ledger,
-    G: Ledger,
-    P: Ledger,
-    R: Wait,
->(
+fn round<C: Core + Drop, N: Naming<C::Settings>, R: Wait>(
     rt: &R,
     alloc: Global,
     settings: &C::Settings,
-    hub: &Hub<C, N, T, F, G, P>,
-    mine: &mut Mine<C, T, F, G, P>,
+    hub: &Hub<C, N>,
+    mine: &mut Mine<C, N>,
     streams: &Streams,
     after: u16,
 ) -> Option<()>
     requires settings { (N.settings ≡ Some settings.now) × (C.settings_of mine.old.bare ≡ settings.now) }
     requires streams { C.Settings.streams settings.now ≡ 2 }
-    requires fit { IsFit mine.old P.parts }
+    requires fit { IsFit mine.old N.top.parts }
     ensures settings { C.settings_of mine.new.bare ≡ C.settings_of mine.old.bare }
-    ensures fit { IsFit mine.new P.parts }
+    ensures fit { IsFit mine.new N.top.parts }
 {
     let first = streams.first.data(alloc, after)?;
     let second = streams.second.data(alloc, after)?;
@@ -109,15 +93,7 @@ fn round<
 
 /// All calls, on a core at the start of its life, which is the hub's base, and on two more that are opened like it: the hub's state, and the
 /// bare core. None where memory was wanted.
-fn side_by_side<
-    C: Opens,
-    N: Naming<C::Settings>,
-    T: Ledger,
-    F: Ledger,
-    G: Ledger,
-    P: Ledger,
-    R: Wait,
->(
+fn side_by_side<C: Opens, N: Naming<C::Settings>, R: Wait>(
     rt: &R,
     alloc: Global,
     settings: &C::Settings,
@@ -130,9 +106,9 @@ fn side_by_side<
     requires stands { C.stands_for base (C.given_with settings.now 1 0 counts.now) [] }
     requires settings { (N.settings ≡ Some settings.now) × (C.settings_of base ≡ settings.now) }
     requires streams { C.Settings.streams settings.now ≡ 2 }
-    requires names { (blanks.taken.name ≡ T.name) × (blanks.refused.name ≡ F.name) × (blanks.configured.name ≡ G.name) × (blanks.top.name ≡ P.name) }
-    requires parts { (blanks.taken.parts ≡ T.parts) × (blanks.refused.parts ≡ F.parts) × (blanks.configured.parts ≡ G.parts) × (blanks.top.parts ≡ P.parts) }
-    requires count { (T.parts ≡ 1) × (F.parts ≡ 1) × (G.parts ≡ 1) × (P.parts ≡ 1) }
+    requires names { (blanks.taken.name ≡ N.taken.name) × (blanks.refused.name ≡ N.refused.name) × (blanks.configured.name ≡ N.configured.name) × (blanks.top.name ≡ N.top.name) }
+    requires parts { (blanks.taken.parts ≡ N.taken.parts) × (blanks.refused.parts ≡ N.refused.parts) × (blanks.configured.parts ≡ N.configured.parts) × (blanks.top.parts ≡ N.top.parts) }
+    requires count { (N.taken.parts ≡ 1) × (N.refused.parts ≡ 1) × (N.configured.parts ≡ 1) × (N.top.parts ≡ 1) }
 {
     let Ok(state) = base.open_next(alloc, 1, 0, counts) else {
         return None;
@@ -140,7 +116,7 @@ fn side_by_side<
     let Ok(bare) = base.open_next(alloc, 1, 0, counts) else {
         return None;
     };
-    let (hub, shares, top) = Hub::<C, N, T, F, G, P>::new(alloc, base, state, LIMIT, 0, blanks);
+    let (hub, shares, top) = Hub::<C, N>::new(alloc, base, state, LIMIT, 0, blanks);
     let shared = &hub;
     let mut mine = Mine {
         bare,
@@ -186,7 +162,5 @@ pub fn try_core<C: Opens, R: Wait>(
         configured: Blank::new(1),
         top: Blank::new(1),
     };
-    side_by_side::<C, Brand, Brand, Brand, Brand, Brand, R>(
-        rt, alloc, settings, first, counts, streams, blanks,
-    )
+    side_by_side::<C, Brand, R>(rt, alloc, settings, first, counts, streams, blanks)
 }

@@ -5,17 +5,17 @@ ghost use Rattle.try_hub.specs.Mine.{IsFit};
 use pdc_core::{Core, Reads};
 use pdc_life::MAX_PMUS;
 use pdc_row::DueRow;
-use pdc_threads::{Hub, Naming, Numbered, Shares};
+use pdc_threads::{Hub, Ledgers, Naming, Numbered, Shares, TopIn};
 use std::alloc::Global;
 use std::sync::Wait;
-use std::sync::ledger::{Ledger, Share};
+use std::sync::ledger::Share;
 
 /// The bare core, the shares of the hub's caller, and what was seen so far.
 #[derive(Drop)]
-pub struct Mine<C, T: Ledger, F: Ledger, G: Ledger, P: Ledger> {
+pub struct Mine<C, N: Ledgers> {
     pub bare: C,
-    pub shares: Shares<T, F, G>,
-    pub top: Share<P>,
+    pub shares: Shares<N>,
+    pub top: Share<TopIn<N>>,
     /// How many calls were made.
     pub calls: u32,
     /// How many rows were popped.
@@ -24,7 +24,7 @@ pub struct Mine<C, T: Ledger, F: Ledger, G: Ledger, P: Ledger> {
     pub alike: bool,
 }
 
-impl<C, T: Ledger, F: Ledger, G: Ledger, P: Ledger> Mine<C, T, F, G, P> {
+impl<C, N: Ledgers> Mine<C, N> {
     /// Adds a call, with the number of its step, which is to be how many calls were made before, and whether its answers were alike.
     fn saw(&mut self, step: u64, is_alike: bool)
         ensures bare { self.new.bare ≡ self.old.bare }
@@ -37,28 +37,20 @@ impl<C, T: Ledger, F: Ledger, G: Ledger, P: Ledger> Mine<C, T, F, G, P> {
 }
 
 /// Delivers these bytes to both. None where memory was wanted.
-pub fn deliver<
-    C: Core + Drop,
-    N: Naming<C::Settings>,
-    T: Ledger,
-    F: Ledger,
-    G: Ledger,
-    P: Ledger,
-    R: Wait,
->(
+pub fn deliver<C: Core + Drop, N: Naming<C::Settings>, R: Wait>(
     rt: &R,
     alloc: Global,
     settings: &C::Settings,
-    hub: &Hub<C, N, T, F, G, P>,
-    mine: &mut Mine<C, T, F, G, P>,
+    hub: &Hub<C, N>,
+    mine: &mut Mine<C, N>,
     stream: usize,
     bytes: &[u8],
 ) -> Option<()>
     requires settings { (N.settings ≡ Some settings.now) × (C.settings_of mine.old.bare ≡ settings.now) }
     requires stream { stream < C.Settings.streams settings.now }
-    requires fit { IsFit mine.old P.parts }
+    requires fit { IsFit mine.old N.top.parts }
     ensures settings { C.settings_of mine.new.bare ≡ C.settings_of mine.old.bare }
-    ensures fit { IsFit mine.new P.parts }
+    ensures fit { IsFit mine.new N.top.parts }
 {
     let Ok(datagram) = settings.read_kept(alloc, stream, bytes) else {
         return None;
@@ -72,18 +64,15 @@ pub fn deliver<
 }
 
 /// Ticks both. None where memory was wanted.
-pub fn tick<
-    C: Core + Drop,
-    N: Naming<C::Settings>,
-    T: Ledger,
-    F: Ledger,
-    G: Ledger,
-    P: Ledger,
-    R: Wait,
->(rt: &R, hub: &Hub<C, N, T, F, G, P>, mine: &mut Mine<C, T, F, G, P>, now: u64) -> Option<()>
-    requires fit { IsFit mine.old P.parts }
+pub fn tick<C: Core + Drop, N: Naming<C::Settings>, R: Wait>(
+    rt: &R,
+    hub: &Hub<C, N>,
+    mine: &mut Mine<C, N>,
+    now: u64,
+) -> Option<()>
+    requires fit { IsFit mine.old N.top.parts }
     ensures settings { C.settings_of mine.new.bare ≡ C.settings_of mine.old.bare }
-    ensures fit { IsFit mine.new P.parts }
+    ensures fit { IsFit mine.new N.top.parts }
 {
     let counts = [u16::MAX; MAX_PMUS];
     let Ok(Numbered { step, answer }) = hub.tick(rt, now, &counts) else {
@@ -109,18 +98,14 @@ fn are_same(one: &DueRow, other: &DueRow) -> bool {
 }
 
 /// Pops from both. None where memory was wanted.
-pub fn pop<
-    C: Core + Drop,
-    N: Naming<C::Settings>,
-    T: Ledger,
-    F: Ledger,
-    G: Ledger,
-    P: Ledger,
-    R: Wait,
->(rt: &R, hub: &Hub<C, N, T, F, G, P>, mine: &mut Mine<C, T, F, G, P>) -> Option<()>
-    requires fit { IsFit mine.old P.parts }
+pub fn pop<C: Core + Drop, N: Naming<C::Settings>, R: Wait>(
+    rt: &R,
+    hub: &Hub<C, N>,
+    mine: &mut Mine<C, N>,
+) -> Option<()>
+    requires fit { IsFit mine.old N.top.parts }
     ensures settings { C.settings_of mine.new.bare ≡ C.settings_of mine.old.bare }
-    ensures fit { IsFit mine.new P.parts }
+    ensures fit { IsFit mine.new N.top.parts }
 {
     let Ok(Numbered { step, answer }) = hub.pop(rt, &mut mine.top) else {
         return None;
@@ -138,15 +123,13 @@ pub fn pop<
 }
 
 /// Whether both show the same: the counts, the counts that wait, and the layout.
-pub fn shows_same<
-    C: Core + Drop,
-    N: Naming<C::Settings>,
-    T: Ledger,
-    F: Ledger,
-    G: Ledger,
-    P: Ledger,
-    R: Wait,
->(rt: &R, alloc: Global, hub: &Hub<C, N, T, F, G, P>, bare: &C, soc: u32) -> bool {
+pub fn shows_same<C: Core + Drop, N: Naming<C::Settings>, R: Wait>(
+    rt: &R,
+    alloc: Global,
+    hub: &Hub<C, N>,
+    bare: &C,
+    soc: u32,
+) -> bool {
     let mut layout = Vec::new(alloc);
     let mut bare_layout = Vec::new(alloc);
     hub.layout(rt, soc, &mut layout).is_ok()
