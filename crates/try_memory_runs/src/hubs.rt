@@ -7,7 +7,7 @@ ghost use Rattle.try_memory_runs.specs.Mine.{IsFit};
 use crate::settings::of_node;
 use crate::vectors::{DATA_11, FIRST, SOC};
 use pdc_core::Reads;
-use pdc_hub::{Blanks, Hub, HubFault, Naming, Shares};
+use pdc_hub::{Blanks, Hub, HubFault, Ledgers, Naming, Shares, TopIn};
 use pdc_life::{MAX_PMUS, Settings};
 use pdc_node::{Node, copy_of};
 use pdc_table::RingTable;
@@ -15,7 +15,7 @@ use std::alloc::Global;
 use std::io;
 use std::marker::Brand;
 use std::sync::Wait;
-use std::sync::ledger::{Blank, Ledger, Share};
+use std::sync::ledger::{Blank, Share};
 use try_memory::{DONE, NO_MEMORY, State, begin, end, made, state_of};
 
 /// After how many steps a hub's base is brought up.
@@ -35,9 +35,9 @@ const ALL: [Called; 4] = [Called::Deliver, Called::Tick, Called::Pop, Called::La
 
 /// The shares of a hub's caller, and what the layout is appended to.
 #[derive(Drop)]
-struct Mine<T: Ledger, F: Ledger, G: Ledger, P: Ledger> {
-    shares: Shares<T, F, G>,
-    top: Share<P>,
+struct Mine<N: Ledgers> {
+    shares: Shares<N>,
+    top: Share<TopIn<N>>,
     out: Vec<u8>,
 }
 
@@ -61,28 +61,24 @@ fn told<X: Drop>(answer: Result<X, HubFault>) -> &'static str {
 }
 
 /// The layout that was appended, and how many arrivals were counted.
-fn state<N: Naming<Settings>, T: Ledger, F: Ledger, G: Ledger, P: Ledger, R: Wait>(
-    rt: &R,
-    hub: &Hub<Node<RingTable>, N, T, F, G, P>,
-    out: &[u8],
-) -> State {
+fn state<N: Naming<Settings>, R: Wait>(rt: &R, hub: &Hub<Node<RingTable>, N>, out: &[u8]) -> State {
     let counts = hub.counts(rt);
     state_of(out, counts.taken.saturating_add(counts.refused))
 }
 
 /// Makes the call.
-fn call<N: Naming<Settings>, T: Ledger, F: Ledger, G: Ledger, P: Ledger, R: Wait>(
+fn call<N: Naming<Settings>, R: Wait>(
     rt: &R,
     alloc: Global,
     settings: &Settings,
-    hub: &Hub<Node<RingTable>, N, T, F, G, P>,
-    mine: &mut Mine<T, F, G, P>,
+    hub: &Hub<Node<RingTable>, N>,
+    mine: &mut Mine<N>,
     called: Called,
 ) -> &'static str
     requires settings { N.settings ≡ Some settings.now }
     requires streams { 0 < length settings.now.pmus.items }
-    requires fit { IsFit mine.old P.parts }
-    ensures fit { IsFit mine.new P.parts }
+    requires fit { IsFit mine.old N.top.parts }
+    ensures fit { IsFit mine.new N.top.parts }
 {
     match called {
         Called::Deliver => match settings.read_kept(alloc, 0, &DATA_11) {
@@ -96,18 +92,18 @@ fn call<N: Naming<Settings>, T: Ledger, F: Ledger, G: Ledger, P: Ledger, R: Wait
 }
 
 /// Makes the call, and prints it. Whether it was answered `Ok`.
-fn attempt<N: Naming<Settings>, T: Ledger, F: Ledger, G: Ledger, P: Ledger, R: Wait + Print>(
+fn attempt<N: Naming<Settings>, R: Wait + Print>(
     rt: &R,
     alloc: Global,
     settings: &Settings,
-    hub: &Hub<Node<RingTable>, N, T, F, G, P>,
-    mine: &mut Mine<T, F, G, P>,
+    hub: &Hub<Node<RingTable>, N>,
+    mine: &mut Mine<N>,
     called: Called,
 ) -> io::Result<bool>
     requires settings { N.settings ≡ Some settings.now }
     requires streams { 0 < length settings.now.pmus.items }
-    requires fit { IsFit mine.old P.parts }
-    ensures fit { IsFit mine.new P.parts }
+    requires fit { IsFit mine.old N.top.parts }
+    ensures fit { IsFit mine.new N.top.parts }
 {
     begin(rt, name_of(called), state(rt, hub, &mine.out))?;
     let answer = call(rt, alloc, settings, hub, mine, called);
@@ -116,7 +112,7 @@ fn attempt<N: Naming<Settings>, T: Ledger, F: Ledger, G: Ledger, P: Ledger, R: W
 }
 
 /// Makes the call on a hub over these nodes, and again where it is refused.
-fn play_on<N: Naming<Settings>, T: Ledger, F: Ledger, G: Ledger, P: Ledger, R: Wait + Print>(
+fn play_on<N: Naming<Settings>, R: Wait + Print>(
     rt: &R,
     alloc: Global,
     settings: &Settings,
@@ -131,14 +127,12 @@ fn play_on<N: Naming<Settings>, T: Ledger, F: Ledger, G: Ledger, P: Ledger, R: W
     requires settings { (N.settings ≡ Some settings.now) × (base.settings ≡ settings.now) × (state.settings ≡ settings.now) }
     requires popped { state.popped ≡ 0 }
     requires streams { 0 < length settings.now.pmus.items }
-    requires names { (blanks.taken.name ≡ T.name) × (blanks.refused.name ≡ F.name) × (blanks.configured.name ≡ G.name) × (blanks.top.name ≡ P.name) }
-    requires parts { (blanks.taken.parts ≡ T.parts) × (blanks.refused.parts ≡ F.parts) × (blanks.configured.parts ≡ G.parts) × (blanks.top.parts ≡ P.parts) }
-    requires count { (T.parts ≡ 1) × (F.parts ≡ 1) × (G.parts ≡ 1) × (P.parts ≡ 1) }
+    requires names { (blanks.taken.name ≡ N.taken.name) × (blanks.refused.name ≡ N.refused.name) × (blanks.configured.name ≡ N.configured.name) × (blanks.top.name ≡ N.top.name) }
+    requires parts { (blanks.taken.parts ≡ N.taken.parts) × (blanks.refused.parts ≡ N.refused.parts) × (blanks.configured.parts ≡ N.configured.parts) × (blanks.top.parts ≡ N.top.parts) }
+    requires count { (N.taken.parts ≡ 1) × (N.refused.parts ≡ 1) × (N.configured.parts ≡ 1) × (N.top.parts ≡ 1) }
 {
     begin(rt, "Hub::new", made(false))?;
-    let (hub, shares, top) = Hub::<Node<RingTable>, N, T, F, G, P>::new(
-        alloc, base, state, LIMIT, 0, blanks,
-    );
+    let (hub, shares, top) = Hub::<Node<RingTable>, N>::new(alloc, base, state, LIMIT, 0, blanks);
     end(rt, DONE, made(true))?;
     let mut mine = Mine {
         shares,
@@ -170,9 +164,7 @@ fn play_one<R: Wait + Print>(
         configured: Blank::new(1),
         top: Blank::new(1),
     };
-    play_on::<Brand, Brand, Brand, Brand, Brand, R>(
-        rt, alloc, settings, &counts, base, state, called, blanks,
-    )
+    play_on::<Brand, R>(rt, alloc, settings, &counts, base, state, called, blanks)
 }
 
 /// Each call.

@@ -7,12 +7,12 @@ use pdc_life::MAX_PMUS;
 use pdc_output::{Output, append_row};
 use pdc_recording::{RecordedSource, RecordedTicker, Recording};
 use pdc_tag::SECONDS;
-use pdc_threads::{Blanks, Did, Hub, Naming, Next, Numbered, Shares, Source, Ticker};
+use pdc_threads::{Blanks, Did, Hub, Naming, Next, Numbered, Shares, Source, Ticker, TopIn};
 use std::alloc::Global;
 use std::marker::Brand;
 use std::rt::Clock;
 use std::sync::Wait;
-use std::sync::ledger::{Blank, Ledger, Share};
+use std::sync::ledger::{Blank, Share};
 
 /// The instant of the first tick, and its second.
 const FIRST: u64 = 57_478_860_000;
@@ -35,20 +35,12 @@ pub struct Sent {
 }
 
 /// The next datagram of a source, delivered. None where memory was wanted, or there is none.
-fn arrive<
-    C: Core + Drop,
-    N: Naming<C::Settings>,
-    T: Ledger,
-    F: Ledger,
-    G: Ledger,
-    P: Ledger,
-    R: Wait + Clock,
->(
+fn arrive<C: Core + Drop, N: Naming<C::Settings>, R: Wait + Clock>(
     rt: &R,
     alloc: Global,
     settings: &C::Settings,
-    hub: &Hub<C, N, T, F, G, P>,
-    shares: &mut Shares<T, F, G>,
+    hub: &Hub<C, N>,
+    shares: &mut Shares<N>,
     stream: usize,
     source: &mut RecordedSource<'_, Listed, R>,
 ) -> Option<()>
@@ -74,17 +66,9 @@ fn arrive<
 }
 
 /// A tick. The number of its step; none where memory was wanted.
-fn tick<
-    C: Core + Drop,
-    N: Naming<C::Settings>,
-    T: Ledger,
-    F: Ledger,
-    G: Ledger,
-    P: Ledger,
-    R: Wait + Clock,
->(
+fn tick<C: Core + Drop, N: Naming<C::Settings>, R: Wait + Clock>(
     rt: &R,
-    hub: &Hub<C, N, T, F, G, P>,
+    hub: &Hub<C, N>,
     ticker: &mut RecordedTicker<'_, Silent, R>,
     now: u64,
 ) -> Option<u64> {
@@ -106,18 +90,10 @@ fn tick<
 }
 
 /// The layout in force is laid, behind the step with this number. None where memory was wanted.
-fn lay<
-    C: Core + Drop,
-    N: Naming<C::Settings>,
-    T: Ledger,
-    F: Ledger,
-    G: Ledger,
-    P: Ledger,
-    R: Wait + Clock,
->(
+fn lay<C: Core + Drop, N: Naming<C::Settings>, R: Wait + Clock>(
     rt: &R,
     alloc: Global,
-    hub: &Hub<C, N, T, F, G, P>,
+    hub: &Hub<C, N>,
     ticker: &mut RecordedTicker<'_, Silent, R>,
     step: u64,
 ) -> Option<()> {
@@ -130,23 +106,15 @@ fn lay<
 }
 
 /// A pop, whose row is published. None where memory was wanted.
-fn pop<
-    C: Core + Drop,
-    N: Naming<C::Settings>,
-    T: Ledger,
-    F: Ledger,
-    G: Ledger,
-    P: Ledger,
-    R: Wait + Clock,
->(
+fn pop<C: Core + Drop, N: Naming<C::Settings>, R: Wait + Clock>(
     rt: &R,
     alloc: Global,
     output: &Output,
-    hub: &Hub<C, N, T, F, G, P>,
-    top: &mut Share<P>,
+    hub: &Hub<C, N>,
+    top: &mut Share<TopIn<N>>,
     ticker: &mut RecordedTicker<'_, Silent, R>,
 ) -> Option<()>
-    requires top { (top.old.parts ≡ P.parts) × (0 < top.old.parts) }
+    requires top { (top.old.parts ≡ N.top.parts) × (0 < top.old.parts) }
     ensures top { top.new.parts ≡ top.old.parts }
 {
     let Ok(Numbered { step, answer }) = hub.pop(rt, top) else {
@@ -176,29 +144,21 @@ fn pop<
 
 /// The life: both configurations, the tick that adopts them, its layout, the data of both for one instant, and its row. None where memory
 /// was wanted.
-fn live<
-    C: Core + Drop,
-    N: Naming<C::Settings>,
-    T: Ledger,
-    F: Ledger,
-    G: Ledger,
-    P: Ledger,
-    R: Wait + Clock,
->(
+fn live<C: Core + Drop, N: Naming<C::Settings>, R: Wait + Clock>(
     rt: &R,
     alloc: Global,
     settings: &C::Settings,
     output: &Output,
-    hub: &Hub<C, N, T, F, G, P>,
-    shares: &mut Shares<T, F, G>,
-    top: &mut Share<P>,
+    hub: &Hub<C, N>,
+    shares: &mut Shares<N>,
+    top: &mut Share<TopIn<N>>,
     recording: &Recording,
     sent: &Sent,
 ) -> Option<()>
     requires settings { N.settings ≡ Some settings.now }
     requires streams { C.Settings.streams settings.now ≡ 2 }
     requires parts { (0 < shares.old.taken.parts) × (0 < shares.old.refused.parts) × (0 < shares.old.configured.parts) }
-    requires top { (top.old.parts ≡ P.parts) × (0 < top.old.parts) }
+    requires top { (top.old.parts ≡ N.top.parts) × (0 < top.old.parts) }
 {
     let recording = Some(recording);
     let mut first = RecordedSource::new(rt, alloc, recording, 0, Listed::of(sent.first));
@@ -217,15 +177,7 @@ fn live<
 }
 
 /// The life of a core through a hub. None where memory was wanted.
-fn live_on<
-    C: Opens,
-    N: Naming<C::Settings>,
-    T: Ledger,
-    F: Ledger,
-    G: Ledger,
-    P: Ledger,
-    R: Wait + Clock,
->(
+fn live_on<C: Opens, N: Naming<C::Settings>, R: Wait + Clock>(
     rt: &R,
     alloc: Global,
     settings: &C::Settings,
@@ -239,15 +191,15 @@ fn live_on<
     requires stands { C.stands_for base (C.given_with settings.now 1 0 counts.now) [] }
     requires settings { (N.settings ≡ Some settings.now) × (C.settings_of base ≡ settings.now) }
     requires streams { C.Settings.streams settings.now ≡ 2 }
-    requires names { (blanks.taken.name ≡ T.name) × (blanks.refused.name ≡ F.name) × (blanks.configured.name ≡ G.name) × (blanks.top.name ≡ P.name) }
-    requires parts { (blanks.taken.parts ≡ T.parts) × (blanks.refused.parts ≡ F.parts) × (blanks.configured.parts ≡ G.parts) × (blanks.top.parts ≡ P.parts) }
-    requires count { (T.parts ≡ 1) × (F.parts ≡ 1) × (G.parts ≡ 1) × (P.parts ≡ 1) }
+    requires names { (blanks.taken.name ≡ N.taken.name) × (blanks.refused.name ≡ N.refused.name) × (blanks.configured.name ≡ N.configured.name) × (blanks.top.name ≡ N.top.name) }
+    requires parts { (blanks.taken.parts ≡ N.taken.parts) × (blanks.refused.parts ≡ N.refused.parts) × (blanks.configured.parts ≡ N.configured.parts) × (blanks.top.parts ≡ N.top.parts) }
+    requires count { (N.taken.parts ≡ 1) × (N.refused.parts ≡ 1) × (N.configured.parts ≡ 1) × (N.top.parts ≡ 1) }
 {
     let output = base.output();
     let Ok(state) = base.open_next(alloc, 1, 0, counts) else {
         return None;
     };
-    let (hub, shares, top) = Hub::<C, N, T, F, G, P>::new(alloc, base, state, LIMIT, 0, blanks);
+    let (hub, shares, top) = Hub::<C, N>::new(alloc, base, state, LIMIT, 0, blanks);
     let mut shares = shares;
     let mut top = top;
     live(
@@ -283,7 +235,5 @@ pub fn record_life<C: Opens, R: Wait + Clock>(
         configured: Blank::new(1),
         top: Blank::new(1),
     };
-    live_on::<C, Brand, Brand, Brand, Brand, Brand, R>(
-        rt, alloc, settings, first, counts, recording, sent, blanks,
-    )
+    live_on::<C, Brand, R>(rt, alloc, settings, first, counts, recording, sent, blanks)
 }

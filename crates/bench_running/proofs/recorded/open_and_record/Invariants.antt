@@ -4,5 +4,5 @@ use Rattle.bench_running.specs.declared.frames.TheConstants.{FLOOR}
 use Rattle.bench_running.proofs.recorded.open_and_record.Given as goal
 
 -- the life that is recorded, and its settings
-abbrev pub ghosts-record_all : goal.ghosts-record_all
-ghosts-record_all a = record { given = Some (given_of a.settings.now 1 FLOOR a.counts.now 0); settings = Some a.settings.now }
+abbrev pub ghosts-record_all-N-Naming : goal.ghosts-record_all-N-Naming
+ghosts-record_all-N-Naming a = record { given = Some (given_of a.settings.now 1 FLOOR a.counts.now 0); settings = Some a.settings.now }
