@@ -118,6 +118,7 @@ pub fn put<R: Wait>(rt: &R, writer: &mut Writer, message: Message) -> bool
 pub fn close<R: Wait>(rt: &R, writer: &mut Writer) -> bool
     requires open { IsOpen writer.old }
     ensures same { writer.new.to ≡ writer.old.to }
+    ensures closed { (view writer.new.pass).closed ≡ result }
     ensures put { result ≡ true → put_by writer.new ≡ put_by writer.old ++ End ∷ [] }
     ensures not { result ≡ false → put_by writer.new ≡ put_by writer.old }
 {
