@@ -2,7 +2,8 @@
 ghost use Rattle.std.specs.Prelude.{◌≡◌, ◌≤◌, ℕ, length};
 
 use crate::frames::FLOOR;
-use pdc_threads::{Next, Outlet, Sink, SinkFault, Source, Ticker};
+use pdc_ports::{Next, Sink, SinkFault, Source, Ticker};
+use pdc_service::Outlet;
 use std::sync::atomic::{AtomicU64, Ordering};
 use std::thread;
 

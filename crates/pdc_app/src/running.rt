@@ -4,9 +4,8 @@ use crate::DONE;
 use crate::loading::report_load;
 use pdc_command_line::Running;
 use pdc_service::{
-    Files, Host, Limits, RecordFile, RunOptions, ServiceFault, serve_merger, serve_node,
+    Files, Host, Limits, RecordFile, RunOptions, ServiceFault, Totals, serve_merger, serve_node,
 };
-use pdc_threads::Totals;
 use std::io;
 
 /// Prints what a run counted.

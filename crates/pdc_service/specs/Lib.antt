@@ -1,4 +1,3 @@
-pub mod Concentrator
-pub mod Begun
-pub mod Status
+pub mod Ended
+pub mod Summed
 pub mod Turned

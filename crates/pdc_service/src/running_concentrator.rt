@@ -10,11 +10,10 @@ ghost use Rattle.pdc_life.specs.MergerReading.{given_of_merger};
 ghost use Rattle.pdc_merge.specs.Merger.{StandsFor as MergerStandsFor};
 ghost use Rattle.pdc_node.specs.Node.{StandsFor};
 ghost use Rattle.pdc_publisher.specs.Publisher.{last_in, lead_in, mark_in, output_in};
-ghost use Rattle.pdc_service.specs.Begun.{begun_mark};
+ghost use Rattle.pdc_service.specs.Ended.{HasEndedAsGiven, HasEndedWith, MergerHasEnded, NodeHasEnded, found_by};
 ghost use Rattle.pdc_service.specs.Turned.{HasRunAsGiven, begun_standing};
+ghost use Rattle.pdc_startup.specs.Begun.{begun_mark};
 
-use crate::begun::Begun;
-use crate::plan::Plan;
 use pdc_core::{Core, Opens, Reads};
 use pdc_life::{MAX_PMUS, MergerSettings, Settings};
 use pdc_mark::Mark;
@@ -22,9 +21,10 @@ use pdc_merge::{Merger, copy_of_merger};
 use pdc_node::{Node, copy_of};
 use pdc_output::Output;
 use pdc_publisher::Publisher;
+use pdc_startup::{Begun, Plan};
 use pdc_table::RingTable;
 use pdc_threads::{
-    Beside, Blanks, Crew, Hub, HubFault, Naming, Outside, Pace, Ran, Sink, Source, Ticker, run,
+    Beside, Blanks, Crew, Hub, HubFault, Naming, Outlet, Outside, Pace, Ran, Sink, Source, Ticker, run,
 };
 use std::alloc::Global;
 use std::marker::Brand;
@@ -72,6 +72,8 @@ where
     ensures each { HasEach result.outcome (vec_len sources) }
     ensures mark { IsCausedByMark result.outcome (standing_of publisher) (standing_of result.publisher) }
     ensures turned { HasRunInTurns C.stands_for N.given (output_in publisher) pace (GivesFrom W.Ticker.gave ticker) (W.Sink.took sink result.sink) (last_in publisher) (W.Mark.stored (mark_in publisher)) (W.Mark.stored (mark_in result.publisher)) result.outcome }
+    ensures ended { HasEndedWith C.rules C.stands_for N.given (C.Settings.says settings.now) (output_in publisher) pace.rate pace.layout_every W.Source.told (GivesFrom W.Ticker.gave ticker) (W.Sink.took sink result.sink)
+        (found_by (W.Mark.stored (mark_in publisher)) (standing_of publisher) (W.Sink.failures_of sink)) (found_by (W.Mark.stored (mark_in result.publisher)) (standing_of result.publisher) (W.Sink.failures_of result.sink)) sources.items result.outcome }
     ensures sent { HasRun (W.Sink.took sink result.sink) (last_in publisher) (W.Mark.stored (mark_in result.publisher)).floor result.outcome }
 {
     let floor = publisher.last();
@@ -123,7 +125,7 @@ fn run_begun<
     S: Source + Send + Drop,
     M: Mark + Drop,
     I: Ticker + Drop,
-    K: Sink + Send + Drop,
+    K: Outlet + Send + Drop,
     R: Threads + Wait + Sync,
 >(
     rt: &R,
@@ -151,6 +153,8 @@ where
     ensures each { HasEach result.outcome (vec_len sources) }
     ensures mark { IsCausedByMark result.outcome (begun_standing (M.is_broken (begun_mark mark)) (M.failures (begun_mark mark))) (standing_of result.publisher) }
     ensures turned { HasRunAsGiven C.stands_for (C.given_with settings.now (M.stored (begun_mark mark)).start (M.stored (begun_mark mark)).floor (M.stored (begun_mark mark)).counts) plan.now.layout_every (GivesFrom I.gave ticker) (K.took sink result.sink) (M.stored (begun_mark mark)) (M.stored (mark_in result.publisher)) result.outcome }
+    ensures ended { HasEndedAsGiven C.rules C.stands_for (C.Settings.says settings.now) (C.given_with settings.now (M.stored (begun_mark mark)).start (M.stored (begun_mark mark)).floor (M.stored (begun_mark mark)).counts) plan.now.layout_every S.told (GivesFrom I.gave ticker) (K.took sink result.sink)
+        (found_by (M.stored (begun_mark mark)) (begun_standing (M.is_broken (begun_mark mark)) (M.failures (begun_mark mark))) (K.failures_of sink)) (found_by (M.stored (mark_in result.publisher)) (standing_of result.publisher) (K.failures_of result.sink)) sources.items result.outcome }
     ensures sent { HasRun (K.took sink result.sink) (M.stored (begun_mark mark)).floor (M.stored (mark_in result.publisher)).floor result.outcome }
 {
     let mark = mark.into_mark();
@@ -181,7 +185,7 @@ pub fn run_node<
     S: Source + Send + Drop,
     M: Mark + Drop,
     I: Ticker + Drop,
-    K: Sink + Send + Drop,
+    K: Outlet + Send + Drop,
     R: Threads + Wait + Sync,
 >(
     rt: &R,
@@ -211,6 +215,10 @@ pub fn run_node<
     // And tick by tick: what was put for each tick are the data frames of the node's life, begun with what the mark stored, and then its
     // layout, after so many ticks as the plan says and where it changed.
     ensures turned { HasRunAsGiven (λ n g E. StandsFor g E n) (given_of settings.now (M.stored (begun_mark mark)).start (M.stored (begun_mark mark)).floor (M.stored (begun_mark mark)).counts 0) plan.now.layout_every (GivesFrom I.gave ticker) (K.took sink result.sink) (M.stored (begun_mark mark)) (M.stored (mark_in result.publisher)) result.outcome }
+    // Each source was read as the stream of its place, each datagram answered in the node's life, and the entries of the totals are what was
+    // counted of each; the fault that is told is the first in the order receivers, aligner, sender.
+    ensures ended { NodeHasEnded settings.now plan.now.layout_every S.told (GivesFrom I.gave ticker) (K.took sink result.sink)
+        (found_by (M.stored (begun_mark mark)) (begun_standing (M.is_broken (begun_mark mark)) (M.failures (begun_mark mark))) (K.failures_of sink)) (found_by (M.stored (mark_in result.publisher)) (standing_of result.publisher) (K.failures_of result.sink)) sources.items result.outcome }
 {
     run_begun::<Node<RingTable>, S, M, I, K, R>(
         rt,
@@ -235,7 +243,7 @@ pub fn run_merger<
     S: Source + Send + Drop,
     M: Mark + Drop,
     I: Ticker + Drop,
-    K: Sink + Send + Drop,
+    K: Outlet + Send + Drop,
     R: Threads + Wait + Sync,
 >(
     rt: &R,
@@ -256,6 +264,8 @@ pub fn run_merger<
     ensures kept { (output_in result.publisher ≡ settings.now.output) × (lead_in result.publisher ≡ plan.now.lead) }
     ensures mark { IsCausedByMark result.outcome (begun_standing (M.is_broken (begun_mark mark)) (M.failures (begun_mark mark))) (standing_of result.publisher) }
     ensures turned { HasRunAsGiven (λ m g E. MergerStandsFor g E m) (given_of_merger settings.now (M.stored (begun_mark mark)).start (M.stored (begun_mark mark)).floor (M.stored (begun_mark mark)).counts 0) plan.now.layout_every (GivesFrom I.gave ticker) (K.took sink result.sink) (M.stored (begun_mark mark)) (M.stored (mark_in result.publisher)) result.outcome }
+    ensures ended { MergerHasEnded settings.now plan.now.layout_every S.told (GivesFrom I.gave ticker) (K.took sink result.sink)
+        (found_by (M.stored (begun_mark mark)) (begun_standing (M.is_broken (begun_mark mark)) (M.failures (begun_mark mark))) (K.failures_of sink)) (found_by (M.stored (mark_in result.publisher)) (standing_of result.publisher) (K.failures_of result.sink)) sources.items result.outcome }
 {
     run_begun::<Merger<RingTable>, S, M, I, K, R>(
         rt,

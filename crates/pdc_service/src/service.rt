@@ -1,17 +1,14 @@
 //! A node and the merger, from their files to the end of their run.
 ghost use Rattle.std.specs.Prelude.{◌≡◌};
 
-use crate::concentrator::Concentrator;
-use crate::fault::ServiceFault;
-use crate::files::{begin_mark, merger_of, node_of, read_settings_text};
 use crate::host::Host;
-use crate::observing::Observed;
-use crate::options::RunOptions;
-use crate::ports::{open_links, open_listener, open_metrics, open_sink};
-use crate::recorded::{RecordFile, open_record};
 use crate::serving::{Consumers, Opened, run_serving};
 use crate::telling::begun_text;
 use pdc_settings::Network;
+use pdc_startup::{
+    Concentrator, Observed, RecordFile, RunOptions, ServiceFault, begin_mark, merger_of, node_of,
+    open_links, open_listener, open_metrics, open_record, open_sink, read_settings_text,
+};
 use pdc_threads::{HubFault, Totals};
 
 /// The files of a concentrator, by their names.

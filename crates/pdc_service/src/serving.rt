@@ -2,14 +2,9 @@
 ghost use Rattle.std.specs.Prelude.{◌≡◌, ◌≤◌, ◌<◌, vec_len};
 ghost use Rattle.pdc_frame.specs.declared.limits.TheConstants.{MAX_ID};
 ghost use Rattle.pdc_recent.specs.Stream.{stream_of};
-ghost use Rattle.pdc_service.specs.Concentrator.{output_of, streams_of};
+ghost use Rattle.pdc_startup.specs.Concentrator.{output_of, streams_of};
 
-use crate::begun::Begun;
-use crate::concentrator::{Concentrator, run_concentrator};
-use crate::fault::ServiceFault;
-use crate::observing::{Observed, observe_all};
-use crate::options::RunOptions;
-use crate::plan::plan_of;
+use crate::either::run_concentrator;
 use crate::telling::unsent_text;
 use pdc_disk::FileDisk;
 use pdc_journal::{AnnouncingSink, CountingSink, Journal, Reporting};
@@ -19,6 +14,7 @@ use pdc_network::{ClockTicker, OutputsSink};
 use pdc_recent::{Naming, Recent, RememberingSink};
 use pdc_recording::{RecordedTicker, Series, Shelf, write_record};
 use pdc_server::serve;
+use pdc_startup::{Begun, Concentrator, Observed, RunOptions, ServiceFault, observe_all, plan_of};
 use pdc_threads::{HubFault, Source, Totals};
 use std::alloc::Global;
 use std::marker::Brand;
@@ -192,9 +188,9 @@ fn run_observed<
         options.every,
     );
     let ticker = RecordedTicker::new(rt, observed.recording.as_ref(), ticker);
-    let sink = RememberingSink::new(rt, alloc, recent, output, sink);
-    let sink = CountingSink::new(sink, &signs.unsent);
     let sink = AnnouncingSink::new(rt, alloc, journal, observed.followers(), sink);
+    let sink = CountingSink::new(sink, &signs.unsent);
+    let sink = RememberingSink::new(rt, alloc, recent, output, &signs.unsent, sink);
     let outcome = run_concentrator(rt, alloc, concentrator, &plan, mark, sources, ticker, sink);
     let unsent = signs.unsent.load(Ordering::Relaxed);
     if unsent > 0 {

@@ -1,7 +1,7 @@
 //! What a concentrator tells at its begin and its end.
 
-use crate::concentrator::Concentrator;
 use pdc_settings::{Input, Network};
+use pdc_startup::Concentrator;
 use std::alloc::{AllocError, Global};
 
 /// Appends where the frames of a stream come: the place where it is asked for over TCP, or else the port.

@@ -12,16 +12,15 @@ use pdc_mark::ModelMark;
 use pdc_network::{UdpSink, UdpSource};
 use pdc_recent::{Naming, Recent, RememberingSink};
 use pdc_server::serve;
-use pdc_service::{Begun, Plan, run_node};
+use pdc_service::{Begun, Plan, Totals, run_node};
 use pdc_settings::NodeSettings;
-use pdc_threads::Totals;
 use std::alloc::Global;
 use std::io::Write;
 use std::marker::Brand;
 use std::net::{Net, TcpListener, TcpStream, UdpSocket};
 use std::rt::Clock;
 use std::sync::Wait;
-use std::sync::atomic::Ordering;
+use std::sync::atomic::{AtomicU64, Ordering};
 use std::thread::{Scope, Threads};
 use std::time::Duration;
 use std::{io, thread};
@@ -109,7 +108,8 @@ fn run_it<N: Naming + Send, R: Threads + Wait + Clock + Sync>(
         gauges,
         given: 0,
     };
-    let sink = RememberingSink::new(rt, alloc, recent, settings.output, sink);
+    let unkept = AtomicU64::new(0);
+    let sink = RememberingSink::new(rt, alloc, recent, settings.output, &unkept, sink);
     run_node(rt, alloc, settings, &plan, mark, sources, ticker, sink)
         .outcome
         .ok()

@@ -1,7 +1,7 @@
 //! A source that tells how much it delivered, and a ticker that waits for it.
 ghost use Rattle.std.specs.Prelude.{◌≡◌, ◌≤◌, ℕ, length};
 
-use pdc_threads::{Next, Source, Ticker};
+use pdc_ports::{Next, Source, Ticker};
 use std::rt::Clock;
 use std::sync::atomic::{AtomicU64, Ordering};
 use std::thread;

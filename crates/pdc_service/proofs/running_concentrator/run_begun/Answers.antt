@@ -1,4 +1,4 @@
-use Rattle.std.proofs.Common.{◌≡◌, ℕ, List, Option, Result, [], arith, refl, rules, sym}
+use Rattle.std.proofs.Common.{◌≡◌, ℕ, List, Option, Result, Some, [], arith, refl, rules, sym}
 use Rattle.pdc_aligner.specs.declared.pace.Pace.{Pace}
 use Rattle.pdc_hub.specs.Replay.{Lives}
 use Rattle.pdc_hub.specs.declared.fault.HubFault.{HubFault}
@@ -8,8 +8,10 @@ use Rattle.pdc_output.specs.declared.output.Output.{Output}
 use Rattle.pdc_threads.specs.Run.{HasRunInTurns}
 use Rattle.pdc_threads.specs.declared.telling.Totals.{Totals}
 use Rattle.pdc_publisher.specs.Publisher.{mark_in}
-use Rattle.pdc_service.specs.Begun.{begun_mark}
-use Rattle.pdc_service.proofs.Nothing.{nothing_put}
+use Rattle.pdc_startup.specs.Begun.{begun_mark}
+use Rattle.pdc_aligner.specs.Device.{standing_of}
+use Rattle.pdc_service.specs.Ended.{found_by}
+use Rattle.pdc_service.proofs.Nothing.{ended_of, nothing_ended, nothing_put, standing_is}
 use Rattle.pdc_service.proofs.running_concentrator.run_begun.Goals as goal
 
 -- It ran so, of the same by other names.
@@ -40,3 +42,22 @@ returns-in_default-clause-turned g c =
         aligned = nothing_put g.C.Core.stands_for _ _ _ _ _ g.I.Ticker.gave c.args.ticker;
       };
     }
+
+pub returns-clause-ended : goal.returns-clause-ended
+returns-clause-ended g c =
+    let stored = g.M.Mark.stored in
+    let ran = c.opened.result in
+    ended_of g.C.Core.rules (stored (mark_in c.new-publisher.result)) (stored (begun_mark c.args.mark)) (found_by (stored (mark_in ran.publisher)) (standing_of ran.publisher) (g.K.Sink.failures_of ran.sink))
+    (search rules) (search rules) (search rules) (search rules) (search rules) (standing_is (search rules) (search rules) (search rules)) c.opened.ensures.ended
+
+pub returns-in_default-clause-ended : goal.returns-in_default-clause-ended
+returns-in_default-clause-ended g c =
+    let kept = c.not_run.ensures.kept in
+    let p = c.new-publisher.result in
+    let stored = g.M.Mark.stored (begun_mark c.args.mark) in
+    let given = g.C.Opens.given_with c.args.settings.now stored.start stored.floor stored.counts in
+    let found = found_by (g.M.Mark.stored (mark_in p)) (standing_of p) (g.K.Sink.failures_of c.args.sink) in
+    rw (c.not_run.ensures.outcome, kept.0, kept.1)
+    (ended_of g.C.Core.rules found.stored stored found refl refl refl refl (search rules) (standing_is (search rules) (search rules) (search rules))
+    (nothing_ended g.C.Core.rules g.C.Core.stands_for (Some given) (g.C.Settings.Reads.says c.args.settings.now) given.output given.output.rate c.args.plan.now.layout_every g.S.Source.told g.I.Ticker.gave c.args.ticker
+    found c.args.sources.items (g.K.Sink.nothing c.args.sink)))

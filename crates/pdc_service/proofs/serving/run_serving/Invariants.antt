@@ -1,5 +1,5 @@
 use Rattle.pdc_recent.specs.Stream.{stream_of}
-use Rattle.pdc_service.specs.Concentrator.{output_of}
+use Rattle.pdc_startup.specs.Concentrator.{output_of}
 use Rattle.pdc_service.proofs.serving.run_serving.Given as goal
 
 abbrev pub ghosts-run_named : goal.ghosts-run_named

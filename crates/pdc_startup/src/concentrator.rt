@@ -1,20 +1,12 @@
 //! What a node and the merger have in common.
-ghost use Rattle.std.specs.Prelude.{◌≡◌, ◌≤◌, ◌<◌, IfOk, IfSome, map, sum, vec_len};
+ghost use Rattle.std.specs.Prelude.{◌≡◌, ◌≤◌, ◌<◌, IfSome};
 ghost use Rattle.pdc_frame.specs.declared.limits.TheConstants.{MAX_ID};
-ghost use Rattle.pdc_service.specs.Concentrator.{output_of, streams_of};
+ghost use Rattle.pdc_startup.specs.Concentrator.{output_of};
 
-use crate::begun::Begun;
-use crate::plan::Plan;
-use crate::running_concentrator::{run_merger, run_node};
 use pdc_frame::MAX_ID;
 use pdc_journal::Tags;
-use pdc_mark::Mark;
 use pdc_output::Output;
 use pdc_settings::{MergerSettings, NodeSettings, Service};
-use pdc_threads::{HubFault, Sink, Source, Ticker, Totals};
-use std::alloc::Global;
-use std::sync::Wait;
-use std::thread::Threads;
 
 /// A node or the merger, as its settings describe it.
 #[derive(Debug, Drop)]
@@ -79,36 +71,6 @@ impl Concentrator {
         match self {
             Concentrator::Node(settings) => settings.service,
             Concentrator::Merger(settings) => settings.service,
-        }
-    }
-}
-
-/// Runs it, over a source for each of its streams.
-pub fn run_concentrator<
-    S: Source + Send + Drop,
-    M: Mark + Drop,
-    I: Ticker + Drop,
-    K: Sink + Send + Drop,
-    R: Threads + Wait + Sync,
->(
-    rt: &R,
-    alloc: Global,
-    concentrator: &Concentrator,
-    plan: &Plan,
-    mark: Begun<M>,
-    sources: Vec<S>,
-    ticker: I,
-    sink: K,
-) -> Result<Totals, HubFault>
-    requires { vec_len sources ≡ streams_of concentrator.now }
-    ensures { IfOk result (λ t. (t.taken ≡ sum (map (λ c. c.taken) t.receivers.items)) × (t.refused ≡ sum (map (λ c. c.refused) t.receivers.items))) }
-{
-    match concentrator {
-        Concentrator::Node(settings) => {
-            run_node(rt, alloc, &settings.life, plan, mark, sources, ticker, sink).outcome
-        }
-        Concentrator::Merger(settings) => {
-            run_merger(rt, alloc, &settings.life, plan, mark, sources, ticker, sink).outcome
         }
     }
 }

@@ -1,4 +1,6 @@
 //! The files of a concentrator.
+ghost use Rattle.std.specs.Prelude.{IfErr};
+ghost use Rattle.pdc_startup.specs.Faults.{IsOfMark, IsOfSettings};
 
 use crate::begun::Begun;
 use crate::concentrator::Concentrator;
@@ -22,21 +24,27 @@ pub fn read_settings_text<R: Files<File = File> + AllocGlobal>(
 }
 
 /// The node that these settings describe, and where it is on the network.
-pub fn node_of(alloc: Global, text: &str) -> Result<(Concentrator, Network), LoadFault> {
+pub fn node_of(alloc: Global, text: &str) -> Result<(Concentrator, Network), LoadFault>
+    ensures faults { IfErr result IsOfSettings }
+{
     let settings = NodeSettings::from_toml(alloc, text).map_err(LoadFault::Refused)?;
     let network = Network::from_toml(alloc, text).map_err(LoadFault::Refused)?;
     Ok((Concentrator::Node(settings), network))
 }
 
 /// The merger that these settings describe, and where it is on the network.
-pub fn merger_of(alloc: Global, text: &str) -> Result<(Concentrator, Network), LoadFault> {
+pub fn merger_of(alloc: Global, text: &str) -> Result<(Concentrator, Network), LoadFault>
+    ensures faults { IfErr result IsOfSettings }
+{
     let settings = MergerSettings::from_toml(alloc, text).map_err(LoadFault::Refused)?;
     let network = Network::from_toml(alloc, text).map_err(LoadFault::Refused)?;
     Ok((Concentrator::Merger(settings), network))
 }
 
 /// Why a mark file was not opened: one whose lock another process has is in use.
-fn unopened(error: io::Error) -> ServiceFault {
+fn unopened(error: io::Error) -> ServiceFault
+    ensures { IsOfMark result }
+{
     if error.kind() == ErrorKind::WouldBlock {
         ServiceFault::MarkInUse
     } else {
@@ -50,7 +58,9 @@ pub fn begin_mark<R: Files<File = File>>(
     file: &str,
     id: u16,
     rate: u16,
-) -> Result<Begun<DiskMark<FileDisk>>, ServiceFault> {
+) -> Result<Begun<DiskMark<FileDisk>>, ServiceFault>
+    ensures faults { IfErr result IsOfMark }
+{
     let disk = FileDisk::open(rt, file).map_err(unopened)?;
     match DiskMark::open(disk, id, rate) {
         Ok(mark) => Begun::new(mark).map_err(ServiceFault::Mark),

@@ -1,7 +1,7 @@
 //! How a concentrator runs.
 ghost use Rattle.std.specs.Prelude.{◌≤◌};
 ghost use Rattle.pdc_publisher.specs.declared.publisher.TheConstants.{MAX_LEAD};
-ghost use Rattle.pdc_service.specs.declared.plan.TheConstants.{MAX_LIMIT};
+ghost use Rattle.pdc_startup.specs.declared.plan.TheConstants.{MAX_LIMIT};
 
 use pdc_settings::Service;
 

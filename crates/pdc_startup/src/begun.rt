@@ -1,7 +1,7 @@
 //! A mark that has begun.
 ghost use Rattle.std.specs.Prelude.{◌≡◌, ◌⊎◌, IfOk, IsErrOf, OnErr};
 ghost use Rattle.pdc_mark.specs.Stored.{with_next_start};
-ghost use Rattle.pdc_service.specs.Begun.{begun_mark};
+ghost use Rattle.pdc_startup.specs.Begun.{begun_mark};
 
 use pdc_mark::{COUNTS, Mark, MarkFault};
 
@@ -12,7 +12,7 @@ pub struct Begun<M: Mark> {
 }
 
 impl<M: Mark + Drop> Begun<M> {
-    ghost use Rattle.pdc_service.specs.Begun.{begun_mark};
+    ghost use Rattle.pdc_startup.specs.Begun.{begun_mark};
 
     /// Stores the next start number.
     ///

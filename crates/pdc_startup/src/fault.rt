@@ -1,10 +1,10 @@
 //! Why a node or the merger did not run to its end.
 ghost use Rattle.std.specs.Prelude.{◌≡◌};
-ghost use Rattle.pdc_service.specs.Status.{status_of, status_of_load};
+ghost use Rattle.pdc_startup.specs.Status.{status_of, status_of_load};
 
+use pdc_hub::HubFault;
 use pdc_mark::MarkFault;
 use pdc_settings::SettingsFault;
-use pdc_threads::HubFault;
 use std::io;
 use std::net::SocketAddr;
 use thiserror::Error;

@@ -1,17 +1,18 @@
 //! The ports of a concentrator.
-ghost use Rattle.std.specs.Prelude.{◌≡◌, ◌≤◌, ◌<◌, IfOk, length, vec_len};
+ghost use Rattle.std.specs.Prelude.{◌≡◌, ◌≤◌, ◌<◌, IfErr, IfOk, length, vec_len};
 ghost use Rattle.pdc_frame.specs.declared.limits.TheConstants.{MAX_ID};
-ghost use Rattle.pdc_service.specs.Concentrator.{streams_of};
+ghost use Rattle.pdc_startup.specs.Concentrator.{streams_of};
+ghost use Rattle.pdc_startup.specs.Faults.{IsOfListener, IsOfSink, IsOfSources};
 
 use crate::concentrator::Concentrator;
 use crate::fault::ServiceFault;
 use crate::observing::Observed;
 use pdc_frame::MAX_ID;
+use pdc_hub::HubFault;
 use pdc_journal::{Journal, OutputTally, Tally};
 use pdc_link::{Connection, Link, Port};
 use pdc_network::{Destination, OutputsSink, UdpSink, UdpSource};
 use pdc_settings::{Input, Network};
-use pdc_threads::HubFault;
 use std::alloc::Global;
 use std::io;
 use std::io::ErrorKind;
@@ -20,12 +21,18 @@ use std::rt::Clock;
 use std::sync::Wait;
 
 /// The fault of a port that cannot be opened.
-fn unopened(address: IpAddr, port: u16, error: io::Error) -> ServiceFault {
+fn unopened(address: IpAddr, port: u16, error: io::Error) -> ServiceFault
+    ensures listener { IsOfListener result }
+    ensures sources { IsOfSources result }
+    ensures sink { IsOfSink result }
+{
     ServiceFault::Port(SocketAddr::from((address, port)), error)
 }
 
 /// A source at this port, with the buffer that the settings ask for.
-fn open_source<R: Net>(rt: &R, network: &Network, port: u16) -> Result<UdpSource, ServiceFault> {
+fn open_source<R: Net>(rt: &R, network: &Network, port: u16) -> Result<UdpSource, ServiceFault>
+    ensures faults { IfErr result IsOfSources }
+{
     let address = network.address;
     let source = UdpSource::open_at(rt, address, port).map_err(|error| unopened(
         address, port, error,
@@ -47,7 +54,9 @@ fn asked_at<R: Net>(
     rt: &R,
     id: u16,
     text: &Option<String>,
-) -> Result<Option<SocketAddr>, ServiceFault> {
+) -> Result<Option<SocketAddr>, ServiceFault>
+    ensures faults { IfErr result IsOfSources }
+{
     match text {
         Some(text) => match address_of(rt, text.as_str()) {
             Ok(address) => Ok(Some(address)),
@@ -70,6 +79,7 @@ fn open_link<'a, R: Net<Listener = TcpListener, Stream = TcpStream> + Clock + Wa
 ) -> Result<Link<'a, R>, ServiceFault>
     requires id_low { 0 < id }
     requires id_high { id ≤ MAX_ID }
+    ensures faults { IfErr result IsOfSources }
 {
     if let Some(to) = asked_at(rt, id, &input.tcp)? {
         return match Connection::new(rt, alloc, journal, tally, id, to) {
@@ -92,7 +102,9 @@ fn open_numbered<'a, R: Net<Listener = TcpListener, Stream = TcpStream> + Clock 
     observed: &'a Observed,
     number: usize,
     port: u16,
-) -> Result<Link<'a, R>, ServiceFault> {
+) -> Result<Link<'a, R>, ServiceFault>
+    ensures faults { IfErr result IsOfSources }
+{
     match (
         concentrator.stream_id(number),
         network.inputs.get(number),
@@ -123,7 +135,8 @@ fn open_all<'a, R: Net<Listener = TcpListener, Stream = TcpStream> + Clock + Wai
     observed: &'a Observed,
     ports: &[u16],
 ) -> Result<Vec<Link<'a, R>>, ServiceFault>
-    ensures { IfOk result (λ links. vec_len links ≡ length ports.now) }
+    ensures links { IfOk result (λ links. vec_len links ≡ length ports.now) }
+    ensures faults { IfErr result IsOfSources }
 {
     let mut links = Vec::new(alloc);
     for port in ports {
@@ -145,7 +158,8 @@ pub fn open_links<'a, R: Net<Listener = TcpListener, Stream = TcpStream> + Clock
     concentrator: &Concentrator,
     observed: &'a Observed,
 ) -> Result<Vec<Link<'a, R>>, ServiceFault>
-    ensures { IfOk result (λ links. vec_len links ≡ streams_of concentrator.now) }
+    ensures links { IfOk result (λ links. vec_len links ≡ streams_of concentrator.now) }
+    ensures faults { IfErr result IsOfSources }
 {
     match concentrator {
         Concentrator::Node(settings) => open_all(
@@ -175,7 +189,9 @@ fn open_destinations<'a, R: Net>(
     alloc: Global,
     ttl: u8,
     outputs: &'a [OutputTally],
-) -> Result<Vec<Destination<'a>>, ServiceFault> {
+) -> Result<Vec<Destination<'a>>, ServiceFault>
+    ensures faults { IfErr result IsOfSink }
+{
     let mut destinations = Vec::new(alloc);
     for output in outputs {
         let number = destinations.len().saturating_add(1);
@@ -200,7 +216,9 @@ pub fn open_sink<'a, R: Net>(
     network: &Network,
     port: u16,
     outputs: &'a [OutputTally],
-) -> Result<OutputsSink<'a>, ServiceFault> {
+) -> Result<OutputsSink<'a>, ServiceFault>
+    ensures faults { IfErr result IsOfSink }
+{
     let loopback = IpAddr::from([127u8, 0, 0, 1]);
     let sink = UdpSink::open(rt, port).map_err(|error| unopened(loopback, port, error))?;
     let destinations = open_destinations(rt, alloc, network.ttl, outputs)?;
@@ -212,7 +230,9 @@ fn listen<R: Net<Listener = TcpListener, Stream = TcpStream>>(
     rt: &R,
     address: IpAddr,
     port: u16,
-) -> Result<TcpListener, ServiceFault> {
+) -> Result<TcpListener, ServiceFault>
+    ensures faults { IfErr result IsOfListener }
+{
     let listener = TcpListener::bind(rt, (address, port)).map_err(|error| unopened(
         address, port, error,
     ))?;
@@ -227,7 +247,9 @@ pub fn open_listener<R: Net<Listener = TcpListener, Stream = TcpStream>>(
     rt: &R,
     network: &Network,
     port: u16,
-) -> Result<TcpListener, ServiceFault> {
+) -> Result<TcpListener, ServiceFault>
+    ensures faults { IfErr result IsOfListener }
+{
     listen(rt, network.address, port)
 }
 
@@ -235,7 +257,9 @@ pub fn open_listener<R: Net<Listener = TcpListener, Stream = TcpStream>>(
 pub fn open_metrics<R: Net<Listener = TcpListener, Stream = TcpStream>>(
     rt: &R,
     port: Option<u16>,
-) -> Result<Option<TcpListener>, ServiceFault> {
+) -> Result<Option<TcpListener>, ServiceFault>
+    ensures faults { IfErr result IsOfListener }
+{
     match port {
         Some(port) => {
             let loopback = IpAddr::from([127u8, 0, 0, 1]);

@@ -1,4 +1,6 @@
 //! The record of a run.
+ghost use Rattle.std.specs.Prelude.{IfErr};
+ghost use Rattle.pdc_startup.specs.Faults.{IsOfRecord};
 
 use crate::begun::Begun;
 use crate::concentrator::Concentrator;
@@ -36,7 +38,9 @@ pub fn open_record<'a, M: Mark + Drop, R: Clock + Shelf>(
     concentrator: &Concentrator,
     mark: &Begun<M>,
     settings: &'a str,
-) -> Result<Series<'a>, ServiceFault> {
+) -> Result<Series<'a>, ServiceFault>
+    ensures faults { IfErr result IsOfRecord }
+{
     let output = concentrator.output();
     let begun = BegunEntry {
         role: role_of(concentrator),

@@ -1,5 +1,5 @@
 -- A mark that has begun (this profile).
-use Rattle.pdc_service.specs.declared.begun.Begun.{Begun}
+use Rattle.pdc_startup.specs.declared.begun.Begun.{Begun}
 
 -- the mark, with the stored start of this life
 abbrev pub begun_mark : {M : Type 0} → Begun M → M

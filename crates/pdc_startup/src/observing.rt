@@ -8,9 +8,9 @@ use pdc_journal::{
     Tags, Tally, Watchers,
 };
 use pdc_metrics::Metered;
+use pdc_ports::Source;
 use pdc_recording::{RecordedSource, Recording};
 use pdc_settings::Network;
-use pdc_threads::Source;
 use std::alloc::{AllocError, Global};
 use std::rt::Clock;
 use std::sync::Wait;

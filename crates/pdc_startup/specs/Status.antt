@@ -2,10 +2,10 @@
 use Rattle.std.specs.Prelude.{ℕ}
 use Rattle.pdc_mark.specs.declared.fault.MarkFault.TheVariants.{NoMark, Damaged, OtherOwner, Device, StartsUsedUp, OldMark}
 use Rattle.pdc_settings.specs.declared.fault.SettingsFault.TheVariants.{Toml, Range, DoubledId, NoMemory}
-use Rattle.pdc_service.specs.declared.fault.LoadFault.{LoadFault}
-use Rattle.pdc_service.specs.declared.fault.LoadFault.TheVariants.{Unread, Refused}
-use Rattle.pdc_service.specs.declared.fault.ServiceFault.{ServiceFault}
-use Rattle.pdc_service.specs.declared.fault.ServiceFault.TheVariants.{Settings, MarkUnopened, MarkInUse, Mark, Port, Output, Input, Record, Run, Clock}
+use Rattle.pdc_startup.specs.declared.fault.LoadFault.{LoadFault}
+use Rattle.pdc_startup.specs.declared.fault.LoadFault.TheVariants.{Unread, Refused}
+use Rattle.pdc_startup.specs.declared.fault.ServiceFault.{ServiceFault}
+use Rattle.pdc_startup.specs.declared.fault.ServiceFault.TheVariants.{Settings, MarkUnopened, MarkInUse, Mark, Port, Output, Input, Record, Run, Clock}
 
 -- of a settings file
 abbrev pub status_of_load : LoadFault → ℕ

@@ -1,8 +1,8 @@
 -- A node or the merger, as its settings describe it (this profile).
 use Rattle.std.specs.Prelude.{ℕ, length}
 use Rattle.pdc_output.specs.declared.output.Output.{Output}
-use Rattle.pdc_service.specs.declared.concentrator.Concentrator.{Concentrator}
-use Rattle.pdc_service.specs.declared.concentrator.Concentrator.TheVariants.{Merger, Node}
+use Rattle.pdc_startup.specs.declared.concentrator.Concentrator.{Concentrator}
+use Rattle.pdc_startup.specs.declared.concentrator.Concentrator.TheVariants.{Merger, Node}
 
 -- how many streams it takes: one for each PMU, and one for each node
 abbrev pub streams_of : Concentrator → ℕ

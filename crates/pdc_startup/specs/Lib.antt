@@ -1,0 +1,4 @@
+pub mod Begun
+pub mod Concentrator
+pub mod Faults
+pub mod Status
