@@ -24,7 +24,8 @@ use pdc_publisher::Publisher;
 use pdc_startup::{Begun, Plan};
 use pdc_table::RingTable;
 use pdc_threads::{
-    Beside, Blanks, Crew, Hub, HubFault, Naming, Outlet, Outside, Pace, Ran, Sink, Source, Ticker, run,
+    Beside, Blanks, Crew, Hub, HubFault, Naming, Outlet, Outside, Pace, Ran, Sink, Source, Ticker,
+    run,
 };
 use std::alloc::Global;
 use std::marker::Brand;
