@@ -6,6 +6,7 @@ pub mod Found
 pub mod ModelMark
 pub mod OldMark
 pub mod Slots
+pub mod Stops
 pub mod Stored
 pub mod Stores
 pub mod VersionOne

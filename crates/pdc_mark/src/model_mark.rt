@@ -74,6 +74,8 @@ impl Mark for ModelMark {
 }
 
 impl Store for ModelMark {
+    ghost stops_as = { λ _ _ _. ⊤ };
+
     ghost never_fails = { tt };
 
     ghost never_broken = { λ _. refl };

@@ -1,7 +1,8 @@
 -- What a station keeps, and how it raises its mark (this profile).
-use Rattle.std.specs.Prelude.{ℕ, ◌+◌, List, [], nat_lt, if◌then◌else◌, Option, None, Some}
+use Rattle.std.specs.Prelude.{◌≡◌, ℕ, ◌+◌, Bool, List, [], nat_lt, if◌then◌else◌, Option, None, Some}
 use Rattle.pdc_history.specs.World.{raised_to}
-use Rattle.pdc_mark.specs.Stored.{with_counts, with_floor}
+use Rattle.pdc_mark.specs.Stops.{Between, InRaise, InReserve, Stop}
+use Rattle.pdc_mark.specs.Stored.{with_counts, with_floor, with_next_start}
 use Rattle.pdc_life.specs.Given.{Given}
 use Rattle.pdc_life.specs.Life.{Entry}
 use Rattle.pdc_mark.specs.declared.stored.Stored.{Stored}
@@ -31,3 +32,19 @@ IsOfSomeLife Stands = ((g : Given) (E : List Entry) → Stands g E → ⊥) → 
 abbrev pub floor_with : (lead : ℕ) → Option ℕ → (floor : ℕ) → ℕ
 floor_with lead None floor = floor
 floor_with lead (Some instant) floor = if nat_lt floor instant then instant + lead else floor
+
+-- where a stop falls in a publish: in the store of a reservation for the instant, where it is above the floor, and else between stores
+abbrev pub stop_in_reserving : (landed : Bool) (lead : ℕ) → Option ℕ → (floor : ℕ) → Stop
+stop_in_reserving landed lead None floor = Between
+stop_in_reserving landed lead (Some instant) floor = if nat_lt floor instant then InReserve (instant + lead) landed else Between
+
+-- A stop in the raise to the counts that wait: in its store, where one of them is greater, and else between stores.
+pub record StopsInRaise {M : Type 0} (StopsAs : Stop → M → M → Type 0) (landed : Bool) (waiting counts : List ℕ) (before after : M) : Type 0 where
+  pub in_store : (counts ≡ raised_to counts waiting → ⊥) → StopsAs (InRaise (raised_to counts waiting) landed) before after
+  pub between : counts ≡ raised_to counts waiting → StopsAs Between before after
+
+-- A stop ended a life, and the next one began: on the mark as the stop left it, the next start was stored.
+pub record HasStopped {M : Type 0} (stored : M → Stored) (Stops : M → M → Type 0) (before after : M) : Type 0 where
+  pub left : M
+  pub stops : Stops before left
+  pub begins : stored after ≡ with_next_start (stored left)

@@ -1,12 +1,13 @@
 //! Stops of a station: its life ends, and the next one begins with what the mark then stores. It is opened before anything is stored,
 //! so a stop that is refused changes nothing.
-ghost use Rattle.std.specs.Prelude.{◌≡◌, ◌+◌, ◌<◌, ◌↔◌, [], IfOk, IsErrOf, List, OnErr, OnOk, if◌then◌else◌};
+ghost use Rattle.std.specs.Prelude.{◌≡◌, ◌+◌, ◌<◌, ◌↔◌, [], IfOk, IsErrOf, List, OnErr, OnOk, option_map, if◌then◌else◌};
 ghost use Rattle.pdc_history.specs.World.{reserved};
 ghost use Rattle.pdc_life.specs.Answer.{pop_answer, waiting_counts};
 ghost use Rattle.pdc_life.specs.Given.{Given};
 ghost use Rattle.pdc_life.specs.Life.{Entry};
+ghost use Rattle.pdc_mark.specs.Stops.{Between, InBegin};
 ghost use Rattle.pdc_mark.specs.Stored.{with_next_start};
-ghost use Rattle.pdc_station.specs.Station.{IsOfSomeLife, with_waiting};
+ghost use Rattle.pdc_station.specs.Station.{HasStopped, IsOfSomeLife, StopsInRaise, stop_in_reserving, with_waiting};
 
 use crate::fault::StopFault;
 use crate::next_row::next_instant;
@@ -60,6 +61,7 @@ impl<C: Opens, M: Store> Station<C, M> {
     /// `StartsUsedUp` at the last start number; `NoMemory` where there is no memory for the next life. Then nothing changes.
     pub fn stop(&mut self, alloc: Global) -> Result<(), StopFault>
         ensures mark { OnOk result (M.stored self.new.mark ≡ with_next_start (M.stored self.old.mark)) }
+        ensures stops { OnOk result (HasStopped M.stored (M.stops_as Between) self.old.mark self.new.mark) }
         ensures stands { OnOk result (C.stands_for self.new.core (C.given_with (C.settings_of self.old.core)
             (M.stored self.new.mark).start (M.stored self.new.mark).floor (M.stored self.new.mark).counts) []) }
         ensures used_up { IsErrOf result StopFault.StartsUsedUp ↔ ((M.stored self.old.mark).start ≡ u32.MAX) }
@@ -83,6 +85,8 @@ impl<C: Opens, M: Store> Station<C, M> {
     pub fn stop_in_tick(&mut self, alloc: Global, landed: bool) -> Result<(), StopFault>
         ensures mark { (g : Given) (E : List Entry) → C.stands_for self.old.core g E → OnOk result (M.stored self.new.mark
             ≡ with_next_start (if landed then with_waiting (waiting_counts g E) (M.stored self.old.mark) else M.stored self.old.mark)) }
+        ensures stops { (g : Given) (E : List Entry) → C.stands_for self.old.core g E → OnOk result
+            (HasStopped M.stored (StopsInRaise M.stops_as landed (waiting_counts g E) (M.stored self.old.mark).counts) self.old.mark self.new.mark) }
         ensures stands { OnOk result (C.stands_for self.new.core (C.given_with (C.settings_of self.old.core)
             (M.stored self.new.mark).start (M.stored self.new.mark).floor (M.stored self.new.mark).counts) []) }
         ensures used_up { IsErrOf result StopFault.StartsUsedUp ↔ ((M.stored self.old.mark).start ≡ u32.MAX) }
@@ -107,6 +111,7 @@ impl<C: Opens, M: Store> Station<C, M> {
     pub fn stop_at_start(&mut self, alloc: Global, landed: bool) -> Result<(), StopFault>
         ensures mark { OnOk result (M.stored self.new.mark
             ≡ (if landed then with_next_start (with_next_start (M.stored self.old.mark)) else with_next_start (M.stored self.old.mark))) }
+        ensures stops { OnOk result (HasStopped M.stored (M.stops_as (InBegin landed)) self.old.mark self.new.mark) }
         ensures stands { OnOk result (C.stands_for self.new.core (C.given_with (C.settings_of self.old.core)
             (M.stored self.new.mark).start (M.stored self.new.mark).floor (M.stored self.new.mark).counts) []) }
         ensures used_up { IsErrOf result StopFault.StartsUsedUp
@@ -135,6 +140,8 @@ impl<C: Opens, M: Store> Station<C, M> {
     pub fn stop_in_publish(&mut self, alloc: Global, landed: bool) -> Result<(), StopFault>
         ensures mark { (g : Given) (E : List Entry) → C.stands_for self.old.core g E → OnOk result (M.stored self.new.mark
             ≡ with_next_start (if landed then reserved self.old.lead (pop_answer E) (M.stored self.old.mark) else M.stored self.old.mark)) }
+        ensures stops { (g : Given) (E : List Entry) → C.stands_for self.old.core g E → OnOk result
+            (HasStopped M.stored (M.stops_as (stop_in_reserving landed self.old.lead (option_map (λ row. row.instant) (pop_answer E)) (M.stored self.old.mark).floor)) self.old.mark self.new.mark) }
         ensures stands { OnOk result (C.stands_for self.new.core (C.given_with (C.settings_of self.old.core)
             (M.stored self.new.mark).start (M.stored self.new.mark).floor (M.stored self.new.mark).counts) []) }
         ensures used_up { IsErrOf result StopFault.StartsUsedUp ↔ ((M.stored self.old.mark).start ≡ u32.MAX) }

@@ -3,7 +3,7 @@ ghost use Rattle.std.specs.Prelude.{◌≡◌, ◌+◌, ◌*◌, ◌<◌, ◌≤
 ghost use Rattle.pdc_history.specs.World.{raised_to};
 ghost use Rattle.pdc_mark.specs.Counts.{IsRaise};
 ghost use Rattle.pdc_mark.specs.Stored.{with_counts, with_next_start};
-ghost use Rattle.pdc_station.specs.Station.{floor_with, with_instant, with_waiting};
+ghost use Rattle.pdc_station.specs.Station.{StopsInRaise, floor_with, stop_in_reserving, with_instant, with_waiting};
 ghost use Rattle.pdc_tag.specs.declared.limits.TheConstants.{MAX_RATE, SECONDS};
 
 use pdc_life::MAX_PMUS;
@@ -82,6 +82,7 @@ pub(crate) fn stop_in_raise<M: Store>(mark: &mut M, waiting: &[u16; MAX_PMUS], l
     ensures floor { (M.stored mark.new).floor ≡ (M.stored mark.old).floor }
     ensures counts { (M.stored mark.new).counts
         ≡ (if landed then raised_to (M.stored mark.old).counts waiting.now else (M.stored mark.old).counts) }
+    ensures stops { StopsInRaise M.stops_as landed waiting.now (M.stored mark.old).counts mark.old mark.new }
 {
     match raised_counts(&mark.counts(), waiting) {
         Some(greater) => mark.raise_stopped(&greater, landed),
@@ -107,6 +108,7 @@ pub(crate) fn stop_in_reserve<M: Store>(mark: &mut M, due: Option<u64>, lead: u1
     ensures counts { (M.stored mark.new).counts ≡ (M.stored mark.old).counts }
     ensures floor { (M.stored mark.new).floor
         ≡ (if landed then floor_with lead due (M.stored mark.old).floor else (M.stored mark.old).floor) }
+    ensures stops { M.stops_as (stop_in_reserving landed lead due (M.stored mark.old).floor) mark.old mark.new }
 {
     let (_, floor) = mark.stored();
     match due {

@@ -82,6 +82,10 @@ impl DiskMark<MemoryDisk> {
 
 impl Store for DiskMark<MemoryDisk> {
     ghost use Rattle.pdc_mark.specs.DiskMark.{disk_of, mark_on, stored_of, with_stored};
+    ghost use Rattle.pdc_mark.specs.Stops.{IsLeft};
+
+    ghost stops_as = { λ stop before after. IsLeft stop (seen_of (disk_of before)) (seen_of (disk_of after)) (mark_on after)
+        (is_settled_at (disk_of after)) (failures_of (disk_of after)) };
 
     ghost never_fails = { Prim.search rules };
 
