@@ -18,8 +18,8 @@ use Rattle.pdc_table.specs.Row as closed
 use Rattle.pdc_table.specs.Steps.{closing_of, staying_of}
 use Rattle.pdc_table.specs.Views.{ColumnView, OpenRowView}
 use Rattle.pdc_table.specs.declared.wait_rule.WaitRule.{WaitRule}
-use Rattle.pdc_arrival.specs.pdc_life.declared.given.WaitKind.{WaitKind}
-use Rattle.pdc_arrival.specs.pdc_life.declared.given.WaitKind.TheVariants.{Absolute, Relative}
+use Rattle.pdc_arrival.specs.pdc_life.declared.timing.WaitKind.{WaitKind}
+use Rattle.pdc_arrival.specs.pdc_life.declared.timing.WaitKind.TheVariants.{Absolute, Relative}
 use Rattle.pdc_arrival.specs.pdc_life.Cells.{CellsAreOfSections}
 use Rattle.pdc_arrival.specs.pdc_life.Given.{Given, columns_of, streams_of}
 use Rattle.pdc_arrival.specs.pdc_life.Life.{Entry, age_of, cell_of, changes, open_instants, section_in_force, take_of}

@@ -10,8 +10,8 @@ use Rattle.pdc_arrival.specs.pdc_row.CellView.{BlockView, CellView}
 use Rattle.pdc_arrival.specs.pdc_row.RowView.{RowView}
 use Rattle.pdc_table.specs.Content.{Content}
 use Rattle.pdc_table.specs.Views.{ColumnView, OpenRowView}
-use Rattle.pdc_arrival.specs.pdc_life.declared.given.WaitKind.{WaitKind}
-use Rattle.pdc_arrival.specs.pdc_life.declared.given.WaitKind.TheVariants.{Absolute, Relative}
+use Rattle.pdc_arrival.specs.pdc_life.declared.timing.WaitKind.{WaitKind}
+use Rattle.pdc_arrival.specs.pdc_life.declared.timing.WaitKind.TheVariants.{Absolute, Relative}
 use Rattle.pdc_arrival.specs.pdc_life.Answer.{ReadStep, ToArrive, ToTick, ToPop, life_from}
 use Rattle.pdc_arrival.specs.pdc_life.Arrival.{Data, Layout}
 use Rattle.pdc_arrival.specs.pdc_life.Given.{Given}

@@ -11,7 +11,7 @@ use Rattle.pdc_arrival.specs.pdc_row.CellView.{BlockView, CellView}
 use Rattle.pdc_arrival.specs.pdc_row.RowView.{RowView}
 use Rattle.pdc_table.specs.Content.{Content}
 use Rattle.pdc_table.specs.Views.{ColumnView, OpenRowView, empty_column}
-use Rattle.pdc_arrival.specs.pdc_life.declared.given.WaitKind.TheVariants.{Relative}
+use Rattle.pdc_arrival.specs.pdc_life.declared.timing.WaitKind.TheVariants.{Relative}
 use Rattle.pdc_arrival.specs.pdc_life.declared.outcome.Outcome.{Outcome}
 use Rattle.pdc_arrival.specs.pdc_life.declared.outcome.Outcome.TheVariants.{Candidate, Refused, Taken}
 use Rattle.pdc_arrival.specs.pdc_life.declared.outcome.Refusal.TheVariants.{Conflict, Duplicate}

@@ -5,7 +5,7 @@ use Rattle.pdc_arrival.specs.pdc_cfg.declared.shape.Shape.{Shape}
 use Rattle.pdc_arrival.specs.pdc_cfg.Section.{SectionFields}
 use Rattle.pdc_arrival.specs.pdc_output.declared.output.Output.{Output}
 use Rattle.pdc_arrival.specs.pdc_output.declared.output.Nominal.TheVariants.{Hz50}
-use Rattle.pdc_arrival.specs.pdc_life.declared.given.WaitKind.TheVariants.{Relative}
+use Rattle.pdc_arrival.specs.pdc_life.declared.timing.WaitKind.TheVariants.{Relative}
 use Rattle.pdc_arrival.specs.pdc_life.Answer.{ReadStep, ToArrive, ToTick, life_from}
 use Rattle.pdc_arrival.specs.pdc_life.Arrival.{Layout}
 use Rattle.pdc_arrival.specs.pdc_life.Given.{Given}

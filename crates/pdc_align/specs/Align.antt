@@ -9,7 +9,7 @@ use Rattle.pdc_arrival.specs.pdc_life.declared.outcome.Outcome.{Outcome}
 use Rattle.pdc_arrival.specs.pdc_life.declared.outcome.Outcome.TheVariants.{Known, Refused}
 use Rattle.pdc_arrival.specs.pdc_life.Life.{Answer, Arrive, Entry, TickAnswer, changes, cleared_count, held_section, now_of, section_in_force}
 use Rattle.pdc_arrival.specs.pdc_life.Run.{IsRun}
-use Rattle.pdc_arrival.specs.pdc_life.declared.given.WaitKind.{WaitKind}
+use Rattle.pdc_arrival.specs.pdc_life.declared.timing.WaitKind.{WaitKind}
 use Rattle.pdc_align.specs.State.{content_of}
 use Rattle.pdc_align.specs.declared.plan.Plan.{Plan}
 use Rattle.pdc_align.specs.declared.ticked.Ticked.{Ticked}

@@ -12,8 +12,8 @@ use Rattle.pdc_table.specs.declared.wait_rule.WaitRule.TheVariants.{Ticks, Until
 use Rattle.pdc_arrival.specs.pdc_life.Given.{Given, columns_of, streams_of}
 use Rattle.pdc_arrival.specs.pdc_life.Life.{Entry, age_of, changes, last_of, open_instants, section_in_force, take_of, waiting}
 use Rattle.pdc_arrival.specs.pdc_life.Row.{first_cell, is_required, second_cell}
-use Rattle.pdc_arrival.specs.pdc_life.declared.given.WaitKind.{WaitKind}
-use Rattle.pdc_arrival.specs.pdc_life.declared.given.WaitKind.TheVariants.{Absolute, Relative}
+use Rattle.pdc_arrival.specs.pdc_life.declared.timing.WaitKind.{WaitKind}
+use Rattle.pdc_arrival.specs.pdc_life.declared.timing.WaitKind.TheVariants.{Absolute, Relative}
 
 -- what a column holds at the instant
 abbrev pub column_of : Given → List Entry → (i c : ℕ) → ColumnView

@@ -25,11 +25,11 @@ pub use counts::{CAUSES, Counts, causes_are_told_apart};
 pub use from_node::{Heard, NODES, arrival_from_node, hear_from_node, read_from_node};
 pub use from_pmu::{arrival_from_pmu, hear_from_pmu, read_from_pmu};
 pub use laws::words_are_cut;
-pub use own_block::{OWN_BLOCK_LEN, bears, body};
+pub use own_block::{bears, body};
 pub use pdc_life::{
-    Body, Buffer, DueRow, MAX_PMUS, MergerSettings, Outcome, Output, Refusal, Section, SectionView,
-    Settings, Shape, WaitKind, append_layout, cells_are_of_sections, numbers_rise,
-    taken_is_in_time,
+    Body, Buffer, DueRow, MAX_PMUS, MergerSettings, OWN_BLOCK_LEN, Outcome, Output, Refusal,
+    Section, SectionView, Settings, Shape, WaitKind, append_layout, cells_are_of_sections,
+    numbers_rise, taken_is_in_time,
 };
 pub use sections::{count_for, differs, is_candidate, section_answer};
 pub use stamps::layout_answer;

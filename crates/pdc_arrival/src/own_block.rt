@@ -4,12 +4,10 @@ ghost use Rattle.std.specs.Cmp.Lexicographic.{pointwise};
 ghost use Rattle.pdc_life.specs.pdc_block.Block.{words_in, words_of};
 ghost use Rattle.pdc_life.specs.pdc_cfg.Shape.{word_count_of};
 ghost use Rattle.pdc_life.specs.pdc_output.Layout.{stamp_words};
+ghost use Rattle.pdc_life.specs.pdc_output.declared.row_frame.TheConstants.{OWN_BLOCK_LEN};
 
 use crate::arrival::Stamp;
-use pdc_life::{Block, Shape, bodies_are_their_words, read_body};
-
-/// The bytes of the own block, which stands first in data of a node.
-pub const OWN_BLOCK_LEN: usize = 14;
+use pdc_life::{Block, OWN_BLOCK_LEN, Shape, bodies_are_their_words, read_body};
 
 /// The shape of the own block: the stamp is its digital words.
 const OWN_SHAPE: Shape = Shape {

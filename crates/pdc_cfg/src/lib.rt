@@ -9,6 +9,7 @@
 mod config;
 mod fault;
 mod laws;
+mod limits;
 mod reading;
 mod section;
 mod section_reading;

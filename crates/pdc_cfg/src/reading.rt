@@ -4,12 +4,10 @@ ghost use Rattle.pdc_cfg.specs.Config.{ConfigFields, config_fields_of, IsConfigK
 
 use crate::config::{ConfigView, MAX_SECTIONS};
 use crate::fault::CfgFault;
+use crate::limits::FIXED_LEN;
 use crate::section_reading::read_sections;
 use arrayvec::ArrayVec;
 use pdc_frame::{Frame, Kind, parts_keep_their_words, read_long, read_word, words_are_their_bytes};
-
-/// TIME_BASE, NUM_PMU and DATA_RATE, which every configuration has.
-const FIXED_LEN: usize = 8;
 
 /// Where the fields of a configuration stand (C37.118.2-2011, table 8).
 const COUNT_PLACE: usize = 4;

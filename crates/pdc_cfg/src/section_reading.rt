@@ -6,13 +6,11 @@ ghost use Rattle.pdc_cfg.specs.Config.{Begins, IsBodyFault};
 
 use crate::config::MAX_SECTIONS;
 use crate::fault::CfgFault;
+use crate::limits::SECTION_FIXED_LEN;
 use crate::section::SectionView;
 use crate::shape::{MAX_ANALOGS, MAX_DIGITALS, MAX_PHASORS, Shape};
 use arrayvec::ArrayVec;
 use pdc_frame::{parts_keep_their_words, read_word};
-
-/// The fields of a section from STN to DGNMR, which every section has.
-const FIXED_LEN: usize = 26;
 
 /// Where the fields of a section stand from STN on (C37.118.2-2011, table 9).
 const SOURCE_PLACE: usize = 16;
@@ -27,7 +25,7 @@ const DIGITALS_PLACE: usize = 24;
 
 /// The numbers of channels, where they are within the limits.
 fn read_shape(bytes: &[u8]) -> Option<Shape>
-    requires { FIXED_LEN ≤ length bytes.now }
+    requires { SECTION_FIXED_LEN ≤ length bytes.now }
     ensures { MatchOption result (AreMany bytes.now)
         (λ s. (phasors_in bytes.now ≡ s.phasors) × (analogs_in bytes.now ≡ s.analogs) × (digitals_in bytes.now ≡ s.digitals)) }
 {
@@ -54,7 +52,7 @@ fn read_section(bytes: &[u8]) -> Result<SectionView<'_>, CfgFault>
     ensures fault { IfErr result (IsSectionFault bytes.now) }
 {
     parts_keep_their_words();
-    if bytes.len() < FIXED_LEN {
+    if bytes.len() < SECTION_FIXED_LEN {
         return Err(CfgFault::Cut);
     }
     let Some(shape) = read_shape(bytes) else {

@@ -6,15 +6,13 @@ ghost use Rattle.pdc_frame.specs.Frame.{spelling_of, IsFrame};
 ghost use Rattle.pdc_cfg.specs.Config.{IsConfigKind, IsConfig, config_fields_of, config_frame_of, payload_of};
 
 use crate::config::{ConfigView, MAX_SECTIONS};
+use crate::limits::FIXED_LEN;
 use crate::section::{MAX_SECTION_LEN, SectionView};
 use pdc_frame::{
     Buffer, Frame, Kind, MAX_ID, begin_frame, end_frame, frames_are_written_in_parts,
     parts_keep_their_words, words_are_their_bytes,
 };
 use std::alloc::AllocError;
-
-/// TIME_BASE, NUM_PMU and DATA_RATE.
-const FIXED_LEN: usize = 8;
 
 /// The bytes of the sections, one after the other.
 fn sections_len(sections: &[SectionView]) -> usize

@@ -4,7 +4,8 @@ use Rattle.clap.specs.declared.parser.matches.Found.{Found}
 use Rattle.clap.specs.Matches.{first_value}
 use Rattle.pdc_command_line.specs.Number.{IsNumber}
 use Rattle.pdc_command_line.specs.declared.request.MarkInit.{MarkInit}
-use Rattle.pdc_command_line.specs.declared.request.TheConstants.{MAX_ID, MAX_RATE}
+use Rattle.pdc_frame.specs.declared.limits.TheConstants.{MAX_ID}
+use Rattle.pdc_command_line.specs.declared.request.TheConstants.{MAX_RATE}
 
 -- the word of this name writes this number
 abbrev pub Writes : Found → List ℕ → ℕ → Type 0

@@ -18,6 +18,6 @@ mod words;
 
 pub use command::parse;
 pub use request::{
-    Listen, MAX_ID, MAX_PLACES, MAX_RATE, MarkConvert, MarkInit, Place, Play, Record, Request,
-    Running, ShowForm, Simulated,
+    Listen, MAX_PLACES, MAX_RATE, MarkConvert, MarkInit, Place, Play, Record, Request, Running,
+    ShowForm, Simulated,
 };

@@ -4,9 +4,10 @@ ghost use Rattle.clap.specs.Matches.{found_of};
 ghost use Rattle.pdc_command_line.specs.MarkInit.{AsksFor, HasWrongNumber, LacksWord};
 
 use crate::number::short_number;
-use crate::request::{MAX_ID, MAX_RATE, MarkInit};
+use crate::request::{MAX_RATE, MarkInit};
 use crate::words::{Form, Wanted, command_with, out_of_range};
 use clap::{ArgMatches, Command, Error};
+use pdc_frame::MAX_ID;
 use std::alloc::{AllocError, Global};
 
 const ABOUT: &str = "Make the mark file of a node or a merger";

@@ -1,11 +1,12 @@
 //! The command `pmu`.
 
 use crate::number::{number, short_number};
-use crate::request::{MAX_ID, MAX_PLACES, MAX_RATE, MAX_SECONDS, Place, Simulated};
+use crate::request::{MAX_PLACES, MAX_RATE, MAX_SECONDS, Place, Simulated};
 use crate::words::{Form, Wanted, command_with, out_of_range};
 use arrayvec::ArrayVec;
 use clap::error::ErrorKind;
 use clap::{ArgMatches, Command, Error};
+use pdc_frame::MAX_ID;
 use std::alloc::{AllocError, Global};
 
 const ABOUT: &str = "Simulate a PMU: send its configuration and data to UDP ports, or over TCP";

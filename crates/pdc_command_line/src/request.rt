@@ -1,11 +1,10 @@
 //! What is asked of the program.
 ghost use Rattle.std.specs.Prelude.{◌<◌, ◌≤◌};
-ghost use Rattle.pdc_command_line.specs.declared.request.TheConstants.{MAX_ID, MAX_RATE};
+ghost use Rattle.pdc_frame.specs.declared.limits.TheConstants.{MAX_ID};
+ghost use Rattle.pdc_command_line.specs.declared.request.TheConstants.{MAX_RATE};
 
 use arrayvec::ArrayVec;
-
-/// The greatest id of a stream.
-pub const MAX_ID: u16 = 65534;
+use pdc_frame::MAX_ID;
 
 /// The greatest data rate, in frames a second.
 pub const MAX_RATE: u16 = 240;

@@ -1,8 +1,8 @@
 //! How late the data of each stream comes.
 
-use crate::spread::{MAX_WAIT, Spread};
+use crate::spread::Spread;
 use pdc_align::Arrival;
-use pdc_life::{Outcome, Refusal};
+use pdc_life::{MAX_WAIT, Outcome, Refusal};
 use pdc_record::{Entry, What};
 use pdc_story::{About, Unexplained, time_of};
 use std::alloc::{AllocError, Global};

@@ -1,4 +1,6 @@
 //! How far delays are spread.
+
+use pdc_life::MAX_WAIT;
 use std::alloc::{AllocError, Global};
 
 /// How many nanoseconds are told apart: a tenth of a millisecond.
@@ -6,9 +8,6 @@ const STEP: u64 = 100_000;
 
 /// The longest delay that is told apart, in steps: ten seconds.
 const STEPS: u64 = 100_000;
-
-/// The longest wait that settings may have.
-pub const MAX_WAIT: u64 = 1000;
 
 /// The delays of one stream.
 #[derive(Drop)]

@@ -8,8 +8,8 @@ use Rattle.pdc_tag.specs.Nearest.{nearest_of}
 use Rattle.pdc_tag.specs.Tag.{tag_of}
 use Rattle.pdc_row.specs.RowView.{RowView}
 use Rattle.pdc_mark.specs.declared.stored.Stored.{Stored}
-use Rattle.pdc_life.specs.declared.given.WaitKind.{WaitKind}
-use Rattle.pdc_life.specs.declared.given.WaitKind.TheVariants.{Relative, Absolute}
+use Rattle.pdc_life.specs.declared.timing.WaitKind.{WaitKind}
+use Rattle.pdc_life.specs.declared.timing.WaitKind.TheVariants.{Relative, Absolute}
 use Rattle.pdc_life.specs.declared.outcome.Outcome.{Outcome}
 use Rattle.pdc_life.specs.declared.outcome.Outcome.TheVariants.{Taken, Candidate, Refused}
 use Rattle.pdc_life.specs.declared.outcome.Refusal.TheVariants.{StaleCount, Late}

@@ -4,7 +4,7 @@ use Rattle.std.proofs.Common.{ap, arith, get_or, inr}
 use Rattle.pdc_frame.specs.Frame.{Fields, IsFrame, spelling_of}
 use Rattle.pdc_frame.specs.declared.frame.Kind.TheVariants.{DataFrame}
 use Rattle.pdc_mark.specs.declared.stored.Stored.{Stored}
-use Rattle.pdc_life.specs.declared.given.WaitKind.TheVariants.{Relative}
+use Rattle.pdc_life.specs.declared.timing.WaitKind.TheVariants.{Relative}
 use Rattle.pdc_history.specs.Asked.{Foreign, IsFault, NoSuchFrame, OtherBody, Send, StartsUsedUp, Stop, StopAtStart, To}
 use Rattle.pdc_history.specs.Event as events
 use Rattle.pdc_history.specs.History.{MayHappen}

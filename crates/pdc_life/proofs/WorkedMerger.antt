@@ -9,8 +9,8 @@ use Rattle.pdc_output.specs.pdc_tag.Nearest.{nearest_of}
 use Rattle.pdc_output.specs.pdc_tag.Tag.{tag_of}
 use Rattle.pdc_output.specs.pdc_row.CellView.{BlockView}
 use Rattle.pdc_output.specs.pdc_row.RowView.{RowView}
-use Rattle.pdc_life.specs.declared.given.WaitKind.{WaitKind}
-use Rattle.pdc_life.specs.declared.given.WaitKind.TheVariants.{Relative, Absolute}
+use Rattle.pdc_life.specs.declared.timing.WaitKind.{WaitKind}
+use Rattle.pdc_life.specs.declared.timing.WaitKind.TheVariants.{Relative, Absolute}
 use Rattle.pdc_life.specs.declared.outcome.Outcome.TheVariants.{Taken, Candidate, Known, Refused}
 use Rattle.pdc_life.specs.declared.outcome.Refusal.TheVariants.{CountConflict, NoConfig, OldStamp, OtherStamp, WrongLength, Duplicate, Conflict}
 use Rattle.pdc_life.specs.Given.{Given}

@@ -4,7 +4,7 @@ use Rattle.pdc_output.specs.pdc_block.Block.{words_in}
 use Rattle.pdc_output.specs.pdc_row.CellView.{BlockView}
 use Rattle.pdc_output.specs.pdc_row.RowView.{RowView}
 use Rattle.std.proofs.Common.{arith}
-use Rattle.pdc_life.specs.declared.given.WaitKind.TheVariants.{Relative}
+use Rattle.pdc_life.specs.declared.timing.WaitKind.TheVariants.{Relative}
 use Rattle.pdc_life.specs.declared.outcome.Outcome.TheVariants.{Taken, Candidate, Refused}
 use Rattle.pdc_life.specs.declared.outcome.Refusal.TheVariants.{Late, NoConfig}
 use Rattle.pdc_life.specs.Given.{Given}

@@ -3,7 +3,7 @@ use Rattle.std.specs.Prelude.{◌≡◌, ℕ, ◌==◌, List, length, if◌then�
 use Rattle.std.specs.List.{range_with_len}
 use Rattle.pdc_output.specs.declared.output.Output.{Output}
 use Rattle.pdc_life.specs.declared.given.Settings.{Settings}
-use Rattle.pdc_life.specs.declared.given.WaitKind.{WaitKind}
+use Rattle.pdc_life.specs.declared.timing.WaitKind.{WaitKind}
 
 -- What does not change in a life, and what it begins with. Of settings a life needs no more than this: with one lane there is a
 -- stream for each column, with two there are two streams, and each brings cells for all columns.
@@ -42,10 +42,10 @@ count_for c counts = slice_index_or counts c 0
 abbrev pub given_of : Settings → (start floor : ℕ) → (counts : List ℕ) → (opening : ℕ) → Given
 given_of settings start floor counts opening = record {
   output = settings.output;
-  wait = settings.wait;
-  wait_kind = settings.wait_kind;
-  window = settings.window;
-  ahead = settings.ahead;
+  wait = settings.timing.wait;
+  wait_kind = settings.timing.wait_kind;
+  window = settings.timing.window;
+  ahead = settings.timing.ahead;
   columns = length settings.pmus.items;
   lanes = 1;
   start = start;

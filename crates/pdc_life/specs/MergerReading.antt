@@ -27,10 +27,10 @@ nodes_of settings = settings.first ∷ settings.second ∷ []
 abbrev pub given_of_merger : MergerSettings → (start floor : ℕ) → (counts : List ℕ) → (opening : ℕ) → Given
 given_of_merger settings start floor counts opening = record {
   output = settings.output;
-  wait = settings.wait;
-  wait_kind = settings.wait_kind;
-  window = settings.window;
-  ahead = settings.ahead;
+  wait = settings.timing.wait;
+  wait_kind = settings.timing.wait_kind;
+  window = settings.timing.window;
+  ahead = settings.timing.ahead;
   columns = length settings.sources.items;
   lanes = 2;
   start = start;

@@ -6,8 +6,8 @@ use Rattle.pdc_output.specs.pdc_row.CellView.{BlockView, CellView}
 use Rattle.pdc_output.specs.pdc_row.Chosen.{block_or_absent, first_of, present_of}
 use Rattle.pdc_output.specs.pdc_row.Quality.{quality_of, time_quality_of}
 use Rattle.pdc_output.specs.pdc_row.RowView.{RowView}
-use Rattle.pdc_life.specs.declared.given.WaitKind.{WaitKind}
-use Rattle.pdc_life.specs.declared.given.WaitKind.TheVariants.{Relative, Absolute}
+use Rattle.pdc_life.specs.declared.timing.WaitKind.{WaitKind}
+use Rattle.pdc_life.specs.declared.timing.WaitKind.TheVariants.{Relative, Absolute}
 use Rattle.pdc_life.specs.Given.{Given, columns_of, streams_of}
 use Rattle.pdc_life.specs.Life.{Entry, age_of, cell_of, changes, open_instants, section_in_force, take_of}
 

@@ -5,9 +5,9 @@ ghost use Rattle.pdc_output.specs.pdc_frame.declared.limits.TheConstants.{MAX_ID
 ghost use Rattle.pdc_output.specs.pdc_tag.declared.limits.TheConstants.{COUNT_LIMIT};
 ghost use Rattle.pdc_life.specs.Distinct.{are_distinct};
 ghost use Rattle.pdc_life.specs.declared.given.TheConstants.{MAX_PMUS};
-ghost use Rattle.pdc_life.specs.declared.limits.TheConstants.{MAX_AHEAD, MAX_WAIT, MAX_WINDOW, MIN_WINDOW};
 
-use crate::given::{MAX_PMUS, WaitKind};
+use crate::given::MAX_PMUS;
+use crate::timing::Timing;
 use arrayvec::ArrayVec;
 use pdc_output::Output;
 
@@ -28,14 +28,8 @@ pub struct MergedNode {
 pub struct MergerSettings {
     /// What the frames say that it publishes.
     pub output: Output,
-    /// How long an open instant waits, 1 to 1000 ticks or instants.
-    pub wait: u64,
-    /// What the wait is counted in.
-    pub wait_kind: WaitKind,
-    /// How far apart held instants may lie: less than this, 8 to 256 instants.
-    pub window: u64,
-    /// How far above the last tick's now an instant may lie, 0 to 1000 instants.
-    pub ahead: u64,
+    /// How long instants are held, and how far apart.
+    pub timing: Timing,
     /// Node A, whose stream is 0.
     pub first: MergedNode,
     /// Node B, whose stream is 1.
@@ -43,11 +37,6 @@ pub struct MergerSettings {
     /// The ids of the PMUs' sources, 1 to 65534 each, in the order of the columns: 1 to 16. No two are the same, nor are the
     /// nodes' ids, and none is a node's or the merger's own.
     pub sources: ArrayVec<u16, MAX_PMUS>,
-    pub ghost wait_low: { 1 ≤ wait },
-    pub ghost wait_high: { wait ≤ MAX_WAIT },
-    pub ghost window_low: { MIN_WINDOW ≤ window },
-    pub ghost window_high: { window ≤ MAX_WINDOW },
-    pub ghost ahead_high: { ahead ≤ MAX_AHEAD },
     pub ghost first_base: { output.rate ≤ first.time_base },
     pub ghost second_base: { output.rate ≤ second.time_base },
     pub ghost some: { 0 < length sources.items },

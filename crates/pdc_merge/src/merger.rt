@@ -62,10 +62,10 @@ fn plan_of(settings: &MergerSettings) -> Plan
     ensures lanes { result.lanes ≡ 2 }
 {
     Plan {
-        wait: settings.wait,
-        wait_kind: settings.wait_kind,
-        window: settings.window,
-        ahead: settings.ahead,
+        wait: settings.timing.wait,
+        wait_kind: settings.timing.wait_kind,
+        window: settings.timing.window,
+        ahead: settings.timing.ahead,
         columns: settings.sources.len(),
         lanes: LANES,
     }

@@ -20,10 +20,10 @@ pub fn copy_of_merger(settings: &MergerSettings) -> MergerSettings
         .unwrap();
     MergerSettings {
         output: settings.output,
-        wait: settings.wait,
-        wait_kind: settings.wait_kind,
-        window: settings.window,
-        ahead: settings.ahead,
+        wait: settings.timing.wait,
+        wait_kind: settings.timing.wait_kind,
+        window: settings.timing.window,
+        ahead: settings.timing.ahead,
         first: settings.first,
         second: settings.second,
         sources,

@@ -57,10 +57,10 @@ fn plan_of(settings: &Settings) -> Plan
     ensures lanes { result.lanes ≡ 1 }
 {
     Plan {
-        wait: settings.wait,
-        wait_kind: settings.wait_kind,
-        window: settings.window,
-        ahead: settings.ahead,
+        wait: settings.timing.wait,
+        wait_kind: settings.timing.wait_kind,
+        window: settings.timing.window,
+        ahead: settings.timing.ahead,
         columns: settings.pmus.len(),
         lanes: 1,
     }

@@ -19,10 +19,10 @@ pub fn copy_of(settings: &Settings) -> Settings
         .unwrap();
     Settings {
         output: settings.output,
-        wait: settings.wait,
-        wait_kind: settings.wait_kind,
-        window: settings.window,
-        ahead: settings.ahead,
+        wait: settings.timing.wait,
+        wait_kind: settings.timing.wait_kind,
+        window: settings.timing.window,
+        ahead: settings.timing.ahead,
         pmus,
     }
 }

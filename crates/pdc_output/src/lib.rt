@@ -16,13 +16,14 @@ mod section;
 mod stamp;
 
 pub use laws::{layouts_are_frames, own_sections_tell_stamps, rows_are_frames};
-pub use layout_frame::{MAX_SECTIONS, append_layout};
+pub use layout_frame::{MAX_PMU_SECTIONS, append_layout};
 pub use output::{Nominal, Output};
 pub use pdc_row::{
-    Block, Body, Buffer, CfgFault, ConfigView, DueRow, Frame, FrameFault, Kind, Section,
-    SectionView, Shape, bodies_are_their_words, configurations_are_read_in_one_way,
-    frames_are_read_in_one_way, numbers_rise, read_body, read_config, read_frame, read_word,
+    Block, Body, Buffer, CfgFault, ConfigView, DueRow, Frame, FrameFault, Kind, MAX_WINDOW,
+    MIN_WINDOW, Section, SectionView, Shape, bodies_are_their_words,
+    configurations_are_read_in_one_way, frames_are_read_in_one_way, numbers_rise, read_body,
+    read_config, read_frame, read_word,
 };
 pub use pdc_tag::{instant, instant_is_nearest};
-pub use row_frame::{MAX_ROW_LEN, append_row};
+pub use row_frame::{MAX_ROW_LEN, OWN_BLOCK_LEN, append_row};
 pub use section::own_section;

@@ -16,7 +16,7 @@ use pdc_tag::tag_of;
 use std::alloc::AllocError;
 
 /// The bytes of the own block: STAT, FREQ, DFREQ and four digital words.
-const OWN_BLOCK_LEN: usize = 14;
+pub const OWN_BLOCK_LEN: usize = 14;
 
 /// The most bytes of the payload: the own block, and 16 blocks of the most channels.
 const LONGEST_PAYLOAD: usize = 3438;

@@ -25,10 +25,10 @@ pub fn given_to_node(settings: &Settings, opening: &Opening) -> Given
 {
     Given {
         output: settings.output,
-        wait: settings.wait,
-        wait_kind: settings.wait_kind,
-        window: settings.window,
-        ahead: settings.ahead,
+        wait: settings.timing.wait,
+        wait_kind: settings.timing.wait_kind,
+        window: settings.timing.window,
+        ahead: settings.timing.ahead,
         columns: settings.pmus.len(),
         lanes: 1,
         start: opening.start,
@@ -44,10 +44,10 @@ pub fn given_to_merger(settings: &MergerSettings, opening: &Opening) -> Given
 {
     Given {
         output: settings.output,
-        wait: settings.wait,
-        wait_kind: settings.wait_kind,
-        window: settings.window,
-        ahead: settings.ahead,
+        wait: settings.timing.wait,
+        wait_kind: settings.timing.wait_kind,
+        window: settings.timing.window,
+        ahead: settings.timing.ahead,
         columns: settings.sources.len(),
         lanes: 2,
         start: opening.start,

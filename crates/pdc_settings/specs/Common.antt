@@ -7,14 +7,15 @@ use Rattle.pdc_tag.specs.declared.limits.TheConstants.{MAX_RATE}
 use Rattle.pdc_output.specs.declared.output.Nominal.{Nominal}
 use Rattle.pdc_output.specs.declared.output.Nominal.TheVariants.{Hz50, Hz60}
 use Rattle.pdc_output.specs.declared.output.Output.{Output}
-use Rattle.pdc_life.specs.declared.given.WaitKind.{WaitKind}
-use Rattle.pdc_life.specs.declared.given.WaitKind.TheVariants.{Relative, Absolute}
-use Rattle.pdc_life.specs.declared.limits.TheConstants.{MAX_AHEAD, MAX_WAIT, MAX_WINDOW, MIN_WINDOW}
+use Rattle.pdc_life.specs.declared.timing.WaitKind.{WaitKind}
+use Rattle.pdc_life.specs.declared.timing.WaitKind.TheVariants.{Relative, Absolute}
+use Rattle.pdc_life.specs.declared.limits.TheConstants.{MAX_AHEAD, MAX_WAIT}
+use Rattle.pdc_life.specs.pdc_row.declared.limits.TheConstants.{MAX_WINDOW, MIN_WINDOW}
 use Rattle.pdc_publisher.specs.declared.publisher.TheConstants.{MAX_LEAD}
 use Rattle.pdc_settings.specs.Keys.{number_at, number_or}
 use Rattle.pdc_settings.specs.declared.limits.TheConstants.{MAX_PORT, MAX_TIME_BASE}
 use Rattle.pdc_settings.specs.declared.service.Service.{Service}
-use Rattle.pdc_settings.specs.declared.timing.Timing.{Timing}
+use Rattle.pdc_life.specs.declared.timing.Timing.{Timing}
 
 abbrev pub id_in : Members → Option ℕ
 id_in = number_at (codes "id") 1 MAX_ID

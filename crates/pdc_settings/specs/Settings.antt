@@ -3,10 +3,8 @@ use Rattle.std.specs.Prelude.{◌≡◌, ℕ, Bool, ◌&&◌, not, List, ◌∷�
 use Rattle.toml.specs.Data.{Members}
 use Rattle.toml.specs.Parse.{parse_document}
 use Rattle.pdc_life.specs.Distinct.{are_distinct}
-use Rattle.pdc_settings.specs.Common.{IsOutput, IsService, IsTiming, has_common, id_in, rate_in, wait_kind_in}
-use Rattle.pdc_life.specs.declared.limits.TheConstants.{MAX_AHEAD, MAX_WAIT, MAX_WINDOW, MIN_WINDOW}
+use Rattle.pdc_settings.specs.Common.{IsOutput, IsService, IsTiming, has_common, id_in, rate_in}
 use Rattle.pdc_settings.specs.Entries.{NodeFields, PmuFields, first_node_in, first_port_in, node_fields, pmu_fields, pmus_in, ports_in, second_node_in, second_port_in, sources_in}
-use Rattle.pdc_settings.specs.Keys.{number_at}
 use Rattle.pdc_settings.specs.declared.fault.SettingsFault.{SettingsFault}
 use Rattle.pdc_settings.specs.declared.fault.SettingsFault.TheVariants.{Toml, Range, DoubledId, NoMemory}
 use Rattle.pdc_settings.specs.declared.merger.MergerSettings.{MergerSettings}
@@ -24,10 +22,7 @@ pub record IsCommon (members : Members) (common : Common) : Type 0 where
 pub record IsNodeSettings (members : Members) (settings : NodeSettings) : Type 0 where
   pub kind : is_merger members ≡ false
   pub output : IsOutput members settings.life.output
-  pub wait : number_at (codes "wait") 1 MAX_WAIT members ≡ Some settings.life.wait
-  pub wait_kind : wait_kind_in members ≡ Some settings.life.wait_kind
-  pub window : number_at (codes "window") MIN_WINDOW MAX_WINDOW members ≡ Some settings.life.window
-  pub ahead : number_at (codes "ahead") 0 MAX_AHEAD members ≡ Some settings.life.ahead
+  pub timing : IsTiming members settings.life.timing
   pub service : IsService members settings.service
   pub pmus : pmus_in settings.life.output.rate members ≡ Some (map pmu_fields settings.life.pmus.items)
   pub ports : ports_in members ≡ Some settings.ports.items
@@ -36,10 +31,7 @@ pub record IsNodeSettings (members : Members) (settings : NodeSettings) : Type 0
 pub record IsMergerSettings (members : Members) (settings : MergerSettings) : Type 0 where
   pub kind : is_merger members ≡ true
   pub output : IsOutput members settings.life.output
-  pub wait : number_at (codes "wait") 1 MAX_WAIT members ≡ Some settings.life.wait
-  pub wait_kind : wait_kind_in members ≡ Some settings.life.wait_kind
-  pub window : number_at (codes "window") MIN_WINDOW MAX_WINDOW members ≡ Some settings.life.window
-  pub ahead : number_at (codes "ahead") 0 MAX_AHEAD members ≡ Some settings.life.ahead
+  pub timing : IsTiming members settings.life.timing
   pub service : IsService members settings.service
   pub first : first_node_in settings.life.output.rate members ≡ Some (node_fields settings.life.first)
   pub second : second_node_in settings.life.output.rate members ≡ Some (node_fields settings.life.second)

@@ -24,7 +24,6 @@ mod read_network;
 mod read_node;
 mod service;
 mod texts;
-mod timing;
 mod unread;
 mod wanted;
 

@@ -18,11 +18,10 @@ use crate::fault::SettingsFault;
 use crate::keys::{number, values_at};
 use crate::merger::MergerSettings;
 use crate::read_node::pmu_tables;
-use crate::timing::Timing;
 use crate::wanted::Wanted;
 use arrayvec::ArrayVec;
 use pdc_frame::MAX_ID;
-use pdc_life::{MAX_PMUS, MergedNode};
+use pdc_life::{MAX_PMUS, MergedNode, Timing};
 use pdc_output::Output;
 use std::alloc::Global;
 use toml::{Table, Value};
@@ -173,10 +172,7 @@ fn life_of(
     requires second_base { output.rate ≤ second.time_base }
     ensures doubled { result ≡ None → are_merger_ids output.id first.id second.id sources.items ≡ false }
     ensures output { IfSome result (λ life. life.output ≡ output) }
-    ensures wait { IfSome result (λ life. life.wait ≡ timing.wait) }
-    ensures wait_kind { IfSome result (λ life. life.wait_kind ≡ timing.wait_kind) }
-    ensures window { IfSome result (λ life. life.window ≡ timing.window) }
-    ensures ahead { IfSome result (λ life. life.ahead ≡ timing.ahead) }
+    ensures timing { IfSome result (λ life. life.timing ≡ timing) }
     ensures first { IfSome result (λ life. life.first ≡ first) }
     ensures second { IfSome result (λ life. life.second ≡ second) }
     ensures sources { IfSome result (λ life. life.sources ≡ sources) }
@@ -186,10 +182,7 @@ fn life_of(
     }
     Some(pdc_life::MergerSettings {
         output,
-        wait: timing.wait,
-        wait_kind: timing.wait_kind,
-        window: timing.window,
-        ahead: timing.ahead,
+        timing,
         first,
         second,
         sources,

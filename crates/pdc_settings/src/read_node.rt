@@ -17,10 +17,9 @@ use crate::entries::{port_of, read_pmu};
 use crate::fault::SettingsFault;
 use crate::keys::values_at;
 use crate::node::NodeSettings;
-use crate::timing::Timing;
 use crate::wanted::Wanted;
 use arrayvec::ArrayVec;
-use pdc_life::{MAX_PMUS, Pmu, Settings};
+use pdc_life::{MAX_PMUS, Pmu, Settings, Timing};
 use pdc_output::Output;
 use std::alloc::Global;
 use toml::{Table, Value};
@@ -129,10 +128,7 @@ fn life_of(output: Output, timing: Timing, pmus: ArrayVec<Pmu, MAX_PMUS>) -> Opt
     requires bases { IsTrue (list_all (λ (pmu : PmuData). nat_le output.rate pmu.time_base) pmus.items) }
     ensures doubled { result ≡ None → are_node_ids output.id (map (λ (pmu : PmuData). pmu.stream) pmus.items) (map (λ (pmu : PmuData). pmu.source) pmus.items) ≡ false }
     ensures output { IfSome result (λ life. life.output ≡ output) }
-    ensures wait { IfSome result (λ life. life.wait ≡ timing.wait) }
-    ensures wait_kind { IfSome result (λ life. life.wait_kind ≡ timing.wait_kind) }
-    ensures window { IfSome result (λ life. life.window ≡ timing.window) }
-    ensures ahead { IfSome result (λ life. life.ahead ≡ timing.ahead) }
+    ensures timing { IfSome result (λ life. life.timing ≡ timing) }
     ensures pmus { IfSome result (λ life. life.pmus ≡ pmus) }
     ensures len { IfSome result (λ life. length life.pmus.items ≡ length pmus.items) }
 {
@@ -141,10 +137,7 @@ fn life_of(output: Output, timing: Timing, pmus: ArrayVec<Pmu, MAX_PMUS>) -> Opt
     }
     Some(Settings {
         output,
-        wait: timing.wait,
-        wait_kind: timing.wait_kind,
-        window: timing.window,
-        ahead: timing.ahead,
+        timing,
         pmus,
     })
 }

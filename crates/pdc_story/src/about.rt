@@ -113,16 +113,16 @@ impl About {
     /// How long an open instant waits.
     pub fn wait(&self) -> u64 {
         match &self.lived {
-            Lived::Node(settings) => settings.wait,
-            Lived::Merger(settings) => settings.wait,
+            Lived::Node(settings) => settings.timing.wait,
+            Lived::Merger(settings) => settings.timing.wait,
         }
     }
 
     /// Whether the wait is counted in ticks after the first data, not in instants up to now.
     pub fn is_relative(&self) -> bool {
         let kind = match &self.lived {
-            Lived::Node(settings) => settings.wait_kind,
-            Lived::Merger(settings) => settings.wait_kind,
+            Lived::Node(settings) => settings.timing.wait_kind,
+            Lived::Merger(settings) => settings.timing.wait_kind,
         };
         kind == WaitKind::Relative
     }

@@ -9,12 +9,9 @@ use crate::wanted::Wanted;
 use arrayvec::ArrayVec;
 use pdc_align::{Arrival, ColumnSection};
 use pdc_cfg::{read_config, read_frame};
-use pdc_life::{MAX_PMUS, Outcome};
+use pdc_life::{MAX_PMUS, OWN_BLOCK_LEN, Outcome};
 use pdc_record::Begun;
 use std::alloc::{AllocError, Global};
-
-/// The bytes of a concentrator's own block, which stands before those of PMUs.
-const OWN_BLOCK_LEN: usize = 14;
 
 /// The sections of a node's layout, in their order.
 type Layout = ArrayVec<Held, MAX_PMUS>;

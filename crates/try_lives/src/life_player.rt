@@ -16,14 +16,14 @@
 //! none of these is answered `no such call`.
 
 use pdc_arrival::NODES;
-use pdc_life::{MAX_PMUS, MergerSettings, Settings, WaitKind};
+use pdc_life::{MAX_PMUS, MergerSettings, Settings};
 use pdc_plain::{Life, Opening, live_merger, live_node};
 use pdc_plain_steps::{Answered, LifeStep, are_for_streams};
 use pdc_row::DueRow;
 use std::alloc::{AllocError, Global};
 use try_script::{
-    Frames, LifeCall, Player, counts_text, frame_text, life_call, node, row_text, told_merger,
-    told_node,
+    Frames, LifeCall, PLAIN_TIMING, Player, counts_text, frame_text, life_call, node, row_text,
+    told_merger, told_node,
 };
 
 /// The first life, with these counts.
@@ -89,7 +89,7 @@ impl<'a> LifePlayer<'a> {
     /// The life of a node of two PMUs, without steps.
     pub fn new(alloc: Global, frames: &'a Frames) -> LifePlayer<'a> {
         LifePlayer {
-            concentrator: Concentrator::Node(node(64, 2, WaitKind::Relative, false)),
+            concentrator: Concentrator::Node(node(PLAIN_TIMING, false)),
             opening: first_opening([0; MAX_PMUS]),
             steps: Vec::new(alloc),
             frames,

@@ -13,10 +13,9 @@
 
 use crate::told::{NO_CALL, done};
 use pdc_frame::MAX_SIZE;
-use pdc_life::WaitKind;
 use pdc_sent::Sent;
 use std::alloc::{AllocError, Global};
-use try_script::{Frames, Player, node};
+use try_script::{Frames, PLAIN_TIMING, Player, node};
 
 /// The bytes of a frame, if there is one.
 fn bytes_text(alloc: Global, bytes: Option<&[u8]>) -> Result<String, AllocError> {
@@ -41,7 +40,7 @@ impl<'a> SentPlayer<'a> {
     /// [`AllocError`] where there is no room and none is got.
     pub fn new(alloc: Global, frames: &'a Frames) -> Result<SentPlayer<'a>, AllocError> {
         Ok(SentPlayer {
-            sent: Sent::new(alloc, node(64, 2, WaitKind::Relative, false))?,
+            sent: Sent::new(alloc, node(PLAIN_TIMING, false))?,
             frames,
         })
     }

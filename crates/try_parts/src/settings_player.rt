@@ -10,7 +10,7 @@
 //!
 //! What is none of these, or where OLD is not found, is answered `no such call`.
 
-use pdc_life::{MergedNode, Pmu, WaitKind};
+use pdc_life::{MergedNode, Pmu, Timing};
 use pdc_output::Output;
 use pdc_settings::{
     Input, MergerSettings, Network, NodeSettings, Service, SettingsFault, is_of_merger,
@@ -80,14 +80,11 @@ fn output_text(alloc: Global, output: &Output) -> Result<String, AllocError> {
 }
 
 /// How instants are aligned.
-fn timing_text(
-    alloc: Global,
-    wait: u64,
-    kind: WaitKind,
-    window: u64,
-    ahead: u64,
-) -> Result<String, AllocError> {
-    format!(in alloc; "{wait} {kind:?} {window} {ahead}")
+fn timing_text(alloc: Global, timing: &Timing) -> Result<String, AllocError> {
+    format!(in alloc;
+        "{} {:?} {} {}",
+        timing.wait, timing.wait_kind, timing.window, timing.ahead
+    )
 }
 
 /// How it runs.
@@ -118,7 +115,7 @@ fn pmu_text(alloc: Global, pmu: &Pmu, port: u16) -> Result<String, AllocError> {
 /// What a node is told.
 fn node_text(alloc: Global, settings: &NodeSettings) -> Result<String, AllocError> {
     let life = &settings.life;
-    let timing = timing_text(alloc, life.wait, life.wait_kind, life.window, life.ahead)?;
+    let timing = timing_text(alloc, &life.timing)?;
     let mut text = common_text(alloc, &life.output, &timing, &settings.service)?;
     for (pmu, port) in life.pmus.iter().zip(settings.ports.iter()) {
         text.push_str(&pmu_text(alloc, pmu, *port)?)?;
@@ -134,7 +131,7 @@ fn merged_text(alloc: Global, node: &MergedNode, port: u16) -> Result<String, Al
 /// What the merger is told.
 fn merger_text(alloc: Global, settings: &MergerSettings) -> Result<String, AllocError> {
     let life = &settings.life;
-    let timing = timing_text(alloc, life.wait, life.wait_kind, life.window, life.ahead)?;
+    let timing = timing_text(alloc, &life.timing)?;
     let common = common_text(alloc, &life.output, &timing, &settings.service)?;
     let first = merged_text(alloc, &life.first, settings.first_port)?;
     let second = merged_text(alloc, &life.second, settings.second_port)?;

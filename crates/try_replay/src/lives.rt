@@ -102,9 +102,9 @@ impl<T: Table> Lives for Node<T> {
         let mut text = head(
             alloc,
             id,
-            settings.window,
-            settings.wait,
-            settings.wait_kind,
+            settings.timing.window,
+            settings.timing.wait,
+            settings.timing.wait_kind,
         )?;
         for each in settings.pmus.as_slice() {
             let table = pmu(alloc, each.stream)?;
@@ -142,9 +142,9 @@ impl<T: Table> Lives for Merger<T> {
         let mut text = head(
             alloc,
             id,
-            settings.window,
-            settings.wait,
-            settings.wait_kind,
+            settings.timing.window,
+            settings.timing.wait,
+            settings.timing.wait_kind,
         )?;
         text.push_str(SOURCES)?;
         Ok(Some(Beginning {

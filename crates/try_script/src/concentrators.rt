@@ -3,11 +3,22 @@ ghost use Rattle.std.specs.Prelude.{◌≡◌, ◌+◌, ◌≤◌, if◌then◌e
 
 use crate::words::{counts_of, numbers};
 use arrayvec::ArrayVec;
-use pdc_life::{MAX_PMUS, MergedNode, MergerSettings, Pmu, Settings, WaitKind};
+use pdc_life::{
+    MAX_PMUS, MAX_WAIT, MAX_WINDOW, MIN_WINDOW, MergedNode, MergerSettings, Pmu, Settings, Timing,
+    WaitKind,
+};
 use pdc_output::{Nominal, Output};
 
 /// How far above now an instant may lie.
 const AHEAD: u64 = 32;
+
+/// Instants are held for two ticks, in a window of 64.
+pub const PLAIN_TIMING: Timing = Timing {
+    wait: 2,
+    wait_kind: WaitKind::Relative,
+    window: 64,
+    ahead: AHEAD,
+};
 
 const PMU_11: Pmu = Pmu {
     stream: 11,
@@ -37,13 +48,8 @@ const NODE_202: MergedNode = MergedNode {
     time_base: 1_000_000,
 };
 
-/// Node 201 of the PMUs 11 and 12, or 11 to 13: 50 frames a second, this window and wait.
-pub fn node(window: u64, wait: u64, wait_kind: WaitKind, has_third: bool) -> Settings
-    requires window_low { 8 ≤ window }
-    requires window_high { window ≤ 256 }
-    requires wait_low { 1 ≤ wait }
-    requires wait_high { wait ≤ 1000 }
-{
+/// Node 201 of the PMUs 11 and 12, or 11 to 13: 50 frames a second, held like this.
+pub fn node(timing: Timing, has_third: bool) -> Settings {
     let mut pmus = ArrayVec::new();
     pmus.push(PMU_11);
     pmus.push(PMU_12);
@@ -57,21 +63,13 @@ pub fn node(window: u64, wait: u64, wait_kind: WaitKind, has_third: bool) -> Set
             nominal: Nominal::Hz50,
             time_base: 1_000_000,
         },
-        wait,
-        wait_kind,
-        window,
-        ahead: AHEAD,
+        timing,
         pmus,
     }
 }
 
-/// Merger 301 of the nodes 201 and 202 and the sources 11 and 12: 50 frames a second, this window and wait.
-pub fn merger(window: u64, wait: u64, wait_kind: WaitKind) -> MergerSettings
-    requires window_low { 8 ≤ window }
-    requires window_high { window ≤ 256 }
-    requires wait_low { 1 ≤ wait }
-    requires wait_high { wait ≤ 1000 }
-{
+/// Merger 301 of the nodes 201 and 202 and the sources 11 and 12: 50 frames a second, held like this.
+pub fn merger(timing: Timing) -> MergerSettings {
     let mut sources = ArrayVec::new();
     sources.push(11);
     sources.push(12);
@@ -82,10 +80,7 @@ pub fn merger(window: u64, wait: u64, wait_kind: WaitKind) -> MergerSettings
             nominal: Nominal::Hz50,
             time_base: 1_000_000,
         },
-        wait,
-        wait_kind,
-        window,
-        ahead: AHEAD,
+        timing,
         first: NODE_201,
         second: NODE_202,
         sources,
@@ -99,17 +94,6 @@ pub struct Told<S: Drop> {
     pub settings: S,
     /// For each column the count below which no section is held.
     pub counts: [u16; MAX_PMUS],
-}
-
-/// How long a concentrator waits.
-#[derive(Clone, Copy)]
-struct Sizes {
-    window: u64,
-    wait: u64,
-    ghost window_low: { 8 ≤ window },
-    ghost window_high: { window ≤ 256 },
-    ghost wait_low: { 1 ≤ wait },
-    ghost wait_high: { wait ≤ 1000 },
 }
 
 /// The kind of wait that the words say, and the words behind it.
@@ -129,13 +113,18 @@ fn opening_counts(words: &[&str]) -> Option<[u16; MAX_PMUS]> {
     }
 }
 
-/// What the words `WINDOW WAIT` say, where it is in range.
-fn read_sizes(words: &[&str]) -> Option<Sizes> {
+/// How long instants are held, as the words `WINDOW WAIT` say it, where they are in range.
+fn read_timing(words: &[&str], wait_kind: WaitKind) -> Option<Timing> {
     let [window, wait] = numbers::<2>(words)?;
-    if window < 8 || window > 256 || wait < 1 || wait > 1000 {
+    if window < MIN_WINDOW || window > MAX_WINDOW || wait < 1 || wait > MAX_WAIT {
         return None;
     }
-    Some(Sizes { window, wait })
+    Some(Timing {
+        wait,
+        wait_kind,
+        window,
+        ahead: AHEAD,
+    })
 }
 
 /// What the words `WINDOW WAIT PMUS [absolute] [counts COUNT ..]` tell node 201.
@@ -143,11 +132,11 @@ pub fn told_node(words: &[&str]) -> Option<Told<Settings>> {
     let [window, wait, pmus, more @ ..] = words else {
         return None;
     };
-    let sizes = read_sizes(&[*window, *wait])?;
     let (wait_kind, more) = wait_kind(more);
+    let timing = read_timing(&[*window, *wait], wait_kind)?;
     let counts = opening_counts(more)?;
     Some(Told {
-        settings: node(sizes.window, sizes.wait, wait_kind, *pmus == "3"),
+        settings: node(timing, *pmus == "3"),
         counts,
     })
 }
@@ -157,11 +146,11 @@ pub fn told_merger(words: &[&str]) -> Option<Told<MergerSettings>> {
     let [window, wait, more @ ..] = words else {
         return None;
     };
-    let sizes = read_sizes(&[*window, *wait])?;
     let (wait_kind, more) = wait_kind(more);
+    let timing = read_timing(&[*window, *wait], wait_kind)?;
     let counts = opening_counts(more)?;
     Some(Told {
-        settings: merger(sizes.window, sizes.wait, wait_kind),
+        settings: merger(timing),
         counts,
     })
 }

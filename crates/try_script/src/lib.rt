@@ -11,7 +11,7 @@ mod texts;
 mod words;
 
 pub use calls::{LifeCall, life_call};
-pub use concentrators::{Told, merger, node, told_merger, told_node};
+pub use concentrators::{PLAIN_TIMING, Told, merger, node, told_merger, told_node};
 pub use frames::Frames;
 pub use script::{Played, Player, play_script};
 pub use stage::{Stage, play_all};

@@ -4,7 +4,7 @@ ghost use Rattle.std.specs.Prelude.{◌≡◌, IfOk, length};
 use super::same::is;
 use arrayvec::ArrayVec;
 use pdc_frame::FrameFault;
-use pdc_life::{MAX_PMUS, Outcome, Pmu, Refusal, Settings, WaitKind};
+use pdc_life::{MAX_PMUS, Outcome, Pmu, Refusal, Settings, Timing, WaitKind};
 use pdc_node::{Core, Node};
 use pdc_output::{Nominal, Output};
 use pdc_table::{RingTable, Table};
@@ -32,10 +32,12 @@ fn settings() -> Settings
     });
     Settings {
         output: OUTPUT,
-        wait: 2,
-        wait_kind: WaitKind::Relative,
-        window: 8,
-        ahead: 32,
+        timing: Timing {
+            wait: 2,
+            wait_kind: WaitKind::Relative,
+            window: 8,
+            ahead: 32,
+        },
         pmus,
     }
 }

@@ -90,12 +90,15 @@ impl Read for FailsAfter<'_> {
     }
 }
 
-/// Gives one LF at each read, without end.
+/// Gives one LF at each read, without end. It counts its reads.
 #[derive(Drop)]
-struct Endless;
+struct Endless {
+    reads: u32,
+}
 
 impl Read for Endless {
     fn read(&mut self, buf: &mut [u8]) -> io::Result<usize> {
+        self.reads = self.reads.saturating_add(1);
         if buf.is_empty() {
             return Ok(0);
         }
@@ -165,8 +168,10 @@ fn a_reader_that_fails(rt: HostRuntime) {
 #[test]
 fn an_input_without_end(rt: HostRuntime) {
     let mut written = Vec::new(rt.alloc());
-    let outcome = run_script(rt.alloc(), &mut Answers, &mut Endless, &mut written);
+    let mut reader = Endless { reads: 0 };
+    let outcome = run_script(rt.alloc(), &mut Answers, &mut reader, &mut written);
     is!(&rt; matches!(outcome, Err(PlayFault::TooLong)), true);
+    is!(&rt; reader.reads, 1_000_000);
 }
 
 #[test]

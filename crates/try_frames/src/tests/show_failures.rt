@@ -41,12 +41,15 @@ impl Read for FailsAfter<'_> {
     }
 }
 
-/// Gives one space at each read, without end.
+/// Gives one space at each read, without end. It counts its reads.
 #[derive(Drop)]
-struct Endless;
+struct Endless {
+    reads: u32,
+}
 
 impl Read for Endless {
     fn read(&mut self, buf: &mut [u8]) -> io::Result<usize> {
+        self.reads = self.reads.saturating_add(1);
         if buf.is_empty() {
             return Ok(0);
         }
@@ -98,8 +101,10 @@ fn a_reader_that_fails(rt: HostRuntime) -> Result<(), Fail> {
 #[test]
 fn an_input_without_end(rt: HostRuntime) -> Result<(), Fail> {
     let mut printed = Vec::new(rt.alloc());
-    let outcome = run_show(rt.alloc(), &mut Endless, &mut printed);
+    let mut reader = Endless { reads: 0 };
+    let outcome = run_show(rt.alloc(), &mut reader, &mut printed);
     is!(&rt; matches!(outcome, Err(ShowFault::TooLong)), true);
+    is!(&rt; reader.reads, 1_000_000);
     is!(&rt; printed.len(), 0);
     Ok(())
 }

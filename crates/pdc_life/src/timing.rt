@@ -1,12 +1,20 @@
 //! How long instants are held.
 ghost use Rattle.std.specs.Prelude.{◌≤◌};
-ghost use Rattle.pdc_life.specs.declared.limits.TheConstants.{MAX_AHEAD, MAX_WAIT, MAX_WINDOW, MIN_WINDOW};
+ghost use Rattle.pdc_output.specs.pdc_row.declared.limits.TheConstants.{MAX_WINDOW, MIN_WINDOW};
+ghost use Rattle.pdc_life.specs.declared.limits.TheConstants.{MAX_AHEAD, MAX_WAIT};
 
-use pdc_life::WaitKind;
+/// What the wait of an open instant is counted in.
+#[derive(Clone, Copy, Debug, PartialEq, Eq)]
+pub enum WaitKind {
+    /// Ticks since its first take.
+    Relative,
+    /// Instants, up to the tick's now.
+    Absolute,
+}
 
-/// How long instants are held, and how far apart.
+/// How long instants are held, and how far apart (this profile).
 #[derive(Clone, Copy, Debug)]
-pub(crate) struct Timing {
+pub struct Timing {
     /// How long an open instant waits, 1 to 1000 ticks or instants.
     pub wait: u64,
     /// What the wait is counted in.
