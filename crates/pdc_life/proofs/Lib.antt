@@ -2,6 +2,7 @@ pub mod Adoption
 pub mod Closing
 pub mod Come
 pub mod Exact
+pub mod ExactRows
 pub mod Frames
 pub mod Genuine
 pub mod Held
@@ -24,6 +25,7 @@ pub mod Worked
 pub mod WorkedExact
 pub mod WorkedMerger
 pub mod WorkedOrder
+pub mod Worst
 pub use Rattle.pdc_output.proofs as pdc_output
 pub use Rattle.pdc_output.proofs.pdc_tag
 pub use Rattle.pdc_output.proofs.pdc_row
