@@ -1,6 +1,6 @@
 //! What became of a stream's data for an instant, and why a block is absent.
 
-use crate::texts::{write_at, write_ordinal, write_wait};
+use crate::texts::{print_at, print_ordinal, print_wait};
 use pdc_life::{Outcome, Refusal};
 use pdc_story::{About, Arrived, Came, Cell, Story, time_of, write_span};
 use std::io;
@@ -96,7 +96,7 @@ pub fn fate_of(story: &Story, stream: usize, column: usize) -> Fate {
 }
 
 /// That it came too late.
-fn write_late<W: Write>(writer: &mut W, about: &About, story: &Story, time: u64) -> io::Result<()> {
+fn print_late<W: Write>(writer: &mut W, about: &About, story: &Story, time: u64) -> io::Result<()> {
     match (story.opened, story.closed) {
         (Some(opened), Some(closed)) => {
             write!(writer, "its data came ")?;
@@ -104,11 +104,11 @@ fn write_late<W: Write>(writer: &mut W, about: &About, story: &Story, time: u64)
             write!(writer, " after the first, ")?;
             write_span(writer, closed.time, time)?;
             write!(writer, " after the row had closed (")?;
-            write_wait(writer, about)?;
+            print_wait(writer, about)?;
             write!(writer, "): {}", Refusal::Late.text())
         }
         _ => {
-            write_at(writer, "its data came at ", time)?;
+            print_at(writer, "its data came at ", time)?;
             write!(
                 writer,
                 ", when a later instant had closed: {}",
@@ -119,7 +119,7 @@ fn write_late<W: Write>(writer: &mut W, about: &About, story: &Story, time: u64)
 }
 
 /// That nothing came.
-fn write_nothing<W: Write>(
+fn print_nothing<W: Write>(
     writer: &mut W,
     about: &About,
     story: &Story,
@@ -132,22 +132,22 @@ fn write_nothing<W: Write>(
     };
     match before {
         Some((instant, time)) if instant.saturating_add(1) == story.instant => {
-            write_at(writer, "; the instant before came at ", time)
+            print_at(writer, "; the instant before came at ", time)
         }
         Some((instant, time)) => {
-            write_at(
+            print_at(
                 writer,
                 "; the last before it, that of ",
                 time_of(instant, about.rate()),
             )?;
-            write_at(writer, ", came at ", time)
+            print_at(writer, ", came at ", time)
         }
         None => write!(writer, ", and none before it"),
     }
 }
 
 /// When its configuration was adopted.
-fn write_adopted<W: Write>(writer: &mut W, count: u16, tick: Option<u64>) -> io::Result<()> {
+fn print_adopted<W: Write>(writer: &mut W, count: u16, tick: Option<u64>) -> io::Result<()> {
     write!(
         writer,
         "its configuration under count {count} was taken, and "
@@ -156,7 +156,7 @@ fn write_adopted<W: Write>(writer: &mut W, count: u16, tick: Option<u64>) -> io:
         Some(number) if number < 2 => write!(writer, "adopted only at the next tick"),
         Some(number) => {
             write!(writer, "adopted only at the ")?;
-            write_ordinal(writer, number)?;
+            print_ordinal(writer, number)?;
             write!(writer, " tick after its data")
         }
         None => write!(writer, "not adopted as long as it is recorded"),
@@ -180,7 +180,7 @@ fn time_of_data(came: Option<&Came>) -> u64 {
 /// # Errors
 ///
 /// What the writer answers.
-pub fn write_fate<W: Write>(
+pub fn print_fate<W: Write>(
     writer: &mut W,
     about: &About,
     story: &Story,
@@ -190,10 +190,10 @@ pub fn write_fate<W: Write>(
     let came = story.of_stream(stream);
     let time = time_of_data(came);
     match fate {
-        Fate::Nothing => return write_nothing(writer, about, story, came),
-        Fate::Late => return write_late(writer, about, story, time),
-        Fate::NotAdopted { count, tick } => return write_adopted(writer, count, tick),
-        _ => write_at(writer, "its data came at ", time)?,
+        Fate::Nothing => return print_nothing(writer, about, story, came),
+        Fate::Late => return print_late(writer, about, story, time),
+        Fate::NotAdopted { count, tick } => return print_adopted(writer, count, tick),
+        _ => print_at(writer, "its data came at ", time)?,
     }
     match fate {
         Fate::SentAbsent => write!(writer, " with the words of an absent block"),
@@ -223,7 +223,7 @@ pub fn write_fate<W: Write>(
 /// # Errors
 ///
 /// What the writer answers.
-pub fn write_kind<W: Write>(writer: &mut W, fate: Fate) -> io::Result<()> {
+pub fn print_kind<W: Write>(writer: &mut W, fate: Fate) -> io::Result<()> {
     let text = match fate {
         Fate::Present => "shown",
         Fate::SentAbsent => "sent absent",

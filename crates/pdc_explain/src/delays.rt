@@ -148,7 +148,7 @@ impl Delays {
 }
 
 /// A delay in tenths of a millisecond, in a column.
-fn write_tenths<W: Write>(writer: &mut W, tenths: u64) -> io::Result<()> {
+fn print_tenths<W: Write>(writer: &mut W, tenths: u64) -> io::Result<()> {
     write!(writer, " {:>7}.{}", tenths / 10, tenths % 10)
 }
 
@@ -164,9 +164,9 @@ fn tell_spread<W: Write>(writer: &mut W, name: &str, id: u16, spread: &Spread) -
         return writeln!(writer);
     }
     for thousandths in [100, 500, 900, 990, 999] {
-        write_tenths(writer, spread.tenths(thousandths))?;
+        print_tenths(writer, spread.tenths(thousandths))?;
     }
-    write_tenths(writer, spread.greatest / 100_000)?;
+    print_tenths(writer, spread.greatest / 100_000)?;
     match spread.wait() {
         Some(wait) => writeln!(writer, " {wait:>6}"),
         None => writeln!(writer, "   none"),

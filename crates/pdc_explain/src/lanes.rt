@@ -1,7 +1,7 @@
 //! At the merger: which node's block a column shows, and why.
 
-use crate::cause::{Fate, fate_of, write_fate, write_kind};
-use crate::texts::{node_letter, write_at, write_node};
+use crate::cause::{Fate, fate_of, print_fate, print_kind};
+use crate::texts::{node_letter, print_at, print_node};
 use pdc_story::{About, Came, Story};
 use std::io;
 use std::io::Write;
@@ -22,7 +22,7 @@ fn are_same(first: &Came, second: &Came, column: usize, story: &Story) -> bool {
 }
 
 /// What became of the block of the node that is not shown.
-fn write_other<W: Write>(
+fn print_other<W: Write>(
     writer: &mut W,
     about: &About,
     story: &Story,
@@ -30,9 +30,9 @@ fn write_other<W: Write>(
     column: usize,
 ) -> io::Result<()> {
     let fate = fate_of(story, stream, column);
-    write_node(writer, about, stream)?;
+    print_node(writer, about, stream)?;
     write!(writer, ": ")?;
-    write_fate(writer, about, story, stream, fate)?;
+    print_fate(writer, about, story, stream, fate)?;
     match (fate, story.came.as_slice()) {
         (Fate::Present, [first, second]) if are_same(first, second, column, story) => {
             write!(writer, ", and was equal")
@@ -47,7 +47,7 @@ fn write_other<W: Write>(
 /// # Errors
 ///
 /// What the writer answers.
-pub fn write_lanes<W: Write>(
+pub fn print_lanes<W: Write>(
     writer: &mut W,
     about: &About,
     story: &Story,
@@ -55,15 +55,15 @@ pub fn write_lanes<W: Write>(
 ) -> io::Result<()> {
     let Some(stream) = chosen(story, column) else {
         write!(writer, "absent: ")?;
-        write_other(writer, about, story, 0, column)?;
+        print_other(writer, about, story, 0, column)?;
         write!(writer, "; ")?;
-        return write_other(writer, about, story, 1, column);
+        return print_other(writer, about, story, 1, column);
     };
     write!(writer, "shown: of ")?;
-    write_node(writer, about, stream)?;
+    print_node(writer, about, stream)?;
     if let Some(came) = story.of_stream(stream) {
         if let Some(taken) = came.taken {
-            write_at(writer, ", whose data came at ", taken.time)?;
+            print_at(writer, ", whose data came at ", taken.time)?;
         }
     }
     let other = if stream == 0 { 1 } else { 0 };
@@ -71,7 +71,7 @@ pub fn write_lanes<W: Write>(
         write!(writer, " and goes before node B's")?;
     }
     write!(writer, "; ")?;
-    write_other(writer, about, story, other, column)
+    print_other(writer, about, story, other, column)
 }
 
 /// Writes the kinds of the causes of both nodes.
@@ -79,13 +79,13 @@ pub fn write_lanes<W: Write>(
 /// # Errors
 ///
 /// What the writer answers.
-pub fn write_lane_kinds<W: Write>(writer: &mut W, story: &Story, column: usize) -> io::Result<()> {
+pub fn print_lane_kinds<W: Write>(writer: &mut W, story: &Story, column: usize) -> io::Result<()> {
     for stream in 0..2 {
         if stream > 0 {
             write!(writer, ", ")?;
         }
         write!(writer, "node {}: ", node_letter(stream))?;
-        write_kind(writer, fate_of(story, stream, column))?;
+        print_kind(writer, fate_of(story, stream, column))?;
     }
     Ok(())
 }

@@ -1,6 +1,6 @@
 //! What became of a row, in words.
 
-use crate::texts::{node_letter, write_at, write_ordinal, write_wait};
+use crate::texts::{node_letter, print_at, print_ordinal, print_wait};
 use pdc_life::MAX_PMUS;
 use pdc_story::{About, Arrived, Closed, Opened, Story};
 use std::io;
@@ -10,12 +10,12 @@ use std::io::Write;
 type Streams = [bool; MAX_PMUS];
 
 /// The ids of these streams, joined by commas.
-fn write_streams<W: Write>(writer: &mut W, about: &About, streams: &Streams) -> io::Result<()> {
+fn print_streams<W: Write>(writer: &mut W, about: &About, streams: &Streams) -> io::Result<()> {
     let mut separator = "";
     for stream in 0..about.streams() {
         if streams.get(stream).copied().unwrap_or(false) {
             write!(writer, "{separator}")?;
-            write_stream(writer, about, stream)?;
+            print_stream(writer, about, stream)?;
             separator = ", ";
         }
     }
@@ -23,7 +23,7 @@ fn write_streams<W: Write>(writer: &mut W, about: &About, streams: &Streams) -> 
 }
 
 /// The id of a stream, and which node it is.
-fn write_stream<W: Write>(writer: &mut W, about: &About, stream: usize) -> io::Result<()> {
+fn print_stream<W: Write>(writer: &mut W, about: &About, stream: usize) -> io::Result<()> {
     if about.is_merger() {
         write!(
             writer,
@@ -82,7 +82,7 @@ fn waited_for(about: &About, story: &Story, closed: Closed) -> (Streams, usize, 
 }
 
 /// What a row waited for.
-fn write_waited<W: Write>(
+fn print_waited<W: Write>(
     writer: &mut W,
     about: &About,
     story: &Story,
@@ -92,32 +92,32 @@ fn write_waited<W: Write>(
     let (missing, last_stream, last) = waited_for(about, story, closed);
     if missing.contains(&true) {
         write!(writer, "; it waited for ")?;
-        write_streams(writer, about, &missing)?;
+        print_streams(writer, about, &missing)?;
         return Ok(());
     }
     if last_stream == opened.stream {
         return Ok(());
     }
     write!(writer, "; it waited for ")?;
-    write_stream(writer, about, last_stream)?;
-    write_at(writer, ", which came last, at ", last)
+    print_stream(writer, about, last_stream)?;
+    print_at(writer, ", which came last, at ", last)
 }
 
 /// At which tick a row closed.
-fn write_closed<W: Write>(
+fn print_closed<W: Write>(
     writer: &mut W,
     about: &About,
     opened: Option<Opened>,
     closed: Closed,
 ) -> io::Result<()> {
-    write_at(writer, "; it closed at ", closed.time)?;
+    print_at(writer, "; it closed at ", closed.time)?;
     if let Some(opened) = opened {
         write!(writer, ", at the ")?;
-        write_ordinal(writer, closed.ticks.saturating_sub(opened.ticks))?;
+        print_ordinal(writer, closed.ticks.saturating_sub(opened.ticks))?;
         write!(writer, " tick after it opened")?;
     }
     write!(writer, " (now {}, ", closed.now)?;
-    write_wait(writer, about)?;
+    print_wait(writer, about)?;
     write!(writer, ")")
 }
 
@@ -135,26 +135,26 @@ pub fn tell_row<W: Write>(
     write!(writer, "the row ")?;
     match (story.opened, story.popped) {
         (Some(opened), _) => {
-            write_at(writer, "opened at ", opened.time)?;
+            print_at(writer, "opened at ", opened.time)?;
             write!(writer, " with ")?;
-            write_stream(writer, about, opened.stream)?;
+            print_stream(writer, about, opened.stream)?;
         }
         (None, Some(_)) => write!(writer, "opened before the record begins")?,
         (None, None) => return writeln!(writer, "did not open: nothing was taken for this instant"),
     }
     let Some(popped) = story.popped else {
-        write_at(writer, "; it had not closed when the record ends, at ", end)?;
+        print_at(writer, "; it had not closed when the record ends, at ", end)?;
         return writeln!(writer);
     };
     if let Some(closed) = story.closed {
         if let Some(opened) = story.opened {
-            write_waited(writer, about, story, opened, closed)?;
+            print_waited(writer, about, story, opened, closed)?;
         }
-        write_closed(writer, about, story.opened, closed)?;
+        print_closed(writer, about, story.opened, closed)?;
     }
     match story.payload {
-        Some(_) => write_at(writer, "; its frame went out at ", popped)?,
-        None => write_at(
+        Some(_) => print_at(writer, "; its frame went out at ", popped)?,
+        None => print_at(
             writer,
             "; no frame of it was published, it was popped at ",
             popped,

@@ -1,7 +1,7 @@
 //! How often each cause was.
 
-use crate::cause::{fate_of, write_kind};
-use crate::lanes::write_lane_kinds;
+use crate::cause::{fate_of, print_kind};
+use crate::lanes::print_lane_kinds;
 use crate::telling::is_absent;
 use pdc_story::{About, Story};
 use std::alloc::Global;
@@ -65,9 +65,9 @@ impl Tally {
                 let mut text = Vec::new(self.alloc);
                 write!(text, "{} ", about.column_id(column))?;
                 if about.is_merger() {
-                    write_lane_kinds(&mut text, story, column)?;
+                    print_lane_kinds(&mut text, story, column)?;
                 } else {
-                    write_kind(&mut text, fate_of(story, column, column))?;
+                    print_kind(&mut text, fate_of(story, column, column))?;
                 }
                 self.count(text)?;
                 is_any = true;

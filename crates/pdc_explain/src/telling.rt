@@ -1,9 +1,9 @@
 //! The story of an instant, in lines.
 
-use crate::cause::{Fate, fate_of, write_fate};
-use crate::lanes::{chosen, write_lanes};
+use crate::cause::{Fate, fate_of, print_fate};
+use crate::lanes::{chosen, print_lanes};
 use crate::row_lines::tell_row;
-use crate::texts::{write_at, write_number, write_ordinal};
+use crate::texts::{print_at, print_number, print_ordinal};
 use pdc_life::{Outcome, Refusal};
 use pdc_story::{About, Came, Cell, Story, time_of, write_time};
 use std::io;
@@ -53,15 +53,15 @@ fn outcome_words(outcome: Option<Outcome>) -> (&'static str, &'static str) {
 }
 
 /// The place of the arrival that was taken among all of its stream, and what became of the others.
-fn write_place<W: Write>(writer: &mut W, came: &Came) -> io::Result<()> {
+fn print_place<W: Write>(writer: &mut W, came: &Came) -> io::Result<()> {
     let mut place: u64 = 0;
     for arrived in came.arrivals.as_slice() {
         place = place.saturating_add(1);
         if arrived.outcome == Some(Outcome::Taken) {
             write!(writer, ", the ")?;
-            write_ordinal(writer, place)?;
+            print_ordinal(writer, place)?;
             write!(writer, " of ")?;
-            write_number(writer, u64::from(came.count))?;
+            print_number(writer, u64::from(came.count))?;
         }
     }
     place = 0;
@@ -70,7 +70,7 @@ fn write_place<W: Write>(writer: &mut W, came: &Came) -> io::Result<()> {
         if arrived.outcome != Some(Outcome::Taken) {
             let (word, text) = outcome_words(arrived.outcome);
             write!(writer, ", the ")?;
-            write_ordinal(writer, place)?;
+            print_ordinal(writer, place)?;
             write!(writer, " {word} ({text})")?;
         }
     }
@@ -78,7 +78,7 @@ fn write_place<W: Write>(writer: &mut W, came: &Came) -> io::Result<()> {
 }
 
 /// Why a column of a node's row is there, or is not.
-fn write_column<W: Write>(
+fn print_column<W: Write>(
     writer: &mut W,
     about: &About,
     story: &Story,
@@ -87,19 +87,19 @@ fn write_column<W: Write>(
     let fate = fate_of(story, column, column);
     let (Fate::Present, Some(came)) = (fate, story.of_stream(column)) else {
         write!(writer, "absent: ")?;
-        return write_fate(writer, about, story, column, fate);
+        return print_fate(writer, about, story, column, fate);
     };
     if let Some(taken) = came.taken {
-        write_at(writer, "shown: came at ", taken.time)?;
+        print_at(writer, "shown: came at ", taken.time)?;
     }
     if came.count > 1 {
-        write_place(writer, came)?;
+        print_place(writer, came)?;
     }
     Ok(())
 }
 
 /// What the frame that was published says otherwise than the answers.
-fn write_disagreement<W: Write>(
+fn print_disagreement<W: Write>(
     writer: &mut W,
     about: &About,
     story: &Story,
@@ -119,7 +119,7 @@ fn write_disagreement<W: Write>(
 }
 
 /// Writes what became of a column.
-fn write_story_of<W: Write>(
+fn print_story_of<W: Write>(
     writer: &mut W,
     about: &About,
     story: &Story,
@@ -127,15 +127,15 @@ fn write_story_of<W: Write>(
 ) -> io::Result<()> {
     write!(writer, "{} ", about.column_id(column))?;
     if about.is_merger() {
-        write_lanes(writer, about, story, column)?;
+        print_lanes(writer, about, story, column)?;
     } else {
-        write_column(writer, about, story, column)?;
+        print_column(writer, about, story, column)?;
     }
-    write_disagreement(writer, about, story, column)
+    print_disagreement(writer, about, story, column)
 }
 
 /// The instant with its time.
-fn write_instant<W: Write>(writer: &mut W, about: &About, story: &Story) -> io::Result<()> {
+fn print_instant<W: Write>(writer: &mut W, about: &About, story: &Story) -> io::Result<()> {
     write!(writer, "{} ", story.instant)?;
     write_time(writer, time_of(story.instant, about.rate()))
 }
@@ -151,11 +151,11 @@ pub fn tell_story<W: Write>(
     story: &Story,
     end: u64,
 ) -> io::Result<()> {
-    write_instant(writer, about, story)?;
+    print_instant(writer, about, story)?;
     let role = if about.is_merger() { "merger" } else { "node" };
     writeln!(writer, " at {role} {}", about.id())?;
     for column in 0..about.columns() {
-        write_story_of(writer, about, story, column)?;
+        print_story_of(writer, about, story, column)?;
         writeln!(writer)?;
     }
     tell_row(writer, about, story, end)
@@ -175,10 +175,10 @@ pub fn tell_absent<W: Write>(writer: &mut W, about: &About, story: &Story) -> io
     for column in 0..about.columns() {
         if is_absent(about, story, column) {
             if !is_any {
-                write_instant(writer, about, story)?;
+                print_instant(writer, about, story)?;
             }
             write!(writer, "{separator}")?;
-            write_story_of(writer, about, story, column)?;
+            print_story_of(writer, about, story, column)?;
             separator = "; ";
             is_any = true;
         }

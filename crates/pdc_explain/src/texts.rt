@@ -30,7 +30,7 @@ fn word_of(words: &[&'static str], number: u64) -> Option<&'static str> {
 }
 
 /// `first`, `second`, and from six on `6th`.
-pub(crate) fn write_ordinal<W: Write>(writer: &mut W, number: u64) -> io::Result<()> {
+pub(crate) fn print_ordinal<W: Write>(writer: &mut W, number: u64) -> io::Result<()> {
     match word_of(&ORDINALS, number) {
         Some(word) => write!(writer, "{word}"),
         None => write!(writer, "{number}{}", ending(number)),
@@ -38,7 +38,7 @@ pub(crate) fn write_ordinal<W: Write>(writer: &mut W, number: u64) -> io::Result
 }
 
 /// `two`, and from six on `6`.
-pub(crate) fn write_number<W: Write>(writer: &mut W, number: u64) -> io::Result<()> {
+pub(crate) fn print_number<W: Write>(writer: &mut W, number: u64) -> io::Result<()> {
     match word_of(&NUMBERS, number) {
         Some(word) => write!(writer, "{word}"),
         None => write!(writer, "{number}"),
@@ -46,7 +46,7 @@ pub(crate) fn write_number<W: Write>(writer: &mut W, number: u64) -> io::Result<
 }
 
 /// `wait 2 ticks`, or of an absolute wait `wait 2 instants`.
-pub(crate) fn write_wait<W: Write>(writer: &mut W, about: &About) -> io::Result<()> {
+pub(crate) fn print_wait<W: Write>(writer: &mut W, about: &About) -> io::Result<()> {
     let wait = about.wait();
     let (one, more) = if about.is_relative() {
         ("tick", "ticks")
@@ -58,7 +58,7 @@ pub(crate) fn write_wait<W: Write>(writer: &mut W, about: &About) -> io::Result<
 }
 
 /// `node A (201)`.
-pub(crate) fn write_node<W: Write>(writer: &mut W, about: &About, stream: usize) -> io::Result<()> {
+pub(crate) fn print_node<W: Write>(writer: &mut W, about: &About, stream: usize) -> io::Result<()> {
     let id = about.stream_id(stream);
     write!(writer, "node {} ({id})", node_letter(stream))
 }
@@ -69,7 +69,7 @@ pub(crate) fn node_letter(stream: usize) -> &'static str {
 }
 
 /// A text and a time.
-pub(crate) fn write_at<W: Write>(writer: &mut W, text: &str, time: u64) -> io::Result<()> {
+pub(crate) fn print_at<W: Write>(writer: &mut W, text: &str, time: u64) -> io::Result<()> {
     write!(writer, "{text}")?;
     write_time(writer, time)
 }

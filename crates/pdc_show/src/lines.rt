@@ -9,7 +9,7 @@ use std::io;
 use std::io::Write;
 
 /// Words joined by commas.
-fn write_signed<W: Write>(writer: &mut W, words: &[u16]) -> io::Result<()> {
+fn print_signed<W: Write>(writer: &mut W, words: &[u16]) -> io::Result<()> {
     let mut separator = "";
     for word in words {
         write!(writer, "{separator}{}", word.cast_signed())?;
@@ -19,7 +19,7 @@ fn write_signed<W: Write>(writer: &mut W, words: &[u16]) -> io::Result<()> {
 }
 
 /// Words in hexadecimal, joined by commas.
-fn write_hex<W: Write>(writer: &mut W, words: &[u16]) -> io::Result<()> {
+fn print_hex<W: Write>(writer: &mut W, words: &[u16]) -> io::Result<()> {
     let mut separator = "";
     for word in words {
         write!(writer, "{separator}{word:04X}")?;
@@ -29,7 +29,7 @@ fn write_hex<W: Write>(writer: &mut W, words: &[u16]) -> io::Result<()> {
 }
 
 /// Phasors joined by semicolons: `re,im`, or `magnitude@angle` where they are polar.
-fn write_phasors<W: Write>(writer: &mut W, words: &[u16], polar: bool) -> io::Result<()> {
+fn print_phasors<W: Write>(writer: &mut W, words: &[u16], polar: bool) -> io::Result<()> {
     for k in 0..words.len() / 2 {
         if k > 0 {
             write!(writer, ";")?;
@@ -45,7 +45,7 @@ fn write_phasors<W: Write>(writer: &mut W, words: &[u16], polar: bool) -> io::Re
 }
 
 /// The line of one PMU's block.
-fn write_block<W: Write>(writer: &mut W, section: &HeldSection, block: &Block) -> io::Result<()> {
+fn print_block<W: Write>(writer: &mut W, section: &HeldSection, block: &Block) -> io::Result<()> {
     let words = block.words();
     let freq = 1 + 2 * usize::from(block.shape.phasors);
     let analogs = freq + 2;
@@ -55,12 +55,12 @@ fn write_block<W: Write>(writer: &mut W, section: &HeldSection, block: &Block) -
         "pmu {} stat={:04X} phasors=[",
         section.source, words[0]
     )?;
-    write_phasors(writer, &words[1..freq], section.polar)?;
+    print_phasors(writer, &words[1..freq], section.polar)?;
     write!(writer, "] freq={}", words[freq].cast_signed())?;
     write!(writer, " dfreq={} analogs=[", words[freq + 1].cast_signed())?;
-    write_signed(writer, &words[analogs..digitals])?;
+    print_signed(writer, &words[analogs..digitals])?;
     write!(writer, "] digitals=[")?;
-    write_hex(writer, &words[digitals..])?;
+    print_hex(writer, &words[digitals..])?;
     writeln!(writer, "]")
 }
 
@@ -69,7 +69,7 @@ fn write_block<W: Write>(writer: &mut W, section: &HeldSection, block: &Block) -
 /// # Errors
 ///
 /// What the writer answers.
-pub fn write_data<W: Write>(
+pub fn print_data<W: Write>(
     writer: &mut W,
     frame: &Frame,
     held: &Held,
@@ -85,7 +85,7 @@ pub fn write_data<W: Write>(
         None => writeln!(writer, " instant=none")?,
     }
     for (section, block) in held.sections.as_slice().iter().zip(blocks) {
-        write_block(writer, section, block)?;
+        print_block(writer, section, block)?;
     }
     Ok(())
 }
@@ -95,7 +95,7 @@ pub fn write_data<W: Write>(
 /// # Errors
 ///
 /// What the writer answers.
-pub fn write_header<W: Write>(writer: &mut W, id: u16, text: &[u8]) -> io::Result<()> {
+pub fn print_header<W: Write>(writer: &mut W, id: u16, text: &[u8]) -> io::Result<()> {
     writeln!(writer, "header id={id} bytes={}", text.len())
 }
 
@@ -104,7 +104,7 @@ pub fn write_header<W: Write>(writer: &mut W, id: u16, text: &[u8]) -> io::Resul
 /// # Errors
 ///
 /// What the writer answers.
-pub fn write_command<W: Write>(writer: &mut W, id: u16, command: Command) -> io::Result<()> {
+pub fn print_command<W: Write>(writer: &mut W, id: u16, command: Command) -> io::Result<()> {
     writeln!(writer, "command id={id} cmd={}", command as u16)
 }
 
@@ -113,7 +113,7 @@ pub fn write_command<W: Write>(writer: &mut W, id: u16, command: Command) -> io:
 /// # Errors
 ///
 /// What the writer answers.
-pub fn write_config<W: Write>(
+pub fn print_config<W: Write>(
     writer: &mut W,
     name: &str,
     id: u16,

@@ -2,7 +2,7 @@
 
 use crate::held::Held;
 use crate::line::Line;
-use crate::lines::{write_command, write_config, write_data, write_header};
+use crate::lines::{print_command, print_config, print_data, print_header};
 use crate::refusal::NotShown;
 use hex::FromHexError;
 use pdc_block::cut;
@@ -91,7 +91,7 @@ impl<A: Allocator + Copy> Show<A> {
                 frame.payload,
             ) {
                 Ok(blocks) => {
-                    return write_data(writer, frame, held, blocks.as_slice()).map_err(
+                    return print_data(writer, frame, held, blocks.as_slice()).map_err(
                         ShowFault::Write,
                     );
                 }
@@ -114,13 +114,13 @@ impl<A: Allocator + Copy> Show<A> {
         } else {
             "cfg1"
         };
-        write_config(writer, name, frame.id, &config).map_err(ShowFault::Write)
+        print_config(writer, name, frame.id, &config).map_err(ShowFault::Write)
     }
 
     /// Prints the line of a command frame.
     fn show_command<W: Write>(&mut self, frame: &Frame, writer: &mut W) -> Result<(), ShowFault> {
         match read_command(frame) {
-            Ok(command) => write_command(writer, frame.id, command).map_err(ShowFault::Write),
+            Ok(command) => print_command(writer, frame.id, command).map_err(ShowFault::Write),
             Err(fault) => self.refuse(NotShown::Command(fault), writer),
         }
     }
@@ -128,7 +128,7 @@ impl<A: Allocator + Copy> Show<A> {
     /// Prints the line of a header frame.
     fn show_header<W: Write>(&mut self, frame: &Frame, writer: &mut W) -> Result<(), ShowFault> {
         match read_header(frame) {
-            Ok(text) => write_header(writer, frame.id, text).map_err(ShowFault::Write),
+            Ok(text) => print_header(writer, frame.id, text).map_err(ShowFault::Write),
             Err(fault) => self.refuse(NotShown::Command(fault), writer),
         }
     }
