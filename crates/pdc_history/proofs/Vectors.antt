@@ -6,6 +6,7 @@ use Rattle.pdc_cfg.specs.Section.{SectionFields}
 use Rattle.pdc_output.specs.declared.output.Output.{Output}
 use Rattle.pdc_output.specs.declared.output.Nominal.TheVariants.{Hz50}
 use Rattle.pdc_life.specs.declared.given.Settings.{Settings}
+use Rattle.pdc_life.specs.declared.timing.Timing.{Timing}
 use Rattle.pdc_life.specs.declared.timing.WaitKind.{WaitKind}
 use Rattle.pdc_life.specs.declared.timing.WaitKind.TheVariants.{Relative}
 use Rattle.pdc_life.specs.declared.merging.MergedNode.{MergedNode}
@@ -45,20 +46,26 @@ output id in_range = record {
   time_base_high = omega arith;
 }
 
--- nodes 201 and 202: wait 2, window 64, ahead 32
-abbrev pub node : (kind : WaitKind) → (id : ℕ) → (0 < id) × (id ≤ 65534) → are_distinct (id ∷ 11 ∷ 12 ∷ []) ≡ true → Settings
-node kind id in_range distinct = record {
-  output = output id in_range;
+-- wait 2, window 64, ahead 32
+abbrev pub timing : WaitKind → Timing
+timing kind = record {
   wait = 2;
   wait_kind = kind;
   window = 64;
   ahead = 32;
-  pmus = record { items = pmu_11 ∷ pmu_12 ∷ [] };
   wait_low = omega arith;
   wait_high = omega arith;
   window_low = omega arith;
   window_high = omega arith;
   ahead_high = omega arith;
+}
+
+-- nodes 201 and 202
+abbrev pub node : (kind : WaitKind) → (id : ℕ) → (0 < id) × (id ≤ 65534) → are_distinct (id ∷ 11 ∷ 12 ∷ []) ≡ true → Settings
+node kind id in_range distinct = record {
+  output = output id in_range;
+  timing = timing kind;
+  pmus = record { items = pmu_11 ∷ pmu_12 ∷ [] };
   some = omega arith;
   few = omega arith;
   bases = refl;
@@ -73,18 +80,10 @@ merged_node id in_range = record { id = id; time_base = 1000000; id_low = in_ran
 abbrev pub merger : MergerSettings
 merger = record {
   output = output 301 (omega arith, omega arith);
-  wait = 2;
-  wait_kind = Relative;
-  window = 64;
-  ahead = 32;
+  timing = timing Relative;
   first = merged_node 201 (omega arith, omega arith);
   second = merged_node 202 (omega arith, omega arith);
   sources = record { items = 11 ∷ 12 ∷ [] };
-  wait_low = omega arith;
-  wait_high = omega arith;
-  window_low = omega arith;
-  window_high = omega arith;
-  ahead_high = omega arith;
   first_base = omega arith;
   second_base = omega arith;
   some = omega arith;
