@@ -32,10 +32,10 @@ pub use laws::{
     ages_are_ticks, blocks_stand_in_their_columns, cells_are_first_puts, instants_open_where_taken,
     rows_close_where_due, rows_come_out_rising,
 };
-pub use limits::{MAX_COLUMNS, MAX_LANES, MAX_WINDOW, MIN_WINDOW};
+pub use limits::{MAX_COLUMNS, MAX_LANES};
 pub use open_row::{OpenRow, Places};
 pub use outcome::PutOutcome;
-pub use pdc_row::DueRow;
+pub use pdc_row::{DueRow, MAX_WINDOW, MIN_WINDOW};
 pub use ring_table::RingTable;
 pub use row_layout::RowLayout;
 pub use spare::spare_row;
