@@ -1,8 +1,8 @@
-//! The alignment of a concentrator.
-ghost use Rattle.std.specs.Prelude.{◌≡◌, ◌<◌, ◌-◌, ◌^◌, [], ◌∷◌, ℕ, List, IfOk, IfSome, Option, false, length, map, option_map};
+//! The alignment of a concentrator: what it keeps, what is looked up in it, and its steps, each said of what it keeps. What they mean for a
+//! life stands in `life_calls.rt`.
+ghost use Rattle.std.specs.Prelude.{◌≡◌, ◌<◌, ◌-◌, ◌^◌, ℕ, List, IfOk, IfSome, false, length, map, option_map};
 ghost use Rattle.std.specs.List.{All, list_any};
 ghost use Rattle.pdc_arrival.specs.pdc_cfg.Section.{fields_of_view};
-ghost use Rattle.pdc_arrival.specs.pdc_output.declared.output.Output.{Output};
 ghost use Rattle.pdc_arrival.specs.pdc_row.RowView.{RowView, row_view};
 ghost use Rattle.pdc_table.specs.Content.{IsContent, IsPut};
 ghost use Rattle.pdc_table.specs.KeptRow.{popped_into};
@@ -12,21 +12,15 @@ ghost use Rattle.pdc_table.specs.Taking.{body_cells_of};
 ghost use Rattle.pdc_arrival.specs.Views.{section_part};
 ghost use Rattle.pdc_arrival.specs.declared.arrival.ColumnSection.{ColumnSection as ColumnSectionData};
 ghost use Rattle.pdc_align.specs.Follows.{told_by};
-ghost use Rattle.pdc_arrival.specs.pdc_life.Answer.{bare, outcome_in_time, pop_answer, tick_answer, waiting_counts, with_cells};
-ghost use Rattle.pdc_arrival.specs.pdc_life.Arrival.{Data, Layout, Stamp};
 ghost use Rattle.pdc_arrival.specs.pdc_life.Given.{Given};
-ghost use Rattle.pdc_arrival.specs.pdc_life.Life.{Arrive, Entry, Pop, Tick, changes, held_section, section_in_force};
-ghost use Rattle.pdc_arrival.specs.pdc_life.Run.{IsRun};
-ghost use Rattle.pdc_arrival.specs.pdc_life.declared.outcome.Outcome.TheVariants.{Candidate};
-ghost use Rattle.pdc_align.specs.State.{row_layout_of, rule_of, shape_in};
-ghost use Rattle.pdc_align.specs.Align.{HasSizes, KeepsSizes, StandsFor, given_by, new_change, ticked_of};
+ghost use Rattle.pdc_arrival.specs.pdc_life.Life.{Entry, changes, held_section, section_in_force};
+ghost use Rattle.pdc_align.specs.State.{rule_of, shape_in};
+ghost use Rattle.pdc_align.specs.Align.{KeepsSizes, StandsFor, new_change};
 ghost use Rattle.pdc_align.specs.Popped.{popped_after};
 ghost use Rattle.pdc_align.specs.Slot.{count_in};
 ghost use Rattle.pdc_align.specs.Calls.{after_data, after_adopting, disagreements_at, after_closing, after_tick_of, column_in, told_at, after_hold, after_pop_of, first_content, first_of_plan, is_ready_in, put_outcome, row_layout_in, waiting_in};
 
 use crate::adopting::adopt_in;
-use crate::closing_laws::{rows_are_those, tick_is_tick};
-use crate::state_laws::{answers_agree, others_leave_it, take_is_take};
 use crate::{Column, Plan, Ticked, columns};
 use pdc_arrival::{Body, ColumnSection, MAX_PMUS, Outcome, Refusal, SectionView, Shape, WaitKind};
 use pdc_table::{DueRow, PutOutcome, RowLayout, Table, WaitRule};
@@ -121,135 +115,6 @@ fn rule_of(kind: WaitKind, wait: u64, now: u64) -> WaitRule
 }
 
 impl<T: Table> Alignment<T> {
-    /// The alignment at the start of a life: the number of the start, the instant up to which all is published, for each column the
-    /// count below which no section is held, and what counts as now until the first tick.
-    ///
-    /// # Errors
-    ///
-    /// [`AllocError`] where there is no memory. No other call takes any.
-    pub fn new(
-        alloc: Global,
-        plan: Plan,
-        start: u32,
-        floor: u64,
-        counts: &[u16; MAX_PMUS],
-        now: u64,
-    ) -> Result<Alignment<T>, AllocError>
-        ensures stands { IfOk result (λ a. (output : Output) → StandsFor (given_by plan output start floor counts.now now) [] a.state) }
-        ensures sizes { IfOk result (λ a. HasSizes plan.columns plan.lanes a.state) }
-        ensures disagreements { IfOk result (λ a. a.disagreements ≡ 0) }
-        ensures popped { IfOk result (λ a. a.popped ≡ floor) }
-    {
-        Alignment::first(alloc, plan, start, floor, counts, now)
-    }
-
-    /// Offers data of a stream for an instant: its blocks, lent from the payload, each with its column, and its time quality byte. The answer is the end
-    /// of what a concentrator answers to data.
-    pub fn put(
-        &mut self,
-        stream: usize,
-        instant: u64,
-        cells: &[(usize, Body<'_>)],
-        quality: u8,
-    ) -> Outcome
-        requires { IsPut self.old.state.content stream (body_cells_of cells.now quality) }
-        ensures answer { (g : Given) (E : List Entry) → StandsFor g E self.old.state →
-            result ≡ outcome_in_time g E stream instant (body_cells_of cells.now quality) }
-        ensures stands { (g : Given) (E : List Entry) (bytes payload : List ℕ) → StandsFor g E self.old.state →
-            IsRun g (Arrive stream bytes (Data instant quality payload) (with_cells result (body_cells_of cells.now quality)) ∷ E) →
-            StandsFor g (Arrive stream bytes (Data instant quality payload) (with_cells result (body_cells_of cells.now quality)) ∷ E) self.new.state }
-        ensures sizes { KeepsSizes self.old.state self.new.state }
-        ensures memory { self.new.memory ≡ self.old.memory }
-        ensures disagreements { self.new.disagreements ≡ self.old.disagreements }
-        ensures popped { self.new.popped ≡ self.old.popped }
-    {
-        answers_agree();
-        take_is_take();
-        others_leave_it();
-        self.offer(stream, instant, cells, quality)
-    }
-
-    /// Holds the sections of a layout that is a candidate, each in its column: of the greatest count, the first of that count.
-    pub fn hold(&mut self, sections: &[ColumnSection<'_>])
-        requires { All (λ (s : ColumnSectionData). s.column < length self.old.state.columns) sections.now }
-        ensures stands { (g : Given) (E : List Entry) (stream : ℕ) (bytes : List ℕ) (stamp : Option Stamp) → StandsFor g E self.old.state →
-            IsRun g (Arrive stream bytes (Layout stamp (map section_part sections.now)) (bare Candidate) ∷ E) →
-            StandsFor g (Arrive stream bytes (Layout stamp (map section_part sections.now)) (bare Candidate) ∷ E) self.new.state }
-        ensures sizes { KeepsSizes self.old.state self.new.state }
-        ensures memory { self.new.memory ≡ self.old.memory }
-        ensures disagreements { self.new.disagreements ≡ self.old.disagreements }
-        ensures popped { self.new.popped ≡ self.old.popped }
-    {
-        others_leave_it();
-        self.keep(sections);
-    }
-
-    /// A tick with its now, and for each column the count up to which it is cleared: rows close under the layout before it, and then
-    /// the columns that are ready are adopted, where a change number is left.
-    pub fn tick(&mut self, now: u64, counts: &[u16; MAX_PMUS]) -> Ticked
-        ensures answer { (g : Given) (E : List Entry) → StandsFor g E self.old.state → result ≡ ticked_of (changes E) (tick_answer g E now counts.now) }
-        ensures stands { (g : Given) (E : List Entry) → StandsFor g E self.old.state →
-            StandsFor g (Tick now counts.now (tick_answer g E now counts.now) ∷ E) self.new.state }
-        ensures sizes { KeepsSizes self.old.state self.new.state }
-        ensures memory { self.new.memory ≡ self.old.memory }
-        ensures disagreements { self.new.disagreements ≡ disagreements_at self.old.disagreements self.old.state now }
-        ensures popped { self.new.popped ≡ self.old.popped }
-    {
-        rows_are_those();
-        tick_is_tick();
-        self.step(now, counts)
-    }
-
-    /// The lowest closed row that was not popped.
-    pub fn pop_due(&mut self) -> Option<DueRow>
-        ensures answer { (g : Given) (E : List Entry) → StandsFor g E self.old.state → option_map row_view result ≡ pop_answer E }
-        ensures stands { (g : Given) (E : List Entry) → StandsFor g E self.old.state → StandsFor g (Pop (pop_answer E) ∷ E) self.new.state }
-        ensures sizes { KeepsSizes self.old.state self.new.state }
-        ensures memory { self.new.memory ≡ self.old.memory }
-        ensures disagreements { self.new.disagreements ≡ self.old.disagreements }
-        // Its instant is above all that were popped before, and above the floor.
-        ensures rises { IfSome result (λ row. self.old.popped < row.instant) }
-        ensures popped { self.new.popped ≡ popped_after (option_map row_view result) self.old.popped }
-    {
-        self.take_due()
-    }
-
-    /// Takes the lowest closed row that was not popped, and writes it over this one. Whether there was one; else the row stays.
-    pub fn pop_into(&mut self, row: &mut DueRow) -> bool
-        ensures answer { (g : Given) (E : List Entry) → StandsFor g E self.old.state → popped_into result row.new ≡ pop_answer E }
-        ensures none { result ≡ false → row.new ≡ row.old }
-        ensures stands { (g : Given) (E : List Entry) → StandsFor g E self.old.state → StandsFor g (Pop (pop_answer E) ∷ E) self.new.state }
-        ensures sizes { KeepsSizes self.old.state self.new.state }
-        ensures memory { self.new.memory ≡ self.old.memory }
-        ensures disagreements { self.new.disagreements ≡ self.old.disagreements }
-        // Its instant is above all that were popped before, and above the floor.
-        ensures rises { IfSome (popped_into result row.new) (λ (popped : RowView). self.old.popped < popped.instant) }
-        ensures popped { self.new.popped ≡ popped_after (popped_into result row.new) self.old.popped }
-    {
-        self.take_into(row)
-    }
-
-    /// The instant of the lowest closed row that was not popped.
-    pub fn next_due(&self) -> Option<u64>
-        ensures { (g : Given) (E : List Entry) → StandsFor g E self.now.state → result ≡ option_map (λ row. row.instant) (pop_answer E) }
-    {
-        self.next()
-    }
-
-    /// The layout under which rows close now: the stamp, and the shapes in force.
-    pub fn row_layout(&self) -> RowLayout
-        ensures { (g : Given) (E : List Entry) → StandsFor g E self.now.state → layout_view result ≡ row_layout_of g E }
-    {
-        self.layout()
-    }
-
-    /// For each column the count that waits to be stored: the greater of the cleared and the held one; 0 past the last column.
-    pub fn waiting(&self) -> [u16; MAX_PMUS]
-        ensures { (g : Given) (E : List Entry) → StandsFor g E self.now.state → result ≡ waiting_counts g E }
-    {
-        self.counts()
-    }
-
     /// The section that is held of the column.
     pub fn held(&self, column: usize) -> Option<SectionView<'_>>
         requires { column < length self.now.state.columns }
@@ -299,7 +164,7 @@ impl<T: Table> Alignment<T> {
     }
 
     /// What stands at the start of a life.
-    fn first(
+    pub(crate) fn first(
         alloc: Global,
         plan: Plan,
         start: u32,
@@ -326,7 +191,7 @@ impl<T: Table> Alignment<T> {
     }
 
     /// Offers data to the table, unless it is too far above now.
-    fn offer(
+    pub(crate) fn offer(
         &mut self,
         stream: usize,
         instant: u64,
@@ -351,7 +216,7 @@ impl<T: Table> Alignment<T> {
     }
 
     /// Holds each section in its column.
-    fn keep(&mut self, sections: &[ColumnSection<'_>])
+    pub(crate) fn keep(&mut self, sections: &[ColumnSection<'_>])
         requires { All (λ (s : ColumnSectionData). s.column < length self.old.state.columns) sections.now }
         ensures state { self.new.state ≡ after_hold self.old.state (map section_part sections.now) }
         ensures sizes { KeepsSizes self.old.state self.new.state }
@@ -363,7 +228,7 @@ impl<T: Table> Alignment<T> {
     }
 
     /// A tick: rows close under the layout before it, and then the columns that are ready are adopted.
-    fn step(&mut self, now: u64, counts: &[u16; MAX_PMUS]) -> Ticked
+    pub(crate) fn step(&mut self, now: u64, counts: &[u16; MAX_PMUS]) -> Ticked
         ensures answer { result ≡ told_at self.old.state now counts.now }
         ensures state { self.new.state ≡ after_tick_of self.old.state now counts.now }
         // The wait is a number of 64 bits: here `tick` learns it.
@@ -450,7 +315,7 @@ impl<T: Table> Alignment<T> {
     }
 
     /// Takes out the first row that waits.
-    fn take_due(&mut self) -> Option<DueRow>
+    pub(crate) fn take_due(&mut self) -> Option<DueRow>
         ensures answer { option_map row_view result ≡ table.pop_answer self.old.state.content }
         ensures state { self.new.state ≡ after_pop_of self.old.state }
         ensures sizes { KeepsSizes self.old.state self.new.state }
@@ -467,7 +332,7 @@ impl<T: Table> Alignment<T> {
     }
 
     /// Takes out the first row that waits, and writes it over this one. Whether there was one.
-    fn take_into(&mut self, row: &mut DueRow) -> bool
+    pub(crate) fn take_into(&mut self, row: &mut DueRow) -> bool
         ensures answer { popped_into result row.new ≡ table.pop_answer self.old.state.content }
         ensures none { result ≡ false → row.new ≡ row.old }
         ensures state { self.new.state ≡ after_pop_of self.old.state }
@@ -485,14 +350,14 @@ impl<T: Table> Alignment<T> {
     }
 
     /// The instant of the first row that waits.
-    fn next(&self) -> Option<u64>
+    pub(crate) fn next(&self) -> Option<u64>
         ensures { result ≡ table.next_answer self.now.state.content }
     {
         self.table.next_due()
     }
 
     /// The layout under which rows close.
-    fn layout(&self) -> RowLayout
+    pub(crate) fn layout(&self) -> RowLayout
         ensures { layout_view result ≡ row_layout_in self.now.state }
     {
         RowLayout {
@@ -503,7 +368,7 @@ impl<T: Table> Alignment<T> {
     }
 
     /// The counts that wait to be stored.
-    fn counts(&self) -> [u16; MAX_PMUS]
+    pub(crate) fn counts(&self) -> [u16; MAX_PMUS]
         ensures { result ≡ waiting_in self.now.state }
     {
         columns::waiting(&self.columns)

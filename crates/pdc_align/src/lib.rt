@@ -17,6 +17,7 @@ mod columns;
 mod in_force;
 mod laws;
 mod layout;
+mod life_calls;
 mod plan;
 mod slot;
 mod state_laws;

@@ -1,5 +1,5 @@
 -- A table as a ring: each instant has a place, which is its remainder by the window.
-use Rattle.std.specs.Prelude.{◌≡◌, ◌<◌, ◌≤◌, ◌==◌, ◌%◌, true, [], ◌∷◌, length}
+use Rattle.std.specs.Prelude.{◌≡◌, ◌<◌, ◌≤◌, ◌==◌, true, [], ◌∷◌, length}
 use Rattle.std.specs.List.{All, AllByRecursion, list_any}
 use Rattle.std.specs.Vec.{vec_capacity}
 use Rattle.std.specs.VecDeque.{deque_capacity}
@@ -11,35 +11,34 @@ use Rattle.pdc_table.specs.RingRows.{closed_rows, rows_in, row_in, with_ages}
 
 abbrev pub content_of : Inside → Content
 content_of t = record {
-  window = t.window;
+  window = t.circle.window;
   columns = t.columns;
   lanes = t.lanes;
   required = t.required.items;
-  open_rows = rows_in (with_ages t.places.items t.ages.items) t.window t.open.items;
-  closed = closed_rows (with_ages t.places.items t.ages.items) t.layouts.items t.window t.closed.items;
-  last = t.last;
+  open_rows = rows_in (with_ages t.rows.places.items t.rows.ages.items) t.circle.window t.rows.open.items;
+  closed = closed_rows (with_ages t.rows.places.items t.rows.ages.items) t.closed.layouts.items t.circle.window t.closed.instants.items;
+  last = t.closed.last;
 }
 
 -- its places, their ages and layouts, its open instants, and its closed ones
 abbrev pub view_of : Inside → TableView
 view_of t = record {
   content = content_of t;
-  disagreements = t.disagree;
-  memory = vec_capacity t.places ∷ vec_capacity t.ages ∷ vec_capacity t.layouts ∷ vec_capacity t.open ∷ deque_capacity t.closed ∷ [];
+  disagreements = t.closed.disagree;
+  memory = vec_capacity t.rows.places ∷ vec_capacity t.rows.ages ∷ vec_capacity t.closed.layouts ∷ vec_capacity t.rows.open ∷ deque_capacity t.closed.instants ∷ [];
 }
 
 -- There is a place for each instant of the window, and room for each instant that can be held. At the place of an instant that
 -- is held stands its row, and of a closed one the layout that it closed under; a row of an instant above the last closed is
--- that of an open one. The place of one instant is known.
+-- that of an open one.
 pub record IsKept (t : Inside) : Type 0 where
   pub content : IsContent (content_of t)
-  pub size : length t.places.items ≡ t.window
-  pub each : All (HasPlaces (streams_of (content_of t)) t.columns) t.places.items
-  pub placed : AllByRecursion (λ i. (row_in t.places.items t.window i).instant ≡ i) t.open.items
-  pub ages : length t.ages.items ≡ t.window
-  pub layouts : length t.layouts.items ≡ t.window
-  pub closed_placed : AllByRecursion (λ i. (row_in t.places.items t.window i).instant ≡ i) t.closed.items
-  pub known : All (λ (row : OpenRowView). t.last < row.instant → list_any (λ i. i == row.instant) t.open.items ≡ true) t.places.items
-  pub room : t.window ≤ vec_capacity t.open
-  pub near : t.near.place ≡ t.near.instant % t.window
-  pub closed_room : t.window ≤ deque_capacity t.closed
+  pub size : length t.rows.places.items ≡ t.circle.window
+  pub each : All (HasPlaces (streams_of (content_of t)) t.columns) t.rows.places.items
+  pub placed : AllByRecursion (λ i. (row_in t.rows.places.items t.circle.window i).instant ≡ i) t.rows.open.items
+  pub ages : length t.rows.ages.items ≡ t.circle.window
+  pub layouts : length t.closed.layouts.items ≡ t.circle.window
+  pub closed_placed : AllByRecursion (λ i. (row_in t.rows.places.items t.circle.window i).instant ≡ i) t.closed.instants.items
+  pub known : All (λ (row : OpenRowView). t.closed.last < row.instant → list_any (λ i. i == row.instant) t.rows.open.items ≡ true) t.rows.places.items
+  pub room : t.circle.window ≤ vec_capacity t.rows.open
+  pub closed_room : t.circle.window ≤ deque_capacity t.closed.instants

@@ -9,15 +9,16 @@
 //! it holds the first block taken for each column, and that no call but `new` takes memory.
 #![tactic(auto)]
 
+mod circle;
 mod closing_layout;
 mod column;
 mod front;
 mod laws;
 mod limits;
-mod near;
 mod open_row;
 mod outcome;
 mod ring;
+mod ring_closing;
 mod ring_table;
 mod row_layout;
 mod spare;

@@ -4,10 +4,14 @@ ghost use Rattle.pdc_table.specs.Content.{HasSizesOf, IsContent, IsPut};
 ghost use Rattle.pdc_table.specs.Steps.{after_put, put_answer};
 ghost use Rattle.pdc_table.specs.Taking.{cells_in};
 
-use crate::near::{Near, place_of};
-use crate::open_row::{OpenRow, Places};
+use crate::circle::Circle;
+use crate::open_row::Places;
+use crate::ring::Rows;
+use crate::ring_closing::Closed;
 use crate::streams::{falses, lane_of, stream_count};
-use crate::{ClosingLayout, MAX_COLUMNS, PutOutcome, RowLayout, Table, WaitRule, ring};
+use crate::{
+    MAX_COLUMNS, PutOutcome, RowLayout, Table, WaitRule, remove_front, ring, ring_closing,
+};
 use arrayvec::ArrayVec;
 use pdc_row::{Block, Body, DueRow, Offered, numbers_rise};
 use std::alloc::{AllocError, Global};
@@ -18,24 +22,13 @@ use std::marker::Model;
 /// moved.
 #[derive(Drop)]
 pub struct RingTable {
-    window: u64,
     columns: usize,
     lanes: usize,
     required: ArrayVec<bool, MAX_COLUMNS>,
-    /// The instant of the put before, and its place.
-    near: Near,
-    /// The row of an instant that is held stands at its remainder by the window.
-    places: Vec<OpenRow>,
-    /// At the same place stands the age of an open row, in ticks.
-    ages: Vec<u64>,
-    /// At the same place stands the layout that a closed row closed under.
-    layouts: Vec<ClosingLayout>,
-    /// The open instants, in rising order.
-    open: Vec<u64>,
-    /// The closed instants that were not popped, in rising order: their rows stay at their places.
-    closed: VecDeque<u64>,
-    last: u64,
-    disagree: u64,
+    /// A place for each instant of the window, with that of the instant of the put before.
+    circle: Circle,
+    rows: Rows,
+    closed: Closed,
 }
 
 impl Model for RingTable {
@@ -68,36 +61,21 @@ impl RingTable {
         ensures well_formed { IsContent self.new.content }
     {
         numbers_rise();
-        if instant <= self.last {
+        if instant <= self.closed.last {
             return PutOutcome::Late;
         }
-        let here = Near {
+        let here = Circle {
+            window: self.circle.window,
             instant,
-            place: place_of(self.window, self.near, instant),
+            place: self.circle.place_of(instant),
         };
-        if !ring::is_in_window(
-            &self.places,
-            self.window,
-            here,
-            &self.open,
-            &self.closed,
-            instant,
-        ) {
+        if !ring::is_in_window(&self.rows, &self.closed.instants, &here) {
             return PutOutcome::OutOfWindow;
         }
         let lane = lane_of(self.lanes, stream);
-        let RingTable {
-            window,
-            near,
-            places,
-            ages,
-            open,
-            ..
-        } = self;
-        *near = here;
-        ring::take(
-            places, ages, open, *window, here, stream, lane, instant, cells, quality,
-        )
+        let RingTable { circle, rows, .. } = self;
+        *circle = here;
+        rows.take(&here, stream, lane, cells, quality)
     }
 }
 
@@ -118,21 +96,25 @@ impl Table for RingTable {
         let room = window as usize;
         let streams = stream_count(columns, lanes);
         Ok(RingTable {
-            window,
             columns,
             lanes,
             required: falses(streams),
-            near: Near {
+            circle: Circle {
+                window,
                 instant: floor,
                 place: (floor % window) as usize,
             },
-            places: ring::new_places(alloc, room, Places { streams, columns })?,
-            ages: vec![in alloc; 0; room]?,
-            layouts: ring::new_layouts(alloc, room)?,
-            open: Vec::with_capacity(alloc, room)?,
-            closed: VecDeque::with_capacity(alloc, room)?,
-            last: floor,
-            disagree: 0,
+            rows: Rows {
+                places: ring::new_places(alloc, room, Places { streams, columns })?,
+                ages: vec![in alloc; 0; room]?,
+                open: Vec::with_capacity(alloc, room)?,
+            },
+            closed: Closed {
+                instants: VecDeque::with_capacity(alloc, room)?,
+                layouts: ring_closing::new_layouts(alloc, room)?,
+                last: floor,
+                disagree: 0,
+            },
         })
     }
 
@@ -162,79 +144,67 @@ impl Table for RingTable {
 
     fn tick(&mut self, rule: WaitRule, layout: &RowLayout) -> u32 {
         numbers_rise();
-        ring::grow_older(&mut self.ages, self.window, self.near, &self.open);
         let RingTable {
-            window,
-            near,
+            circle,
             required,
-            places,
-            ages,
-            layouts,
-            open,
+            rows,
             closed,
-            last,
-            disagree,
             ..
         } = self;
-        let required = required.as_slice();
-        ring::close_due(
-            places, ages, layouts, *window, *near, open, required, rule, layout, closed, last,
-            disagree,
-        ) as u32
+        ring::grow_older(&mut rows.ages, circle, &rows.open);
+        let count = closed.close_due(rows, circle, required.as_slice(), rule, layout);
+        remove_front(&mut rows.open, count);
+        count as u32
     }
 
     fn drop_stream(&mut self, stream: usize) {
         numbers_rise();
-        ring::drop_stream(
-            &mut self.places,
-            self.window,
-            self.near,
-            &self.open,
-            self.lanes,
-            stream,
-        );
+        let RingTable {
+            circle,
+            lanes,
+            rows,
+            ..
+        } = self;
+        ring::drop_stream(&mut rows.places, circle, &rows.open, *lanes, stream);
     }
 
     fn drop_column(&mut self, column: usize) {
         numbers_rise();
-        ring::drop_column(&mut self.places, self.window, self.near, &self.open, column);
+        let RingTable { circle, rows, .. } = self;
+        ring::drop_column(&mut rows.places, circle, &rows.open, column);
     }
 
     fn pop_due(&mut self) -> Option<DueRow> {
         numbers_rise();
         let RingTable {
-            window,
-            near,
-            places,
-            layouts,
+            circle,
+            rows,
             closed,
             ..
         } = self;
-        ring::pop(places, layouts, *window, *near, closed)
+        ring_closing::pop(rows, &closed.layouts, circle, &mut closed.instants)
     }
 
     fn pop_into(&mut self, row: &mut DueRow) -> bool {
         numbers_rise();
         let RingTable {
-            window,
-            near,
-            places,
-            layouts,
+            circle,
+            rows,
             closed,
             ..
         } = self;
-        ring::pop_into(places, layouts, *window, *near, closed, row)
+        ring_closing::pop_into(rows, &closed.layouts, circle, &mut closed.instants, row)
     }
 
     fn next_due(&self) -> Option<u64> {
-        ring::first(&self.closed)
+        ring_closing::first(&self.closed.instants)
     }
 
     fn last(&self) -> u64 {
-        self.last
+        self.closed.last
     }
 
     fn disagree(&self) -> u64 {
-        self.disagree
+        self.closed.disagree
     }
 }

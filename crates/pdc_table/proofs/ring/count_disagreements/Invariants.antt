@@ -8,5 +8,5 @@ use Rattle.pdc_table.proofs.ring.count_disagreements.Given as goal
 abbrev pub invariant-loop-instant : goal.invariant-loop-instant
 invariant-loop-instant l = record {
   fits : l.count < 2 ^ 64;
-  so_far : counter (l.count + disagreements_in (layout_view l.layout) (rows_in l.places l.window (drop l.instant-index l.due))) ≡ counter (l.so_far + disagreements_in (layout_view l.layout) (rows_in l.places l.window l.due));
+  so_far : counter (l.count + disagreements_in (layout_view l.layout) (rows_in l.rows.places.items l.circle.window (drop l.instant-index l.due))) ≡ counter (l.so_far + disagreements_in (layout_view l.layout) (rows_in l.rows.places.items l.circle.window l.due));
 }

@@ -7,5 +7,5 @@ use Rattle.pdc_table.proofs.ring.count_due.Given as goal
 abbrev pub invariant-loop-instant : goal.invariant-loop-instant
 invariant-loop-instant l = record {
   counted : l.count ≡ l.instant-index;
-  left : l.count + prefix_len (is_due l.required l.rule) (rows_in (with_ages l.places l.ages) l.window (drop l.instant-index l.open)) ≡ prefix_len (is_due l.required l.rule) (rows_in (with_ages l.places l.ages) l.window l.open);
+  left : l.count + prefix_len (is_due l.required l.rule) (rows_in (with_ages l.rows.places.items l.rows.ages.items) l.circle.window (drop l.instant-index l.instant-items)) ≡ prefix_len (is_due l.required l.rule) (rows_in (with_ages l.rows.places.items l.rows.ages.items) l.circle.window l.instant-items);
 }

@@ -23,17 +23,17 @@ use Rattle.pdc_table.proofs.ring_table.RingTable.offer.Given as given
 
 pub is_in_window-requires-clause-rising : goal.is_in_window-requires-clause-rising
 is_in_window-requires-clause-rising g c =
-    subst (λ ns. Rises 0 ns) (sym (ring_held (content_of c.self.inside) (with_ages c.self.inside.places.items c.self.inside.ages.items) c.self.inside.layouts.items c.self.inside.closed.items c.self.inside.open.items c.deref-2.result.now c.deref-2.ensures.value (aged_placed c.self.inside.places.items c.self.inside.ages.items c.self.inside.window c.self.inside.closed.items (omega (arith, c.self.invariant.content.window_least)) c.self.invariant.size c.self.invariant.ages c.self.invariant.closed_placed) (aged_placed c.self.inside.places.items c.self.inside.ages.items c.self.inside.window c.self.inside.open.items (omega (arith, c.self.invariant.content.window_least)) c.self.invariant.size c.self.invariant.ages c.self.invariant.placed) refl refl))
+    subst (λ ns. Rises 0 ns) (sym (ring_held (content_of c.self.inside) (with_ages c.self.inside.rows.places.items c.self.inside.rows.ages.items) c.self.inside.closed.layouts.items c.self.inside.closed.instants.items c.self.inside.rows.open.items c.self.inside.rows.open.items refl (aged_placed c.self.inside.rows.places.items c.self.inside.rows.ages.items c.self.inside.circle.window c.self.inside.closed.instants.items (omega (arith, c.self.invariant.content.window_least)) c.self.invariant.size c.self.invariant.ages c.self.invariant.closed_placed) (aged_placed c.self.inside.rows.places.items c.self.inside.rows.ages.items c.self.inside.circle.window c.self.inside.rows.open.items (omega (arith, c.self.invariant.content.window_least)) c.self.invariant.size c.self.invariant.ages c.self.invariant.placed) refl refl))
     c.self.invariant.content.held_rise
 
 pub is_in_window-requires-clause-held_near : goal.is_in_window-requires-clause-held_near
 is_in_window-requires-clause-held_near g c =
-    subst (λ ns. AreNear c.self.inside.window ns) (sym (ring_held (content_of c.self.inside) (with_ages c.self.inside.places.items c.self.inside.ages.items) c.self.inside.layouts.items c.self.inside.closed.items c.self.inside.open.items c.deref-2.result.now c.deref-2.ensures.value (aged_placed c.self.inside.places.items c.self.inside.ages.items c.self.inside.window c.self.inside.closed.items (omega (arith, c.self.invariant.content.window_least)) c.self.invariant.size c.self.invariant.ages c.self.invariant.closed_placed) (aged_placed c.self.inside.places.items c.self.inside.ages.items c.self.inside.window c.self.inside.open.items (omega (arith, c.self.invariant.content.window_least)) c.self.invariant.size c.self.invariant.ages c.self.invariant.placed) refl refl))
+    subst (λ ns. AreNear c.self.inside.circle.window ns) (sym (ring_held (content_of c.self.inside) (with_ages c.self.inside.rows.places.items c.self.inside.rows.ages.items) c.self.inside.closed.layouts.items c.self.inside.closed.instants.items c.self.inside.rows.open.items c.self.inside.rows.open.items refl (aged_placed c.self.inside.rows.places.items c.self.inside.rows.ages.items c.self.inside.circle.window c.self.inside.closed.instants.items (omega (arith, c.self.invariant.content.window_least)) c.self.invariant.size c.self.invariant.ages c.self.invariant.closed_placed) (aged_placed c.self.inside.rows.places.items c.self.inside.rows.ages.items c.self.inside.circle.window c.self.inside.rows.open.items (omega (arith, c.self.invariant.content.window_least)) c.self.invariant.size c.self.invariant.ages c.self.invariant.placed) refl refl))
     c.self.invariant.content.held_near
 
 far : (g : given.Over) (c : goal.Then-not-is_in_window g) → is_near_all (content_of c.self.inside) c.args.instant ≡ false
 far g c =
-    ap (list_all (is_near c.self.inside.window c.args.instant)) (sym (ring_held (content_of c.self.inside) (with_ages c.self.inside.places.items c.self.inside.ages.items) c.self.inside.layouts.items c.self.inside.closed.items c.self.inside.open.items c.deref-2.result.now c.deref-2.ensures.value (aged_placed c.self.inside.places.items c.self.inside.ages.items c.self.inside.window c.self.inside.closed.items (omega (arith, c.self.invariant.content.window_least)) c.self.invariant.size c.self.invariant.ages c.self.invariant.closed_placed) (aged_placed c.self.inside.places.items c.self.inside.ages.items c.self.inside.window c.self.inside.open.items (omega (arith, c.self.invariant.content.window_least)) c.self.invariant.size c.self.invariant.ages c.self.invariant.placed) refl refl))
+    ap (list_all (is_near c.self.inside.circle.window c.args.instant)) (sym (ring_held (content_of c.self.inside) (with_ages c.self.inside.rows.places.items c.self.inside.rows.ages.items) c.self.inside.closed.layouts.items c.self.inside.closed.instants.items c.self.inside.rows.open.items c.self.inside.rows.open.items refl (aged_placed c.self.inside.rows.places.items c.self.inside.rows.ages.items c.self.inside.circle.window c.self.inside.closed.instants.items (omega (arith, c.self.invariant.content.window_least)) c.self.invariant.size c.self.invariant.ages c.self.invariant.closed_placed) (aged_placed c.self.inside.rows.places.items c.self.inside.rows.ages.items c.self.inside.circle.window c.self.inside.rows.open.items (omega (arith, c.self.invariant.content.window_least)) c.self.invariant.size c.self.invariant.ages c.self.invariant.placed) refl refl))
     ∙ sym c.is_in_window.ensures ∙ c.if-not-is_in_window.true
 
 pub returns-then-not-is_in_window-clause-answer : goal.returns-then-not-is_in_window-clause-answer
@@ -49,32 +49,32 @@ returns-then-not-is_in_window-clause-content g c =
 
 pub take-requires-clause-rising : goal.take-requires-clause-rising
 take-requires-clause-rising g c =
-    c.numbers_rise.ensures.rises_above 0 c.self.inside.last c.self.inside.open.items (omega arith)
-    (near_open c.numbers_rise.ensures (content_of c.self.inside) (with_ages c.self.inside.places.items c.self.inside.ages.items) c.self.inside.open.items (aged_placed c.self.inside.places.items c.self.inside.ages.items c.self.inside.window c.self.inside.open.items (omega (arith, c.self.invariant.content.window_least)) c.self.invariant.size c.self.invariant.ages c.self.invariant.placed) c.self.invariant.content).0
+    c.numbers_rise.ensures.rises_above 0 c.self.inside.closed.last c.self.inside.rows.open.items (omega arith)
+    (near_open c.numbers_rise.ensures (content_of c.self.inside) (with_ages c.self.inside.rows.places.items c.self.inside.rows.ages.items) c.self.inside.rows.open.items (aged_placed c.self.inside.rows.places.items c.self.inside.rows.ages.items c.self.inside.circle.window c.self.inside.rows.open.items (omega (arith, c.self.invariant.content.window_least)) c.self.invariant.size c.self.invariant.ages c.self.invariant.placed) c.self.invariant.content).0
 
 pub take-requires-clause-room : goal.take-requires-clause-room
 take-requires-clause-room g c n =
     let near : is_near_all (content_of c.self.inside) c.args.instant ≡ true =
-    ap (list_all (is_near c.self.inside.window c.args.instant)) (sym (ring_held (content_of c.self.inside) (with_ages c.self.inside.places.items c.self.inside.ages.items) c.self.inside.layouts.items c.self.inside.closed.items c.self.inside.open.items c.deref-2.result.now c.deref-2.ensures.value (aged_placed c.self.inside.places.items c.self.inside.ages.items c.self.inside.window c.self.inside.closed.items (omega (arith, c.self.invariant.content.window_least)) c.self.invariant.size c.self.invariant.ages c.self.invariant.closed_placed) (aged_placed c.self.inside.places.items c.self.inside.ages.items c.self.inside.window c.self.inside.open.items (omega (arith, c.self.invariant.content.window_least)) c.self.invariant.size c.self.invariant.ages c.self.invariant.placed) refl refl))
+    ap (list_all (is_near c.self.inside.circle.window c.args.instant)) (sym (ring_held (content_of c.self.inside) (with_ages c.self.inside.rows.places.items c.self.inside.rows.ages.items) c.self.inside.closed.layouts.items c.self.inside.closed.instants.items c.self.inside.rows.open.items c.self.inside.rows.open.items refl (aged_placed c.self.inside.rows.places.items c.self.inside.rows.ages.items c.self.inside.circle.window c.self.inside.closed.instants.items (omega (arith, c.self.invariant.content.window_least)) c.self.invariant.size c.self.invariant.ages c.self.invariant.closed_placed) (aged_placed c.self.inside.rows.places.items c.self.inside.rows.ages.items c.self.inside.circle.window c.self.inside.rows.open.items (omega (arith, c.self.invariant.content.window_least)) c.self.invariant.size c.self.invariant.ages c.self.invariant.placed) refl refl))
     ∙ sym c.if-not-is_in_window.ensures in
-    let ring : IsRing c.self.inside.window c.self.inside.last (streams_of (content_of c.self.inside)) c.self.inside.columns (with_ages c.self.inside.places.items c.self.inside.ages.items) c.self.inside.open.items =
-    aged_ring c.self.inside.window c.self.inside.last (streams_of (content_of c.self.inside)) c.self.inside.columns c.self.inside.places.items c.self.inside.ages.items c.self.inside.open.items (omega (arith, c.self.invariant.content.window_least)) c.self.invariant.ages
+    let ring : IsRing c.self.inside.circle.window c.self.inside.closed.last (streams_of (content_of c.self.inside)) c.self.inside.columns (with_ages c.self.inside.rows.places.items c.self.inside.rows.ages.items) c.self.inside.rows.open.items =
+    aged_ring c.self.inside.circle.window c.self.inside.closed.last (streams_of (content_of c.self.inside)) c.self.inside.columns c.self.inside.rows.places.items c.self.inside.rows.ages.items c.self.inside.rows.open.items (omega (arith, c.self.invariant.content.window_least)) c.self.invariant.ages
     (record { size = c.self.invariant.size; each = c.self.invariant.each; placed = c.self.invariant.placed; known = c.self.invariant.known }) in
-    let least : 0 < c.self.inside.window = omega (arith, c.self.invariant.content.window_least) in
-    let none : row_at c.args.instant (rows_in (with_ages c.self.inside.places.items c.self.inside.ages.items) c.self.inside.window c.self.inside.open.items) ≡ None =
-    met_in c.self.inside.window c.self.inside.last (streams_of (content_of c.self.inside)) c.self.inside.columns c.args.instant (with_ages c.self.inside.places.items c.self.inside.ages.items) c.self.inside.open.items least c.if-instant-self.false ring
-    ∙ ap (λ b. cond b (Some (row_in (with_ages c.self.inside.places.items c.self.inside.ages.items) c.self.inside.window c.args.instant)) None) (ne_eqb (row_in (with_ages c.self.inside.places.items c.self.inside.ages.items) c.self.inside.window c.args.instant).instant c.args.instant (λ e. n (sym (ap (λ (row : OpenRowView). row.instant) (aged_row c.self.inside.places.items c.self.inside.ages.items c.self.inside.window c.args.instant least c.self.invariant.size c.self.invariant.ages)) ∙ e))) in
-    let room : length (rows_in (with_ages c.self.inside.places.items c.self.inside.ages.items) c.self.inside.window c.self.inside.open.items) < c.self.inside.window =
+    let least : 0 < c.self.inside.circle.window = omega (arith, c.self.invariant.content.window_least) in
+    let none : row_at c.args.instant (rows_in (with_ages c.self.inside.rows.places.items c.self.inside.rows.ages.items) c.self.inside.circle.window c.self.inside.rows.open.items) ≡ None =
+    met_in c.self.inside.circle.window c.self.inside.closed.last (streams_of (content_of c.self.inside)) c.self.inside.columns c.args.instant (with_ages c.self.inside.rows.places.items c.self.inside.rows.ages.items) c.self.inside.rows.open.items least c.if-instant-self.false ring
+    ∙ ap (λ b. cond b (Some (row_in (with_ages c.self.inside.rows.places.items c.self.inside.rows.ages.items) c.self.inside.circle.window c.args.instant)) None) (ne_eqb (row_in (with_ages c.self.inside.rows.places.items c.self.inside.rows.ages.items) c.self.inside.circle.window c.args.instant).instant c.args.instant (λ e. n (sym (ap (λ (row : OpenRowView). row.instant) (aged_row c.self.inside.rows.places.items c.self.inside.rows.ages.items c.self.inside.circle.window c.args.instant least c.self.invariant.size c.self.invariant.ages)) ∙ e))) in
+    let room : length (rows_in (with_ages c.self.inside.rows.places.items c.self.inside.rows.ages.items) c.self.inside.circle.window c.self.inside.rows.open.items) < c.self.inside.circle.window =
     has_room c.numbers_rise.ensures (content_of c.self.inside) c.args.instant c.if-instant-self.false near none c.self.invariant.content in
-    omega (arith, c.self.invariant.room, length-map c.self.inside.open.items (row_in (with_ages c.self.inside.places.items c.self.inside.ages.items) c.self.inside.window))
+    omega (arith, c.self.invariant.room, length-map c.self.inside.rows.open.items (row_in (with_ages c.self.inside.rows.places.items c.self.inside.rows.ages.items) c.self.inside.circle.window))
 
 pub take-requires-clause-columns : goal.take-requires-clause-columns
 take-requires-clause-columns g c k d l =
-    let ring : IsRing c.self.inside.window c.self.inside.last (streams_of (content_of c.self.inside)) c.self.inside.columns c.self.inside.places.items c.self.inside.open.items =
+    let ring : IsRing c.self.inside.circle.window c.self.inside.closed.last (streams_of (content_of c.self.inside)) c.self.inside.columns c.self.inside.rows.places.items c.self.inside.rows.open.items =
     record { size = c.self.invariant.size; each = c.self.invariant.each; placed = c.self.invariant.placed; known = c.self.invariant.known } in
-    let least : 0 < c.self.inside.window = omega (arith, c.self.invariant.content.window_least) in
-    let sized : HasPlaces (streams_of (content_of c.self.inside)) c.self.inside.columns (row_in c.self.inside.places.items c.self.inside.window c.args.instant) =
-    sized_in c.self.inside.window c.self.inside.last (streams_of (content_of c.self.inside)) c.self.inside.columns c.args.instant c.self.inside.places.items c.self.inside.open.items least ring in
+    let least : 0 < c.self.inside.circle.window = omega (arith, c.self.invariant.content.window_least) in
+    let sized : HasPlaces (streams_of (content_of c.self.inside)) c.self.inside.columns (row_in c.self.inside.rows.places.items c.self.inside.circle.window c.args.instant) =
+    sized_in c.self.inside.circle.window c.self.inside.closed.last (streams_of (content_of c.self.inside)) c.self.inside.columns c.args.instant c.self.inside.rows.places.items c.self.inside.rows.open.items least ring in
     let columns : All (λ (cell : ℕ × g.row.B.Denot). cell.0 < c.self.inside.columns) c.args.cells.now =
     subst (λ (t : TableView). All (λ (cell : ℕ × g.row.B.Denot). cell.0 < t.content.columns) c.args.cells.now) (sym c.self.view_is)
     (columns_exist g.B.Offered.view c.args.self.now.content.columns c.args.quality c.args.cells.now c.requires.columns_exist) in
@@ -84,103 +84,103 @@ take-requires-clause-columns g c k d l =
 
 near : (g : given.Over) (c : goal.After-take g) → is_near_all (content_of c.self.inside) c.args.instant ≡ true
 near g c =
-    ap (list_all (is_near c.self.inside.window c.args.instant)) (sym (ring_held (content_of c.self.inside) (with_ages c.self.inside.places.items c.self.inside.ages.items) c.self.inside.layouts.items c.self.inside.closed.items c.self.inside.open.items c.deref-2.result.now c.deref-2.ensures.value (aged_placed c.self.inside.places.items c.self.inside.ages.items c.self.inside.window c.self.inside.closed.items (omega (arith, c.self.invariant.content.window_least)) c.self.invariant.size c.self.invariant.ages c.self.invariant.closed_placed) (aged_placed c.self.inside.places.items c.self.inside.ages.items c.self.inside.window c.self.inside.open.items (omega (arith, c.self.invariant.content.window_least)) c.self.invariant.size c.self.invariant.ages c.self.invariant.placed) refl refl))
+    ap (list_all (is_near c.self.inside.circle.window c.args.instant)) (sym (ring_held (content_of c.self.inside) (with_ages c.self.inside.rows.places.items c.self.inside.rows.ages.items) c.self.inside.closed.layouts.items c.self.inside.closed.instants.items c.self.inside.rows.open.items c.self.inside.rows.open.items refl (aged_placed c.self.inside.rows.places.items c.self.inside.rows.ages.items c.self.inside.circle.window c.self.inside.closed.instants.items (omega (arith, c.self.invariant.content.window_least)) c.self.invariant.size c.self.invariant.ages c.self.invariant.closed_placed) (aged_placed c.self.inside.rows.places.items c.self.inside.rows.ages.items c.self.inside.circle.window c.self.inside.rows.open.items (omega (arith, c.self.invariant.content.window_least)) c.self.invariant.size c.self.invariant.ages c.self.invariant.placed) refl refl))
     ∙ sym c.if-not-is_in_window.ensures
 
-into : (g : given.Over) (c : goal.After-take g) → IsPutInto c.self.inside.window c.self.inside.last (streams_of (content_of c.self.inside)) c.self.inside.columns c.args.instant c.args.stream (lane_of (content_of c.self.inside) c.args.stream) (cells_in g.B.Offered.view c.args.cells.now c.args.quality) c.self.inside.places.items c.self.inside.open.items c.take.result c.take.new.places.items c.take.new.open.items
+into : (g : given.Over) (c : goal.After-take g) → IsPutInto c.self.inside.circle.window c.self.inside.closed.last (streams_of (content_of c.self.inside)) c.self.inside.columns c.args.instant c.args.stream (lane_of (content_of c.self.inside) c.args.stream) (cells_in g.B.Offered.view c.args.cells.now c.args.quality) c.self.inside.rows.places.items c.self.inside.rows.open.items c.take.result c.take.new.self.places.items c.take.new.self.open.items
 into g c = record {
   ring = record { size = c.self.invariant.size; each = c.self.invariant.each; placed = c.self.invariant.placed; known = c.self.invariant.known };
   least = omega (arith, c.self.invariant.content.window_least);
   above = c.if-instant-self.false;
-  rising = (near_open c.numbers_rise.ensures (content_of c.self.inside) (with_ages c.self.inside.places.items c.self.inside.ages.items) c.self.inside.open.items (aged_placed c.self.inside.places.items c.self.inside.ages.items c.self.inside.window c.self.inside.open.items (omega (arith, c.self.invariant.content.window_least)) c.self.invariant.size c.self.invariant.ages c.self.invariant.placed) c.self.invariant.content).0;
-  apart = near_apart c.numbers_rise.ensures c.self.inside.window c.args.instant c.self.inside.closed.items c.self.inside.open.items
-      (ap (λ ns. list_all (is_near c.self.inside.window c.args.instant) (c.self.inside.closed.items ++ ns)) (sym c.deref-2.ensures.value) ∙ sym c.if-not-is_in_window.ensures);
-  answered = c.take.ensures.answer ∙ ap (λ l. answer_at (met_row c.args.instant (row_in c.self.inside.places.items c.self.inside.window c.args.instant)) c.args.stream l (cells_in g.B.Offered.view c.args.cells.now c.args.quality)) c.lane_of-lane.ensures;
+  rising = (near_open c.numbers_rise.ensures (content_of c.self.inside) (with_ages c.self.inside.rows.places.items c.self.inside.rows.ages.items) c.self.inside.rows.open.items (aged_placed c.self.inside.rows.places.items c.self.inside.rows.ages.items c.self.inside.circle.window c.self.inside.rows.open.items (omega (arith, c.self.invariant.content.window_least)) c.self.invariant.size c.self.invariant.ages c.self.invariant.placed) c.self.invariant.content).0;
+  apart = near_apart c.numbers_rise.ensures c.self.inside.circle.window c.args.instant c.self.inside.closed.instants.items c.self.inside.rows.open.items
+      (sym c.if-not-is_in_window.ensures);
+  answered = c.take.ensures.answer ∙ ap (λ l. answer_at (met_row c.args.instant (row_in c.self.inside.rows.places.items c.self.inside.circle.window c.args.instant)) c.args.stream l (cells_in g.B.Offered.view c.args.cells.now c.args.quality)) c.lane_of-lane.ensures;
   written = c.take.ensures.places
-      ∙ ap (λ l. if is_taken c.take.result then set c.self.inside.places.items (c.args.instant % c.self.inside.window) (with_frame c.args.stream l (cells_in g.B.Offered.view c.args.cells.now c.args.quality) (base_row c.args.instant (row_in c.self.inside.places.items c.self.inside.window c.args.instant))) else c.self.inside.places.items) c.lane_of-lane.ensures;
+      ∙ ap (λ l. if is_taken c.take.result then set c.self.inside.rows.places.items (c.args.instant % c.self.inside.circle.window) (with_frame c.args.stream l (cells_in g.B.Offered.view c.args.cells.now c.args.quality) (base_row c.args.instant (row_in c.self.inside.rows.places.items c.self.inside.circle.window c.args.instant))) else c.self.inside.rows.places.items) c.lane_of-lane.ensures;
   opened = c.take.ensures.open;
 }
 
 -- the same of the rows with their ages
-aged_into : (g : given.Over) (c : goal.After-take g) → IsPutInto c.self.inside.window c.self.inside.last (streams_of (content_of c.self.inside)) c.self.inside.columns c.args.instant c.args.stream (lane_of (content_of c.self.inside) c.args.stream) (cells_in g.B.Offered.view c.args.cells.now c.args.quality) (with_ages c.self.inside.places.items c.self.inside.ages.items) c.self.inside.open.items c.take.result (with_ages c.take.new.places.items c.take.new.ages.items) c.take.new.open.items
+aged_into : (g : given.Over) (c : goal.After-take g) → IsPutInto c.self.inside.circle.window c.self.inside.closed.last (streams_of (content_of c.self.inside)) c.self.inside.columns c.args.instant c.args.stream (lane_of (content_of c.self.inside) c.args.stream) (cells_in g.B.Offered.view c.args.cells.now c.args.quality) (with_ages c.self.inside.rows.places.items c.self.inside.rows.ages.items) c.self.inside.rows.open.items c.take.result (with_ages c.take.new.self.places.items c.take.new.self.ages.items) c.take.new.self.open.items
 aged_into g c =
-    let p : IsPutInto c.self.inside.window c.self.inside.last (streams_of (content_of c.self.inside)) c.self.inside.columns c.args.instant c.args.stream (lane_of (content_of c.self.inside) c.args.stream) (cells_in g.B.Offered.view c.args.cells.now c.args.quality) c.self.inside.places.items c.self.inside.open.items c.take.result c.take.new.places.items c.take.new.open.items = into g c in
+    let p : IsPutInto c.self.inside.circle.window c.self.inside.closed.last (streams_of (content_of c.self.inside)) c.self.inside.columns c.args.instant c.args.stream (lane_of (content_of c.self.inside) c.args.stream) (cells_in g.B.Offered.view c.args.cells.now c.args.quality) c.self.inside.rows.places.items c.self.inside.rows.open.items c.take.result c.take.new.self.places.items c.take.new.self.open.items = into g c in
     record {
-      ring = aged_ring c.self.inside.window c.self.inside.last (streams_of (content_of c.self.inside)) c.self.inside.columns c.self.inside.places.items c.self.inside.ages.items c.self.inside.open.items p.least c.self.invariant.ages p.ring;
+      ring = aged_ring c.self.inside.circle.window c.self.inside.closed.last (streams_of (content_of c.self.inside)) c.self.inside.columns c.self.inside.rows.places.items c.self.inside.rows.ages.items c.self.inside.rows.open.items p.least c.self.invariant.ages p.ring;
       least = p.least;
       above = p.above;
       rising = p.rising;
       apart = p.apart;
-      answered = p.answered ∙ aged_answer c.self.inside.places.items c.self.inside.ages.items c.self.inside.window c.args.instant c.args.stream (lane_of (content_of c.self.inside) c.args.stream) (cells_in g.B.Offered.view c.args.cells.now c.args.quality) p.least c.self.invariant.size c.self.invariant.ages;
-      written = aged_put c.self.inside.window c.args.instant c.args.stream (lane_of (content_of c.self.inside) c.args.stream) (cells_in g.B.Offered.view c.args.cells.now c.args.quality) c.self.inside.places.items c.take.new.places.items c.self.inside.ages.items c.take.new.ages.items c.take.result
+      answered = p.answered ∙ aged_answer c.self.inside.rows.places.items c.self.inside.rows.ages.items c.self.inside.circle.window c.args.instant c.args.stream (lane_of (content_of c.self.inside) c.args.stream) (cells_in g.B.Offered.view c.args.cells.now c.args.quality) p.least c.self.invariant.size c.self.invariant.ages;
+      written = aged_put c.self.inside.circle.window c.args.instant c.args.stream (lane_of (content_of c.self.inside) c.args.stream) (cells_in g.B.Offered.view c.args.cells.now c.args.quality) c.self.inside.rows.places.items c.take.new.self.places.items c.self.inside.rows.ages.items c.take.new.self.ages.items c.take.result
           p.least c.self.invariant.size c.self.invariant.ages p.answered p.written c.take.ensures.ages;
-      opened = p.opened ∙ ap (λ n. if eqb n c.args.instant then c.self.inside.open.items else place c.args.instant c.self.inside.open.items) (sym (ap (λ (row : OpenRowView). row.instant) (aged_row c.self.inside.places.items c.self.inside.ages.items c.self.inside.window c.args.instant p.least c.self.invariant.size c.self.invariant.ages)));
+      opened = p.opened ∙ ap (λ n. if eqb n c.args.instant then c.self.inside.rows.open.items else place c.args.instant c.self.inside.rows.open.items) (sym (ap (λ (row : OpenRowView). row.instant) (aged_row c.self.inside.rows.places.items c.self.inside.rows.ages.items c.self.inside.circle.window c.args.instant p.least c.self.invariant.size c.self.invariant.ages)));
     }
 
 answered : (g : given.Over) (c : goal.After-take g) → c.take.result ≡ put_answer (content_of c.self.inside) c.args.stream c.args.instant (cells_in g.B.Offered.view c.args.cells.now c.args.quality)
 answered g c =
-    let p : IsPutInto c.self.inside.window c.self.inside.last (streams_of (content_of c.self.inside)) c.self.inside.columns c.args.instant c.args.stream (lane_of (content_of c.self.inside) c.args.stream) (cells_in g.B.Offered.view c.args.cells.now c.args.quality) (with_ages c.self.inside.places.items c.self.inside.ages.items) c.self.inside.open.items c.take.result (with_ages c.take.new.places.items c.take.new.ages.items) c.take.new.open.items = aged_into g c in
+    let p : IsPutInto c.self.inside.circle.window c.self.inside.closed.last (streams_of (content_of c.self.inside)) c.self.inside.columns c.args.instant c.args.stream (lane_of (content_of c.self.inside) c.args.stream) (cells_in g.B.Offered.view c.args.cells.now c.args.quality) (with_ages c.self.inside.rows.places.items c.self.inside.rows.ages.items) c.self.inside.rows.open.items c.take.result (with_ages c.take.new.self.places.items c.take.new.self.ages.items) c.take.new.self.open.items = aged_into g c in
     p.answered
     ∙ ap (λ o. answer_at o c.args.stream (lane_of (content_of c.self.inside) c.args.stream) (cells_in g.B.Offered.view c.args.cells.now c.args.quality))
-    (sym (met_in c.self.inside.window c.self.inside.last (streams_of (content_of c.self.inside)) c.self.inside.columns c.args.instant (with_ages c.self.inside.places.items c.self.inside.ages.items) c.self.inside.open.items p.least p.above p.ring))
+    (sym (met_in c.self.inside.circle.window c.self.inside.closed.last (streams_of (content_of c.self.inside)) c.self.inside.columns c.args.instant (with_ages c.self.inside.rows.places.items c.self.inside.rows.ages.items) c.self.inside.rows.open.items p.least p.above p.ring))
     ∙ sym (put_near (content_of c.self.inside) c.args.stream c.args.instant (cells_in g.B.Offered.view c.args.cells.now c.args.quality) c.if-instant-self.false (near g c))
 
 -- the place is that of no closed instant
-apart : (g : given.Over) (c : goal.After-take g) → IsApart c.self.inside.window c.args.instant c.self.inside.closed.items
+apart : (g : given.Over) (c : goal.After-take g) → IsApart c.self.inside.circle.window c.args.instant c.self.inside.closed.instants.items
 apart g c =
-    near_closed c.numbers_rise.ensures (content_of c.self.inside) (with_ages c.self.inside.places.items c.self.inside.ages.items) c.self.inside.layouts.items c.args.instant c.self.inside.closed.items c.self.inside.open.items c.if-instant-self.false (aged_placed c.self.inside.places.items c.self.inside.ages.items c.self.inside.window c.self.inside.closed.items (omega (arith, c.self.invariant.content.window_least)) c.self.invariant.size c.self.invariant.ages c.self.invariant.closed_placed)
-    (ap (λ ns. list_all (is_near c.self.inside.window c.args.instant) (c.self.inside.closed.items ++ ns)) (sym c.deref-2.ensures.value) ∙ sym c.if-not-is_in_window.ensures) c.self.invariant.content
+    near_closed c.numbers_rise.ensures (content_of c.self.inside) (with_ages c.self.inside.rows.places.items c.self.inside.rows.ages.items) c.self.inside.closed.layouts.items c.args.instant c.self.inside.closed.instants.items c.self.inside.rows.open.items c.if-instant-self.false (aged_placed c.self.inside.rows.places.items c.self.inside.rows.ages.items c.self.inside.circle.window c.self.inside.closed.instants.items (omega (arith, c.self.invariant.content.window_least)) c.self.invariant.size c.self.invariant.ages c.self.invariant.closed_placed)
+    (sym c.if-not-is_in_window.ensures) c.self.invariant.content
 
-written : (g : given.Over) (c : goal.After-take g) → c.take.new.places.items ≡ (if is_taken c.take.result
-    then set c.self.inside.places.items (c.args.instant % c.self.inside.window) (with_frame c.args.stream (lane_of (content_of c.self.inside) c.args.stream) (cells_in g.B.Offered.view c.args.cells.now c.args.quality) (base_row c.args.instant (row_in c.self.inside.places.items c.self.inside.window c.args.instant)))
-    else c.self.inside.places.items)
+written : (g : given.Over) (c : goal.After-take g) → c.take.new.self.places.items ≡ (if is_taken c.take.result
+    then set c.self.inside.rows.places.items (c.args.instant % c.self.inside.circle.window) (with_frame c.args.stream (lane_of (content_of c.self.inside) c.args.stream) (cells_in g.B.Offered.view c.args.cells.now c.args.quality) (base_row c.args.instant (row_in c.self.inside.rows.places.items c.self.inside.circle.window c.args.instant)))
+    else c.self.inside.rows.places.items)
 written g c =
-    let p : IsPutInto c.self.inside.window c.self.inside.last (streams_of (content_of c.self.inside)) c.self.inside.columns c.args.instant c.args.stream (lane_of (content_of c.self.inside) c.args.stream) (cells_in g.B.Offered.view c.args.cells.now c.args.quality) c.self.inside.places.items c.self.inside.open.items c.take.result c.take.new.places.items c.take.new.open.items = into g c in
+    let p : IsPutInto c.self.inside.circle.window c.self.inside.closed.last (streams_of (content_of c.self.inside)) c.self.inside.columns c.args.instant c.args.stream (lane_of (content_of c.self.inside) c.args.stream) (cells_in g.B.Offered.view c.args.cells.now c.args.quality) c.self.inside.rows.places.items c.self.inside.rows.open.items c.take.result c.take.new.self.places.items c.take.new.self.open.items = into g c in
     p.written
 
-ages_size : (g : given.Over) (c : goal.After-take g) → length c.take.new.ages.items ≡ c.self.inside.window
+ages_size : (g : given.Over) (c : goal.After-take g) → length c.take.new.self.ages.items ≡ c.self.inside.circle.window
 ages_size g c =
-    ap length c.take.ensures.ages ∙ ages_kept (eqb (row_in c.self.inside.places.items c.self.inside.window c.args.instant).instant c.args.instant) c.self.inside.ages.items (c.args.instant % c.self.inside.window) ∙ c.self.invariant.ages
+    ap length c.take.ensures.ages ∙ ages_kept (eqb (row_in c.self.inside.rows.places.items c.self.inside.circle.window c.args.instant).instant c.args.instant) c.self.inside.rows.ages.items (c.args.instant % c.self.inside.circle.window) ∙ c.self.invariant.ages
 
-kept : (g : given.Over) (c : goal.After-take g) → IsRing c.self.inside.window c.self.inside.last (streams_of (content_of c.self.inside)) c.self.inside.columns c.take.new.places.items c.take.new.open.items
+kept : (g : given.Over) (c : goal.After-take g) → IsRing c.self.inside.circle.window c.self.inside.closed.last (streams_of (content_of c.self.inside)) c.self.inside.columns c.take.new.self.places.items c.take.new.self.open.items
 kept g c =
-    put_kept c.numbers_rise.ensures c.self.inside.window c.self.inside.last (streams_of (content_of c.self.inside)) c.self.inside.columns c.args.instant c.args.stream (lane_of (content_of c.self.inside) c.args.stream) (cells_in g.B.Offered.view c.args.cells.now c.args.quality) c.self.inside.places.items c.self.inside.open.items c.take.result c.take.new.places.items c.take.new.open.items (into g c)
+    put_kept c.numbers_rise.ensures c.self.inside.circle.window c.self.inside.closed.last (streams_of (content_of c.self.inside)) c.self.inside.columns c.args.instant c.args.stream (lane_of (content_of c.self.inside) c.args.stream) (cells_in g.B.Offered.view c.args.cells.now c.args.quality) c.self.inside.rows.places.items c.self.inside.rows.open.items c.take.result c.take.new.self.places.items c.take.new.self.open.items (into g c)
 
-size : (g : given.Over) (c : goal.After-take g) → length c.take.new.places.items ≡ c.self.inside.window
+size : (g : given.Over) (c : goal.After-take g) → length c.take.new.self.places.items ≡ c.self.inside.circle.window
 size g c =
-    let ring : IsRing c.self.inside.window c.self.inside.last (streams_of (content_of c.self.inside)) c.self.inside.columns c.take.new.places.items c.take.new.open.items = kept g c in
+    let ring : IsRing c.self.inside.circle.window c.self.inside.closed.last (streams_of (content_of c.self.inside)) c.self.inside.columns c.take.new.self.places.items c.take.new.self.open.items = kept g c in
     ring.size
 
-closed : (g : given.Over) (c : goal.After-take g) → closed_rows (with_ages c.take.new.places.items c.take.new.ages.items) c.self.inside.layouts.items c.self.inside.window c.self.inside.closed.items ≡ closed_rows (with_ages c.self.inside.places.items c.self.inside.ages.items) c.self.inside.layouts.items c.self.inside.window c.self.inside.closed.items
+closed : (g : given.Over) (c : goal.After-take g) → closed_rows (with_ages c.take.new.self.places.items c.take.new.self.ages.items) c.self.inside.closed.layouts.items c.self.inside.circle.window c.self.inside.closed.instants.items ≡ closed_rows (with_ages c.self.inside.rows.places.items c.self.inside.rows.ages.items) c.self.inside.closed.layouts.items c.self.inside.circle.window c.self.inside.closed.instants.items
 closed g c =
-    aged_closed c.take.new.places.items c.take.new.ages.items c.self.inside.layouts.items c.self.inside.window c.self.inside.closed.items (omega (arith, c.self.invariant.content.window_least)) (size g c) (ages_size g c)
-    ∙ ap (λ ps. closed_rows ps c.self.inside.layouts.items c.self.inside.window c.self.inside.closed.items) (written g c)
-    ∙ written_closed c.self.inside.places.items c.self.inside.layouts.items c.self.inside.window c.args.instant
-    (with_frame c.args.stream (lane_of (content_of c.self.inside) c.args.stream) (cells_in g.B.Offered.view c.args.cells.now c.args.quality) (base_row c.args.instant (row_in c.self.inside.places.items c.self.inside.window c.args.instant)))
-    c.self.inside.closed.items (is_taken c.take.result) (apart g c)
-    ∙ sym (aged_closed c.self.inside.places.items c.self.inside.ages.items c.self.inside.layouts.items c.self.inside.window c.self.inside.closed.items (omega (arith, c.self.invariant.content.window_least)) c.self.invariant.size c.self.invariant.ages)
+    aged_closed c.take.new.self.places.items c.take.new.self.ages.items c.self.inside.closed.layouts.items c.self.inside.circle.window c.self.inside.closed.instants.items (omega (arith, c.self.invariant.content.window_least)) (size g c) (ages_size g c)
+    ∙ ap (λ ps. closed_rows ps c.self.inside.closed.layouts.items c.self.inside.circle.window c.self.inside.closed.instants.items) (written g c)
+    ∙ written_closed c.self.inside.rows.places.items c.self.inside.closed.layouts.items c.self.inside.circle.window c.args.instant
+    (with_frame c.args.stream (lane_of (content_of c.self.inside) c.args.stream) (cells_in g.B.Offered.view c.args.cells.now c.args.quality) (base_row c.args.instant (row_in c.self.inside.rows.places.items c.self.inside.circle.window c.args.instant)))
+    c.self.inside.closed.instants.items (is_taken c.take.result) (apart g c)
+    ∙ sym (aged_closed c.self.inside.rows.places.items c.self.inside.rows.ages.items c.self.inside.closed.layouts.items c.self.inside.circle.window c.self.inside.closed.instants.items (omega (arith, c.self.invariant.content.window_least)) c.self.invariant.size c.self.invariant.ages)
 
-stands : (g : given.Over) (c : goal.After-take g) → ArePlaced c.take.new.places.items c.self.inside.window c.self.inside.closed.items
+stands : (g : given.Over) (c : goal.After-take g) → ArePlaced c.take.new.self.places.items c.self.inside.circle.window c.self.inside.closed.instants.items
 stands g c =
-    subst (λ ps. ArePlaced ps c.self.inside.window c.self.inside.closed.items) (sym (written g c))
-    (written_placed c.self.inside.places.items c.self.inside.window c.args.instant
-    (with_frame c.args.stream (lane_of (content_of c.self.inside) c.args.stream) (cells_in g.B.Offered.view c.args.cells.now c.args.quality) (base_row c.args.instant (row_in c.self.inside.places.items c.self.inside.window c.args.instant)))
-    c.self.inside.closed.items (is_taken c.take.result) (apart g c) c.self.invariant.closed_placed)
+    subst (λ ps. ArePlaced ps c.self.inside.circle.window c.self.inside.closed.instants.items) (sym (written g c))
+    (written_placed c.self.inside.rows.places.items c.self.inside.circle.window c.args.instant
+    (with_frame c.args.stream (lane_of (content_of c.self.inside) c.args.stream) (cells_in g.B.Offered.view c.args.cells.now c.args.quality) (base_row c.args.instant (row_in c.self.inside.rows.places.items c.self.inside.circle.window c.args.instant)))
+    c.self.inside.closed.instants.items (is_taken c.take.result) (apart g c) c.self.invariant.closed_placed)
 
-rows : (g : given.Over) (c : goal.After-take g) → rows_in (with_ages c.take.new.places.items c.take.new.ages.items) c.self.inside.window c.take.new.open.items ≡ (if is_taken c.take.result
-    then with_row (with_frame c.args.stream (lane_of (content_of c.self.inside) c.args.stream) (cells_in g.B.Offered.view c.args.cells.now c.args.quality)) (fresh_row (content_of c.self.inside) c.args.instant) (rows_in (with_ages c.self.inside.places.items c.self.inside.ages.items) c.self.inside.window c.self.inside.open.items)
-    else rows_in (with_ages c.self.inside.places.items c.self.inside.ages.items) c.self.inside.window c.self.inside.open.items)
+rows : (g : given.Over) (c : goal.After-take g) → rows_in (with_ages c.take.new.self.places.items c.take.new.self.ages.items) c.self.inside.circle.window c.take.new.self.open.items ≡ (if is_taken c.take.result
+    then with_row (with_frame c.args.stream (lane_of (content_of c.self.inside) c.args.stream) (cells_in g.B.Offered.view c.args.cells.now c.args.quality)) (fresh_row (content_of c.self.inside) c.args.instant) (rows_in (with_ages c.self.inside.rows.places.items c.self.inside.rows.ages.items) c.self.inside.circle.window c.self.inside.rows.open.items)
+    else rows_in (with_ages c.self.inside.rows.places.items c.self.inside.rows.ages.items) c.self.inside.circle.window c.self.inside.rows.open.items)
 rows g c =
-    put_rows c.numbers_rise.ensures c.self.inside.window c.self.inside.last (streams_of (content_of c.self.inside)) c.self.inside.columns c.args.instant c.args.stream (lane_of (content_of c.self.inside) c.args.stream) (cells_in g.B.Offered.view c.args.cells.now c.args.quality) (with_ages c.self.inside.places.items c.self.inside.ages.items) c.self.inside.open.items c.take.result (with_ages c.take.new.places.items c.take.new.ages.items) c.take.new.open.items (aged_into g c)
+    put_rows c.numbers_rise.ensures c.self.inside.circle.window c.self.inside.closed.last (streams_of (content_of c.self.inside)) c.self.inside.columns c.args.instant c.args.stream (lane_of (content_of c.self.inside) c.args.stream) (cells_in g.B.Offered.view c.args.cells.now c.args.quality) (with_ages c.self.inside.rows.places.items c.self.inside.rows.ages.items) c.self.inside.rows.open.items c.take.result (with_ages c.take.new.self.places.items c.take.new.self.ages.items) c.take.new.self.open.items (aged_into g c)
 
 pub returns-clause-answer : goal.returns-clause-answer
 returns-clause-answer g c = answered g c ∙ ap (λ (t : TableView). put_answer t.content c.args.stream c.args.instant (cells_in g.B.Offered.view c.args.cells.now c.args.quality)) c.self.view_is
 
 pub returns-clause-content : goal.returns-clause-content
 returns-clause-content g c =
-    ap (λ rs. record (content_of c.self.inside) { open_rows = rows_in (with_ages c.take.new.places.items c.take.new.ages.items) c.self.inside.window c.take.new.open.items; closed = rs }) (closed g c)
+    ap (λ rs. record (content_of c.self.inside) { open_rows = rows_in (with_ages c.take.new.self.places.items c.take.new.self.ages.items) c.self.inside.circle.window c.take.new.self.open.items; closed = rs }) (closed g c)
     ∙ ap (λ rs. record (content_of c.self.inside) { open_rows = rs }) (rows g c)
-    ∙ put_content (is_taken c.take.result) (content_of c.self.inside) (with_row (with_frame c.args.stream (lane_of (content_of c.self.inside) c.args.stream) (cells_in g.B.Offered.view c.args.cells.now c.args.quality)) (fresh_row (content_of c.self.inside) c.args.instant) (rows_in (with_ages c.self.inside.places.items c.self.inside.ages.items) c.self.inside.window c.self.inside.open.items))
+    ∙ put_content (is_taken c.take.result) (content_of c.self.inside) (with_row (with_frame c.args.stream (lane_of (content_of c.self.inside) c.args.stream) (cells_in g.B.Offered.view c.args.cells.now c.args.quality)) (fresh_row (content_of c.self.inside) c.args.instant) (rows_in (with_ages c.self.inside.rows.places.items c.self.inside.rows.ages.items) c.self.inside.circle.window c.self.inside.rows.open.items))
     ∙ ap (λ a. if is_taken a then after_take (content_of c.self.inside) c.args.stream c.args.instant (cells_in g.B.Offered.view c.args.cells.now c.args.quality) else content_of c.self.inside) (answered g c)
     ∙ ap (λ (t : TableView). after_put t.content c.args.stream c.args.instant (cells_in g.B.Offered.view c.args.cells.now c.args.quality)) c.self.view_is
 
@@ -190,8 +190,8 @@ returns-clause-well_formed g c =
 
 pub invariant_of-self : goal.invariant_of-self
 invariant_of-self g c =
-    let ring : IsRing c.self.inside.window c.self.inside.last (streams_of (content_of c.self.inside)) c.self.inside.columns c.take.new.places.items c.take.new.open.items =
-    put_kept c.numbers_rise.ensures c.self.inside.window c.self.inside.last (streams_of (content_of c.self.inside)) c.self.inside.columns c.args.instant c.args.stream (lane_of (content_of c.self.inside) c.args.stream) (cells_in g.B.Offered.view c.args.cells.now c.args.quality) c.self.inside.places.items c.self.inside.open.items c.take.result c.take.new.places.items c.take.new.open.items (into g c) in
+    let ring : IsRing c.self.inside.circle.window c.self.inside.closed.last (streams_of (content_of c.self.inside)) c.self.inside.columns c.take.new.self.places.items c.take.new.self.open.items =
+    put_kept c.numbers_rise.ensures c.self.inside.circle.window c.self.inside.closed.last (streams_of (content_of c.self.inside)) c.self.inside.columns c.args.instant c.args.stream (lane_of (content_of c.self.inside) c.args.stream) (cells_in g.B.Offered.view c.args.cells.now c.args.quality) c.self.inside.rows.places.items c.self.inside.rows.open.items c.take.result c.take.new.self.places.items c.take.new.self.open.items (into g c) in
     record {
       content = rw (rows g c, closed g c) (keeps-offered c.numbers_rise.ensures (content_of c.self.inside) (is_taken c.take.result) c.args.stream (lane_of (content_of c.self.inside) c.args.stream) c.args.instant (cells_in g.B.Offered.view c.args.cells.now c.args.quality) c.if-instant-self.false (near g c) c.self.invariant.content);
       size = ring.size;
@@ -202,6 +202,5 @@ invariant_of-self g c =
       closed_placed = stands g c;
       known = ring.known;
       room = rw c.take.ensures.open_capacity c.self.invariant.room;
-      near = c.place_of.ensures.value;
       closed_room = c.self.invariant.closed_room;
     }

@@ -12,10 +12,10 @@ use Rattle.pdc_table.proofs.RingClosed.{placed-less}
 use Rattle.pdc_table.proofs.ring_table.RingTableTable.pop_due.Goals as goal
 
 -- the closed rows without the first
-rest : (c : goal.After-pop) → closed_rows (with_ages c.self.inside.places.items c.self.inside.ages.items) c.self.inside.layouts.items c.self.inside.window c.pop.new.closed.items ≡ drop 1 (closed_rows (with_ages c.self.inside.places.items c.self.inside.ages.items) c.self.inside.layouts.items c.self.inside.window c.self.inside.closed.items)
+rest : (c : goal.After-pop) → closed_rows (with_ages c.self.inside.rows.places.items c.self.inside.rows.ages.items) c.self.inside.closed.layouts.items c.self.inside.circle.window c.pop.new.closed.items ≡ drop 1 (closed_rows (with_ages c.self.inside.rows.places.items c.self.inside.rows.ages.items) c.self.inside.closed.layouts.items c.self.inside.circle.window c.self.inside.closed.instants.items)
 rest c =
-    ap (closed_rows (with_ages c.self.inside.places.items c.self.inside.ages.items) c.self.inside.layouts.items c.self.inside.window) c.pop.ensures.rest
-    ∙ sym (drop-map (closed_row (with_ages c.self.inside.places.items c.self.inside.ages.items) c.self.inside.layouts.items c.self.inside.window) 1 c.self.inside.closed.items)
+    ap (closed_rows (with_ages c.self.inside.rows.places.items c.self.inside.rows.ages.items) c.self.inside.closed.layouts.items c.self.inside.circle.window) c.pop.ensures.rest
+    ∙ sym (drop-map (closed_row (with_ages c.self.inside.rows.places.items c.self.inside.rows.ages.items) c.self.inside.closed.layouts.items c.self.inside.circle.window) 1 c.self.inside.closed.instants.items)
 
 pub invariant_of-self : goal.invariant_of-self
 invariant_of-self c = record {
@@ -25,19 +25,18 @@ invariant_of-self c = record {
   placed = c.self.invariant.placed;
   ages = c.self.invariant.ages;
   layouts = c.self.invariant.layouts;
-  closed_placed = rw c.pop.ensures.rest (placed-less c.self.inside.places.items c.self.inside.window c.self.inside.closed.items c.self.invariant.closed_placed);
+  closed_placed = rw c.pop.ensures.rest (placed-less c.self.inside.rows.places.items c.self.inside.circle.window c.self.inside.closed.instants.items c.self.invariant.closed_placed);
   known = c.self.invariant.known;
   room = c.self.invariant.room;
-  near = c.self.invariant.near;
   closed_room = rw c.pop.ensures.capacity c.self.invariant.closed_room;
 }
 
 pub returns-clause-answer : goal.returns-clause-answer
 returns-clause-answer c =
     c.pop.ensures.row
-    ∙ ap (λ (rows : List RowView). slice_get rows 0) (ap (λ ps. closed_rows ps c.deref-2.result.now c.self.inside.window c.self.inside.closed.items) c.deref.ensures.value
-    ∙ ap (λ ls. closed_rows c.self.inside.places.items ls c.self.inside.window c.self.inside.closed.items) c.deref-2.ensures.value
-    ∙ sym (aged_closed c.self.inside.places.items c.self.inside.ages.items c.self.inside.layouts.items c.self.inside.window c.self.inside.closed.items (omega (arith, c.self.invariant.content.window_least)) c.self.invariant.size c.self.invariant.ages))
+    ∙ ap (λ (rows : List RowView). slice_get rows 0) (ap (λ ps. closed_rows ps c.deref-2.result.now c.self.inside.circle.window c.self.inside.closed.instants.items) c.deref.ensures.value
+    ∙ ap (λ ls. closed_rows c.self.inside.rows.places.items ls c.self.inside.circle.window c.self.inside.closed.instants.items) c.deref-2.ensures.value
+    ∙ sym (aged_closed c.self.inside.rows.places.items c.self.inside.rows.ages.items c.self.inside.closed.layouts.items c.self.inside.circle.window c.self.inside.closed.instants.items (omega (arith, c.self.invariant.content.window_least)) c.self.invariant.size c.self.invariant.ages))
     ∙ ap (λ (t : TableView). pop_answer t.content) c.self.view_is
 
 pub returns-clause-content : goal.returns-clause-content

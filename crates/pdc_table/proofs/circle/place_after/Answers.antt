@@ -1,6 +1,6 @@
 use Rattle.std.proofs.Common.{arith, ◌-◌}
 use Rattle.pdc_table.proofs.Remainders.{above}
-use Rattle.pdc_table.proofs.near.place_after.Goals as goal
+use Rattle.pdc_table.proofs.circle.place_after.Goals as goal
 
 pub returns-then-after-left-clause-value : goal.returns-then-after-left-clause-value
 returns-then-after-left-clause-value c =

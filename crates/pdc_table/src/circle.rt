@@ -1,30 +1,37 @@
-//! Places, found without a division.
+//! A circle of places, on which a place is found without a division.
 ghost use Rattle.std.specs.Prelude.{◌≡◌, ◌+◌, ◌-◌, ◌%◌, ◌<◌, ◌≤◌};
 
-/// An instant whose place is known. The place of an instant that is less than a window away is found from it by a sum, where a
-/// division takes some forty steps of a processor.
+/// A circle of places, each instant at its remainder by the window, with one instant whose place is known. The place of an instant
+/// that is less than a window away is found from it by a sum, where a division takes some forty steps of a processor.
 #[derive(Clone, Copy)]
-pub struct Near {
+pub struct Circle {
+    /// How many places there are.
+    pub window: u64,
+    /// The instant whose place is known.
     pub instant: u64,
+    /// Its place.
     pub place: usize,
+    pub ghost least: { 0 < window },
+    pub ghost known: { place ≡ instant % window },
 }
 
-/// The place of an instant: its remainder by the window.
-#[inline]
-pub fn place_of(window: u64, near: Near, instant: u64) -> usize
-    requires least { 0 < window }
-    requires near { near.place ≡ near.instant % window }
-    ensures value { result ≡ instant % window }
-    ensures bound { result < window }
-{
-    // The next instant is often the same.
-    if near.instant == instant {
-        return near.place;
-    }
-    if near.instant <= instant {
-        place_after(window, near.place as u64, instant - near.instant, instant) as usize
-    } else {
-        place_before(window, near.place as u64, near.instant - instant, instant) as usize
+impl Circle {
+    /// The place of an instant: its remainder by the window.
+    #[inline]
+    pub fn place_of(&self, instant: u64) -> usize
+        ensures value { result ≡ instant % self.now.window }
+        ensures bound { result < self.now.window }
+    {
+        // The next instant is often the same.
+        if self.instant == instant {
+            return self.place;
+        }
+        let place = self.place as u64;
+        if self.instant <= instant {
+            place_after(self.window, place, instant - self.instant, instant) as usize
+        } else {
+            place_before(self.window, place, self.instant - instant, instant) as usize
+        }
     }
 }
 

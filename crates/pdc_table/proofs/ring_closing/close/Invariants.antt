@@ -3,12 +3,12 @@ use Rattle.std.specs.Vec.{vec_capacity}
 use Rattle.std.specs.VecDeque.{deque_capacity, deque_len}
 use Rattle.pdc_table.specs.Layout.{layout_view}
 use Rattle.pdc_table.specs.RingRows.{laid}
-use Rattle.pdc_table.proofs.ring.close.Given as goal
+use Rattle.pdc_table.proofs.ring_closing.close.Given as goal
 
 abbrev pub invariant-loop-instant : goal.invariant-loop-instant
 invariant-loop-instant l = record {
-  left : laid (layout_view l.layout) l.window (drop l.instant-index l.due) l.layouts.items ≡ laid (layout_view l.layout) l.window l.due l.initial.layouts.items;
-  size : length l.layouts.items ≡ l.window;
+  left : laid (layout_view l.layout) l.circle.window (drop l.instant-index l.due) l.layouts.items ≡ laid (layout_view l.layout) l.circle.window l.due l.initial.layouts.items;
+  size : length l.layouts.items ≡ l.circle.window;
   items : l.closed.items ≡ l.initial.closed.items ++ take l.instant-index l.due;
   len : deque_len l.closed ≡ deque_len l.initial.closed + l.instant-index;
   layouts_capacity : vec_capacity l.layouts ≡ vec_capacity l.initial.layouts;

@@ -1,7 +1,7 @@
 use Rattle.std.proofs.Common.{◌≡◌, ◌≤◌, replicate, vec_len}
 use Rattle.std.specs.Vec.{vec_capacity}
 use Rattle.pdc_table.specs.RingRows.{no_layout}
-use Rattle.pdc_table.proofs.ring.new_layouts.Given as goal
+use Rattle.pdc_table.proofs.ring_closing.new_layouts.Given as goal
 
 abbrev pub invariant-loop : goal.invariant-loop
 invariant-loop l = record {

@@ -1,0 +1,180 @@
+//! How the rows of a ring close, and come out: a closed row stays at its place until it is popped.
+ghost use Rattle.std.specs.Prelude.{◌≡◌, ◌+◌, ◌≤◌, ◌++◌, drop, false, length, option_map, replicate, IfOk, take, vec_len};
+ghost use Rattle.std.specs.List.{AllByRecursion, slice_get};
+ghost use Rattle.std.specs.Vec.{vec_capacity};
+ghost use Rattle.std.specs.VecDeque.{deque_capacity, deque_len};
+ghost use Rattle.pdc_row.specs.Quality.{greatest};
+ghost use Rattle.pdc_row.specs.Rising.{Rises};
+ghost use Rattle.pdc_row.specs.RowView.{row_view};
+ghost use Rattle.pdc_table.specs.Closing.{closing, counter, staying};
+ghost use Rattle.pdc_table.specs.KeptRow.{popped_into};
+ghost use Rattle.pdc_table.specs.Layout.{layout_view};
+ghost use Rattle.pdc_table.specs.OpenInstants.{instants_of};
+ghost use Rattle.pdc_table.specs.RingRows.{closed_rows, laid, no_layout, row_in, rows_in, with_ages};
+ghost use Rattle.pdc_table.specs.Steps.{disagreements_in};
+
+use crate::circle::Circle;
+use crate::ring::{Rows, count_disagreements, count_due};
+use crate::{ClosingLayout, RowLayout, WaitRule};
+use arrayvec::ArrayVec;
+use pdc_row::DueRow;
+use std::alloc::{AllocError, Global};
+use std::collections::VecDeque;
+
+/// What is closed of a ring and was not popped, and what every closing adds to.
+#[derive(Drop)]
+pub struct Closed {
+    /// The closed instants that were not popped, in rising order: their rows stay at their places.
+    pub instants: VecDeque<u64>,
+    /// At the same place stands the layout that a closed row closed under.
+    pub layouts: Vec<ClosingLayout>,
+    /// The greatest instant closed, at first the floor.
+    pub last: u64,
+    /// The count of disagreements.
+    pub disagree: u64,
+}
+
+/// So many places for the layouts of closed rows.
+pub fn new_layouts(alloc: Global, count: usize) -> Result<Vec<ClosingLayout>, AllocError>
+    ensures items { IfOk result (λ layouts. layouts.items ≡ replicate count no_layout) }
+{
+    let mut layouts = Vec::with_capacity(alloc, count)?;
+    for _ in 0..count {
+        layouts.push_reserved(ClosingLayout::blank());
+    }
+    Ok(layouts)
+}
+
+/// Closes these instants under a layout, in order: their rows stay at their places.
+fn close(
+    layouts: &mut Vec<ClosingLayout>,
+    circle: &Circle,
+    due: &[u64],
+    layout: &RowLayout,
+    closed: &mut VecDeque<u64>,
+)
+    requires size { length layouts.old.items ≡ circle.now.window }
+    requires room { deque_len closed.old + length due.now ≤ deque_capacity closed.old }
+    ensures layouts { layouts.new.items ≡ laid (layout_view layout.now) circle.now.window due.now layouts.old.items }
+    ensures items { closed.new.items ≡ closed.old.items ++ due.now }
+    ensures layouts_capacity { vec_capacity layouts.new ≡ vec_capacity layouts.old }
+    ensures capacity { deque_capacity closed.new ≡ deque_capacity closed.old }
+{
+    for instant in due {
+        let place = circle.place_of(*instant);
+        layouts[place].set(layout);
+        closed.push_back_reserved(*instant);
+    }
+}
+
+/// The greatest of these instants and this one.
+fn greatest(due: &[u64], last: u64) -> u64
+    ensures { result ≡ greatest last due.now }
+{
+    let mut greatest = last;
+    for instant in due {
+        greatest = greatest.max(*instant);
+    }
+    greatest
+}
+
+impl Closed {
+    /// Closes the rows for which every row up to them is due, and answers how many: so many open instants, from the front on, are
+    /// open no more.
+    pub fn close_due(
+        &mut self,
+        rows: &Rows,
+        circle: &Circle,
+        required: &[bool],
+        rule: WaitRule,
+        layout: &RowLayout,
+    ) -> usize
+        requires size { length rows.now.places.items ≡ circle.now.window }
+        requires ages_size { length rows.now.ages.items ≡ circle.now.window }
+        requires layouts_size { length self.old.layouts.items ≡ circle.now.window }
+        requires rising { Rises self.old.last rows.now.open.items }
+        requires placed { AllByRecursion (λ i. (row_in (with_ages rows.now.places.items rows.now.ages.items) circle.now.window i).instant ≡ i) rows.now.open.items }
+        requires room { deque_len self.old.instants + vec_len rows.now.open ≤ deque_capacity self.old.instants }
+        ensures answer { result ≡ length (closing required.now rule (rows_in (with_ages rows.now.places.items rows.now.ages.items) circle.now.window rows.now.open.items)) }
+        ensures bound { result ≤ length rows.now.open.items }
+        ensures staying { rows_in (with_ages rows.now.places.items rows.now.ages.items) circle.now.window (drop result rows.now.open.items)
+            ≡ staying required.now rule (rows_in (with_ages rows.now.places.items rows.now.ages.items) circle.now.window rows.now.open.items) }
+        ensures layouts { self.new.layouts.items ≡ laid (layout_view layout.now) circle.now.window (take result rows.now.open.items) self.old.layouts.items }
+        ensures closed { self.new.instants.items ≡ self.old.instants.items ++ take result rows.now.open.items }
+        ensures due_rows { rows_in (with_ages rows.now.places.items rows.now.ages.items) circle.now.window (take result rows.now.open.items)
+            ≡ closing required.now rule (rows_in (with_ages rows.now.places.items rows.now.ages.items) circle.now.window rows.now.open.items) }
+        ensures front { self.new.last ≡ greatest self.old.last (take result rows.now.open.items) }
+        ensures last { self.new.last ≡ greatest self.old.last
+            (instants_of (closing required.now rule (rows_in (with_ages rows.now.places.items rows.now.ages.items) circle.now.window rows.now.open.items))) }
+        ensures disagree { self.new.disagree ≡ counter (self.old.disagree + disagreements_in (layout_view layout.now)
+            (closing required.now rule (rows_in (with_ages rows.now.places.items rows.now.ages.items) circle.now.window rows.now.open.items))) }
+        ensures layouts_capacity { vec_capacity self.new.layouts ≡ vec_capacity self.old.layouts }
+        ensures capacity { deque_capacity self.new.instants ≡ deque_capacity self.old.instants }
+    {
+        let count = count_due(rows, circle, required, rule);
+        let due = &rows.open[..count];
+        close(&mut self.layouts, circle, due, layout, &mut self.instants);
+        self.last = greatest(due, self.last);
+        self.disagree = count_disagreements(rows, circle, due, layout, self.disagree);
+        count
+    }
+}
+
+/// The lowest closed instant.
+pub fn first(closed: &VecDeque<u64>) -> Option<u64>
+    ensures { result ≡ slice_get closed.now.items 0 }
+{
+    closed.front().copied()
+}
+
+/// Takes the lowest closed instant out, and gives its row.
+#[inline(never)]
+pub fn pop(
+    rows: &Rows,
+    layouts: &[ClosingLayout],
+    circle: &Circle,
+    closed: &mut VecDeque<u64>,
+) -> Option<DueRow>
+    requires size { length rows.now.places.items ≡ circle.now.window }
+    requires layouts_size { length layouts.now ≡ circle.now.window }
+    ensures row { option_map row_view result ≡ slice_get (closed_rows rows.now.places.items layouts.now circle.now.window closed.old.items) 0 }
+    ensures rest { closed.new.items ≡ drop 1 closed.old.items }
+    ensures capacity { deque_capacity closed.new ≡ deque_capacity closed.old }
+{
+    let instant = closed.pop_front()?;
+    let place = circle.place_of(instant);
+    let open_row = &rows.places[place];
+    let layout = layouts[place].layout();
+    let mut row = DueRow {
+        instant: open_row.instant(),
+        start: layout.start,
+        change: layout.change,
+        quality: 0,
+        blocks: ArrayVec::from_array_in((), Default::default()),
+    };
+    row.quality = open_row.fill(layout, &mut row.blocks);
+    Some(row)
+}
+
+/// Takes the lowest closed instant out, and writes its row over this one. Whether there was one.
+pub fn pop_into(
+    rows: &Rows,
+    layouts: &[ClosingLayout],
+    circle: &Circle,
+    closed: &mut VecDeque<u64>,
+    row: &mut DueRow,
+) -> bool
+    requires size { length rows.now.places.items ≡ circle.now.window }
+    requires layouts_size { length layouts.now ≡ circle.now.window }
+    ensures row { popped_into result row.new ≡ slice_get (closed_rows rows.now.places.items layouts.now circle.now.window closed.old.items) 0 }
+    ensures none { result ≡ false → row.new ≡ row.old }
+    ensures rest { closed.new.items ≡ drop 1 closed.old.items }
+    ensures capacity { deque_capacity closed.new ≡ deque_capacity closed.old }
+{
+    let Some(instant) = closed.pop_front() else {
+        return false;
+    };
+    let place = circle.place_of(instant);
+    rows.places[place].close_into(layouts[place].layout(), row);
+    true
+}
