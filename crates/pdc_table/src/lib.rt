@@ -12,6 +12,7 @@
 mod circle;
 mod closing_layout;
 mod column;
+mod columns;
 mod front;
 mod laws;
 mod limits;
@@ -20,6 +21,7 @@ mod outcome;
 mod ring;
 mod ring_closing;
 mod ring_table;
+mod row_blocks;
 mod row_layout;
 mod spare;
 mod streams;

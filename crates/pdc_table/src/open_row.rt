@@ -1,25 +1,25 @@
 //! The row of an instant that is open.
-ghost use Rattle.std.specs.Prelude.{◌≡◌, ℕ, ◌+◌, ◌<◌, ◌≤◌, ◌++◌, ◌∷◌, List, length, map, option_copied, replicate, take, false, slice_index_or, Some, IfSome, if◌then◌else◌};
+ghost use Rattle.std.specs.Prelude.{◌≡◌, ℕ, ◌<◌, ◌≤◌, length, map, false, Some, if◌then◌else◌};
 ghost use Rattle.std.specs.List.{All, list_any};
-ghost use Rattle.pdc_row.specs.CellView.{absent_view, block_view};
-ghost use Rattle.pdc_row.specs.Quality.{worst_of};
+ghost use Rattle.pdc_row.specs.CellView.{block_view};
 ghost use Rattle.pdc_row.specs.RowView.{row_view};
-ghost use Rattle.pdc_table.specs.Chosen.{chosen_of};
 ghost use Rattle.pdc_table.specs.RingRows.{at_age};
-ghost use Rattle.pdc_table.specs.Row.{blocks_at, qualities_at, row_of};
+ghost use Rattle.pdc_table.specs.Row.{row_of};
 ghost use Rattle.pdc_table.specs.Closing.{all_taken, is_due};
-ghost use Rattle.pdc_table.specs.Steps.{answer_at, disagreement_at, disagreements_of, is_taken};
+ghost use Rattle.pdc_table.specs.Steps.{answer_at, disagreements_of, is_taken};
 ghost use Rattle.pdc_table.specs.Layout.{layout_view};
-ghost use Rattle.pdc_table.specs.Taking.{cell_in, cells_in, conflicts, holds_other, with_cells, with_frame, without_column, without_stream};
-ghost use Rattle.pdc_table.specs.OpenRowParts.{columns_of, nothing, worst_kept};
-ghost use Rattle.pdc_table.specs.Views.{blank_row, empty_column};
+ghost use Rattle.pdc_table.specs.Taking.{cells_in, conflicts, with_frame, without_column, without_stream};
+ghost use Rattle.pdc_table.specs.OpenRowParts.{columns_of};
+ghost use Rattle.pdc_table.specs.Views.{blank_row};
 ghost use Rattle.pdc_table.specs.declared.column.Held.{Held as HeldData};
 
 use crate::column::{NOTHING, forget_all, forget_lane};
-use crate::streams::falses;
+use crate::columns::{any_other, chosen_at, disagreements_at, nothings, put_cells};
+use crate::row_blocks::{give, make_slot};
+use crate::streams::{all_taken, falses};
 use crate::{Held, MAX_COLUMNS, PutOutcome, RowLayout, WaitRule};
 use arrayvec::ArrayVec;
-use pdc_row::{Block, Cell, DueRow, Offered, Shape, set_absent};
+use pdc_row::{Block, Cell, DueRow, Offered};
 use std::array;
 use std::marker::Model;
 
@@ -258,221 +258,11 @@ impl OpenRow {
                 continue;
             };
             make_slot(blocks, count);
-            above = give(
-                self.held.as_slice(),
-                &self.first,
-                &self.second,
-                place,
-                shape,
-                blocks.as_mut_slice(),
-                count,
-                above,
-            );
+            let cell = chosen_at(self.held.as_slice(), &self.first, &self.second, place);
+            above = give(cell, shape, blocks.as_mut_slice(), count, above);
             count += 1;
         }
         blocks.truncate(count);
         if above == 0 { WORST_QUALITY } else { above - 1 }
     }
-}
-
-/// So many columns in which nothing was taken.
-fn nothings(count: usize) -> ArrayVec<Held, MAX_COLUMNS>
-    requires { count ≤ MAX_COLUMNS }
-    ensures { result.items ≡ replicate count nothing }
-{
-    let mut nothings = ArrayVec::from_array_in((), [NOTHING; MAX_COLUMNS]);
-    nothings.truncate(count);
-    nothings
-}
-
-/// Makes a slot behind so many blocks, where there is none.
-fn make_slot(blocks: &mut ArrayVec<Block, 16>, count: usize)
-    requires held { count ≤ length blocks.old.items }
-    requires room { count < 16 }
-    ensures slot { count < length blocks.new.items }
-    ensures held { take count blocks.new.items ≡ take count blocks.old.items }
-{
-    if count == blocks.len() {
-        blocks.push(Block::default());
-    }
-}
-
-/// Whether each required stream was taken.
-fn all_taken(required: &[bool], taken: &[bool]) -> bool
-    ensures { result ≡ all_taken required.now taken.now }
-{
-    for (stream, is_required) in required.iter().enumerate() {
-        if *is_required && taken.get(stream) == Some(&false) {
-            return false;
-        }
-    }
-    true
-}
-
-/// Whether the lane of the column holds another block than this; a lane that holds nothing does not.
-#[inline]
-fn holds_other<B: Offered>(
-    held: &[Held],
-    first: &[Cell],
-    second: &[Cell],
-    column: usize,
-    lane: usize,
-    block: &B,
-) -> bool
-    requires column { column < length held.now }
-    requires first { length held.now ≤ length first.now }
-    requires second { length held.now ≤ length second.now }
-    ensures { result ≡ holds_other (cell_in lane (slice_index_or (columns_of held.now first.now second.now) column empty_column))
-        (B.view block.now) }
-{
-    held[column].holds_other(&first[column], &second[column], lane, block)
-}
-
-/// Whether some of these blocks differs from what this lane of its column holds.
-fn any_other<B: Offered>(
-    held: &[Held],
-    first: &[Cell],
-    second: &[Cell],
-    lane: usize,
-    cells: &[(usize, B)],
-) -> bool
-    requires columns { All (λ (cell : ℕ × B). cell.0 < length held.now) cells.now }
-    requires first { length held.now ≤ length first.now }
-    requires second { length held.now ≤ length second.now }
-    ensures { (quality : ℕ) → result ≡ conflicts lane (cells_in B.view cells.now quality) (columns_of held.now first.now second.now) }
-{
-    for (column, block) in cells {
-        if holds_other(held, first, second, *column, lane, block) {
-            return true;
-        }
-    }
-    false
-}
-
-/// Puts the blocks into their columns, in this lane.
-#[inline(always)]
-fn put_cells<B: Offered>(
-    held: &mut [Held],
-    first: &mut [Cell],
-    second: &mut [Cell],
-    lane: usize,
-    cells: &[(usize, B)],
-    quality: u8,
-)
-    requires columns { All (λ (cell : ℕ × B). cell.0 < length held.old) cells.now }
-    requires first { length held.old ≤ length first.old }
-    requires second { length held.old ≤ length second.old }
-    ensures columns { columns_of held.new first.new second.new
-        ≡ with_cells lane (cells_in B.view cells.now quality) (columns_of held.old first.old second.old) }
-    ensures held { length held.new ≡ length held.old }
-    ensures first { length first.new ≡ length first.old }
-    ensures second { length second.new ≡ length second.old }
-    ensures alone { lane ≡ 0 → list_any (λ (h : HeldData). h.second) held.new ≡ list_any (λ (h : HeldData). h.second) held.old }
-{
-    for (column, block) in cells {
-        held[*column].put(
-            &mut first[*column],
-            &mut second[*column],
-            lane,
-            block,
-            quality,
-        );
-    }
-}
-
-/// How many disagreements the column at this place gives, one or none; past the last column there is nothing.
-#[inline]
-#[tactic(auto, using(crate::proofs::OpenRowParts::column_at, crate::proofs::OpenRowParts::column_past))]
-fn disagreements_at(
-    held: &[Held],
-    first: &[Cell],
-    second: &[Cell],
-    place: usize,
-    shape: Option<Shape>,
-) -> u64
-    requires first { length held.now ≤ length first.now }
-    requires second { length held.now ≤ length second.now }
-    ensures value { result ≡ disagreement_at shape (slice_index_or (columns_of held.now first.now second.now) place empty_column) }
-    ensures most { result ≤ 1 }
-{
-    if place < held.len() {
-        held[place].disagreements(&first[place], &second[place], shape)
-    } else {
-        0
-    }
-}
-
-/// The cell that the column at this place gives; past the last column there is none.
-#[inline]
-#[tactic(auto, using(crate::proofs::OpenRowParts::column_at, crate::proofs::OpenRowParts::column_past))]
-fn chosen_at<'a>(
-    held: &[Held],
-    first: &'a [Cell],
-    second: &'a [Cell],
-    place: usize,
-) -> Option<&'a Cell>
-    requires first { length held.now ≤ length first.now }
-    requires second { length held.now ≤ length second.now }
-    ensures { option_copied result ≡ chosen_of (slice_index_or (columns_of held.now first.now second.now) place empty_column) }
-{
-    if place < held.len() {
-        held[place].chosen(&first[place], &second[place])
-    } else {
-        None
-    }
-}
-
-/// Writes the block that the column at this place gives, which has this shape, behind so many blocks, and answers the number
-/// above the worst quality so far with its own, if it is present: 0 where there is none so far.
-#[inline]
-fn give(
-    held: &[Held],
-    first: &[Cell],
-    second: &[Cell],
-    place: usize,
-    shape: &Shape,
-    blocks: &mut [Block],
-    count: usize,
-    above: u8,
-) -> u8
-    requires first { length held.now ≤ length first.now }
-    requires second { length held.now ≤ length second.now }
-    requires room { count < length blocks.old }
-    requires above { above ≤ 16 }
-    ensures blocks { map block_view (take (count + 1) blocks.new) ≡ map block_view (take count blocks.old)
-        ++ blocks_at (Some shape.now) (slice_index_or (columns_of held.now first.now second.now) place empty_column) }
-    ensures len { length blocks.new ≡ length blocks.old }
-    ensures quality { (ns : List ℕ) → worst_of (worst_kept result) ns ≡ worst_of (worst_kept above)
-        (qualities_at (Some shape.now) (slice_index_or (columns_of held.now first.now second.now) place empty_column) ++ ns) }
-    ensures fits { result ≤ 16 }
-{
-    match chosen_at(held, first, second, place) {
-        Some(cell) => {
-            cell.copy_to(&mut blocks[count]);
-            worse(above, cell.time_quality())
-        }
-        None => {
-            give_absent(&mut blocks[count], shape);
-            above
-        }
-    }
-}
-
-/// The number above the worst quality so far, where this one is given too.
-#[inline]
-fn worse(above: u8, quality: u8) -> u8
-    requires above { above ≤ 16 }
-    requires quality { quality ≤ 15 }
-    ensures value { (ns : List ℕ) → worst_of (worst_kept result) ns ≡ worst_of (worst_kept above) (quality ∷ ns) }
-    ensures fits { result ≤ 16 }
-{
-    above.max(quality + 1)
-}
-
-/// Makes this the absent block of the shape. A call of its own, so that the way without it makes no place for a copy of the shape.
-#[inline(never)]
-fn give_absent(block: &mut Block, shape: &Shape)
-    ensures { block_view block.new ≡ absent_view shape.now }
-{
-    set_absent(block, *shape);
 }

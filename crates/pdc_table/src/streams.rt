@@ -1,5 +1,6 @@
 //! Streams and their lanes.
 ghost use Rattle.std.specs.Prelude.{◌≡◌, ◌≤◌, ◌==◌, false, if◌then◌else◌, replicate};
+ghost use Rattle.pdc_table.specs.Closing.{all_taken};
 ghost use Rattle.pdc_table.specs.Content.{stream_count};
 
 use crate::MAX_COLUMNS;
@@ -29,4 +30,16 @@ pub fn falses(count: usize) -> ArrayVec<bool, MAX_COLUMNS>
     let mut falses = ArrayVec::from_array_in((), [false; MAX_COLUMNS]);
     falses.truncate(count);
     falses
+}
+
+/// Whether each required stream was taken.
+pub fn all_taken(required: &[bool], taken: &[bool]) -> bool
+    ensures { result ≡ all_taken required.now taken.now }
+{
+    for (stream, is_required) in required.iter().enumerate() {
+        if *is_required && taken.get(stream) == Some(&false) {
+            return false;
+        }
+    }
+    true
 }

@@ -1,9 +1,12 @@
-use Rattle.std.proofs.Common.{◌≡◌, ◌+◌, ◌++◌, ◌∙◌, List, Option, None, Some, ap, append-nil, arith, drop, get_or, length, map, refl, sym, take}
+use Rattle.std.proofs.Common.{◌≡◌, ◌+◌, ◌++◌, ◌∙◌, List, [], ◌∷◌, Option, None, Some, ap, append-nil, arith, drop, get_or, length, map, refl, sym, take}
 use Rattle.std.specs.List.{refill}
+use Rattle.std.specs.Prelude.{option_copied, option_map}
+use Rattle.std.specs.Option.{option_to_list}
 use Rattle.std.proofs.lemmas.List.{get_or_default}
 use Rattle.pdc_row.specs.pdc_cfg.declared.shape.Shape.{Shape}
 use Rattle.pdc_row.specs.CellView.{block_view}
-use Rattle.pdc_row.specs.Quality.{worst_of}
+use Rattle.pdc_row.specs.Chosen.{block_or_absent}
+use Rattle.pdc_row.specs.Quality.{time_quality_of, worst_of}
 use Rattle.pdc_table.specs.OpenRowParts.{columns_of, worst_kept}
 use Rattle.pdc_table.specs.Row.{blocks_at, blocks_of, qualities_at, qualities_of}
 use Rattle.pdc_table.specs.Views.{ColumnView, OpenRowView, empty_column}
@@ -58,12 +61,14 @@ loop-place-preserved c =
       held = omega (arith, ap length same, c.give-above.ensures.len, ap length c.as_mut_slice.ensures.value, c.make_slot.ensures.slot);
       blocks = rw same (blocks_more c.as_slice-shape-items.result.now c.args.self.now.columns c.loop-place.place front
           (map block_view (take (c.loop-place.count + 1) c.give-above.new.blocks)) (blocks_of c.as_slice-shape-items.result.now c.args.self.now.columns) (omega arith)
-          (c.give-above.ensures.blocks ∙ ap (λ bs. bs ++ blocks_at (Some c.in-Some.shape) (get_or lent c.loop-place.place empty_column)) before
+          (c.give-above.ensures.blocks ∙ ap (λ bs. bs ++ (block_or_absent c.in-Some.shape (option_copied c.chosen_at-cell.result) ∷ [])) before
+          ∙ ap (λ o. front ++ (block_or_absent c.in-Some.shape o ∷ [])) c.chosen_at-cell.ensures
           ∙ ap (λ cs. front ++ blocks_at (Some c.in-Some.shape) (get_or cs c.loop-place.place empty_column)) columns
           ∙ ap (λ o. front ++ blocks_at o (get_or c.args.self.now.columns c.loop-place.place empty_column)) shape)
           c.loop-place.invariant.blocks);
       quality =
           c.give-above.ensures.quality rest
+          ∙ ap (λ o. worst_of (worst_kept c.loop-place.above) (option_to_list (option_map time_quality_of o) ++ rest)) c.chosen_at-cell.ensures
           ∙ ap (λ cs. worst_of (worst_kept c.loop-place.above) (qualities_at (Some c.in-Some.shape) (get_or cs c.loop-place.place empty_column) ++ rest)) columns
           ∙ ap (λ o. worst_of (worst_kept c.loop-place.above) (qualities_at o (get_or c.args.self.now.columns c.loop-place.place empty_column) ++ rest)) shape
           ∙ ap (worst_of (worst_kept c.loop-place.above)) (sym (qualities_step c.as_slice-shape-items.result.now c.args.self.now.columns c.loop-place.place (omega arith)))

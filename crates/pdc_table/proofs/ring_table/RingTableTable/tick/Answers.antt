@@ -13,37 +13,31 @@ use Rattle.pdc_table.proofs.Keeps.{closed_shapes, closing_few, held_fit, keeps-t
 use Rattle.pdc_table.proofs.RingAges.{aged_closed, aged_length, aged_placed, grew_length, grown_rows, mapped_rows, older_rows}
 use Rattle.pdc_table.proofs.RingClosed.{AreApart, are_apart_take, held_apart, laid-length, laid_closed, placed_more}
 use Rattle.pdc_table.proofs.RingKept.{IsRing, ring_closed}
-use Rattle.pdc_table.proofs.RingRows.{ArePlaced, changed-open, near_open}
+use Rattle.pdc_table.proofs.RingRows.{changed-open, near_open}
 use Rattle.pdc_table.proofs.ring_table.RingTableTable.tick.Goals as goal
 
-pub close_due-requires-clause-ages_size : goal.close_due-requires-clause-ages_size
-close_due-requires-clause-ages_size c = ap length c.deref-3.ensures.value ∙ grew_length c.self.inside.circle.window c.deref.result.now c.self.inside.rows.ages.items c.grow_older.new.ages.items c.grow_older.ensures.grown c.self.invariant.ages
+pub close_due-count-requires-clause-ages_size : goal.close_due-count-requires-clause-ages_size
+close_due-count-requires-clause-ages_size c = grew_length c.self.inside.circle.window c.deref.result.now c.self.inside.rows.ages.items c.grow_older.new.ages.items c.grow_older.ensures.grown c.self.invariant.ages
 
-pub close_due-requires-clause-rising : goal.close_due-requires-clause-rising
-close_due-requires-clause-rising c =
+pub close_due-count-requires-clause-rising : goal.close_due-count-requires-clause-rising
+close_due-count-requires-clause-rising c =
     (near_open c.numbers_rise.ensures (content_of c.self.inside) (with_ages c.self.inside.rows.places.items c.self.inside.rows.ages.items) c.self.inside.rows.open.items (aged_placed c.self.inside.rows.places.items c.self.inside.rows.ages.items c.self.inside.circle.window c.self.inside.rows.open.items (omega (arith, c.self.invariant.content.window_least)) c.self.invariant.size c.self.invariant.ages c.self.invariant.placed) c.self.invariant.content).0
 
-pub close_due-requires-clause-placed : goal.close_due-requires-clause-placed
-close_due-requires-clause-placed c =
-    subst (λ ps. ArePlaced (with_ages ps c.deref-3.result.now) c.self.inside.circle.window c.self.inside.rows.open.items) (sym c.deref-2.ensures.value)
-    (subst (λ ns. ArePlaced (with_ages c.self.inside.rows.places.items ns) c.self.inside.circle.window c.self.inside.rows.open.items) (sym c.deref-3.ensures.value)
-    (aged_placed c.self.inside.rows.places.items c.grow_older.new.ages.items c.self.inside.circle.window c.self.inside.rows.open.items (omega (arith, c.self.invariant.content.window_least)) c.self.invariant.size (grew_length c.self.inside.circle.window c.deref.result.now c.self.inside.rows.ages.items c.grow_older.new.ages.items c.grow_older.ensures.grown c.self.invariant.ages) c.self.invariant.placed))
+pub close_due-count-requires-clause-placed : goal.close_due-count-requires-clause-placed
+close_due-count-requires-clause-placed c =
+    aged_placed c.self.inside.rows.places.items c.grow_older.new.ages.items c.self.inside.circle.window c.self.inside.rows.open.items (omega (arith, c.self.invariant.content.window_least)) c.self.invariant.size (grew_length c.self.inside.circle.window c.deref.result.now c.self.inside.rows.ages.items c.grow_older.new.ages.items c.grow_older.ensures.grown c.self.invariant.ages) c.self.invariant.placed
 
-pub close_due-requires-clause-room : goal.close_due-requires-clause-room
-close_due-requires-clause-room c =
+pub close_due-count-requires-clause-room : goal.close_due-count-requires-clause-room
+close_due-count-requires-clause-room c =
     let fit : length (closed_rows (with_ages c.self.inside.rows.places.items c.self.inside.rows.ages.items) c.self.inside.closed.layouts.items c.self.inside.circle.window c.self.inside.closed.instants.items) + length (rows_in (with_ages c.self.inside.rows.places.items c.self.inside.rows.ages.items) c.self.inside.circle.window c.self.inside.rows.open.items) ≤ c.self.inside.circle.window = held_fit c.numbers_rise.ensures (content_of c.self.inside) c.self.invariant.content in
     let opened : vec_len c.self.inside.rows.open ≡ length c.self.inside.rows.open.items = search rules in
     let closed : deque_len c.self.inside.closed.instants ≡ length c.self.inside.closed.instants.items = search rules in
     omega (arith, c.self.invariant.closed_room, length-map c.self.inside.closed.instants.items (closed_row (with_ages c.self.inside.rows.places.items c.self.inside.rows.ages.items) c.self.inside.closed.layouts.items c.self.inside.circle.window), length-map c.self.inside.rows.open.items (row_in (with_ages c.self.inside.rows.places.items c.self.inside.rows.ages.items) c.self.inside.circle.window))
 
-seen : (c : goal.After-close_due) → with_ages c.deref-2.result.now c.deref-3.result.now ≡ (with_ages c.self.inside.rows.places.items c.grow_older.new.ages.items)
-seen c = ap (λ ps. with_ages ps c.deref-3.result.now) c.deref-2.ensures.value ∙ ap (with_ages c.self.inside.rows.places.items) c.deref-3.ensures.value
-
 -- the rows that the code looks at are those before, each a tick older
-rows : (c : goal.After-close_due) → rows_in (with_ages c.deref-2.result.now c.deref-3.result.now) c.self.inside.circle.window c.self.inside.rows.open.items ≡ map aged (rows_in (with_ages c.self.inside.rows.places.items c.self.inside.rows.ages.items) c.self.inside.circle.window c.self.inside.rows.open.items)
+rows : (c : goal.After-remove_front) → rows_in (with_ages c.self.inside.rows.places.items c.grow_older.new.ages.items) c.self.inside.circle.window c.self.inside.rows.open.items ≡ map aged (rows_in (with_ages c.self.inside.rows.places.items c.self.inside.rows.ages.items) c.self.inside.circle.window c.self.inside.rows.open.items)
 rows c =
-    ap (λ ps. rows_in ps c.self.inside.circle.window c.self.inside.rows.open.items) (seen c)
-    ∙ elim c.grow_older.ensures.grown [
+    elim c.grow_older.ensures.grown [
       | inl e ↦ ap (λ ps. rows_in ps c.self.inside.circle.window c.self.inside.rows.open.items) (ap (with_ages c.self.inside.rows.places.items) e ∙ older_rows c.self.inside.rows.places.items c.self.inside.rows.ages.items)
           ∙ mapped_rows aged (with_ages c.self.inside.rows.places.items c.self.inside.rows.ages.items) c.self.inside.circle.window c.self.inside.rows.open.items (omega (arith, c.self.invariant.content.window_least)) (aged_length c.self.inside.rows.places.items c.self.inside.rows.ages.items c.self.inside.circle.window c.self.invariant.size c.self.invariant.ages)
       | inr e ↦ changed-open c.numbers_rise.ensures aged (content_of c.self.inside) (with_ages c.self.inside.rows.places.items c.self.inside.rows.ages.items) (with_ages c.self.inside.rows.places.items c.grow_older.new.ages.items) c.self.inside.rows.open.items c.deref.result.now
@@ -53,57 +47,57 @@ rows c =
           (aged_placed c.self.inside.rows.places.items c.self.inside.rows.ages.items c.self.inside.circle.window c.self.inside.rows.open.items (omega (arith, c.self.invariant.content.window_least)) c.self.invariant.size c.self.invariant.ages c.self.invariant.placed) c.self.invariant.content
     ]
 
-closes : (c : goal.After-close_due) → closing c.as_slice-required.result.now c.args.rule (rows_in (with_ages c.deref-2.result.now c.deref-3.result.now) c.self.inside.circle.window c.self.inside.rows.open.items) ≡ closing_of (content_of c.self.inside) c.args.rule
+closes : (c : goal.After-remove_front) → closing c.as_slice.result.now c.args.rule (rows_in (with_ages c.self.inside.rows.places.items c.grow_older.new.ages.items) c.self.inside.circle.window c.self.inside.rows.open.items) ≡ closing_of (content_of c.self.inside) c.args.rule
 closes c =
-    ap (λ rs. closing rs c.args.rule (rows_in (with_ages c.deref-2.result.now c.deref-3.result.now) c.self.inside.circle.window c.self.inside.rows.open.items)) c.as_slice-required.ensures.value
+    ap (λ rs. closing rs c.args.rule (rows_in (with_ages c.self.inside.rows.places.items c.grow_older.new.ages.items) c.self.inside.circle.window c.self.inside.rows.open.items)) c.as_slice.ensures.value
     ∙ ap (closing c.self.inside.required.items c.args.rule) (rows c)
 
-stays : (c : goal.After-close_due) → rows_in (with_ages c.self.inside.rows.places.items c.grow_older.new.ages.items) c.self.inside.circle.window c.remove_front.new.items.items ≡ staying_of (content_of c.self.inside) c.args.rule
+stays : (c : goal.After-remove_front) → rows_in (with_ages c.self.inside.rows.places.items c.grow_older.new.ages.items) c.self.inside.circle.window c.remove_front.new.items.items ≡ staying_of (content_of c.self.inside) c.args.rule
 stays c =
-    ap (λ ps. rows_in ps c.self.inside.circle.window c.remove_front.new.items.items) (sym (seen c)) ∙ c.close_due.ensures.rows
-    ∙ ap (λ rs. staying rs c.args.rule (rows_in (with_ages c.deref-2.result.now c.deref-3.result.now) c.self.inside.circle.window c.self.inside.rows.open.items)) c.as_slice-required.ensures.value
+    ap (rows_in (with_ages c.self.inside.rows.places.items c.grow_older.new.ages.items) c.self.inside.circle.window) c.remove_front.ensures.items ∙ c.close_due-count.ensures.staying
+    ∙ ap (λ rs. staying rs c.args.rule (rows_in (with_ages c.self.inside.rows.places.items c.grow_older.new.ages.items) c.self.inside.circle.window c.self.inside.rows.open.items)) c.as_slice.ensures.value
     ∙ ap (staying c.self.inside.required.items c.args.rule) (rows c)
 
 -- the closed rows are those before, and those that close now
-older_closed : (c : goal.After-close_due) → closed_rows (with_ages c.self.inside.rows.places.items c.grow_older.new.ages.items) c.self.inside.closed.layouts.items c.self.inside.circle.window c.self.inside.closed.instants.items ≡ closed_rows (with_ages c.self.inside.rows.places.items c.self.inside.rows.ages.items) c.self.inside.closed.layouts.items c.self.inside.circle.window c.self.inside.closed.instants.items
+older_closed : (c : goal.After-remove_front) → closed_rows (with_ages c.self.inside.rows.places.items c.grow_older.new.ages.items) c.self.inside.closed.layouts.items c.self.inside.circle.window c.self.inside.closed.instants.items ≡ closed_rows (with_ages c.self.inside.rows.places.items c.self.inside.rows.ages.items) c.self.inside.closed.layouts.items c.self.inside.circle.window c.self.inside.closed.instants.items
 older_closed c =
     aged_closed c.self.inside.rows.places.items c.grow_older.new.ages.items c.self.inside.closed.layouts.items c.self.inside.circle.window c.self.inside.closed.instants.items (omega (arith, c.self.invariant.content.window_least)) c.self.invariant.size (grew_length c.self.inside.circle.window c.deref.result.now c.self.inside.rows.ages.items c.grow_older.new.ages.items c.grow_older.ensures.grown c.self.invariant.ages)
     ∙ sym (aged_closed c.self.inside.rows.places.items c.self.inside.rows.ages.items c.self.inside.closed.layouts.items c.self.inside.circle.window c.self.inside.closed.instants.items (omega (arith, c.self.invariant.content.window_least)) c.self.invariant.size c.self.invariant.ages)
 
-apart : (c : goal.After-close_due) → AreApart c.self.inside.circle.window c.self.inside.closed.instants.items (take c.close_due.result c.self.inside.rows.open.items)
+apart : (c : goal.After-remove_front) → AreApart c.self.inside.circle.window c.self.inside.closed.instants.items (take c.close_due-count.result c.self.inside.rows.open.items)
 apart c =
-    are_apart_take c.self.inside.circle.window c.close_due.result c.self.inside.closed.instants.items c.self.inside.rows.open.items
+    are_apart_take c.self.inside.circle.window c.close_due-count.result c.self.inside.closed.instants.items c.self.inside.rows.open.items
     (held_apart c.numbers_rise.ensures (content_of c.self.inside) (with_ages c.self.inside.rows.places.items c.self.inside.rows.ages.items) c.self.inside.closed.layouts.items c.self.inside.closed.instants.items c.self.inside.rows.open.items (aged_placed c.self.inside.rows.places.items c.self.inside.rows.ages.items c.self.inside.circle.window c.self.inside.closed.instants.items (omega (arith, c.self.invariant.content.window_least)) c.self.invariant.size c.self.invariant.ages c.self.invariant.closed_placed) (aged_placed c.self.inside.rows.places.items c.self.inside.rows.ages.items c.self.inside.circle.window c.self.inside.rows.open.items (omega (arith, c.self.invariant.content.window_least)) c.self.invariant.size c.self.invariant.ages c.self.invariant.placed) c.self.invariant.content)
 
-due : (c : goal.After-close_due) → rows_in (with_ages c.self.inside.rows.places.items c.grow_older.new.ages.items) c.self.inside.circle.window (take c.close_due.result c.self.inside.rows.open.items) ≡ closing_of (content_of c.self.inside) c.args.rule
-due c = ap (λ ps. rows_in ps c.self.inside.circle.window (take c.close_due.result c.self.inside.rows.open.items)) (sym (seen c)) ∙ c.close_due.ensures.due_rows ∙ closes c
+due : (c : goal.After-remove_front) → rows_in (with_ages c.self.inside.rows.places.items c.grow_older.new.ages.items) c.self.inside.circle.window (take c.close_due-count.result c.self.inside.rows.open.items) ≡ closing_of (content_of c.self.inside) c.args.rule
+due c = c.close_due-count.ensures.due_rows ∙ closes c
 
-more : (c : goal.After-close_due) → closed_rows (with_ages c.self.inside.rows.places.items c.grow_older.new.ages.items) c.close_due.new.self.layouts.items c.self.inside.circle.window c.close_due.new.self.instants.items
+more : (c : goal.After-remove_front) → closed_rows (with_ages c.self.inside.rows.places.items c.grow_older.new.ages.items) c.close_due-count.new.self.layouts.items c.self.inside.circle.window c.close_due-count.new.self.instants.items
     ≡ closed_rows (with_ages c.self.inside.rows.places.items c.self.inside.rows.ages.items) c.self.inside.closed.layouts.items c.self.inside.circle.window c.self.inside.closed.instants.items ++ map (row_of (layout_view c.args.layout.now)) (closing_of (content_of c.self.inside) c.args.rule)
 more c =
-    ap (λ ls. closed_rows (with_ages c.self.inside.rows.places.items c.grow_older.new.ages.items) ls c.self.inside.circle.window c.close_due.new.self.instants.items) c.close_due.ensures.layouts
-    ∙ ap (closed_rows (with_ages c.self.inside.rows.places.items c.grow_older.new.ages.items) (laid (layout_view c.args.layout.now) c.self.inside.circle.window (take c.close_due.result c.self.inside.rows.open.items) c.self.inside.closed.layouts.items) c.self.inside.circle.window) c.close_due.ensures.closed
-    ∙ laid_closed (layout_view c.args.layout.now) c.self.inside.circle.window (take c.close_due.result c.self.inside.rows.open.items) (with_ages c.self.inside.rows.places.items c.grow_older.new.ages.items) c.self.inside.closed.layouts.items c.self.inside.closed.instants.items
+    ap (λ ls. closed_rows (with_ages c.self.inside.rows.places.items c.grow_older.new.ages.items) ls c.self.inside.circle.window c.close_due-count.new.self.instants.items) c.close_due-count.ensures.layouts
+    ∙ ap (closed_rows (with_ages c.self.inside.rows.places.items c.grow_older.new.ages.items) (laid (layout_view c.args.layout.now) c.self.inside.circle.window (take c.close_due-count.result c.self.inside.rows.open.items) c.self.inside.closed.layouts.items) c.self.inside.circle.window) c.close_due-count.ensures.closed
+    ∙ laid_closed (layout_view c.args.layout.now) c.self.inside.circle.window (take c.close_due-count.result c.self.inside.rows.open.items) (with_ages c.self.inside.rows.places.items c.grow_older.new.ages.items) c.self.inside.closed.layouts.items c.self.inside.closed.instants.items
     (omega (arith, c.self.invariant.content.window_least)) c.self.invariant.layouts (apart c)
-    ∙ ap (λ rs. rs ++ map (row_of (layout_view c.args.layout.now)) (rows_in (with_ages c.self.inside.rows.places.items c.grow_older.new.ages.items) c.self.inside.circle.window (take c.close_due.result c.self.inside.rows.open.items))) (older_closed c)
+    ∙ ap (λ rs. rs ++ map (row_of (layout_view c.args.layout.now)) (rows_in (with_ages c.self.inside.rows.places.items c.grow_older.new.ages.items) c.self.inside.circle.window (take c.close_due-count.result c.self.inside.rows.open.items))) (older_closed c)
     ∙ ap (λ rs. closed_rows (with_ages c.self.inside.rows.places.items c.self.inside.rows.ages.items) c.self.inside.closed.layouts.items c.self.inside.circle.window c.self.inside.closed.instants.items ++ map (row_of (layout_view c.args.layout.now)) rs) (due c)
 
-content : (c : goal.After-close_due) → record (content_of c.self.inside) {
+content : (c : goal.After-remove_front) → record (content_of c.self.inside) {
   open_rows = rows_in (with_ages c.self.inside.rows.places.items c.grow_older.new.ages.items) c.self.inside.circle.window c.remove_front.new.items.items;
-  closed = closed_rows (with_ages c.self.inside.rows.places.items c.grow_older.new.ages.items) c.close_due.new.self.layouts.items c.self.inside.circle.window c.close_due.new.self.instants.items;
-  last = c.close_due.new.self.last;
+  closed = closed_rows (with_ages c.self.inside.rows.places.items c.grow_older.new.ages.items) c.close_due-count.new.self.layouts.items c.self.inside.circle.window c.close_due-count.new.self.instants.items;
+  last = c.close_due-count.new.self.last;
 } ≡ after_tick (content_of c.self.inside) c.args.rule (layout_view c.args.layout.now)
 content c =
-    rw (stays c, more c, c.close_due.ensures.last, closes c) refl
+    rw (stays c, more c, c.close_due-count.ensures.last, closes c) refl
 
 pub overflow_cast-result : goal.overflow_cast-result
 overflow_cast-result c =
     let few : length (closing_of (content_of c.self.inside) c.args.rule) ≤ c.self.inside.circle.window = closing_few c.numbers_rise.ensures (content_of c.self.inside) c.args.rule c.self.invariant.content in
-    let is : c.close_due.result ≡ length (closing_of (content_of c.self.inside) c.args.rule) = c.close_due.ensures.answer ∙ ap length (closes c) in
+    let is : c.close_due-count.result ≡ length (closing_of (content_of c.self.inside) c.args.rule) = c.close_due-count.ensures.answer ∙ ap length (closes c) in
     omega (arith, c.self.invariant.content.window_most)
 
 pub returns-clause-answer : goal.returns-clause-answer
-returns-clause-answer c = c.close_due.ensures.answer ∙ ap length (closes c) ∙ ap (λ (t : TableView). tick_answer t.content c.args.rule) c.self.view_is
+returns-clause-answer c = c.close_due-count.ensures.answer ∙ ap length (closes c) ∙ ap (λ (t : TableView). tick_answer t.content c.args.rule) c.self.view_is
 
 pub returns-clause-content : goal.returns-clause-content
 returns-clause-content c = content c ∙ ap (λ (t : TableView). after_tick t.content c.args.rule (layout_view c.args.layout.now)) c.self.view_is
@@ -113,7 +107,7 @@ returns-clause-shapes c h = closed_shapes c.args.self.now.content c.args.rule (l
 
 pub returns-clause-disagreements : goal.returns-clause-disagreements
 returns-clause-disagreements c =
-    c.close_due.ensures.disagree ∙ ap (λ rs. counter (c.self.inside.closed.disagree + disagreements_in (layout_view c.args.layout.now) rs)) (closes c)
+    c.close_due-count.ensures.disagree ∙ ap (λ rs. counter (c.self.inside.closed.disagree + disagreements_in (layout_view c.args.layout.now) rs)) (closes c)
     ∙ ap (λ (t : TableView). disagreements_after t.disagreements t.content c.args.rule (layout_view c.args.layout.now)) c.self.view_is
 
 pub returns-clause-well_formed : goal.returns-clause-well_formed
@@ -121,8 +115,8 @@ returns-clause-well_formed c = subst IsContent (sym (content c)) (keeps-tick c.n
 
 pub invariant_of-self : goal.invariant_of-self
 invariant_of-self c =
-    let ring : IsRing c.self.inside.circle.window c.close_due.new.self.last (streams_of (content_of c.self.inside)) c.self.inside.columns c.self.inside.rows.places.items c.remove_front.new.items.items =
-    rw (c.close_due.ensures.front, c.close_due.ensures.open) (ring_closed c.numbers_rise.ensures c.self.inside.circle.window c.self.inside.closed.last (streams_of (content_of c.self.inside)) c.self.inside.columns c.close_due.result c.self.inside.rows.places.items c.self.inside.rows.open.items
+    let ring : IsRing c.self.inside.circle.window c.close_due-count.new.self.last (streams_of (content_of c.self.inside)) c.self.inside.columns c.self.inside.rows.places.items c.remove_front.new.items.items =
+    rw (c.close_due-count.ensures.front, c.remove_front.ensures.items) (ring_closed c.numbers_rise.ensures c.self.inside.circle.window c.self.inside.closed.last (streams_of (content_of c.self.inside)) c.self.inside.columns c.close_due-count.result c.self.inside.rows.places.items c.self.inside.rows.open.items
     (record { size = c.self.invariant.size; each = c.self.invariant.each; placed = c.self.invariant.placed; known = c.self.invariant.known })) in
     record {
       content = subst IsContent (sym (content c)) (keeps-tick c.numbers_rise.ensures (content_of c.self.inside) c.args.rule (layout_view c.args.layout.now) c.self.invariant.content);
@@ -130,9 +124,9 @@ invariant_of-self c =
       each = ring.each;
       placed = ring.placed;
       ages = grew_length c.self.inside.circle.window c.deref.result.now c.self.inside.rows.ages.items c.grow_older.new.ages.items c.grow_older.ensures.grown c.self.invariant.ages;
-      layouts = ap length c.close_due.ensures.layouts ∙ laid-length (layout_view c.args.layout.now) c.self.inside.circle.window (take c.close_due.result c.self.inside.rows.open.items) c.self.inside.closed.layouts.items ∙ c.self.invariant.layouts;
-      closed_placed = rw c.close_due.ensures.closed (placed_more c.self.inside.rows.places.items c.self.inside.circle.window c.close_due.result c.self.inside.closed.instants.items c.self.inside.rows.open.items c.self.invariant.closed_placed c.self.invariant.placed);
+      layouts = ap length c.close_due-count.ensures.layouts ∙ laid-length (layout_view c.args.layout.now) c.self.inside.circle.window (take c.close_due-count.result c.self.inside.rows.open.items) c.self.inside.closed.layouts.items ∙ c.self.invariant.layouts;
+      closed_placed = rw c.close_due-count.ensures.closed (placed_more c.self.inside.rows.places.items c.self.inside.circle.window c.close_due-count.result c.self.inside.closed.instants.items c.self.inside.rows.open.items c.self.invariant.closed_placed c.self.invariant.placed);
       known = ring.known;
-      room = rw c.close_due.ensures.capacity c.self.invariant.room;
-      closed_room = rw c.close_due.ensures.closed_capacity c.self.invariant.closed_room;
+      room = rw c.remove_front.ensures.capacity c.self.invariant.room;
+      closed_room = rw c.close_due-count.ensures.capacity c.self.invariant.closed_room;
     }

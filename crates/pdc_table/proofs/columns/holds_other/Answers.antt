@@ -3,7 +3,7 @@ use Rattle.pdc_table.specs.OpenRowParts.{nothing}
 use Rattle.pdc_table.specs.Taking.{cell_in, holds_other}
 use Rattle.pdc_table.specs.Views.{ColumnView, empty_column}
 use Rattle.pdc_table.proofs.OpenRowParts.{column_read}
-use Rattle.pdc_table.proofs.open_row.holds_other.Goals as goal
+use Rattle.pdc_table.proofs.columns.holds_other.Goals as goal
 
 pub returns : goal.returns
 returns g c =
