@@ -15,16 +15,13 @@ ghost use Rattle.pdc_table.specs.declared.column.Held.{Held as HeldData};
 
 use crate::column::{NOTHING, forget_all, forget_lane};
 use crate::columns::{any_other, chosen_at, disagreements_at, nothings, put_cells};
-use crate::row_blocks::{give, make_slot};
+use crate::row_blocks::{WORST_QUALITY, give, make_slot};
 use crate::streams::{all_taken, falses};
 use crate::{Held, MAX_COLUMNS, PutOutcome, RowLayout, WaitRule};
 use arrayvec::ArrayVec;
 use pdc_row::{Block, Cell, DueRow, Offered};
 use std::array;
 use std::marker::Model;
-
-/// The quality of a row in which no block is present.
-const WORST_QUALITY: u8 = 15;
 
 /// For how many streams and columns a row has a place.
 #[derive(Clone, Copy)]
@@ -245,11 +242,11 @@ impl OpenRow {
 
     /// Makes these the blocks of the row that it closes to, and answers its quality. Blocks that are there are written over, each in
     /// place.
-    pub(crate) fn fill(&self, layout: &RowLayout, blocks: &mut ArrayVec<Block, 16>) -> u8
+    pub(crate) fn fill(&self, layout: &RowLayout, blocks: &mut ArrayVec<Block, MAX_COLUMNS>) -> u8
         ensures blocks { map block_view blocks.new.items ≡ (row_of (layout_view layout.now) self.now).blocks }
         ensures quality { result ≡ (row_of (layout_view layout.now) self.now).quality }
-        ensures fits { result ≤ 15 }
-        ensures few { length blocks.new.items ≤ 16 }
+        ensures fits { result ≤ WORST_QUALITY }
+        ensures few { length blocks.new.items ≤ MAX_COLUMNS }
     {
         let mut count = 0;
         let mut above = 0;

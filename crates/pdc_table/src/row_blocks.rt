@@ -6,13 +6,17 @@ ghost use Rattle.pdc_row.specs.Chosen.{block_or_absent};
 ghost use Rattle.pdc_row.specs.Quality.{time_quality_of, worst_of};
 ghost use Rattle.pdc_table.specs.OpenRowParts.{worst_kept};
 
+use crate::MAX_COLUMNS;
 use arrayvec::ArrayVec;
 use pdc_row::{Block, Cell, Shape, set_absent};
 
+/// The worst time quality. A row in which no block is present has it.
+pub const WORST_QUALITY: u8 = 15;
+
 /// Makes a slot behind so many blocks, where there is none.
-pub fn make_slot(blocks: &mut ArrayVec<Block, 16>, count: usize)
+pub fn make_slot(blocks: &mut ArrayVec<Block, MAX_COLUMNS>, count: usize)
     requires held { count ≤ length blocks.old.items }
-    requires room { count < 16 }
+    requires room { count < MAX_COLUMNS }
     ensures slot { count < length blocks.new.items }
     ensures held { take count blocks.new.items ≡ take count blocks.old.items }
 {
@@ -26,13 +30,13 @@ pub fn make_slot(blocks: &mut ArrayVec<Block, 16>, count: usize)
 #[inline]
 pub fn give(cell: Option<&Cell>, shape: &Shape, blocks: &mut [Block], count: usize, above: u8) -> u8
     requires room { count < length blocks.old }
-    requires above { above ≤ 16 }
+    requires above { above ≤ WORST_QUALITY + 1 }
     ensures blocks { map block_view (take (count + 1) blocks.new) ≡ map block_view (take count blocks.old)
         ++ block_or_absent shape.now (option_copied cell.entry) ∷ [] }
     ensures len { length blocks.new ≡ length blocks.old }
     ensures quality { (ns : List ℕ) → worst_of (worst_kept result) ns ≡ worst_of (worst_kept above)
         (option_to_list (option_map time_quality_of (option_copied cell.entry)) ++ ns) }
-    ensures fits { result ≤ 16 }
+    ensures fits { result ≤ WORST_QUALITY + 1 }
 {
     match cell {
         Some(cell) => {
@@ -49,10 +53,10 @@ pub fn give(cell: Option<&Cell>, shape: &Shape, blocks: &mut [Block], count: usi
 /// The number above the worst quality so far, where this one is given too.
 #[inline]
 fn worse(above: u8, quality: u8) -> u8
-    requires above { above ≤ 16 }
-    requires quality { quality ≤ 15 }
+    requires above { above ≤ WORST_QUALITY + 1 }
+    requires quality { quality ≤ WORST_QUALITY }
     ensures value { (ns : List ℕ) → worst_of (worst_kept result) ns ≡ worst_of (worst_kept above) (quality ∷ ns) }
-    ensures fits { result ≤ 16 }
+    ensures fits { result ≤ WORST_QUALITY + 1 }
 {
     above.max(quality + 1)
 }

@@ -1,6 +1,7 @@
 //! A row to pop into.
 ghost use Rattle.std.specs.Prelude.{◌≡◌, []};
 
+use crate::row_blocks::WORST_QUALITY;
 use arrayvec::ArrayVec;
 use pdc_row::DueRow;
 
@@ -13,7 +14,7 @@ pub fn spare_row() -> DueRow
         instant: 0,
         start: 0,
         change: 0,
-        quality: 15,
+        quality: WORST_QUALITY,
         blocks: ArrayVec::new(),
     }
 }
