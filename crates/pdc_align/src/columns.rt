@@ -19,7 +19,7 @@ pub fn new_columns(
     count: usize,
     counts: &[u16; MAX_PMUS],
 ) -> Result<Vec<Column>, AllocError>
-    requires { count ≤ 16 }
+    requires { count ≤ MAX_PMUS }
     ensures { IfOk result (λ columns. columns.items ≡ map (new_column counts.now) (range_with_len 0 count)) }
 {
     let mut columns = Vec::with_capacity(alloc, count)?;
@@ -40,8 +40,8 @@ pub fn hold(columns: &mut [Column], sections: &[ColumnSection<'_>])
 }
 
 /// The shape in force of each column.
-pub fn shapes(columns: &[Column]) -> ArrayVec<Option<Shape>, 16>
-    requires { length columns.now ≤ 16 }
+pub fn shapes(columns: &[Column]) -> ArrayVec<Option<Shape>, MAX_PMUS>
+    requires { length columns.now ≤ MAX_PMUS }
     ensures { result.items ≡ map (λ (column : ColumnState). shape_in column.in_force) columns.now }
 {
     let mut shapes = ArrayVec::new();
@@ -53,8 +53,8 @@ pub fn shapes(columns: &[Column]) -> ArrayVec<Option<Shape>, 16>
 
 /// The count of each column that waits to be stored, and 0 past the last column.
 pub fn waiting(columns: &[Column]) -> [u16; MAX_PMUS]
-    requires { length columns.now ≤ 16 }
-    ensures { result ≡ map (λ (column : ColumnState). greatest_count column.cleared column.held) columns.now ++ replicate (16 - length columns.now) 0 }
+    requires { length columns.now ≤ MAX_PMUS }
+    ensures { result ≡ map (λ (column : ColumnState). greatest_count column.cleared column.held) columns.now ++ replicate (MAX_PMUS - length columns.now) 0 }
 {
     let mut counts = [0; MAX_PMUS];
     for (place, column) in columns.iter().enumerate() {
@@ -65,7 +65,7 @@ pub fn waiting(columns: &[Column]) -> [u16; MAX_PMUS]
 
 /// Clears the count of each column. Whether some column is ready then.
 pub fn clear(columns: &mut [Column], counts: &[u16; MAX_PMUS]) -> bool
-    requires { length columns.old ≤ 16 }
+    requires { length columns.old ≤ MAX_PMUS }
     ensures columns { columns.new ≡ cleared_from 0 counts.now columns.old }
     ensures ready { result ≡ list_any is_ready_in columns.new }
 {
@@ -80,8 +80,8 @@ pub fn clear(columns: &mut [Column], counts: &[u16; MAX_PMUS]) -> bool
 }
 
 /// The numbers of the columns that are ready, in rising order.
-pub fn ready(columns: &[Column]) -> ArrayVec<usize, 16>
-    requires { length columns.now ≤ 16 }
+pub fn ready(columns: &[Column]) -> ArrayVec<usize, MAX_PMUS>
+    requires { length columns.now ≤ MAX_PMUS }
     ensures ready { result.items ≡ ready_from 0 columns.now }
     ensures exist { All (λ (column : ℕ). column < length columns.now) result.items }
 {
@@ -93,8 +93,8 @@ pub fn ready(columns: &[Column]) -> ArrayVec<usize, 16>
 }
 
 /// Appends the number, if its column is ready.
-fn push_ready(place: usize, is_ready: bool, ready: &mut ArrayVec<usize, 16>)
-    requires { length ready.old.items < 16 }
+fn push_ready(place: usize, is_ready: bool, ready: &mut ArrayVec<usize, MAX_PMUS>)
+    requires { length ready.old.items < MAX_PMUS }
     ensures ready { ready.new.items ≡ ready.old.items ++ (if is_ready then place ∷ [] else []) }
     ensures grown { length ready.new.items ≤ length ready.old.items + 1 }
 {

@@ -35,7 +35,7 @@ fn push_some<'a>(
     section: Option<SectionView<'a>>,
     sections: &mut ArrayVec<SectionView<'a>, MAX_PMUS>,
 )
-    requires { length sections.old.items < 16 }
+    requires { length sections.old.items < MAX_PMUS }
     ensures sections { map fields_of_view sections.new.items
         ≡ map fields_of_view sections.old.items ++ option_to_list (option_map fields_of_view section.entry) }
     ensures grown { length sections.new.items ≤ length sections.old.items + 1 }
