@@ -20,10 +20,7 @@ pub fn copy_of_merger(settings: &MergerSettings) -> MergerSettings
         .unwrap();
     MergerSettings {
         output: settings.output,
-        wait: settings.timing.wait,
-        wait_kind: settings.timing.wait_kind,
-        window: settings.timing.window,
-        ahead: settings.timing.ahead,
+        timing: settings.timing,
         first: settings.first,
         second: settings.second,
         sources,

@@ -19,10 +19,7 @@ pub fn copy_of(settings: &Settings) -> Settings
         .unwrap();
     Settings {
         output: settings.output,
-        wait: settings.timing.wait,
-        wait_kind: settings.timing.wait_kind,
-        window: settings.timing.window,
-        ahead: settings.timing.ahead,
+        timing: settings.timing,
         pmus,
     }
 }
