@@ -72,6 +72,13 @@ impl<M: Mark> Publisher<M> {
         self.mark
     }
 
+    /// What its frames say of the concentrator.
+    pub fn output(&self) -> &Output
+        ensures { result.now ≡ output_in self.now }
+    {
+        &self.output
+    }
+
     /// The counts that are stored, one for each PMU in the order of the settings.
     pub fn counts(&self) -> [u16; COUNTS]
         ensures value { result ≡ (M.stored (mark_in self.now)).counts }
