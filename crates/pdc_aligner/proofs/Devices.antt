@@ -1,10 +1,11 @@
 -- How the mark stands from call to call, and rows as they were popped.
-use Rattle.std.proofs.Common.{arith, ◌≡◌, ℕ, ◌≤◌, true, inl, inr, Option, None, Some, Result, Ok, Err, IsTrue, IfOk, IfSome, OnErr, sym, ap, subst, option_map}
+use Rattle.std.proofs.Common.{arith, ◌≡◌, ℕ, ◌≤◌, true, inl, inr, Bool, Option, Result, Ok, Err, IsTrue, IfOk, OnErr, sym, ap, subst}
 use Rattle.std.proofs.Math.Logic.{∥∥₁_map}
 use Rattle.pdc_life.specs.Answer.{pop_answer}
 use Rattle.pdc_life.specs.Given.{Given}
 use Rattle.pdc_row.specs.RowView.{row_view}
 use Rattle.pdc_row.specs.declared.due_row.DueRow.{DueRow}
+use Rattle.pdc_hub.specs.Pops.{IsPop}
 use Rattle.pdc_hub.specs.Replay.{InSomeLife, Lives, number_in}
 use Rattle.pdc_ports.specs.declared.numbered.Numbered.{Numbered}
 use Rattle.pdc_hub.specs.declared.fault.HubFault.{HubFault}
@@ -60,16 +61,8 @@ device_on first middle last fault h k = record {
 pub device_failed : {T : Type 0} (before after : Standing) → before.failures ≤ after.failures → IsDown before after → HasDevice {T = T} before after (Err Device)
 device_failed before after m h = record { no_fewer = m; caused = λ d. h; sound = tt }
 
-popped_so : {C : Type 0} (Stands : C → Lives) (named : Option Given) (popped : Option DueRow) (step : ℕ)
-    → ∥ InSomeLife Stands named (λ state g E. (option_map row_view popped ≡ pop_answer E) × (step ≡ number_in E)) ∥₁ → IfSome popped (λ row. IsPopped Stands named (row_view row))
-popped_so Stands named None step h = tt
-popped_so Stands named (Some row) step h = ∥∥₁_map h (λ x. record { core = x.core; given = x.given; is_named = x.is_named; life = x.life; stands = x.stands; fact = x.fact.0 })
-
 -- what was popped is a row of some life
-pub all_popped : {C : Type 0} (Stands : C → Lives) (named : Option Given) (r : Result (Numbered (Option DueRow)) HubFault)
-    → IfOk r (λ numbered. ∥ InSomeLife Stands named (λ state g E. (option_map row_view numbered.answer ≡ pop_answer E) × (numbered.step ≡ number_in E)) ∥₁) → IfOk r (λ numbered. IfSome numbered.answer (λ row. IsPopped Stands named (row_view row)))
-all_popped Stands named (Ok numbered) h = popped_so Stands named numbered.answer numbered.step h
-all_popped Stands named (Err fault) h = tt
-
-pub popped_some : {C : Type 0} (Stands : C → Lives) (named : Option Given) (popped : Option DueRow) (row : DueRow) → popped ≡ Some row → IfSome popped (λ r. IsPopped Stands named (row_view r)) → IsPopped Stands named (row_view row)
-popped_some Stands named popped row e h = subst (λ (p : Option DueRow). IfSome p (λ r. IsPopped Stands named (row_view r))) e h
+pub all_popped : {C : Type 0} (Stands : C → Lives) (named : Option Given) (row : DueRow) (r : Result (Numbered Bool) HubFault)
+    → IfOk r (λ numbered. ∥ InSomeLife Stands named (λ state g E. IsPop numbered.answer row (pop_answer E) × (numbered.step ≡ number_in E)) ∥₁) → IfOk r (λ numbered. numbered.answer ≡ true → IsPopped Stands named (row_view row))
+all_popped Stands named row (Ok numbered) h = λ t. ∥∥₁_map h (λ x. record { core = x.core; given = x.given; is_named = x.is_named; life = x.life; stands = x.stands; fact = x.fact.0.0 t })
+all_popped Stands named row (Err fault) h = tt

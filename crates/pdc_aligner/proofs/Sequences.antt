@@ -1,11 +1,12 @@
 -- The instants of what is put.
-use Rattle.std.proofs.Common.{arith, ◌<◌, ◌≤◌, ◌+◌, ◌≡◌, ℕ, List, [], ◌∷◌, ◌++◌, length, sym, refl, ap, ◌∙◌, subst, append-nil}
+use Rattle.std.proofs.Common.{arith, ◌<◌, ◌≤◌, ◌+◌, ◌≡◌, ℕ, List, [], ◌∷◌, ◌++◌, Result, Ok, Err, length, sym, refl, ap, ◌∙◌, subst, append-nil}
 use Rattle.std.proofs.lemmas.List.{length-append}
 use Rattle.pdc_pipe.specs.declared.message.Message.{Message}
 use Rattle.pdc_pipe.specs.declared.message.Message.TheVariants.{Data, Layout, End}
 use Rattle.pdc_pipe.specs.declared.message.LayoutFrame.{LayoutFrame}
 use Rattle.pdc_publisher.specs.declared.published.Published.{Published}
-use Rattle.pdc_aligner.specs.Sequence.{IsCounted, Rises, instants_of}
+use Rattle.pdc_hub.specs.declared.fault.HubFault.{HubFault}
+use Rattle.pdc_aligner.specs.Sequence.{HasPutAll, Rises, instants_of}
 
 pub instants_of-append : (xs ys : List Message) → instants_of (xs ++ ys) ≡ instants_of xs ++ instants_of ys
 instants_of-append [] ys = refl
@@ -34,12 +35,32 @@ pub rises_put : (low : ℕ) (ns : List ℕ) (high n last : ℕ) → Rises low ns
 rises_put low ns high n last r l e = subst (λ k. Rises low (ns ++ n ∷ []) k) (sym e) (rises_more low ns high n r l)
 
 -- one more of them is one more
-pub length_more : (ns : List ℕ) (n : ℕ) → length (ns ++ n ∷ []) ≡ length ns + 1
+length_more : (ns : List ℕ) (n : ℕ) → length (ns ++ n ∷ []) ≡ length ns + 1
 length_more ns n = length-append ns (n ∷ [])
 
--- a data frame that was put counts, and its instant bounds the count
-pub counted_data : (count : ℕ) (put after : List Message) (p : Published) (low last : ℕ) → after ≡ put ++ Data p ∷ [] → IsCounted count put low → low < p.instant → last ≡ p.instant → IsCounted (count + 1) after last
-counted_data count put after p low last e h l s = record {
-  counted = ap (λ k. k + 1) h.counted ∙ sym (ap length (put_data put after p e) ∙ length_more (instants_of put) p.instant);
-  few = omega (arith, h.few, l, s);
-}
+-- a data frame that was put is one more
+pub one_more : (put after : List Message) (p : Published) → after ≡ put ++ Data p ∷ [] → length (instants_of after) ≡ length (instants_of put) + 1
+one_more put after p e = ap length (put_data put after p e) ∙ length_more (instants_of put) p.instant
+
+-- as many frames as rows
+pub put_all : {A : Type 0} (first popped : ℕ) (before put : List Message) (x : A) → popped + length (instants_of before) ≡ first + length (instants_of put) → HasPutAll first popped before put (Ok x)
+put_all first popped before put x e = record { lost = 0; all = omega (arith, e); one_at_most = omega arith; whole = refl }
+
+-- and where a call failed, or one row more
+pub put_but : {A : Type 0} (first popped lost : ℕ) (before put : List Message) (fault : HubFault) → popped + length (instants_of before) ≡ first + length (instants_of put) + lost → lost ≤ 1 → HasPutAll {A = A} first popped before put (Err fault)
+put_but first popped lost before put fault e few = record { lost = lost; all = e; one_at_most = few; whole = tt }
+
+-- what put no data frame more
+pub put_same : {A : Type 0} (first popped : ℕ) (before middle put : List Message) (r : Result A HubFault) → HasPutAll first popped before middle r → instants_of put ≡ instants_of middle → HasPutAll first popped before put r
+put_same first popped before middle put r h e = record { lost = h.lost; all = omega (arith, h.all, ap length e); one_at_most = h.one_at_most; whole = h.whole }
+
+pub put_then : {A B : Type 0} (first popped : ℕ) (before middle put : List Message) (x : A) (r : Result B HubFault) → HasPutAll first popped before middle (Ok x) → instants_of put ≡ instants_of middle → HasPutAll first popped before put r
+put_then first popped before middle put x (Ok y) h e = record { lost = h.lost; all = omega (arith, h.all, ap length e); one_at_most = h.one_at_most; whole = h.whole }
+put_then first popped before middle put x (Err fault) h e = record { lost = h.lost; all = omega (arith, h.all, ap length e); one_at_most = h.one_at_most; whole = tt }
+
+pub put_failed : {A B : Type 0} (first popped : ℕ) (before middle put : List Message) (r : Result A HubFault) (fault : HubFault) → HasPutAll first popped before middle r → instants_of put ≡ instants_of middle → HasPutAll {A = B} first popped before put (Err fault)
+put_failed first popped before middle put r fault h e = record { lost = h.lost; all = omega (arith, h.all, ap length e); one_at_most = h.one_at_most; whole = tt }
+
+-- from nothing on, where as many were put before
+pub put_since : {A B : Type 0} (first middle popped : ℕ) (before put : List Message) (r : Result A HubFault) (fault : HubFault) → middle ≡ first + length (instants_of before) → HasPutAll middle popped before put r → HasPutAll {A = B} first popped [] put (Err fault)
+put_since first middle popped before put r fault e h = record { lost = h.lost; all = omega (arith, h.all, e); one_at_most = h.one_at_most; whole = tt }

@@ -1,6 +1,5 @@
 -- What the aligner puts, tick by tick.
 pub mod Device
-pub mod Faulted
 pub mod Opened
 pub mod Rate
 pub mod Sequence

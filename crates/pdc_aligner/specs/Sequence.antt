@@ -1,6 +1,7 @@
 -- What is put, and its instants (this profile).
-use Rattle.std.specs.Prelude.{◌≡◌, ℕ, ◌<◌, ◌≤◌, List, [], ◌∷◌, ◌++◌, length, Option, Some}
+use Rattle.std.specs.Prelude.{◌≡◌, ℕ, ◌+◌, ◌<◌, ◌≤◌, List, [], ◌∷◌, ◌++◌, length, Option, Some, OnOk, Result}
 use Rattle.pdc_hub.specs.Replay.{InSomeLife, Lives}
+use Rattle.pdc_hub.specs.declared.fault.HubFault.{HubFault}
 use Rattle.pdc_life.specs.Answer.{pop_answer}
 use Rattle.pdc_life.specs.Given.{Given}
 use Rattle.pdc_output.specs.declared.output.Output.{Output}
@@ -22,10 +23,13 @@ abbrev pub Rises : ℕ → List ℕ → ℕ → Type 0
 Rises low [] high = low ≤ high
 Rises low (n ∷ ns) high = (low < n) × Rises n ns high
 
--- So many data frames were put; they are no more than the last instant, since instants rise from 0.
-pub record IsCounted (count : ℕ) (put : List Message) (last : ℕ) : Type 0 where
-  pub counted : count ≡ length (instants_of put)
-  pub few : count ≤ last
+-- From the first number of rows on so many more were popped, each of which was put as a data frame behind what was there, but one at most,
+-- which was lost; where it is Ok, none was.
+pub record HasPutAll {A : Type 0} (first popped : ℕ) (before put : List Message) (result : Result A HubFault) : Type 0 where
+  pub lost : ℕ
+  pub all : popped + length (instants_of before) ≡ first + length (instants_of put) + lost
+  pub one_at_most : lost ≤ 1
+  pub whole : OnOk result (lost ≡ 0)
 
 -- It was popped in some life of what is named.
 abbrev pub IsPopped : {C : Type 0} (Stands : C → Lives) (named : Option Given) → RowView → Type 0

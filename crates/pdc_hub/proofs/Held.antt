@@ -1,5 +1,5 @@
 -- What a recorder keeps of its settings and its lives, on plain variables.
-use Rattle.std.proofs.Common.{◌≡◌, ℕ, ◌+◌, ◌<◌, ◌*◌, Bool, true, List, ◌∷◌, ◌++◌, [], Option, None, Some, IfSome, length, refl, sym, ap, ◌∙◌, subst}
+use Rattle.std.proofs.Common.{◌≡◌, ℕ, ◌+◌, ◌<◌, ◌*◌, Bool, true, List, ◌∷◌, ◌++◌, [], Option, Some, length, refl, sym, ap, ◌∙◌, subst}
 use Rattle.std.proofs.Math.Logic.{∥∥₁_elim, ∥∥₁_map, ∥∥₁_prop}
 use Rattle.std.proofs.Props.{props}
 use Rattle.pdc_core.specs.KeptArrival.{taken_view}
@@ -9,9 +9,7 @@ use Rattle.pdc_core.specs.declared.kept_arrival.KeptArrival.{KeptArrival}
 use Rattle.pdc_life.specs.Answer.{Rules, ToArrive, life_from}
 use Rattle.pdc_life.specs.Arrival.{Arrival}
 use Rattle.pdc_life.specs.Given.{Given}
-use Rattle.pdc_life.specs.Life.{Entry, popped}
-use Rattle.pdc_row.specs.Rising.{AreBelow}
-use Rattle.pdc_row.specs.RowView.{row_instants}
+use Rattle.pdc_life.specs.Life.{Entry}
 use Rattle.pdc_row.specs.declared.due_row.DueRow.{DueRow}
 use Rattle.pdc_tag.specs.declared.limits.TheConstants.{SECONDS}
 use Rattle.pdc_hub.specs.Replay.{Follows, InSomeLife, Lives, Replays, Sayings, WasRead, number_after, number_in}
@@ -40,14 +38,12 @@ arrived Says fits settings rules named Base State After a b first steps more str
     (follows r.bytes (subst (λ s. Says s stream r.bytes (taken_view taken)) (here settings r.settings b r.are_named y) r.says)))))
 
 -- a row that is popped can be tagged at the rate that is named
-pub tagged : (rules : Rules) (Says : Sayings) (named : Option Given) (Base State : Lives) (first : ℕ) (steps : List CoreStep) (r : Option DueRow)
+pub tagged : (rules : Rules) (Says : Sayings) (named : Option Given) (Base State : Lives) (first : ℕ) (steps : List CoreStep) (row : DueRow)
     → ∥ Replays rules Says named Base State first steps ∥₁
-    → ((g : Given) (E : List Entry) → State g E →
-    IfSome r (λ row. (g.floor < row.instant) × AreBelow row.instant (row_instants (popped E)) × (row.instant < SECONDS * g.output.rate)))
-    → IfSome r (λ row. (g : Given) → named ≡ Some g → row.instant < SECONDS * g.output.rate)
-tagged rules Says named Base State first steps None h next = tt
-tagged rules Says named Base State first steps (Some row) h next = λ g is. ∥∥₁_elim h (search props)
-    (λ x. subst (λ (d : Given). row.instant < SECONDS * d.output.rate) (here named x.given g x.is_named is) (next x.given (life_from rules x.given x.life x.reads) x.reached).2)
+    → ((g : Given) (E : List Entry) → State g E → row.instant < SECONDS * g.output.rate)
+    → (g : Given) → named ≡ Some g → row.instant < SECONDS * g.output.rate
+tagged rules Says named Base State first steps row h next g is = ∥∥₁_elim h (search props)
+    (λ x. subst (λ (d : Given). row.instant < SECONDS * d.output.rate) (here named x.given g x.is_named is) (next x.given (life_from rules x.given x.life x.reads) x.reached))
 
 -- there was a life of what is named in which this was true
 pub numbered : {C : Type 0} (rules : Rules) (Says : Sayings) (Stands : C → Lives) (named : Option Given) (Base : Lives) (core : C) (first : ℕ) (steps : List CoreStep)

@@ -3,5 +3,6 @@ pub mod Closing
 pub mod Counted
 pub mod Cut
 pub mod Faults
+pub mod Pops
 pub mod Received
 pub mod Replay

@@ -1,5 +1,5 @@
 //! The lock round a recorder.
-ghost use Rattle.std.specs.Prelude.{◌≡◌, ◌+◌, ◌*◌, ◌^◌, ◌<◌, ◌≤◌, ◌++◌, ℕ, Err, IfErr, IfOk, IfSome, List, None, Ok, OnErr, OnOk, Option, Some, [], option_map, true, false};
+ghost use Rattle.std.specs.Prelude.{◌≡◌, ◌+◌, ◌*◌, ◌^◌, ◌<◌, ◌≤◌, ◌++◌, ℕ, Err, IfErr, IfOk, IfSome, List, None, Ok, OnErr, OnOk, Option, Some, [], true, false};
 ghost use Rattle.pdc_core.specs.Step.{ticked_of};
 ghost use Rattle.pdc_core.specs.KeptArrival.{taken_view};
 ghost use Rattle.pdc_life.specs.Answer.{pop_answer, tick_answer, waiting_counts};
@@ -9,22 +9,21 @@ ghost use Rattle.pdc_life.specs.Published.{layout_wire};
 ghost use Rattle.pdc_hub.specs.Closing.{closing_of};
 ghost use Rattle.pdc_hub.specs.Counted.{CountsAtLeast, configurations, configured_by, refused_by, taken_by};
 ghost use Rattle.pdc_hub.specs.Faults.{IsOfDelivery};
+ghost use Rattle.pdc_hub.specs.Pops.{HasPoppedNone, HasPoppedOne, IsPop, popped_by};
 ghost use Rattle.pdc_hub.specs.Replay.{InSomeLife, WasRead, number_in};
-ghost use Rattle.pdc_row.specs.RowView.{row_view};
 ghost use Rattle.pdc_tag.specs.declared.limits.TheConstants.{SECONDS};
 
 use crate::fault::HubFault;
 use crate::ledgers::{ConfiguredIn, RefusedIn, TakenIn, TopIn};
 use crate::naming::Naming;
+use crate::pops::Pops;
 use crate::recorder::Recorder;
 use crate::shares::{Blanks, Books, Shares};
 use pdc_core::{Core, Counts, KeptArrival, Ticked};
 use pdc_frame::Buffer;
 use pdc_life::{MAX_PMUS, Outcome};
 use pdc_ports::Numbered;
-use pdc_row::DueRow;
 use std::alloc::Global;
-use std::sync::ledger::Share;
 use std::sync::{Mutex, OnceLock, OnceToken, Wait};
 
 /// The lock round a recorder, and beside it whether no more is to be delivered. Each call but [`Hub::closed`] takes the lock once, and may
@@ -36,8 +35,8 @@ pub struct Hub<C: Core + Drop, N: Naming<C::Settings>> {
 }
 
 impl<C: Core + Drop, N: Naming<C::Settings>> Hub<C, N> {
-    /// A hub over two cores that were opened alike with this floor, with no step taken since; the shares with all parts; and the
-    /// aligner's share. The base is brought up each time that so many steps are kept.
+    /// A hub over two cores that were opened alike with this floor, with no step taken since; the shares with all parts; and who
+    /// pops. The base is brought up each time that so many steps are kept.
     pub fn new(
         alloc: Global,
         base: C,
@@ -45,15 +44,16 @@ impl<C: Core + Drop, N: Naming<C::Settings>> Hub<C, N> {
         limit: usize,
         floor: u64,
         blanks: Blanks,
-    ) -> (Self, Shares<N>, Share<TopIn<N>>)
+    ) -> (Self, Shares<N>, Pops<N>)
         requires alike { (g : Given) × (N.given ≡ Some g) × C.stands_for base g [] × C.stands_for now g [] }
         requires settings { (N.settings ≡ Some (C.settings_of base)) × (N.settings ≡ Some (C.settings_of now)) }
         requires limit { 1 ≤ limit }
         requires floor { C.popped_of now ≡ floor }
         requires names { (blanks.taken.name ≡ N.taken.name) × (blanks.refused.name ≡ N.refused.name) × (blanks.configured.name ≡ N.configured.name) × (blanks.top.name ≡ N.top.name) }
         requires blank { (blanks.taken.parts ≡ N.taken.parts) × (blanks.refused.parts ≡ N.refused.parts) × (blanks.configured.parts ≡ N.configured.parts) × (blanks.top.parts ≡ N.top.parts) × (0 < N.top.parts) }
-        ensures parts { (result.1.taken.parts ≡ N.taken.parts) × (result.1.refused.parts ≡ N.refused.parts) × (result.1.configured.parts ≡ N.configured.parts) × (result.2.parts ≡ N.top.parts) }
-        ensures amounts { (result.1.taken.amount ≡ 0) × (result.1.refused.amount ≡ 0) × (result.1.configured.amount ≡ 0) × (result.2.amount ≡ floor) }
+        ensures parts { (result.1.taken.parts ≡ N.taken.parts) × (result.1.refused.parts ≡ N.refused.parts) × (result.1.configured.parts ≡ N.configured.parts) × (result.2.top.parts ≡ N.top.parts) }
+        ensures amounts { (result.1.taken.amount ≡ 0) × (result.1.refused.amount ≡ 0) × (result.1.configured.amount ≡ 0) × (result.2.top.amount ≡ floor) }
+        ensures none { popped_by result.2 ≡ 0 }
     {
         let Blanks {
             taken,
@@ -82,7 +82,7 @@ impl<C: Core + Drop, N: Naming<C::Settings>> Hub<C, N> {
                 refused: mine_refused,
                 configured: mine_configured,
             },
-            mine_top,
+            Pops::new(mine_top),
         )
     }
 
@@ -137,27 +137,24 @@ impl<C: Core + Drop, N: Naming<C::Settings>> Hub<C, N> {
         self.table.lock(rt).tick(now, counts)
     }
 
-    /// Pops the lowest row that closed and was not popped. It lies above all rows popped before, and its instant can be tagged.
-    /// The answer bears the number of the step.
+    /// Pops the lowest row that closed and was not popped, which is written over the one popped before, and counts it. Whether there was one.
+    /// It lies above all rows popped before, and its instant can be tagged. The answer bears the number of the step.
     ///
     /// # Errors
     ///
     /// `NoMemory` where there is no memory for the step. Nothing is added then.
-    pub fn pop<R: Wait>(
-        &self,
-        rt: &R,
-        all: &mut Share<TopIn<N>>,
-    ) -> Result<Numbered<Option<DueRow>>, HubFault>
-        requires { (all.old.parts ≡ N.top.parts) × (0 < all.old.parts) }
-        ensures some { IfOk result (λ numbered. ∥ InSomeLife C.stands_for N.given (λ state g E. (option_map row_view numbered.answer ≡ pop_answer E) × (numbered.step ≡ number_in E)) ∥₁) }
-        ensures row { IfOk result (λ numbered. IfSome numbered.answer (λ row. (all.old.amount < row.instant) × (all.new.amount ≡ row.instant))) }
-        ensures tagged { IfOk result (λ numbered. IfSome numbered.answer (λ row. (g : Given) → N.given ≡ Some g → row.instant < SECONDS * g.output.rate)) }
-        ensures none { IfOk result (λ numbered. numbered.answer ≡ None → all.new.amount ≡ all.old.amount) }
-        ensures parts { all.new.parts ≡ all.old.parts }
+    pub fn pop<R: Wait>(&self, rt: &R, pops: &mut Pops<N>) -> Result<Numbered<bool>, HubFault>
+        requires { (pops.old.top.parts ≡ N.top.parts) × (0 < pops.old.top.parts) }
+        ensures some { IfOk result (λ numbered. ∥ InSomeLife C.stands_for N.given (λ state g E. IsPop numbered.answer pops.new.row (pop_answer E) × (numbered.step ≡ number_in E)) ∥₁) }
+        // A row that was popped lies above all before, and is counted; only such a row is.
+        ensures row { IfOk result (λ numbered. numbered.answer ≡ true → HasPoppedOne pops.old pops.new) }
+        ensures tagged { IfOk result (λ numbered. numbered.answer ≡ true → (g : Given) → N.given ≡ Some g → pops.new.row.instant < SECONDS * g.output.rate) }
+        ensures none { IfOk result (λ numbered. numbered.answer ≡ false → HasPoppedNone pops.old pops.new) }
+        ensures parts { pops.new.top.parts ≡ pops.old.top.parts }
         ensures causes { OnErr result (result ≡ Err HubFault.NoMemory) }
-        ensures err { OnErr result (all.new.amount ≡ all.old.amount) }
+        ensures err { OnErr result (HasPoppedNone pops.old pops.new) }
     {
-        self.table.lock(rt).pop(all)
+        self.table.lock(rt).pop(pops)
     }
 
     /// Appends the frame of the layout in force, dated with this second.
@@ -195,13 +192,13 @@ impl<C: Core + Drop, N: Naming<C::Settings>> Hub<C, N> {
         self.table.lock(rt).waiting()
     }
 
-    /// No more is to be delivered. Only who has all parts of the aligner's share closes it, so no receiver does. Answers what shows it.
-    pub fn close<R: Wait>(&self, rt: &R, all: &mut Share<TopIn<N>>) -> OnceToken<'_, ()>
-        requires { (all.old.parts ≡ N.top.parts) × (0 < all.old.parts) }
+    /// No more is to be delivered. Only who pops closes it, with all parts of the share, so no receiver does. Answers what shows it.
+    pub fn close<R: Wait>(&self, rt: &R, pops: &mut Pops<N>) -> OnceToken<'_, ()>
+        requires { (pops.old.top.parts ≡ N.top.parts) × (0 < pops.old.top.parts) }
         ensures closed { result.of ≡ closing_of self.now }
-        ensures kept { all.new ≡ all.old }
+        ensures kept { pops.new ≡ pops.old }
     {
-        let _ = all;
+        let _ = pops;
         self.closing.init(rt, || -> () {})
     }
 

@@ -1,5 +1,5 @@
 //! The value under the lock.
-ghost use Rattle.std.specs.Prelude.{◌≡◌, ◌+◌, ◌*◌, ◌-◌, ◌^◌, ◌<◌, ◌≤◌, ◌∷◌, ◌++◌, ℕ, Bool, Err, IfErr, IfOk, IfSome, List, None, Ok, OnErr, OnOk, Option, Some, [], length, option_map, true, false};
+ghost use Rattle.std.specs.Prelude.{◌≡◌, ◌+◌, ◌*◌, ◌-◌, ◌^◌, ◌<◌, ◌≤◌, ◌∷◌, ◌++◌, ℕ, Bool, Err, IfErr, IfOk, IfSome, List, None, Ok, OnErr, OnOk, Option, Some, [], length, true, false};
 ghost use Rattle.pdc_core.specs.Step.{ticked_of};
 ghost use Rattle.pdc_core.specs.KeptArrival.{taken_view};
 ghost use Rattle.pdc_core.specs.declared.step.CoreStep.TheVariants as step;
@@ -9,22 +9,22 @@ ghost use Rattle.pdc_life.specs.Life.{Entry, changes};
 ghost use Rattle.pdc_life.specs.Published.{layout_wire};
 ghost use Rattle.pdc_hub.specs.Counted.{CountsAtLeast, configurations, configured_by, is_used_up, refused_by, taken_by};
 ghost use Rattle.pdc_hub.specs.Faults.{IsOfDelivery};
+ghost use Rattle.pdc_hub.specs.Pops.{HasPoppedNone, HasPoppedOne, IsPop};
 ghost use Rattle.pdc_hub.specs.Replay.{Follows, InSomeLife, WasRead, number_in, since};
-ghost use Rattle.pdc_row.specs.RowView.{row_view};
 ghost use Rattle.pdc_tag.specs.declared.limits.TheConstants.{SECONDS};
 
 use crate::fault::HubFault;
 use crate::ledgers::{ConfiguredIn, Ledgers, RefusedIn, TakenIn, TopIn};
 use crate::naming::Naming;
+use crate::pops::Pops;
 use crate::replayed::Replayed;
 use crate::shares::{Books, Shares};
 use pdc_core::{Core, Counts, KeptArrival, Ticked};
 use pdc_frame::Buffer;
 use pdc_life::{MAX_PMUS, Outcome};
 use pdc_ports::Numbered;
-use pdc_row::DueRow;
 use std::alloc::{AllocError, Global};
-use std::sync::ledger::{Book, Share};
+use std::sync::ledger::Book;
 
 /// The value under the lock: a core beside its base and the steps since, and the books of what it counted.
 #[derive(Drop)]
@@ -219,23 +219,25 @@ impl<C: Core + Drop, N: Naming<C::Settings>> Recorder<C, N> {
         }
     }
 
-    /// Pops the lowest row that closed and was not popped. It lies above all rows popped before, and its instant can be tagged.
+    /// Pops the lowest row that closed and was not popped, which is written over the one popped before, and counts it. Whether there was one.
+    /// It lies above all rows popped before, and its instant can be tagged.
     ///
     /// # Errors
     ///
     /// `NoMemory` where there is no memory for the step. Nothing is added then.
-    pub fn pop(&mut self, all: &mut Share<TopIn<N>>) -> Result<Numbered<Option<DueRow>>, HubFault>
-        requires { (all.old.parts ≡ N.top.parts) × (0 < all.old.parts) }
-        ensures answer { IfOk result (λ numbered. (g : Given) (E : List Entry) → C.stands_for self.old.core.state g E → option_map row_view numbered.answer ≡ pop_answer E) }
+    pub fn pop(&mut self, pops: &mut Pops<N>) -> Result<Numbered<bool>, HubFault>
+        requires { (pops.old.top.parts ≡ N.top.parts) × (0 < pops.old.top.parts) }
+        ensures answer { IfOk result (λ numbered. (g : Given) (E : List Entry) → C.stands_for self.old.core.state g E → IsPop numbered.answer pops.new.row (pop_answer E)) }
         ensures stands { OnOk result (Follows C.rules (C.stands_for self.old.core.state) (C.stands_for self.new.core.state) ToPop) }
         ensures event { OnOk result (self.new.core.events.items ≡ since self.old.core.limit self.old.core.events.items ++ step.Pop ∷ []) }
-        ensures some { IfOk result (λ numbered. ∥ InSomeLife C.stands_for N.given (λ state g E. (option_map row_view numbered.answer ≡ pop_answer E) × (numbered.step ≡ number_in E)) ∥₁) }
-        ensures row { IfOk result (λ numbered. IfSome numbered.answer (λ row. (all.old.amount < row.instant) × (all.new.amount ≡ row.instant))) }
-        ensures tagged { IfOk result (λ numbered. IfSome numbered.answer (λ row. (g : Given) → N.given ≡ Some g → row.instant < SECONDS * g.output.rate)) }
-        ensures none { IfOk result (λ numbered. numbered.answer ≡ None → all.new.amount ≡ all.old.amount) }
-        ensures parts { all.new.parts ≡ all.old.parts }
+        ensures some { IfOk result (λ numbered. ∥ InSomeLife C.stands_for N.given (λ state g E. (IsPop numbered.answer pops.new.row (pop_answer E)) × (numbered.step ≡ number_in E)) ∥₁) }
+        // A row that was popped lies above all before, and is counted; only such a row is.
+        ensures row { IfOk result (λ numbered. numbered.answer ≡ true → HasPoppedOne pops.old pops.new) }
+        ensures tagged { IfOk result (λ numbered. numbered.answer ≡ true → (g : Given) → N.given ≡ Some g → pops.new.row.instant < SECONDS * g.output.rate) }
+        ensures none { IfOk result (λ numbered. numbered.answer ≡ false → HasPoppedNone pops.old pops.new) }
+        ensures parts { pops.new.top.parts ≡ pops.old.top.parts }
         ensures causes { OnErr result (result ≡ Err HubFault.NoMemory) }
-        ensures err { OnErr result ((self.new.core.state ≡ self.old.core.state) × (all.new.amount ≡ all.old.amount)) }
+        ensures err { OnErr result ((self.new.core.state ≡ self.old.core.state) × HasPoppedNone pops.old pops.new) }
     {
         let Recorder {
             core,
@@ -243,18 +245,24 @@ impl<C: Core + Drop, N: Naming<C::Settings>> Recorder<C, N> {
             popped,
             ..
         } = self;
+        let Pops {
+            top: all,
+            row,
+            count,
+        } = pops;
         top.audit(all);
         let step = core.step();
-        match core.pop() {
+        match core.pop_into(row) {
             Err(_) => Err(HubFault::NoMemory),
-            Ok(None) => Ok(Numbered { step, answer: None }),
-            Ok(Some(row)) => {
+            Ok(false) => Ok(Numbered {
+                step,
+                answer: false,
+            }),
+            Ok(true) => {
                 top.add(all, row.instant - *popped);
                 *popped = row.instant;
-                Ok(Numbered {
-                    step,
-                    answer: Some(row),
-                })
+                *count += 1;
+                Ok(Numbered { step, answer: true })
             }
         }
     }

@@ -1,14 +1,14 @@
 //! A core beside a base from which the steps since lead to it.
-ghost use Rattle.std.specs.Prelude.{◌≡◌, ◌≤◌, ◌<◌, ◌*◌, ◌+◌, ◌∷◌, ◌++◌, ℕ, IfOk, IfSome, List, OnErr, OnOk, Option, Some, [], length, option_map, true, vec_len};
+ghost use Rattle.std.specs.Prelude.{◌≡◌, ◌≤◌, ◌<◌, ◌*◌, ◌+◌, ◌∷◌, ◌++◌, ℕ, IfOk, List, OnErr, OnOk, Option, Some, [], false, length, true, vec_len};
 ghost use Rattle.std.specs.List.{list_all};
-ghost use Rattle.pdc_core.specs.Step.{after_answer, is_allowed, popped_after, ticked_of};
+ghost use Rattle.pdc_core.specs.Step.{after_answer, is_allowed, ticked_of};
 ghost use Rattle.pdc_core.specs.KeptArrival.{taken_view};
 ghost use Rattle.pdc_core.specs.declared.step.CoreStep.TheVariants as step;
 ghost use Rattle.pdc_life.specs.Answer.{ToArrive, ToPop, ToTick, pop_answer, tick_answer};
 ghost use Rattle.pdc_life.specs.Given.{Given};
 ghost use Rattle.pdc_life.specs.Life.{Entry, changes};
+ghost use Rattle.pdc_hub.specs.Pops.{IsPop};
 ghost use Rattle.pdc_hub.specs.Replay.{Follows, Replaying, Replays, WasRead, number_after, since};
-ghost use Rattle.pdc_row.specs.RowView.{row_view};
 ghost use Rattle.pdc_tag.specs.declared.limits.TheConstants.{SECONDS};
 
 use crate::naming::Naming;
@@ -120,24 +120,26 @@ impl<C: Core + Drop, N: Naming<C::Settings>> Replayed<C, N> {
         self.add_tick(now, counts)
     }
 
-    /// Pops a row, and keeps the step. Where the list is full, the base is brought up first.
+    /// Pops a row, which is written over this one, and keeps the step. Whether there was one; else the row stays. Where the list is full, the
+    /// base is brought up first.
     ///
     /// # Errors
     ///
-    /// [`AllocError`] where there is no memory for the step; the state is as it was.
-    pub fn pop(&mut self) -> Result<Option<DueRow>, AllocError>
-        ensures answer { IfOk result (λ row. (g : Given) (E : List Entry) → C.stands_for self.old.state g E → option_map row_view row ≡ pop_answer E) }
+    /// [`AllocError`] where there is no memory for the step; the state and the row are as they were.
+    pub fn pop_into(&mut self, row: &mut DueRow) -> Result<bool, AllocError>
+        ensures answer { IfOk result (λ is_some. (g : Given) (E : List Entry) → C.stands_for self.old.state g E → IsPop is_some row.new (pop_answer E)) }
         ensures stands { OnOk result (Follows C.rules (C.stands_for self.old.state) (C.stands_for self.new.state) ToPop) }
-        ensures rises { IfOk result (λ popped. IfSome popped (λ row. C.popped_of self.old.state < row.instant)) }
-        ensures tagged { IfOk result (λ popped. IfSome popped (λ row. (g : Given) → N.given ≡ Some g → row.instant < SECONDS * g.output.rate)) }
-        ensures popped { IfOk result (λ row. C.popped_of self.new.state ≡ popped_after (option_map row_view row) (C.popped_of self.old.state)) }
+        ensures rises { IfOk result (λ is_some. is_some ≡ true → C.popped_of self.old.state < row.new.instant) }
+        ensures tagged { IfOk result (λ is_some. is_some ≡ true → (g : Given) → N.given ≡ Some g → row.new.instant < SECONDS * g.output.rate) }
+        ensures popped { IfOk result (λ is_some. (is_some ≡ true → C.popped_of self.new.state ≡ row.new.instant) × (is_some ≡ false → C.popped_of self.new.state ≡ C.popped_of self.old.state)) }
+        ensures none { IfOk result (λ is_some. is_some ≡ false → row.new ≡ row.old) }
         ensures counts { C.counts_of self.new.state ≡ C.counts_of self.old.state }
         ensures event { OnOk result (self.new.events.items ≡ since self.old.limit self.old.events.items ++ step.Pop ∷ []) }
         ensures limit { self.new.limit ≡ self.old.limit }
-        ensures err { OnErr result (self.new.state ≡ self.old.state) }
+        ensures err { OnErr result ((self.new.state ≡ self.old.state) × (row.new ≡ row.old)) }
     {
         self.bring_up();
-        self.add_pop()
+        self.add_pop(row)
     }
 
     /// Answers what arrived, and keeps the step, for which there is a place below the limit.
@@ -181,24 +183,25 @@ impl<C: Core + Drop, N: Naming<C::Settings>> Replayed<C, N> {
         Ok(ticked)
     }
 
-    /// Pops a row, and keeps the step, for which there is a place below the limit.
-    fn add_pop(&mut self) -> Result<Option<DueRow>, AllocError>
+    /// Pops a row into this one, and keeps the step, for which there is a place below the limit.
+    fn add_pop(&mut self, row: &mut DueRow) -> Result<bool, AllocError>
         requires room { vec_len self.old.events < self.old.limit }
-        ensures answer { IfOk result (λ row. (g : Given) (E : List Entry) → C.stands_for self.old.state g E → option_map row_view row ≡ pop_answer E) }
+        ensures answer { IfOk result (λ is_some. (g : Given) (E : List Entry) → C.stands_for self.old.state g E → IsPop is_some row.new (pop_answer E)) }
         ensures stands { OnOk result (Follows C.rules (C.stands_for self.old.state) (C.stands_for self.new.state) ToPop) }
-        ensures rises { IfOk result (λ popped. IfSome popped (λ row. C.popped_of self.old.state < row.instant)) }
-        ensures tagged { IfOk result (λ popped. IfSome popped (λ row. (g : Given) → N.given ≡ Some g → row.instant < SECONDS * g.output.rate)) }
-        ensures popped { IfOk result (λ row. C.popped_of self.new.state ≡ popped_after (option_map row_view row) (C.popped_of self.old.state)) }
+        ensures rises { IfOk result (λ is_some. is_some ≡ true → C.popped_of self.old.state < row.new.instant) }
+        ensures tagged { IfOk result (λ is_some. is_some ≡ true → (g : Given) → N.given ≡ Some g → row.new.instant < SECONDS * g.output.rate) }
+        ensures popped { IfOk result (λ is_some. (is_some ≡ true → C.popped_of self.new.state ≡ row.new.instant) × (is_some ≡ false → C.popped_of self.new.state ≡ C.popped_of self.old.state)) }
+        ensures none { IfOk result (λ is_some. is_some ≡ false → row.new ≡ row.old) }
         ensures counts { C.counts_of self.new.state ≡ C.counts_of self.old.state }
         ensures event { OnOk result (self.new.events.items ≡ self.old.events.items ++ step.Pop ∷ []) }
         ensures limit { self.new.limit ≡ self.old.limit }
-        ensures err { OnErr result (self.new.state ≡ self.old.state) }
+        ensures err { OnErr result ((self.new.state ≡ self.old.state) × (row.new ≡ row.old)) }
     {
         let Replayed { events, state, .. } = self;
         events.reserve(1)?;
-        let row = state.pop_due();
+        let is_some = state.pop_into(row);
         events.push_reserved(CoreStep::Pop);
-        Ok(row)
+        Ok(is_some)
     }
 }
 

@@ -81,10 +81,10 @@ where
     let Ok(state) = base.open_next(alloc, start, floor, counts) else {
         return not_run(publisher, sink);
     };
-    let (hub, shares, top) = Hub::<C, N>::new(alloc, base, state, limit, floor, blanks);
+    let (hub, shares, pops) = Hub::<C, N>::new(alloc, base, state, limit, floor, blanks);
     let crew = Crew {
         shares,
-        top,
+        pops,
         sources,
         publisher,
         ticker,

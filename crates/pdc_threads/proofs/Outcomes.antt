@@ -1,6 +1,6 @@
 -- What a run tells of what was put.
-use Rattle.std.proofs.Common.{arith, rules, ◌≡◌, ◌≤◌, ℕ, Option, Result, Ok, Err, IfOk, OnOk, Bool, true, false, List, [], ◌∷◌, ◌++◌, map, refl, sym, ap, ◌∙◌, subst, append-nil, vec_len}
-use Rattle.pdc_aligner.specs.Sequence.{Rises, instants_of}
+use Rattle.std.proofs.Common.{arith, rules, ◌≡◌, ◌≤◌, ◌+◌, ℕ, length, Option, Result, Ok, Err, IfOk, OnOk, Bool, true, false, List, [], ◌∷◌, ◌++◌, map, refl, sym, ap, ◌∙◌, subst, append-nil, vec_len}
+use Rattle.pdc_aligner.specs.Sequence.{HasPutAll, Rises, instants_of}
 use Rattle.pdc_aligner.specs.declared.pace.Pace.{Pace}
 use Rattle.pdc_aligner.specs.Turns.{IsAligned, end_mark}
 use Rattle.pdc_life.specs.Given.{Given}
@@ -18,7 +18,7 @@ use Rattle.pdc_hub.specs.declared.fault.HubFault.{HubFault}
 use Rattle.pdc_threads.specs.declared.telling.Totals.{Totals}
 use Rattle.pdc_threads.specs.Conducted.{HasConducted, Publishing}
 use Rattle.pdc_threads.specs.Ended.{Ending, fault_in, first_fault, first_of}
-use Rattle.pdc_threads.specs.Run.{GivesFrom, HasEach}
+use Rattle.pdc_threads.specs.Run.{ArePublished, GivesFrom, HasEach}
 use Rattle.pdc_threads.specs.declared.receivers.Counted.{Counted}
 
 -- an Ok run handed all of it on
@@ -31,6 +31,15 @@ pub all_published : (outcome : Result Totals HubFault) (aligned : Result ℕ Hub
     → IfOk outcome (λ totals. totals.published ≡ count)
 all_published (Ok totals) aligned count same is = subst (λ r. IfOk r (λ published. published ≡ count)) same is
 all_published (Err fault) aligned count same is = tt
+
+-- and as many were popped
+pub all_popped : (outcome : Result Totals HubFault) (aligned : Result ℕ HubFault) (first popped : ℕ) (put : List Message) → IfOk outcome (λ totals. aligned ≡ Ok totals.published) → IfOk aligned (λ published. published ≡ length (instants_of put))
+    → HasPutAll first popped [] put aligned → ArePublished outcome first popped
+all_popped (Ok totals) aligned first popped put same is h =
+    let n : totals.published ≡ length (instants_of put) = subst (λ r. IfOk r (λ published. published ≡ length (instants_of put))) same is in
+    let all : HasPutAll {A = ℕ} first popped [] put (Ok totals.published) = subst (λ r. HasPutAll first popped [] put r) same h in
+    omega (arith, n, all.all, all.whole)
+all_popped (Err fault) aligned first popped put same is h = tt
 
 -- the ticks of what was aligned are those of the run
 pub all_aligned : {C : Type 0} (Stands : C → Lives) (named : Option Given) (output : Output) (rate every : ℕ) (first last : List ℕ) (Gave : List ℕ → Type 0) (outcome : Result Totals HubFault) (aligned : Result ℕ HubFault) (put : List Message)
@@ -100,6 +109,10 @@ none_put : (ended : Bool) → instants_of (end_mark ended) ≡ []
 none_put true = refl
 none_put false = refl
 
+-- nothing was popped, and nothing was put but the end mark at most
+pub none_popped : {A : Type 0} (popped : ℕ) (fault : HubFault) (ended : Bool) (put : List Message) → put ≡ end_mark ended → HasPutAll {A = A} popped popped [] put (Err fault)
+none_popped popped fault ended put e = record { lost = 0; all = omega (arith, ap (λ ms. length (instants_of ms)) e, ap length (none_put ended)); one_at_most = omega arith; whole = tt }
+
 -- Where nothing was handed on
 pub nothing_sent : {Took : List (List ℕ) → Type 0} → Took [] → HasHandedOn Took [] AlignerGone
 nothing_sent took = record { given = []; rest = []; took = took; first = refl; whole = search rules }
@@ -116,6 +129,7 @@ none_conducted Stands named Answers told sources pace gave ticker failures more 
       kept = (refl, refl);
       sink = search rules;
       mark = search rules;
+      popped = tt;
       turned = record {
         run = record {
           put = put;

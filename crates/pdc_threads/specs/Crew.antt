@@ -1,14 +1,26 @@
 -- What a run is given.
-use Rattle.std.specs.Prelude.{◌≡◌, ℕ, ◌+◌, ◌<◌, ◌≤◌, vec_len}
-use Rattle.pdc_publisher.specs.Publisher.{last_in}
+use Rattle.std.specs.Prelude.{◌≡◌, ◌+◌, ◌<◌, ◌≤◌, [], Some, vec_len}
+use Rattle.pdc_aligner.specs.Opened.{IsOpenedWith}
+use Rattle.pdc_aligner.specs.Rate.{IsAtRate}
+use Rattle.pdc_hub.specs.declared.intake.Intake.{Intake}
+use Rattle.pdc_mark.specs.declared.stored.Stored.{Stored}
+use Rattle.pdc_pipe.specs.Writing.{IsOpen, put_by}
+use Rattle.pdc_publisher.specs.Publisher.{last_in, mark_in, output_in}
 use Rattle.pdc_threads.specs.declared.crew.Manned.{Manned}
 
--- Each stream has an input; the shares are whole, with a part for each input and one more, and have counted nothing; and the greatest
--- instant popped is the last one published, which the stored floor covers.
-abbrev pub CanRun : {N W S M I K : Type 0} {g : _} → Manned N W S M I K g → (streams taken refused configured top floor : ℕ) → Type 0
-CanRun manned streams taken refused configured top floor =
-    (vec_len manned.inputs ≡ streams) × (vec_len manned.inputs ≤ 16)
-    × (manned.shares.taken.parts ≡ vec_len manned.inputs + 1) × (manned.shares.refused.parts ≡ vec_len manned.inputs + 1) × (manned.shares.configured.parts ≡ vec_len manned.inputs + 1)
-    × (manned.shares.taken.parts ≡ taken) × (manned.shares.refused.parts ≡ refused) × (manned.shares.configured.parts ≡ configured)
-    × (manned.shares.taken.amount ≡ 0) × (manned.shares.refused.amount ≡ 0) × (manned.shares.configured.amount ≡ 0)
-    × (manned.aligner.top.parts ≡ top) × (0 < manned.aligner.top.parts) × (manned.aligner.top.amount ≡ last_in manned.aligner.publisher) × (last_in manned.aligner.publisher ≤ floor)
+-- A run over this hub and these settings may begin, where the mark stores this. The settings are those that are named, and each stream has
+-- an input. The shares are whole, with a part for each input and one more, and have counted nothing. The greatest instant popped is the last
+-- one published, which the stored floor covers. The core was opened with what the mark stores, at the publisher's rate. And nothing was put.
+pub record IsReady {C N S W P M I K : Type 0} {core : _} {reads : _} {naming : _} {ledgers : _} {g : _}
+    (intake : Intake C N S core reads naming ledgers) (manned : Manned N W P M I K g) (stored : Stored) : Type 0 where
+  pub settings : naming.settings ≡ Some intake.settings.now
+  pub streams : vec_len manned.inputs ≡ reads.streams intake.settings.now
+  pub few : vec_len manned.inputs ≤ 16
+  pub parts : (manned.shares.taken.parts ≡ vec_len manned.inputs + 1) × (manned.shares.refused.parts ≡ vec_len manned.inputs + 1) × (manned.shares.configured.parts ≡ vec_len manned.inputs + 1)
+  pub whole : (manned.shares.taken.parts ≡ ledgers.taken.parts) × (manned.shares.refused.parts ≡ ledgers.refused.parts) × (manned.shares.configured.parts ≡ ledgers.configured.parts)
+  pub amounts : (manned.shares.taken.amount ≡ 0) × (manned.shares.refused.amount ≡ 0) × (manned.shares.configured.amount ≡ 0)
+  pub top : (manned.aligner.pops.top.parts ≡ ledgers.top.parts) × (0 < manned.aligner.pops.top.parts) × (manned.aligner.pops.top.amount ≡ last_in manned.aligner.publisher)
+  pub floor : last_in manned.aligner.publisher ≤ stored.floor
+  pub rate : IsAtRate naming.given (output_in manned.aligner.publisher).rate
+  pub opened : IsOpenedWith naming.given stored
+  pub begins : IsOpen manned.aligner.writer × (put_by manned.aligner.writer ≡ [])

@@ -1,5 +1,5 @@
 -- What a run of the receivers, the aligner and the sender did.
-use Rattle.std.specs.Prelude.{◌≡◌, ℕ, Option, List, [], ◌++◌, length, map, sum, IfOk, IsErrOf, OnOk, Result, vec_len}
+use Rattle.std.specs.Prelude.{◌≡◌, ℕ, ◌+◌, Option, List, [], ◌++◌, length, map, sum, IfOk, IsErrOf, OnOk, Result, vec_len}
 use Rattle.pdc_aligner.specs.declared.pace.Pace.{Pace}
 use Rattle.pdc_aligner.specs.Sequence.{Rises, instants_of}
 use Rattle.pdc_aligner.specs.Turns.{HasGiven, IsAligned}
@@ -52,3 +52,7 @@ IsCausedByMark outcome before after = IsErrOf outcome Device → IsDown before a
 -- Where the run was Ok, there is an entry for each of so many sources.
 abbrev pub HasEach : (outcome : Result Totals HubFault) (sources : ℕ) → Type 0
 HasEach outcome sources = IfOk outcome (λ t. vec_len t.receivers ≡ sources)
+
+-- Where the run was Ok, the rows that were popped between the one number and the other are as many as it published.
+abbrev pub ArePublished : (outcome : Result Totals HubFault) (before after : ℕ) → Type 0
+ArePublished outcome before after = IfOk outcome (λ t. after ≡ before + t.published)

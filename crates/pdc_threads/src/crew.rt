@@ -6,19 +6,18 @@ use crate::receivers::Input;
 use crate::telling::Totals;
 use crossbeam_channel::Pass;
 use pdc_aligner::{Aligner, Pace};
-use pdc_hub::{HubFault, Ledgers, Shares, TopIn};
+use pdc_hub::{HubFault, Ledgers, Pops, Shares};
 use pdc_mark::Mark;
 use pdc_pipe::{Log, Message};
 use pdc_publisher::Publisher;
-use std::sync::ledger::Share;
 
 /// What a run is given beside its hub: the shares, a source for each stream, in order, and who publishes, ticks and sends.
 #[derive(Drop)]
 pub struct Crew<N: Ledgers, W: Outside> {
     /// All shares of the three totals.
     pub shares: Shares<N>,
-    /// The whole share of the greatest instant popped.
-    pub top: Share<TopIn<N>>,
+    /// By which the aligner pops.
+    pub pops: Pops<N>,
     /// A source for each stream, in order.
     pub sources: Vec<W::Source>,
     /// It publishes, and alone has the mark.
@@ -54,13 +53,15 @@ pub struct Ran<M: Mark, K> {
     pub outcome: Result<Totals, HubFault>,
 }
 
-/// A run that is over: what it hands back, and the shares of those who received.
+/// A run that is over: what it hands back, the shares of those who received, and who popped.
 #[derive(Drop)]
 pub struct Finished<N: Ledgers, M: Mark, K> {
     /// The publisher, the sink and the outcome.
     pub ran: Ran<M, K>,
     /// The shares that it was given, as far as they came back: all of them where it was Ok.
     pub shares: Shares<N>,
+    /// By which rows were popped, and how many.
+    pub pops: Pops<N>,
 }
 
 /// A run that did not begin, for want of memory.
@@ -68,8 +69,9 @@ pub fn not_begun<N: Ledgers, M: Mark, K>(
     publisher: Publisher<M>,
     sink: K,
     shares: Shares<N>,
+    pops: Pops<N>,
 ) -> Finished<N, M, K>
-    ensures { (result.ran.publisher ≡ publisher) × (result.ran.sink ≡ sink) × (result.ran.outcome ≡ Err HubFault.NoMemory) }
+    ensures { (result.ran.publisher ≡ publisher) × (result.ran.sink ≡ sink) × (result.ran.outcome ≡ Err HubFault.NoMemory) × (result.pops ≡ pops) }
 {
     Finished {
         ran: Ran {
@@ -78,5 +80,6 @@ pub fn not_begun<N: Ledgers, M: Mark, K>(
             outcome: Err(HubFault::NoMemory),
         },
         shares,
+        pops,
     }
 }

@@ -17,7 +17,7 @@ pub use crew::{Crew, Finished, Ran};
 pub use outside::{Beside, Outside};
 pub use pdc_aligner::{Aligned, Aligner, Pace, align, tick_cleared};
 pub use pdc_hub::{
-    Blanks, Hub, HubFault, Intake, Ledgers, Naming, Place, Received, Shares, TopIn, receive,
+    Blanks, Hub, HubFault, Intake, Ledgers, Naming, Place, Pops, Received, Shares, TopIn, receive,
 };
 pub use pdc_pipe::{
     CAPACITY, Ended, InOrder, LayoutFrame, Log, Message, Outlet, Receiver, Sender, send_out,

@@ -6,17 +6,18 @@ ghost use Rattle.pdc_pipe.specs.Pipe.{log};
 ghost use Rattle.pdc_aligner.specs.Device.{HasDevice, IsOfAligner, standing_of};
 ghost use Rattle.pdc_aligner.specs.Opened.{IsOpenedWith};
 ghost use Rattle.pdc_aligner.specs.Rate.{IsAtRate};
-ghost use Rattle.pdc_aligner.specs.Sequence.{Rises, instants_of};
+ghost use Rattle.pdc_aligner.specs.Sequence.{HasPutAll, Rises, instants_of};
 ghost use Rattle.pdc_aligner.specs.Turns.{IsAligned};
+ghost use Rattle.pdc_hub.specs.Pops.{popped_by};
 ghost use Rattle.pdc_hub.specs.Received.{IsAnswerFor};
 ghost use Rattle.pdc_pipe.specs.HandedOn.{HasHandedOn, HasSinkCause};
 ghost use Rattle.pdc_pipe.specs.Writing.{IsOpen, put_by};
 ghost use Rattle.pdc_publisher.specs.Publisher.{last_in, lead_in, mark_in, output_in};
 ghost use Rattle.pdc_threads.specs.Conducted.{HasConducted, publishing_of};
 ghost use Rattle.pdc_threads.specs.Counted.{HasCounted};
-ghost use Rattle.pdc_threads.specs.Crew.{CanRun};
+ghost use Rattle.pdc_threads.specs.Crew.{IsReady};
 ghost use Rattle.pdc_threads.specs.Ended.{HasEnded, HasEndedOf};
-ghost use Rattle.pdc_threads.specs.Run.{GivesFrom, HasEach, HasRun, HasRunInTurns, IsCausedByMark, IsCausedBySink, IsSummed};
+ghost use Rattle.pdc_threads.specs.Run.{ArePublished, GivesFrom, HasEach, HasRun, HasRunInTurns, IsCausedByMark, IsCausedBySink, IsSummed};
 
 use crate::crew::{Crew, Finished, Manned, Ran, not_begun};
 use crate::outside::Outside;
@@ -54,14 +55,9 @@ where
     C::Settings: Sync + 's,
     W::Source: 's,
     W::Sink: 's,
-    requires settings { N.settings ≡ Some intake.now.settings.now }
-    requires can { CanRun manned (C.Settings.streams intake.now.settings.now) N.taken.parts N.refused.parts N.configured.parts N.top.parts (W.Mark.stored (mark_in manned.aligner.publisher)).floor }
-    requires rate { IsAtRate N.given (output_in manned.aligner.publisher).rate }
-    requires opened { IsOpenedWith N.given (W.Mark.stored (mark_in manned.aligner.publisher)) }
-    requires ends { receives_on from.now ≡ sends_on manned.aligner.writer.to }
-    requires writer { IsOpen manned.aligner.writer × (put_by manned.aligner.writer ≡ []) }
-    requires reader { IsSeatAt (receives_on from.now) manned.reader × (view manned.reader ≡ log false true false [] []) }
-    ensures conducted { HasConducted C.stands_for N.given (IsAnswerFor C.rules C.stands_for N.given (C.Settings.says intake.now.settings.now)) W.Source.told (map (λ i. i.source) manned.inputs.items) manned.pace (GivesFrom W.Ticker.gave manned.aligner.ticker) (W.Sink.took manned.sink result.ran.sink) (W.Sink.failures_of manned.sink) (W.Sink.failures_of result.ran.sink) (publishing_of manned.aligner.publisher) (publishing_of result.ran.publisher) result.ran.outcome }
+    requires ready { IsReady intake.now manned (W.Mark.stored (mark_in manned.aligner.publisher)) }
+    requires ends { (receives_on from.now ≡ sends_on manned.aligner.writer.to) × IsSeatAt (receives_on from.now) manned.reader × (view manned.reader ≡ log false true false [] []) }
+    ensures conducted { HasConducted C.stands_for N.given (IsAnswerFor C.rules C.stands_for N.given (C.Settings.says intake.now.settings.now)) W.Source.told (map (λ i. i.source) manned.inputs.items) manned.pace (GivesFrom W.Ticker.gave manned.aligner.ticker) (W.Sink.took manned.sink result.ran.sink) (W.Sink.failures_of manned.sink) (W.Sink.failures_of result.ran.sink) (publishing_of manned.aligner.publisher (popped_by manned.aligner.pops)) (publishing_of result.ran.publisher (popped_by result.pops)) result.ran.outcome }
     ensures counted { IfOk result.ran.outcome (HasCounted result.shares N.taken.parts N.refused.parts N.configured.parts) }
 {
     let Manned {
@@ -85,17 +81,17 @@ where
     ) {
         Ok(child) => child,
         Err(refused) => {
-            hub.close(rt, &mut aligner.top);
+            hub.close(rt, &mut aligner.pops);
             let _closed = close(rt, &mut aligner.writer);
             let sent = (refused.value)();
             let Aligner {
                 publisher,
-                top: _,
+                pops,
                 ticker: _,
                 writer,
             } = aligner;
             let (sink, _ended) = settle(writer, sent);
-            return not_begun(publisher, sink, shares);
+            return not_begun(publisher, sink, shares, pops);
         }
     };
     let started = start_all(scope, rt, alloc, intake, inputs, &mut shares);
@@ -104,7 +100,7 @@ where
     let sent = child.join(rt);
     let Aligner {
         publisher,
-        top: _,
+        pops,
         ticker: _,
         writer,
     } = aligner;
@@ -117,6 +113,7 @@ where
             outcome,
         },
         shares,
+        pops,
     }
 }
 
@@ -129,7 +126,7 @@ fn align_or_close<C: Core + Drop, N: Naming<C::Settings>, M: Mark, I: Ticker, R:
     aligner: &mut Aligner<N, M, I>,
     pace: Pace,
 ) -> Result<u64, HubFault>
-    requires top { (aligner.old.top.parts ≡ N.top.parts) × (0 < aligner.old.top.parts) × (aligner.old.top.amount ≡ last_in aligner.old.publisher) × (last_in aligner.old.publisher ≤ (M.stored (mark_in aligner.old.publisher)).floor) }
+    requires top { (aligner.old.pops.top.parts ≡ N.top.parts) × (0 < aligner.old.pops.top.parts) × (aligner.old.pops.top.amount ≡ last_in aligner.old.publisher) × (last_in aligner.old.publisher ≤ (M.stored (mark_in aligner.old.publisher)).floor) }
     requires rate { IsAtRate N.given (output_in aligner.old.publisher).rate }
     requires opened { IsOpenedWith N.given (M.stored (mark_in aligner.old.publisher)) }
     requires begins { IsOpen aligner.old.writer × (put_by aligner.old.writer ≡ []) }
@@ -138,12 +135,13 @@ fn align_or_close<C: Core + Drop, N: Naming<C::Settings>, M: Mark, I: Ticker, R:
     ensures published { IfOk result (λ published. published ≡ length (instants_of (put_by aligner.new.writer))) }
     ensures laid { IsAligned C.stands_for N.given (output_in aligner.old.publisher) pace.rate pace.layout_every (M.stored (mark_in aligner.old.publisher)).counts (M.stored (mark_in aligner.new.publisher)).counts (GivesFrom I.gave aligner.old.ticker) result (put_by aligner.new.writer) }
     ensures kept { (output_in aligner.new.publisher ≡ output_in aligner.old.publisher) × (lead_in aligner.new.publisher ≡ lead_in aligner.old.publisher) }
+    ensures all { HasPutAll (popped_by aligner.old.pops) (popped_by aligner.new.pops) [] (put_by aligner.new.writer) result }
     ensures complete { OnOk result (complete ≡ true) }
     ensures causes { IfErr result IsOfAligner }
     ensures device { HasDevice (standing_of aligner.old.publisher) (standing_of aligner.new.publisher) result }
 {
     if !complete {
-        hub.close(rt, &mut aligner.top);
+        hub.close(rt, &mut aligner.pops);
         let _closed = close(rt, &mut aligner.writer);
         return Err(HubFault::NoMemory);
     }
@@ -168,35 +166,25 @@ where
     C::Settings: Sync + 'x,
     W::Source: 'x,
     W::Sink: 'x,
-    requires settings { N.settings ≡ Some intake.now.settings.now }
-    requires can { CanRun manned (C.Settings.streams intake.now.settings.now) N.taken.parts N.refused.parts N.configured.parts N.top.parts (W.Mark.stored (mark_in manned.aligner.publisher)).floor }
-    requires rate { IsAtRate N.given (output_in manned.aligner.publisher).rate }
-    requires opened { IsOpenedWith N.given (W.Mark.stored (mark_in manned.aligner.publisher)) }
-    requires ends { receives_on from.now ≡ sends_on manned.aligner.writer.to }
-    requires writer { IsOpen manned.aligner.writer × (put_by manned.aligner.writer ≡ []) }
-    requires reader { IsSeatAt (receives_on from.now) manned.reader × (view manned.reader ≡ log false true false [] []) }
-    ensures conducted { HasConducted C.stands_for N.given (IsAnswerFor C.rules C.stands_for N.given (C.Settings.says intake.now.settings.now)) W.Source.told (map (λ i. i.source) manned.inputs.items) manned.pace (GivesFrom W.Ticker.gave manned.aligner.ticker) (W.Sink.took manned.sink result.ran.sink) (W.Sink.failures_of manned.sink) (W.Sink.failures_of result.ran.sink) (publishing_of manned.aligner.publisher) (publishing_of result.ran.publisher) result.ran.outcome }
+    requires ready { IsReady intake.now manned (W.Mark.stored (mark_in manned.aligner.publisher)) }
+    requires ends { (receives_on from.now ≡ sends_on manned.aligner.writer.to) × IsSeatAt (receives_on from.now) manned.reader × (view manned.reader ≡ log false true false [] []) }
+    ensures conducted { HasConducted C.stands_for N.given (IsAnswerFor C.rules C.stands_for N.given (C.Settings.says intake.now.settings.now)) W.Source.told (map (λ i. i.source) manned.inputs.items) manned.pace (GivesFrom W.Ticker.gave manned.aligner.ticker) (W.Sink.took manned.sink result.ran.sink) (W.Sink.failures_of manned.sink) (W.Sink.failures_of result.ran.sink) (publishing_of manned.aligner.publisher (popped_by manned.aligner.pops)) (publishing_of result.ran.publisher (popped_by result.pops)) result.ran.outcome }
     ensures counted { IfOk result.ran.outcome (HasCounted result.shares N.taken.parts N.refused.parts N.configured.parts) }
 {
     thread::scope(
         thread::scope_env(),
         rt,
         move |scope| -> Finished<N, W::Mark, W::Sink>
-            requires settings { N.settings ≡ Some intake.now.settings.now }
-            requires can { CanRun manned (C.Settings.streams intake.now.settings.now) N.taken.parts N.refused.parts N.configured.parts N.top.parts (W.Mark.stored (mark_in manned.aligner.publisher)).floor }
-            requires rate { IsAtRate N.given (output_in manned.aligner.publisher).rate }
-            requires opened { IsOpenedWith N.given (W.Mark.stored (mark_in manned.aligner.publisher)) }
-            requires ends { receives_on from.now ≡ sends_on manned.aligner.writer.to }
-            requires writer { IsOpen manned.aligner.writer × (put_by manned.aligner.writer ≡ []) }
-            requires reader { IsSeatAt (receives_on from.now) manned.reader × (view manned.reader ≡ log false true false [] []) }
-            ensures conducted { HasConducted C.stands_for N.given (IsAnswerFor C.rules C.stands_for N.given (C.Settings.says intake.entry.now.settings.now)) W.Source.told (map (λ i. i.source) manned.inputs.items) manned.pace (GivesFrom W.Ticker.gave manned.aligner.ticker) (W.Sink.took manned.sink result.ran.sink) (W.Sink.failures_of manned.sink) (W.Sink.failures_of result.ran.sink) (publishing_of manned.aligner.publisher) (publishing_of result.ran.publisher) result.ran.outcome }
+            requires ready { IsReady intake.now manned (W.Mark.stored (mark_in manned.aligner.publisher)) }
+            requires ends { (receives_on from.now ≡ sends_on manned.aligner.writer.to) × IsSeatAt (receives_on from.now) manned.reader × (view manned.reader ≡ log false true false [] []) }
+            ensures conducted { HasConducted C.stands_for N.given (IsAnswerFor C.rules C.stands_for N.given (C.Settings.says intake.entry.now.settings.now)) W.Source.told (map (λ i. i.source) manned.inputs.items) manned.pace (GivesFrom W.Ticker.gave manned.aligner.ticker) (W.Sink.took manned.sink result.ran.sink) (W.Sink.failures_of manned.sink) (W.Sink.failures_of result.ran.sink) (publishing_of manned.aligner.publisher (popped_by manned.aligner.pops)) (publishing_of result.ran.publisher (popped_by result.pops)) result.ran.outcome }
             ensures counted { IfOk result.ran.outcome (HasCounted result.shares N.taken.parts N.refused.parts N.configured.parts) }
         { conduct(scope, rt, alloc, intake, from, manned) },
     )
 }
 
 /// Runs a receiver for each source, the aligner and the sender, each in a thread of its own but the aligner, and joins them. The publisher,
-/// the sink and the shares are handed back.
+/// the sink, the shares and who popped are handed back.
 ///
 /// # Errors
 ///
@@ -224,7 +212,7 @@ where
     requires parts { (crew.shares.taken.parts ≡ vec_len crew.sources + 1) × (crew.shares.refused.parts ≡ vec_len crew.sources + 1) × (crew.shares.configured.parts ≡ vec_len crew.sources + 1) }
     requires whole { (crew.shares.taken.parts ≡ N.taken.parts) × (crew.shares.refused.parts ≡ N.refused.parts) × (crew.shares.configured.parts ≡ N.configured.parts) }
     requires amounts { (crew.shares.taken.amount ≡ 0) × (crew.shares.refused.amount ≡ 0) × (crew.shares.configured.amount ≡ 0) }
-    requires top { (crew.top.parts ≡ N.top.parts) × (0 < crew.top.parts) × (crew.top.amount ≡ last_in crew.publisher) × (last_in crew.publisher ≤ (W.Mark.stored (mark_in crew.publisher)).floor) }
+    requires top { (crew.pops.top.parts ≡ N.top.parts) × (0 < crew.pops.top.parts) × (crew.pops.top.amount ≡ last_in crew.publisher) × (last_in crew.publisher ≤ (W.Mark.stored (mark_in crew.publisher)).floor) }
     requires rate { IsAtRate N.given (output_in crew.publisher).rate }
     requires opened { IsOpenedWith N.given (W.Mark.stored (mark_in crew.publisher)) }
     // The totals are the sums over the receivers, and the amounts of the shares, which are whole again: so they are the core's counters.
@@ -238,6 +226,8 @@ where
         (λ put aligned. IsAligned C.stands_for N.given (output_in crew.publisher) crew.pace.rate crew.pace.layout_every (W.Mark.stored (mark_in crew.publisher)).counts (W.Mark.stored (mark_in result.ran.publisher)).counts (GivesFrom W.Ticker.gave crew.ticker) aligned put
         × HasDevice (standing_of crew.publisher) (standing_of result.ran.publisher) aligned)
         (λ put sent. HasHandedOn (W.Sink.took crew.sink result.ran.sink) put sent × HasSinkCause sent (W.Sink.failures_of crew.sink) (W.Sink.failures_of result.ran.sink)) crew.sources.items result.ran.outcome }
+    // Where it is Ok, the rows that were popped are as many as were published.
+    ensures popped { ArePublished result.ran.outcome (popped_by crew.pops) (popped_by result.pops) }
     // Only a sink that failed ends it by the sink's fault, and only the mark's device by the device's.
     ensures sink { IsCausedBySink result.ran.outcome (W.Sink.failures_of crew.sink) (W.Sink.failures_of result.ran.sink) }
     ensures mark { IsCausedByMark result.ran.outcome (standing_of crew.publisher) (standing_of result.ran.publisher) }
@@ -252,7 +242,7 @@ where
 {
     let Crew {
         shares,
-        top,
+        pops,
         sources,
         publisher,
         ticker,
@@ -260,10 +250,10 @@ where
         sink,
     } = crew;
     let Some(inputs) = buffered(alloc, sources) else {
-        return not_begun(publisher, sink, shares);
+        return not_begun(publisher, sink, shares, pops);
     };
     let Ok(ends) = channel(alloc) else {
-        return not_begun(publisher, sink, shares);
+        return not_begun(publisher, sink, shares, pops);
     };
     let Ends {
         writer,
@@ -272,7 +262,7 @@ where
     } = ends;
     let aligner = Aligner {
         publisher,
-        top,
+        pops,
         ticker,
         writer,
     };

@@ -4,4 +4,4 @@ use Rattle.try_hub.specs.declared.two.Mine.{Mine}
 
 -- each share has a part, and that of the greatest instant popped has all
 abbrev pub IsFit : {C N : Type 0} → Mine C N → (top : ℕ) → Type 0
-IsFit mine top = (0 < mine.shares.taken.parts) × (0 < mine.shares.refused.parts) × (0 < mine.shares.configured.parts) × (mine.top.parts ≡ top) × (0 < mine.top.parts)
+IsFit mine top = (0 < mine.shares.taken.parts) × (0 < mine.shares.refused.parts) × (0 < mine.shares.configured.parts) × (mine.pops.top.parts ≡ top) × (0 < mine.pops.top.parts)

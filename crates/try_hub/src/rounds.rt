@@ -116,12 +116,12 @@ fn side_by_side<C: Opens, N: Naming<C::Settings>, R: Wait>(
     let Ok(bare) = base.open_next(alloc, 1, 0, counts) else {
         return None;
     };
-    let (hub, shares, top) = Hub::<C, N>::new(alloc, base, state, LIMIT, 0, blanks);
+    let (hub, shares, pops) = Hub::<C, N>::new(alloc, base, state, LIMIT, 0, blanks);
     let shared = &hub;
     let mut mine = Mine {
         bare,
         shares,
-        top,
+        pops,
         calls: 0,
         rows: 0,
         alike: true,

@@ -5,17 +5,16 @@ ghost use Rattle.try_hub.specs.Mine.{IsFit};
 use pdc_core::{Core, Reads};
 use pdc_life::MAX_PMUS;
 use pdc_row::DueRow;
-use pdc_threads::{Hub, Ledgers, Naming, Numbered, Shares, TopIn};
+use pdc_threads::{Hub, Ledgers, Naming, Numbered, Pops, Shares};
 use std::alloc::Global;
 use std::sync::Wait;
-use std::sync::ledger::Share;
 
 /// The bare core, the shares of the hub's caller, and what was seen so far.
 #[derive(Drop)]
 pub struct Mine<C, N: Ledgers> {
     pub bare: C,
     pub shares: Shares<N>,
-    pub top: Share<TopIn<N>>,
+    pub pops: Pops<N>,
     /// How many calls were made.
     pub calls: u32,
     /// How many rows were popped.
@@ -29,7 +28,7 @@ impl<C, N: Ledgers> Mine<C, N> {
     fn saw(&mut self, step: u64, is_alike: bool)
         ensures bare { self.new.bare ≡ self.old.bare }
         ensures shares { self.new.shares ≡ self.old.shares }
-        ensures top { self.new.top ≡ self.old.top }
+        ensures pops { self.new.pops ≡ self.old.pops }
     {
         self.alike = self.alike && is_alike && step == u64::from(self.calls);
         self.calls = self.calls.saturating_add(1);
@@ -107,15 +106,14 @@ pub fn pop<C: Core + Drop, N: Naming<C::Settings>, R: Wait>(
     ensures settings { C.settings_of mine.new.bare ≡ C.settings_of mine.old.bare }
     ensures fit { IsFit mine.new N.top.parts }
 {
-    let Ok(Numbered { step, answer }) = hub.pop(rt, &mut mine.top) else {
+    let Ok(Numbered { step, answer }) = hub.pop(rt, &mut mine.pops) else {
         return None;
     };
-    let is_alike = match (&answer, &mine.bare.pop_due()) {
-        (Some(row), Some(bare_row)) => are_same(row, bare_row),
-        (None, None) => true,
-        _ => false,
+    let is_alike = match &mine.bare.pop_due() {
+        Some(bare_row) => answer && are_same(&mine.pops.row, bare_row),
+        None => !answer,
     };
-    if answer.is_some() {
+    if answer {
         mine.rows = mine.rows.saturating_add(1);
     }
     mine.saw(step, is_alike);

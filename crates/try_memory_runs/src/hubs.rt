@@ -7,7 +7,7 @@ ghost use Rattle.try_memory_runs.specs.Mine.{IsFit};
 use crate::settings::of_node;
 use crate::vectors::{DATA_11, FIRST, SOC};
 use pdc_core::Reads;
-use pdc_hub::{Blanks, Hub, HubFault, Ledgers, Naming, Shares, TopIn};
+use pdc_hub::{Blanks, Hub, HubFault, Ledgers, Naming, Pops, Shares};
 use pdc_life::{MAX_PMUS, Settings};
 use pdc_node::{Node, copy_of};
 use pdc_table::RingTable;
@@ -15,7 +15,7 @@ use std::alloc::Global;
 use std::io;
 use std::marker::Brand;
 use std::sync::Wait;
-use std::sync::ledger::{Blank, Share};
+use std::sync::ledger::Blank;
 use try_memory::{DONE, NO_MEMORY, State, begin, end, made, state_of};
 
 /// After how many steps a hub's base is brought up.
@@ -37,7 +37,7 @@ const ALL: [Called; 4] = [Called::Deliver, Called::Tick, Called::Pop, Called::La
 #[derive(Drop)]
 struct Mine<N: Ledgers> {
     shares: Shares<N>,
-    top: Share<TopIn<N>>,
+    pops: Pops<N>,
     out: Vec<u8>,
 }
 
@@ -86,7 +86,7 @@ fn call<N: Naming<Settings>, R: Wait>(
             Err(_) => NO_MEMORY,
         },
         Called::Tick => told(hub.tick(rt, FIRST, &[0; MAX_PMUS])),
-        Called::Pop => told(hub.pop(rt, &mut mine.top)),
+        Called::Pop => told(hub.pop(rt, &mut mine.pops)),
         Called::Layout => told(hub.layout(rt, SOC, &mut mine.out)),
     }
 }
@@ -132,11 +132,11 @@ fn play_on<N: Naming<Settings>, R: Wait + Print>(
     requires count { (N.taken.parts ≡ 1) × (N.refused.parts ≡ 1) × (N.configured.parts ≡ 1) × (N.top.parts ≡ 1) }
 {
     begin(rt, "Hub::new", made(false))?;
-    let (hub, shares, top) = Hub::<Node<RingTable>, N>::new(alloc, base, state, LIMIT, 0, blanks);
+    let (hub, shares, pops) = Hub::<Node<RingTable>, N>::new(alloc, base, state, LIMIT, 0, blanks);
     end(rt, DONE, made(true))?;
     let mut mine = Mine {
         shares,
-        top,
+        pops,
         out: Vec::new(alloc),
     };
     if attempt(rt, alloc, settings, &hub, &mut mine, called)? {

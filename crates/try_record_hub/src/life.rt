@@ -7,12 +7,12 @@ use pdc_life::MAX_PMUS;
 use pdc_output::{Output, append_row};
 use pdc_recording::{RecordedSource, RecordedTicker, Recording};
 use pdc_tag::SECONDS;
-use pdc_threads::{Blanks, Did, Hub, Naming, Next, Numbered, Shares, Source, Ticker, TopIn};
+use pdc_threads::{Blanks, Did, Hub, Naming, Next, Numbered, Pops, Shares, Source, Ticker};
 use std::alloc::Global;
 use std::marker::Brand;
 use std::rt::Clock;
 use std::sync::Wait;
-use std::sync::ledger::{Blank, Share};
+use std::sync::ledger::Blank;
 
 /// The instant of the first tick, and its second.
 const FIRST: u64 = 57_478_860_000;
@@ -111,24 +111,25 @@ fn pop<C: Core + Drop, N: Naming<C::Settings>, R: Wait + Clock>(
     alloc: Global,
     output: &Output,
     hub: &Hub<C, N>,
-    top: &mut Share<TopIn<N>>,
+    pops: &mut Pops<N>,
     ticker: &mut RecordedTicker<'_, Silent, R>,
 ) -> Option<()>
-    requires top { (top.old.parts ≡ N.top.parts) × (0 < top.old.parts) }
-    ensures top { top.new.parts ≡ top.old.parts }
+    requires top { (pops.old.top.parts ≡ N.top.parts) × (0 < pops.old.top.parts) }
+    ensures top { pops.new.top.parts ≡ pops.old.top.parts }
 {
-    let Ok(Numbered { step, answer }) = hub.pop(rt, top) else {
+    let Ok(Numbered { step, answer }) = hub.pop(rt, pops) else {
         return None;
     };
-    let Some(row) = answer else {
+    if !answer {
         ticker.note(step, &Did::FoundNone);
         return Some(());
-    };
+    }
+    let row = &pops.row;
     let mut frame = Vec::new(alloc);
     if row.instant >= SECONDS * u64::from(output.rate) {
         return None;
     }
-    if append_row(output, &row, &mut frame).is_err() {
+    if append_row(output, row, &mut frame).is_err() {
         return None;
     }
     let instant = row.instant;
@@ -151,14 +152,14 @@ fn live<C: Core + Drop, N: Naming<C::Settings>, R: Wait + Clock>(
     output: &Output,
     hub: &Hub<C, N>,
     shares: &mut Shares<N>,
-    top: &mut Share<TopIn<N>>,
+    pops: &mut Pops<N>,
     recording: &Recording,
     sent: &Sent,
 ) -> Option<()>
     requires settings { N.settings ≡ Some settings.now }
     requires streams { C.Settings.streams settings.now ≡ 2 }
     requires parts { (0 < shares.old.taken.parts) × (0 < shares.old.refused.parts) × (0 < shares.old.configured.parts) }
-    requires top { (top.old.parts ≡ N.top.parts) × (0 < top.old.parts) }
+    requires top { (pops.old.top.parts ≡ N.top.parts) × (0 < pops.old.top.parts) }
 {
     let recording = Some(recording);
     let mut first = RecordedSource::new(rt, alloc, recording, 0, Listed::of(sent.first));
@@ -168,12 +169,12 @@ fn live<C: Core + Drop, N: Naming<C::Settings>, R: Wait + Clock>(
     arrive(rt, alloc, settings, hub, shares, 1, &mut second)?;
     let step = tick(rt, hub, &mut ticker, FIRST)?;
     lay(rt, alloc, hub, &mut ticker, step)?;
-    pop(rt, alloc, output, hub, top, &mut ticker)?;
+    pop(rt, alloc, output, hub, pops, &mut ticker)?;
     arrive(rt, alloc, settings, hub, shares, 1, &mut second)?;
     arrive(rt, alloc, settings, hub, shares, 0, &mut first)?;
     tick(rt, hub, &mut ticker, FIRST + 1)?;
-    pop(rt, alloc, output, hub, top, &mut ticker)?;
-    pop(rt, alloc, output, hub, top, &mut ticker)
+    pop(rt, alloc, output, hub, pops, &mut ticker)?;
+    pop(rt, alloc, output, hub, pops, &mut ticker)
 }
 
 /// The life of a core through a hub. None where memory was wanted.
@@ -199,9 +200,9 @@ fn live_on<C: Opens, N: Naming<C::Settings>, R: Wait + Clock>(
     let Ok(state) = base.open_next(alloc, 1, 0, counts) else {
         return None;
     };
-    let (hub, shares, top) = Hub::<C, N>::new(alloc, base, state, LIMIT, 0, blanks);
+    let (hub, shares, pops) = Hub::<C, N>::new(alloc, base, state, LIMIT, 0, blanks);
     let mut shares = shares;
-    let mut top = top;
+    let mut pops = pops;
     live(
         rt,
         alloc,
@@ -209,7 +210,7 @@ fn live_on<C: Opens, N: Naming<C::Settings>, R: Wait + Clock>(
         &output,
         &hub,
         &mut shares,
-        &mut top,
+        &mut pops,
         recording,
         sent,
     )

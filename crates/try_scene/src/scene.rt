@@ -80,7 +80,7 @@ fn opened<'h, N: Naming<Settings> + Send + Sync, M: Mark + Drop, R: Threads + Wa
     requires publisher { (last_in publisher ≡ 0) × ((M.stored (mark_in publisher)).floor ≡ 0) × (output_in publisher ≡ settings.now.output) }
     requires begins { ((M.stored (mark_in publisher)).start ≡ start) × ((M.stored (mark_in publisher)).counts ≡ counts.now) }
 {
-    let (hub, shares, top) = Hub::<Node<RingTable>, N>::new(
+    let (hub, shares, pops) = Hub::<Node<RingTable>, N>::new(
         alloc,
         base,
         state,
@@ -111,7 +111,7 @@ fn opened<'h, N: Naming<Settings> + Send + Sync, M: Mark + Drop, R: Threads + Wa
     println!(rt; "{name}")?;
     let crew = Crew {
         shares,
-        top,
+        pops,
         sources,
         publisher,
         ticker,

@@ -28,7 +28,7 @@ pub returns-in_default-clause-turned : goal.returns-in_default-clause-turned
 returns-in_default-clause-turned g c =
     turned_all g.C.Core.stands_for g.N.Naming.given (output_in c.args.aligner.now.publisher) c.args.pace.now.rate c.args.pace.now.layout_every (g.M.Mark.stored (mark_in c.args.aligner.now.publisher)).counts
     (g.M.Mark.stored (mark_in c.loop.aligner.publisher)).counts (HasGiven g.K.Ticker.gave c.args.aligner.now.ticker c.loop.aligner.ticker) (HasGiven g.K.Ticker.gave c.args.aligner.now.ticker c.next-in-loop.new.self)
-    (put_by c.loop.aligner.writer) c.loop.adopted c.loop.place c.loop.published c.loop.invariant.9
+    (put_by c.loop.aligner.writer) c.loop.adopted c.loop.place _ c.loop.invariant.9
     (λ nows h. given_same g.K.Ticker.gave c.args.aligner.now.ticker c.loop.aligner.ticker c.next-in-loop.new.self nows h (search (rules, c.next-in-loop.ensures.none)))
 
 pub returns-in-Err-clause-turned : goal.returns-in-Err-clause-turned

@@ -2,6 +2,7 @@ use Rattle.std.proofs.Common.{rules, ◌≡◌, [], length, map, subst, true, �
 use lib.ListN.{length-map}
 use Rattle.pdc_pipe.specs.Writing.{put_by}
 use Rattle.pdc_aligner.specs.Sequence.{instants_of}
+use Rattle.pdc_hub.specs.Pops.{popped_by}
 use Rattle.pdc_hub.specs.Received.{IsAnswerFor}
 use Rattle.pdc_pipe.specs.HandedOn.{HasHandedOn, HasSinkCause}
 use Rattle.pdc_publisher.specs.Publisher.{mark_in, output_in}
@@ -9,7 +10,7 @@ use Rattle.pdc_threads.specs.Conducted.{publishing_of}
 use Rattle.pdc_threads.specs.Ended.{HasEndedOf}
 use Rattle.pdc_threads.specs.Run.{GivesFrom, HasEach}
 use Rattle.pdc_threads.proofs.Endings.{for_all, joined_all}
-use Rattle.pdc_threads.proofs.Outcomes.{all_aligned, all_each, all_entries, all_handed_on, all_published, ended_or_not, none_conducted, told_of}
+use Rattle.pdc_threads.proofs.Outcomes.{all_aligned, all_each, all_entries, all_handed_on, all_popped, all_published, ended_or_not, none_conducted, told_of}
 use Rattle.pdc_threads.proofs.runs.conduct.Goals as goal
 
 pub returns-clause-conducted : goal.returns-clause-conducted
@@ -28,6 +29,7 @@ returns-clause-conducted g c =
           (λ h. joined.each h ∙ (c.start_all-started.ensures.complete (joined.started h)).5));
       kept = c.align_or_close-aligned.ensures.kept;
       sink = λ e. cause (c.outcome-outcome.ensures.sink e);
+      popped = all_popped outcome c.align_or_close-aligned.result (popped_by c.args.manned.aligner.pops) (popped_by c.align_or_close-aligned.new.aligner.pops) put c.outcome-outcome.ensures.published c.align_or_close-aligned.ensures.published c.align_or_close-aligned.ensures.all;
       mark = λ e. c.align_or_close-aligned.ensures.device.caused (c.outcome-outcome.ensures.mark e);
       turned = record {
         run = record {
@@ -48,7 +50,7 @@ returns-clause-conducted g c =
         are_ended = for_all _ _ (HasEndedOf g.W.Source.Source.told (IsAnswerFor g.C.Core.rules g.C.Core.stands_for g.N.Naming.given (g.C.Settings.Reads.says c.args.intake.now.settings.now))) 0 0 sources c.start_all-started.result.running.items joined.ended.endings
             (λ source stream handle place ending placed kept.
             subst (λ s. HasEndedOf g.W.Source.Source.told (IsAnswerFor g.C.Core.rules g.C.Core.stands_for g.N.Naming.given (g.C.Settings.Reads.says c.args.intake.now.settings.now)) s stream ending) placed.0
-            (subst (λ n. HasEndedOf g.W.Source.Source.told (IsAnswerFor g.C.Core.rules g.C.Core.stands_for g.N.Naming.given (g.C.Settings.Reads.says c.args.intake.now.settings.now)) handle.promise.source.value n ending) placed.1 (kept.0 c.args.intake.now.settings.now c.requires.settings)))
+            (subst (λ n. HasEndedOf g.W.Source.Source.told (IsAnswerFor g.C.Core.rules g.C.Core.stands_for g.N.Naming.given (g.C.Settings.Reads.says c.args.intake.now.settings.now)) handle.promise.source.value n ending) placed.1 (kept.0 c.args.intake.now.settings.now c.requires.ready.settings)))
             c.start_all-started.ensures.placed joined.ended.are_kept;
         complete = c.join_all-joined.result.complete;
         whole = all;
@@ -69,7 +71,7 @@ returns-in-Err-clause-conducted g c =
     let sent = c.settle-sink.ensures.handed c.in-Err.refused.value.3 c.spawn_with-sent.ensures.2 in
     let t = subst (λ k. HasHandedOn (g.W.Sink.Sink.took k c.settle-sink.result.0) put c.settle-sink.result.1) same sent in
     let cause : HasSinkCause c.settle-sink.result.1 (g.W.Sink.Sink.failures_of c.args.manned.sink) (g.W.Sink.Sink.failures_of c.settle-sink.result.0) = search (rules, c.spawn_with-sent.ensures.3, c.settle-sink.ensures.back) in
-    let nothing : put_by c.args.manned.aligner.writer ≡ [] = c.requires.writer.1 in
-    rw (c.not_begun.ensures.0, c.not_begun.ensures.1, c.not_begun.ensures.2)
-    (none_conducted g.C.Core.stands_for g.N.Naming.given _ g.W.Source.Source.told _ c.args.manned.pace g.W.Ticker.Ticker.gave c.args.manned.aligner.ticker _ _ (publishing_of c.args.manned.aligner.publisher) put c.close-closed.result c.settle-sink.result.1
-    (ended_or_not (put_by c.args.manned.aligner.writer) put c.close-closed.result nothing c.close-closed.ensures.put c.close-closed.ensures.not) t cause c.requires.can.14)
+    let nothing : put_by c.args.manned.aligner.writer ≡ [] = c.requires.ready.begins.1 in
+    rw (c.not_begun.ensures.0, c.not_begun.ensures.1, c.not_begun.ensures.2, c.not_begun.ensures.3, c.close.ensures.kept)
+    (none_conducted g.C.Core.stands_for g.N.Naming.given _ g.W.Source.Source.told _ c.args.manned.pace g.W.Ticker.Ticker.gave c.args.manned.aligner.ticker _ _ (publishing_of c.args.manned.aligner.publisher (popped_by c.args.manned.aligner.pops)) put c.close-closed.result c.settle-sink.result.1
+    (ended_or_not (put_by c.args.manned.aligner.writer) put c.close-closed.result nothing c.close-closed.ensures.put c.close-closed.ensures.not) t cause c.requires.ready.floor)

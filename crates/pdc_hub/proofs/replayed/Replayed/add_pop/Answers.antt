@@ -12,15 +12,15 @@ invariant_of-self-2 g c =
     let old = c.args.self.now in
     let more : c.push_reserved.new.self.items ≡ old.events.items ++ step.Pop ∷ [] = c.push_reserved.ensures.items ∙ ap (λ l. l ++ step.Pop ∷ []) c.reserve.ensures.items in
     record {
-      replays = ∥∥₁_map old.replays (grown g.C.Core.rules (g.C.Settings.Reads.says (g.C.Core.settings_of old.base)) g.N.Naming.given (g.C.Core.stands_for old.base) (g.C.Core.stands_for old.state) (g.C.Core.stands_for c.pop_due-row.new.self) old.first old.events.items c.push_reserved.new.self.items (step.Pop) (ToPop) more tt tt c.pop_due-row.ensures.stands);
+      replays = ∥∥₁_map old.replays (grown g.C.Core.rules (g.C.Settings.Reads.says (g.C.Core.settings_of old.base)) g.N.Naming.given (g.C.Core.stands_for old.base) (g.C.Core.stands_for old.state) (g.C.Core.stands_for c.pop_into-is_some.new.self) old.first old.events.items c.push_reserved.new.self.items (step.Pop) (ToPop) more tt tt c.pop_into-is_some.ensures.stands);
       base_settings = old.base_settings;
-      state_settings = still g.N.Naming.settings (g.C.Core.settings_of old.state) (g.C.Core.settings_of c.pop_due-row.new.self) c.pop_due-row.ensures.settings old.state_settings;
+      state_settings = still g.N.Naming.settings (g.C.Core.settings_of old.state) (g.C.Core.settings_of c.pop_into-is_some.new.self) c.pop_into-is_some.ensures.settings old.state_settings;
       allowed = all_more (is_allowed (g.C.Settings.Reads.fits (g.C.Core.settings_of old.base))) old.events.items c.push_reserved.new.self.items (step.Pop) more old.allowed refl;
       bounded = search rules;
       some = old.some;
     }
 
 pub returns-clause-tagged : goal.returns-clause-tagged
-returns-clause-tagged g c =
+returns-clause-tagged g c is =
     let old = c.args.self.now in
-    tagged g.C.Core.rules (g.C.Settings.Reads.says (g.C.Core.settings_of old.base)) g.N.Naming.given (g.C.Core.stands_for old.base) (g.C.Core.stands_for old.state) old.first old.events.items c.pop_due-row.result old.replays c.pop_due-row.ensures.next
+    tagged g.C.Core.rules (g.C.Settings.Reads.says (g.C.Core.settings_of old.base)) g.N.Naming.given (g.C.Core.stands_for old.base) (g.C.Core.stands_for old.state) old.first old.events.items c.pop_into-is_some.new.row old.replays (λ h E s. search (rules, is, c.pop_into-is_some.ensures.next h E s))

@@ -1,0 +1,48 @@
+//! Who pops, and what was popped.
+ghost use Rattle.std.specs.Prelude.{◌≤◌, ◌≡◌};
+
+use crate::ledgers::{Ledgers, TopIn};
+use pdc_row::DueRow;
+use std::sync::ledger::Share;
+
+/// Who pops: the whole share of the greatest instant popped, the row that was popped last, and how many rows were. A new hub hands it out,
+/// and only a pop of that hub counts in it.
+#[derive(Drop)]
+pub struct Pops<N: Ledgers> {
+    /// The whole share of the greatest instant popped.
+    pub top: Share<TopIn<N>>,
+    /// The row that was popped last; at first one of instant 0, without blocks. The next one is written over it.
+    pub row: DueRow,
+    pub(crate) count: u64,
+    // Instants rise from 0, so the number is no greater.
+    ghost few: { count ≤ top.amount },
+}
+
+impl<N: Ledgers> Pops<N> {
+    ghost use Rattle.pdc_hub.specs.Pops.{popped_by};
+
+    /// With this share no row was popped yet.
+    pub(crate) fn new(top: Share<TopIn<N>>) -> Pops<N>
+        ensures top { result.top ≡ top }
+        ensures none { popped_by result ≡ 0 }
+    {
+        Pops {
+            top,
+            row: DueRow {
+                instant: 0,
+                start: 0,
+                change: 0,
+                quality: 15,
+                blocks: Default::default(),
+            },
+            count: 0,
+        }
+    }
+
+    /// How many rows were popped.
+    pub fn count(&self) -> u64
+        ensures { result ≡ popped_by self.now }
+    {
+        self.count
+    }
+}
