@@ -5,7 +5,7 @@ use crate::feed::{Discard, Feed, Following};
 use crate::frames::{FLOOR, Frames};
 use pdc_life::Settings;
 use pdc_mark::ModelMark;
-use pdc_service::{Begun, MAX_LIMIT, Plan, Totals, run_node};
+use pdc_service::{Begun, MAX_LIMIT, Plan, Totals, hand_over, run_node};
 use std::alloc::Global;
 use std::sync::Wait;
 use std::sync::atomic::AtomicU64;
@@ -64,7 +64,8 @@ pub fn run_side_by_side<R: Threads + Wait + Sync>(
         return None;
     };
     let ticker = Following::new(&delivered, &released, u64::from(frames.count) + 1);
-    let ran = run_node(rt, alloc, settings, &plan(), mark, sources, ticker, Discard);
+    let handed = hand_over(mark, sources, ticker, Discard);
+    let ran = run_node(rt, alloc, settings, &plan(), handed);
     match ran.outcome {
         Ok(totals) => Some(totals),
         Err(_) => None,

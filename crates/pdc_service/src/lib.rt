@@ -12,17 +12,19 @@
 #![tactic(auto)]
 
 mod either;
+mod handed;
 mod host;
 mod running_concentrator;
 mod service;
 mod serving;
 mod telling;
 
+pub use handed::{Handed, hand_over};
 pub use host::Host;
 pub use pdc_startup::{
     Begun, Limits, LoadFault, MAX_LIMIT, Plan, RecordFile, RunOptions, ServiceFault,
     read_settings_text,
 };
-pub use pdc_threads::{Outlet, Totals};
+pub use pdc_threads::{Beside, Outlet, Outside, Totals};
 pub use running_concentrator::{run_merger, run_node};
 pub use service::{Files, serve_merger, serve_node};

@@ -2,7 +2,7 @@
 ghost use Rattle.std.specs.Prelude.{◌≡◌};
 
 use crate::host::Host;
-use crate::serving::{Consumers, Opened, run_serving};
+use crate::serving::{Consumers, Opened, Serving, run_serving};
 use crate::telling::begun_text;
 use pdc_settings::Network;
 use pdc_startup::{
@@ -68,15 +68,13 @@ fn serve_concentrator<R: Host>(
         rt,
         begun_text(alloc, concentrator, network, start, floor, buffer),
     );
-    run_serving(
-        rt,
-        alloc,
+    let serving = Serving {
         concentrator,
         options,
-        opened,
-        &consumers,
-        &observed,
-    )
+        consumers: &consumers,
+        observed: &observed,
+    };
+    run_serving(rt, alloc, &serving, opened)
 }
 
 /// Runs a node, and serves its consumers as long. On standard error it tells what happens to it, and counters where they are asked for; a

@@ -5,6 +5,7 @@ ghost use Rattle.pdc_recent.specs.Stream.{stream_of};
 ghost use Rattle.pdc_startup.specs.Concentrator.{output_of, streams_of};
 
 use crate::either::run_concentrator;
+use crate::handed::hand_over;
 use crate::telling::unsent_text;
 use pdc_disk::FileDisk;
 use pdc_journal::{AnnouncingSink, CountingSink, Journal, Reporting};
@@ -43,6 +44,15 @@ pub struct Consumers {
     pub metrics: Option<TcpListener>,
 }
 
+/// What a run has beside what is open for it: whose it is, for how long, who is served beside it, and what is watched of it.
+#[derive(Drop)]
+pub struct Serving<'a> {
+    pub concentrator: &'a Concentrator,
+    pub options: &'a RunOptions,
+    pub consumers: &'a Consumers,
+    pub observed: &'a Observed,
+}
+
 /// Starts a thread that serves consumers, one after the other, and answers whether it was started.
 fn start_session<'s, E: 's, N: Naming + Send + 's, R: Wait + Clock + Sync + 's>(
     scope: &'s Scope<'s, E>,
@@ -50,12 +60,13 @@ fn start_session<'s, E: 's, N: Naming + Send + 's, R: Wait + Clock + Sync + 's>(
     alloc: Global,
     id: u16,
     recent: &'s Recent<N>,
-    listener: &'s TcpListener,
-    present: &'s AtomicU64,
+    serving: &'s Serving<'s>,
 ) -> bool
     requires id_low { 0 < id }
     requires id_high { id ≤ MAX_ID }
 {
+    let listener = &serving.consumers.listener;
+    let present = &serving.observed.signs.consumers;
     scope
         .spawn(
             move || -> ()
@@ -70,16 +81,12 @@ fn start_sessions<'s, E: 's, N: Naming + Send + 's, R: Wait + Clock + Sync + 's>
     scope: &'s Scope<'s, E>,
     rt: &'s R,
     alloc: Global,
-    id: u16,
     recent: &'s Recent<N>,
-    consumers: &'s Consumers,
-    present: &'s AtomicU64,
-) -> bool
-    requires id_low { 0 < id }
-    requires id_high { id ≤ MAX_ID }
-{
-    for _ in 0..consumers.most {
-        if !start_session(scope, rt, alloc, id, recent, &consumers.listener, present) {
+    serving: &'s Serving<'s>,
+) -> bool {
+    let id = serving.concentrator.output().id;
+    for _ in 0..serving.consumers.most {
+        if !start_session(scope, rt, alloc, id, recent, serving) {
             return false;
         }
     }
@@ -158,17 +165,21 @@ fn run_observed<
 >(
     rt: &'s R,
     alloc: Global,
-    concentrator: &Concentrator,
-    options: &RunOptions,
-    mark: Begun<DiskMark<FileDisk>>,
-    sources: Vec<S>,
-    sink: OutputsSink<'s>,
-    observed: &'s Observed,
+    serving: &'s Serving<'s>,
+    opened: Opened<'s, S>,
     recent: &'s Recent<N>,
 ) -> Result<Totals, ServiceFault>
-    requires streams { vec_len sources ≡ streams_of concentrator.now }
-    requires named { N.stream ≡ stream_of (output_of concentrator.now) }
+    requires streams { vec_len opened.sources ≡ streams_of serving.now.concentrator.now }
+    requires named { N.stream ≡ stream_of (output_of serving.now.concentrator.now) }
 {
+    let (concentrator, options, observed) =
+        (serving.concentrator, serving.options, serving.observed);
+    let Opened {
+        mark,
+        sources,
+        sink,
+        record: _,
+    } = opened;
     let output = concentrator.output();
     let plan = plan_of(&concentrator.service_settings());
     let (journal, signs) = (&observed.journal, &observed.signs);
@@ -191,7 +202,8 @@ fn run_observed<
     let sink = AnnouncingSink::new(rt, alloc, journal, observed.followers(), sink);
     let sink = CountingSink::new(sink, &signs.unsent);
     let sink = RememberingSink::new(rt, alloc, recent, output, &signs.unsent, sink);
-    let outcome = run_concentrator(rt, alloc, concentrator, &plan, mark, sources, ticker, sink);
+    let handed = hand_over(mark, sources, ticker, sink);
+    let outcome = run_concentrator(rt, alloc, concentrator, &plan, handed);
     let unsent = signs.unsent.load(Ordering::Relaxed);
     if unsent > 0 {
         journal.tell(rt, unsent_text(alloc, unsent));
@@ -214,47 +226,21 @@ fn conduct<
     scope: &'s Scope<'s, E>,
     rt: &'s R,
     alloc: Global,
-    concentrator: &Concentrator,
-    options: &RunOptions,
+    serving: &'s Serving<'s>,
     opened: Opened<'s, S>,
-    consumers: &'s Consumers,
-    observed: &'s Observed,
     recent: &'s Recent<N>,
 ) -> Result<Totals, ServiceFault>
-    requires streams { vec_len opened.sources ≡ streams_of concentrator.now }
-    requires named { N.stream ≡ stream_of (output_of concentrator.now) }
+    requires streams { vec_len opened.sources ≡ streams_of serving.now.concentrator.now }
+    requires named { N.stream ≡ stream_of (output_of serving.now.concentrator.now) }
 {
-    let Opened {
-        mark,
-        sources,
-        sink,
-        record,
-    } = opened;
-    let id = concentrator.output().id;
+    let mut opened = opened;
+    let observed = serving.observed;
     let is_begun = start_journal(scope, rt, &observed.journal)
-        && start_record(scope, rt, alloc, record, observed)
-        && start_metrics(scope, rt, alloc, consumers, observed)
-        && start_sessions(
-            scope,
-            rt,
-            alloc,
-            id,
-            recent,
-            consumers,
-            &observed.signs.consumers,
-        );
+        && start_record(scope, rt, alloc, opened.record.take(), observed)
+        && start_metrics(scope, rt, alloc, serving.consumers, observed)
+        && start_sessions(scope, rt, alloc, recent, serving);
     let outcome = if is_begun {
-        run_observed(
-            rt,
-            alloc,
-            concentrator,
-            options,
-            mark,
-            sources,
-            sink,
-            observed,
-            recent,
-        )
+        run_observed(rt, alloc, serving, opened, recent)
     } else {
         Err(ServiceFault::Run(HubFault::NoMemory))
     };
@@ -277,35 +263,20 @@ fn run_keeping<
 >(
     rt: &'x R,
     alloc: Global,
-    concentrator: &'x Concentrator,
-    options: &'x RunOptions,
+    serving: &'x Serving<'x>,
     opened: Opened<'x, S>,
-    consumers: &'x Consumers,
-    observed: &'x Observed,
     recent: &'x Recent<N>,
 ) -> Result<Totals, ServiceFault>
-    requires streams { vec_len opened.sources ≡ streams_of concentrator.now }
-    requires named { N.stream ≡ stream_of (output_of concentrator.now) }
+    requires streams { vec_len opened.sources ≡ streams_of serving.now.concentrator.now }
+    requires named { N.stream ≡ stream_of (output_of serving.now.concentrator.now) }
 {
     thread::scope(
         thread::scope_env(),
         rt,
-        |scope| -> Result<Totals, ServiceFault>
-            requires streams { vec_len opened.sources ≡ streams_of concentrator.now }
-            requires named { N.stream ≡ stream_of (output_of concentrator.now) }
-        {
-            conduct(
-                scope,
-                rt,
-                alloc,
-                concentrator,
-                options,
-                opened,
-                consumers,
-                observed,
-                recent,
-            )
-        },
+        move |scope| -> Result<Totals, ServiceFault>
+            requires streams { vec_len opened.sources ≡ streams_of serving.now.concentrator.now }
+            requires named { N.stream ≡ stream_of (output_of serving.now.concentrator.now) }
+        { conduct(scope, rt, alloc, serving, opened, recent) },
     )
 }
 
@@ -317,28 +288,17 @@ fn run_named<
 >(
     rt: &R,
     alloc: Global,
-    concentrator: &Concentrator,
-    options: &RunOptions,
+    serving: &Serving<'_>,
     opened: Opened<'_, S>,
-    consumers: &Consumers,
-    observed: &Observed,
 ) -> Result<Totals, ServiceFault>
-    requires streams { vec_len opened.sources ≡ streams_of concentrator.now }
-    requires named { N.stream ≡ stream_of (output_of concentrator.now) }
+    requires streams { vec_len opened.sources ≡ streams_of serving.now.concentrator.now }
+    requires named { N.stream ≡ stream_of (output_of serving.now.concentrator.now) }
 {
-    let Ok(recent) = Recent::<N>::new(alloc, &concentrator.output(), opened.mark.start()) else {
+    let output = serving.concentrator.output();
+    let Ok(recent) = Recent::<N>::new(alloc, &output, opened.mark.start()) else {
         return Err(ServiceFault::Run(HubFault::NoMemory));
     };
-    run_keeping(
-        rt,
-        alloc,
-        concentrator,
-        options,
-        opened,
-        consumers,
-        observed,
-        &recent,
-    )
+    run_keeping(rt, alloc, serving, opened, &recent)
 }
 
 /// Runs a concentrator, serves its consumers and prints what is told, for as long as it runs.
@@ -348,21 +308,10 @@ pub fn run_serving<
 >(
     rt: &R,
     alloc: Global,
-    concentrator: &Concentrator,
-    options: &RunOptions,
+    serving: &Serving<'_>,
     opened: Opened<'_, S>,
-    consumers: &Consumers,
-    observed: &Observed,
 ) -> Result<Totals, ServiceFault>
-    requires { vec_len opened.sources ≡ streams_of concentrator.now }
+    requires { vec_len opened.sources ≡ streams_of serving.now.concentrator.now }
 {
-    run_named::<S, Brand, R>(
-        rt,
-        alloc,
-        concentrator,
-        options,
-        opened,
-        consumers,
-        observed,
-    )
+    run_named::<S, Brand, R>(rt, alloc, serving, opened)
 }

@@ -66,21 +66,51 @@ fn asked_at<R: Net>(
     }
 }
 
-/// The link to the sender of the stream `id`: a connection where it is asked for over TCP, and else its port.
+/// A stream of the settings: its id, the port and the table that they name for it, and its tally.
+#[derive(Drop)]
+struct Stream<'n, 'a> {
+    id: u16,
+    port: u16,
+    input: &'n Input,
+    tally: &'a Tally,
+    ghost id_low: { 0 < id },
+    ghost id_high: { id ≤ MAX_ID },
+}
+
+/// The stream with this number, counted from 0, that comes to this port; none where no such stream is taken.
+fn stream_numbered<'n, 'a>(
+    network: &'n Network,
+    concentrator: &Concentrator,
+    observed: &'a Observed,
+    number: usize,
+    port: u16,
+) -> Option<Stream<'n, 'a>> {
+    match (
+        concentrator.stream_id(number),
+        network.inputs.get(number),
+        observed.tallies.get(number),
+    ) {
+        (Some(id), Some(input), Some(tally)) => Some(Stream {
+            id,
+            port,
+            input,
+            tally,
+        }),
+        _ => None,
+    }
+}
+
+/// The link to the sender of the stream: a connection where it is asked for over TCP, and else its port.
 fn open_link<'a, R: Net<Listener = TcpListener, Stream = TcpStream> + Clock + Wait>(
     rt: &'a R,
     alloc: Global,
     network: &Network,
     journal: &'a Journal,
-    tally: &'a Tally,
-    id: u16,
-    input: &Input,
-    port: u16,
+    stream: Stream<'_, 'a>,
 ) -> Result<Link<'a, R>, ServiceFault>
-    requires id_low { 0 < id }
-    requires id_high { id ≤ MAX_ID }
     ensures faults { IfErr result IsOfSources }
 {
+    let (id, input, tally) = (stream.id, stream.input, stream.tally);
     if let Some(to) = asked_at(rt, id, &input.tcp)? {
         return match Connection::new(rt, alloc, journal, tally, id, to) {
             Ok(connection) => Ok(Link::over(connection)),
@@ -88,42 +118,9 @@ fn open_link<'a, R: Net<Listener = TcpListener, Stream = TcpStream> + Clock + Wa
         };
     }
     let commands = asked_at(rt, id, &input.commands)?;
-    let mut source = open_source(rt, network, port)?;
+    let mut source = open_source(rt, network, stream.port)?;
     source.read_only(input.from);
     Ok(Link::at(Port::new(rt, tally, source, id, commands)))
-}
-
-/// The link to the sender of the stream with this number, counted from 0.
-fn open_numbered<'a, R: Net<Listener = TcpListener, Stream = TcpStream> + Clock + Wait>(
-    rt: &'a R,
-    alloc: Global,
-    network: &Network,
-    concentrator: &Concentrator,
-    observed: &'a Observed,
-    number: usize,
-    port: u16,
-) -> Result<Link<'a, R>, ServiceFault>
-    ensures faults { IfErr result IsOfSources }
-{
-    match (
-        concentrator.stream_id(number),
-        network.inputs.get(number),
-        observed.tallies.get(number),
-    ) {
-        (Some(id), Some(input), Some(tally)) => {
-            open_link(
-                rt,
-                alloc,
-                network,
-                &observed.journal,
-                tally,
-                id,
-                input,
-                port,
-            )
-        }
-        _ => Err(ServiceFault::Run(HubFault::NoMemory)),
-    }
 }
 
 /// A link for each of these ports, in their order.
@@ -141,7 +138,10 @@ fn open_all<'a, R: Net<Listener = TcpListener, Stream = TcpStream> + Clock + Wai
     let mut links = Vec::new(alloc);
     for port in ports {
         let number = links.len();
-        let link = open_numbered(rt, alloc, network, concentrator, observed, number, *port)?;
+        let Some(stream) = stream_numbered(network, concentrator, observed, number, *port) else {
+            return Err(ServiceFault::Run(HubFault::NoMemory));
+        };
+        let link = open_link(rt, alloc, network, &observed.journal, stream)?;
         match links.push(link) {
             Ok(()) => {}
             Err(_) => return Err(ServiceFault::Run(HubFault::NoMemory)),

@@ -12,7 +12,7 @@ use pdc_mark::ModelMark;
 use pdc_network::{UdpSink, UdpSource};
 use pdc_recent::{Naming, Recent, RememberingSink};
 use pdc_server::serve;
-use pdc_service::{Begun, Plan, Totals, run_node};
+use pdc_service::{Begun, Plan, Totals, hand_over, run_node};
 use pdc_settings::NodeSettings;
 use std::alloc::Global;
 use std::io::Write;
@@ -110,9 +110,8 @@ fn run_it<N: Naming + Send, R: Threads + Wait + Clock + Sync>(
     };
     let unkept = AtomicU64::new(0);
     let sink = RememberingSink::new(rt, alloc, recent, settings.output, &unkept, sink);
-    run_node(rt, alloc, settings, &plan, mark, sources, ticker, sink)
-        .outcome
-        .ok()
+    let handed = hand_over(mark, sources, ticker, sink);
+    run_node(rt, alloc, settings, &plan, handed).outcome.ok()
 }
 
 /// How many sections a configuration frame has; 0 where it is none.

@@ -31,33 +31,33 @@ returns-clause-turned g c = record {
 pub returns-in_default-clause-turned : goal.returns-in_default-clause-turned
 returns-in_default-clause-turned g c =
     let kept = c.not_run.ensures.kept in
-    let pace : Pace = record { rate = c.args.output.rate; layout_every = c.args.plan.now.layout_every; rate_low = c.args.output.rate_low; every_low = c.args.plan.now.layout_every_low } in
-    let mark : mark_in c.new-publisher.result ≡ begun_mark c.args.mark = search rules in
+    let pace : Pace = record { rate = c.args.life.now.output.rate; layout_every = c.args.life.now.plan.now.layout_every; rate_low = c.args.life.now.output.rate_low; every_low = c.args.life.now.plan.now.layout_every_low } in
+    let mark : mark_in c.new-publisher.result ≡ begun_mark c.args.handed.mark = search rules in
     rw (c.not_run.ensures.outcome, kept.0, kept.1, mark) record {
       pace = pace;
       rate = search rules;
       layout_every = refl;
       turned = record {
-        run = record { put = []; given = []; rest = []; took = g.K.Sink.nothing c.args.sink; first = refl; rising = omega arith; whole = tt; published = tt };
-        aligned = nothing_put g.C.Core.stands_for _ _ _ _ _ g.I.Ticker.gave c.args.ticker;
+        run = record { put = []; given = []; rest = []; took = g.W.Sink.Sink.nothing c.args.handed.sink; first = refl; rising = omega arith; whole = tt; published = tt };
+        aligned = nothing_put g.C.Core.stands_for _ _ _ _ _ g.W.Ticker.Ticker.gave c.args.handed.ticker;
       };
     }
 
 pub returns-clause-ended : goal.returns-clause-ended
 returns-clause-ended g c =
-    let stored = g.M.Mark.stored in
+    let stored = g.W.Mark.Mark.stored in
     let ran = c.opened.result in
-    ended_of g.C.Core.rules (stored (mark_in c.new-publisher.result)) (stored (begun_mark c.args.mark)) (found_by (stored (mark_in ran.publisher)) (standing_of ran.publisher) (g.K.Sink.failures_of ran.sink))
+    ended_of g.C.Core.rules (stored (mark_in c.new-publisher.result)) (stored (begun_mark c.args.handed.mark)) (found_by (stored (mark_in ran.publisher)) (standing_of ran.publisher) (g.W.Sink.Sink.failures_of ran.sink))
     (search rules) (search rules) (search rules) (search rules) (search rules) (standing_is (search rules) (search rules) (search rules)) c.opened.ensures.ended
 
 pub returns-in_default-clause-ended : goal.returns-in_default-clause-ended
 returns-in_default-clause-ended g c =
     let kept = c.not_run.ensures.kept in
     let p = c.new-publisher.result in
-    let stored = g.M.Mark.stored (begun_mark c.args.mark) in
-    let given = g.C.Opens.given_with c.args.settings.now stored.start stored.floor stored.counts in
-    let found = found_by (g.M.Mark.stored (mark_in p)) (standing_of p) (g.K.Sink.failures_of c.args.sink) in
+    let stored = g.W.Mark.Mark.stored (begun_mark c.args.handed.mark) in
+    let given = g.C.Opens.given_with c.args.life.now.settings.now stored.start stored.floor stored.counts in
+    let found = found_by (g.W.Mark.Mark.stored (mark_in p)) (standing_of p) (g.W.Sink.Sink.failures_of c.args.handed.sink) in
     rw (c.not_run.ensures.outcome, kept.0, kept.1)
     (ended_of g.C.Core.rules found.stored stored found refl refl refl refl (search rules) (standing_is (search rules) (search rules) (search rules))
-    (nothing_ended g.C.Core.rules g.C.Core.stands_for (Some given) (g.C.Settings.Reads.says c.args.settings.now) given.output given.output.rate c.args.plan.now.layout_every g.S.Source.told g.I.Ticker.gave c.args.ticker
-    found c.args.sources.items (g.K.Sink.nothing c.args.sink)))
+    (nothing_ended g.C.Core.rules g.C.Core.stands_for (Some given) (g.C.Settings.Reads.says c.args.life.now.settings.now) given.output given.output.rate c.args.life.now.plan.now.layout_every g.W.Source.Source.told g.W.Ticker.Ticker.gave c.args.handed.ticker
+    found c.args.handed.sources.items (g.W.Sink.Sink.nothing c.args.handed.sink)))

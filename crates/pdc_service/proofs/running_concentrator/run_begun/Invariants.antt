@@ -4,7 +4,7 @@ use Rattle.pdc_service.proofs.running_concentrator.run_begun.Given as goal
 
 abbrev pub ghosts-opened-N-Naming : goal.ghosts-opened-N-Naming
 ghosts-opened-N-Naming g a = record {
-  given = Some (g.C.Opens.given_with a.settings.now a.start (last_in a.publisher) a.counts.now);
+  given = Some (g.C.Opens.given_with a.settings.now a.first.start (last_in a.ready.publisher) a.first.counts);
   settings = Some a.settings.now;
 }
 
