@@ -1,5 +1,7 @@
 //! A node and the merger, from their files to the end of their run.
-ghost use Rattle.std.specs.Prelude.{◌≡◌};
+ghost use Rattle.std.specs.Prelude.{IfOk};
+ghost use Rattle.pdc_service.specs.Summed.{AreSums, HaveEach};
+ghost use Rattle.pdc_startup.specs.Concentrator.{streams_of};
 
 use crate::host::Host;
 use crate::serving::{Consumers, Opened, Serving, run_serving};
@@ -30,7 +32,10 @@ fn serve_concentrator<R: Host>(
     settings: &str,
     files: &Files<'_>,
     options: &RunOptions,
-) -> Result<Totals, ServiceFault> {
+) -> Result<Totals, ServiceFault>
+    ensures totals { IfOk result AreSums }
+    ensures each { IfOk result (HaveEach (streams_of concentrator.now)) }
+{
     let alloc = rt.alloc();
     let output = concentrator.output();
     let service = concentrator.service_settings();
@@ -88,7 +93,10 @@ pub fn serve_node<R: Host>(
     rt: &R,
     files: &Files<'_>,
     options: &RunOptions,
-) -> Result<Totals, ServiceFault> {
+) -> Result<Totals, ServiceFault>
+    // The totals are the sums over the receivers.
+    ensures totals { IfOk result AreSums }
+{
     let text = read_settings_text(rt, files.settings).map_err(ServiceFault::Settings)?;
     let (node, network) = node_of(rt.alloc(), &text).map_err(ServiceFault::Settings)?;
     serve_concentrator(rt, &node, &network, &text, files, options)
@@ -104,7 +112,10 @@ pub fn serve_merger<R: Host>(
     rt: &R,
     files: &Files<'_>,
     options: &RunOptions,
-) -> Result<Totals, ServiceFault> {
+) -> Result<Totals, ServiceFault>
+    // The totals are the sums over the receivers.
+    ensures totals { IfOk result AreSums }
+{
     let text = read_settings_text(rt, files.settings).map_err(ServiceFault::Settings)?;
     let (merger, network) = merger_of(rt.alloc(), &text).map_err(ServiceFault::Settings)?;
     serve_concentrator(rt, &merger, &network, &text, files, options)

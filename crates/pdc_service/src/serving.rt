@@ -1,7 +1,8 @@
 //! A run with consumers beside it.
-ghost use Rattle.std.specs.Prelude.{◌≡◌, ◌≤◌, ◌<◌, vec_len};
+ghost use Rattle.std.specs.Prelude.{◌≡◌, ◌≤◌, ◌<◌, IfOk, vec_len};
 ghost use Rattle.pdc_frame.specs.declared.limits.TheConstants.{MAX_ID};
 ghost use Rattle.pdc_recent.specs.Stream.{stream_of};
+ghost use Rattle.pdc_service.specs.Summed.{AreSums, HaveEach};
 ghost use Rattle.pdc_startup.specs.Concentrator.{output_of, streams_of};
 
 use crate::either::run_concentrator;
@@ -171,6 +172,8 @@ fn run_observed<
 ) -> Result<Totals, ServiceFault>
     requires streams { vec_len opened.sources ≡ streams_of serving.now.concentrator.now }
     requires named { N.stream ≡ stream_of (output_of serving.now.concentrator.now) }
+    ensures totals { IfOk result AreSums }
+    ensures each { IfOk result (HaveEach (streams_of serving.now.concentrator.now)) }
 {
     let (concentrator, options, observed) =
         (serving.concentrator, serving.options, serving.observed);
@@ -232,6 +235,8 @@ fn conduct<
 ) -> Result<Totals, ServiceFault>
     requires streams { vec_len opened.sources ≡ streams_of serving.now.concentrator.now }
     requires named { N.stream ≡ stream_of (output_of serving.now.concentrator.now) }
+    ensures totals { IfOk result AreSums }
+    ensures each { IfOk result (HaveEach (streams_of serving.now.concentrator.now)) }
 {
     let mut opened = opened;
     let observed = serving.observed;
@@ -269,6 +274,8 @@ fn run_keeping<
 ) -> Result<Totals, ServiceFault>
     requires streams { vec_len opened.sources ≡ streams_of serving.now.concentrator.now }
     requires named { N.stream ≡ stream_of (output_of serving.now.concentrator.now) }
+    ensures totals { IfOk result AreSums }
+    ensures each { IfOk result (HaveEach (streams_of serving.now.concentrator.now)) }
 {
     thread::scope(
         thread::scope_env(),
@@ -276,7 +283,9 @@ fn run_keeping<
         move |scope| -> Result<Totals, ServiceFault>
             requires streams { vec_len opened.sources ≡ streams_of serving.now.concentrator.now }
             requires named { N.stream ≡ stream_of (output_of serving.now.concentrator.now) }
-        { conduct(scope, rt, alloc, serving, opened, recent) },
+            ensures totals { IfOk result AreSums }
+            ensures each { IfOk result (HaveEach (streams_of serving.entry.now.concentrator.now)) }
+                { conduct(scope, rt, alloc, serving, opened, recent) },
     )
 }
 
@@ -293,6 +302,8 @@ fn run_named<
 ) -> Result<Totals, ServiceFault>
     requires streams { vec_len opened.sources ≡ streams_of serving.now.concentrator.now }
     requires named { N.stream ≡ stream_of (output_of serving.now.concentrator.now) }
+    ensures totals { IfOk result AreSums }
+    ensures each { IfOk result (HaveEach (streams_of serving.now.concentrator.now)) }
 {
     let output = serving.concentrator.output();
     let Ok(recent) = Recent::<N>::new(alloc, &output, opened.mark.start()) else {
@@ -312,6 +323,8 @@ pub fn run_serving<
     opened: Opened<'_, S>,
 ) -> Result<Totals, ServiceFault>
     requires { vec_len opened.sources ≡ streams_of serving.now.concentrator.now }
+    ensures totals { IfOk result AreSums }
+    ensures each { IfOk result (HaveEach (streams_of serving.now.concentrator.now)) }
 {
     run_named::<S, Brand, R>(rt, alloc, serving, opened)
 }
