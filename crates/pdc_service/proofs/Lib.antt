@@ -1,1 +1,2 @@
 mod Nothing
+mod Steps

@@ -6,9 +6,9 @@
 //! so each has a start number of its own. To the programs this crate promises that what the sink took are the first of the frames that
 //! were published, in order and whole, with instants that strictly rise above the floor that was stored before the run, and are at most
 //! the floor that is stored after it; and that a run tells what the receiver of each source counted, or the first fault of its parts.
-//! Faults are found in this order: the settings file, the mark
-//! file, the start that is stored, the first file of the record where there is one, the ports, and then the run. The ports of the sessions and of the
-//! counters are the last that are opened.
+//! The steps before the run are tried in one order, each once, up to the first that fails: the settings file, the mark file and the start
+//! that is stored on it, the first file of the record where there is one, the sources, the sink, the listener of the sessions, and that of
+//! the counters.
 #![tactic(auto)]
 
 mod either;
@@ -22,9 +22,9 @@ mod telling;
 pub use handed::{Handed, hand_over};
 pub use host::Host;
 pub use pdc_startup::{
-    Begun, Limits, LoadFault, MAX_LIMIT, Plan, RecordFile, RunOptions, ServiceFault,
-    read_settings_text,
+    Begun, Files, Limits, LoadFault, MAX_LIMIT, Machine, Plan, RecordFile, RunOptions, ServiceFault,
+    ThisMachine, read_settings_text,
 };
 pub use pdc_threads::{Beside, Outlet, Outside, Totals};
 pub use running_concentrator::{run_merger, run_node};
-pub use service::{Files, serve_merger, serve_node};
+pub use service::{serve_merger, serve_node};

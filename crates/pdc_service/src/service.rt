@@ -1,78 +1,58 @@
 //! A node and the merger, from their files to the end of their run.
 ghost use Rattle.std.specs.Prelude.{IfOk};
 ghost use Rattle.pdc_service.specs.Summed.{AreSums, HaveEach};
-ghost use Rattle.pdc_startup.specs.Concentrator.{streams_of};
+ghost use Rattle.pdc_startup.specs.Concentrator.{IsMerger, IsNode, streams_of};
+ghost use Rattle.pdc_startup.specs.Steps.{HasOpened, HasStarted, steps_with};
 
 use crate::host::Host;
 use crate::serving::{Consumers, Opened, Serving, run_serving};
 use crate::telling::begun_text;
-use pdc_settings::Network;
-use pdc_startup::{
-    Concentrator, Observed, RecordFile, RunOptions, ServiceFault, begin_mark, merger_of, node_of,
-    open_links, open_listener, open_metrics, open_record, open_sink, read_settings_text,
-};
+use pdc_startup::{Described, Files, Machine, Observed, RunOptions, ServiceFault};
 use pdc_threads::{HubFault, Totals};
 
-/// The files of a concentrator, by their names.
-#[derive(Clone, Copy, Debug)]
-pub struct Files<'a> {
-    /// Its settings.
-    pub settings: &'a str,
-    /// Its mark.
-    pub mark: &'a str,
-    /// Where its life is recorded, if it is.
-    pub record: Option<RecordFile<'a>>,
-}
-
-/// Runs a concentrator of these settings, with its mark in this file.
-fn serve_concentrator<R: Host>(
+/// Tries the steps behind the settings, in their order, and runs the concentrator that these describe.
+fn serve_described<M: Machine, R: Host>(
     rt: &R,
-    concentrator: &Concentrator,
-    network: &Network,
-    settings: &str,
+    machine: &mut M,
     files: &Files<'_>,
     options: &RunOptions,
+    described: &Described,
 ) -> Result<Totals, ServiceFault>
     ensures totals { IfOk result AreSums }
-    ensures each { IfOk result (HaveEach (streams_of concentrator.now)) }
+    ensures each { IfOk result (HaveEach (streams_of described.now.concentrator)) }
+    ensures opened { HasOpened M.tried machine.old machine.new described.now (steps_with files.now) result }
 {
     let alloc = rt.alloc();
-    let output = concentrator.output();
-    let service = concentrator.service_settings();
-    let mark = begin_mark(rt, files.mark, output.id, output.rate)?;
+    let concentrator = &described.concentrator;
+    let network = &described.network;
+    let mark = machine.begin_mark(rt, files, described)?;
     let is_recorded = files.record.is_some();
     let Ok(observed) = Observed::new(alloc, concentrator, network, options.is_quiet, is_recorded)
     else {
         return Err(ServiceFault::Run(HubFault::NoMemory));
     };
     let (start, floor) = (mark.start(), mark.floor());
-    let record = match files.record {
-        Some(record) => Some(open_record(rt, alloc, record, concentrator, &mark, settings)?),
-        None => None,
-    };
-    let sources = open_links(rt, alloc, network, concentrator, &observed)?;
+    let record = machine.open_record(rt, files, described, &mark)?;
+    let sources = machine.open_links(rt, described, &observed)?;
     let buffer = sources.first().and_then(|source| source.buffer());
-    let opened = Opened {
-        mark,
-        sources,
-        sink: open_sink(
-            rt,
-            alloc,
-            network,
-            service.out_port,
-            observed.outputs.as_slice(),
-        )?,
-        record,
-    };
-    let consumers = Consumers {
-        listener: open_listener(rt, network, service.session_port)?,
-        most: network.sessions,
-        metrics: open_metrics(rt, network.metrics_port)?,
-    };
+    let sink = machine.open_sink(rt, described, &observed)?;
+    let listener = machine.open_listener(rt, described)?;
+    let metrics = machine.open_metrics(rt, described)?;
     observed.journal.note(
         rt,
         begun_text(alloc, concentrator, network, start, floor, buffer),
     );
+    let opened = Opened {
+        mark,
+        sources,
+        sink,
+        record,
+    };
+    let consumers = Consumers {
+        listener,
+        most: network.sessions,
+        metrics,
+    };
     let serving = Serving {
         concentrator,
         options,
@@ -89,17 +69,20 @@ fn serve_concentrator<R: Host>(
 ///
 /// The first fault: of the settings file, the mark file, the start that is stored, the first file of the record, the ports and places of the PMUs in their order, the
 /// port of the frames, the further destinations in their order, the port of the sessions, that of the counters, or the run.
-pub fn serve_node<R: Host>(
+pub fn serve_node<M: Machine, R: Host>(
     rt: &R,
+    machine: &mut M,
     files: &Files<'_>,
     options: &RunOptions,
 ) -> Result<Totals, ServiceFault>
     // The totals are the sums over the receivers.
     ensures totals { IfOk result AreSums }
+    // The steps that the machine tried are the first of a startup, in its order, each once and under the settings of a node that were read
+    // first; the last of them failed, and it ended by that fault, or all were opened, and it ended by the run's answer.
+    ensures started { HasStarted M.tried machine.old machine.new IsNode files.now result }
 {
-    let text = read_settings_text(rt, files.settings).map_err(ServiceFault::Settings)?;
-    let (node, network) = node_of(rt.alloc(), &text).map_err(ServiceFault::Settings)?;
-    serve_concentrator(rt, &node, &network, &text, files, options)
+    let described = machine.read_node(rt, files)?;
+    serve_described(rt, machine, files, options, &described)
 }
 
 /// Runs the merger, serves its consumers as long, and tells what [`serve_node`] does.
@@ -108,15 +91,17 @@ pub fn serve_node<R: Host>(
 ///
 /// The first fault: of the settings file, the mark file, the start that is stored, the first file of the record, the ports or places of node A and node B, the
 /// port of the frames, the further destinations in their order, the port of the sessions, that of the counters, or the run.
-pub fn serve_merger<R: Host>(
+pub fn serve_merger<M: Machine, R: Host>(
     rt: &R,
+    machine: &mut M,
     files: &Files<'_>,
     options: &RunOptions,
 ) -> Result<Totals, ServiceFault>
-    // The totals are the sums over the receivers.
     ensures totals { IfOk result AreSums }
+    // Node A and node B have an entry each.
+    ensures each { IfOk result (HaveEach 2) }
+    ensures started { HasStarted M.tried machine.old machine.new IsMerger files.now result }
 {
-    let text = read_settings_text(rt, files.settings).map_err(ServiceFault::Settings)?;
-    let (merger, network) = merger_of(rt.alloc(), &text).map_err(ServiceFault::Settings)?;
-    serve_concentrator(rt, &merger, &network, &text, files, options)
+    let described = machine.read_merger(rt, files)?;
+    serve_described(rt, machine, files, options, &described)
 }

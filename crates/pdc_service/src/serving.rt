@@ -1,9 +1,10 @@
 //! A run with consumers beside it.
-ghost use Rattle.std.specs.Prelude.{◌≡◌, ◌≤◌, ◌<◌, IfOk, vec_len};
+ghost use Rattle.std.specs.Prelude.{◌≡◌, ◌≤◌, ◌<◌, IfErr, IfOk, vec_len};
 ghost use Rattle.pdc_frame.specs.declared.limits.TheConstants.{MAX_ID};
 ghost use Rattle.pdc_recent.specs.Stream.{stream_of};
 ghost use Rattle.pdc_service.specs.Summed.{AreSums, HaveEach};
 ghost use Rattle.pdc_startup.specs.Concentrator.{output_of, streams_of};
+ghost use Rattle.pdc_startup.specs.Faults.{IsOfRun};
 
 use crate::either::run_concentrator;
 use crate::handed::hand_over;
@@ -174,6 +175,7 @@ fn run_observed<
     requires named { N.stream ≡ stream_of (output_of serving.now.concentrator.now) }
     ensures totals { IfOk result AreSums }
     ensures each { IfOk result (HaveEach (streams_of serving.now.concentrator.now)) }
+    ensures faults { IfErr result IsOfRun }
 {
     let (concentrator, options, observed) =
         (serving.concentrator, serving.options, serving.observed);
@@ -237,6 +239,7 @@ fn conduct<
     requires named { N.stream ≡ stream_of (output_of serving.now.concentrator.now) }
     ensures totals { IfOk result AreSums }
     ensures each { IfOk result (HaveEach (streams_of serving.now.concentrator.now)) }
+    ensures faults { IfErr result IsOfRun }
 {
     let mut opened = opened;
     let observed = serving.observed;
@@ -276,6 +279,7 @@ fn run_keeping<
     requires named { N.stream ≡ stream_of (output_of serving.now.concentrator.now) }
     ensures totals { IfOk result AreSums }
     ensures each { IfOk result (HaveEach (streams_of serving.now.concentrator.now)) }
+    ensures faults { IfErr result IsOfRun }
 {
     thread::scope(
         thread::scope_env(),
@@ -285,7 +289,8 @@ fn run_keeping<
             requires named { N.stream ≡ stream_of (output_of serving.now.concentrator.now) }
             ensures totals { IfOk result AreSums }
             ensures each { IfOk result (HaveEach (streams_of serving.entry.now.concentrator.now)) }
-                { conduct(scope, rt, alloc, serving, opened, recent) },
+            ensures faults { IfErr result IsOfRun }
+        { conduct(scope, rt, alloc, serving, opened, recent) },
     )
 }
 
@@ -304,6 +309,7 @@ fn run_named<
     requires named { N.stream ≡ stream_of (output_of serving.now.concentrator.now) }
     ensures totals { IfOk result AreSums }
     ensures each { IfOk result (HaveEach (streams_of serving.now.concentrator.now)) }
+    ensures faults { IfErr result IsOfRun }
 {
     let output = serving.concentrator.output();
     let Ok(recent) = Recent::<N>::new(alloc, &output, opened.mark.start()) else {
@@ -325,6 +331,7 @@ pub fn run_serving<
     requires { vec_len opened.sources ≡ streams_of serving.now.concentrator.now }
     ensures totals { IfOk result AreSums }
     ensures each { IfOk result (HaveEach (streams_of serving.now.concentrator.now)) }
+    ensures faults { IfErr result IsOfRun }
 {
     run_named::<S, Brand, R>(rt, alloc, serving, opened)
 }

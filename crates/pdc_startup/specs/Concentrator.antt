@@ -13,3 +13,13 @@ streams_of (Merger settings) = 2
 abbrev pub output_of : Concentrator → Output
 output_of (Node settings) = settings.life.output
 output_of (Merger settings) = settings.life.output
+
+-- it is a node
+abbrev pub IsNode : Concentrator → Type 0
+IsNode (Node settings) = Unit {0}
+IsNode (Merger settings) = ⊥
+
+-- it is the merger
+abbrev pub IsMerger : Concentrator → Type 0
+IsMerger (Node settings) = ⊥
+IsMerger (Merger settings) = Unit {0}

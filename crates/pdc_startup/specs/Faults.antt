@@ -4,12 +4,17 @@ use Rattle.pdc_hub.specs.declared.fault.HubFault.TheVariants.{NoMemory}
 use Rattle.pdc_startup.specs.declared.fault.LoadFault.{LoadFault}
 use Rattle.pdc_startup.specs.declared.fault.LoadFault.TheVariants.{Refused}
 use Rattle.pdc_startup.specs.declared.fault.ServiceFault.{ServiceFault}
-use Rattle.pdc_startup.specs.declared.fault.ServiceFault.TheVariants.{MarkUnopened, MarkInUse, Mark, Port, Output, Input, Record, Run}
+use Rattle.pdc_startup.specs.declared.fault.ServiceFault.TheVariants.{Settings, MarkUnopened, MarkInUse, Mark, Port, Output, Input, Record, Run, Clock}
 
 -- the settings, once their file is read
 abbrev pub IsOfSettings : LoadFault → Type 0
 IsOfSettings (Refused fault) = Unit {0}
 IsOfSettings _ = ⊥
+
+-- the settings: their file, and what it says
+abbrev pub IsOfFile : ServiceFault → Type 0
+IsOfFile (Settings fault) = Unit {0}
+IsOfFile _ = ⊥
 
 -- the mark: its file, what stands in it, and its next start
 abbrev pub IsOfMark : ServiceFault → Type 0
@@ -41,3 +46,9 @@ IsOfSink _ = ⊥
 abbrev pub IsOfListener : ServiceFault → Type 0
 IsOfListener (Port at error) = Unit {0}
 IsOfListener _ = ⊥
+
+-- the run: one of its parts, or the clock
+abbrev pub IsOfRun : ServiceFault → Type 0
+IsOfRun (Run fault) = Unit {0}
+IsOfRun Clock = Unit {0}
+IsOfRun _ = ⊥

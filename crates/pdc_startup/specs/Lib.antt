@@ -2,3 +2,4 @@ pub mod Begun
 pub mod Concentrator
 pub mod Faults
 pub mod Status
+pub mod Steps

@@ -1,5 +1,6 @@
 //! The files of a concentrator.
-ghost use Rattle.std.specs.Prelude.{IfErr};
+ghost use Rattle.std.specs.Prelude.{IfErr, IfOk};
+ghost use Rattle.pdc_startup.specs.Concentrator.{IsMerger, IsNode};
 ghost use Rattle.pdc_startup.specs.Faults.{IsOfMark, IsOfSettings};
 
 use crate::begun::Begun;
@@ -25,6 +26,7 @@ pub fn read_settings_text<R: Files<File = File> + AllocGlobal>(
 
 /// The node that these settings describe, and where it is on the network.
 pub fn node_of(alloc: Global, text: &str) -> Result<(Concentrator, Network), LoadFault>
+    ensures node { IfOk result (λ found. IsNode found.0) }
     ensures faults { IfErr result IsOfSettings }
 {
     let settings = NodeSettings::from_toml(alloc, text).map_err(LoadFault::Refused)?;
@@ -34,6 +36,7 @@ pub fn node_of(alloc: Global, text: &str) -> Result<(Concentrator, Network), Loa
 
 /// The merger that these settings describe, and where it is on the network.
 pub fn merger_of(alloc: Global, text: &str) -> Result<(Concentrator, Network), LoadFault>
+    ensures merger { IfOk result (λ found. IsMerger found.0) }
     ensures faults { IfErr result IsOfSettings }
 {
     let settings = MergerSettings::from_toml(alloc, text).map_err(LoadFault::Refused)?;

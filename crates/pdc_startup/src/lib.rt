@@ -1,15 +1,18 @@
 //! What a node and the merger do before they run: their settings are read, the next start is stored on their mark, the record of their
 //! life is begun, and their ports are opened (this profile).
 //!
-//! The first type to look at is [`Concentrator`], a node or the merger as its settings describe it. To the layer above this crate promises
-//! that a life begins with a mark whose next start is stored ([`Begun`]), so each has a start number of its own, that there is a source for
-//! each stream, in their order, and that each fault has one exit status.
+//! The first types to look at are [`Concentrator`], a node or the merger as its settings describe it, and [`Machine`], each of whose calls
+//! tries one step and may tell of it. To the layer above this crate promises that a life begins with a mark whose next start is stored
+//! ([`Begun`]), so each has a start number of its own, that there is a source for each stream, in their order, that each step ends by its
+//! own faults alone, and that each fault has one exit status.
 #![tactic(auto)]
 
 mod begun;
 mod concentrator;
+mod described;
 mod fault;
 mod files;
+mod machine;
 mod observing;
 mod options;
 mod plan;
@@ -19,12 +22,13 @@ mod signs;
 
 pub use begun::Begun;
 pub use concentrator::Concentrator;
+pub use described::{Described, Files, Step};
 pub use fault::{LoadFault, ServiceFault};
-pub use files::{begin_mark, merger_of, node_of, read_settings_text};
+pub use files::read_settings_text;
+pub use machine::{Machine, ThisMachine};
 pub use observing::{Observed, observe_all};
 pub use options::RunOptions;
 pub use pdc_recording::Limits;
 pub use plan::{MAX_LIMIT, Plan, plan_of};
-pub use ports::{open_links, open_listener, open_metrics, open_sink};
-pub use recorded::{RecordFile, open_record};
+pub use recorded::RecordFile;
 pub use signs::Signs;

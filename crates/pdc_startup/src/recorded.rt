@@ -4,6 +4,7 @@ ghost use Rattle.pdc_startup.specs.Faults.{IsOfRecord};
 
 use crate::begun::Begun;
 use crate::concentrator::Concentrator;
+use crate::described::Described;
 use crate::fault::ServiceFault;
 use pdc_mark::Mark;
 use pdc_recording::{Begun as BegunEntry, Limits, Role, Series, Shelf, nanoseconds_now};
@@ -35,15 +36,14 @@ pub fn open_record<'a, M: Mark + Drop, R: Clock + Shelf>(
     rt: &R,
     alloc: Global,
     record: RecordFile<'a>,
-    concentrator: &Concentrator,
+    described: &'a Described,
     mark: &Begun<M>,
-    settings: &'a str,
 ) -> Result<Series<'a>, ServiceFault>
     ensures faults { IfErr result IsOfRecord }
 {
-    let output = concentrator.output();
+    let output = described.concentrator.output();
     let begun = BegunEntry {
-        role: role_of(concentrator),
+        role: role_of(&described.concentrator),
         id: output.id,
         rate: output.rate,
         start: mark.start(),
@@ -51,7 +51,7 @@ pub fn open_record<'a, M: Mark + Drop, R: Clock + Shelf>(
         counts: mark.counts(),
         now: 0,
         program: PROGRAM,
-        settings: settings.as_bytes(),
+        settings: described.text.as_bytes(),
     };
     Series::open(
         rt,

@@ -1,7 +1,7 @@
 //! What ends a node before it runs, in the order in which it is found, and a short run.
 
 use pdc_mark::make_mark;
-use pdc_service::{Files, Host, RunOptions, serve_merger, serve_node};
+use pdc_service::{Files, Host, RunOptions, ThisMachine, serve_merger, serve_node};
 use std::alloc::{AllocError, Global};
 use std::env::Env;
 use std::fs::File;
@@ -42,7 +42,7 @@ fn play_node<'x, R: Host + Print>(
         mark: mark.as_str(),
         record: None,
     };
-    match serve_node(rt, &files, &ticks(3)) {
+    match serve_node(rt, &mut ThisMachine, &files, &ticks(3)) {
         Ok(totals) => {
             let (taken, refused, published) = (totals.taken, totals.refused, totals.published);
             println!(rt; "  {name}: taken={taken} refused={refused} published={published}")
@@ -133,7 +133,7 @@ pub fn play<R: Host + Env + Print>(
         mark: paths.mark.as_str(),
         record: None,
     };
-    if let Err(fault) = serve_merger(rt, &files, &ticks(1)) {
+    if let Err(fault) = serve_merger(rt, &mut ThisMachine, &files, &ticks(1)) {
         let status = fault.status();
         println!(rt; "  a node's settings to the merger: {fault}, status {status}")?;
     }

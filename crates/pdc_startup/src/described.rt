@@ -1,0 +1,46 @@
+//! What a concentrator is started with, and by which steps.
+
+use crate::concentrator::Concentrator;
+use crate::recorded::RecordFile;
+use pdc_settings::Network;
+
+/// The files of a concentrator, by their names.
+#[derive(Clone, Copy, Debug)]
+pub struct Files<'a> {
+    /// Its settings.
+    pub settings: &'a str,
+    /// Its mark.
+    pub mark: &'a str,
+    /// Where its life is recorded, if it is.
+    pub record: Option<RecordFile<'a>>,
+}
+
+/// What a settings file says.
+#[derive(Drop)]
+pub struct Described {
+    /// Its text.
+    pub text: String,
+    /// The node or the merger that it describes.
+    pub concentrator: Concentrator,
+    /// Where that is on the network.
+    pub network: Network,
+}
+
+/// A step of a startup, in the order in which they are tried, and with which files.
+#[derive(Clone, Copy, Debug)]
+pub enum Step<'a> {
+    /// The settings are read.
+    ReadSettings(Files<'a>),
+    /// The mark is opened, and its next start is stored.
+    BeginMark(Files<'a>),
+    /// The first file of the record is begun, where the life is recorded.
+    BeginRecord(Files<'a>),
+    /// A source is opened for each stream.
+    OpenSources,
+    /// The sink of the frames is opened.
+    OpenSink,
+    /// The listener of the sessions is opened.
+    OpenListener,
+    /// The listener of the counters is opened, where they are served.
+    OpenMetrics,
+}

@@ -1,0 +1,257 @@
+//! The steps of a startup, as a machine tries them.
+ghost use Rattle.std.specs.Prelude.{◌≡◌, List, IfErr, IfOk, [], ◌∷◌, vec_len};
+ghost use Rattle.pdc_startup.specs.Concentrator.{IsMerger, IsNode, streams_of};
+ghost use Rattle.pdc_startup.specs.Faults.{IsOfFile, IsOfListener, IsOfMark, IsOfRecord, IsOfSink, IsOfSources};
+ghost use Rattle.pdc_startup.specs.Steps.{Attempt, Tells, attempt, reading};
+ghost use Rattle.pdc_startup.specs.declared.described.Step.TheVariants.{BeginMark, BeginRecord, OpenListener, OpenMetrics, OpenSink, OpenSources};
+
+use crate::begun::Begun;
+use crate::described::{Described, Files};
+use crate::fault::ServiceFault;
+use crate::files::{begin_mark, merger_of, node_of, read_settings_text};
+use crate::observing::Observed;
+use crate::ports::{open_links, open_listener, open_metrics, open_sink};
+use crate::recorded::open_record;
+use pdc_disk::FileDisk;
+use pdc_link::Link;
+use pdc_mark::{DiskMark, Mark};
+use pdc_network::OutputsSink;
+use pdc_recording::{Series, Shelf};
+use std::fs::File;
+use std::net::{Net, TcpListener, TcpStream};
+use std::rt::{Clock, Files as HostFiles};
+use std::sync::Wait;
+
+/// The machine that a concentrator starts on: each call tries a step of a startup, whose fault is one of the step's own. It may tell what was
+/// tried: in `tried before now attempts` exactly these steps, in order, from the one state to the other. A machine that tells nothing says that
+/// of any steps.
+pub trait Machine {
+    ghost tried: { Self → Self → List Attempt → Type 0 };
+
+    // From a state to itself nothing was tried.
+    ghost nothing: { (machine : Self) → tried machine machine [] };
+
+    /// Reads the settings of a node.
+    ///
+    /// # Errors
+    ///
+    /// The file cannot be read, or it is no settings of a node.
+    fn read_node<R: HostFiles<File = File> + AllocGlobal>(
+        &mut self,
+        rt: &R,
+        files: &Files<'_>,
+    ) -> Result<Described, ServiceFault>
+        ensures node { IfOk result (λ described. IsNode described.concentrator) }
+        ensures faults { IfErr result IsOfFile }
+        ensures told { Tells tried self.old self.new (reading files.now result ∷ []) };
+
+    /// Reads the settings of the merger.
+    ///
+    /// # Errors
+    ///
+    /// The file cannot be read, or it is no settings of the merger.
+    fn read_merger<R: HostFiles<File = File> + AllocGlobal>(
+        &mut self,
+        rt: &R,
+        files: &Files<'_>,
+    ) -> Result<Described, ServiceFault>
+        ensures merger { IfOk result (λ described. IsMerger described.concentrator) }
+        ensures faults { IfErr result IsOfFile }
+        ensures told { Tells tried self.old self.new (reading files.now result ∷ []) };
+
+    /// Opens the mark, and stores its next start.
+    ///
+    /// # Errors
+    ///
+    /// The file cannot be opened, or another process has it; it is no mark of this concentrator, or no start can be stored.
+    fn begin_mark<R: HostFiles<File = File>>(
+        &mut self,
+        rt: &R,
+        files: &Files<'_>,
+        described: &Described,
+    ) -> Result<Begun<DiskMark<FileDisk>>, ServiceFault>
+        ensures faults { IfErr result IsOfMark }
+        ensures told { Tells tried self.old self.new (attempt (BeginMark files.now) described.now result ∷ []) };
+
+    /// Begins the record of a life with this mark, where it is recorded.
+    ///
+    /// # Errors
+    ///
+    /// The first file cannot be made or written.
+    fn open_record<'a, M: Mark + Drop, R: Clock + Shelf + AllocGlobal>(
+        &mut self,
+        rt: &R,
+        files: &Files<'a>,
+        described: &'a Described,
+        mark: &Begun<M>,
+    ) -> Result<Option<Series<'a>>, ServiceFault>
+        ensures faults { IfErr result IsOfRecord }
+        ensures told { Tells tried self.old self.new (attempt (BeginRecord files.now) described.now result ∷ []) };
+
+    /// Opens a link to the sender of each stream, in their order.
+    ///
+    /// # Errors
+    ///
+    /// A port cannot be opened, a place is not known, or memory ran out.
+    fn open_links<
+        'a,
+        R: Net<Listener = TcpListener, Stream = TcpStream> + Clock + Wait + AllocGlobal,
+    >(
+        &mut self,
+        rt: &'a R,
+        described: &Described,
+        observed: &'a Observed,
+    ) -> Result<Vec<Link<'a, R>>, ServiceFault>
+        ensures links { IfOk result (λ links. vec_len links ≡ streams_of described.now.concentrator) }
+        ensures faults { IfErr result IsOfSources }
+        ensures told { Tells tried self.old self.new (attempt OpenSources described.now result ∷ []) };
+
+    /// Opens where frames go: the port of the loopback, and the further destinations.
+    ///
+    /// # Errors
+    ///
+    /// A port cannot be opened, a destination is not known, or memory ran out.
+    fn open_sink<'a, R: Net + AllocGlobal>(
+        &mut self,
+        rt: &R,
+        described: &Described,
+        observed: &'a Observed,
+    ) -> Result<OutputsSink<'a>, ServiceFault>
+        ensures faults { IfErr result IsOfSink }
+        ensures told { Tells tried self.old self.new (attempt OpenSink described.now result ∷ []) };
+
+    /// Opens the listener of the sessions. Its `accept` does not wait.
+    ///
+    /// # Errors
+    ///
+    /// The port cannot be opened.
+    fn open_listener<R: Net<Listener = TcpListener, Stream = TcpStream>>(
+        &mut self,
+        rt: &R,
+        described: &Described,
+    ) -> Result<TcpListener, ServiceFault>
+        ensures faults { IfErr result IsOfListener }
+        ensures told { Tells tried self.old self.new (attempt OpenListener described.now result ∷ []) };
+
+    /// Opens the listener of the counters, where they are served. Its `accept` does not wait.
+    ///
+    /// # Errors
+    ///
+    /// The port cannot be opened.
+    fn open_metrics<R: Net<Listener = TcpListener, Stream = TcpStream>>(
+        &mut self,
+        rt: &R,
+        described: &Described,
+    ) -> Result<Option<TcpListener>, ServiceFault>
+        ensures faults { IfErr result IsOfListener }
+        ensures told { Tells tried self.old self.new (attempt OpenMetrics described.now result ∷ []) };
+}
+
+/// The machine that the program runs on. It tells nothing of what was tried.
+#[derive(Drop)]
+pub struct ThisMachine;
+
+impl Machine for ThisMachine {
+    ghost tried = { λ _ _ _. Unit {0} };
+
+    ghost nothing = { λ _. tt };
+
+    fn read_node<R: HostFiles<File = File> + AllocGlobal>(
+        &mut self,
+        rt: &R,
+        files: &Files<'_>,
+    ) -> Result<Described, ServiceFault> {
+        let text = read_settings_text(rt, files.settings).map_err(ServiceFault::Settings)?;
+        let (concentrator, network) =
+            node_of(rt.alloc(), &text).map_err(ServiceFault::Settings)?;
+        Ok(Described {
+            text,
+            concentrator,
+            network,
+        })
+    }
+
+    fn read_merger<R: HostFiles<File = File> + AllocGlobal>(
+        &mut self,
+        rt: &R,
+        files: &Files<'_>,
+    ) -> Result<Described, ServiceFault> {
+        let text = read_settings_text(rt, files.settings).map_err(ServiceFault::Settings)?;
+        let (concentrator, network) =
+            merger_of(rt.alloc(), &text).map_err(ServiceFault::Settings)?;
+        Ok(Described {
+            text,
+            concentrator,
+            network,
+        })
+    }
+
+    fn begin_mark<R: HostFiles<File = File>>(
+        &mut self,
+        rt: &R,
+        files: &Files<'_>,
+        described: &Described,
+    ) -> Result<Begun<DiskMark<FileDisk>>, ServiceFault> {
+        let output = described.concentrator.output();
+        begin_mark(rt, files.mark, output.id, output.rate)
+    }
+
+    fn open_record<'a, M: Mark + Drop, R: Clock + Shelf + AllocGlobal>(
+        &mut self,
+        rt: &R,
+        files: &Files<'a>,
+        described: &'a Described,
+        mark: &Begun<M>,
+    ) -> Result<Option<Series<'a>>, ServiceFault> {
+        match files.record {
+            Some(record) => Ok(Some(open_record(rt, rt.alloc(), record, described, mark)?)),
+            None => Ok(None),
+        }
+    }
+
+    fn open_links<
+        'a,
+        R: Net<Listener = TcpListener, Stream = TcpStream> + Clock + Wait + AllocGlobal,
+    >(
+        &mut self,
+        rt: &'a R,
+        described: &Described,
+        observed: &'a Observed,
+    ) -> Result<Vec<Link<'a, R>>, ServiceFault> {
+        open_links(
+            rt,
+            rt.alloc(),
+            &described.network,
+            &described.concentrator,
+            observed,
+        )
+    }
+
+    fn open_sink<'a, R: Net + AllocGlobal>(
+        &mut self,
+        rt: &R,
+        described: &Described,
+        observed: &'a Observed,
+    ) -> Result<OutputsSink<'a>, ServiceFault> {
+        let port = described.concentrator.service_settings().out_port;
+        let outputs = observed.outputs.as_slice();
+        open_sink(rt, rt.alloc(), &described.network, port, outputs)
+    }
+
+    fn open_listener<R: Net<Listener = TcpListener, Stream = TcpStream>>(
+        &mut self,
+        rt: &R,
+        described: &Described,
+    ) -> Result<TcpListener, ServiceFault> {
+        let port = described.concentrator.service_settings().session_port;
+        open_listener(rt, &described.network, port)
+    }
+
+    fn open_metrics<R: Net<Listener = TcpListener, Stream = TcpStream>>(
+        &mut self,
+        rt: &R,
+        described: &Described,
+    ) -> Result<Option<TcpListener>, ServiceFault> {
+        open_metrics(rt, described.network.metrics_port)
+    }
+}
