@@ -96,12 +96,22 @@ fn options_of(request: &Running) -> RunOptions {
 
 /// Runs a node, and answers the exit status.
 pub fn run_node_command<R: Host + Print>(rt: &R, request: &Running) -> io::Result<u8> {
-    let outcome = serve_node(rt, &mut ThisMachine, &files_of(request), &options_of(request));
+    let outcome = serve_node(
+        rt,
+        &mut ThisMachine,
+        &files_of(request),
+        &options_of(request),
+    );
     report_run(rt, "node", request, outcome)
 }
 
 /// Runs the merger, and answers the exit status.
 pub fn run_merge_command<R: Host + Print>(rt: &R, request: &Running) -> io::Result<u8> {
-    let outcome = serve_merger(rt, &mut ThisMachine, &files_of(request), &options_of(request));
+    let outcome = serve_merger(
+        rt,
+        &mut ThisMachine,
+        &files_of(request),
+        &options_of(request),
+    );
     report_run(rt, "merge", request, outcome)
 }

@@ -24,12 +24,7 @@ pub fn hand_over<
     M: Mark + Drop,
     I: Ticker + Drop,
     K: Outlet + Send + Drop,
->(
-    mark: Begun<M>,
-    sources: Vec<S>,
-    ticker: I,
-    sink: K,
-) -> Handed<Beside<S, M, I, K>>
+>(mark: Begun<M>, sources: Vec<S>, ticker: I, sink: K) -> Handed<Beside<S, M, I, K>>
     ensures { (result.mark ≡ mark) × (result.sources ≡ sources) × (result.ticker ≡ ticker) × (result.sink ≡ sink) }
 {
     Handed::<Beside<S, M, I, K>> {

@@ -22,8 +22,8 @@ mod telling;
 pub use handed::{Handed, hand_over};
 pub use host::Host;
 pub use pdc_startup::{
-    Begun, Files, Limits, LoadFault, MAX_LIMIT, Machine, Plan, RecordFile, RunOptions, ServiceFault,
-    ThisMachine, read_settings_text,
+    Begun, Files, Limits, LoadFault, MAX_LIMIT, Machine, Plan, RecordFile, RunOptions,
+    ServiceFault, ThisMachine, read_settings_text,
 };
 pub use pdc_threads::{Beside, Outlet, Outside, Totals};
 pub use running_concentrator::{run_merger, run_node};

@@ -177,8 +177,11 @@ fn run_observed<
     ensures each { IfOk result (HaveEach (streams_of serving.now.concentrator.now)) }
     ensures faults { IfErr result IsOfRun }
 {
-    let (concentrator, options, observed) =
-        (serving.concentrator, serving.options, serving.observed);
+    let (concentrator, options, observed) = (
+        serving.concentrator,
+        serving.options,
+        serving.observed,
+    );
     let Opened {
         mark,
         sources,

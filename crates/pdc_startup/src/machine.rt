@@ -162,8 +162,7 @@ impl Machine for ThisMachine {
         files: &Files<'_>,
     ) -> Result<Described, ServiceFault> {
         let text = read_settings_text(rt, files.settings).map_err(ServiceFault::Settings)?;
-        let (concentrator, network) =
-            node_of(rt.alloc(), &text).map_err(ServiceFault::Settings)?;
+        let (concentrator, network) = node_of(rt.alloc(), &text).map_err(ServiceFault::Settings)?;
         Ok(Described {
             text,
             concentrator,
@@ -177,8 +176,7 @@ impl Machine for ThisMachine {
         files: &Files<'_>,
     ) -> Result<Described, ServiceFault> {
         let text = read_settings_text(rt, files.settings).map_err(ServiceFault::Settings)?;
-        let (concentrator, network) =
-            merger_of(rt.alloc(), &text).map_err(ServiceFault::Settings)?;
+        let (concentrator, network) = merger_of(rt.alloc(), &text).map_err(ServiceFault::Settings)?;
         Ok(Described {
             text,
             concentrator,
