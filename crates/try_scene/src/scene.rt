@@ -53,33 +53,47 @@ pub struct Played<M: Mark> {
     pub last: u64,
 }
 
+/// What a run begins with: two nodes that were opened alike with this start and these counts, who publishes, and where frames go.
+#[derive(Drop)]
+struct Stage<M: Mark> {
+    start: u32,
+    counts: [u16; MAX_PMUS],
+    base: Node<RingTable>,
+    state: Node<RingTable>,
+    publisher: Publisher<M>,
+    sink: Fused,
+}
+
 /// Runs two nodes that were opened alike: one is the base, the other the state.
 fn opened<'h, N: Naming<Settings> + Send + Sync, M: Mark + Drop, R: Threads + Wait + Sync + Print>(
     rt: &'h R,
     alloc: Global,
     settings: &Settings,
-    start: u32,
-    counts: &[u16; MAX_PMUS],
-    base: Node<RingTable>,
-    state: Node<RingTable>,
     scene: &Scene<'h>,
+    stage: Stage<M>,
     blanks: Blanks,
-    publisher: Publisher<M>,
-    sink: Fused,
 ) -> io::Result<Option<Played<M>>>
-    requires given { N.given ≡ Some (given_of settings.now start 0 counts.now 0) }
-    requires alike { StandsFor (given_of settings.now start 0 counts.now 0) [] base × StandsFor (given_of settings.now start 0 counts.now 0) [] state }
-    requires settings { (N.settings ≡ Some settings.now) × (base.settings ≡ settings.now) × (state.settings ≡ settings.now) }
-    requires popped { state.popped ≡ 0 }
+    requires given { N.given ≡ Some (given_of settings.now stage.start 0 stage.counts 0) }
+    requires alike { StandsFor (given_of settings.now stage.start 0 stage.counts 0) [] stage.base × StandsFor (given_of settings.now stage.start 0 stage.counts 0) [] stage.state }
+    requires settings { (N.settings ≡ Some settings.now) × (stage.base.settings ≡ settings.now) × (stage.state.settings ≡ settings.now) }
+    requires popped { stage.state.popped ≡ 0 }
     requires limit { 1 ≤ scene.now.limit }
     requires pace { 1 ≤ scene.now.layout_every }
     requires names { (blanks.taken.name ≡ N.taken.name) × (blanks.refused.name ≡ N.refused.name) × (blanks.configured.name ≡ N.configured.name) × (blanks.top.name ≡ N.top.name) }
     requires parts { (blanks.taken.parts ≡ N.taken.parts) × (blanks.refused.parts ≡ N.refused.parts) × (blanks.configured.parts ≡ N.configured.parts) × (blanks.top.parts ≡ N.top.parts) }
     requires count { (N.taken.parts ≡ 3) × (N.refused.parts ≡ 3) × (N.configured.parts ≡ 3) × (N.top.parts ≡ 1) }
     requires streams { length settings.now.pmus.items ≡ 2 }
-    requires publisher { (last_in publisher ≡ 0) × ((M.stored (mark_in publisher)).floor ≡ 0) × (output_in publisher ≡ settings.now.output) }
-    requires begins { ((M.stored (mark_in publisher)).start ≡ start) × ((M.stored (mark_in publisher)).counts ≡ counts.now) }
+    requires publisher { (last_in stage.publisher ≡ 0) × ((M.stored (mark_in stage.publisher)).floor ≡ 0) × (output_in stage.publisher ≡ settings.now.output) }
+    requires begins { ((M.stored (mark_in stage.publisher)).start ≡ stage.start) × ((M.stored (mark_in stage.publisher)).counts ≡ stage.counts) }
 {
+    let Stage {
+        start: _,
+        counts: _,
+        base,
+        state,
+        publisher,
+        sink,
+    } = stage;
     let (hub, shares, pops) = Hub::<Node<RingTable>, N>::new(
         alloc,
         base,
@@ -174,7 +188,13 @@ pub fn run_scene<M: Mark + Drop, R: Threads + Wait + Sync + Print>(
         sent: 0,
         failures: 0,
     };
-    opened::<Brand, M, R>(
-        rt, alloc, settings, start, &counts, base, state, scene, blanks, publisher, sink,
-    )
+    let stage = Stage {
+        start,
+        counts,
+        base,
+        state,
+        publisher,
+        sink,
+    };
+    opened::<Brand, M, R>(rt, alloc, settings, scene, stage, blanks)
 }

@@ -64,6 +64,22 @@ const DATA_12: &str = "aa02001a000c448527f000004e2000001388ec78fffe0000ce65";
 /// How often the configuration is asked for until it shows both PMUs.
 const TRIES: u32 = 1000;
 
+/// What the node runs on.
+#[derive(Drop)]
+struct Wires {
+    first: UdpSource,
+    second: UdpSource,
+    sink: UdpSink,
+}
+
+/// A node that is tried: its settings, the frames of it that are kept, and how far the trial is.
+#[derive(Drop)]
+struct Trial<'s, N: Naming> {
+    settings: &'s Settings,
+    recent: &'s Recent<N>,
+    gauges: &'s Gauges,
+}
+
 /// Runs the node, in a life with start 1, until the trial is done.
 fn run_it<N: Naming + Send, R: Threads + Wait + Clock + Sync>(
     rt: &R,
@@ -71,12 +87,15 @@ fn run_it<N: Naming + Send, R: Threads + Wait + Clock + Sync>(
     settings: &Settings,
     recent: &Recent<N>,
     gauges: &Gauges,
-    first: UdpSource,
-    second: UdpSource,
-    sink: UdpSink,
+    wires: Wires,
 ) -> Option<Totals>
     requires { N.stream ≡ stream_of settings.now.output }
 {
+    let Wires {
+        first,
+        second,
+        sink,
+    } = wires;
     let Ok(mark) = Begun::new(ModelMark::new(0, 0)) else {
         return None;
     };
@@ -213,12 +232,10 @@ fn drive<R: Net<Stream = TcpStream> + Clock + Print>(
     println!(rt; "  AA AA ends the session: {ended}")
 }
 
-/// What the node runs on.
+/// What the node runs on, where its consumers come, and where its frames arrive.
 #[derive(Drop)]
 struct Sockets {
-    first: UdpSource,
-    second: UdpSource,
-    sink: UdpSink,
+    wires: Wires,
     listener: TcpListener,
     frames: UdpSocket,
 }
@@ -231,10 +248,13 @@ fn open_sockets<R: Net<Listener = TcpListener, Stream = TcpStream>>(
     let frames = port.saturating_add(2);
     let listener = TcpListener::bind(rt, ("127.0.0.1", port.saturating_add(3)))?;
     listener.set_nonblocking(true)?;
-    Ok(Sockets {
+    let wires = Wires {
         first: UdpSource::open(rt, port)?,
         second: UdpSource::open(rt, port.saturating_add(1))?,
         sink: UdpSink::open(rt, frames)?,
+    };
+    Ok(Sockets {
+        wires,
         listener,
         frames: listen(rt, frames)?,
     })
@@ -261,25 +281,26 @@ fn conduct<
     scope: &'s Scope<'s, E>,
     rt: &'s R,
     alloc: Global,
-    settings: &'s Settings,
-    recent: &'s Recent<N>,
-    gauges: &'s Gauges,
+    trial: Trial<'s, N>,
     port: u16,
     sockets: Sockets,
 ) -> io::Result<()>
-    requires { N.stream ≡ stream_of settings.now.output }
+    requires { N.stream ≡ stream_of trial.settings.now.output }
 {
+    let Trial {
+        settings,
+        recent,
+        gauges,
+    } = trial;
     let Sockets {
-        first,
-        second,
-        sink,
+        wires,
         listener,
         frames,
     } = sockets;
     let node = scope.spawn(
         move || -> Option<Totals>
             requires { N.stream ≡ stream_of settings.now.output }
-        { run_it(rt, alloc, settings, recent, gauges, first, second, sink) },
+        { run_it(rt, alloc, settings, recent, gauges, wires) },
     );
     let sessions = scope.spawn(move || -> () {
         serve(rt, alloc, ID, recent, &listener, &gauges.present)
@@ -302,23 +323,15 @@ fn play_over<
     'x,
     N: Naming + Send + 'x,
     R: Threads + Wait + Clock + Net<Listener = TcpListener, Stream = TcpStream> + Print + Sync + 'x,
->(
-    rt: &'x R,
-    alloc: Global,
-    settings: &'x Settings,
-    recent: &'x Recent<N>,
-    gauges: &'x Gauges,
-    port: u16,
-    sockets: Sockets,
-) -> io::Result<()>
-    requires { N.stream ≡ stream_of settings.now.output }
+>(rt: &'x R, alloc: Global, trial: Trial<'x, N>, port: u16, sockets: Sockets) -> io::Result<()>
+    requires { N.stream ≡ stream_of trial.settings.now.output }
 {
     thread::scope(
         thread::scope_env(),
         rt,
         |scope| -> io::Result<()>
-            requires { N.stream ≡ stream_of settings.now.output }
-        { conduct(scope, rt, alloc, settings, recent, gauges, port, sockets) },
+            requires { N.stream ≡ stream_of trial.settings.now.output }
+        { conduct(scope, rt, alloc, trial, port, sockets) },
     )
 }
 
@@ -332,7 +345,12 @@ fn play_named<
     let recent = Recent::<N>::new(alloc, &settings.output, 1)?;
     let gauges = Gauges::new();
     let sockets = open_sockets(rt, port)?;
-    play_over(rt, alloc, settings, &recent, &gauges, port, sockets)
+    let trial = Trial {
+        settings,
+        recent: &recent,
+        gauges: &gauges,
+    };
+    play_over(rt, alloc, trial, port, sockets)
 }
 
 /// Runs the node with its PMUs and its consumers.
