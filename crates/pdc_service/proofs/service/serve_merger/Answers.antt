@@ -14,8 +14,8 @@ returns-in_err-described-clause-started g c =
 
 pub returns-clause-started : goal.returns-clause-started
 returns-clause-started g c =
-    starts g.M.Machine.tried IsMerger c.args.files.now c.in_ok-described.field-0.0 c.in_ok-described.ensures.told c.in_ok-described.ensures.merger c.serve_described.ensures.opened
+    starts g.M.Machine.tried IsMerger c.args.files.now c.in_ok-described.described c.in_ok-described.ensures.told c.in_ok-described.ensures.merger c.serve_described.ensures.opened
 
 pub returns-clause-each : goal.returns-clause-each
 returns-clause-each g c =
-    subst (λ n. IfOk c.serve_described.result (HaveEach n)) (two_streams c.in_ok-described.field-0.0.concentrator c.in_ok-described.ensures.merger) c.serve_described.ensures.each
+    subst (λ n. IfOk c.serve_described.result (HaveEach n)) (two_streams c.in_ok-described.described.concentrator c.in_ok-described.ensures.merger) c.serve_described.ensures.each

@@ -11,4 +11,4 @@ returns-in_err-described-clause-started g c =
 
 pub returns-clause-started : goal.returns-clause-started
 returns-clause-started g c =
-    starts g.M.Machine.tried IsNode c.args.files.now c.in_ok-described.field-0.0 c.in_ok-described.ensures.told c.in_ok-described.ensures.node c.serve_described.ensures.opened
+    starts g.M.Machine.tried IsNode c.args.files.now c.in_ok-described.described c.in_ok-described.ensures.told c.in_ok-described.ensures.node c.serve_described.ensures.opened
