@@ -9,7 +9,7 @@ use pdc_hub::{Naming, Replayed};
 use pdc_life::{MAX_PMUS, Settings};
 use pdc_node::{Node, copy_of};
 use pdc_service::MAX_LIMIT;
-use pdc_table::RingTable;
+use pdc_table::{DueRow, RingTable, spare_row};
 use std::alloc::Global;
 use std::marker::Brand;
 use std::rt::Clock;
@@ -33,11 +33,12 @@ fn keep_all(alloc: Global, settings: &Settings, frames: &Frames) -> u64 {
     kept
 }
 
-/// Takes the frame with this number of each PMU, ticks and pops; false where memory runs out.
+/// Takes the frame with this number of each PMU, ticks, and pops into this row; false where memory runs out.
 fn take_instant<N: Naming<Settings>>(
     alloc: Global,
     settings: &Settings,
     core: &mut Replayed<Node<RingTable>, N>,
+    row: &mut DueRow,
     frames: &Frames,
     number: u32,
 ) -> bool
@@ -57,7 +58,7 @@ fn take_instant<N: Naming<Settings>>(
     if core.tick(now, &CLEARED).is_err() {
         return false;
     }
-    core.pop().is_ok()
+    core.pop_into(row).is_ok()
 }
 
 /// The same over two nodes that were opened alike: one is the base, the other the state. False where memory runs out.
@@ -74,8 +75,9 @@ fn record_all<N: Naming<Settings>>(
     requires settings { (N.settings ≡ Some settings.now) × (base.settings ≡ settings.now) × (state.settings ≡ settings.now) }
 {
     let mut core = Replayed::<Node<RingTable>, N>::new(alloc, base, state, MAX_LIMIT);
+    let mut row = spare_row();
     for number in 0..=frames.count {
-        if !take_instant(alloc, settings, &mut core, frames, number) {
+        if !take_instant(alloc, settings, &mut core, &mut row, frames, number) {
             return false;
         }
     }
