@@ -30,7 +30,7 @@ pub struct AnnouncingSink<'a, K: Sink + Drop, R: Wait + Clock> {
     alloc: Global,
     journal: &'a Journal,
     followers: Followers<'a>,
-    inner: K,
+    pub inner: K,
     /// The change that was told last.
     told: Option<u32>,
 }
@@ -43,7 +43,9 @@ impl<'a, K: Sink + Drop, R: Wait + Clock> AnnouncingSink<'a, K, R> {
         journal: &'a Journal,
         followers: Followers<'a>,
         inner: K,
-    ) -> AnnouncingSink<'a, K, R> {
+    ) -> AnnouncingSink<'a, K, R>
+        ensures { result.inner ≡ inner }
+    {
         AnnouncingSink {
             rt,
             alloc,

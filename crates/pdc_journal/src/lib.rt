@@ -34,7 +34,7 @@ pub use measured::{Measured, MeasuredSource, Standing};
 pub use observed_source::ObservedSource;
 pub use opening::Opening;
 pub use output_tally::OutputTally;
-pub use reporting::Reporting;
+pub use reporting::{Reporting, RunCounters};
 pub use tags::Tags;
 pub use tally::{Of, Tally};
 pub use watchers::Watchers;

@@ -28,6 +28,12 @@ impl OutputTally {
         })
     }
 
+    /// Counts a frame that could not be sent to it, for this reason of the system; 0 where it gave none.
+    pub fn count(&self, reason: i32) {
+        self.unsent.fetch_add(1, Ordering::Relaxed);
+        self.reason.store(reason, Ordering::Relaxed);
+    }
+
     /// How many frames could not be sent to it until now.
     pub fn unsent(&self) -> u64 {
         self.unsent.load(Ordering::Relaxed)

@@ -14,18 +14,29 @@ use std::sync::Wait;
 use std::sync::atomic::{AtomicU64, Ordering};
 use std::time::{Duration, Instant};
 
+/// Where a run counts, which is read each time that it is told.
+#[derive(Clone, Copy)]
+pub struct RunCounters<'a> {
+    /// How each stream was answered.
+    pub tallies: &'a [Tally],
+    /// How many frames could not be sent or not be kept.
+    pub unsent: &'a AtomicU64,
+    /// What could not be sent to each further destination.
+    pub outputs: &'a [OutputTally],
+    /// What the merger leaves out; a node leaves nothing out.
+    pub left_out: Option<&'a LeftOut>,
+}
+
 /// Ticks as another ticker does. Each time that so many seconds have gone by, if any are asked for, it tells a line of counters, and one
-/// more for each stream of which anything was refused, to whose port strangers sent, or whose connections were lost, for each destination that frames could not be sent to, and for each PMU of which the
-/// merger left out blocks. Where the clock cannot be read there is no line.
+/// more for each stream of which anything was refused, to whose port strangers sent, or whose connections were lost, for each destination
+/// that frames could not be sent to, and for each PMU of which the merger left out blocks. Where the clock cannot be read there is no
+/// line.
 #[derive(Drop)]
 pub struct Reporting<'a, T: Ticker + Drop, R: Clock + Wait> {
     rt: &'a R,
     alloc: Global,
     journal: &'a Journal,
-    tallies: &'a [Tally],
-    unsent: &'a AtomicU64,
-    outputs: &'a [OutputTally],
-    left_out: Option<&'a LeftOut>,
+    counters: RunCounters<'a>,
     ticker: T,
     every: Option<Duration>,
     /// When the last line was told, or else the ticker was made.
@@ -33,16 +44,12 @@ pub struct Reporting<'a, T: Ticker + Drop, R: Clock + Wait> {
 }
 
 impl<'a, T: Ticker + Drop, R: Clock + Wait> Reporting<'a, T, R> {
-    /// Ticks as this ticker, and tells each time that so many seconds have gone by: what the run counted, what could not be sent, and what
-    /// was refused of each stream.
+    /// Ticks as this ticker, and tells the counters each time that so many seconds have gone by.
     pub fn new(
         rt: &'a R,
         alloc: Global,
         journal: &'a Journal,
-        tallies: &'a [Tally],
-        unsent: &'a AtomicU64,
-        outputs: &'a [OutputTally],
-        left_out: Option<&'a LeftOut>,
+        counters: RunCounters<'a>,
         ticker: T,
         every: Option<u32>,
     ) -> Reporting<'a, T, R> {
@@ -57,10 +64,7 @@ impl<'a, T: Ticker + Drop, R: Clock + Wait> Reporting<'a, T, R> {
             rt,
             alloc,
             journal,
-            tallies,
-            unsent,
-            outputs,
-            left_out,
+            counters,
             ticker,
             every,
             since,
@@ -87,10 +91,10 @@ impl<'a, T: Ticker + Drop, R: Clock + Wait> Ticker for Reporting<'a, T, R> {
 
     fn tell(&mut self, told: &Told) {
         self.since = Instant::now(self.rt).ok();
-        let unsent = self.unsent.load(Ordering::Relaxed);
+        let unsent = self.counters.unsent.load(Ordering::Relaxed);
         self.journal
             .tell(self.rt, counters_line(self.alloc, told, unsent));
-        for tally in self.tallies {
+        for tally in self.counters.tallies {
             let counts = tally.counts(self.rt);
             if counts.refused > 0 {
                 self.journal
@@ -104,12 +108,12 @@ impl<'a, T: Ticker + Drop, R: Clock + Wait> Ticker for Reporting<'a, T, R> {
                 self.journal.tell(self.rt, lost_line(self.alloc, tally));
             }
         }
-        for output in self.outputs {
+        for output in self.counters.outputs {
             if output.unsent() > 0 {
                 self.journal.tell(self.rt, output_line(self.alloc, output));
             }
         }
-        if let Some(left_out) = self.left_out {
+        if let Some(left_out) = self.counters.left_out {
             for merged in left_out.sources(self.rt) {
                 if merged.left_out > 0 {
                     self.journal

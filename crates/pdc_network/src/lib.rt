@@ -8,13 +8,13 @@
 
 mod clock;
 mod datagrams;
-mod outputs_sink;
+mod outputs;
 mod receive_buffer;
 mod udp_sink;
 mod udp_source;
 
 pub use clock::{ClockTicker, instant_at};
 pub use datagrams::{ListenFault, listen};
-pub use outputs_sink::{Destination, OutputsSink};
+pub use outputs::{Destination, Outputs, UdpOutputs};
 pub use udp_sink::UdpSink;
 pub use udp_source::UdpSource;

@@ -25,7 +25,7 @@ pub struct RememberingSink<'a, N: Naming, K: Sink + Drop, R: Wait> {
     recent: &'a Recent<N>,
     output: Output,
     unkept: &'a AtomicU64,
-    inner: K,
+    pub inner: K,
     pub ghost of_stream: { N.stream ≡ stream_of output },
 }
 
@@ -48,6 +48,7 @@ impl<'a, N: Naming, K: Sink + Drop, R: Wait> RememberingSink<'a, N, K, R> {
         inner: K,
     ) -> RememberingSink<'a, N, K, R>
         requires { N.stream ≡ stream_of output }
+        ensures { result.inner ≡ inner }
     {
         RememberingSink {
             rt,

@@ -5,7 +5,7 @@ ghost use Rattle.pdc_server.specs.Turn.{HasEnded, HasTurned, IsMade, dated_at, h
 ghost use Rattle.pdc_session.specs.Served.{IsNew};
 
 use crate::ended::Ended;
-use crate::hearing::{answer, append_data};
+use crate::hearing::{Question, answer, append_data};
 use crate::traffic::{read_once, write_out};
 use pdc_frame::MAX_ID;
 use pdc_recent::{Naming, Recent};
@@ -90,13 +90,16 @@ impl Consumer {
     {
         self.heard = count > 0;
         self.out.clear();
+        let question = Question {
+            id: self.id,
+            soc,
+            piece: &self.piece[..count],
+        };
         answer(
             rt,
             recent,
-            soc,
-            self.id,
+            &question,
             &mut self.session,
-            &self.piece[..count],
             &mut self.layout,
             &mut self.out,
         )?;

@@ -14,6 +14,15 @@ use pdc_recent::{Naming, Recent};
 use pdc_session::{Serving, Session, SessionFault};
 use std::sync::Wait;
 
+/// What a consumer asks: a piece of what it sent, the stream that it asks, and the second that the replies are dated with.
+#[derive(Clone, Copy, Debug)]
+pub struct Question<'a> {
+    /// The stream's id, 1 to 65534.
+    pub id: u16,
+    pub soc: u32,
+    pub piece: &'a [u8],
+}
+
 /// The configuration in the bytes of a layout frame.
 fn config_of<N: Naming>(layout: &[u8]) -> ConfigView<'_>
     requires { ∥ IsLayout N.stream layout.now ∥₁ }
@@ -50,8 +59,7 @@ fn hear<N: Naming>(
     session.feed(piece, &serving, out)
 }
 
-/// Appends the replies of the stream `id` to the commands that end in the piece, dated with the second `soc`; nothing where there is no
-/// piece. The layout is read into `layout`.
+/// Appends the replies to the commands that end in the piece; nothing where there is no piece. The layout is read into `layout`.
 ///
 /// # Errors
 ///
@@ -59,18 +67,16 @@ fn hear<N: Naming>(
 pub fn answer<N: Naming, R: Wait>(
     rt: &R,
     recent: &Recent<N>,
-    soc: u32,
-    id: u16,
+    question: &Question<'_>,
     session: &mut Session,
-    piece: &[u8],
     layout: &mut Vec<u8>,
     out: &mut Vec<u8>,
 ) -> Result<(), Ended>
     ensures id { session.new.id ≡ session.old.id }
-    ensures ok { OnOk result (HasHeard (dated_at N.stream soc) id piece.now session.old session.new out.old.items out.new.items) }
-    ensures unheard { IfErr result (λ ended. IsUnheard ended (dated_at N.stream soc) id piece.now session.old session.new out.old.items out.new.items) }
+    ensures ok { OnOk result (HasHeard (dated_at N.stream question.now.soc) question.now.id question.now.piece.now session.old session.new out.old.items out.new.items) }
+    ensures unheard { IfErr result (λ ended. IsUnheard ended (dated_at N.stream question.now.soc) question.now.id question.now.piece.now session.old session.new out.old.items out.new.items) }
 {
-    if piece.is_empty() {
+    if question.piece.is_empty() {
         return Ok(());
     }
     layout.clear();
@@ -78,7 +84,8 @@ pub fn answer<N: Naming, R: Wait>(
         Ok(()) => {}
         Err(_) => return Err(Ended::NoMemory),
     }
-    let heard = hear::<N>(session, piece, soc, &header_of(id), layout, out);
+    let header = header_of(question.id);
+    let heard = hear::<N>(session, question.piece, question.soc, &header, layout, out);
     match heard {
         Ok(()) => Ok(()),
         Err(fault) => Err(Ended::Session(fault)),

@@ -1,2 +1,3 @@
+mod Handing
 mod Nothing
 mod Steps

@@ -1,3 +1,4 @@
 pub mod Ended
+pub mod Handed
 pub mod Summed
 pub mod Turned

@@ -1,5 +1,6 @@
 //! A node and the merger, from their files to the end of their run.
-ghost use Rattle.std.specs.Prelude.{IfOk};
+ghost use Rattle.std.specs.Prelude.{IfOk, None};
+ghost use Rattle.pdc_service.specs.Handed.{WasHanded};
 ghost use Rattle.pdc_service.specs.Summed.{AreSums, HaveEach};
 ghost use Rattle.pdc_startup.specs.Concentrator.{IsMerger, IsNode, streams_of};
 ghost use Rattle.pdc_startup.specs.Steps.{HasOpened, HasStarted, steps_with};
@@ -7,7 +8,7 @@ ghost use Rattle.pdc_startup.specs.Steps.{HasOpened, HasStarted, steps_with};
 use crate::host::Host;
 use crate::serving::{Consumers, Opened, Serving, run_serving};
 use crate::telling::begun_text;
-use pdc_startup::{Described, Files, Machine, Observed, RunOptions, ServiceFault};
+use pdc_startup::{Described, Files, Machine, Observed, OutputsSink, RunOptions, ServiceFault};
 use pdc_threads::{HubFault, Totals};
 
 /// Tries the steps behind the settings, in their order, and runs the concentrator that these describe.
@@ -20,7 +21,7 @@ fn serve_described<M: Machine, R: Host>(
 ) -> Result<Totals, ServiceFault>
     ensures totals { IfOk result AreSums }
     ensures each { IfOk result (HaveEach (streams_of described.now.concentrator)) }
-    ensures opened { HasOpened M.tried machine.old machine.new described.now (steps_with files.now) result }
+    ensures opened { HasOpened M.tried machine.old machine.new described.now (λ stored. WasHanded M.fresh M.Outputs.took stored result) None (steps_with files.now) result }
 {
     let alloc = rt.alloc();
     let concentrator = &described.concentrator;
@@ -35,7 +36,7 @@ fn serve_described<M: Machine, R: Host>(
     let record = machine.open_record(rt, files, described, &mark)?;
     let sources = machine.open_links(rt, described, &observed)?;
     let buffer = sources.first().and_then(|source| source.buffer());
-    let sink = machine.open_sink(rt, described, &observed)?;
+    let outputs = machine.open_outputs(rt, described)?;
     let listener = machine.open_listener(rt, described)?;
     let metrics = machine.open_metrics(rt, described)?;
     observed.journal.note(
@@ -45,7 +46,7 @@ fn serve_described<M: Machine, R: Host>(
     let opened = Opened {
         mark,
         sources,
-        sink,
+        sink: OutputsSink::new(outputs, observed.outputs.as_slice()),
         record,
     };
     let consumers = Consumers {
@@ -78,8 +79,10 @@ pub fn serve_node<M: Machine, R: Host>(
     // The totals are the sums over the receivers.
     ensures totals { IfOk result AreSums }
     // The steps that the machine tried are the first of a startup, in its order, each once and under the settings of a node that were read
-    // first; the last of them failed, and it ended by that fault, or all were opened, and it ended by the run's answer.
-    ensures started { HasStarted M.tried machine.old machine.new IsNode files.now result }
+    // first; the last of them failed, and it ended by that fault, or all were opened, and it ended by the run's answer. Then, whatever the
+    // machine's outputs are, what they took are some of the frames that were put, in their order, whose instants strictly rise above the
+    // floor that the mark stored as it was begun.
+    ensures started { HasStarted M.tried machine.old machine.new IsNode (λ stored. WasHanded M.fresh M.Outputs.took stored result) files.now result }
 {
     let described = machine.read_node(rt, files)?;
     serve_described(rt, machine, files, options, &described)
@@ -100,7 +103,7 @@ pub fn serve_merger<M: Machine, R: Host>(
     ensures totals { IfOk result AreSums }
     // Node A and node B have an entry each.
     ensures each { IfOk result (HaveEach 2) }
-    ensures started { HasStarted M.tried machine.old machine.new IsMerger files.now result }
+    ensures started { HasStarted M.tried machine.old machine.new IsMerger (λ stored. WasHanded M.fresh M.Outputs.took stored result) files.now result }
 {
     let described = machine.read_merger(rt, files)?;
     serve_described(rt, machine, files, options, &described)

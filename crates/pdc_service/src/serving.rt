@@ -1,24 +1,27 @@
 //! A run with consumers beside it.
-ghost use Rattle.std.specs.Prelude.{◌≡◌, ◌≤◌, ◌<◌, IfErr, IfOk, vec_len};
+ghost use Rattle.std.specs.Prelude.{◌≡◌, ◌≤◌, ◌<◌, Err, IfErr, IfOk, vec_len};
 ghost use Rattle.pdc_frame.specs.declared.limits.TheConstants.{MAX_ID};
 ghost use Rattle.pdc_recent.specs.Stream.{stream_of};
+ghost use Rattle.pdc_service.specs.Handed.{HasTaken};
 ghost use Rattle.pdc_service.specs.Summed.{AreSums, HaveEach};
+ghost use Rattle.pdc_startup.specs.Begun.{begun_mark};
 ghost use Rattle.pdc_startup.specs.Concentrator.{output_of, streams_of};
 ghost use Rattle.pdc_startup.specs.Faults.{IsOfRun};
+ghost use Rattle.pdc_startup.specs.declared.fault.ServiceFault.TheVariants.{Run};
+ghost use Rattle.pdc_hub.specs.declared.fault.HubFault.TheVariants.{NoMemory};
 
 use crate::either::run_concentrator;
 use crate::handed::hand_over;
 use crate::telling::unsent_text;
-use pdc_disk::FileDisk;
-use pdc_journal::{AnnouncingSink, CountingSink, Journal, Reporting};
-use pdc_mark::DiskMark;
+use pdc_journal::{AnnouncingSink, CountingSink, Journal, Reporting, RunCounters};
+use pdc_mark::Mark;
 use pdc_metrics::{Metered, serve_metrics};
-use pdc_network::{ClockTicker, OutputsSink};
+use pdc_network::ClockTicker;
 use pdc_recent::{Naming, Recent, RememberingSink};
 use pdc_recording::{RecordedTicker, Series, Shelf, write_record};
 use pdc_server::serve;
 use pdc_startup::{Begun, Concentrator, Observed, RunOptions, ServiceFault, observe_all, plan_of};
-use pdc_threads::{HubFault, Source, Totals};
+use pdc_threads::{HubFault, Sink, Source, Totals};
 use std::alloc::Global;
 use std::marker::Brand;
 use std::net::TcpListener;
@@ -31,10 +34,10 @@ use std::thread::{Scope, Threads};
 
 /// What is open for a run: its mark, a source for each stream, where frames go, and the files of its record, where it is recorded.
 #[derive(Drop)]
-pub struct Opened<'a, S: Source + Drop> {
-    pub mark: Begun<DiskMark<FileDisk>>,
+pub struct Opened<'a, S: Source + Drop, M: Mark + Drop, K: Sink + Drop> {
+    pub mark: Begun<M>,
     pub sources: Vec<S>,
-    pub sink: OutputsSink<'a>,
+    pub sink: K,
     pub record: Option<Series<'a>>,
 }
 
@@ -162,13 +165,15 @@ fn start_record<'s, E: 's, R: Wait + Clock + Shelf + Sync + 's>(
 fn run_observed<
     's,
     S: Source + Send + Drop,
+    M: Mark + Drop,
+    K: Sink + Send + Drop,
     N: Naming + Send + 's,
     R: Threads + Wait + Clock + Sync + 's,
 >(
     rt: &'s R,
     alloc: Global,
     serving: &'s Serving<'s>,
-    opened: Opened<'s, S>,
+    opened: Opened<'s, S, M, K>,
     recent: &'s Recent<N>,
 ) -> Result<Totals, ServiceFault>
     requires streams { vec_len opened.sources ≡ streams_of serving.now.concentrator.now }
@@ -176,6 +181,7 @@ fn run_observed<
     ensures totals { IfOk result AreSums }
     ensures each { IfOk result (HaveEach (streams_of serving.now.concentrator.now)) }
     ensures faults { IfErr result IsOfRun }
+    ensures handed { HasTaken K.took opened.entry.sink (M.stored (begun_mark opened.entry.mark)) result }
 {
     let (concentrator, options, observed) = (
         serving.concentrator,
@@ -199,10 +205,12 @@ fn run_observed<
         rt,
         alloc,
         journal,
-        observed.tallies.as_slice(),
-        &signs.unsent,
-        observed.outputs.as_slice(),
-        observed.left_out.as_ref(),
+        RunCounters {
+            tallies: observed.tallies.as_slice(),
+            unsent: &signs.unsent,
+            outputs: observed.outputs.as_slice(),
+            left_out: observed.left_out.as_ref(),
+        },
         clock,
         options.every,
     );
@@ -223,11 +231,24 @@ fn run_observed<
     }
 }
 
+/// Nothing is run of what was opened, for want of memory.
+fn not_begun<S: Source + Drop, M: Mark + Drop, K: Sink + Drop>(
+    opened: Opened<'_, S, M, K>,
+) -> Result<Totals, ServiceFault>
+    ensures fault { result ≡ Err (Run NoMemory) }
+    ensures handed { HasTaken K.took opened.entry.sink (M.stored (begun_mark opened.entry.mark)) result }
+{
+    drop(opened);
+    Err(ServiceFault::Run(HubFault::NoMemory))
+}
+
 /// Starts the sessions and the journal, runs, and ends both.
 fn conduct<
     's,
     E: 's,
     S: Source + Send + Drop + 's,
+    M: Mark + Drop + 's,
+    K: Sink + Send + Drop + 's,
     N: Naming + Send + 's,
     R: Threads + Wait + Clock + Eprint + RandomSource + Shelf + Sync + 's,
 >(
@@ -235,7 +256,7 @@ fn conduct<
     rt: &'s R,
     alloc: Global,
     serving: &'s Serving<'s>,
-    opened: Opened<'s, S>,
+    opened: Opened<'s, S, M, K>,
     recent: &'s Recent<N>,
 ) -> Result<Totals, ServiceFault>
     requires streams { vec_len opened.sources ≡ streams_of serving.now.concentrator.now }
@@ -243,17 +264,19 @@ fn conduct<
     ensures totals { IfOk result AreSums }
     ensures each { IfOk result (HaveEach (streams_of serving.now.concentrator.now)) }
     ensures faults { IfErr result IsOfRun }
+    ensures handed { HasTaken K.took opened.entry.sink (M.stored (begun_mark opened.entry.mark)) result }
 {
     let mut opened = opened;
     let observed = serving.observed;
+    let record = opened.record.take();
     let is_begun = start_journal(scope, rt, &observed.journal)
-        && start_record(scope, rt, alloc, opened.record.take(), observed)
+        && start_record(scope, rt, alloc, record, observed)
         && start_metrics(scope, rt, alloc, serving.consumers, observed)
         && start_sessions(scope, rt, alloc, recent, serving);
     let outcome = if is_begun {
         run_observed(rt, alloc, serving, opened, recent)
     } else {
-        Err(ServiceFault::Run(HubFault::NoMemory))
+        not_begun(opened)
     };
     recent.close(rt);
     observed.signs.has_ended.store(true, Ordering::SeqCst);
@@ -269,13 +292,15 @@ fn conduct<
 fn run_keeping<
     'x,
     S: Source + Send + Drop + 'x,
+    M: Mark + Drop + 'x,
+    K: Sink + Send + Drop + 'x,
     N: Naming + Send + 'x,
     R: Threads + Wait + Clock + Eprint + RandomSource + Shelf + Sync + 'x,
 >(
     rt: &'x R,
     alloc: Global,
     serving: &'x Serving<'x>,
-    opened: Opened<'x, S>,
+    opened: Opened<'x, S, M, K>,
     recent: &'x Recent<N>,
 ) -> Result<Totals, ServiceFault>
     requires streams { vec_len opened.sources ≡ streams_of serving.now.concentrator.now }
@@ -283,6 +308,7 @@ fn run_keeping<
     ensures totals { IfOk result AreSums }
     ensures each { IfOk result (HaveEach (streams_of serving.now.concentrator.now)) }
     ensures faults { IfErr result IsOfRun }
+    ensures handed { HasTaken K.took opened.entry.sink (M.stored (begun_mark opened.entry.mark)) result }
 {
     thread::scope(
         thread::scope_env(),
@@ -293,6 +319,7 @@ fn run_keeping<
             ensures totals { IfOk result AreSums }
             ensures each { IfOk result (HaveEach (streams_of serving.entry.now.concentrator.now)) }
             ensures faults { IfErr result IsOfRun }
+            ensures handed { HasTaken K.took opened.entry.sink (M.stored (begun_mark opened.entry.mark)) result }
         { conduct(scope, rt, alloc, serving, opened, recent) },
     )
 }
@@ -300,23 +327,26 @@ fn run_keeping<
 /// Runs a concentrator of the stream that is named, and serves its consumers.
 fn run_named<
     S: Source + Send + Drop,
+    M: Mark + Drop,
+    K: Sink + Send + Drop,
     N: Naming + Send,
     R: Threads + Wait + Clock + Eprint + RandomSource + Shelf + Sync,
 >(
     rt: &R,
     alloc: Global,
     serving: &Serving<'_>,
-    opened: Opened<'_, S>,
+    opened: Opened<'_, S, M, K>,
 ) -> Result<Totals, ServiceFault>
     requires streams { vec_len opened.sources ≡ streams_of serving.now.concentrator.now }
     requires named { N.stream ≡ stream_of (output_of serving.now.concentrator.now) }
     ensures totals { IfOk result AreSums }
     ensures each { IfOk result (HaveEach (streams_of serving.now.concentrator.now)) }
     ensures faults { IfErr result IsOfRun }
+    ensures handed { HasTaken K.took opened.entry.sink (M.stored (begun_mark opened.entry.mark)) result }
 {
     let output = serving.concentrator.output();
     let Ok(recent) = Recent::<N>::new(alloc, &output, opened.mark.start()) else {
-        return Err(ServiceFault::Run(HubFault::NoMemory));
+        return not_begun(opened);
     };
     run_keeping(rt, alloc, serving, opened, &recent)
 }
@@ -324,17 +354,20 @@ fn run_named<
 /// Runs a concentrator, serves its consumers and prints what is told, for as long as it runs.
 pub fn run_serving<
     S: Source + Send + Drop,
+    M: Mark + Drop,
+    K: Sink + Send + Drop,
     R: Threads + Wait + Clock + Eprint + RandomSource + Shelf + Sync,
 >(
     rt: &R,
     alloc: Global,
     serving: &Serving<'_>,
-    opened: Opened<'_, S>,
+    opened: Opened<'_, S, M, K>,
 ) -> Result<Totals, ServiceFault>
     requires { vec_len opened.sources ≡ streams_of serving.now.concentrator.now }
     ensures totals { IfOk result AreSums }
     ensures each { IfOk result (HaveEach (streams_of serving.now.concentrator.now)) }
     ensures faults { IfErr result IsOfRun }
+    ensures handed { HasTaken K.took opened.entry.sink (M.stored (begun_mark opened.entry.mark)) result }
 {
-    run_named::<S, Brand, R>(rt, alloc, serving, opened)
+    run_named::<S, M, K, Brand, R>(rt, alloc, serving, opened)
 }

@@ -1,21 +1,22 @@
 //! The steps of a startup, as a machine tries them.
 ghost use Rattle.std.specs.Prelude.{◌≡◌, List, IfErr, IfOk, [], ◌∷◌, vec_len};
+ghost use Rattle.pdc_startup.specs.Begun.{begun_mark};
 ghost use Rattle.pdc_startup.specs.Concentrator.{IsMerger, IsNode, streams_of};
 ghost use Rattle.pdc_startup.specs.Faults.{IsOfFile, IsOfListener, IsOfMark, IsOfRecord, IsOfSink, IsOfSources};
-ghost use Rattle.pdc_startup.specs.Steps.{Attempt, Tells, attempt, reading};
-ghost use Rattle.pdc_startup.specs.declared.described.Step.TheVariants.{BeginMark, BeginRecord, OpenListener, OpenMetrics, OpenSink, OpenSources};
+ghost use Rattle.pdc_startup.specs.Steps.{Attempt, Tells, attempt, beginning, reading};
+ghost use Rattle.pdc_startup.specs.declared.described.Step.TheVariants.{BeginRecord, OpenListener, OpenMetrics, OpenSink, OpenSources};
 
 use crate::begun::Begun;
 use crate::described::{Described, Files};
 use crate::fault::ServiceFault;
 use crate::files::{begin_mark, merger_of, node_of, read_settings_text};
 use crate::observing::Observed;
-use crate::ports::{open_links, open_listener, open_metrics, open_sink};
+use crate::ports::{open_links, open_listener, open_metrics, open_outputs};
 use crate::recorded::open_record;
 use pdc_disk::FileDisk;
 use pdc_link::Link;
 use pdc_mark::{DiskMark, Mark};
-use pdc_network::OutputsSink;
+use pdc_network::{Outputs, UdpOutputs};
 use pdc_recording::{Series, Shelf};
 use std::fs::File;
 use std::net::{Net, TcpListener, TcpStream};
@@ -24,9 +25,18 @@ use std::sync::Wait;
 
 /// The machine that a concentrator starts on: each call tries a step of a startup, whose fault is one of the step's own. It may tell what was
 /// tried: in `tried before now attempts` exactly these steps, in order, from the one state to the other. A machine that tells nothing says that
-/// of any steps.
+/// of any steps. Its marks and its outputs are whatever it has.
 pub trait Machine {
+    /// The mark of a concentrator.
+    type Mark: Mark + Drop;
+
+    /// Where its frames go.
+    type Outputs: Outputs + Send + Drop;
+
     ghost tried: { Self → Self → List Attempt → Type 0 };
+
+    // Of outputs as they were opened.
+    ghost fresh: { Self.Outputs → Type 0 };
 
     // From a state to itself nothing was tried.
     ghost nothing: { (machine : Self) → tried machine machine [] };
@@ -69,9 +79,9 @@ pub trait Machine {
         rt: &R,
         files: &Files<'_>,
         described: &Described,
-    ) -> Result<Begun<DiskMark<FileDisk>>, ServiceFault>
+    ) -> Result<Begun<Self::Mark>, ServiceFault>
         ensures faults { IfErr result IsOfMark }
-        ensures told { Tells tried self.old self.new (attempt (BeginMark files.now) described.now result ∷ []) };
+        ensures told { Tells tried self.old self.new (beginning files.now described.now (λ begun. Self.Mark.stored (begun_mark begun)) result ∷ []) };
 
     /// Begins the record of a life with this mark, where it is recorded.
     ///
@@ -111,12 +121,12 @@ pub trait Machine {
     /// # Errors
     ///
     /// A port cannot be opened, a destination is not known, or memory ran out.
-    fn open_sink<'a, R: Net + AllocGlobal>(
+    fn open_outputs<R: Net + AllocGlobal>(
         &mut self,
         rt: &R,
         described: &Described,
-        observed: &'a Observed,
-    ) -> Result<OutputsSink<'a>, ServiceFault>
+    ) -> Result<Self::Outputs, ServiceFault>
+        ensures fresh { IfOk result (λ outputs. fresh outputs) }
         ensures faults { IfErr result IsOfSink }
         ensures told { Tells tried self.old self.new (attempt OpenSink described.now result ∷ []) };
 
@@ -152,7 +162,13 @@ pub trait Machine {
 pub struct ThisMachine;
 
 impl Machine for ThisMachine {
+    type Mark = DiskMark<FileDisk>;
+
+    type Outputs = UdpOutputs;
+
     ghost tried = { λ _ _ _. Unit {0} };
+
+    ghost fresh = { λ _. Unit {0} };
 
     ghost nothing = { λ _. tt };
 
@@ -225,15 +241,13 @@ impl Machine for ThisMachine {
         )
     }
 
-    fn open_sink<'a, R: Net + AllocGlobal>(
+    fn open_outputs<R: Net + AllocGlobal>(
         &mut self,
         rt: &R,
         described: &Described,
-        observed: &'a Observed,
-    ) -> Result<OutputsSink<'a>, ServiceFault> {
+    ) -> Result<UdpOutputs, ServiceFault> {
         let port = described.concentrator.service_settings().out_port;
-        let outputs = observed.outputs.as_slice();
-        open_sink(rt, rt.alloc(), &described.network, port, outputs)
+        open_outputs(rt, rt.alloc(), &described.network, port)
     }
 
     fn open_listener<R: Net<Listener = TcpListener, Stream = TcpStream>>(

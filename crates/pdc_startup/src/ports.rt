@@ -9,9 +9,9 @@ use crate::fault::ServiceFault;
 use crate::observing::Observed;
 use pdc_frame::MAX_ID;
 use pdc_hub::HubFault;
-use pdc_journal::{Journal, OutputTally, Tally};
+use pdc_journal::{Journal, Tally};
 use pdc_link::{Connection, Link, Port};
-use pdc_network::{Destination, OutputsSink, UdpSink, UdpSource};
+use pdc_network::{Destination, UdpOutputs, UdpSink, UdpSource};
 use pdc_settings::{Input, Network};
 use std::alloc::Global;
 use std::io;
@@ -183,25 +183,20 @@ pub fn open_links<'a, R: Net<Listener = TcpListener, Stream = TcpStream> + Clock
     }
 }
 
-/// The further destinations, in their order, each with what counts for it.
-fn open_destinations<'a, R: Net>(
+/// The further destinations, in their order.
+fn open_destinations<R: Net>(
     rt: &R,
     alloc: Global,
-    ttl: u8,
-    outputs: &'a [OutputTally],
-) -> Result<Vec<Destination<'a>>, ServiceFault>
+    network: &Network,
+) -> Result<Vec<Destination>, ServiceFault>
     ensures faults { IfErr result IsOfSink }
 {
     let mut destinations = Vec::new(alloc);
-    for output in outputs {
+    for output in &network.outputs {
         let number = destinations.len().saturating_add(1);
-        let destination = Destination::open(
-            rt,
-            output.to.as_str(),
-            ttl,
-            &output.unsent,
-            &output.reason,
-        ).map_err(|error| ServiceFault::Output(number, error))?;
+        let destination = Destination::open(rt, output.as_str(), network.ttl).map_err(
+            |error| ServiceFault::Output(number, error),
+        )?;
         destinations
             .push(destination)
             .map_err(|_| ServiceFault::Run(HubFault::NoMemory))?;
@@ -209,20 +204,19 @@ fn open_destinations<'a, R: Net>(
     Ok(destinations)
 }
 
-/// A sink that sends to this port of the loopback, and to each of the further destinations.
-pub fn open_sink<'a, R: Net>(
+/// The sockets from which frames go to this port of the loopback, and to each of the further destinations.
+pub fn open_outputs<R: Net>(
     rt: &R,
     alloc: Global,
     network: &Network,
     port: u16,
-    outputs: &'a [OutputTally],
-) -> Result<OutputsSink<'a>, ServiceFault>
+) -> Result<UdpOutputs, ServiceFault>
     ensures faults { IfErr result IsOfSink }
 {
     let loopback = IpAddr::from([127u8, 0, 0, 1]);
     let sink = UdpSink::open(rt, port).map_err(|error| unopened(loopback, port, error))?;
-    let destinations = open_destinations(rt, alloc, network.ttl, outputs)?;
-    Ok(OutputsSink::new(sink, destinations))
+    let destinations = open_destinations(rt, alloc, network)?;
+    Ok(UdpOutputs::new(sink, destinations))
 }
 
 /// A listener at this TCP port of this address, whose `accept` does not wait.

@@ -33,13 +33,15 @@ returns-in_default-clause-turned g c =
     let kept = c.not_run.ensures.kept in
     let pace : Pace = record { rate = c.args.life.now.output.rate; layout_every = c.args.life.now.plan.now.layout_every; rate_low = c.args.life.now.output.rate_low; every_low = c.args.life.now.plan.now.layout_every_low } in
     let mark : mark_in c.new-publisher.result ≡ begun_mark c.args.handed.mark = search rules in
+    let stored = g.W.Mark.Mark.stored (begun_mark c.args.handed.mark) in
+    let given = g.C.Opens.given_with c.args.life.now.settings.now stored.start stored.floor stored.counts in
     rw (c.not_run.ensures.outcome, kept.0, kept.1, mark) record {
       pace = pace;
       rate = search rules;
       layout_every = refl;
       turned = record {
         run = record { put = []; given = []; rest = []; took = g.W.Sink.Sink.nothing c.args.handed.sink; first = refl; rising = omega arith; whole = tt; published = tt };
-        aligned = nothing_put g.C.Core.stands_for _ _ _ _ _ g.W.Ticker.Ticker.gave c.args.handed.ticker;
+        aligned = nothing_put g.C.Core.stands_for (Some given) given.output pace.rate pace.layout_every stored.counts g.W.Ticker.Ticker.gave c.args.handed.ticker;
       };
     }
 

@@ -1,4 +1,4 @@
-//! Frames to several destinations.
+//! Sockets from which frames go to several destinations.
 ghost use Rattle.std.specs.Prelude.{◌≡◌, List, ℕ};
 
 use crate::udp_sink::UdpSink;
@@ -6,17 +6,24 @@ use pdc_ports::{Sink, SinkFault};
 use std::io;
 use std::io::ErrorKind;
 use std::net::{IpAddr, Net, SocketAddr, ToSocketAddrs, UdpSocket};
-use std::sync::atomic::{AtomicI32, AtomicU64, Ordering};
+
+/// Where the frames of a concentrator go: as a sink, to its own reader, and beside it to further destinations, which are numbered from 0.
+pub trait Outputs: Sink {
+    /// Hands a frame to the further destination with this number, if there is one. That is no frame that it takes as a sink.
+    ///
+    /// # Errors
+    ///
+    /// The number of the system's reason, and 0 where it gave none.
+    fn send_further(&mut self, number: usize, bytes: &[u8]) -> Result<(), i32>
+        ensures kept { (before : Self) (given : List (List ℕ)) → Self.took before self.old given → Self.took before self.new given }
+        ensures same { Self.failures_of self.new ≡ Self.failures_of self.old };
+}
 
 /// A destination of frames: a port of another machine, or of a group of them.
 #[derive(Drop)]
-pub struct Destination<'a> {
+pub struct Destination {
     socket: UdpSocket,
     to: SocketAddr,
-    /// How many frames could not be sent to it.
-    unsent: &'a AtomicU64,
-    /// The number of the system's reason for the last one, and 0 where it gave none.
-    reason: &'a AtomicI32,
 }
 
 /// The address from which frames go to a destination: each of the machine's, of the destination's kind.
@@ -28,20 +35,14 @@ fn any_address(to: &SocketAddr) -> IpAddr {
     }
 }
 
-impl<'a> Destination<'a> {
+impl Destination {
     /// Looks up the destination that a text `HOST:PORT` names, and opens a socket from which frames go there. A frame to a group takes
-    /// at most `ttl` hops. What cannot be sent is counted, and the number of the system's reason is kept.
+    /// at most `ttl` hops.
     ///
     /// # Errors
     ///
     /// Where the text names no destination that is known, or no socket can be opened.
-    pub fn open<R: Net>(
-        net: &R,
-        text: &str,
-        ttl: u8,
-        unsent: &'a AtomicU64,
-        reason: &'a AtomicI32,
-    ) -> io::Result<Destination<'a>> {
+    pub fn open<R: Net>(net: &R, text: &str, ttl: u8) -> io::Result<Destination> {
         let Some(to) = text.to_socket_addrs(net)?.next() else {
             return Err(io::Error::from(ErrorKind::NotFound));
         };
@@ -49,42 +50,30 @@ impl<'a> Destination<'a> {
         if to.ip().is_multicast() {
             socket.set_multicast_ttl_v4(u32::from(ttl))?;
         }
-        Ok(Destination {
-            socket,
-            to,
-            unsent,
-            reason,
-        })
-    }
-
-    /// Counts a frame that could not be sent, for this reason.
-    fn count(&self, reason: i32) {
-        self.unsent.fetch_add(1, Ordering::Relaxed);
-        self.reason.store(reason, Ordering::Relaxed);
+        Ok(Destination { socket, to })
     }
 
     /// Sends the bytes as one datagram.
-    fn send(&self, bytes: &[u8]) {
+    fn send(&self, bytes: &[u8]) -> Result<(), i32> {
         match self.socket.send_to(bytes, self.to) {
-            Ok(len) if len == bytes.len() => {}
-            Ok(_) => self.count(0),
-            Err(error) => self.count(error.raw_os_error().unwrap_or(0)),
+            Ok(len) if len == bytes.len() => Ok(()),
+            Ok(_) => Err(0),
+            Err(error) => Err(error.raw_os_error().unwrap_or(0)),
         }
     }
 }
 
-/// Sends each frame to a port of the loopback, and to each of the destinations. One that cannot be reached is counted for it alone: the
-/// others get their frames.
+/// Frames go to a port of the loopback, and to each of the further destinations.
 #[derive(Drop)]
-pub struct OutputsSink<'a> {
+pub struct UdpOutputs {
     loopback: UdpSink,
-    destinations: Vec<Destination<'a>>,
+    destinations: Vec<Destination>,
 }
 
-impl<'a> OutputsSink<'a> {
+impl UdpOutputs {
     /// Sends to the loopback and to these.
-    pub fn new(loopback: UdpSink, destinations: Vec<Destination<'a>>) -> OutputsSink<'a> {
-        OutputsSink {
+    pub fn new(loopback: UdpSink, destinations: Vec<Destination>) -> UdpOutputs {
+        UdpOutputs {
             loopback,
             destinations,
         }
@@ -92,7 +81,7 @@ impl<'a> OutputsSink<'a> {
 }
 
 /// It tells nothing of what it took, as the sink of the loopback does.
-impl<'a> Sink for OutputsSink<'a> {
+impl Sink for UdpOutputs {
     ghost took = { λ _ _ _. Unit {0} };
 
     ghost nothing = { λ _. tt };
@@ -100,13 +89,19 @@ impl<'a> Sink for OutputsSink<'a> {
     ghost failures_of = { λ s. s.loopback.failures };
 
     fn send(&mut self, bytes: &[u8]) -> Result<(), SinkFault> {
-        for destination in &self.destinations {
-            destination.send(bytes);
-        }
         self.loopback.send(bytes)
     }
 
     fn failures(&self) -> u64 {
         self.loopback.failures()
+    }
+}
+
+impl Outputs for UdpOutputs {
+    fn send_further(&mut self, number: usize, bytes: &[u8]) -> Result<(), i32> {
+        match self.destinations.get(number) {
+            Some(destination) => destination.send(bytes),
+            None => Ok(()),
+        }
     }
 }

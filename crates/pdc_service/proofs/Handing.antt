@@ -1,0 +1,82 @@
+-- What a sink took of a run, from how the run is over.
+use Rattle.std.proofs.Common.{◌≡◌, ◌++◌, ◌∷◌, ℕ, List, Result, Ok, Err, [], arith, inl, inr, refl, subst, sym}
+use Rattle.std.specs.Prelude.{IfOk, length}
+use Rattle.pdc_aligner.specs.Sequence.{instants_of}
+use Rattle.pdc_hub.specs.declared.fault.HubFault.{HubFault}
+use Rattle.pdc_journal.specs.Among.{AreAmong}
+use Rattle.pdc_mark.specs.declared.stored.Stored.{Stored}
+use Rattle.pdc_pipe.specs.declared.message.Message.{Message}
+use Rattle.pdc_ports.specs.Heard.{Heard}
+use Rattle.pdc_startup.specs.declared.concentrator.Concentrator.{Concentrator}
+use Rattle.pdc_startup.specs.declared.fault.ServiceFault.{ServiceFault}
+use Rattle.pdc_threads.specs.declared.telling.Totals.{Totals}
+use Rattle.pdc_service.specs.Ended.{Found, IsOver}
+use Rattle.pdc_service.specs.Handed.{HasTaken}
+
+-- nothing was handed to it
+pub nothing_handed : {K : Type 0} (took : K → K → List (List ℕ) → Type 0) (sink : K) (stored : Stored) (fault : ServiceFault) → took sink sink [] → HasTaken took sink stored (Err fault)
+nothing_handed took sink stored fault none = record {
+  put = [];
+  high = stored.floor;
+  rising = omega arith;
+  published = tt;
+  left = sink;
+  some = [];
+  taken = none;
+  among = refl;
+}
+
+none_among : {A : Type 0} (all : List A) → AreAmong [] all
+none_among [] = refl
+none_among (x ∷ all) = inl (none_among all)
+
+-- what is among the first part is among all
+among_front : {A : Type 0} (some first rest : List A) → AreAmong some first → AreAmong some (first ++ rest)
+among_front some [] rest among = subst (λ xs. AreAmong xs rest) (sym among) (none_among rest)
+among_front some (x ∷ first) rest among = elim among [
+  | inl later ↦ inl (among_front some first rest later)
+  | inr found ↦ inr (found.0, found.1, among_front found.0 first rest found.2)
+]
+
+-- so many were published, where it is the same Ok
+same_published : (outcome : Result Totals HubFault) (told : Result Totals ServiceFault) (put : List Message) → IfOk told (λ totals. outcome ≡ Ok totals)
+    → IfOk outcome (λ totals. totals.published ≡ length (instants_of put)) → IfOk told (λ totals. totals.published ≡ length (instants_of put))
+same_published outcome (Ok totals) put same published = subst (λ ended. IfOk ended (λ totals. totals.published ≡ length (instants_of put))) same published
+same_published outcome (Err fault) put same published = tt
+
+-- A run that is over, whose sink is around another one, handed that one some of its frames.
+pub over_handed : {S L K : Type 0} {concentrator : Concentrator} {every : ℕ} {told : S → List Heard → Type 0} {Gave : List ℕ → Type 0} {failures_of : L → ℕ} {before : Found} {sources : List S} {outcome : Result Totals HubFault}
+    (took : K → K → List (List ℕ) → Type 0) (sink : K) (inner : L → K) (answer : Result Totals ServiceFault)
+    → IfOk answer (λ totals. outcome ≡ Ok totals)
+    → IsOver concentrator every told Gave (λ left given. (some : List (List ℕ)) × took sink (inner left) some × AreAmong some given) failures_of before sources outcome
+    → HasTaken took sink before.stored answer
+over_handed {outcome = outcome} took sink inner answer same over = record {
+  put = over.sent.put;
+  high = over.after.stored.floor;
+  rising = over.sent.rising;
+  published = same_published outcome answer over.sent.put same over.sent.published;
+  left = inner over.left;
+  some = over.sent.took.0;
+  taken = over.sent.took.1;
+  among = subst (AreAmong over.sent.took.0) (sym over.sent.first) (among_front over.sent.took.0 over.sent.given over.sent.rest over.sent.took.2);
+}
+
+-- the same of a sink and a mark by other names
+pub handed_by : {K : Type 0} {took : K → K → List (List ℕ) → Type 0} {sink same : K} {stored kept : Stored} {answer : Result Totals ServiceFault}
+    → sink ≡ same → stored ≡ kept → HasTaken took sink stored answer → HasTaken took same kept answer
+handed_by {took = took} {sink = sink} {kept = kept} {answer = answer} e f handed =
+    subst (λ s. HasTaken took s kept answer) e (subst (λ s. HasTaken took sink s answer) f handed)
+
+-- What a sink took is what its outputs took.
+pub of_outputs : {L K : Type 0} {took : K → K → List (List ℕ) → Type 0} {sink : L} {stored : Stored} {answer : Result Totals ServiceFault} (outputs : L → K)
+    → HasTaken {K = L} (λ before now given. took (outputs before) (outputs now) given) sink stored answer → HasTaken took (outputs sink) stored answer
+of_outputs outputs handed = record {
+  put = handed.put;
+  high = handed.high;
+  rising = handed.rising;
+  published = handed.published;
+  left = outputs handed.left;
+  some = handed.some;
+  taken = handed.taken;
+  among = handed.among;
+}

@@ -1,0 +1,5 @@
+use Rattle.pdc_service.proofs.Handing.{nothing_handed}
+use Rattle.pdc_service.proofs.serving.not_begun.Goals as goal
+
+pub returns-clause-handed : goal.returns-clause-handed
+returns-clause-handed g c = nothing_handed g.K.Sink.took c.args.opened.sink _ _ (g.K.Sink.nothing c.args.opened.sink)
