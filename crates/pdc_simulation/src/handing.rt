@@ -8,8 +8,8 @@ ghost use Rattle.pdc_simulation.specs.Stopped.{IsCause};
 
 use crate::fault::SimulationFault;
 use crate::grid::grid_words;
-use crate::simulated::Simulated;
-use pdc_pmu::Pmu;
+use crate::run::Run;
+use crate::sender::Sender;
 use pdc_ports::{Sink, SinkFault};
 use pdc_tag::SECONDS;
 
@@ -61,51 +61,48 @@ pub fn repeat_config<K: Sink>(
 
 /// Makes the data frame of the instant, and sends it.
 fn send_data<K: Sink>(
-    pmu: &mut Pmu,
+    sender: &mut Sender,
     instant: u64,
     words: &[u16],
-    frame: &mut Vec<u8>,
     sink: &mut K,
 ) -> Result<(), SimulationFault>
-    requires instant { instant < SECONDS * pmu.old.rate }
-    requires fits { IsSomeAnd pmu.old.shape (λ shape. length words.now ≡ word_count_of shape) }
-    requires later { is_later pmu.old.last instant ≡ true }
-    ensures ok { OnOk result (TakesMore K.took sink.old sink.new (data_of pmu.old instant words.now ∷ [])) }
-    ensures sent { OnOk result (pmu.new ≡ after_data pmu.old instant) }
+    requires instant { instant < SECONDS * sender.old.pmu.rate }
+    requires fits { IsSomeAnd sender.old.pmu.shape (λ shape. length words.now ≡ word_count_of shape) }
+    requires later { is_later sender.old.pmu.last instant ≡ true }
+    ensures ok { OnOk result (TakesMore K.took sink.old sink.new (data_of sender.old.pmu instant words.now ∷ [])) }
+    ensures sent { OnOk result (sender.new.pmu ≡ after_data sender.old.pmu instant) }
     ensures none { OnErr result (TakesMore K.took sink.old sink.new []) }
     ensures err { IfErr result (λ fault. IsCause fault (K.failures_of sink.old) (K.failures_of sink.new)) }
     ensures more { K.failures_of sink.old ≤ K.failures_of sink.new }
 {
-    frame.clear();
-    if let Err(fault) = pmu.send(instant, words, frame) {
+    sender.frame.clear();
+    if let Err(fault) = sender.pmu.send(instant, words, &mut sender.frame) {
         return Err(SimulationFault::Pmu(fault));
     }
-    hand(sink, frame)
+    hand(sink, &sender.frame)
 }
 
 /// Sends the words as the data frame of the instant with this number, where a frame can tell it. Answers whether it did.
 fn send_words<K: Sink>(
-    simulated: &Simulated<'_>,
-    first: u64,
+    run: &Run<'_>,
     number: u32,
     words: &[u16],
-    pmu: &mut Pmu,
-    frame: &mut Vec<u8>,
+    sender: &mut Sender,
     sink: &mut K,
 ) -> Result<bool, SimulationFault>
-    requires stands { Stands (run_of simulated.now first) number pmu.old }
-    requires words { AreWords simulated.now.is_grid number words.now }
-    ensures ok { OnOk result ((config : List ℕ) → TakesMore K.took sink.old sink.new (frames_of (run_of simulated.now first) config (data_at (run_of simulated.now first) number words.now))) }
-    ensures stands { OnOk result (Stands (run_of simulated.now first) (number + 1) pmu.new) }
+    requires stands { Stands (run_of run.now.simulated.now run.now.first) number sender.old.pmu }
+    requires words { AreWords run.now.simulated.now.is_grid number words.now }
+    ensures ok { OnOk result ((config : List ℕ) → TakesMore K.took sink.old sink.new (frames_of (run_of run.now.simulated.now run.now.first) config (data_at (run_of run.now.simulated.now run.now.first) number words.now))) }
+    ensures stands { OnOk result (Stands (run_of run.now.simulated.now run.now.first) (number + 1) sender.new.pmu) }
     ensures none { OnErr result (TakesMore K.took sink.old sink.new []) }
     ensures err { IfErr result (λ fault. IsCause fault (K.failures_of sink.old) (K.failures_of sink.new)) }
     ensures more { K.failures_of sink.old ≤ K.failures_of sink.new }
 {
-    let instant = first.saturating_add(u64::from(number));
-    if instant >= SECONDS * u64::from(simulated.rate) {
+    let instant = run.first.saturating_add(u64::from(number));
+    if instant >= SECONDS * u64::from(run.simulated.rate) {
         return Ok(false);
     }
-    match send_data(pmu, instant, words, frame, sink) {
+    match send_data(sender, instant, words, sink) {
         Ok(()) => Ok(true),
         Err(fault) => Err(fault),
     }
@@ -118,28 +115,26 @@ fn send_words<K: Sink>(
 ///
 /// A sink that fails, and want of memory.
 pub fn send_number<K: Sink>(
-    simulated: &Simulated<'_>,
-    first: u64,
+    run: &Run<'_>,
     number: u32,
-    pmu: &mut Pmu,
-    frame: &mut Vec<u8>,
+    sender: &mut Sender,
     sink: &mut K,
 ) -> Result<bool, SimulationFault>
-    requires stands { Stands (run_of simulated.now first) number pmu.old }
-    ensures ok { OnOk result ((words : List ℕ) × AreWords simulated.now.is_grid number words
-        × ((config : List ℕ) → TakesMore K.took sink.old sink.new (frames_of (run_of simulated.now first) config (data_at (run_of simulated.now first) number words)))) }
-    ensures stands { OnOk result (Stands (run_of simulated.now first) (number + 1) pmu.new) }
+    requires stands { Stands (run_of run.now.simulated.now run.now.first) number sender.old.pmu }
+    ensures ok { OnOk result ((words : List ℕ) × AreWords run.now.simulated.now.is_grid number words
+        × ((config : List ℕ) → TakesMore K.took sink.old sink.new (frames_of (run_of run.now.simulated.now run.now.first) config (data_at (run_of run.now.simulated.now run.now.first) number words)))) }
+    ensures stands { OnOk result (Stands (run_of run.now.simulated.now run.now.first) (number + 1) sender.new.pmu) }
     ensures none { OnErr result (TakesMore K.took sink.old sink.new []) }
     ensures err { IfErr result (λ fault. IsCause fault (K.failures_of sink.old) (K.failures_of sink.new)) }
     ensures more { K.failures_of sink.old ≤ K.failures_of sink.new }
 {
-    if simulated.is_grid {
-        let instant = first.saturating_add(u64::from(number));
-        let since = instant.saturating_mul(1000) / u64::from(simulated.rate);
-        let words = grid_words(simulated.id, since);
-        send_words(simulated, first, number, &words, pmu, frame, sink)
+    if run.simulated.is_grid {
+        let instant = run.first.saturating_add(u64::from(number));
+        let since = instant.saturating_mul(1000) / u64::from(run.simulated.rate);
+        let words = grid_words(run.simulated.id, since);
+        send_words(run, number, &words, sender, sink)
     } else {
         let words = [0, (number % PHASORS) as u16, 0, 0, 0];
-        send_words(simulated, first, number, &words, pmu, frame, sink)
+        send_words(run, number, &words, sender, sink)
     }
 }

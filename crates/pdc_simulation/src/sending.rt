@@ -7,10 +7,11 @@ ghost use Rattle.pdc_simulation.specs.Stopped.{IsCause, IsClock, IsStopped};
 use crate::begun::{begun, second_of};
 use crate::fault::SimulationFault;
 use crate::handing::{hand, is_config_due, repeat_config, send_number};
+use crate::run::Run;
+use crate::sender::Sender;
 use crate::served::Served;
 use crate::simulated::Simulated;
 use pdc_network::instant_at;
-use pdc_pmu::Pmu;
 use pdc_ports::Sink;
 use std::alloc::Global;
 use std::rt::Clock;
@@ -67,33 +68,31 @@ fn pass_on(served: &mut Option<Served>, is_sent: bool, frame: &[u8]) {
 /// it is due.
 fn send_frames<K: Sink, R: Clock>(
     rt: &R,
-    simulated: &Simulated<'_>,
-    first: u64,
-    pmu: &mut Pmu,
-    frame: &mut Vec<u8>,
+    run: &Run<'_>,
+    sender: &mut Sender,
     config: &[u8],
     served: &mut Option<Served>,
     sink: &mut K,
 ) -> Result<(), SimulationFault>
-    requires stands { Stands (run_of simulated.now first) 0 pmu.old }
-    ensures ok { OnOk result (HasTaken K.took (run_of simulated.now first) config.now (IsUpTo (run_of simulated.now first) simulated.now.count) sink.old sink.new) }
-    ensures cut { OnErr result (HasTaken K.took (run_of simulated.now first) config.now (IsFirstPart (run_of simulated.now first)) sink.old sink.new) }
+    requires stands { Stands (run_of run.now.simulated.now run.now.first) 0 sender.old.pmu }
+    ensures ok { OnOk result (HasTaken K.took (run_of run.now.simulated.now run.now.first) config.now (IsUpTo (run_of run.now.simulated.now run.now.first) run.now.simulated.now.count) sink.old sink.new) }
+    ensures cut { OnErr result (HasTaken K.took (run_of run.now.simulated.now run.now.first) config.now (IsFirstPart (run_of run.now.simulated.now run.now.first)) sink.old sink.new) }
     ensures err { IfErr result (λ fault. IsCause fault (K.failures_of sink.old) (K.failures_of sink.new)) }
     ensures more { K.failures_of sink.old ≤ K.failures_of sink.new }
 {
-    let rate = simulated.rate;
-    for number in 0..simulated.count {
-        let instant = first.saturating_add(u64::from(number));
+    let rate = run.simulated.rate;
+    for number in 0..run.simulated.count {
+        let instant = run.first.saturating_add(u64::from(number));
         if let Err(fault) = sleep_until(rt, instant, rate) {
             return Err(fault);
         }
         hear(served, instant, rate, config);
-        let is_due = is_config_due(number, simulated.config_every, rate);
+        let is_due = is_config_due(number, run.simulated.config_every, rate);
         if let Err(fault) = repeat_config(is_due, config, sink) {
             return Err(fault);
         }
-        match send_number(simulated, first, number, pmu, frame, sink) {
-            Ok(is_sent) => pass_on(served, is_sent, frame),
+        match send_number(run, number, sender, sink) {
+            Ok(is_sent) => pass_on(served, is_sent, &sender.frame),
             Err(fault) => return Err(fault),
         }
     }
@@ -103,25 +102,19 @@ fn send_frames<K: Sink, R: Clock>(
 /// Sends the configuration, and then the data frames from the first instant on.
 fn send_all<K: Sink, R: Clock>(
     rt: &R,
-    alloc: Global,
-    simulated: &Simulated<'_>,
-    first: u64,
-    pmu: Pmu,
+    run: &Run<'_>,
+    sender: &mut Sender,
     config: &[u8],
     served: &mut Option<Served>,
     sink: &mut K,
 ) -> Result<(), SimulationFault>
-    requires stands { Stands (run_of simulated.now first) 0 pmu }
-    ensures ok { OnOk result (HasTaken K.took (run_of simulated.now first) config.now (IsAll (run_of simulated.now first)) sink.old sink.new) }
-    ensures cut { OnErr result (HasTaken K.took (run_of simulated.now first) config.now (IsFront (run_of simulated.now first)) sink.old sink.new) }
+    requires stands { Stands (run_of run.now.simulated.now run.now.first) 0 sender.old.pmu }
+    ensures ok { OnOk result (HasTaken K.took (run_of run.now.simulated.now run.now.first) config.now (IsAll (run_of run.now.simulated.now run.now.first)) sink.old sink.new) }
+    ensures cut { OnErr result (HasTaken K.took (run_of run.now.simulated.now run.now.first) config.now (IsFront (run_of run.now.simulated.now run.now.first)) sink.old sink.new) }
     ensures err { IfErr result (λ fault. IsCause fault (K.failures_of sink.old) (K.failures_of sink.new)) }
 {
-    let mut pmu = pmu;
-    let mut frame = Vec::new(alloc);
     match hand(sink, config) {
-        Ok(()) => send_frames(
-            rt, simulated, first, &mut pmu, &mut frame, config, served, sink,
-        ),
+        Ok(()) => send_frames(rt, run, sender, config, served, sink),
         Err(fault) => Err(fault),
     }
 }
@@ -146,7 +139,11 @@ pub fn simulate_from<K: Sink, R: Clock>(
     ensures err { IfErr result (IsStopped K.took K.failures_of (run_of simulated.now first) sink.old sink.new) }
 {
     match begun(alloc, simulated, first) {
-        Ok((pmu, config)) => { send_all(rt, alloc, simulated, first, pmu, &config, served, sink) }
+        Ok((pmu, config)) => {
+            let run = Run { simulated, first };
+            let mut sender = Sender::new(alloc, pmu);
+            send_all(rt, &run, &mut sender, &config, served, sink)
+        }
         Err(fault) => Err(fault),
     }
 }

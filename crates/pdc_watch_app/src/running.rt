@@ -19,23 +19,7 @@ fn start_reader<
     's,
     E: 's,
     R: Net<Listener = TcpListener, Stream = TcpStream> + Wait + Clock + Sync + 's,
->(
-    scope: &'s Scope<'s, E>,
-    rt: &'s R,
-    alloc: Global,
-    who: Who,
-    session: Session,
-    watch: &'s Mutex<Watch>,
-    ending: &'s AtomicBool,
-) -> bool {
-    let reader = Reader {
-        rt,
-        alloc,
-        who,
-        session,
-        watch,
-        ending,
-    };
+>(scope: &'s Scope<'s, E>, reader: Reader<'s, R>) -> bool {
     scope.spawn(move || -> () { reader.read() }).is_ok()
 }
 
@@ -52,9 +36,20 @@ fn start_readers<
     watch: &'s Mutex<Watch>,
     ending: &'s AtomicBool,
 ) -> bool {
-    start_reader(scope, rt, alloc, Who::A, pair.a, watch, ending)
-        && start_reader(scope, rt, alloc, Who::B, pair.b, watch, ending)
-        && start_reader(scope, rt, alloc, Who::M, pair.m, watch, ending)
+    for who in [Who::A, Who::B, Who::M] {
+        let reader = Reader {
+            rt,
+            alloc,
+            who,
+            session: *pair.of(who),
+            watch,
+            ending,
+        };
+        if !start_reader(scope, reader) {
+            return false;
+        }
+    }
+    true
 }
 
 /// Where the sessions are, as text.
