@@ -1,5 +1,5 @@
 -- Some of what a sink was handed, and one frame more.
-use Rattle.std.proofs.Common.{◌≡◌, ◌++◌, ◌∷◌, List, [], ap, inl, inr, refl}
+use Rattle.std.proofs.Common.{◌++◌, ◌∷◌, List, [], ap, inl, inr, refl}
 use Rattle.pdc_journal.specs.Among.{AreAmong}
 
 -- one more was handed, and not taken

@@ -40,7 +40,7 @@ pub const CAUSES: [Refusal; 27] = [
 ];
 
 /// Appends for each cause that refused any its code, its name and how many, as `, B4 Late 3`.
-fn push_causes(alloc: Global, counts: &Counts, line: &mut String) -> Result<(), AllocError> {
+fn append_causes(alloc: Global, counts: &Counts, line: &mut String) -> Result<(), AllocError> {
     for cause in CAUSES {
         let count = counts.refused_as(cause);
         if count > 0 {
@@ -69,7 +69,7 @@ pub fn counters_line(alloc: Global, told: &Told, unsent: u64) -> Result<String, 
     let mut line = format!(in alloc;
         "taken={taken} refused={refused} published={published} last={last} unsent={unsent}"
     )?;
-    push_causes(alloc, counts, &mut line)?;
+    append_causes(alloc, counts, &mut line)?;
     Ok(line)
 }
 
@@ -81,7 +81,7 @@ pub fn counters_line(alloc: Global, told: &Told, unsent: u64) -> Result<String, 
 pub fn tally_line(alloc: Global, of: Of, counts: &Counts) -> Result<String, AllocError> {
     let (taken, refused) = (counts.taken, counts.refused);
     let mut line = format!(in alloc; "{of}: taken={taken} refused={refused}")?;
-    push_causes(alloc, counts, &mut line)?;
+    append_causes(alloc, counts, &mut line)?;
     Ok(line)
 }
 

@@ -10,25 +10,31 @@ use std::sync::atomic::{AtomicU64, Ordering};
 pub struct CountingSink<'a, K: Sink + Drop> {
     pub inner: K,
     unsent: &'a AtomicU64,
+    /// How many frames the inner sink refused. It stays at its greatest value.
+    pub refused: u64,
 }
 
 impl<'a, K: Sink + Drop> CountingSink<'a, K> {
     /// Sends by `inner`, and counts in `unsent` what it refuses.
     pub fn new(inner: K, unsent: &'a AtomicU64) -> CountingSink<'a, K>
-        ensures { result.inner ≡ inner }
+        ensures { (result.inner ≡ inner) × (result.refused ≡ 0) }
     {
-        CountingSink { inner, unsent }
+        CountingSink {
+            inner,
+            unsent,
+            refused: 0,
+        }
     }
 }
 
-/// The inner sink took some of what this one was handed, in the same order.
+/// The inner sink took some of what this one was handed, in the same order; all of it where it refused nothing.
 impl<'a, K: Sink + Drop> Sink for CountingSink<'a, K> {
     ghost use Rattle.pdc_journal.specs.Among.{AreAmong};
     ghost use Rattle.std.proofs.Common.{[], refl};
 
-    ghost took = { λ before now given. (some : List (List ℕ)) × K.took before.inner now.inner some × AreAmong some given };
+    ghost took = { λ before now given. (some : List (List ℕ)) × K.took before.inner now.inner some × AreAmong some given × (now.refused ≡ 0 → some ≡ given) };
 
-    ghost nothing = { λ s. ([], K.nothing s.inner, refl) };
+    ghost nothing = { λ s. ([], K.nothing s.inner, refl, λ _. refl) };
 
     ghost failures_of = { λ s. K.failures_of s.inner };
 
@@ -36,6 +42,7 @@ impl<'a, K: Sink + Drop> Sink for CountingSink<'a, K> {
         match self.inner.send(bytes) {
             Ok(()) => {}
             Err(SinkFault) => {
+                self.refused = self.refused.saturating_add(1);
                 self.unsent.fetch_add(1, Ordering::Relaxed);
             }
         }

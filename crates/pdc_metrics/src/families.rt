@@ -15,7 +15,7 @@ pub struct Family {
 }
 
 /// Appends the head of a family: its help and its type.
-pub fn push_head(alloc: Global, family: Family, text: &mut String) -> Result<(), AllocError> {
+pub fn append_head(alloc: Global, family: Family, text: &mut String) -> Result<(), AllocError> {
     let (name, help) = (family.name, family.help);
     let kind = if family.is_counter {
         "counter"
@@ -27,26 +27,26 @@ pub fn push_head(alloc: Global, family: Family, text: &mut String) -> Result<(),
 }
 
 /// Appends the one sample of a family that has no labels.
-pub fn push_single(
+pub fn append_single(
     alloc: Global,
     family: Family,
     value: u64,
     text: &mut String,
 ) -> Result<(), AllocError> {
-    push_head(alloc, family, text)?;
+    append_head(alloc, family, text)?;
     let name = family.name;
     let line = format!(in alloc; "{name} {value}\n")?;
     text.push_str(line.as_str())
 }
 
 /// Appends the one sample of a family in seconds, of which these are millionths.
-pub fn push_seconds(
+pub fn append_seconds(
     alloc: Global,
     family: Family,
     micros: i64,
     text: &mut String,
 ) -> Result<(), AllocError> {
-    push_head(alloc, family, text)?;
+    append_head(alloc, family, text)?;
     let name = family.name;
     let sign = if micros < 0 { "-" } else { "" };
     let size = micros.unsigned_abs();
@@ -56,7 +56,7 @@ pub fn push_seconds(
 }
 
 /// Appends a sample of a stream.
-pub fn push_of(
+pub fn append_of(
     alloc: Global,
     family: Family,
     of: Of,
@@ -72,7 +72,7 @@ pub fn push_of(
 }
 
 /// Appends a sample of a stream and a cause.
-pub fn push_cause(
+pub fn append_cause(
     alloc: Global,
     family: Family,
     of: Of,
@@ -91,7 +91,7 @@ pub fn push_cause(
 }
 
 /// Appends a sample of a destination, whose name is written with `\`, `"` and line feeds escaped.
-pub fn push_output(
+pub fn append_output(
     alloc: Global,
     family: Family,
     to: &str,

@@ -1,7 +1,7 @@
 //! All samples of a run.
 
 use crate::families::{
-    Family, push_cause, push_head, push_of, push_output, push_seconds, push_single,
+    Family, append_cause, append_head, append_of, append_output, append_seconds, append_single,
 };
 use crate::metered::Metered;
 use crate::time::{now_micros, tag_micros};
@@ -114,23 +114,23 @@ const LAG: Family = Family {
 };
 
 /// What was taken and refused of each stream.
-fn push_answers<R: Wait>(
+fn append_answers<R: Wait>(
     rt: &R,
     alloc: Global,
     tallies: &[Tally],
     text: &mut String,
 ) -> Result<(), AllocError> {
-    push_head(alloc, TAKEN, text)?;
+    append_head(alloc, TAKEN, text)?;
     for tally in tallies {
-        push_of(alloc, TAKEN, tally.of, tally.counts(rt).taken, text)?;
+        append_of(alloc, TAKEN, tally.of, tally.counts(rt).taken, text)?;
     }
-    push_head(alloc, REFUSED, text)?;
+    append_head(alloc, REFUSED, text)?;
     for tally in tallies {
         let counts = tally.counts(rt);
         for cause in CAUSES {
             let count = counts.refused_as(cause);
             if count > 0 {
-                push_cause(alloc, REFUSED, tally.of, cause.text(), count, text)?;
+                append_cause(alloc, REFUSED, tally.of, cause.text(), count, text)?;
             }
         }
     }
@@ -138,27 +138,27 @@ fn push_answers<R: Wait>(
 }
 
 /// How the datagrams of each stream came.
-fn push_ways(alloc: Global, tallies: &[Tally], text: &mut String) -> Result<(), AllocError> {
-    push_head(alloc, STRANGERS, text)?;
+fn append_ways(alloc: Global, tallies: &[Tally], text: &mut String) -> Result<(), AllocError> {
+    append_head(alloc, STRANGERS, text)?;
     for tally in tallies {
-        push_of(alloc, STRANGERS, tally.of, tally.strangers(), text)?;
+        append_of(alloc, STRANGERS, tally.of, tally.strangers(), text)?;
     }
-    push_head(alloc, LOST, text)?;
+    append_head(alloc, LOST, text)?;
     for tally in tallies {
-        push_of(alloc, LOST, tally.of, tally.lost(), text)?;
+        append_of(alloc, LOST, tally.of, tally.lost(), text)?;
     }
     Ok(())
 }
 
 /// What could not be sent to each further destination.
-fn push_outputs(
+fn append_outputs(
     alloc: Global,
     outputs: &[OutputTally],
     text: &mut String,
 ) -> Result<(), AllocError> {
-    push_head(alloc, OUTPUT_UNSENT, text)?;
+    append_head(alloc, OUTPUT_UNSENT, text)?;
     for output in outputs {
-        push_output(
+        append_output(
             alloc,
             OUTPUT_UNSENT,
             output.to.as_str(),
@@ -170,11 +170,11 @@ fn push_outputs(
 }
 
 /// What is published of each source.
-fn push_sources(alloc: Global, standing: &Standing, text: &mut String) -> Result<(), AllocError> {
-    push_head(alloc, ABSENT, text)?;
+fn append_sources(alloc: Global, standing: &Standing, text: &mut String) -> Result<(), AllocError> {
+    append_head(alloc, ABSENT, text)?;
     for measured in &standing.sources {
         if measured.source != 0 {
-            push_of(
+            append_of(
                 alloc,
                 ABSENT,
                 Of::Pmu(measured.source),
@@ -183,27 +183,27 @@ fn push_sources(alloc: Global, standing: &Standing, text: &mut String) -> Result
             )?;
         }
     }
-    push_head(alloc, CONFIGURATION, text)?;
+    append_head(alloc, CONFIGURATION, text)?;
     for measured in &standing.sources {
         if measured.source != 0 {
             let count = u64::from(measured.count);
-            push_of(alloc, CONFIGURATION, Of::Pmu(measured.source), count, text)?;
+            append_of(alloc, CONFIGURATION, Of::Pmu(measured.source), count, text)?;
         }
     }
     Ok(())
 }
 
 /// What the merger left out of each source.
-fn push_left_out<R: Wait>(
+fn append_left_out<R: Wait>(
     rt: &R,
     alloc: Global,
     left_out: &LeftOut,
     text: &mut String,
 ) -> Result<(), AllocError> {
-    push_head(alloc, LEFT_OUT, text)?;
+    append_head(alloc, LEFT_OUT, text)?;
     for merged in left_out.sources(rt) {
         if merged.source != 0 {
-            push_of(
+            append_of(
                 alloc,
                 LEFT_OUT,
                 Of::Pmu(merged.source),
@@ -216,7 +216,7 @@ fn push_left_out<R: Wait>(
 }
 
 /// The last instant that was published, if there was one, and how far it lies behind the clock.
-fn push_last<R: Clock>(
+fn append_last<R: Clock>(
     rt: &R,
     alloc: Global,
     time_base: u32,
@@ -227,10 +227,10 @@ fn push_last<R: Clock>(
         return Ok(());
     };
     let micros = tag_micros(standing.tag, time_base);
-    push_single(alloc, LAST, last, text)?;
-    push_seconds(alloc, LAST_TIME, micros, text)?;
+    append_single(alloc, LAST, last, text)?;
+    append_seconds(alloc, LAST_TIME, micros, text)?;
     match now_micros(rt) {
-        Some(now) => push_seconds(alloc, LAG, now.saturating_sub(micros), text),
+        Some(now) => append_seconds(alloc, LAG, now.saturating_sub(micros), text),
         None => Ok(()),
     }
 }
@@ -248,26 +248,26 @@ pub fn metrics_text<R: Wait + Clock>(
     let standing = metered.measured.standing(rt);
     let (start, change) = (u64::from(standing.start), u64::from(standing.change));
     let mut text = String::new(alloc);
-    push_answers(rt, alloc, metered.tallies, &mut text)?;
-    push_ways(alloc, metered.tallies, &mut text)?;
-    push_single(alloc, PUBLISHED, standing.published, &mut text)?;
-    push_single(
+    append_answers(rt, alloc, metered.tallies, &mut text)?;
+    append_ways(alloc, metered.tallies, &mut text)?;
+    append_single(alloc, PUBLISHED, standing.published, &mut text)?;
+    append_single(
         alloc,
         UNSENT,
         metered.unsent.load(Ordering::Relaxed),
         &mut text,
     )?;
-    push_outputs(alloc, metered.outputs, &mut text)?;
-    push_sources(alloc, &standing, &mut text)?;
+    append_outputs(alloc, metered.outputs, &mut text)?;
+    append_sources(alloc, &standing, &mut text)?;
     if let Some(left_out) = metered.left_out {
-        push_left_out(rt, alloc, left_out, &mut text)?;
+        append_left_out(rt, alloc, left_out, &mut text)?;
     }
-    push_single(alloc, OPEN, standing.open as u64, &mut text)?;
-    push_single(alloc, START, start, &mut text)?;
-    push_single(alloc, CHANGE, change, &mut text)?;
+    append_single(alloc, OPEN, standing.open as u64, &mut text)?;
+    append_single(alloc, START, start, &mut text)?;
+    append_single(alloc, CHANGE, change, &mut text)?;
     let consumers = metered.consumers.load(Ordering::Relaxed);
-    push_single(alloc, CONSUMERS, consumers, &mut text)?;
-    push_last(
+    append_single(alloc, CONSUMERS, consumers, &mut text)?;
+    append_last(
         rt,
         alloc,
         metered.measured.tags.time_base,

@@ -58,7 +58,7 @@ fn open_numbered<R: Shelf>(
 }
 
 /// Appends the entry with which a file begins whose first step has this number.
-fn push_head(begun: &Begun<'_>, step: u64, time: u64, out: &mut Vec<u8>) -> io::Result<()> {
+fn append_head(begun: &Begun<'_>, step: u64, time: u64, out: &mut Vec<u8>) -> io::Result<()> {
     let entry = Entry {
         step,
         time,
@@ -91,7 +91,7 @@ impl<'a> Series<'a> {
     ) -> io::Result<Series<'a>> {
         let file = open_numbered(rt, alloc, name, begun.start, 1)?;
         let mut gathered = Vec::new(alloc);
-        push_head(&begun, 0, time, &mut gathered)?;
+        append_head(&begun, 0, time, &mut gathered)?;
         let mut series = Series {
             alloc,
             name,
@@ -124,7 +124,7 @@ impl<'a> Series<'a> {
         let number = self.number.saturating_add(1);
         self.file = open_numbered(rt, self.alloc, self.name, self.begun.start, number)?;
         self.number = number;
-        push_head(&self.begun, step, time, &mut self.gathered)?;
+        append_head(&self.begun, step, time, &mut self.gathered)?;
         self.len = count_of(self.gathered.as_slice());
         if let Some(keep) = self.limits.keep {
             if number > keep {

@@ -46,11 +46,11 @@ same_published outcome (Err fault) put same published = tt
 
 -- A run that is over, whose sink is around another one, handed that one some of its frames.
 pub over_handed : {S L K : Type 0} {concentrator : Concentrator} {every : ℕ} {told : S → List Heard → Type 0} {Gave : List ℕ → Type 0} {failures_of : L → ℕ} {before : Found} {sources : List S} {outcome : Result Totals HubFault}
-    (took : K → K → List (List ℕ) → Type 0) (sink : K) (inner : L → K) (answer : Result Totals ServiceFault)
+    (took : K → K → List (List ℕ) → Type 0) (sink : K) (inner : L → K) (refused : L → ℕ) (answer : Result Totals ServiceFault)
     → IfOk answer (λ totals. outcome ≡ Ok totals)
-    → IsOver concentrator every told Gave (λ left given. (some : List (List ℕ)) × took sink (inner left) some × AreAmong some given) failures_of before sources outcome
+    → IsOver concentrator every told Gave (λ left given. (some : List (List ℕ)) × took sink (inner left) some × AreAmong some given × (refused left ≡ 0 → some ≡ given)) failures_of before sources outcome
     → HasTaken took sink before.stored answer
-over_handed {outcome = outcome} took sink inner answer same over = record {
+over_handed {outcome = outcome} took sink inner refused answer same over = record {
   put = over.sent.put;
   high = over.after.stored.floor;
   rising = over.sent.rising;

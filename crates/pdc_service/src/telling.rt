@@ -5,7 +5,7 @@ use pdc_startup::Concentrator;
 use std::alloc::{AllocError, Global};
 
 /// Appends where the frames of a stream come: the place where it is asked for over TCP, or else the port.
-fn push_input(
+fn append_input(
     alloc: Global,
     kind: &str,
     id: u16,
@@ -21,7 +21,7 @@ fn push_input(
 }
 
 /// Appends where frames go, and where consumers are served.
-fn push_outputs(
+fn append_outputs(
     alloc: Global,
     concentrator: &Concentrator,
     network: &Network,
@@ -55,17 +55,17 @@ pub fn begun_text(
         Concentrator::Node(settings) => {
             let mut inputs = network.inputs.iter();
             for (pmu, port) in settings.life.pmus.iter().zip(settings.ports.iter()) {
-                push_input(alloc, "PMU", pmu.stream, *port, inputs.next(), &mut text)?;
+                append_input(alloc, "PMU", pmu.stream, *port, inputs.next(), &mut text)?;
             }
         }
         Concentrator::Merger(settings) => {
             let (first, second) = (settings.life.first.id, settings.life.second.id);
             let (at, to) = (network.inputs.get(0), network.inputs.get(1));
-            push_input(alloc, "node", first, settings.first_port, at, &mut text)?;
-            push_input(alloc, "node", second, settings.second_port, to, &mut text)?;
+            append_input(alloc, "node", first, settings.first_port, at, &mut text)?;
+            append_input(alloc, "node", second, settings.second_port, to, &mut text)?;
         }
     }
-    push_outputs(alloc, concentrator, network, &mut text)?;
+    append_outputs(alloc, concentrator, network, &mut text)?;
     if let Some(bytes) = buffer {
         let more = format!(in alloc; ", receive buffers of {bytes} bytes")?;
         text.push_str(more.as_str())?;

@@ -10,7 +10,7 @@ returns-in_default-clause-handed g c = nothing_handed g.K.Sink.took c.args.opene
 pub returns-clause-handed : goal.returns-clause-handed
 returns-clause-handed g c =
     let handed = c.hand_over-handed.result in
-    let sink : handed.sink.inner.inner.inner ≡ c.args.opened.sink = rw (c.hand_over-handed.ensures.3, c.new-sink-3.ensures, c.new-sink-2.ensures, c.new-sink.ensures) refl in
+    let sink : handed.sink.inner.inner.inner ≡ c.args.opened.sink = rw (c.hand_over-handed.ensures.3, c.new-sink-3.ensures, c.new-sink-2.ensures.0, c.new-sink.ensures) refl in
     let mark : g.M.Mark.stored (begun_mark handed.mark) ≡ g.M.Mark.stored (begun_mark c.args.opened.mark) = rw c.hand_over-handed.ensures.0 refl in
     handed_by sink mark
-    (over_handed g.K.Sink.took handed.sink.inner.inner.inner (λ left. left.inner.inner.inner) (Err (Run c.in-Err.fault)) tt c.in-Err.ensures.over)
+    (over_handed g.K.Sink.took handed.sink.inner.inner.inner (λ left. left.inner.inner.inner) (λ left. left.inner.refused) (Err (Run c.in-Err.fault)) tt c.in-Err.ensures.over)
