@@ -19,6 +19,7 @@ mod merger;
 mod node;
 mod opening;
 mod publishing;
+mod time_tag;
 
 pub use life::Life;
 pub use living::{live_merger, live_node};

@@ -15,6 +15,7 @@ ghost use Rattle.pdc_plain.specs.Views.{layout_view};
 
 use crate::held_layout::HeldLayout;
 use crate::layouts::{has_count_conflict, held_layout};
+use crate::time_tag::TimeTag;
 use pdc_arrival::{
     Arrival, ColumnSection, OWN_BLOCK_LEN, Stamp, bears, body, layout_answer, words_are_cut,
 };
@@ -45,7 +46,13 @@ pub fn merged_answer(
             instant,
             quality,
             payload,
-        } => data_answer(alloc, given, life, stream, *instant, *quality, payload),
+        } => {
+            let tag = TimeTag {
+                instant: *instant,
+                quality: *quality,
+            };
+            data_answer(alloc, given, life, stream, tag, payload)
+        }
         Arrival::Layout {
             stamp: Some(stamp),
             sections,
@@ -87,12 +94,11 @@ fn data_answer(
     given: &Given,
     life: &[Answered],
     stream: usize,
-    instant: u64,
-    quality: u8,
+    tag: TimeTag,
     payload: &[u8],
 ) -> Result<Answer, AllocError>
     ensures { IfOk result (λ answer. answer_view answer
-        ≡ merged_data_answer (given_view given.now) (life_view life.now) stream instant quality payload.now (held_layout (life_view life.now) stream)) }
+        ≡ merged_data_answer (given_view given.now) (life_view life.now) stream tag.instant tag.quality payload.now (held_layout (life_view life.now) stream)) }
 {
     words_are_cut();
     let Some(layout) = held_layout(life, stream) else {
@@ -108,8 +114,8 @@ fn data_answer(
     if blocks.len() != blocks_len(layout.sections) {
         return Ok(bare(alloc, Outcome::Refused(Refusal::WrongLength)));
     }
-    let cells = cells_under(alloc, given, life, quality, layout.sections, blocks)?;
-    answer_in_time(alloc, given, life, stream, instant, cells)
+    let cells = cells_under(alloc, given, life, tag.quality, layout.sections, blocks)?;
+    answer_in_time(alloc, given, life, stream, tag.instant, cells)
 }
 
 /// The bytes of the blocks of these sections.

@@ -7,6 +7,7 @@ ghost use Rattle.pdc_life.specs.Node.{data_answer, node_answer};
 ghost use Rattle.pdc_arrival.specs.Views.{arrival_view, section_part};
 ghost use Rattle.pdc_plain_steps.specs.Views.{answer_view, given_view, life_view, part_view};
 
+use crate::time_tag::TimeTag;
 use pdc_arrival::{Arrival, ColumnSection, body, count_for, section_answer};
 use pdc_cfg::CfgFault;
 use pdc_life::{Outcome, Refusal};
@@ -35,7 +36,13 @@ pub fn node_answer(
             instant,
             quality,
             payload,
-        } => data_answer(alloc, given, life, stream, *instant, *quality, payload),
+        } => {
+            let tag = TimeTag {
+                instant: *instant,
+                quality: *quality,
+            };
+            data_answer(alloc, given, life, stream, tag, payload)
+        }
         Arrival::Layout { sections, .. } => {
             Ok(bare(alloc, layout_outcome(given, life, stream, sections)))
         }
@@ -66,12 +73,11 @@ fn data_answer(
     given: &Given,
     life: &[Answered],
     stream: usize,
-    instant: u64,
-    quality: u8,
+    tag: TimeTag,
     payload: &[u8],
 ) -> Result<Answer, AllocError>
     ensures { IfOk result (λ answer. answer_view answer
-        ≡ data_answer (given_view given.now) (life_view life.now) stream instant quality payload.now (section_in_force (given_view given.now) (life_view life.now) stream)) }
+        ≡ data_answer (given_view given.now) (life_view life.now) stream tag.instant tag.quality payload.now (section_in_force (given_view given.now) (life_view life.now) stream)) }
 {
     let Some(section) = section_in_force(given, life, stream) else {
         return Ok(bare(alloc, Outcome::Refused(Refusal::NoConfig)));
@@ -82,10 +88,10 @@ fn data_answer(
     let cell = ColumnCell {
         column: stream,
         block: body(section.shape, payload),
-        quality,
+        quality: tag.quality,
     };
     let cells = one_cell(alloc, cell)?;
-    answer_in_time(alloc, given, life, stream, instant, cells)
+    answer_in_time(alloc, given, life, stream, tag.instant, cells)
 }
 
 /// This cell alone.

@@ -142,7 +142,7 @@ fn try_node<R: Wait>(rt: &R, alloc: Global) -> Option<Seen> {
     else {
         return None;
     };
-    try_core(rt, alloc, &settings.life, node, &counts, &streams)
+    try_core(rt, alloc, node, &counts, &streams)
 }
 
 /// All calls on the merger.
@@ -172,7 +172,7 @@ fn try_merger<R: Wait>(rt: &R, alloc: Global) -> Option<Seen> {
     ) else {
         return None;
     };
-    try_core(rt, alloc, &settings.life, merger, &counts, &streams)
+    try_core(rt, alloc, merger, &counts, &streams)
 }
 
 /// Prints what was seen.

@@ -37,25 +37,24 @@ pub struct Seen {
 fn begin<C: Core + Drop, N: Naming<C::Settings>, R: Wait>(
     rt: &R,
     alloc: Global,
-    settings: &C::Settings,
     hub: &Hub<C, N>,
     mine: &mut Mine<C, N>,
     streams: &Streams,
 ) -> Option<()>
-    requires settings { (N.settings ≡ Some settings.now) × (C.settings_of mine.old.bare ≡ settings.now) }
-    requires streams { C.Settings.streams settings.now ≡ 2 }
+    requires settings { N.settings ≡ Some (C.settings_of mine.old.bare) }
+    requires streams { C.Settings.streams (C.settings_of mine.old.bare) ≡ 2 }
     requires fit { IsFit mine.old N.top.parts }
     ensures settings { C.settings_of mine.new.bare ≡ C.settings_of mine.old.bare }
     ensures fit { IsFit mine.new N.top.parts }
 {
-    deliver(rt, alloc, settings, hub, mine, 0, &streams.first.config)?;
-    deliver(rt, alloc, settings, hub, mine, 1, &streams.second.config)?;
+    deliver(rt, alloc, hub, mine, 0, &streams.first.config)?;
+    deliver(rt, alloc, hub, mine, 1, &streams.second.config)?;
     tick(rt, hub, mine, FIRST)?;
     pop(rt, hub, mine)?;
     pop(rt, hub, mine)?;
     pop(rt, hub, mine)?;
-    deliver(rt, alloc, settings, hub, mine, 0, &streams.first.config)?;
-    deliver(rt, alloc, settings, hub, mine, 1, &streams.second.config)?;
+    deliver(rt, alloc, hub, mine, 0, &streams.first.config)?;
+    deliver(rt, alloc, hub, mine, 1, &streams.second.config)?;
     tick(rt, hub, mine, FIRST)?;
     pop(rt, hub, mine)
 }
@@ -65,29 +64,28 @@ fn begin<C: Core + Drop, N: Naming<C::Settings>, R: Wait>(
 fn round<C: Core + Drop, N: Naming<C::Settings>, R: Wait>(
     rt: &R,
     alloc: Global,
-    settings: &C::Settings,
     hub: &Hub<C, N>,
     mine: &mut Mine<C, N>,
     streams: &Streams,
     after: u16,
 ) -> Option<()>
-    requires settings { (N.settings ≡ Some settings.now) × (C.settings_of mine.old.bare ≡ settings.now) }
-    requires streams { C.Settings.streams settings.now ≡ 2 }
+    requires settings { N.settings ≡ Some (C.settings_of mine.old.bare) }
+    requires streams { C.Settings.streams (C.settings_of mine.old.bare) ≡ 2 }
     requires fit { IsFit mine.old N.top.parts }
     ensures settings { C.settings_of mine.new.bare ≡ C.settings_of mine.old.bare }
     ensures fit { IsFit mine.new N.top.parts }
 {
     let first = streams.first.data(alloc, after)?;
     let second = streams.second.data(alloc, after)?;
-    deliver(rt, alloc, settings, hub, mine, 0, &first)?;
-    deliver(rt, alloc, settings, hub, mine, 1, &second)?;
-    deliver(rt, alloc, settings, hub, mine, 0, &first)?;
+    deliver(rt, alloc, hub, mine, 0, &first)?;
+    deliver(rt, alloc, hub, mine, 1, &second)?;
+    deliver(rt, alloc, hub, mine, 0, &first)?;
     tick(rt, hub, mine, FIRST + u64::from(after))?;
     pop(rt, hub, mine)?;
     pop(rt, hub, mine)?;
-    deliver(rt, alloc, settings, hub, mine, 0, &first)?;
-    deliver(rt, alloc, settings, hub, mine, 1, &streams.first.config)?;
-    deliver(rt, alloc, settings, hub, mine, 0, &streams.first.config)?;
+    deliver(rt, alloc, hub, mine, 0, &first)?;
+    deliver(rt, alloc, hub, mine, 1, &streams.first.config)?;
+    deliver(rt, alloc, hub, mine, 0, &streams.first.config)?;
     pop(rt, hub, mine)
 }
 
@@ -96,16 +94,15 @@ fn round<C: Core + Drop, N: Naming<C::Settings>, R: Wait>(
 fn side_by_side<C: Opens, N: Naming<C::Settings>, R: Wait>(
     rt: &R,
     alloc: Global,
-    settings: &C::Settings,
     base: C,
     counts: &[u16; MAX_PMUS],
     streams: &Streams,
     blanks: Blanks,
 ) -> Option<Seen>
-    requires given { N.given ≡ Some (C.given_with settings.now 1 0 counts.now) }
-    requires stands { C.stands_for base (C.given_with settings.now 1 0 counts.now) [] }
-    requires settings { (N.settings ≡ Some settings.now) × (C.settings_of base ≡ settings.now) }
-    requires streams { C.Settings.streams settings.now ≡ 2 }
+    requires given { N.given ≡ Some (C.given_with (C.settings_of base) 1 0 counts.now) }
+    requires stands { C.stands_for base (C.given_with (C.settings_of base) 1 0 counts.now) [] }
+    requires settings { N.settings ≡ Some (C.settings_of base) }
+    requires streams { C.Settings.streams (C.settings_of base) ≡ 2 }
     requires names { (blanks.taken.name ≡ N.taken.name) × (blanks.refused.name ≡ N.refused.name) × (blanks.configured.name ≡ N.configured.name) × (blanks.top.name ≡ N.top.name) }
     requires parts { (blanks.taken.parts ≡ N.taken.parts) × (blanks.refused.parts ≡ N.refused.parts) × (blanks.configured.parts ≡ N.configured.parts) × (blanks.top.parts ≡ N.top.parts) }
     requires count { (N.taken.parts ≡ 1) × (N.refused.parts ≡ 1) × (N.configured.parts ≡ 1) × (N.top.parts ≡ 1) }
@@ -126,9 +123,9 @@ fn side_by_side<C: Opens, N: Naming<C::Settings>, R: Wait>(
         rows: 0,
         alike: true,
     };
-    begin(rt, alloc, settings, shared, &mut mine, streams)?;
+    begin(rt, alloc, shared, &mut mine, streams)?;
     for after in 0..ROUNDS {
-        round(rt, alloc, settings, shared, &mut mine, streams, after + 1)?;
+        round(rt, alloc, shared, &mut mine, streams, after + 1)?;
     }
     let shows_same = shows_same(rt, alloc, shared, &mine.bare, SOC);
     let counts = shared.counts(rt);
@@ -147,14 +144,12 @@ fn side_by_side<C: Opens, N: Naming<C::Settings>, R: Wait>(
 pub fn try_core<C: Opens, R: Wait>(
     rt: &R,
     alloc: Global,
-    settings: &C::Settings,
     first: C,
     counts: &[u16; MAX_PMUS],
     streams: &Streams,
 ) -> Option<Seen>
-    requires stands { C.stands_for first (C.given_with settings.now 1 0 counts.now) [] }
-    requires settings { C.settings_of first ≡ settings.now }
-    requires streams { C.Settings.streams settings.now ≡ 2 }
+    requires stands { C.stands_for first (C.given_with (C.settings_of first) 1 0 counts.now) [] }
+    requires streams { C.Settings.streams (C.settings_of first) ≡ 2 }
 {
     let blanks = Blanks {
         taken: Blank::new(1),
@@ -162,5 +157,5 @@ pub fn try_core<C: Opens, R: Wait>(
         configured: Blank::new(1),
         top: Blank::new(1),
     };
-    side_by_side::<C, Brand, R>(rt, alloc, settings, first, counts, streams, blanks)
+    side_by_side::<C, Brand, R>(rt, alloc, first, counts, streams, blanks)
 }

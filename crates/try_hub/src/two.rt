@@ -39,19 +39,18 @@ impl<C, N: Ledgers> Mine<C, N> {
 pub fn deliver<C: Core + Drop, N: Naming<C::Settings>, R: Wait>(
     rt: &R,
     alloc: Global,
-    settings: &C::Settings,
     hub: &Hub<C, N>,
     mine: &mut Mine<C, N>,
     stream: usize,
     bytes: &[u8],
 ) -> Option<()>
-    requires settings { (N.settings ≡ Some settings.now) × (C.settings_of mine.old.bare ≡ settings.now) }
-    requires stream { stream < C.Settings.streams settings.now }
+    requires settings { N.settings ≡ Some (C.settings_of mine.old.bare) }
+    requires stream { stream < C.Settings.streams (C.settings_of mine.old.bare) }
     requires fit { IsFit mine.old N.top.parts }
     ensures settings { C.settings_of mine.new.bare ≡ C.settings_of mine.old.bare }
     ensures fit { IsFit mine.new N.top.parts }
 {
-    let Ok(datagram) = settings.read_kept(alloc, stream, bytes) else {
+    let Ok(datagram) = mine.bare.settings().read_kept(alloc, stream, bytes) else {
         return None;
     };
     let Ok(Numbered { step, answer }) = hub.deliver(rt, stream, datagram, &mut mine.shares) else {

@@ -41,6 +41,16 @@ struct Mine<N: Ledgers> {
     out: Vec<u8>,
 }
 
+/// Two nodes at the start of one life, and what both were opened with: a hub's base, and its state.
+#[derive(Drop)]
+struct Opened<'s> {
+    settings: &'s Settings,
+    /// For each column the count below which no section is held.
+    counts: [u16; MAX_PMUS],
+    base: Node<RingTable>,
+    state: Node<RingTable>,
+}
+
 /// The name of a call.
 fn name_of(called: Called) -> &'static str {
     match called {
@@ -115,22 +125,25 @@ fn attempt<N: Naming<Settings>, R: Wait + Print>(
 fn play_on<N: Naming<Settings>, R: Wait + Print>(
     rt: &R,
     alloc: Global,
-    settings: &Settings,
-    counts: &[u16; MAX_PMUS],
-    base: Node<RingTable>,
-    state: Node<RingTable>,
+    opened: Opened,
     called: Called,
     blanks: Blanks,
 ) -> io::Result<()>
-    requires given { N.given ≡ Some (given_of settings.now 1 0 counts.now 0) }
-    requires alike { StandsFor (given_of settings.now 1 0 counts.now 0) [] base × StandsFor (given_of settings.now 1 0 counts.now 0) [] state }
-    requires settings { (N.settings ≡ Some settings.now) × (base.settings ≡ settings.now) × (state.settings ≡ settings.now) }
-    requires popped { state.popped ≡ 0 }
-    requires streams { 0 < length settings.now.pmus.items }
+    requires given { N.given ≡ Some (given_of opened.settings.now 1 0 opened.counts 0) }
+    requires alike { StandsFor (given_of opened.settings.now 1 0 opened.counts 0) [] opened.base × StandsFor (given_of opened.settings.now 1 0 opened.counts 0) [] opened.state }
+    requires settings { (N.settings ≡ Some opened.settings.now) × (opened.base.settings ≡ opened.settings.now) × (opened.state.settings ≡ opened.settings.now) }
+    requires popped { opened.state.popped ≡ 0 }
+    requires streams { 0 < length opened.settings.now.pmus.items }
     requires names { (blanks.taken.name ≡ N.taken.name) × (blanks.refused.name ≡ N.refused.name) × (blanks.configured.name ≡ N.configured.name) × (blanks.top.name ≡ N.top.name) }
     requires parts { (blanks.taken.parts ≡ N.taken.parts) × (blanks.refused.parts ≡ N.refused.parts) × (blanks.configured.parts ≡ N.configured.parts) × (blanks.top.parts ≡ N.top.parts) }
     requires count { (N.taken.parts ≡ 1) × (N.refused.parts ≡ 1) × (N.configured.parts ≡ 1) × (N.top.parts ≡ 1) }
 {
+    let Opened {
+        settings,
+        base,
+        state,
+        ..
+    } = opened;
     begin(rt, "Hub::new", made(false))?;
     let (hub, shares, pops) = Hub::<Node<RingTable>, N>::new(alloc, base, state, LIMIT, 0, blanks);
     end(rt, DONE, made(true))?;
@@ -164,7 +177,13 @@ fn play_one<R: Wait + Print>(
         configured: Blank::new(1),
         top: Blank::new(1),
     };
-    play_on::<Brand, R>(rt, alloc, settings, &counts, base, state, called, blanks)
+    let opened = Opened {
+        settings,
+        counts,
+        base,
+        state,
+    };
+    play_on::<Brand, R>(rt, alloc, opened, called, blanks)
 }
 
 /// Each call.

@@ -34,14 +34,6 @@ fn told(alloc: Global, answer: Result<Vec<u8>, ClientFault>) -> Result<String, A
     }
 }
 
-/// Adds these bytes so many times.
-fn push_times(input: &mut Vec<u8>, bytes: &[u8], times: u32) -> Result<(), AllocError> {
-    for _ in 0..times {
-        input.extend_from_slice(bytes)?;
-    }
-    Ok(())
-}
-
 /// Asks the client.
 fn ask(client: &mut Pdc<Line>, alloc: Global, word: &str) -> Result<String, AllocError> {
     match word {
@@ -69,10 +61,11 @@ impl ClientPlayer {
         times: &str,
         digits: &str,
     ) -> Result<&'static str, AllocError> {
-        let (Ok(times), Ok(bytes)) = (times.parse::<u32>(), hex::decode(alloc, digits)) else {
+        let (Ok(times), Ok(bytes)) = (times.parse::<usize>(), hex::decode(alloc, digits)) else {
             return Ok(NO_CALL);
         };
-        push_times(&mut self.line.input, &bytes, times)?;
+        let bytes = bytes.repeat(alloc, times)?;
+        self.line.input.extend_from_slice(&bytes)?;
         Ok("ok")
     }
 

@@ -13,6 +13,7 @@
 //! Frames are in hexadecimal. What is none of these, or what the PMU cannot be asked, is answered `no such call`.
 ghost use Rattle.std.specs.Prelude.{◌≡◌};
 
+use crate::told::NO_CALL;
 use arrayvec::ArrayVec;
 use pdc_cfg::{Shape, read_config};
 use pdc_command::MAX_TEXT;
@@ -43,7 +44,7 @@ impl PmuPlayer {
     }
 
     /// Begins another PMU.
-    fn begin(&mut self, id: &str, rate: &str, time_base: &str) -> Option<()> {
+    fn begin(&mut self, id: &str, rate: &str, time_base: &str) -> Option<Result<(), PmuFault>> {
         let (Ok(id), Ok(rate)) = (id.parse::<u16>(), rate.parse::<u16>()) else {
             return None;
         };
@@ -60,7 +61,7 @@ impl PmuPlayer {
             pmu: Pmu::new(id, rate, time_base),
             rate,
         };
-        Some(())
+        Some(Ok(()))
     }
 
     /// Gives the PMU another id.
@@ -103,6 +104,59 @@ impl PmuPlayer {
         let section = config.sections.first()?;
         Some(self.pmu.set_configuration(soc, section, out))
     }
+
+    /// What the header with this text is answered.
+    fn header_text(&mut self, alloc: Global, soc: &str, text: &str) -> Result<String, AllocError> {
+        let (Ok(soc), true) = (soc.parse::<u32>(), text.len() <= MAX_TEXT) else {
+            return NO_CALL.to_string(alloc);
+        };
+        let mut out = Vec::new(alloc);
+        let answer = self.pmu.set_header(soc, text.as_bytes(), &mut out);
+        told(alloc, Some(answer), &out)
+    }
+
+    /// What the configuration of this frame is answered.
+    fn config_text(
+        &mut self,
+        alloc: Global,
+        soc: &str,
+        digits: &str,
+    ) -> Result<String, AllocError> {
+        let (Ok(soc), Ok(frame)) = (soc.parse::<u32>(), hex::decode(alloc, digits)) else {
+            return NO_CALL.to_string(alloc);
+        };
+        let mut out = Vec::new(alloc);
+        let answer = self.configure(soc, &frame, &mut out);
+        told(alloc, answer, &out)
+    }
+
+    /// How many of so many configurations of this frame are sent.
+    fn configs_text(
+        &mut self,
+        alloc: Global,
+        times: &str,
+        digits: &str,
+    ) -> Result<String, AllocError> {
+        let (Ok(times), Ok(frame)) = (times.parse::<u32>(), hex::decode(alloc, digits)) else {
+            return NO_CALL.to_string(alloc);
+        };
+        configs(alloc, self, times, &frame)
+    }
+
+    /// What data with these words is answered.
+    fn send_text(
+        &mut self,
+        alloc: Global,
+        instant: &str,
+        words: &str,
+    ) -> Result<String, AllocError> {
+        let Some(words) = words_of(words) else {
+            return NO_CALL.to_string(alloc);
+        };
+        let mut out = Vec::new(alloc);
+        let answer = self.send(instant, &words, &mut out);
+        told(alloc, answer, &out)
+    }
 }
 
 /// The words of a call.
@@ -124,7 +178,7 @@ fn told(
         Some(Ok(())) if frame.is_empty() => "ok".to_string(alloc),
         Some(Ok(())) => hex::encode_upper(alloc, frame),
         Some(Err(fault)) => format!(in alloc; "{fault}"),
-        None => "no such call".to_string(alloc),
+        None => NO_CALL.to_string(alloc),
     }
 }
 
@@ -158,41 +212,18 @@ impl Player for PmuPlayer {
     fn play(&mut self, alloc: Global, call: &str) -> Result<String, AllocError> {
         let (word, rest) = call.split_once(' ').unwrap_or((call, ""));
         let (first, second) = rest.split_once(' ').unwrap_or((rest, ""));
-        let mut out = Vec::new(alloc);
         match word {
             "new" => {
                 let (rate, time_base) = second.split_once(' ').unwrap_or((second, ""));
-                let answer = self.begin(first, rate, time_base).map(Ok);
-                told(alloc, answer, &[])
+                told(alloc, self.begin(first, rate, time_base), &[])
             }
             "set_id" => told(alloc, self.set_id(first), &[]),
             "shape" => shape_text(alloc, self.pmu.shape()),
-            "header" => {
-                let (Ok(soc), true) = (first.parse::<u32>(), second.len() <= MAX_TEXT) else {
-                    return "no such call".to_string(alloc);
-                };
-                let answer = self.pmu.set_header(soc, second.as_bytes(), &mut out);
-                told(alloc, Some(answer), &out)
-            }
-            "config" | "configs" => {
-                let (Ok(number), Ok(frame)) = (first.parse::<u32>(), hex::decode(alloc, second))
-                else {
-                    return "no such call".to_string(alloc);
-                };
-                if word == "configs" {
-                    return configs(alloc, self, number, &frame);
-                }
-                let answer = self.configure(number, &frame, &mut out);
-                told(alloc, answer, &out)
-            }
-            "send" => {
-                let answer = match words_of(second) {
-                    Some(words) => self.send(first, &words, &mut out),
-                    None => None,
-                };
-                told(alloc, answer, &out)
-            }
-            _ => "no such call".to_string(alloc),
+            "header" => self.header_text(alloc, first, second),
+            "config" => self.config_text(alloc, first, second),
+            "configs" => self.configs_text(alloc, first, second),
+            "send" => self.send_text(alloc, first, second),
+            _ => NO_CALL.to_string(alloc),
         }
     }
 }

@@ -7,7 +7,9 @@ use pdc_life::MAX_PMUS;
 use pdc_output::{Output, append_row};
 use pdc_recording::{RecordedSource, RecordedTicker, Recording};
 use pdc_tag::SECONDS;
-use pdc_threads::{Blanks, Did, Hub, Naming, Next, Numbered, Pops, Shares, Source, Ticker};
+use pdc_threads::{
+    Blanks, Did, Hub, Ledgers, Naming, Next, Numbered, Pops, Shares, Source, Ticker,
+};
 use std::alloc::Global;
 use std::marker::Brand;
 use std::rt::Clock;
@@ -34,18 +36,43 @@ pub struct Sent {
     pub second: &'static [&'static str],
 }
 
+/// A core at the start of its life, and what it was opened with.
+#[derive(Drop)]
+pub struct Opened<'s, C: Core> {
+    /// Its settings.
+    pub settings: &'s C::Settings,
+    /// For each column the count below which no section is held.
+    pub counts: [u16; MAX_PMUS],
+    /// The core.
+    pub core: C,
+}
+
+/// The hub that the life goes through, the settings of its core, and what frames say of it.
+#[derive(Drop)]
+struct Lived<'h, C: Core + Drop, N: Naming<C::Settings>> {
+    settings: &'h C::Settings,
+    output: Output,
+    hub: &'h Hub<C, N>,
+}
+
+/// The shares of the hub's caller.
+#[derive(Drop)]
+struct Mine<N: Ledgers> {
+    shares: Shares<N>,
+    pops: Pops<N>,
+}
+
 /// The next datagram of a source, delivered. None where memory was wanted, or there is none.
 fn arrive<C: Core + Drop, N: Naming<C::Settings>, R: Wait + Clock>(
     rt: &R,
     alloc: Global,
-    settings: &C::Settings,
-    hub: &Hub<C, N>,
+    lived: &Lived<C, N>,
     shares: &mut Shares<N>,
     stream: usize,
     source: &mut RecordedSource<'_, Listed, R>,
 ) -> Option<()>
-    requires settings { N.settings ≡ Some settings.now }
-    requires stream { stream < C.Settings.streams settings.now }
+    requires settings { N.settings ≡ Some lived.now.settings.now }
+    requires stream { stream < C.Settings.streams lived.now.settings.now }
     requires parts { (0 < shares.old.taken.parts) × (0 < shares.old.refused.parts) × (0 < shares.old.configured.parts) }
     ensures parts { (shares.new.taken.parts ≡ shares.old.taken.parts) × (shares.new.refused.parts ≡ shares.old.refused.parts) × (shares.new.configured.parts ≡ shares.old.configured.parts) }
 {
@@ -55,10 +82,10 @@ fn arrive<C: Core + Drop, N: Naming<C::Settings>, R: Wait + Clock>(
     let Next::Datagram(len) = source.next(buffer.as_mut_slice()) else {
         return None;
     };
-    let Ok(datagram) = settings.read_kept(alloc, stream, &buffer[..len]) else {
+    let Ok(datagram) = lived.settings.read_kept(alloc, stream, &buffer[..len]) else {
         return None;
     };
-    let Ok(answer) = hub.deliver(rt, stream, datagram, shares) else {
+    let Ok(answer) = lived.hub.deliver(rt, stream, datagram, shares) else {
         return None;
     };
     source.answered(Some(answer));
@@ -109,15 +136,14 @@ fn lay<C: Core + Drop, N: Naming<C::Settings>, R: Wait + Clock>(
 fn pop<C: Core + Drop, N: Naming<C::Settings>, R: Wait + Clock>(
     rt: &R,
     alloc: Global,
-    output: &Output,
-    hub: &Hub<C, N>,
+    lived: &Lived<C, N>,
     pops: &mut Pops<N>,
     ticker: &mut RecordedTicker<'_, Silent, R>,
 ) -> Option<()>
     requires top { (pops.old.top.parts ≡ N.top.parts) × (0 < pops.old.top.parts) }
     ensures top { pops.new.top.parts ≡ pops.old.top.parts }
 {
-    let Ok(Numbered { step, answer }) = hub.pop(rt, pops) else {
+    let Ok(Numbered { step, answer }) = lived.hub.pop(rt, pops) else {
         return None;
     };
     if !answer {
@@ -126,10 +152,10 @@ fn pop<C: Core + Drop, N: Naming<C::Settings>, R: Wait + Clock>(
     }
     let row = &pops.row;
     let mut frame = Vec::new(alloc);
-    if row.instant >= SECONDS * u64::from(output.rate) {
+    if row.instant >= SECONDS * u64::from(lived.output.rate) {
         return None;
     }
-    if append_row(output, row, &mut frame).is_err() {
+    if append_row(&lived.output, row, &mut frame).is_err() {
         return None;
     }
     let instant = row.instant;
@@ -148,87 +174,79 @@ fn pop<C: Core + Drop, N: Naming<C::Settings>, R: Wait + Clock>(
 fn live<C: Core + Drop, N: Naming<C::Settings>, R: Wait + Clock>(
     rt: &R,
     alloc: Global,
-    settings: &C::Settings,
-    output: &Output,
-    hub: &Hub<C, N>,
-    shares: &mut Shares<N>,
-    pops: &mut Pops<N>,
+    lived: &Lived<C, N>,
+    mine: &mut Mine<N>,
     recording: &Recording,
     sent: &Sent,
 ) -> Option<()>
-    requires settings { N.settings ≡ Some settings.now }
-    requires streams { C.Settings.streams settings.now ≡ 2 }
-    requires parts { (0 < shares.old.taken.parts) × (0 < shares.old.refused.parts) × (0 < shares.old.configured.parts) }
-    requires top { (pops.old.top.parts ≡ N.top.parts) × (0 < pops.old.top.parts) }
+    requires settings { N.settings ≡ Some lived.now.settings.now }
+    requires streams { C.Settings.streams lived.now.settings.now ≡ 2 }
+    requires parts { (0 < mine.old.shares.taken.parts) × (0 < mine.old.shares.refused.parts) × (0 < mine.old.shares.configured.parts) }
+    requires top { (mine.old.pops.top.parts ≡ N.top.parts) × (0 < mine.old.pops.top.parts) }
 {
     let recording = Some(recording);
     let mut first = RecordedSource::new(rt, alloc, recording, 0, Listed::of(sent.first));
     let mut second = RecordedSource::new(rt, alloc, recording, 1, Listed::of(sent.second));
     let mut ticker = RecordedTicker::new(rt, recording, Silent);
-    arrive(rt, alloc, settings, hub, shares, 0, &mut first)?;
-    arrive(rt, alloc, settings, hub, shares, 1, &mut second)?;
-    let step = tick(rt, hub, &mut ticker, FIRST)?;
-    lay(rt, alloc, hub, &mut ticker, step)?;
-    pop(rt, alloc, output, hub, pops, &mut ticker)?;
-    arrive(rt, alloc, settings, hub, shares, 1, &mut second)?;
-    arrive(rt, alloc, settings, hub, shares, 0, &mut first)?;
-    tick(rt, hub, &mut ticker, FIRST + 1)?;
-    pop(rt, alloc, output, hub, pops, &mut ticker)?;
-    pop(rt, alloc, output, hub, pops, &mut ticker)
+    arrive(rt, alloc, lived, &mut mine.shares, 0, &mut first)?;
+    arrive(rt, alloc, lived, &mut mine.shares, 1, &mut second)?;
+    let step = tick(rt, lived.hub, &mut ticker, FIRST)?;
+    lay(rt, alloc, lived.hub, &mut ticker, step)?;
+    pop(rt, alloc, lived, &mut mine.pops, &mut ticker)?;
+    arrive(rt, alloc, lived, &mut mine.shares, 1, &mut second)?;
+    arrive(rt, alloc, lived, &mut mine.shares, 0, &mut first)?;
+    tick(rt, lived.hub, &mut ticker, FIRST + 1)?;
+    pop(rt, alloc, lived, &mut mine.pops, &mut ticker)?;
+    pop(rt, alloc, lived, &mut mine.pops, &mut ticker)
 }
 
 /// The life of a core through a hub. None where memory was wanted.
 fn live_on<C: Opens, N: Naming<C::Settings>, R: Wait + Clock>(
     rt: &R,
     alloc: Global,
-    settings: &C::Settings,
-    base: C,
-    counts: &[u16; MAX_PMUS],
+    opened: Opened<C>,
     recording: &Recording,
     sent: &Sent,
     blanks: Blanks,
 ) -> Option<()>
-    requires given { N.given ≡ Some (C.given_with settings.now 1 0 counts.now) }
-    requires stands { C.stands_for base (C.given_with settings.now 1 0 counts.now) [] }
-    requires settings { (N.settings ≡ Some settings.now) × (C.settings_of base ≡ settings.now) }
-    requires streams { C.Settings.streams settings.now ≡ 2 }
+    requires given { N.given ≡ Some (C.given_with opened.settings.now 1 0 opened.counts) }
+    requires stands { C.stands_for opened.core (C.given_with opened.settings.now 1 0 opened.counts) [] }
+    requires settings { (N.settings ≡ Some opened.settings.now) × (C.settings_of opened.core ≡ opened.settings.now) }
+    requires streams { C.Settings.streams opened.settings.now ≡ 2 }
     requires names { (blanks.taken.name ≡ N.taken.name) × (blanks.refused.name ≡ N.refused.name) × (blanks.configured.name ≡ N.configured.name) × (blanks.top.name ≡ N.top.name) }
     requires parts { (blanks.taken.parts ≡ N.taken.parts) × (blanks.refused.parts ≡ N.refused.parts) × (blanks.configured.parts ≡ N.configured.parts) × (blanks.top.parts ≡ N.top.parts) }
     requires count { (N.taken.parts ≡ 1) × (N.refused.parts ≡ 1) × (N.configured.parts ≡ 1) × (N.top.parts ≡ 1) }
 {
-    let output = base.output();
-    let Ok(state) = base.open_next(alloc, 1, 0, counts) else {
+    let Opened {
+        settings,
+        counts,
+        core,
+    } = opened;
+    let output = core.output();
+    let Ok(state) = core.open_next(alloc, 1, 0, &counts) else {
         return None;
     };
-    let (hub, shares, pops) = Hub::<C, N>::new(alloc, base, state, LIMIT, 0, blanks);
-    let mut shares = shares;
-    let mut pops = pops;
-    live(
-        rt,
-        alloc,
+    let (hub, shares, pops) = Hub::<C, N>::new(alloc, core, state, LIMIT, 0, blanks);
+    let lived = Lived {
         settings,
-        &output,
-        &hub,
-        &mut shares,
-        &mut pops,
-        recording,
-        sent,
-    )
+        output,
+        hub: &hub,
+    };
+    let mut mine = Mine { shares, pops };
+    live(rt, alloc, &lived, &mut mine, recording, sent)
 }
 
 /// The life of a core, which is at its start. None where memory was wanted.
 pub fn record_life<C: Opens, R: Wait + Clock>(
     rt: &R,
     alloc: Global,
-    settings: &C::Settings,
-    first: C,
-    counts: &[u16; MAX_PMUS],
+    opened: Opened<C>,
     recording: &Recording,
     sent: &Sent,
 ) -> Option<()>
-    requires stands { C.stands_for first (C.given_with settings.now 1 0 counts.now) [] }
-    requires settings { C.settings_of first ≡ settings.now }
-    requires streams { C.Settings.streams settings.now ≡ 2 }
+    requires stands { C.stands_for opened.core (C.given_with opened.settings.now 1 0 opened.counts) [] }
+    requires settings { C.settings_of opened.core ≡ opened.settings.now }
+    requires streams { C.Settings.streams opened.settings.now ≡ 2 }
 {
     let blanks = Blanks {
         taken: Blank::new(1),
@@ -236,5 +254,5 @@ pub fn record_life<C: Opens, R: Wait + Clock>(
         configured: Blank::new(1),
         top: Blank::new(1),
     };
-    live_on::<C, Brand, R>(rt, alloc, settings, first, counts, recording, sent, blanks)
+    live_on::<C, Brand, R>(rt, alloc, opened, recording, sent, blanks)
 }

@@ -7,7 +7,7 @@ ghost use Rattle.std.specs.Prelude.{◌≡◌, length};
 mod life;
 mod listed;
 
-use life::{Sent, record_life};
+use life::{Opened, Sent, record_life};
 use pdc_core::Opens;
 use pdc_journal::Journal;
 use pdc_life::MAX_PMUS;
@@ -90,7 +90,7 @@ fn live_and_record<R: Wait + Clock + Shelf>(
     let series = Series::open(rt, alloc, name, limits, begun, 0).ok()?;
     let recording = Recording::new(alloc).ok()?;
     let journal = Journal::new(alloc, true).ok()?;
-    let Ok(node) = Node::<RingTable>::open_first(alloc, copy_of(&settings.life), 1, 0, &counts)
+    let Ok(core) = Node::<RingTable>::open_first(alloc, copy_of(&settings.life), 1, 0, &counts)
     else {
         return None;
     };
@@ -98,7 +98,12 @@ fn live_and_record<R: Wait + Clock + Shelf>(
         first: &FIRST,
         second: &SECOND,
     };
-    record_life(rt, alloc, &settings.life, node, &counts, &recording, &sent)?;
+    let opened = Opened {
+        settings: &settings.life,
+        counts,
+        core,
+    };
+    record_life(rt, alloc, opened, &recording, &sent)?;
     recording.close(rt);
     write_record(rt, alloc, &recording, series, &journal);
     Some(())

@@ -22,6 +22,28 @@ use pdc_row::{DueRow, Offered, numbers_rise};
 use pdc_table::{MAX_COLUMNS, Places, PutOutcome, RowLayout, WaitRule, is_near, remove_front};
 use std::collections::VecDeque;
 
+/// A frame that is offered to the rows, without its cells.
+#[derive(Clone, Copy, Debug)]
+pub struct FrameHead {
+    /// Its stream.
+    pub stream: usize,
+    /// The lane that its cells go into.
+    pub lane: usize,
+    /// Its instant.
+    pub instant: u64,
+    /// Its time quality byte.
+    pub quality: u8,
+}
+
+/// What makes a row due: the streams that are waited for, and how long.
+#[derive(Clone, Copy, Debug)]
+pub struct DueRule<'r> {
+    /// For each stream whether a row waits for it.
+    pub required: &'r [bool],
+    /// How long a row waits.
+    pub wait: WaitRule,
+}
+
 /// How many rows stand below the instant.
 pub fn place(rows: &[AgedRow], instant: u64) -> usize
     requires { Rises 0 (instants_of rows.now) }
@@ -128,30 +150,27 @@ pub fn greatest(rows: &[AgedRow], last: u64) -> u64
 pub fn take<B: Offered>(
     rows: &mut Vec<AgedRow>,
     places: Places,
-    stream: usize,
-    lane: usize,
-    instant: u64,
+    head: FrameHead,
     cells: &[(usize, B)],
-    quality: u8,
 ) -> PutOutcome
     requires rising { Rises 0 (instants_of rows.old.items) }
     requires each { AllByRecursion (HasPlaces places.streams places.columns) rows.old.items }
-    requires room { row_at instant rows.old.items ≡ None → vec_len rows.old < vec_capacity rows.old }
+    requires room { row_at head.instant rows.old.items ≡ None → vec_len rows.old < vec_capacity rows.old }
     requires streams_fit { places.streams ≤ MAX_COLUMNS }
     requires columns_fit { places.columns ≤ MAX_COLUMNS }
-    requires stream { stream < places.streams }
+    requires stream { head.stream < places.streams }
     requires columns { All (λ (cell : ℕ × B). cell.0 < places.columns) cells.now }
-    ensures answer { result ≡ answer_at (row_at instant rows.old.items) stream lane (cells_in B.view cells.now quality) }
-    ensures items { rows.new.items ≡ (if is_taken (answer_at (row_at instant rows.old.items) stream lane (cells_in B.view cells.now quality))
-        then with_row (with_frame stream lane (cells_in B.view cells.now quality)) (blank_row places.streams places.columns instant) rows.old.items
+    ensures answer { result ≡ answer_at (row_at head.instant rows.old.items) head.stream head.lane (cells_in B.view cells.now head.quality) }
+    ensures items { rows.new.items ≡ (if is_taken (answer_at (row_at head.instant rows.old.items) head.stream head.lane (cells_in B.view cells.now head.quality))
+        then with_row (with_frame head.stream head.lane (cells_in B.view cells.now head.quality)) (blank_row places.streams places.columns head.instant) rows.old.items
         else rows.old.items) }
     ensures capacity { vec_capacity rows.new ≡ vec_capacity rows.old }
 {
-    match find(rows, instant, places) {
-        Ok(place) => rows[place].offer(stream, lane, cells, quality),
+    match find(rows, head.instant, places) {
+        Ok(place) => rows[place].offer(head.stream, head.lane, cells, head.quality),
         Err(place) => {
-            let mut row = AgedRow::blank(instant, places);
-            row.take(stream, lane, cells, quality);
+            let mut row = AgedRow::blank(head.instant, places);
+            row.take(head.stream, head.lane, cells, head.quality);
             rows.insert(place, row).unwrap();
             PutOutcome::Taken
         }
@@ -193,8 +212,7 @@ fn highest(rows: &[AgedRow], closed: &VecDeque<DueRow>) -> Option<u64>
 /// Closes the rows for which every row up to them is due, and answers how many.
 pub fn close_due(
     rows: &mut Vec<AgedRow>,
-    required: &[bool],
-    rule: WaitRule,
+    rule: &DueRule,
     layout: &RowLayout,
     closed: &mut VecDeque<DueRow>,
     last: &mut u64,
@@ -202,17 +220,17 @@ pub fn close_due(
 ) -> usize
     requires rising { Rises last.old (instants_of rows.old.items) }
     requires room { deque_len closed.old + vec_len rows.old ≤ deque_capacity closed.old }
-    ensures answer { result ≡ length (closing required.now rule rows.old.items) }
-    ensures rows { rows.new.items ≡ staying required.now rule rows.old.items }
+    ensures answer { result ≡ length (closing rule.now.required.now rule.now.wait rows.old.items) }
+    ensures rows { rows.new.items ≡ staying rule.now.required.now rule.now.wait rows.old.items }
     ensures closed { map row_view closed.new.items ≡ map row_view closed.old.items
-        ++ map (row_of (layout_view layout.now)) (closing required.now rule rows.old.items) }
-    ensures last { last.new ≡ greatest last.old (instants_of (closing required.now rule rows.old.items)) }
+        ++ map (row_of (layout_view layout.now)) (closing rule.now.required.now rule.now.wait rows.old.items) }
+    ensures last { last.new ≡ greatest last.old (instants_of (closing rule.now.required.now rule.now.wait rows.old.items)) }
     ensures disagree { disagree.new ≡ counter
-        (disagree.old + disagreements_in (layout_view layout.now) (closing required.now rule rows.old.items)) }
+        (disagree.old + disagreements_in (layout_view layout.now) (closing rule.now.required.now rule.now.wait rows.old.items)) }
     ensures capacity { vec_capacity rows.new ≡ vec_capacity rows.old }
     ensures closed_capacity { deque_capacity closed.new ≡ deque_capacity closed.old }
 {
-    let count = count_due(rows, required, rule);
+    let count = count_due(rows, rule.required, rule.wait);
     let due = &rows[..count];
     close(due, layout, closed);
     *last = greatest(due, *last);

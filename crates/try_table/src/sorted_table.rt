@@ -5,7 +5,7 @@ ghost use Rattle.pdc_table.specs.Steps.{after_put, put_answer};
 ghost use Rattle.pdc_table.specs.Taking.{cells_in};
 
 use crate::aged_row::AgedRow;
-use crate::rows;
+use crate::rows::{self, DueRule, FrameHead};
 use arrayvec::ArrayVec;
 use pdc_row::{Block, Body, DueRow, Offered, numbers_rise};
 use pdc_table::{
@@ -69,15 +69,13 @@ impl SortedTable {
             streams: self.required.len(),
             columns: self.columns,
         };
-        rows::take(
-            &mut self.rows,
-            places,
+        let head = FrameHead {
             stream,
             lane,
             instant,
-            cells,
             quality,
-        )
+        };
+        rows::take(&mut self.rows, places, head, cells)
     }
 }
 
@@ -144,7 +142,11 @@ impl Table for SortedTable {
             ..
         } = self;
         let required = required.as_slice();
-        rows::close_due(rows, required, rule, layout, closed, last, disagree) as u32
+        let rule = DueRule {
+            required,
+            wait: rule,
+        };
+        rows::close_due(rows, &rule, layout, closed, last, disagree) as u32
     }
 
     fn drop_stream(&mut self, stream: usize) {

@@ -2,7 +2,8 @@
 
 use super::same::is;
 use pdc_block::{BodyFault, cut, read_body};
-use pdc_cfg::Shape;
+use pdc_cfg::{MAX_SECTIONS, Shape};
+use std::process::Abort;
 use std::test::Fail;
 
 const ONE_PHASOR: Shape = Shape {
@@ -33,20 +34,39 @@ const TWO_BLOCKS: [u8; 16] = [
     0x00, 0x00, 0x39, 0x2B, 0x00, 0x00, 0x09, 0xC4, 0x00, 0x00, 0xA1, 0xF0, 0x80, 0x00, 0x7F, 0xFF,
 ];
 
-#[test]
-fn two_blocks(rt: HostRuntime) -> Result<(), Fail> {
-    let blocks = cut(&[ONE_PHASOR, Shape::default()], &TWO_BLOCKS)?;
-    is!(&rt; blocks.len(), 2);
-    let [first, second] = blocks.as_slice() else {
-        return Err(Fail::from("there are two"));
+/// The words of each block into which the shapes cut the payload.
+fn are_cut(rt: &impl Abort, shapes: &[Shape], payload: &[u8], wanted: &[&[u16]]) {
+    assert!(rt; shapes.len() <= MAX_SECTIONS);
+    let Ok(blocks) = cut(shapes, payload) else {
+        panic!(rt; "the shapes do not cut it");
     };
-    is!(&rt; first.words(), WORDS_11.as_slice());
-    is!(&rt; second.words(), [0xA1F0, 0x8000, 0x7FFF].as_slice());
-    let other_order = cut(&[Shape::default(), ONE_PHASOR], &TWO_BLOCKS)?;
-    is!(&rt; other_order.len(), 2);
-    is!(&rt; other_order.as_slice()[0].words(), [0, 14635, 0].as_slice());
+    is!(rt; blocks.len(), wanted.len());
+    for (block, words) in blocks.iter().zip(wanted) {
+        is!(rt; block.words(), *words);
+    }
+}
+
+#[test]
+fn two_blocks(rt: HostRuntime) {
+    let later = [0xA1F0, 0x8000, 0x7FFF];
+    are_cut(
+        &rt,
+        &[ONE_PHASOR, Shape::default()],
+        &TWO_BLOCKS,
+        &[WORDS_11.as_slice(), later.as_slice()],
+    );
+    let (first, second) = ([0, 14635, 0], [2500, 0, 0xA1F0, 0x8000, 0x7FFF]);
+    are_cut(
+        &rt,
+        &[Shape::default(), ONE_PHASOR],
+        &TWO_BLOCKS,
+        &[first.as_slice(), second.as_slice()],
+    );
+    are_cut(&rt, &[], &[], &[]);
+}
+
+#[test]
+fn payloads_of_another_length(rt: HostRuntime) {
     is!(&rt; cut(&[ONE_PHASOR], &TWO_BLOCKS).err(), Some(BodyFault::WrongLength));
     is!(&rt; cut(&[], &TWO_BLOCKS).err(), Some(BodyFault::WrongLength));
-    is!(&rt; cut(&[], &[])?.len(), 0);
-    Ok(())
 }

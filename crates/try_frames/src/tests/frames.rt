@@ -6,6 +6,7 @@ use super::vectors::{CONFIG_11, DATA_11, DATA_ON};
 use arrayvec::ArrayVec;
 use pdc_frame::*;
 use std::alloc::{AllocError, Global};
+use std::process::Abort;
 use std::test::*;
 
 /// A frame of id 0.
@@ -89,15 +90,21 @@ fn in_pieces(alloc: Global, bytes: &[u8], len: usize) -> Result<Vec<Vec<u8>>, Al
     Ok(pieces)
 }
 
+/// The frames in these pieces are the configuration and the data.
+fn are_both(rt: &impl Abort, alloc: Global, pieces: &[Vec<u8>]) -> Result<(), Fail> {
+    let (frames, fault) = frames_of(alloc, pieces)?;
+    is!(rt; fault, None);
+    is!(rt; frames.len(), 2);
+    is!(rt; frames.first().map(Vec::as_slice), Some(CONFIG_11.as_slice()));
+    is!(rt; frames.last().map(Vec::as_slice), Some(DATA_11.as_slice()));
+    Ok(())
+}
+
 #[test]
 fn joined_frames_in_pieces(rt: HostRuntime) -> Result<(), Fail> {
     let stream = joined(rt.alloc(), &CONFIG_11, &DATA_11)?;
     for len in [1, 7, 100] {
-        let (frames, fault) = frames_of(rt.alloc(), &in_pieces(rt.alloc(), &stream, len)?)?;
-        is!(&rt; fault, None);
-        is!(&rt; frames.len(), 2);
-        is!(&rt; frames.first().map(Vec::as_slice), Some(CONFIG_11.as_slice()));
-        is!(&rt; frames.last().map(Vec::as_slice), Some(DATA_11.as_slice()));
+        are_both(&rt, rt.alloc(), &in_pieces(rt.alloc(), &stream, len)?)?;
     }
     Ok(())
 }

@@ -150,18 +150,16 @@ fn flushed_before_each_read(rt: HostRuntime) -> Result<(), Fail> {
 }
 
 /// A head, so many bytes 00 and an end.
-fn long_line(alloc: Global, head: &str, zeros: usize, end: &str) -> Result<String, AllocError> {
-    let mut line = String::from_str(alloc, head)?;
-    for _ in 0..zeros {
-        line.push_str("00")?;
-    }
-    line.push_str(end)?;
+fn long_line(alloc: Global, head: &str, zeros: usize, end: &str) -> Result<Vec<u8>, AllocError> {
+    let mut line = Vec::from_slice(alloc, head.as_bytes())?;
+    line.resize(line.len().saturating_add(zeros.saturating_mul(2)), b'0')?;
+    line.extend_from_slice(end.as_bytes())?;
     Ok(line)
 }
 
 /// The line is refused so.
-fn is_refused(rt: &impl Abort, alloc: Global, line: &str, wanted: &str) {
-    let mut reader = line.as_bytes();
+fn is_refused(rt: &impl Abort, alloc: Global, line: &[u8], wanted: &str) {
+    let mut reader = line;
     let mut printed = Vec::new(alloc);
     let outcome = run_show(alloc, &mut reader, &mut printed);
     is!(rt; matches!(outcome, Ok(Shown::SomeRefused)), true);

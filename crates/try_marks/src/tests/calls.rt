@@ -1,8 +1,8 @@
 //! Marks call by call.
 
 use super::fixtures::{
-    FLOOR, ID, OPENING, RATE, begun, converted_file, counts, fresh, mark_file, old_file, opened,
-    put, raise, raised_file, reserve, told,
+    FLOOR, ID, OPENING, RATE, begun, converted_file, counts, fault_of, fresh, mark_file, old_file,
+    opened, put, raise, raised_file, reserve, told,
 };
 use super::same;
 use pdc_disk::{Disk, FuseDisk, Landing, MemoryDisk};
@@ -119,10 +119,11 @@ fn refusals(rt: HostRuntime) {
 
 /// What a file of version 1 with these bytes is read as.
 fn old_mark(bytes: &[u8]) -> Result<(u32, u64), MarkFault> {
-    if bytes.len() <= 256 {
-        return OldMark::read(&mut MemoryDisk::new(bytes)).map(|mark| mark.stored());
+    if bytes.len() > 256 {
+        return Err(MarkFault::NoMark);
     }
-    Err(MarkFault::NoMark)
+    let mark = OldMark::read(&mut MemoryDisk::new(bytes))?;
+    Ok(mark.stored())
 }
 
 #[test]
@@ -177,7 +178,7 @@ fn faults_in_open(rt: HostRuntime) {
 fn faults_in_what_makes_a_file(rt: HostRuntime) {
     for passed in 0..3 {
         let made = DiskMark::init(FuseDisk::new(MemoryDisk::new(&[]), passed), ID, RATE);
-        is!(&rt; made.map(|_| ()).map_err(|refused| refused.fault), Err(MarkFault::Device));
+        is!(&rt; fault_of(made), Some(MarkFault::Device));
         let old = MemoryDisk::new(&old_file());
         let mut new = MemoryDisk::new(&[]);
         let read = DiskMark::convert(&mut FuseDisk::new(old, passed), &mut new);
@@ -198,7 +199,7 @@ fn reopened(rt: HostRuntime) {
     is!(&rt; mark.begin(), Ok(2));
     let mut blown = opened(&rt, FuseDisk::new(mark.into_disk(), OPENING + 1));
     is!(&rt; blown.begin(), Err(MarkFault::Device));
-    is!(&rt; blown.reopen().map(|_| ()).map_err(|refused| refused.fault), Err(MarkFault::Device));
+    is!(&rt; fault_of(blown.reopen()), Some(MarkFault::Device));
 }
 
 #[test]

@@ -1,6 +1,6 @@
 //! Mark files, and what the tests do with marks.
 use pdc_disk::{Disk, Landing, MemoryDisk};
-use pdc_mark::{COUNTS, DiskMark, MARK_LEN, Mark, MarkFault, OLD_LEN, raised};
+use pdc_mark::{COUNTS, DiskMark, MARK_LEN, Mark, MarkFault, OLD_LEN, Refused, raised};
 use std::path::PathBuf;
 use std::process::Abort;
 use std::test::Fail;
@@ -37,9 +37,9 @@ const BEGUN: [u8; 16] = [
 
 /// Puts these bytes into a file from this place on.
 pub fn put(file: &mut [u8], at: usize, bytes: &[u8]) {
-    for (place, byte) in file.iter_mut().skip(at).zip(bytes) {
-        *place = *byte;
-    }
+    let rest = file.get_mut(at..).unwrap_or(&mut []);
+    let len = rest.len().min(bytes.len());
+    rest[..len].copy_from_slice(&bytes[..len]);
 }
 
 /// The file of version 1 of a mark for 201 and 50 after `begin` and `reserve(57478860001)`.
@@ -94,9 +94,9 @@ pub fn opened<D: Disk + Drop>(rt: &impl Abort, disk: D) -> DiskMark<D> {
     }
 }
 
-/// Why this disk has no mark of this id and rate.
-pub fn refusal<D: Disk + Drop>(disk: D, id: u16, rate: u16) -> Option<MarkFault> {
-    match DiskMark::open(disk, id, rate) {
+/// Why there is no mark.
+pub fn fault_of<D: Disk + Drop>(answer: Result<DiskMark<D>, Refused<D>>) -> Option<MarkFault> {
+    match answer {
         Ok(_) => None,
         Err(refused) => Some(refused.fault),
     }

@@ -1,14 +1,14 @@
 //! Disks and marks in real files.
 
 use super::fixtures::{
-    FLOOR, ID, RATE, counts, folder, mark_file, old_file, opened, raise, raised_file, refusal,
+    FLOOR, ID, RATE, counts, fault_of, folder, mark_file, old_file, opened, raise, raised_file,
     reserve,
 };
 use super::same;
 use pdc_disk::{Disk, DiskFault, FileDisk};
 use pdc_mark::{DiskMark, Mark, MarkFault};
 use std::fs::{self, File, OpenOptions};
-use std::io::ErrorKind;
+use std::io::{self, ErrorKind};
 use std::os::fd::AsRawFd;
 use std::process::Abort;
 use std::rt::Files;
@@ -54,14 +54,22 @@ fn write(disk: &mut FileDisk, at: u64, bytes: &[u8]) -> Result<(), DiskFault> {
     disk.sync()
 }
 
+/// Why there is no disk.
+fn kind_of(answer: io::Result<FileDisk>) -> Option<ErrorKind> {
+    match answer {
+        Ok(_) => None,
+        Err(error) => Some(error.kind()),
+    }
+}
+
 /// Why no file is made.
 fn not_made(rt: &(impl Abort + Alloc + Files<File = File>), name: &str) -> Option<ErrorKind> {
-    FileDisk::create(rt, name).err().map(|error| error.kind())
+    kind_of(FileDisk::create(rt, name))
 }
 
 /// Why no file is opened.
 fn not_opened(rt: &(impl Abort + Alloc + Files<File = File>), name: &str) -> Option<ErrorKind> {
-    FileDisk::open(rt, name).err().map(|error| error.kind())
+    kind_of(FileDisk::open(rt, name))
 }
 
 fn written_again(rt: &(impl Abort + Alloc + Files<File = File>), name: &str) {
@@ -166,7 +174,7 @@ fn life_in_a_file(rt: &(impl Abort + Alloc + Files<File = File>), name: &str) {
     is!(rt; opened(rt, disk(rt, name)).begin(), Ok(1));
     is!(rt; reserve(&mut opened(rt, disk(rt, name)), FLOOR), Ok(()));
     holds(rt, name, &mark_file());
-    is!(rt; refusal(disk(rt, name), 202, RATE), Some(MarkFault::OtherOwner));
+    is!(rt; fault_of(DiskMark::open(disk(rt, name), 202, RATE)), Some(MarkFault::OtherOwner));
 }
 
 fn refused_length(
@@ -177,7 +185,8 @@ fn refused_length(
 ) {
     let cut = OpenOptions::new().write(true).open(rt, name);
     cut.expect(rt, "a file").set_len(len).expect(rt, "a length");
-    is!(rt; (len, refusal(disk(rt, name), ID, RATE)), (len, Some(fault)));
+    let found = fault_of(DiskMark::open(disk(rt, name), ID, RATE));
+    is!(rt; (len, found), (len, Some(fault)));
 }
 
 fn converted(rt: &(impl Abort + Alloc + Files<File = File>), old: &str, new: &str) {

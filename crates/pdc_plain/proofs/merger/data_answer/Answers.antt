@@ -15,8 +15,8 @@ returns c =
     let layout : HeldLayout = layout_view c.in-Some.layout in
     let long : 14 ≤ length c.args.payload.now = search rules in
     let bears : c.bears.result ≡ true = search rules in
-    let taken = merged_taken c.words_are_cut.ensures g E c.args.stream c.args.instant c.args.quality c.args.payload.now c.split_at.result.0.now c.split_at.result.1.now layout c.split_at.ensures.front c.split_at.ensures.back long
+    let taken = merged_taken c.words_are_cut.ensures g E c.args.stream c.args.tag.instant c.args.tag.quality c.args.payload.now c.split_at.result.0.now c.split_at.result.1.now layout c.split_at.ensures.front c.split_at.ensures.back long
     (sym c.bears.ensures ∙ bears) (c.if-blocks-blocks_len.false ∙ c.blocks_len.ensures.value) in
     subst (λ (a : Answer). IfOk c.answer_in_time.result (λ answer. answer_view answer ≡ a))
-    (ap (answer_in_time g E c.args.stream c.args.instant) c.in_ok-cells.ensures ∙ sym taken ∙ ap (merged_data_answer g E c.args.stream c.args.instant c.args.quality c.args.payload.now) c.in-Some.ensures)
+    (ap (answer_in_time g E c.args.stream c.args.tag.instant) c.in_ok-cells.ensures ∙ sym taken ∙ ap (merged_data_answer g E c.args.stream c.args.tag.instant c.args.tag.quality c.args.payload.now) c.in-Some.ensures)
     c.answer_in_time.ensures

@@ -2,7 +2,7 @@ use Rattle.std.proofs.Common.{Some}
 use Rattle.try_hub.proofs.rounds.try_core.Given as goal
 
 abbrev pub ghosts-side_by_side-N-Naming : goal.ghosts-side_by_side-N-Naming
-ghosts-side_by_side-N-Naming g a = record { given = Some (g.C.Opens.given_with a.settings.now 1 0 a.counts.now); settings = Some a.settings.now }
+ghosts-side_by_side-N-Naming g a = record { given = Some (g.C.Opens.given_with (g.C.Core.settings_of a.base) 1 0 a.counts.now); settings = Some (g.C.Core.settings_of a.base) }
 
 abbrev pub ghosts-side_by_side-N-Ledgers : goal.ghosts-side_by_side-N-Ledgers
 ghosts-side_by_side-N-Ledgers g a = record {

@@ -3,7 +3,7 @@ use Rattle.pdc_life.specs.Given.{given_of}
 use Rattle.try_memory_runs.proofs.hubs.play_one.Given as goal
 
 abbrev pub ghosts-play_on-N-Naming : goal.ghosts-play_on-N-Naming
-ghosts-play_on-N-Naming g a = record { given = Some (given_of a.settings.now 1 0 a.counts.now 0); settings = Some a.settings.now }
+ghosts-play_on-N-Naming g a = record { given = Some (given_of a.opened.settings.now 1 0 a.opened.counts 0); settings = Some a.opened.settings.now }
 
 abbrev pub ghosts-play_on-N-Ledgers : goal.ghosts-play_on-N-Ledgers
 ghosts-play_on-N-Ledgers g a = record {
