@@ -1,5 +1,6 @@
 //! The command `listen`.
 
+use crate::complaint::{complain, complain_at, complain_of, local_port, print_fault};
 use crate::{DONE, FAILED};
 use pdc_command_line::Listen;
 use pdc_network::{ListenFault, UdpSource, listen};
@@ -28,21 +29,22 @@ pub fn run_listen_command<R: AllocGlobal + Net + Print + Eprint + Wait>(
     let mut source = match UdpSource::open(rt, port) {
         Ok(source) => source,
         Err(error) => {
-            eprintln!(rt; "device fault")?;
-            eprintln!(rt; "pdc listen: UDP port {port} of 127.0.0.1: {error}")?;
+            print_fault(rt, &"device fault")?;
+            complain_at(rt, "listen", &local_port("UDP ", port), &error)?;
             return Ok(FAILED);
         }
     };
     match print_datagrams(rt, &mut source, asked.count) {
         Ok(()) => Ok(DONE),
         Err(fault) => {
-            eprintln!(rt; "{fault}")?;
+            print_fault(rt, &fault)?;
             match fault {
                 ListenFault::Source => {
-                    eprintln!(rt; "pdc listen: UDP port {port} of 127.0.0.1: nothing can be read")?
+                    let port = local_port("UDP ", port);
+                    complain_at(rt, "listen", &port, &"nothing can be read")?
                 }
-                ListenFault::Write(error) => eprintln!(rt; "pdc listen: the output: {error}")?,
-                ListenFault::NoMemory => eprintln!(rt; "pdc listen: it ended early")?,
+                ListenFault::Write(error) => complain_of(rt, "listen", "the output", &error)?,
+                ListenFault::NoMemory => complain(rt, "listen", "it ended early")?,
             }
             Ok(FAILED)
         }

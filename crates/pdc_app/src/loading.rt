@@ -1,5 +1,6 @@
 //! What is told where there are no settings in a file.
 
+use crate::complaint::complain_of;
 use pdc_service::LoadFault;
 use pdc_settings::SettingsFault;
 use std::io;
@@ -12,18 +13,18 @@ pub fn report_load(
     fault: &LoadFault,
 ) -> io::Result<()> {
     match fault {
-        LoadFault::Unread(error) => eprintln!(rt; "pdc {command}: {file}: {error}"),
+        LoadFault::Unread(error) => complain_of(rt, command, file, error),
         LoadFault::Refused(SettingsFault::Toml) => {
-            eprintln!(rt; "pdc {command}: {file}: it is no TOML")
+            complain_of(rt, command, file, &"it is no TOML")
         }
         LoadFault::Refused(SettingsFault::Range(wanted)) => {
-            eprintln!(rt; "pdc {command}: {file}: {wanted}")
+            complain_of(rt, command, file, wanted)
         }
         LoadFault::Refused(SettingsFault::DoubledId) => {
-            eprintln!(rt; "pdc {command}: {file}: two ids are the same that must differ")
+            complain_of(rt, command, file, &"two ids are the same that must differ")
         }
         LoadFault::Refused(SettingsFault::NoMemory) => {
-            eprintln!(rt; "pdc {command}: {file}: it is not read")
+            complain_of(rt, command, file, &"it is not read")
         }
     }
 }

@@ -1,6 +1,7 @@
 //! The program `pdc`.
 #![tactic(auto)]
 
+mod complaint;
 mod listen;
 mod loading;
 mod mark_convert;

@@ -1,5 +1,6 @@
 //! The command `mark-convert`.
 
+use crate::complaint::{complain_of, print_fault};
 use crate::{FAILED, REFUSED};
 use pdc_command_line::MarkConvert;
 use pdc_mark::{MarkConvertFault, MarkFault};
@@ -22,15 +23,15 @@ pub fn report_mark_convert(
     fault: &MarkConvertFault,
     request: &MarkConvert,
 ) -> io::Result<()> {
-    let MarkConvert { old, new } = request;
-    eprintln!(rt; "{fault}")?;
+    let (command, old, new) = ("mark-convert", request.old, request.new);
+    print_fault(rt, fault)?;
     match fault {
-        MarkConvertFault::Exists => eprintln!(rt; "pdc mark-convert: {new}: it is left as it is"),
+        MarkConvertFault::Exists => complain_of(rt, command, new, &"it is left as it is"),
         MarkConvertFault::NotRead(error) if error.kind() == ErrorKind::WouldBlock => {
-            eprintln!(rt; "pdc mark-convert: {old}: in use by another process")
+            complain_of(rt, command, old, &"in use by another process")
         }
-        MarkConvertFault::NotRead(error) => eprintln!(rt; "pdc mark-convert: {old}: {error}"),
-        MarkConvertFault::NotMade(error) => eprintln!(rt; "pdc mark-convert: {new}: {error}"),
+        MarkConvertFault::NotRead(error) => complain_of(rt, command, old, error),
+        MarkConvertFault::NotMade(error) => complain_of(rt, command, new, error),
         MarkConvertFault::Refused(_) => {
             eprintln!(rt; "pdc mark-convert: {old} was not converted to {new}")
         }

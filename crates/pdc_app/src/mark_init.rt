@@ -1,5 +1,6 @@
 //! The command `mark-init`.
 
+use crate::complaint::{complain_of, print_fault};
 use crate::{FAILED, REFUSED};
 use pdc_command_line::MarkInit;
 use pdc_mark::MarkInitFault;
@@ -19,13 +20,13 @@ pub fn report_mark_init(
     fault: &MarkInitFault,
     request: &MarkInit,
 ) -> io::Result<()> {
-    let file = request.file;
-    eprintln!(rt; "{fault}")?;
+    let (command, file) = ("mark-init", request.file);
+    print_fault(rt, fault)?;
     match fault {
-        MarkInitFault::Exists => eprintln!(rt; "pdc mark-init: {file}: it is left as it is"),
-        MarkInitFault::NotMade(error) => eprintln!(rt; "pdc mark-init: {file}: {error}"),
+        MarkInitFault::Exists => complain_of(rt, command, file, &"it is left as it is"),
+        MarkInitFault::NotMade(error) => complain_of(rt, command, file, error),
         MarkInitFault::NotWritten => {
-            eprintln!(rt; "pdc mark-init: {file}: the mark cannot be written")
+            complain_of(rt, command, file, &"the mark cannot be written")
         }
     }
 }

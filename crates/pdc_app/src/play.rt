@@ -1,6 +1,7 @@
 //! The command `play`.
 
 use crate::FAILED;
+use crate::complaint::print_fault;
 use crate::loading::report_load;
 use pdc_command_line::Play;
 use pdc_play::{Ending, PlayFault};
@@ -29,7 +30,7 @@ fn loaded(
     match load(rt, file) {
         Ok(settings) => Ok(Ok(settings)),
         Err(fault) => {
-            eprintln!(rt; "{fault}")?;
+            print_fault(rt, &fault)?;
             report_load(rt, "play", file, &fault)?;
             Ok(Err(fault.status()))
         }

@@ -1,5 +1,6 @@
 //! The command `pmu`.
 
+use crate::complaint::{NamedPort, complain, complain_at, complain_of, local_port, print_fault};
 use crate::{DONE, FAILED};
 use pdc_command_line::{Place as AskedPlace, Simulated as Asked};
 use pdc_simulation::{Place, Simulated, SimulationFault, simulate};
@@ -14,11 +15,9 @@ fn report_place(
     error: &io::Error,
 ) -> io::Result<()> {
     match place {
-        Some(AskedPlace::Port(port)) => {
-            eprintln!(rt; "pdc pmu: {kind} port {port} of 127.0.0.1: {error}")
-        }
-        Some(AskedPlace::At(text)) => eprintln!(rt; "pdc pmu: {kind} {text}: {error}"),
-        None => eprintln!(rt; "pdc pmu: {kind}: {error}"),
+        Some(AskedPlace::Port(port)) => { complain_at(rt, "pmu", &local_port(kind, *port), error) }
+        Some(AskedPlace::At(text)) => eprintln!(rt; "pdc pmu: {kind}{text}: {error}"),
+        None => complain_of(rt, "pmu", kind.trim_end(), error),
     }
 }
 
@@ -28,21 +27,24 @@ fn report_simulation(
     fault: &SimulationFault,
     asked: &Asked<'_>,
 ) -> io::Result<()> {
-    eprintln!(rt; "{fault}")?;
+    print_fault(rt, fault)?;
     match fault {
         SimulationFault::Place(number, error) => {
-            report_place(rt, "UDP", asked.places.as_slice().get(*number), error)
+            report_place(rt, "UDP ", asked.places.as_slice().get(*number), error)
         }
-        SimulationFault::Listener(error) => report_place(rt, "TCP", asked.tcp.as_ref(), error),
+        SimulationFault::Listener(error) => report_place(rt, "TCP ", asked.tcp.as_ref(), error),
         SimulationFault::NotSent(Some(to)) => {
-            let (port, address) = (to.port(), to.ip());
-            eprintln!(rt; "pdc pmu: UDP port {port} of {address}: a frame is not sent")
+            let port = NamedPort {
+                kind: "UDP ",
+                at: *to,
+            };
+            complain_at(rt, "pmu", &port, &"a frame is not sent")
         }
-        SimulationFault::Clock(error) => eprintln!(rt; "pdc pmu: the clock: {error}"),
+        SimulationFault::Clock(error) => complain_of(rt, "pmu", "the clock", error),
         SimulationFault::NotSent(None)
         | SimulationFault::Layout
         | SimulationFault::Pmu(_)
-        | SimulationFault::NoMemory => { eprintln!(rt; "pdc pmu: it ended early") }
+        | SimulationFault::NoMemory => complain(rt, "pmu", "it ended early"),
     }
 }
 

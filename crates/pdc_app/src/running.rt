@@ -1,6 +1,7 @@
 //! The commands `node` and `merge`.
 
 use crate::DONE;
+use crate::complaint::{NamedPort, complain, complain_at, complain_of, print_fault};
 use crate::loading::report_load;
 use pdc_command_line::Running;
 use pdc_service::{
@@ -24,17 +25,15 @@ fn report_fault(
     request: &Running,
 ) -> io::Result<u8> {
     let mark = request.mark;
-    eprintln!(rt; "{fault}")?;
+    print_fault(rt, fault)?;
     match fault {
         ServiceFault::Settings(fault) => report_load(rt, command, request.settings, fault)?,
-        ServiceFault::MarkUnopened(error) => eprintln!(rt; "pdc {command}: {mark}: {error}")?,
-        ServiceFault::MarkInUse => {
-            eprintln!(rt; "pdc {command}: {mark}: in use by another process")?
-        }
-        ServiceFault::Mark(_) => eprintln!(rt; "pdc {command}: {mark}: the mark is not begun")?,
+        ServiceFault::MarkUnopened(error) => complain_of(rt, command, mark, error)?,
+        ServiceFault::MarkInUse => { complain_of(rt, command, mark, &"in use by another process")? }
+        ServiceFault::Mark(_) => complain_of(rt, command, mark, &"the mark is not begun")?,
         ServiceFault::Port(at, error) => {
-            let (port, address) = (at.port(), at.ip());
-            eprintln!(rt; "pdc {command}: port {port} of {address}: {error}")?
+            let port = NamedPort { kind: "", at: *at };
+            complain_at(rt, command, &port, error)?
         }
         ServiceFault::Output(number, error) => {
             let settings = request.settings;
@@ -48,8 +47,8 @@ fn report_fault(
             let name = request.record.map_or("", |record| record.name);
             eprintln!(rt; "pdc {command}: the first file of the record {name}: {error}")?
         }
-        ServiceFault::Run(_) => eprintln!(rt; "pdc {command}: the run ended early")?,
-        ServiceFault::Clock => eprintln!(rt; "pdc {command}: the clock cannot be read")?,
+        ServiceFault::Run(_) => complain(rt, command, "the run ended early")?,
+        ServiceFault::Clock => complain(rt, command, "the clock cannot be read")?,
     }
     Ok(fault.status())
 }

@@ -1,14 +1,15 @@
 //! The commands of `pdc`, and their help.
 
-use crate::listen::{listen, listen_request};
-use crate::mark_convert::{mark_convert, mark_convert_request};
-use crate::mark_init::{mark_init, mark_init_request};
-use crate::play::{play, play_request};
-use crate::pmu::{pmu, pmu_request};
+use crate::listen::{LISTEN, listen_request};
+use crate::mark_convert::{MARK_CONVERT, mark_convert_request};
+use crate::mark_init::{MARK_INIT, mark_init_request};
+use crate::play::{PLAY, play_request};
+use crate::pmu::{PMU, pmu_request};
 use crate::request::Request;
-use crate::running::{Concentrator, merge, node, running_request};
-use crate::show::{show, show_form};
-use clap::{Command, Error};
+use crate::running::{MERGE, NODE, merge_request, node_request};
+use crate::show::{SHOW, show_form};
+use crate::words::{Told, command_of};
+use clap::{ArgMatches, Command, Error};
 use std::alloc::{AllocError, Global};
 
 const ABOUT: &str =
@@ -50,26 +51,48 @@ fn program<'a>(alloc: Global) -> Result<Command<'a>, AllocError> {
         .bin_name("pdc")
 }
 
-/// The program with the commands that read and make files.
-fn with_files<'a>(alloc: Global, program: Command<'a>) -> Result<Command<'a>, AllocError> {
-    program
-        .subcommand(show(alloc)?)?
-        .subcommand(play(alloc)?)?
-        .subcommand(mark_init(alloc)?)?
-        .subcommand(mark_convert(alloc)?)
+/// The program with one more command.
+fn with<'a>(
+    alloc: Global,
+    program: Result<Command<'a>, AllocError>,
+    told: &Told<'a>,
+) -> Result<Command<'a>, AllocError> {
+    program?.subcommand(command_of(alloc, told)?)
 }
 
-/// The program with the commands that run on the network.
-fn with_network<'a>(alloc: Global, program: Command<'a>) -> Result<Command<'a>, AllocError> {
-    program
-        .subcommand(node(alloc)?)?
-        .subcommand(merge(alloc)?)?
-        .subcommand(pmu(alloc)?)?
-        .subcommand(listen(alloc)?)
+/// The program with the commands that read and make files, in the order of its help.
+fn with_files<'a>(alloc: Global) -> Result<Command<'a>, AllocError> {
+    let pdc = with(alloc, program(alloc), &SHOW);
+    let pdc = with(alloc, pdc, &PLAY);
+    let pdc = with(alloc, pdc, &MARK_INIT);
+    with(alloc, pdc, &MARK_CONVERT)
 }
 
+/// The program with all its commands: those that run on the network stand behind.
 fn pdc<'a>(alloc: Global) -> Result<Command<'a>, AllocError> {
-    with_network(alloc, with_files(alloc, program(alloc)?)?)
+    let pdc = with(alloc, with_files(alloc), &NODE);
+    let pdc = with(alloc, pdc, &MERGE);
+    let pdc = with(alloc, pdc, &PMU);
+    with(alloc, pdc, &LISTEN)
+}
+
+/// What is asked of the command with this name, by the words behind it.
+fn request_of<'a>(
+    alloc: Global,
+    name: &str,
+    words: &ArgMatches<'a>,
+) -> Result<Option<Request<'a>>, Error> {
+    match name {
+        "show" => Ok(Some(Request::Show(show_form(words)))),
+        "play" => Ok(play_request(words)),
+        "mark-init" => Ok(mark_init_request(alloc, words)?.map(Request::MarkInit)),
+        "mark-convert" => Ok(mark_convert_request(words)),
+        "node" => node_request(alloc, words),
+        "merge" => merge_request(alloc, words),
+        "pmu" => pmu_request(alloc, words),
+        "listen" => listen_request(alloc, words),
+        _ => Ok(None),
+    }
 }
 
 /// The request that the words after the program's name make; `None` where no command is named, which the parser
@@ -81,26 +104,7 @@ fn pdc<'a>(alloc: Global) -> Result<Command<'a>, AllocError> {
 pub fn parse<'a>(alloc: Global, words: &'a [String]) -> Result<Option<Request<'a>>, Error> {
     let matches = pdc(alloc)?.try_get_matches_from(words)?;
     match matches.subcommand() {
-        Some(("show", inner)) => Ok(Some(Request::Show(show_form(inner)))),
-        Some(("play", inner)) => Ok(play_request(inner).map(Request::Play)),
-        Some(("mark-init", inner)) => Ok(mark_init_request(alloc, inner)?.map(Request::MarkInit)),
-        Some(("mark-convert", inner)) => {
-            Ok(mark_convert_request(inner).map(Request::MarkConvert))
-        }
-        Some(("node", inner)) => {
-            Ok(running_request(alloc, Concentrator::Node, inner)?.map(Request::Node))
-        }
-        Some(("merge", inner)) => {
-            Ok(running_request(alloc, Concentrator::Merger, inner)?.map(Request::Merge))
-        }
-        Some(("pmu", inner)) => match pmu_request(alloc, inner)? {
-            Some(simulated) => Ok(Some(Request::Pmu(simulated))),
-            None => Ok(None),
-        },
-        Some(("listen", inner)) => match listen_request(alloc, inner)? {
-            Some(asked) => Ok(Some(Request::Listen(asked))),
-            None => Ok(None),
-        },
-        _ => Ok(None),
+        Some((name, inner)) => request_of(alloc, name, inner),
+        None => Ok(None),
     }
 }

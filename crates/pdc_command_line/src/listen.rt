@@ -1,10 +1,9 @@
 //! The command `listen`.
 
-use crate::number::{number, short_number};
-use crate::request::Listen;
-use crate::words::{Form, Wanted, command_with, out_of_range};
-use clap::{ArgMatches, Command, Error};
-use std::alloc::{AllocError, Global};
+use crate::request::{Listen, Request};
+use crate::words::{Form, Told, Wanted, optional_number_of, short_number_of};
+use clap::{ArgMatches, Error};
+use std::alloc::Global;
 
 const ABOUT: &str = "Print the datagrams that come to a UDP port";
 
@@ -19,23 +18,20 @@ Example, what the merger of examples/pair sends:
   pdc listen 4751 100 | pdc show";
 
 /// The command and its help.
-pub fn listen<'a>(alloc: Global) -> Result<Command<'a>, AllocError> {
-    command_with(
-        alloc,
-        "listen",
-        "pdc listen",
-        ABOUT,
-        LONG,
-        &[
-            Wanted("PORT", Form::Word, "The UDP port, 1 to 65535"),
-            Wanted(
-                "COUNT",
-                Form::Optional,
-                "After how many datagrams it ends, 1 to 4294967295",
-            ),
-        ],
-    )
-}
+pub const LISTEN: Told<'static> = Told {
+    name: "listen",
+    full_name: "pdc listen",
+    about: ABOUT,
+    long: LONG,
+    wanted: &[
+        Wanted("PORT", Form::Word, "The UDP port, 1 to 65535"),
+        Wanted(
+            "COUNT",
+            Form::Optional,
+            "After how many datagrams it ends, 1 to 4294967295",
+        ),
+    ],
+};
 
 /// What is asked by these words; `None` where one is missing, which the parser refuses before.
 ///
@@ -45,25 +41,12 @@ pub fn listen<'a>(alloc: Global) -> Result<Command<'a>, AllocError> {
 pub fn listen_request<'a>(
     alloc: Global,
     matches: &ArgMatches<'a>,
-) -> Result<Option<Listen>, Error> {
-    let Some(port_text) = matches.get_str("PORT") else {
+) -> Result<Option<Request<'a>>, Error> {
+    let Some(port) = matches.get_str("PORT") else {
         return Ok(None);
     };
-    let Some(port) = short_number(port_text, 1, u16::MAX) else {
-        return Err(out_of_range(
-            alloc,
-            listen(alloc)?,
-            "<PORT>",
-            port_text,
-            u32::from(u16::MAX),
-        )?);
-    };
-    let count = match matches.get_str("COUNT") {
-        None => None,
-        Some(text) => match number(text, 1, u32::MAX) {
-            Some(count) => Some(count),
-            None => return Err(out_of_range(alloc, listen(alloc)?, "<COUNT>", text, u32::MAX)?),
-        },
-    };
-    Ok(Some(Listen { port, count }))
+    let port = short_number_of(alloc, &LISTEN, "<PORT>", port, u16::MAX)?;
+    let count = matches.get_str("COUNT");
+    let count = optional_number_of(alloc, &LISTEN, "<COUNT>", count, u32::MAX)?;
+    Ok(Some(Request::Listen(Listen { port, count })))
 }

@@ -1,9 +1,8 @@
 //! The command `mark-convert`.
 
-use crate::request::MarkConvert;
-use crate::words::{Form, Wanted, command_with};
-use clap::{ArgMatches, Command};
-use std::alloc::{AllocError, Global};
+use crate::request::{MarkConvert, Request};
+use crate::words::{Form, Told, Wanted};
+use clap::ArgMatches;
 
 const ABOUT: &str = "Make a mark file of version 2 out of one of version 1";
 
@@ -26,24 +25,21 @@ Example:
   pdc mark-convert a.mark a2.mark";
 
 /// The command and its help.
-pub fn mark_convert<'a>(alloc: Global) -> Result<Command<'a>, AllocError> {
-    command_with(
-        alloc,
-        "mark-convert",
-        "pdc mark-convert",
-        ABOUT,
-        LONG,
-        &[
-            Wanted("OLD", Form::Word, "The file of version 1"),
-            Wanted("NEW", Form::Word, "The file to make"),
-        ],
-    )
-}
+pub const MARK_CONVERT: Told<'static> = Told {
+    name: "mark-convert",
+    full_name: "pdc mark-convert",
+    about: ABOUT,
+    long: LONG,
+    wanted: &[
+        Wanted("OLD", Form::Word, "The file of version 1"),
+        Wanted("NEW", Form::Word, "The file to make"),
+    ],
+};
 
 /// What is asked by these words; `None` where one is missing, which the parser refuses before.
-pub fn mark_convert_request<'a>(matches: &ArgMatches<'a>) -> Option<MarkConvert<'a>> {
+pub fn mark_convert_request<'a>(matches: &ArgMatches<'a>) -> Option<Request<'a>> {
     let (Some(old), Some(new)) = (matches.get_str("OLD"), matches.get_str("NEW")) else {
         return None;
     };
-    Some(MarkConvert { old, new })
+    Some(Request::MarkConvert(MarkConvert { old, new }))
 }

@@ -3,12 +3,11 @@ ghost use Rattle.std.specs.Prelude.{IfErr, IfNone, IfOk, IfSome};
 ghost use Rattle.clap.specs.Matches.{found_of};
 ghost use Rattle.pdc_command_line.specs.MarkInit.{AsksFor, HasWrongNumber, LacksWord};
 
-use crate::number::short_number;
 use crate::request::{MAX_RATE, MarkInit};
-use crate::words::{Form, Wanted, command_with, out_of_range};
-use clap::{ArgMatches, Command, Error};
+use crate::words::{Form, Told, Wanted, short_number_of};
+use clap::{ArgMatches, Error};
 use pdc_frame::MAX_ID;
-use std::alloc::{AllocError, Global};
+use std::alloc::Global;
 
 const ABOUT: &str = "Make the mark file of a node or a merger";
 
@@ -24,29 +23,21 @@ Example:
   pdc mark-init /var/lib/pdc/a.mark 201 50";
 
 /// The command and its help.
-pub fn mark_init<'a>(alloc: Global) -> Result<Command<'a>, AllocError> {
-    command_with(
-        alloc,
-        "mark-init",
-        "pdc mark-init",
-        ABOUT,
-        LONG,
-        &[
-            Wanted("FILE", Form::Word, "The file to make"),
-            Wanted("ID", Form::Word, "The id of the node or merger, 1 to 65534"),
-            Wanted(
-                "RATE",
-                Form::Word,
-                "The data rate, 1 to 240 frames a second",
-            ),
-        ],
-    )
-}
-
-/// What is wrong with a number.
-fn wrong(alloc: Global, name: &str, text: &str, most: u16) -> Result<Error, AllocError> {
-    out_of_range(alloc, mark_init(alloc)?, name, text, u32::from(most))
-}
+pub const MARK_INIT: Told<'static> = Told {
+    name: "mark-init",
+    full_name: "pdc mark-init",
+    about: ABOUT,
+    long: LONG,
+    wanted: &[
+        Wanted("FILE", Form::Word, "The file to make"),
+        Wanted("ID", Form::Word, "The id of the node or merger, 1 to 65534"),
+        Wanted(
+            "RATE",
+            Form::Word,
+            "The data rate, 1 to 240 frames a second",
+        ),
+    ],
+};
 
 /// What is asked by these words; `None` where one is missing, which the parser refuses before.
 ///
@@ -61,18 +52,14 @@ pub fn mark_init_request<'a>(
     ensures missing { IfOk result (λ asked. IfNone asked (LacksWord (found_of matches.now))) }
     ensures wrong { IfErr result (λ _. HasWrongNumber (found_of matches.now)) }
 {
-    let (Some(file), Some(id_text), Some(rate_text)) = (
+    let (Some(file), Some(id), Some(rate)) = (
         matches.get_str("FILE"),
         matches.get_str("ID"),
         matches.get_str("RATE"),
     ) else {
         return Ok(None);
     };
-    let Some(id) = short_number(id_text, 1, MAX_ID) else {
-        return Err(wrong(alloc, "<ID>", id_text, MAX_ID)?);
-    };
-    let Some(rate) = short_number(rate_text, 1, MAX_RATE) else {
-        return Err(wrong(alloc, "<RATE>", rate_text, MAX_RATE)?);
-    };
+    let id = short_number_of(alloc, &MARK_INIT, "<ID>", id, MAX_ID)?;
+    let rate = short_number_of(alloc, &MARK_INIT, "<RATE>", rate, MAX_RATE)?;
     Ok(Some(MarkInit { file, id, rate }))
 }

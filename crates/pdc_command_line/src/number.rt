@@ -34,16 +34,3 @@ pub fn number(text: &str, least: u32, most: u32) -> Option<u32>
     }
     Some(n)
 }
-
-/// The same of a number that has 16 bits.
-pub fn short_number(text: &str, least: u16, most: u16) -> Option<u16>
-    ensures found { IfSome result (IsNumber text.now) }
-    ensures low { IfSome result (λ n. least ≤ n) }
-    ensures high { IfSome result (λ n. n ≤ most) }
-    ensures only { (n : ℕ) → IsNumber text.now n → least ≤ n → n ≤ most → result ≡ Some n }
-{
-    match number(text, u32::from(least), u32::from(most)) {
-        Some(n) => Some(n as u16),
-        None => None,
-    }
-}

@@ -1,9 +1,8 @@
 //! The command `play`.
 
-use crate::request::Play;
-use crate::words::{Form, Wanted, command_with};
-use clap::{ArgMatches, Command};
-use std::alloc::{AllocError, Global};
+use crate::request::{Play, Request};
+use crate::words::{Form, Told, Wanted};
+use clap::ArgMatches;
 
 const ABOUT: &str = "Play a script of events on two nodes and a merger";
 
@@ -63,23 +62,20 @@ Example:
   pdc play a.toml b.toml m.toml < a_node_dies.txt";
 
 /// The command and its help.
-pub fn play<'a>(alloc: Global) -> Result<Command<'a>, AllocError> {
-    command_with(
-        alloc,
-        "play",
-        "pdc play",
-        ABOUT,
-        LONG,
-        &[
-            Wanted("A", Form::Word, "The settings of node A"),
-            Wanted("B", Form::Word, "The settings of node B"),
-            Wanted("M", Form::Word, "The settings of the merger"),
-        ],
-    )
-}
+pub const PLAY: Told<'static> = Told {
+    name: "play",
+    full_name: "pdc play",
+    about: ABOUT,
+    long: LONG,
+    wanted: &[
+        Wanted("A", Form::Word, "The settings of node A"),
+        Wanted("B", Form::Word, "The settings of node B"),
+        Wanted("M", Form::Word, "The settings of the merger"),
+    ],
+};
 
 /// What is asked by these words; `None` where one is missing, which the parser refuses before.
-pub fn play_request<'a>(matches: &ArgMatches<'a>) -> Option<Play<'a>> {
+pub fn play_request<'a>(matches: &ArgMatches<'a>) -> Option<Request<'a>> {
     let (Some(a), Some(b), Some(m)) = (
         matches.get_str("A"),
         matches.get_str("B"),
@@ -87,5 +83,5 @@ pub fn play_request<'a>(matches: &ArgMatches<'a>) -> Option<Play<'a>> {
     ) else {
         return None;
     };
-    Some(Play { a, b, m })
+    Some(Request::Play(Play { a, b, m }))
 }

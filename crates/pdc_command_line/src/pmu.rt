@@ -1,13 +1,12 @@
 //! The command `pmu`.
 
-use crate::number::{number, short_number};
-use crate::request::{MAX_PLACES, MAX_RATE, MAX_SECONDS, Place, Simulated};
-use crate::words::{Form, Wanted, command_with, out_of_range};
+use crate::request::{MAX_PLACES, MAX_RATE, MAX_SECONDS, Place, Request, Simulated};
+use crate::words::{Form, Told, Wanted, number_of, optional_number_of, short_number_of, wrong};
 use arrayvec::ArrayVec;
 use clap::error::ErrorKind;
-use clap::{ArgMatches, Command, Error};
+use clap::{ArgMatches, Error};
 use pdc_frame::MAX_ID;
-use std::alloc::{AllocError, Global};
+use std::alloc::Global;
 
 const ABOUT: &str = "Simulate a PMU: send its configuration and data to UDP ports, or over TCP";
 
@@ -32,60 +31,48 @@ Example, PMU 12 that waits to be asked:
   pdc pmu 12 50 3000 --tcp 0.0.0.0:4712";
 
 /// The command and its help.
-pub fn pmu<'a>(alloc: Global) -> Result<Command<'a>, AllocError> {
-    command_with(
-        alloc,
-        "pmu",
-        "pdc pmu",
-        ABOUT,
-        LONG,
-        &[
-            Wanted("ID", Form::Word, "The stream id, 1 to 65534"),
-            Wanted(
-                "RATE",
-                Form::Word,
-                "The data rate, 1 to 240 frames a second",
-            ),
-            Wanted("COUNT", Form::Word, "How many data frames, 1 to 4294967295"),
-            Wanted(
-                "PORT",
-                Form::UpToSixteen,
-                "The UDP ports, each 1 to 65535 or HOST:PORT, at most 16; at least one without --tcp",
-            ),
-            Wanted(
-                "tcp",
-                Form::Option("PORT"),
-                "Serve up to 4 consumers at this TCP port of 127.0.0.1, or at ADDRESS:PORT",
-            ),
-            Wanted(
-                "config-every",
-                Form::Option("SECONDS"),
-                "Send the configuration again every so many seconds, 1 to 86400",
-            ),
-            Wanted(
-                "grid",
-                Form::Flag,
-                "Simulate a bus of a grid, in place of one phasor that counts",
-            ),
-        ],
-    )
-}
+pub const PMU: Told<'static> = Told {
+    name: "pmu",
+    full_name: "pdc pmu",
+    about: ABOUT,
+    long: LONG,
+    wanted: &[
+        Wanted("ID", Form::Word, "The stream id, 1 to 65534"),
+        Wanted(
+            "RATE",
+            Form::Word,
+            "The data rate, 1 to 240 frames a second",
+        ),
+        Wanted("COUNT", Form::Word, "How many data frames, 1 to 4294967295"),
+        Wanted(
+            "PORT",
+            Form::UpToSixteen,
+            "The UDP ports, each 1 to 65535 or HOST:PORT, at most 16; at least one without --tcp",
+        ),
+        Wanted(
+            "tcp",
+            Form::Option("PORT"),
+            "Serve up to 4 consumers at this TCP port of 127.0.0.1, or at ADDRESS:PORT",
+        ),
+        Wanted(
+            "config-every",
+            Form::Option("SECONDS"),
+            "Send the configuration again every so many seconds, 1 to 86400",
+        ),
+        Wanted(
+            "grid",
+            Form::Flag,
+            "Simulate a bus of a grid, in place of one phasor that counts",
+        ),
+    ],
+};
 
-/// After how many seconds the configuration is sent again.
-fn config_every(alloc: Global, matches: &ArgMatches<'_>) -> Result<Option<u32>, Error> {
-    let Some(text) = matches.get_str("config-every") else {
-        return Ok(None);
-    };
-    match number(text, 1, MAX_SECONDS) {
-        Some(seconds) => Ok(Some(seconds)),
-        None => Err(out_of_range(
-            alloc,
-            pmu(alloc)?,
-            "--config-every <SECONDS>",
-            text,
-            MAX_SECONDS,
-        )?),
-    }
+/// Where a PMU sends to and serves, and when its configuration.
+#[derive(Drop)]
+struct Aims<'a> {
+    places: ArrayVec<Place<'a>, MAX_PLACES>,
+    tcp: Option<Place<'a>>,
+    config_every: Option<u32>,
 }
 
 /// The place that a word says: a port of 127.0.0.1, or with a colon one elsewhere.
@@ -93,9 +80,9 @@ fn place_of<'a>(alloc: Global, name: &str, word: &'a str) -> Result<Place<'a>, E
     if word.as_bytes().contains(&b':') {
         return Ok(Place::At(word));
     }
-    match short_number(word, 1, u16::MAX) {
-        Some(port) => Ok(Place::Port(port)),
-        None => Err(out_of_range(alloc, pmu(alloc)?, name, word, u32::from(u16::MAX))?),
+    match short_number_of(alloc, &PMU, name, word, u16::MAX) {
+        Ok(port) => Ok(Place::Port(port)),
+        Err(error) => Err(error),
     }
 }
 
@@ -109,7 +96,7 @@ fn places_of<'a>(
         let place = place_of(alloc, "[PORT]...", word)?;
         if places.try_push(place).is_err() {
             let message = "at most 16 values of '[PORT]...' are wanted";
-            return Err(pmu(alloc)?.error(ErrorKind::TooManyValues, message)?);
+            return Err(wrong(alloc, &PMU, ErrorKind::TooManyValues, message)?);
         }
     }
     Ok(places)
@@ -123,6 +110,60 @@ fn tcp<'a>(alloc: Global, matches: &ArgMatches<'a>) -> Result<Option<Place<'a>>,
     }
 }
 
+/// It sends somewhere, or serves.
+fn some_place(alloc: Global, is_there_one: bool) -> Result<(), Error> {
+    if is_there_one {
+        return Ok(());
+    }
+    let message = "a PORT or --tcp is wanted";
+    Err(wrong(alloc, &PMU, ErrorKind::MissingRequiredArgument, message)?)
+}
+
+/// After how many seconds its configuration is sent again.
+fn config_every(alloc: Global, matches: &ArgMatches<'_>) -> Result<Option<u32>, Error> {
+    let text = matches.get_str("config-every");
+    optional_number_of(alloc, &PMU, "--config-every <SECONDS>", text, MAX_SECONDS)
+}
+
+/// Where it sends to and serves, and when its configuration.
+fn aims_of<'a>(alloc: Global, matches: &ArgMatches<'a>) -> Result<Aims<'a>, Error> {
+    let places = places_of(alloc, matches.get_strs("PORT").unwrap_or(&[]))?;
+    let tcp = tcp(alloc, matches)?;
+    some_place(alloc, !places.is_empty() || tcp.is_some())?;
+    Ok(Aims {
+        places,
+        tcp,
+        config_every: config_every(alloc, matches)?,
+    })
+}
+
+/// The PMU with this id, rate and count.
+fn simulated<'a>(
+    alloc: Global,
+    id: &str,
+    rate: &str,
+    count: &str,
+    matches: &ArgMatches<'a>,
+) -> Result<Simulated<'a>, Error> {
+    let id = short_number_of(alloc, &PMU, "<ID>", id, MAX_ID)?;
+    let rate = short_number_of(alloc, &PMU, "<RATE>", rate, MAX_RATE)?;
+    let count = number_of(alloc, &PMU, "<COUNT>", count, u32::MAX)?;
+    let Aims {
+        places,
+        tcp,
+        config_every,
+    } = aims_of(alloc, matches)?;
+    Ok(Simulated {
+        id,
+        rate,
+        count,
+        places,
+        tcp,
+        config_every,
+        is_grid: matches.get_flag("grid"),
+    })
+}
+
 /// What is asked by these words; `None` where one is missing, which the parser refuses before.
 ///
 /// # Errors
@@ -131,37 +172,14 @@ fn tcp<'a>(alloc: Global, matches: &ArgMatches<'a>) -> Result<Option<Place<'a>>,
 pub fn pmu_request<'a>(
     alloc: Global,
     matches: &ArgMatches<'a>,
-) -> Result<Option<Simulated<'a>>, Error> {
-    let (Some(id_text), Some(rate_text), Some(count_text)) = (
+) -> Result<Option<Request<'a>>, Error> {
+    let (Some(id), Some(rate), Some(count)) = (
         matches.get_str("ID"),
         matches.get_str("RATE"),
         matches.get_str("COUNT"),
     ) else {
         return Ok(None);
     };
-    let Some(id) = short_number(id_text, 1, MAX_ID) else {
-        return Err(out_of_range(alloc, pmu(alloc)?, "<ID>", id_text, u32::from(MAX_ID))?);
-    };
-    let Some(rate) = short_number(rate_text, 1, MAX_RATE) else {
-        return Err(out_of_range(alloc, pmu(alloc)?, "<RATE>", rate_text, u32::from(MAX_RATE))?);
-    };
-    let Some(count) = number(count_text, 1, u32::MAX) else {
-        return Err(out_of_range(alloc, pmu(alloc)?, "<COUNT>", count_text, u32::MAX)?);
-    };
-    let places = places_of(alloc, matches.get_strs("PORT").unwrap_or(&[]))?;
-    let tcp = tcp(alloc, matches)?;
-    if places.is_empty() && tcp.is_none() {
-        let message = "a PORT or --tcp is wanted";
-        return Err(pmu(alloc)?.error(ErrorKind::MissingRequiredArgument, message)?);
-    }
-    let config_every = config_every(alloc, matches)?;
-    Ok(Some(Simulated {
-        id,
-        rate,
-        count,
-        places,
-        tcp,
-        config_every,
-        is_grid: matches.get_flag("grid"),
-    }))
+    let simulated = simulated(alloc, id, rate, count, matches)?;
+    Ok(Some(Request::Pmu(simulated)))
 }

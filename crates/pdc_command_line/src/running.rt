@@ -1,10 +1,9 @@
 //! The commands `node` and `merge`.
 
-use crate::number::number;
-use crate::request::{MAX_RECORD_SIZE, MAX_SECONDS, RECORD_SIZE, Record, Running};
-use crate::words::{Form, Wanted, command_with, out_of_range};
-use clap::{ArgMatches, Command, Error};
-use std::alloc::{AllocError, Global};
+use crate::request::{MAX_RECORD_SIZE, MAX_SECONDS, RECORD_SIZE, Record, Request, Running};
+use crate::words::{Form, Told, Wanted, optional_number_of};
+use clap::{ArgMatches, Error};
+use std::alloc::Global;
 
 const ABOUT_NODE: &str =
     "Run a node: align the streams of PMUs and send one frame for each instant";
@@ -60,17 +59,8 @@ and faults.
 Example, a minute at 50 frames a second:
   pdc merge m.toml m.mark 3000";
 
-/// Which concentrator is asked for.
-#[derive(Clone, Copy, Debug, PartialEq, Eq)]
-pub enum Concentrator {
-    /// A node.
-    Node,
-    /// The merger.
-    Merger,
-}
-
 /// What both want.
-const WANTED: [Wanted<'static>; 8] = [
+const WANTED: &[Wanted<'static>] = &[
     Wanted("SETTINGS", Form::Word, "The settings file"),
     Wanted("MARK", Form::Word, "The mark file"),
     Wanted(
@@ -106,63 +96,35 @@ const WANTED: [Wanted<'static>; 8] = [
 ];
 
 /// The command `node` and its help.
-pub fn node<'a>(alloc: Global) -> Result<Command<'a>, AllocError> {
-    command_with(alloc, "node", "pdc node", ABOUT_NODE, LONG_NODE, &WANTED)
-}
+pub const NODE: Told<'static> = Told {
+    name: "node",
+    full_name: "pdc node",
+    about: ABOUT_NODE,
+    long: LONG_NODE,
+    wanted: WANTED,
+};
 
 /// The command `merge` and its help.
-pub fn merge<'a>(alloc: Global) -> Result<Command<'a>, AllocError> {
-    command_with(
-        alloc,
-        "merge",
-        "pdc merge",
-        ABOUT_MERGE,
-        LONG_MERGE,
-        &WANTED,
-    )
-}
-
-/// The command and its help.
-fn command<'a>(alloc: Global, asked: Concentrator) -> Result<Command<'a>, AllocError> {
-    match asked {
-        Concentrator::Node => node(alloc),
-        Concentrator::Merger => merge(alloc),
-    }
-}
-
-/// The number of a word that may be left out, as it is shown in the help, from 1 to the most.
-fn optional_number(
-    alloc: Global,
-    asked: Concentrator,
-    text: Option<&str>,
-    shown: &'static str,
-    most: u32,
-) -> Result<Option<u32>, Error> {
-    let Some(text) = text else {
-        return Ok(None);
-    };
-    match number(text, 1, most) {
-        Some(number) => Ok(Some(number)),
-        None => Err(out_of_range(alloc, command(alloc, asked)?, shown, text, most)?),
-    }
-}
+pub const MERGE: Told<'static> = Told {
+    name: "merge",
+    full_name: "pdc merge",
+    about: ABOUT_MERGE,
+    long: LONG_MERGE,
+    wanted: WANTED,
+};
 
 /// The record that is asked for.
 fn record_of<'a>(
     alloc: Global,
-    asked: Concentrator,
+    told: &Told<'_>,
     matches: &ArgMatches<'a>,
 ) -> Result<Option<Record<'a>>, Error> {
     let size = matches.get_str("record-size");
-    let size = optional_number(
-        alloc,
-        asked,
-        size,
-        "--record-size <MEBIBYTES>",
-        MAX_RECORD_SIZE,
-    )?;
+    let name = "--record-size <MEBIBYTES>";
+    let size = optional_number_of(alloc, told, name, size, MAX_RECORD_SIZE)?;
     let keep = matches.get_str("record-keep");
-    let keep = optional_number(alloc, asked, keep, "--record-keep <FILES>", u32::MAX)?;
+    let name = "--record-keep <FILES>";
+    let keep = optional_number_of(alloc, told, name, keep, u32::MAX)?;
     match matches.get_str("record") {
         Some(name) => Ok(Some(Record {
             name,
@@ -173,29 +135,49 @@ fn record_of<'a>(
     }
 }
 
-/// What is asked by these words; `None` where one is missing, which the parser refuses before.
-///
-/// # Errors
-///
-/// A number is none, or out of its range.
-pub fn running_request<'a>(
+/// What is asked of `node` or of `merge` by these words; `None` where one is missing, which the parser refuses before.
+fn running<'a>(
     alloc: Global,
-    asked: Concentrator,
+    told: &Told<'_>,
     matches: &ArgMatches<'a>,
 ) -> Result<Option<Running<'a>>, Error> {
     let (Some(settings), Some(mark)) = (matches.get_str("SETTINGS"), matches.get_str("MARK")) else {
         return Ok(None);
     };
     let ticks = matches.get_str("TICKS");
-    let ticks = optional_number(alloc, asked, ticks, "[TICKS]", u32::MAX)?;
+    let ticks = optional_number_of(alloc, told, "[TICKS]", ticks, u32::MAX)?;
     let every = matches.get_str("every");
-    let every = optional_number(alloc, asked, every, "--every <SECONDS>", MAX_SECONDS)?;
+    let every = optional_number_of(alloc, told, "--every <SECONDS>", every, MAX_SECONDS)?;
     Ok(Some(Running {
         settings,
         mark,
         ticks,
         every,
         is_quiet: matches.get_flag("quiet"),
-        record: record_of(alloc, asked, matches)?,
+        record: record_of(alloc, told, matches)?,
     }))
+}
+
+/// What is asked of `node` by these words; `None` where one is missing, which the parser refuses before.
+///
+/// # Errors
+///
+/// A number is none, or out of its range.
+pub fn node_request<'a>(
+    alloc: Global,
+    matches: &ArgMatches<'a>,
+) -> Result<Option<Request<'a>>, Error> {
+    Ok(running(alloc, &NODE, matches)?.map(Request::Node))
+}
+
+/// The same of `merge`.
+///
+/// # Errors
+///
+/// A number is none, or out of its range.
+pub fn merge_request<'a>(
+    alloc: Global,
+    matches: &ArgMatches<'a>,
+) -> Result<Option<Request<'a>>, Error> {
+    Ok(running(alloc, &MERGE, matches)?.map(Request::Merge))
 }

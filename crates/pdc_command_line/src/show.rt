@@ -1,9 +1,8 @@
 //! The command `show`.
 
 use crate::request::ShowForm;
-use crate::words::{Form, Wanted, command_with};
-use clap::{ArgMatches, Command};
-use std::alloc::{AllocError, Global};
+use crate::words::{Form, Told, Wanted};
+use clap::ArgMatches;
 
 const ABOUT: &str = "Print what frames in hexadecimal say";
 
@@ -77,20 +76,17 @@ Examples:
 const FORMATS: &[&str] = &["json", "csv"];
 
 /// The command and its help.
-pub fn show<'a>(alloc: Global) -> Result<Command<'a>, AllocError> {
-    command_with(
-        alloc,
-        "show",
-        "pdc show",
-        ABOUT,
-        LONG,
-        &[Wanted(
-            "format",
-            Form::OneOf("FORMAT", FORMATS),
-            "Write for programs: json or csv",
-        )],
-    )
-}
+pub const SHOW: Told<'static> = Told {
+    name: "show",
+    full_name: "pdc show",
+    about: ABOUT,
+    long: LONG,
+    wanted: &[Wanted(
+        "format",
+        Form::OneOf("FORMAT", FORMATS),
+        "Write for programs: json or csv",
+    )],
+};
 
 /// In which form these words ask for frames.
 pub fn show_form(matches: &ArgMatches<'_>) -> ShowForm {

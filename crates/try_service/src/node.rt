@@ -329,7 +329,7 @@ fn play_over<
     thread::scope(
         thread::scope_env(),
         rt,
-        |scope| -> io::Result<()>
+        move |scope| -> io::Result<()>
             requires { N.stream ≡ stream_of trial.settings.now.output }
         { conduct(scope, rt, alloc, trial, port, sockets) },
     )
