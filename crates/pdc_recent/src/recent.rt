@@ -1,20 +1,25 @@
 //! The lock round what was sent last.
-ghost use Rattle.std.specs.Prelude.{◌≡◌, ◌++◌, ℕ, List, OnErr, OnOk, IfOk};
+ghost use Rattle.std.specs.Prelude.{◌≡◌, ◌≤◌, ◌<◌, ◌++◌, ℕ, List, OnErr, OnOk, IfOk};
+ghost use Rattle.pdc_frame.specs.declared.limits.TheConstants.{MAX_ID};
 ghost use Rattle.pdc_recent.specs.Given.{IsGiven};
 ghost use Rattle.pdc_recent.specs.Stream.{IsData, IsLayout, stream_of};
 
 use crate::naming::Naming;
 use crate::remembered::Remembered;
-use pdc_frame::Buffer;
+use pdc_frame::{Buffer, MAX_ID};
 use pdc_output::{Output, append_layout};
 use std::alloc::{AllocError, Global};
 use std::sync::{Mutex, Wait};
 
-/// The last 256 data frames that were sent, and the last layout frame. Each call takes the lock once, and may wait for it; none holds it
-/// for longer than a copy of what is asked for.
+/// The last 256 data frames of a stream that were sent, and its last layout frame. Each call takes the lock once, and may wait for it; none
+/// holds it for longer than a copy of what is asked for.
 #[derive(Drop)]
 pub struct Recent<N: Naming> {
     remembered: Mutex<Remembered<N>>,
+    id: u16,
+    pub ghost id_is: { id ≡ N.stream.id },
+    pub ghost id_low: { 0 < id },
+    pub ghost id_high: { id ≤ MAX_ID },
 }
 
 /// The layout frame before the first adoption of a life with this start: the own section alone.
@@ -38,7 +43,17 @@ impl<N: Naming> Recent<N> {
         let layout = first_layout(alloc, output, start)?;
         Ok(Recent {
             remembered: Mutex::new(Remembered::new(alloc, layout)?),
+            id: output.id,
         })
+    }
+
+    /// The id of the stream, 1 to 65534.
+    pub fn id(&self) -> u16
+        ensures is { result ≡ N.stream.id }
+        ensures low { 0 < result }
+        ensures high { result ≤ MAX_ID }
+    {
+        self.id
     }
 
     /// Keeps a data frame of this instant, if the instant is above all before; the oldest of 256 goes.

@@ -1,9 +1,5 @@
 //! Connections, one after the other.
-ghost use Rattle.std.specs.Prelude.{◌≤◌, ◌<◌};
-ghost use Rattle.pdc_frame.specs.declared.limits.TheConstants.{MAX_ID};
-
 use crate::consumer::Consumer;
-use pdc_frame::MAX_ID;
 use pdc_recent::{Naming, Recent};
 use std::alloc::Global;
 use std::io::{Read, Write};
@@ -57,17 +53,13 @@ fn is_over<R: Clock>(rt: &R, since: Option<Instant>) -> bool {
 fn serve_one<N: Naming, S: Read + Write + OpenStream, R: Wait + Clock>(
     rt: &R,
     alloc: Global,
-    id: u16,
     recent: &Recent<N>,
     stream: &mut S,
-)
-    requires id_low { 0 < id }
-    requires id_high { id ≤ MAX_ID }
-{
+) {
     if set_up(stream).is_err() {
         return;
     }
-    let Ok(mut consumer) = Consumer::new(alloc, id) else {
+    let Ok(mut consumer) = Consumer::new(alloc, recent.id()) else {
         return;
     };
     let mut since = Instant::now(rt).ok();
@@ -84,20 +76,17 @@ fn serve_one<N: Naming, S: Read + Write + OpenStream, R: Wait + Clock>(
     unreachable!()
 }
 
-/// Serves the consumers that connect, one after the other, until no more is to come, and counts in `present` who is served. The listener's
-/// `accept` is one that does not wait.
+/// Serves the consumers of the stream that is kept, as they connect, one after the other, until no more is to come, and counts in `present`
+/// who is served. The listener's `accept` is one that does not wait.
 pub fn serve<N: Naming, L: OpenListener, R: Wait + Clock>(
     rt: &R,
     alloc: Global,
-    id: u16,
     recent: &Recent<N>,
     listener: &L,
     present: &AtomicU64,
 )
 where
     L::Stream: Read + Write + OpenStream,
-    requires id_low { 0 < id }
-    requires id_high { id ≤ MAX_ID }
 {
     for _ in rt.forever() {
         if recent.closed(rt) {
@@ -107,7 +96,7 @@ where
             Ok((stream, _)) => {
                 let mut stream = stream;
                 present.fetch_add(1, Ordering::Relaxed);
-                serve_one(rt, alloc, id, recent, &mut stream);
+                serve_one(rt, alloc, recent, &mut stream);
                 present.fetch_sub(1, Ordering::Relaxed);
             }
             Err(_) => thread::sleep(rt, Duration::from_millis(TURN)),

@@ -1,6 +1,5 @@
 //! A run with consumers beside it.
-ghost use Rattle.std.specs.Prelude.{◌≡◌, ◌≤◌, ◌<◌, Err, IfErr, IfOk, vec_len};
-ghost use Rattle.pdc_frame.specs.declared.limits.TheConstants.{MAX_ID};
+ghost use Rattle.std.specs.Prelude.{◌≡◌, Err, IfErr, IfOk, vec_len};
 ghost use Rattle.pdc_recent.specs.Stream.{stream_of};
 ghost use Rattle.pdc_service.specs.Handed.{HasTaken};
 ghost use Rattle.pdc_service.specs.Summed.{AreSums, HaveEach};
@@ -63,21 +62,13 @@ fn start_session<'s, E: 's, N: Naming + Send + 's, R: Wait + Clock + Sync + 's>(
     scope: &'s Scope<'s, E>,
     rt: &'s R,
     alloc: Global,
-    id: u16,
     recent: &'s Recent<N>,
     serving: &'s Serving<'s>,
-) -> bool
-    requires id_low { 0 < id }
-    requires id_high { id ≤ MAX_ID }
-{
+) -> bool {
     let listener = &serving.consumers.listener;
     let present = &serving.observed.signs.consumers;
     scope
-        .spawn(
-            move || -> ()
-                requires { (0 < id) × (id ≤ MAX_ID) }
-            { serve(rt, alloc, id, recent, listener, present) },
-        )
+        .spawn(move || -> () { serve(rt, alloc, recent, listener, present) })
         .is_ok()
 }
 
@@ -89,9 +80,8 @@ fn start_sessions<'s, E: 's, N: Naming + Send + 's, R: Wait + Clock + Sync + 's>
     recent: &'s Recent<N>,
     serving: &'s Serving<'s>,
 ) -> bool {
-    let id = serving.concentrator.output().id;
     for _ in 0..serving.consumers.most {
-        if !start_session(scope, rt, alloc, id, recent, serving) {
+        if !start_session(scope, rt, alloc, recent, serving) {
             return false;
         }
     }

@@ -303,7 +303,7 @@ fn conduct<
         { run_it(rt, alloc, settings, recent, gauges, wires) },
     );
     let sessions = scope.spawn(move || -> () {
-        serve(rt, alloc, ID, recent, &listener, &gauges.present)
+        serve(rt, alloc, recent, &listener, &gauges.present)
     });
     let driven = drive(rt, alloc, port, &frames);
     gauges.done.store(1, Ordering::SeqCst);
