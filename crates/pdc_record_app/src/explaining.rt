@@ -70,14 +70,8 @@ impl Instants {
         self.tell_finished()
     }
 
-    /// Tells what is told at the end of the record.
-    fn tell_end(&mut self) -> io::Result<()> {
-        self.end()?;
-        if self.all {
-            self.tally.tell(&mut self.out)?;
-        } else if !self.told {
-            writeln!(self.out, "nothing is recorded of this instant")?;
-        }
+    /// Tells what is not in the record.
+    fn tell_gaps(&mut self) -> io::Result<()> {
         for gap in self.follower.gaps() {
             let last = gap.until.saturating_sub(1);
             writeln!(
@@ -87,6 +81,17 @@ impl Instants {
             )?;
         }
         Ok(())
+    }
+
+    /// Tells what is told at the end of the record.
+    fn tell_end(&mut self) -> io::Result<()> {
+        self.end()?;
+        if self.all {
+            self.tally.tell(&mut self.out)?;
+        } else if !self.told {
+            writeln!(self.out, "nothing is recorded of this instant")?;
+        }
+        self.tell_gaps()
     }
 }
 
@@ -156,15 +161,37 @@ fn ended(rt: &HostRuntime, verdict: Verdict, fault: Option<Unexplained>) -> io::
     })
 }
 
-/// Tells of instants.
-fn explain_instants(rt: &HostRuntime, files: &mut Files<'_>, wanted: Wanted) -> io::Result<u8> {
-    let mut instants = Instants::new(rt.alloc(), wanted);
-    walk(rt, files, &mut instants)?;
+/// Prints what is told of instants.
+fn print_instants(
+    rt: &HostRuntime,
+    files: &mut Files<'_>,
+    instants: &mut Instants,
+) -> io::Result<()> {
+    walk(rt, files, instants)?;
     if files.verdict() != Verdict::Failed && instants.fault.is_none() {
         instants.tell_end()?;
     }
-    print(rt, &mut instants.out)?;
+    print(rt, &mut instants.out)
+}
+
+/// Tells of instants.
+fn explain_instants(rt: &HostRuntime, files: &mut Files<'_>, wanted: Wanted) -> io::Result<u8> {
+    let mut instants = Instants::new(rt.alloc(), wanted);
+    print_instants(rt, files, &mut instants)?;
     ended(rt, files.verdict(), instants.fault)
+}
+
+/// Prints what is told of delays.
+fn print_delays(
+    rt: &HostRuntime,
+    files: &mut Files<'_>,
+    lateness: &mut Lateness,
+) -> io::Result<()> {
+    walk(rt, files, lateness)?;
+    if lateness.fault.is_none() {
+        tell_delays(&mut lateness.out, &lateness.delays)?;
+    }
+    print(rt, &mut lateness.out)
 }
 
 /// Tells of delays.
@@ -175,11 +202,7 @@ fn explain_delays(rt: &HostRuntime, files: &mut Files<'_>) -> io::Result<u8> {
         out: Vec::new(alloc),
         fault: None,
     };
-    walk(rt, files, &mut lateness)?;
-    if lateness.fault.is_none() {
-        tell_delays(&mut lateness.out, &lateness.delays)?;
-    }
-    print(rt, &mut lateness.out)?;
+    print_delays(rt, files, &mut lateness)?;
     ended(rt, files.verdict(), lateness.fault)
 }
 

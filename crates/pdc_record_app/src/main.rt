@@ -21,17 +21,21 @@ const REFUSED: u8 = 1;
 
 const FAILED: u8 = 3;
 
+/// Does what the words ask for, and answers the exit status.
+fn run(rt: &HostRuntime, words: &[String]) -> io::Result<u8> {
+    match words_of(rt.alloc(), words) {
+        Ok(Asked::Replay(asked)) => run_replay(rt, &asked),
+        Ok(Asked::Explain(asked)) => run_explain(rt, &asked),
+        Err(error) => {
+            error.print(rt)?;
+            Ok(error.exit_code() as u8)
+        }
+    }
+}
+
 fn main(rt: HostRuntime) -> io::Result<ExitCode> {
     let alloc = rt.alloc();
     let words: Vec<String> = std::env::args(&rt)?.collect(alloc)?;
-    let arguments = words.as_slice().get(1..).unwrap_or(&[]);
-    let status = match words_of(alloc, arguments) {
-        Ok(Asked::Replay(asked)) => run_replay(&rt, &asked)?,
-        Ok(Asked::Explain(asked)) => run_explain(&rt, &asked)?,
-        Err(error) => {
-            error.print(&rt)?;
-            error.exit_code() as u8
-        }
-    };
+    let status = run(&rt, words.as_slice().get(1..).unwrap_or(&[]))?;
     Ok(ExitCode::from(status))
 }

@@ -37,36 +37,44 @@ fn read_all(rt: &HostRuntime, names: &[&str]) -> io::Result<Vec<Vec<u8>>> {
     Ok(files)
 }
 
+/// What came of a record on the plain program: the number of its steps, or of the first step that differs.
+type Played = Result<Result<u64, u64>, NotPlayed>;
+
+/// Plays the record in these files, which has so many steps.
+fn played(rt: &HostRuntime, names: &[&str], steps: u64) -> io::Result<Played> {
+    if steps > MOST_STEPS as u64 {
+        return Ok(Err(NotPlayed::TooLong));
+    }
+    let alloc = rt.alloc();
+    let files = read_all(rt, names)?;
+    let entries = entries_of(alloc, &files)?;
+    Ok(play_plain(alloc, &entries))
+}
+
+/// What is told of it.
+fn text_of(alloc: Global, played: &Played) -> Result<String, AllocError> {
+    match played {
+        Ok(Ok(steps)) => format!(in alloc; "{steps} steps on the plain program: as recorded"),
+        Ok(Err(step)) => format!(in alloc; "step {step} differs on the plain program"),
+        Err(cause) => format!(in alloc; "not played on the plain program: {cause}"),
+    }
+}
+
+/// The exit status that it gives.
+fn status_of(played: &Played) -> u8 {
+    match played {
+        Ok(Ok(_)) => DONE,
+        Err(NotPlayed::Memory) => FAILED,
+        _ => REFUSED,
+    }
+}
+
 /// Plays the record in these files, which has so many steps, on the plain program of a life; gives what is told of it, and the exit status.
 ///
 /// # Errors
 ///
 /// A file cannot be read, or there is no memory.
 pub fn played_plainly(rt: &HostRuntime, names: &[&str], steps: u64) -> io::Result<(String, u8)> {
-    let alloc = rt.alloc();
-    let mut played = Err(NotPlayed::TooLong);
-    if steps <= MOST_STEPS as u64 {
-        let files = read_all(rt, names)?;
-        let entries = entries_of(alloc, &files)?;
-        played = play_plain(alloc, &entries);
-    }
-    match played {
-        Ok(Ok(steps)) => {
-            let text = format!(in alloc; "{steps} steps on the plain program: as recorded")?;
-            Ok((text, DONE))
-        }
-        Ok(Err(step)) => {
-            let text = format!(in alloc; "step {step} differs on the plain program")?;
-            Ok((text, REFUSED))
-        }
-        Err(cause) => {
-            let text = format!(in alloc; "not played on the plain program: {cause}")?;
-            let status = if cause == NotPlayed::Memory {
-                FAILED
-            } else {
-                REFUSED
-            };
-            Ok((text, status))
-        }
-    }
+    let played = played(rt, names, steps)?;
+    Ok((text_of(rt.alloc(), &played)?, status_of(&played)))
 }

@@ -5,7 +5,7 @@ use crate::plain::played_plainly;
 use crate::printing::{Disk, PIECE, Tells, status_of, walk};
 use crate::words::Replayed;
 use crate::{DONE, FAILED, REFUSED};
-use pdc_compare::{Files, Grouped, Takes, Verdict, group_files, halt_text};
+use pdc_compare::{Comparison, Files, Grouped, Misfit, Takes, Verdict, group_files, halt_text};
 use pdc_record::{Entry, What};
 use pdc_replay::{Halt, Player};
 use std::alloc::{AllocError, Global};
@@ -96,10 +96,52 @@ fn result_of(alloc: Global, playing: &Playing, verdict: Verdict) -> io::Result<(
     }
 }
 
+/// Tells what came of a record on the plain program, and answers the exit status.
+fn tell_plain(rt: &HostRuntime, asked: &Replayed<'_>, steps: u64) -> io::Result<u8> {
+    let (text, status) = played_plainly(rt, asked.files.as_slice(), steps)?;
+    tell(rt, asked.frames, text.as_str())?;
+    Ok(status)
+}
+
+/// Tells what came of a record that was played, and answers the exit status.
+fn tell_played(
+    rt: &HostRuntime,
+    frames: bool,
+    playing: &Playing,
+    verdict: Verdict,
+) -> io::Result<u8> {
+    let (text, status) = result_of(rt.alloc(), playing, verdict)?;
+    tell(rt, frames, text.as_str())?;
+    Ok(status)
+}
+
+/// Tells what came of the record of one concentrator, and answers the exit status.
+fn tell_replayed(
+    rt: &HostRuntime,
+    asked: &Replayed<'_>,
+    playing: &Playing,
+    verdict: Verdict,
+) -> io::Result<u8> {
+    if playing.halt.is_none() && verdict == Verdict::Failed {
+        return Ok(FAILED);
+    }
+    let status = tell_played(rt, asked.frames, playing, verdict)?;
+    if status != DONE || !asked.plain {
+        return Ok(status);
+    }
+    tell_plain(rt, asked, playing.player.steps())
+}
+
+/// Plays the files that are asked for, tells what came of it, and answers the exit status.
+fn play_files(rt: &HostRuntime, asked: &Replayed<'_>, playing: &mut Playing) -> io::Result<u8> {
+    let mut files = Files::of(rt.alloc(), asked.files.as_slice())?;
+    walk(rt, &mut files, playing)?;
+    tell_replayed(rt, asked, playing, files.verdict())
+}
+
 /// Replays the record of one concentrator, and those of the lives behind it.
 fn replay(rt: &HostRuntime, asked: &Replayed<'_>) -> io::Result<u8> {
     let alloc = rt.alloc();
-    let names = asked.files.as_slice();
     let mut playing = Playing {
         alloc,
         player: Player::new(alloc),
@@ -107,19 +149,39 @@ fn replay(rt: &HostRuntime, asked: &Replayed<'_>) -> io::Result<u8> {
         halt: None,
         out: Vec::new(alloc),
     };
-    let mut files = Files::of(alloc, names)?;
-    walk(rt, &mut files, &mut playing)?;
-    if playing.halt.is_none() && files.verdict() == Verdict::Failed {
-        return Ok(FAILED);
+    play_files(rt, asked, &mut playing)
+}
+
+/// Compares the records of several concentrators, and answers the exit status.
+fn replay_several(
+    rt: &HostRuntime,
+    asked: &Replayed<'_>,
+    comparison: &mut Comparison<'_>,
+) -> io::Result<u8> {
+    if asked.frames || asked.plain {
+        eprintln!(rt; "pdc replay: --frames and --plain are for the record of one concentrator")?;
+        return Ok(REFUSED);
     }
-    let (text, status) = result_of(alloc, &playing, files.verdict())?;
-    tell(rt, asked.frames, text.as_str())?;
-    if status != DONE || !asked.plain {
-        return Ok(status);
+    compare(rt, comparison)
+}
+
+/// Tells why a file is not compared with those before it, and answers the exit status.
+fn refuse(rt: &HostRuntime, file: &str, cause: Misfit) -> io::Result<u8> {
+    eprintln!(rt; "{file}: {cause}")?;
+    Ok(REFUSED)
+}
+
+/// Replays what is of one concentrator, compares what is of several, and answers the exit status.
+fn replay_grouped(
+    rt: &HostRuntime,
+    asked: &Replayed<'_>,
+    grouped: &mut Grouped<'_>,
+) -> io::Result<u8> {
+    match grouped {
+        Grouped::One => replay(rt, asked),
+        Grouped::Several(comparison) => replay_several(rt, asked, comparison),
+        Grouped::Misfit(file, cause) => refuse(rt, file, *cause),
     }
-    let (text, status) = played_plainly(rt, names, playing.player.steps())?;
-    tell(rt, asked.frames, text.as_str())?;
-    Ok(status)
 }
 
 /// Runs the command, and answers its exit status: the record of one concentrator is replayed, those of several are compared.
@@ -128,18 +190,12 @@ fn replay(rt: &HostRuntime, asked: &Replayed<'_>) -> io::Result<u8> {
 ///
 /// A standard stream cannot be written, or there is no memory.
 pub fn run_replay(rt: &HostRuntime, asked: &Replayed<'_>) -> io::Result<u8> {
-    match group_files(rt.alloc(), &mut Disk { rt }, asked.files.as_slice())? {
-        Grouped::One => replay(rt, asked),
-        Grouped::Several(_) if asked.frames || asked.plain => {
-            eprintln!(rt;
-                "pdc replay: --frames and --plain are for the record of one concentrator"
-            )?;
-            Ok(REFUSED)
-        }
-        Grouped::Several(mut comparison) => compare(rt, &mut comparison),
-        Grouped::Misfit(file, cause) => {
-            eprintln!(rt; "{file}: {cause}")?;
-            Ok(REFUSED)
-        }
-    }
+    let mut grouped = group_files(rt.alloc(), &mut Disk { rt }, asked.files.as_slice());
+    let status = match &mut grouped {
+        Ok(grouped) => replay_grouped(rt, asked, grouped),
+        Err(error) => Err(io::Error::from(*error)),
+    };
+    // by a call: the compiler would write the drop of its many parts out here, which is dear to prove
+    drop(grouped);
+    status
 }

@@ -7,7 +7,7 @@ use std::alloc::{AllocError, Global};
 
 const ABOUT: &str = "Play the record of a life again, and explain it";
 
-const REPLAY: &str =
+const LONG_REPLAY: &str =
     "Plays the record of a life again on a node, or on the merger, that begins as the record says: each datagram, tick and pop is made
 again, and each answer, each published frame and each layout is compared with what was recorded.
 
@@ -31,7 +31,7 @@ Examples:
   pdc replay a.record.* b.record.* m.record.*
   pdc replay --frames a.record.* | pdc show";
 
-const EXPLAIN: &str =
+const LONG_EXPLAIN: &str =
     "Tells out of the record of a life what became of an instant: a line for each PMU, whether it was shown, and why not; when the row
 opened, what it waited for, at which tick it closed and when its frame went out. At the merger it tells of each PMU which node's block
 was shown. Times are in UTC: a datagram's is when it came, that of all else when it was written down.
@@ -82,26 +82,49 @@ pub enum Asked<'a> {
 /// A choice: its name, and what help says of it.
 type Choice = (&'static str, &'static str);
 
-/// The choices of `replay`,
-const OF_REPLAY: [Choice; 2] = [
-    ("frames", "Print the layouts and frames in hexadecimal"),
-    ("plain", "Play it on the plain program too"),
-];
+/// A command as its help tells it.
+#[derive(Clone, Copy)]
+struct Told<'a> {
+    /// Its name,
+    name: &'a str,
+    /// and behind that of the program.
+    full_name: &'a str,
+    /// What it does, in a line,
+    about: &'a str,
+    /// and at length.
+    long: &'a str,
+    /// Its words, one or more.
+    words: Choice,
+    /// Its choices, in this order.
+    choices: &'a [Choice],
+}
 
-/// and those of `explain`.
-const OF_EXPLAIN: [Choice; 2] = [
-    ("absent", "List the instants with an absent block"),
-    ("delays", "Tell how late the data of each PMU comes"),
-];
+const REPLAY: Told<'static> = Told {
+    name: "replay",
+    full_name: "pdc replay",
+    about: "Play records again, and compare each answer and each frame",
+    long: LONG_REPLAY,
+    words: ("FILE", "The files of the record, in their order"),
+    choices: &[
+        ("frames", "Print the layouts and frames in hexadecimal"),
+        ("plain", "Play it on the plain program too"),
+    ],
+};
 
-/// The words of `replay`,
-const FILES: Choice = ("FILE", "The files of the record, in their order");
-
-/// and those of `explain`.
-const FILES_AND_INSTANT: Choice = (
-    "FILE.. INSTANT",
-    "The files of the record, in their order, and the instant",
-);
+const EXPLAIN: Told<'static> = Told {
+    name: "explain",
+    full_name: "pdc explain",
+    about: "Tell out of a record what became of an instant",
+    long: LONG_EXPLAIN,
+    words: (
+        "FILE.. INSTANT",
+        "The files of the record, in their order, and the instant",
+    ),
+    choices: &[
+        ("absent", "List the instants with an absent block"),
+        ("delays", "Tell how late the data of each PMU comes"),
+    ],
+};
 
 /// The words that have to be there, one or more.
 fn many<'a>(alloc: Global, words: &Choice) -> Arg<'a> {
@@ -122,56 +145,42 @@ fn flag<'a>(alloc: Global, choice: &Choice) -> Arg<'a> {
         .help(help)
 }
 
-/// A command without words and choices.
-fn named<'a>(
-    alloc: Global,
-    name: &'a str,
-    full_name: &str,
-    about: &'a str,
-    long: &'a str,
-) -> Result<Command<'a>, AllocError> {
-    let command = Command::new(alloc, name).bin_name(full_name)?;
-    Ok(command.about(about).long_about(long))
+/// The command, as `clap` reads it.
+fn command_of<'a>(alloc: Global, told: &Told<'a>) -> Result<Command<'a>, AllocError> {
+    let mut command = Command::new(alloc, told.name)
+        .bin_name(told.full_name)?
+        .about(told.about)
+        .long_about(told.long)
+        .arg(many(alloc, &told.words))?;
+    for choice in told.choices {
+        command = command.arg(flag(alloc, choice))?;
+    }
+    Ok(command)
 }
 
-/// The command, which takes these words, one or more, and has these two choices.
-fn with_words<'a>(
-    alloc: Global,
-    command: Command<'a>,
-    words: &Choice,
-    choices: &[Choice; 2],
-) -> Result<Command<'a>, AllocError> {
-    let [first, second] = choices;
-    command
-        .arg(many(alloc, words))?
-        .arg(flag(alloc, first))?
-        .arg(flag(alloc, second))
-}
-
-/// The command `replay`.
-fn replay<'a>(alloc: Global) -> Result<Command<'a>, AllocError> {
-    let about = "Play records again, and compare each answer and each frame";
-    let command = named(alloc, "replay", "pdc replay", about, REPLAY)?;
-    with_words(alloc, command, &FILES, &OF_REPLAY)
-}
-
-/// The command `explain`.
-fn explain<'a>(alloc: Global) -> Result<Command<'a>, AllocError> {
-    let about = "Tell out of a record what became of an instant";
-    let command = named(alloc, "explain", "pdc explain", about, EXPLAIN)?;
-    with_words(alloc, command, &FILES_AND_INSTANT, &OF_EXPLAIN)
-}
-
-/// Both commands.
+/// The program without its commands.
 fn program<'a>(alloc: Global) -> Result<Command<'a>, AllocError> {
     Command::new(alloc, "pdc")
         .about(ABOUT)
         .no_binary_name(true)
         .subcommand_required(true)
         .arg_required_else_help(true)
-        .bin_name("pdc")?
-        .subcommand(replay(alloc)?)?
-        .subcommand(explain(alloc)?)
+        .bin_name("pdc")
+}
+
+/// The program with one more command.
+fn with<'a>(
+    alloc: Global,
+    program: Result<Command<'a>, AllocError>,
+    told: &Told<'a>,
+) -> Result<Command<'a>, AllocError> {
+    program?.subcommand(command_of(alloc, told)?)
+}
+
+/// The program with its commands.
+fn pdc<'a>(alloc: Global) -> Result<Command<'a>, AllocError> {
+    let pdc = with(alloc, program(alloc), &REPLAY);
+    with(alloc, pdc, &EXPLAIN)
 }
 
 /// The words that were given for this name.
@@ -187,30 +196,47 @@ fn given<'a>(
 
 /// What is wrong with the words of `explain`.
 fn wrong(alloc: Global, message: &str) -> Result<Error, AllocError> {
-    let mut command = explain(alloc)?;
-    command.error(ErrorKind::ValueValidation, message)
+    command_of(alloc, &EXPLAIN)?.error(ErrorKind::ValueValidation, message)
 }
 
-/// What is asked of `explain`.
-fn question_of<'a>(alloc: Global, matches: &ArgMatches<'a>) -> Result<Explained<'a>, Error> {
-    let mut files = given(alloc, matches, "FILE.. INSTANT")?;
-    let question = match (matches.get_flag("absent"), matches.get_flag("delays")) {
-        (true, true) => return Err(wrong(alloc, "--absent and --delays are asked for one by one")?),
-        (true, false) => Question::Instants(Wanted::All),
-        (false, true) => Question::Delays,
-        (false, false) => match files.pop().and_then(wanted_of) {
-            Some(wanted) => Question::Instants(wanted),
-            None => {
-                return Err(wrong(
-                    alloc,
-                    "behind the files an instant is wanted: its number, or its time as 2026-11-24T12:03:04.580Z",
-                )?);
-            }
-        },
-    };
+/// The instant that a word tells.
+fn instant_of(alloc: Global, word: Option<&str>) -> Result<Wanted, Error> {
+    match word.and_then(wanted_of) {
+        Some(wanted) => Ok(wanted),
+        None => Err(wrong(
+            alloc,
+            "behind the files an instant is wanted: its number, or its time as 2026-11-24T12:03:04.580Z",
+        )?),
+    }
+}
+
+/// What `explain` is to tell. Without a choice the last word is an instant, and is taken from the words.
+fn question_of(
+    alloc: Global,
+    matches: &ArgMatches<'_>,
+    words: &mut Vec<&str>,
+) -> Result<Question, Error> {
+    match (matches.get_flag("absent"), matches.get_flag("delays")) {
+        (true, true) => Err(wrong(alloc, "--absent and --delays are asked for one by one")?),
+        (true, false) => Ok(Question::Instants(Wanted::All)),
+        (false, true) => Ok(Question::Delays),
+        (false, false) => Ok(Question::Instants(instant_of(alloc, words.pop())?)),
+    }
+}
+
+/// There are files.
+fn some_files(alloc: Global, files: &[&str]) -> Result<(), Error> {
     if files.is_empty() {
         return Err(wrong(alloc, "before the instant the files of a record are wanted")?);
     }
+    Ok(())
+}
+
+/// What is asked of `explain`.
+fn explained_of<'a>(alloc: Global, matches: &ArgMatches<'a>) -> Result<Explained<'a>, Error> {
+    let mut files = given(alloc, matches, "FILE.. INSTANT")?;
+    let question = question_of(alloc, matches, &mut files)?;
+    some_files(alloc, &files)?;
     Ok(Explained { files, question })
 }
 
@@ -223,16 +249,23 @@ fn replayed_of<'a>(alloc: Global, matches: &ArgMatches<'a>) -> Result<Replayed<'
     })
 }
 
+/// What is asked of the command with this name.
+fn asked_of<'a>(alloc: Global, name: &str, matches: &ArgMatches<'a>) -> Result<Asked<'a>, Error> {
+    match name {
+        "explain" => Ok(Asked::Explain(explained_of(alloc, matches)?)),
+        _ => Ok(Asked::Replay(replayed_of(alloc, matches)?)),
+    }
+}
+
 /// What these words ask for.
 ///
 /// # Errors
 ///
 /// What `clap` has to say: the help that was asked for, or what is wrong.
 pub fn words_of<'a>(alloc: Global, words: &'a [String]) -> Result<Asked<'a>, Error> {
-    let matches = program(alloc)?.try_get_matches_from(words)?;
+    let matches = pdc(alloc)?.try_get_matches_from(words)?;
     match matches.subcommand() {
-        Some(("explain", inner)) => Ok(Asked::Explain(question_of(alloc, inner)?)),
-        Some((_, inner)) => Ok(Asked::Replay(replayed_of(alloc, inner)?)),
-        None => Ok(Asked::Replay(replayed_of(alloc, &matches)?)),
+        Some((name, inner)) => asked_of(alloc, name, inner),
+        None => asked_of(alloc, "replay", &matches),
     }
 }
