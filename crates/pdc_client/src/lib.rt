@@ -10,6 +10,7 @@
 mod client;
 mod counting;
 mod fault;
+mod laws;
 mod search;
 mod telling;
 mod unread;
@@ -17,6 +18,7 @@ mod unread;
 pub use client::Pdc;
 pub use counting::Counting;
 pub use fault::ClientFault;
+pub use laws::an_answer_is_bounded;
 pub use search::{MAX_FRAMES, MAX_READS};
 pub use telling::{command_frame, tell};
 pub use unread::Unread;
