@@ -1,6 +1,6 @@
 //! The frames of sixteen PMUs.
 
-use pdc_frame::{Frame, Kind, write_frame};
+use pdc_frame::{Frame, Kind, StreamId, write_frame};
 use pdc_tag::tag_of;
 use std::alloc::Global;
 
@@ -41,7 +41,7 @@ fn frame_of(alloc: Global, kind: Kind, id: u16, instant: u64, payload: &[u8]) ->
     let frame = Frame {
         kind,
         version: 2,
-        id,
+        id: StreamId { value: id },
         soc,
         quality: 0,
         frac,

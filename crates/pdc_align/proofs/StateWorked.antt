@@ -33,12 +33,10 @@ section source count = record { bytes = source ∷ count ∷ []; shape = shape; 
 
 abbrev output : Output
 output = record {
-  id = 201;
+  id = record { value = 201; low = omega arith; high = omega arith };
   rate = 50;
   nominal = Hz50;
   time_base = 1000000;
-  id_low = omega arith;
-  id_high = omega arith;
   rate_low = omega arith;
   rate_high = omega arith;
   time_base_low = omega arith;

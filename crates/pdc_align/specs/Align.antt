@@ -56,6 +56,13 @@ pub record KeepsSizes (old new : State) : Type 0 where
   pub lanes : new.content.lanes ≡ old.content.lanes
   pub each : length new.columns ≡ length old.columns
 
+-- What no call changes but a tick and a pop: its sizes and its memory, how many cells disagreed, and the last instant popped.
+pub record Unchanged (old new : AlignmentView) : Type 0 where
+  pub sizes : KeepsSizes old.state new.state
+  pub memory : new.memory ≡ old.memory
+  pub disagreements : new.disagreements ≡ old.disagreements
+  pub popped : new.popped ≡ old.popped
+
 abbrev pub column_state_of : Given → List Entry → (c : ℕ) → ColumnState
 column_state_of g E c = record {
   opening = count_for c g.counts;

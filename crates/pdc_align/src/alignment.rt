@@ -15,7 +15,7 @@ ghost use Rattle.pdc_align.specs.Follows.{told_by};
 ghost use Rattle.pdc_arrival.specs.pdc_life.Given.{Given};
 ghost use Rattle.pdc_arrival.specs.pdc_life.Life.{Entry, changes, held_section, section_in_force};
 ghost use Rattle.pdc_align.specs.State.{rule_of, shape_in};
-ghost use Rattle.pdc_align.specs.Align.{KeepsSizes, StandsFor, new_change};
+ghost use Rattle.pdc_align.specs.Align.{KeepsSizes, StandsFor, Unchanged, new_change};
 ghost use Rattle.pdc_align.specs.Popped.{popped_after};
 ghost use Rattle.pdc_align.specs.Slot.{count_in};
 ghost use Rattle.pdc_align.specs.Calls.{after_data, after_adopting, disagreements_at, after_closing, after_tick_of, column_in, told_at, after_hold, after_pop_of, first_content, first_of_plan, is_ready_in, put_outcome, row_layout_in, waiting_in};
@@ -201,10 +201,7 @@ impl<T: Table> Alignment<T> {
         requires { IsPut self.old.state.content stream (body_cells_of cells.now quality) }
         ensures answer { result ≡ put_outcome self.old.state stream instant (body_cells_of cells.now quality) }
         ensures state { self.new.state ≡ after_data self.old.state stream instant (body_cells_of cells.now quality) }
-        ensures sizes { KeepsSizes self.old.state self.new.state }
-        ensures memory { self.new.memory ≡ self.old.memory }
-        ensures disagreements { self.new.disagreements ≡ self.old.disagreements }
-        ensures popped { self.new.popped ≡ self.old.popped }
+        ensures unchanged { Unchanged self.old self.new }
     {
         if instant <= self.table.last() {
             return Outcome::Refused(Refusal::Late);
@@ -219,10 +216,7 @@ impl<T: Table> Alignment<T> {
     pub(crate) fn keep(&mut self, sections: &[ColumnSection<'_>])
         requires { All (λ (s : ColumnSectionData). s.column < length self.old.state.columns) sections.now }
         ensures state { self.new.state ≡ after_hold self.old.state (map section_part sections.now) }
-        ensures sizes { KeepsSizes self.old.state self.new.state }
-        ensures memory { self.new.memory ≡ self.old.memory }
-        ensures disagreements { self.new.disagreements ≡ self.old.disagreements }
-        ensures popped { self.new.popped ≡ self.old.popped }
+        ensures unchanged { Unchanged self.old self.new }
     {
         columns::hold(&mut self.columns, sections);
     }
@@ -300,10 +294,7 @@ impl<T: Table> Alignment<T> {
         requires exist { All (λ (column : ℕ). column < length self.old.state.columns) adopted.now }
         ensures answer { result ≡ new_change self.old.state.change adopted.now }
         ensures state { self.new.state ≡ after_adopting self.old.state adopted.now }
-        ensures sizes { KeepsSizes self.old.state self.new.state }
-        ensures memory { self.new.memory ≡ self.old.memory }
-        ensures disagreements { self.new.disagreements ≡ self.old.disagreements }
-        ensures popped { self.new.popped ≡ self.old.popped }
+        ensures unchanged { Unchanged self.old self.new }
     {
         columns::adopt(&mut self.columns);
         adopt_in(&mut self.table, self.lanes, adopted);

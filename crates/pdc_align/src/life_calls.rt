@@ -16,7 +16,7 @@ ghost use Rattle.pdc_arrival.specs.pdc_life.Life.{Arrive, Entry, Pop, Tick, chan
 ghost use Rattle.pdc_arrival.specs.pdc_life.Run.{IsRun};
 ghost use Rattle.pdc_arrival.specs.pdc_life.declared.outcome.Outcome.TheVariants.{Candidate};
 ghost use Rattle.pdc_align.specs.State.{row_layout_of};
-ghost use Rattle.pdc_align.specs.Align.{HasSizes, KeepsSizes, StandsFor, given_by, ticked_of};
+ghost use Rattle.pdc_align.specs.Align.{HasSizes, KeepsSizes, StandsFor, Unchanged, given_by, ticked_of};
 ghost use Rattle.pdc_align.specs.Popped.{popped_after};
 ghost use Rattle.pdc_align.specs.Calls.{disagreements_at};
 
@@ -65,10 +65,7 @@ impl<T: Table> Alignment<T> {
         ensures stands { (g : Given) (E : List Entry) (bytes payload : List ℕ) → StandsFor g E self.old.state →
             IsRun g (Arrive stream bytes (Data instant quality payload) (with_cells result (body_cells_of cells.now quality)) ∷ E) →
             StandsFor g (Arrive stream bytes (Data instant quality payload) (with_cells result (body_cells_of cells.now quality)) ∷ E) self.new.state }
-        ensures sizes { KeepsSizes self.old.state self.new.state }
-        ensures memory { self.new.memory ≡ self.old.memory }
-        ensures disagreements { self.new.disagreements ≡ self.old.disagreements }
-        ensures popped { self.new.popped ≡ self.old.popped }
+        ensures unchanged { Unchanged self.old self.new }
     {
         answers_agree();
         take_is_take();
@@ -82,10 +79,7 @@ impl<T: Table> Alignment<T> {
         ensures stands { (g : Given) (E : List Entry) (stream : ℕ) (bytes : List ℕ) (stamp : Option Stamp) → StandsFor g E self.old.state →
             IsRun g (Arrive stream bytes (Layout stamp (map section_part sections.now)) (bare Candidate) ∷ E) →
             StandsFor g (Arrive stream bytes (Layout stamp (map section_part sections.now)) (bare Candidate) ∷ E) self.new.state }
-        ensures sizes { KeepsSizes self.old.state self.new.state }
-        ensures memory { self.new.memory ≡ self.old.memory }
-        ensures disagreements { self.new.disagreements ≡ self.old.disagreements }
-        ensures popped { self.new.popped ≡ self.old.popped }
+        ensures unchanged { Unchanged self.old self.new }
     {
         others_leave_it();
         self.keep(sections);

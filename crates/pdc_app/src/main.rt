@@ -33,7 +33,7 @@ const WRONG_ARGUMENTS: u8 = 2;
 const FAILED: u8 = 3;
 
 fn run_mark_init_command(rt: &HostRuntime, request: &MarkInit) -> io::Result<u8> {
-    match make_mark(rt, request.file, request.id, request.rate) {
+    match make_mark(rt, request.file, request.id.value, request.rate) {
         Ok(()) => Ok(DONE),
         Err(fault) => {
             report_mark_init(rt, &fault, request)?;

@@ -89,7 +89,7 @@ fn hear<'a>(settings: &MergerSettings, node: &MergedNode, bytes: &'a [u8]) -> He
         Ok(frame) => frame,
         Err(fault) => return Heard::BytesRefused(Refusal::NoFrame(fault)),
     };
-    if frame.id != node.id {
+    if frame.id.value != node.id.value {
         return Heard::BytesRefused(Refusal::WrongId);
     }
     match frame.kind {

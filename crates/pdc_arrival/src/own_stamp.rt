@@ -43,7 +43,7 @@ fn is_spelled(
     stamp: Stamp,
     bytes: &[u8],
 ) -> bool
-    ensures { IsTrue result ↔ (bytes.now ≡ own_bytes node.now.id nominal stamp.start stamp.change) }
+    ensures { IsTrue result ↔ (bytes.now ≡ own_bytes node.now.id.value nominal stamp.start stamp.change) }
 {
     let output = Output {
         id: node.id,
@@ -57,8 +57,8 @@ fn is_spelled(
 
 /// Whether the bytes are the own section of the node with this stamp, under either nominal frequency.
 fn is_own(settings: &MergerSettings, node: &MergedNode, stamp: Stamp, bytes: &[u8]) -> bool
-    ensures { IsTrue result ↔ ((bytes.now ≡ own_bytes node.now.id Nominal.Hz50 stamp.start stamp.change)
-        ⊎ (bytes.now ≡ own_bytes node.now.id Nominal.Hz60 stamp.start stamp.change)) }
+    ensures { IsTrue result ↔ ((bytes.now ≡ own_bytes node.now.id.value Nominal.Hz50 stamp.start stamp.change)
+        ⊎ (bytes.now ≡ own_bytes node.now.id.value Nominal.Hz60 stamp.start stamp.change)) }
 {
     is_spelled(settings, node, Nominal::Hz50, stamp, bytes)
         || is_spelled(settings, node, Nominal::Hz60, stamp, bytes)
@@ -66,8 +66,8 @@ fn is_own(settings: &MergerSettings, node: &MergedNode, stamp: Stamp, bytes: &[u
 
 /// The stamp of a layout, where these bytes are the own section of the node, under either nominal frequency.
 pub fn own_stamp(settings: &MergerSettings, node: &MergedNode, bytes: &[u8]) -> Option<Stamp>
-    ensures { MatchOption result ((stamp : StampFields) → IsOwn node.now.id bytes.now stamp → ⊥)
-        (λ stamp. IsOwn node.now.id bytes.now (stamp_view stamp)) }
+    ensures { MatchOption result ((stamp : StampFields) → IsOwn node.now.id.value bytes.now stamp → ⊥)
+        (λ stamp. IsOwn node.now.id.value bytes.now (stamp_view stamp)) }
 {
     if bytes.len() != OWN_SECTION_LEN {
         return None;

@@ -9,7 +9,7 @@ use crate::config::{ConfigView, MAX_SECTIONS};
 use crate::limits::FIXED_LEN;
 use crate::section::{MAX_SECTION_LEN, SectionView};
 use pdc_frame::{
-    Buffer, Frame, Kind, MAX_ID, begin_frame, end_frame, frames_are_written_in_parts,
+    Buffer, Frame, Kind, StreamId, begin_frame, end_frame, frames_are_written_in_parts,
     parts_keep_their_words, words_are_their_bytes,
 };
 use std::alloc::AllocError;
@@ -90,23 +90,21 @@ fn append_payload<B: Buffer>(config: &ConfigView, out: &mut B)
 pub fn write_config<B: Buffer>(
     config: &ConfigView,
     kind: Kind,
-    id: u16,
+    id: StreamId,
     soc: u32,
     out: &mut B,
 ) -> Result<(), AllocError>
     requires kind { IsConfigKind kind }
-    requires id_low { 0 < id }
-    requires id_high { id ≤ MAX_ID }
     // What is appended is the frame with these fields,
-    ensures ok { OnOk result (B.content out.new ≡ B.content out.old ++ spelling_of (config_frame_of kind id soc (config_fields_of config.now))) }
+    ensures ok { OnOk result (B.content out.new ≡ B.content out.old ++ spelling_of (config_frame_of kind id.value soc (config_fields_of config.now))) }
     // which is read back, and its payload is this configuration.
-    ensures frame { IsFrame (spelling_of (config_frame_of kind id soc (config_fields_of config.now))) (config_frame_of kind id soc (config_fields_of config.now)) }
+    ensures frame { IsFrame (spelling_of (config_frame_of kind id.value soc (config_fields_of config.now))) (config_frame_of kind id.value soc (config_fields_of config.now)) }
     ensures config { OnOk result (IsConfig (payload_of (config_fields_of config.now)) (config_fields_of config.now)) }
     // It fails only where there was no room, and then nothing is appended.
     ensures err { OnErr result ((B.content out.new ≡ B.content out.old) × (B.capacity out.new ≡ B.capacity out.old)) }
-    ensures room { length (B.content out.old) + length (spelling_of (config_frame_of kind id soc (config_fields_of config.now))) ≤ B.capacity out.old → IsOk result }
+    ensures room { length (B.content out.old) + length (spelling_of (config_frame_of kind id.value soc (config_fields_of config.now))) ≤ B.capacity out.old → IsOk result }
     // Where there was room, it takes no memory.
-    ensures in_place { length (B.content out.old) + length (spelling_of (config_frame_of kind id soc (config_fields_of config.now))) ≤ B.capacity out.old
+    ensures in_place { length (B.content out.old) + length (spelling_of (config_frame_of kind id.value soc (config_fields_of config.now))) ≤ B.capacity out.old
         → B.capacity out.new ≡ B.capacity out.old }
     ensures capacity { B.capacity out.old ≤ B.capacity out.new }
 {

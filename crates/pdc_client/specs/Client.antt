@@ -7,7 +7,7 @@ use Rattle.pdc_client.specs.declared.fault.ClientFault.{ClientFault}
 
 -- the id of the stream that it asks for
 abbrev pub id_in : {S A : Type 0} → Pdc S A → ℕ
-id_in pdc = pdc.id
+id_in pdc = pdc.id.value
 
 -- what it reads from and writes to
 abbrev pub stream_in : {S A : Type 0} → Pdc S A → S

@@ -3,7 +3,6 @@ ghost use Rattle.std.specs.Prelude.{◌≡◌, ◌⊎◌, ◌≤◌, ◌<◌, �
 ghost use Rattle.std.specs.Io.KnownBytes.{Appends};
 ghost use Rattle.pdc_frame.specs.Frame.{Fields, IsFrame, spelling_of};
 ghost use Rattle.pdc_frame.specs.Stream.{HasTaken};
-ghost use Rattle.pdc_frame.specs.declared.limits.TheConstants.{MAX_ID};
 ghost use Rattle.pdc_command.specs.Command.{command_fields};
 ghost use Rattle.pdc_client.specs.Counted.{faults_after, is_device, reads_after};
 ghost use Rattle.pdc_client.specs.Search.{Searches};
@@ -18,7 +17,7 @@ use crate::search::{MAX_READS, find_frame};
 use crate::telling::tell;
 use crate::unread::Unread;
 use pdc_command::Command;
-use pdc_frame::{Framer, Kind, MAX_ID};
+use pdc_frame::{Framer, Kind, StreamId};
 use std::alloc::{AllocError, Allocator, Global};
 use std::io::{Read, Write};
 
@@ -26,31 +25,27 @@ use std::io::{Read, Write};
 /// dated with second 0. What was read behind an answer is kept for the next one.
 #[derive(Drop)]
 pub struct Pdc<S, A: Allocator = Global> {
-    id: u16,
+    id: StreamId,
     stream: Counting<S>,
     framer: Framer<A>,
     unread: Unread<A>,
     reads_left: u32,
     ended: Option<ClientFault>,
-    pub ghost id_low: { 0 < id },
-    pub ghost id_high: { id ≤ MAX_ID },
 }
 
 impl<S: Read + Write, A: Allocator> Pdc<S, A> {
     ghost use Rattle.pdc_client.specs.Client.{KeepsFaults, ended_in, faults_in, held_in, id_in, reads_in, reads_left_in, stream_in, unread_in};
 
-    /// A client of the stream `id`, 1 to 65534. It reads and writes nothing yet.
+    /// A client of the stream `id`. It reads and writes nothing yet.
     ///
     /// # Errors
     ///
     /// [`AllocError`] where there is no memory for the longest frame and for a read. The reader and writer is let go then.
-    pub fn new(alloc: A, id: u16, stream: S) -> Result<Pdc<S, A>, AllocError>
+    pub fn new(alloc: A, id: StreamId, stream: S) -> Result<Pdc<S, A>, AllocError>
     where
         S: Drop,
         A: Copy,
-        requires id_low { 0 < id }
-        requires id_high { id ≤ MAX_ID }
-        ensures id { IfOk result (λ pdc. id_in pdc ≡ id) }
+        ensures id { IfOk result (λ pdc. id_in pdc ≡ id.value) }
         ensures stream { IfOk result (λ pdc. stream_in pdc ≡ stream) }
         ensures held { IfOk result (λ pdc. HasTaken [] [] (held_in pdc)) }
         ensures unread { IfOk result (λ pdc. unread_in pdc ≡ []) }

@@ -10,7 +10,7 @@ ghost use Rattle.pdc_client.specs.Search.{Follows, IsOther, IsWanted, Searches};
 use crate::counting::{Counting, is_interrupt};
 use crate::fault::ClientFault;
 use crate::unread::Unread;
-use pdc_frame::{Framer, Kind, Step};
+use pdc_frame::{Framer, Kind, Step, StreamId};
 use std::alloc::Allocator;
 use std::io::Read;
 
@@ -74,13 +74,13 @@ fn next_frame<R: Read, A: Allocator>(
 }
 
 /// Whether the frame is of this stream and kind.
-fn is_wanted<A: Allocator>(framer: &Framer<A>, id: u16, kind: Kind) -> bool
+fn is_wanted<A: Allocator>(framer: &Framer<A>, id: StreamId, kind: Kind) -> bool
     requires { framer.now.step ≡ Whole }
-    ensures wanted { result ≡ true → IsWanted id kind framer.now.bytes }
-    ensures other { result ≡ false → IsOther id kind framer.now.bytes }
+    ensures wanted { result ≡ true → IsWanted id.value kind framer.now.bytes }
+    ensures other { result ≡ false → IsOther id.value kind framer.now.bytes }
 {
     let frame = framer.fields();
-    frame.id == id && frame.kind == kind
+    frame.id.value == id.value && frame.kind == kind
 }
 
 /// Reads up to the end of the next frame of this stream and kind, and passes the others over. `reads` is how many reads are left.
@@ -90,14 +90,14 @@ fn is_wanted<A: Allocator>(framer: &Framer<A>, id: u16, kind: Kind) -> bool
 /// `NoAnswer` where it did not come within the frames and reads of a call, or before the end of the input; `BadStream` where the
 /// stream shows a fault; `Device` where a read failed.
 pub fn find_frame<R: Read, A: Allocator>(
-    id: u16,
+    id: StreamId,
     kind: Kind,
     framer: &mut Framer<A>,
     unread: &mut Unread<A>,
     reader: &mut Counting<R>,
     reads: &mut u32,
 ) -> Result<(), ClientFault>
-    ensures searches { Searches id kind framer.old unread.old (R.remaining (inner_of reader.old)) framer.new unread.new (R.remaining (inner_of reader.new)) reads.new result }
+    ensures searches { Searches id.value kind framer.old unread.old (R.remaining (inner_of reader.old)) framer.new unread.new (R.remaining (inner_of reader.new)) reads.new result }
     ensures memory { IsErrOf result ClientFault.NoMemory → ⊥ }
     ensures few { reads.new ≤ reads.old }
     ensures reads { reads_of reader.new ≡ reads_after (reads.old - reads.new) (reads_of reader.old) }

@@ -10,17 +10,15 @@ use crate::counting::Counting;
 use crate::fault::ClientFault;
 use arrayvec::ArrayVec;
 use pdc_command::{COMMAND_SIZE, Command, write_command};
-use pdc_frame::MAX_ID;
+use pdc_frame::StreamId;
 use std::io::Write;
 
 /// The second that commands are dated with.
 const COMMAND_SOC: u32 = 0;
 
 /// The frame that tells the stream `id` this command, dated with second 0.
-pub fn command_frame(id: u16, command: Command) -> ArrayVec<u8, COMMAND_SIZE>
-    requires id_low { 0 < id }
-    requires id_high { id ≤ MAX_ID }
-    ensures { result.items ≡ spelling_of (command_fields id COMMAND_SOC command) }
+pub fn command_frame(id: StreamId, command: Command) -> ArrayVec<u8, COMMAND_SIZE>
+    ensures { result.items ≡ spelling_of (command_fields id.value COMMAND_SOC command) }
 {
     let mut frame = ArrayVec::new();
     write_command(id, COMMAND_SOC, command, &mut frame).unwrap();
@@ -33,13 +31,11 @@ pub fn command_frame(id: u16, command: Command) -> ArrayVec<u8, COMMAND_SIZE>
 ///
 /// `Device` where the writer fails.
 pub fn tell<W: Write>(
-    id: u16,
+    id: StreamId,
     command: Command,
     writer: &mut Counting<W>,
 ) -> Result<(), ClientFault>
-    requires id_low { 0 < id }
-    requires id_high { id ≤ MAX_ID }
-    ensures ok { OnOk result (Appends (W.contents (inner_of writer.old)) (W.contents (inner_of writer.new)) (spelling_of (command_fields id COMMAND_SOC command))) }
+    ensures ok { OnOk result (Appends (W.contents (inner_of writer.old)) (W.contents (inner_of writer.new)) (spelling_of (command_fields id.value COMMAND_SOC command))) }
     ensures err { OnErr result (IsErrOf result ClientFault.Device) }
     ensures reads { reads_of writer.new ≡ reads_of writer.old }
     ensures faults { faults_of writer.new ≡ faults_after (is_err result) (faults_of writer.old) }

@@ -5,7 +5,9 @@ ghost use Rattle.pdc_frame.specs.Frame.{fields_of, spelling_of, IsFrame};
 ghost use Rattle.pdc_command.specs.Command.{code_of, command_fields, IsCommand, IsFirstFault};
 
 use crate::fault::CommandFault;
-use pdc_frame::{Buffer, Frame, Kind, MAX_ID, frames_are_written_in_parts, read_word, write_frame};
+use pdc_frame::{
+    Buffer, Frame, Kind, StreamId, frames_are_written_in_parts, read_word, write_frame,
+};
 use std::alloc::AllocError;
 
 /// The bytes of a command frame.
@@ -74,18 +76,16 @@ fn cmd_bytes(command: Command) -> [u8; CMD_LEN]
 ///
 /// [`AllocError`] where `out` has no room and gets none.
 pub fn write_command<B: Buffer>(
-    id: u16,
+    id: StreamId,
     soc: u32,
     command: Command,
     out: &mut B,
 ) -> Result<(), AllocError>
-    requires id_low { 0 < id }
-    requires id_high { id ≤ MAX_ID }
     // What is appended is the frame with these fields,
-    ensures ok { OnOk result (B.content out.new ≡ B.content out.old ++ spelling_of (command_fields id soc command)) }
+    ensures ok { OnOk result (B.content out.new ≡ B.content out.old ++ spelling_of (command_fields id.value soc command)) }
     // which is read back, and carries the command.
-    ensures frame { IsFrame (spelling_of (command_fields id soc command)) (command_fields id soc command) }
-    ensures command { IsCommand (command_fields id soc command) command }
+    ensures frame { IsFrame (spelling_of (command_fields id.value soc command)) (command_fields id.value soc command) }
+    ensures command { IsCommand (command_fields id.value soc command) command }
     // It fails only where there was no room, and then nothing is appended.
     ensures err { OnErr result ((B.content out.new ≡ B.content out.old) × (B.capacity out.new ≡ B.capacity out.old)) }
     ensures room { length (B.content out.old) + COMMAND_SIZE ≤ B.capacity out.old → IsOk result }

@@ -5,7 +5,7 @@ ghost use Rattle.pdc_command.specs.Command.{header_fields, IsHeader, IsHeaderFau
 
 use crate::fault::CommandFault;
 use pdc_frame::{
-    Buffer, Frame, Kind, MAX_ID, MAX_PAYLOAD, OVERHEAD, frames_are_written_in_parts, write_frame,
+    Buffer, Frame, Kind, MAX_PAYLOAD, OVERHEAD, StreamId, frames_are_written_in_parts, write_frame,
 };
 use std::alloc::AllocError;
 
@@ -38,19 +38,17 @@ pub fn read_header<'a>(frame: &Frame<'a>) -> Result<&'a [u8], CommandFault>
 ///
 /// [`AllocError`] where `out` has no room and gets none.
 pub fn write_header<B: Buffer>(
-    id: u16,
+    id: StreamId,
     soc: u32,
     text: &[u8],
     out: &mut B,
 ) -> Result<(), AllocError>
-    requires id_low { 0 < id }
-    requires id_high { id ≤ MAX_ID }
     requires size { length text.now ≤ MAX_TEXT }
     // What is appended is the frame with these fields,
-    ensures ok { OnOk result (B.content out.new ≡ B.content out.old ++ spelling_of (header_fields id soc text.now)) }
+    ensures ok { OnOk result (B.content out.new ≡ B.content out.old ++ spelling_of (header_fields id.value soc text.now)) }
     // which is read back, and carries the text.
-    ensures frame { IsFrame (spelling_of (header_fields id soc text.now)) (header_fields id soc text.now) }
-    ensures text { IsHeader (header_fields id soc text.now) text.now }
+    ensures frame { IsFrame (spelling_of (header_fields id.value soc text.now)) (header_fields id.value soc text.now) }
+    ensures text { IsHeader (header_fields id.value soc text.now) text.now }
     // It fails only where there was no room, and then nothing is appended.
     ensures err { OnErr result ((B.content out.new ≡ B.content out.old) × (B.capacity out.new ≡ B.capacity out.old)) }
     ensures room { length (B.content out.old) + (length text.now + OVERHEAD) ≤ B.capacity out.old → IsOk result }

@@ -18,7 +18,7 @@ WritesNone words name most = (text : List ℕ) × (first_value words name ≡ So
 -- the words ask for this mark file
 pub record AsksFor (words : Found) (request : MarkInit) : Type 0 where
   pub file : first_value words (codes "FILE") ≡ Some request.file.now
-  pub id : Writes words (codes "ID") request.id
+  pub id : Writes words (codes "ID") request.id.value
   pub rate : Writes words (codes "RATE") request.rate
 
 -- a word is missing

@@ -6,7 +6,7 @@ ghost use Rattle.pdc_command_line.specs.MarkInit.{AsksFor, HasWrongNumber, Lacks
 use crate::request::{MAX_RATE, MarkInit};
 use crate::words::{Form, Told, Wanted, short_number_of};
 use clap::{ArgMatches, Error};
-use pdc_frame::MAX_ID;
+use pdc_frame::{MAX_ID, StreamId};
 use std::alloc::Global;
 
 const ABOUT: &str = "Make the mark file of a node or a merger";
@@ -61,5 +61,6 @@ pub fn mark_init_request<'a>(
     };
     let id = short_number_of(alloc, &MARK_INIT, "<ID>", id, MAX_ID)?;
     let rate = short_number_of(alloc, &MARK_INIT, "<RATE>", rate, MAX_RATE)?;
+    let id = StreamId { value: id };
     Ok(Some(MarkInit { file, id, rate }))
 }

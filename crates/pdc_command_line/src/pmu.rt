@@ -5,7 +5,7 @@ use crate::words::{Form, Told, Wanted, number_of, optional_number_of, short_numb
 use arrayvec::ArrayVec;
 use clap::error::ErrorKind;
 use clap::{ArgMatches, Error};
-use pdc_frame::MAX_ID;
+use pdc_frame::{MAX_ID, StreamId};
 use std::alloc::Global;
 
 const ABOUT: &str = "Simulate a PMU: send its configuration and data to UDP ports, or over TCP";
@@ -154,7 +154,7 @@ fn simulated<'a>(
         config_every,
     } = aims_of(alloc, matches)?;
     Ok(Simulated {
-        id,
+        id: StreamId { value: id },
         rate,
         count,
         places,

@@ -1,10 +1,9 @@
 //! What is asked of the program.
 ghost use Rattle.std.specs.Prelude.{◌<◌, ◌≤◌};
-ghost use Rattle.pdc_frame.specs.declared.limits.TheConstants.{MAX_ID};
 ghost use Rattle.pdc_command_line.specs.declared.request.TheConstants.{MAX_RATE};
 
 use arrayvec::ArrayVec;
-use pdc_frame::MAX_ID;
+use pdc_frame::StreamId;
 
 /// The greatest data rate, in frames a second.
 pub const MAX_RATE: u16 = 240;
@@ -58,12 +57,10 @@ pub enum ShowForm {
 pub struct MarkInit<'a> {
     /// The name of the file.
     pub file: &'a str,
-    /// The id of the node or merger that it is for, 1 to 65534.
-    pub id: u16,
+    /// The id of the node or merger that it is for.
+    pub id: StreamId,
     /// The frames in a second, 1 to 240.
     pub rate: u16,
-    pub ghost some_id: { 0 < id },
-    pub ghost id_fits: { id ≤ MAX_ID },
     pub ghost some_rate: { 0 < rate },
     pub ghost rate_fits: { rate ≤ MAX_RATE },
 }
@@ -144,8 +141,8 @@ impl<'a> Default for Place<'a> {
 /// A PMU that is to be simulated.
 #[derive(Debug, Drop)]
 pub struct Simulated<'a> {
-    /// The stream id, 1 to 65534.
-    pub id: u16,
+    /// The stream id.
+    pub id: StreamId,
     /// The frames in a second, 1 to 240.
     pub rate: u16,
     /// How many data frames are sent, at least 1.
@@ -158,8 +155,6 @@ pub struct Simulated<'a> {
     pub config_every: Option<u32>,
     /// Whether it is a PMU at a bus of a simulated grid.
     pub is_grid: bool,
-    pub ghost some_id: { 0 < id },
-    pub ghost id_fits: { id ≤ MAX_ID },
     pub ghost some_rate: { 0 < rate },
     pub ghost rate_fits: { rate ≤ MAX_RATE },
 }

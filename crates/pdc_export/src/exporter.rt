@@ -13,7 +13,7 @@ use arrayvec::ArrayVec;
 use pdc_block::{Block, cut};
 use pdc_cfg::{ConfigView, Shape, read_config};
 use pdc_command::{read_command, read_header};
-use pdc_frame::{Frame, Kind, read_frame};
+use pdc_frame::{Frame, Kind, StreamId, read_frame};
 use pdc_show::NotShown;
 use pdc_values::{SecondText, Template, append_count, microseconds};
 use std::alloc::{AllocError, Global};
@@ -61,7 +61,7 @@ pub struct Exporter {
 /// Appends the rows of a data frame.
 fn append_rows(
     time: &[u8],
-    id: u16,
+    id: StreamId,
     templates: &[Template],
     blocks: &[Block],
     out: &mut Vec<u8>,
@@ -69,7 +69,7 @@ fn append_rows(
     for (template, block) in templates.iter().zip(blocks) {
         out.extend_from_slice(time)?;
         out.extend_from_slice(b",")?;
-        append_count(u64::from(id), out)?;
+        append_count(u64::from(id.value), out)?;
         template.append(block, out)?;
     }
     Ok(())
@@ -158,9 +158,9 @@ impl Exporter {
     }
 
     /// The counts of FRACSEC in a second of this stream, where its configuration is held; else 0.
-    fn time_base_of(&self, id: u16) -> u32 {
+    fn time_base_of(&self, id: StreamId) -> u32 {
         match &self.held {
-            Some(held) if held.id == id => held.time_base,
+            Some(held) if held.id.value == id.value => held.time_base,
             _ => 0,
         }
     }
@@ -170,7 +170,7 @@ impl Exporter {
         ensures { IfErr result (λ refusal. is_of_bytes refusal ≡ false) }
     {
         match &self.held {
-            Some(held) if held.id == frame.id => {
+            Some(held) if held.id.value == frame.id.value => {
                 cut(held.shapes.as_slice(), frame.payload).map_err(NotShown::Body)
             }
             _ => Err(NotShown::NoConfig),
@@ -233,7 +233,8 @@ impl Exporter {
     /// Whether this configuration is held already.
     fn is_held(&self, frame: &Frame) -> bool {
         match &self.held {
-            Some(held) => held.id == frame.id && held.payload.as_slice() == frame.payload,
+            Some(held) => held.id.value == frame.id.value
+                && held.payload.as_slice() == frame.payload,
             None => false,
         }
     }

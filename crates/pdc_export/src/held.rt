@@ -2,13 +2,14 @@
 
 use arrayvec::ArrayVec;
 use pdc_cfg::Shape;
+use pdc_frame::StreamId;
 use pdc_values::Template;
 
 /// What is kept of the CFG-2 frame that was read last.
 #[derive(Drop)]
 pub struct Held {
     /// The stream's id.
-    pub id: u16,
+    pub id: StreamId,
     /// The counts of FRACSEC in a second.
     pub time_base: u32,
     /// The bytes of the configuration.

@@ -159,7 +159,7 @@ pub fn append_frame(
         }
         None => out.extend_from_slice(b"null")?,
     }
-    append_member(b",\"stream\":", i64::from(frame.id), out)?;
+    append_member(b",\"stream\":", i64::from(frame.id.value), out)?;
     append_member(b",\"soc\":", i64::from(frame.soc), out)?;
     append_member(b",\"frac\":", i64::from(frame.frac), out)?;
     append_member(b",\"quality\":", i64::from(frame.quality), out)

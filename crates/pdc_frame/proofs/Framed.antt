@@ -30,8 +30,8 @@ pub writable : (frame : Frame) → frame.soc < 2 ^ 32 → frame.quality < 2 ^ 8 
 writable frame soc quality bytes = record {
   fits = record {
     version = known_version frame.version frame.version_low frame.version_high;
-    id_low = frame.id_low;
-    id_high = omega (arith, frame.id_high);
+    id_low = frame.id.low;
+    id_high = omega (arith, frame.id.high);
     soc = soc;
     quality = quality;
     frac = omega (arith, frame.frac_fits);

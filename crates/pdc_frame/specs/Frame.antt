@@ -33,7 +33,7 @@ abbrev pub fields_of : Frame → Fields
 fields_of f = record {
   kind = f.kind;
   version = f.version;
-  id = f.id;
+  id = f.id.value;
   soc = f.soc;
   quality = f.quality;
   frac = f.frac;

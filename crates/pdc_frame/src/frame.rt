@@ -1,6 +1,8 @@
 //! What a frame is: its kind and its fields.
 ghost use Rattle.std.specs.Prelude.{◌<◌, ◌≤◌, length};
-ghost use Rattle.pdc_frame.specs.declared.limits.TheConstants.{MAX_VERSION, MAX_ID, MAX_FRAC, MAX_PAYLOAD};
+ghost use Rattle.pdc_frame.specs.declared.limits.TheConstants.{MAX_VERSION, MAX_FRAC, MAX_PAYLOAD};
+
+use crate::id::StreamId;
 
 /// What a frame carries: bits 6 to 4 of the second byte of SYNC (C37.118.2-2011, table 2).
 #[derive(Clone, Copy, Debug, PartialEq, Eq)]
@@ -26,8 +28,8 @@ pub struct Frame<'a> {
     pub kind: Kind,
     /// The version of the standard that the sender follows: 1 or 2.
     pub version: u8,
-    /// The stream's id, 1 to 65534.
-    pub id: u16,
+    /// The stream's id.
+    pub id: StreamId,
     /// Second of the century: seconds from 1970-01-01 00:00 UTC, leap seconds not counted.
     pub soc: u32,
     /// Time quality, the high byte of FRACSEC. Its low four bits are a number: the greater, the worse.
@@ -38,8 +40,6 @@ pub struct Frame<'a> {
     pub payload: &'a [u8],
     pub ghost version_low: { 0 < version },
     pub ghost version_high: { version ≤ MAX_VERSION },
-    pub ghost id_low: { 0 < id },
-    pub ghost id_high: { id ≤ MAX_ID },
     pub ghost frac_fits: { frac ≤ MAX_FRAC },
     pub ghost payload_fits: { length payload.now ≤ MAX_PAYLOAD },
 }

@@ -14,6 +14,7 @@ mod crc;
 mod fault;
 mod frame;
 mod framer;
+mod id;
 mod laws;
 mod limits;
 mod reading;
@@ -27,6 +28,7 @@ pub use crc::check_word;
 pub use fault::FrameFault;
 pub use frame::{Frame, Kind};
 pub use framer::Framer;
+pub use id::StreamId;
 pub use laws::{
     check_word_is_the_remainder, frames_are_read_in_one_way, frames_are_written_in_parts,
     parts_keep_their_words, spellings_stand_apart, streams_split_in_one_way, words_are_their_bytes,

@@ -7,6 +7,7 @@ ghost use Rattle.pdc_frame.specs.Stream.{IsWhole};
 use crate::crc::check_word;
 use crate::fault::FrameFault;
 use crate::frame::{Frame, Kind};
+use crate::id::StreamId;
 use crate::limits::{
     CHECK_LEN, FRACSEC_PLACE, HEADER_LEN, ID_PLACE, MAX_FRAC, MAX_ID, MAX_SIZE, MAX_VERSION,
     OVERHEAD, SIZE_PLACE, SOC_PLACE, SYNC_BYTE,
@@ -62,7 +63,9 @@ fn fields_in_places(bytes: &[u8], kind: Kind, version: u8) -> Frame<'_>
     Frame {
         kind,
         version,
-        id: read_word(bytes, ID_PLACE),
+        id: StreamId {
+            value: read_word(bytes, ID_PLACE),
+        },
         soc: read_long(bytes, SOC_PLACE),
         quality: (fracsec >> 24) as u8,
         frac: fracsec & MAX_FRAC,

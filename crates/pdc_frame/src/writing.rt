@@ -40,7 +40,7 @@ fn header_bytes(head: &Frame, size: u16) -> [u8; HEADER_LEN]
     header[0] = SYNC_BYTE;
     header[1] = 16 * kind_number(head.kind) + head.version;
     BigEndian::write_u16(&mut header[SIZE_PLACE..], size);
-    BigEndian::write_u16(&mut header[ID_PLACE..], head.id);
+    BigEndian::write_u16(&mut header[ID_PLACE..], head.id.value);
     BigEndian::write_u32(&mut header[SOC_PLACE..], head.soc);
     BigEndian::write_u32(
         &mut header[FRACSEC_PLACE..],

@@ -116,12 +116,12 @@ record Bears (seen : Seen) (who : Who) (stamp : Stamp) (payload bytes : List ℕ
   own : SectionFields
   sections : List SectionFields
   all : config.sections ≡ own ∷ sections
-  itself : IsOwn (output_in seen who).id own.bytes stamp
+  itself : IsOwn (output_in seen who).id.value own.bytes stamp
   cut : IsCutSomehow stamp sections payload
 
 abbrev BearsParts : Seen → Who → Stamp → List ℕ → List ℕ → SectionFields → List SectionFields → Type 0
 BearsParts seen who stamp payload bytes own sections =
-    IsFrame bytes (config_in bytes) × ((word_at bytes 4 ≡ (output_in seen who).id) × (IsOwn (output_in seen who).id own.bytes stamp × IsCutSomehow stamp sections payload))
+    IsFrame bytes (config_in bytes) × ((word_at bytes 4 ≡ (output_in seen who).id.value) × (IsOwn (output_in seen who).id.value own.bytes stamp × IsCutSomehow stamp sections payload))
 
 same_frame : (seen : Seen) (who : Who) (stamp : Stamp) (payload bytes : List ℕ) (b : Bears seen who stamp payload bytes) → b.has.fields ≡ config_in bytes
 same_frame seen who stamp payload bytes b = frame_stands_there Cfg2 bytes b.has.fields b.has.of_stream.frame b.has.kind
@@ -152,7 +152,7 @@ parts_of_bears C seen who stamp payload bytes x own sections e b =
       (
         sym (ap (λ (f : Fields). f.id) (same_frame seen who stamp payload bytes b)) ∙ b.has.of_stream.id,
         (
-          subst (λ (s : SectionFields). IsOwn (output_in seen who).id s.bytes stamp) first b.itself,
+          subst (λ (s : SectionFields). IsOwn (output_in seen who).id.value s.bytes stamp) first b.itself,
           subst (λ (ss : List SectionFields). IsCutSomehow stamp ss payload) others b.cut,
         ),
       ),
@@ -169,7 +169,7 @@ by_sections : CutLaws → (seen : Seen) (who : Who) (stamp : Stamp) (payload byt
 by_sections C seen who stamp payload bytes fits x [] e = inr (no_sections C seen who stamp payload bytes x e)
 by_sections C seen who stamp payload bytes fits x (own ∷ sections) e =
     likewise (bears_of_parts seen who stamp payload bytes x own sections e) (parts_of_bears C seen who stamp payload bytes x own sections e)
-    (both (is_frame bytes (config_in bytes)) (both (is_number (word_at bytes 4) (output_in seen who).id) (both (is_own (output_in seen who).id own.bytes stamp)
+    (both (is_frame bytes (config_in bytes)) (both (is_number (word_at bytes 4) (output_in seen who).id.value) (both (is_own (output_in seen who).id.value own.bytes stamp)
     (is_cut_somehow C stamp sections payload fits))))
 
 by_config : CutLaws → (seen : Seen) (who : Who) (stamp : Stamp) (payload bytes : List ℕ) → AreBytes payload → IsTold (HasSomeConfig (config_in bytes).payload) → IsTold (Bears seen who stamp payload bytes)

@@ -45,7 +45,7 @@ layout_of_history W H who stamp sections k = record {
   has = subst (λ (s : Stream). HasConfig s k.bytes k.config) (same_stream W H who) k.has;
   own = k.own;
   all = k.all;
-  itself = subst (λ (o : Output). IsOwn o.id k.own.bytes stamp) (same_output W H who) k.itself;
+  itself = subst (λ (o : Output). IsOwn o.id.value k.own.bytes stamp) (same_output W H who) k.itself;
 }
 
 layout_of_frames : (W : World) (H : List Happened) (who : Who) (stamp : Stamp) (sections : List SectionFields) → history.IsLayoutSent W H who stamp sections
@@ -57,7 +57,7 @@ layout_of_frames W H who stamp sections k = record {
   has = subst (λ (s : Stream). HasConfig s k.bytes k.config) (sym (same_stream W H who)) k.has;
   own = k.own;
   all = k.all;
-  itself = subst (λ (o : Output). IsOwn o.id k.own.bytes stamp) (sym (same_output W H who)) k.itself;
+  itself = subst (λ (o : Output). IsOwn o.id.value k.own.bytes stamp) (sym (same_output W H who)) k.itself;
 }
 
 pub under_of_history : (W : World) (H : List Happened) (who : Who) (stamp : Stamp) (sections : List SectionFields) → IsLayoutUnder (seen_in W H) who stamp sections

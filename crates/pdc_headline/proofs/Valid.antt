@@ -89,7 +89,7 @@ same_config payload time_base rate s c is base rates sections =
 
 abbrev ValidParts : Settings → Pmu → List ℕ → SectionFields → Type 0
 ValidParts settings pmu bytes s =
-    IsFrame bytes (config_in bytes) × ((word_at bytes 4 ≡ pmu.stream) × (IsConfig (config_in bytes).payload (config_with (config_in bytes).payload pmu.time_base settings.output.rate s)
+    IsFrame bytes (config_in bytes) × ((word_at bytes 4 ≡ pmu.stream.value) × (IsConfig (config_in bytes).payload (config_with (config_in bytes).payload pmu.time_base settings.output.rate s)
     × ((cast_unsigned w16 (cast_signed w16 settings.output.rate) ≡ settings.output.rate) × (s.source ≡ pmu.source))))
 
 valid_of_parts : (settings : Settings) (pmu : Pmu) (bytes : List ℕ) (s : SectionFields) → ValidParts settings pmu bytes s → IsValid settings pmu bytes s
@@ -123,5 +123,5 @@ parts_of_valid settings pmu bytes s v =
 pub is_valid : (settings : Settings) (pmu : Pmu) (bytes : List ℕ) (s : SectionFields) → IsTold (IsValid settings pmu bytes s)
 is_valid settings pmu bytes s =
     likewise (valid_of_parts settings pmu bytes s) (parts_of_valid settings pmu bytes s)
-    (both (is_frame bytes (config_in bytes)) (both (is_number (word_at bytes 4) pmu.stream) (both (is_config (config_in bytes).payload pmu.time_base settings.output.rate s)
+    (both (is_frame bytes (config_in bytes)) (both (is_number (word_at bytes 4) pmu.stream.value) (both (is_config (config_in bytes).payload pmu.time_base settings.output.rate s)
     (both (is_number (cast_unsigned w16 (cast_signed w16 settings.output.rate)) settings.output.rate) (is_number s.source pmu.source)))))

@@ -35,7 +35,7 @@ pub record IsLayoutSent (seen : Seen) (who : Who) (stamp : Stamp) (sections : Li
   pub has : HasConfig (stream_in seen who) bytes config
   pub own : SectionFields
   pub all : config.sections ≡ own ∷ sections
-  pub itself : IsOwn (output_in seen who).id own.bytes stamp
+  pub itself : IsOwn (output_in seen who).id.value own.bytes stamp
 
 -- The layout under a stamp: after the own section these ones. Under change 0, which no layout frame bears, there are none.
 abbrev pub IsLayoutUnder : Seen → Who → Stamp → List SectionFields → Type 0

@@ -34,7 +34,7 @@ output_in seen B = seen.b.output
 output_in seen M = seen.m.output
 
 abbrev pub stream_in : Seen → Who → Stream
-stream_in seen who = record { id = (output_in seen who).id; time_base = (output_in seen who).time_base; rate = (output_in seen who).rate }
+stream_in seen who = record { id = (output_in seen who).id.value; time_base = (output_in seen who).time_base; rate = (output_in seen who).rate }
 
 -- the instants that an owner published, in their order
 abbrev pub instants_of : Who → List Published → List ℕ

@@ -47,9 +47,9 @@ two_distinct a b ids d = from_first (b == a) (list_any (λ other. other == a) id
     from_first true y h = absurd (false≢true (sym h))
 
 distinct_ids : (W : World) (who : Who) → are_distinct (stream_ids W who) ≡ true
-distinct_ids W A = distinct_rest W.a.settings.output.id (map (λ (pmu : Pmu). pmu.stream) W.a.settings.pmus.items) W.a.settings.streams
-distinct_ids W B = distinct_rest W.b.settings.output.id (map (λ (pmu : Pmu). pmu.stream) W.b.settings.pmus.items) W.b.settings.streams
-distinct_ids W M = two_distinct W.m.settings.first.id W.m.settings.second.id W.m.settings.sources.items W.m.settings.distinct
+distinct_ids W A = distinct_rest W.a.settings.output.id.value (map (λ (pmu : Pmu). pmu.stream.value) W.a.settings.pmus.items) W.a.settings.streams
+distinct_ids W B = distinct_rest W.b.settings.output.id.value (map (λ (pmu : Pmu). pmu.stream.value) W.b.settings.pmus.items) W.b.settings.streams
+distinct_ids W M = two_distinct W.m.settings.first.id.value W.m.settings.second.id.value W.m.settings.sources.items W.m.settings.distinct
 
 one_stream : FrameLaws → (W : World) (who : Who) (bytes : List ℕ) (s t : ℕ) → Names W who bytes s → Names W who bytes t → s ≡ t
 one_stream F W who bytes s t a b =

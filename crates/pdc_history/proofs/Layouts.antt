@@ -101,10 +101,10 @@ rests : (x y : SectionFields) (xs ys : List SectionFields) → x ∷ xs ≡ y �
 rests x y xs ys h = cc
 
 own_stamp : FrameLaws → (id : ℕ) (output : Output) (bytes : List ℕ) (stamp : Stamp) (start change : ℕ) → start < 2 ^ 32 → change < 2 ^ 32 → IsOwn id bytes stamp
-    → bytes ≡ own_bytes output.id output.nominal start change → (stamp.start ≡ start) × (stamp.change ≡ change)
+    → bytes ≡ own_bytes output.id.value output.nominal start change → (stamp.start ≡ start) × (stamp.change ≡ change)
 own_stamp F id output bytes stamp start change s c own q = elim own.spelled [
-  | inl h ↦ F.stamps id output.id Hz50 output.nominal stamp.start stamp.change start change own.start_fits own.change_fits s c (sym h ∙ q)
-  | inr h ↦ F.stamps id output.id Hz60 output.nominal stamp.start stamp.change start change own.start_fits own.change_fits s c (sym h ∙ q)
+  | inl h ↦ F.stamps id output.id.value Hz50 output.nominal stamp.start stamp.change start change own.start_fits own.change_fits s c (sym h ∙ q)
+  | inr h ↦ F.stamps id output.id.value Hz60 output.nominal stamp.start stamp.change start change own.start_fits own.change_fits s c (sym h ∙ q)
 ]
 
 from_layout : LifeLaws → FrameLaws → (W : World) (H later earlier : List Happened) (who : Who) (e : Entry) (stamp : Stamp) (sections : List SectionFields) → IsHistory W H → (k : IsLayoutSent W H who stamp sections)
@@ -120,7 +120,7 @@ from_layout L F W H later earlier who e stamp sections is k stands adopts frame 
     F.one_config (layout_payload_of g.output g.start (changes E) (sections_in_force g E)) k.config layout.config (subst (λ (p : List ℕ). IsConfig p k.config) (ap (λ (f : Fields). f.payload) one) k.has.config) layout.spelled in
     let parts : k.own ∷ sections ≡ layout.own ∷ sections_in_force g E = sym k.all ∙ ap (λ (c : ConfigFields). c.sections) config ∙ layout.sections in
     let own : k.own ≡ layout.own = heads k.own layout.own sections (sections_in_force g E) parts in
-    let stamps = own_stamp F (output_of W who).id g.output k.own.bytes stamp g.start (changes E) (start_fits L W earlier who then.1) (L.changes_fit g E run.ticked) k.itself
+    let stamps = own_stamp F (output_of W who).id.value g.output k.own.bytes stamp g.start (changes E) (start_fits L W earlier who then.1) (L.changes_fit g E run.ticked) k.itself
     (ap (λ (s : SectionFields). s.bytes) own ∙ layout.itself) in
     record {
       later = later;
@@ -225,14 +225,14 @@ adoption_ticks W H h who (Arrive s bytes arrival answer) made q a = absurd (fals
 adoption_ticks W H h who (Pop row) made q a = absurd (false≢true a)
 
 own_of : (W : World) (who : Who) (mark : Stored) (bytes : List ℕ) (start change : ℕ) → start < 2 ^ 32 → change < 2 ^ 32
-    → bytes ≡ own_bytes (given_by W who mark).output.id (given_by W who mark).output.nominal start change → IsOwn (output_of W who).id bytes (record { start = start; change = change })
+    → bytes ≡ own_bytes (given_by W who mark).output.id.value (given_by W who mark).output.nominal start change → IsOwn (output_of W who).id.value bytes (record { start = start; change = change })
 own_of W who mark bytes start change s c q = record {
   start_fits = s;
   change_fits = c;
-  spelled = either (output_of W who).nominal (q ∙ ap (λ (o : Output). own_bytes o.id o.nominal start change) (given_output W who mark));
+  spelled = either (output_of W who).nominal (q ∙ ap (λ (o : Output). own_bytes o.id.value o.nominal start change) (given_output W who mark));
 }
   where
-    either : (n : Nominal) → bytes ≡ own_bytes (output_of W who).id n start change → (bytes ≡ own_bytes (output_of W who).id Hz50 start change) ⊎ (bytes ≡ own_bytes (output_of W who).id Hz60 start change)
+    either : (n : Nominal) → bytes ≡ own_bytes (output_of W who).id.value n start change → (bytes ≡ own_bytes (output_of W who).id.value Hz50 start change) ⊎ (bytes ≡ own_bytes (output_of W who).id.value Hz60 start change)
     either Hz50 q = inl q
     either Hz60 q = inr q
 
@@ -255,7 +255,7 @@ layout_sent L F W later H who e is adopts =
       config = both.1.config;
       has = record {
         fields = layout_fields g E;
-        of_stream = record { frame = both.0; id = ap (λ (o : Output). o.id) (given_output W who (opened_with W H who)) };
+        of_stream = record { frame = both.0; id = ap (λ (o : Output). o.id.value) (given_output W who (opened_with W H who)) };
         kind = refl;
         config = both.1.spelled;
       };

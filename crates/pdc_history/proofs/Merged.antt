@@ -28,7 +28,7 @@ use Rattle.pdc_history.proofs.Nodes.{HasArrived, has_arrived, sent_since}
 -- the stream of the merger is what this owner publishes, whose frames are genuine
 pub record IsFrom (W : World) (node : MergedNode) (v : Who) : Type 0 where
   pub stream : reading.stream_from W.m.settings node ≡ stream_from W v
-  pub listed : Contains (stream_ids W M) node.id
+  pub listed : Contains (stream_ids W M) node.id.value
   pub genuine : LifeLaws → FrameLaws → BlockLaws → (H : List Happened) → IsHistory W H → HasGenuineFrames W H v
 
 -- node A or node B

@@ -115,20 +115,20 @@ node_b W k = record {
 record SamePmu (W : World) (p : ℕ) (pmu : Pmu) : Type 0 where
   other : Pmu
   listed : slice_get W.a.settings.pmus.items p ≡ Some other
-  stream : pmu.stream ≡ other.stream
+  stream : pmu.stream.value ≡ other.stream.value
   time_base : pmu.time_base ≡ other.time_base
   source : pmu.source ≡ other.source
 
 pub at_place : (f : Pmu → ℕ) (pmus others : List Pmu) (p : ℕ) (pmu : Pmu) → map f pmus ≡ map f others → slice_get pmus p ≡ Some pmu → option_map f (slice_get others p) ≡ Some (f pmu)
 at_place f pmus others p pmu q listed = sym (slice_get-map f others p) ∙ sym (ap (λ (ns : List ℕ). slice_get ns p) q) ∙ slice_get-map f pmus p ∙ ap (option_map f) listed
 
-there : (W : World) (p : ℕ) (pmu : Pmu) (o : Option Pmu) → slice_get W.a.settings.pmus.items p ≡ o → option_map (λ (x : Pmu). x.stream) o ≡ Some pmu.stream → option_map (λ (x : Pmu). x.time_base) o ≡ Some pmu.time_base
+there : (W : World) (p : ℕ) (pmu : Pmu) (o : Option Pmu) → slice_get W.a.settings.pmus.items p ≡ o → option_map (λ (x : Pmu). x.stream.value) o ≡ Some pmu.stream.value → option_map (λ (x : Pmu). x.time_base) o ≡ Some pmu.time_base
     → option_map (λ (x : Pmu). x.source) o ≡ Some pmu.source → SamePmu W p pmu
-there W p pmu None e a b c = absurd (none-some pmu.stream a)
+there W p pmu None e a b c = absurd (none-some pmu.stream.value a)
 there W p pmu (Some other) e a b c = record {
   other = other;
   listed = e;
-  stream = sym (same_Some other.stream pmu.stream a);
+  stream = sym (same_Some other.stream.value pmu.stream.value a);
   time_base = sym (same_Some other.time_base pmu.time_base b);
   source = sym (same_Some other.source pmu.source c);
 }
@@ -136,7 +136,7 @@ there W p pmu (Some other) e a b c = record {
 same_pmu : (W : World) (who : Who) (settings : Settings) (p : ℕ) (pmu : Pmu) → IsNode W who settings → slice_get settings.pmus.items p ≡ Some pmu → SamePmu W p pmu
 same_pmu W who settings p pmu n listed =
     there W p pmu (slice_get W.a.settings.pmus.items p) refl
-    (at_place (λ (x : Pmu). x.stream) settings.pmus.items W.a.settings.pmus.items p pmu n.streams listed)
+    (at_place (λ (x : Pmu). x.stream.value) settings.pmus.items W.a.settings.pmus.items p pmu n.streams listed)
     (at_place (λ (x : Pmu). x.time_base) settings.pmus.items W.a.settings.pmus.items p pmu n.time_bases listed)
     (at_place (λ (x : Pmu). x.source) settings.pmus.items W.a.settings.pmus.items p pmu n.sources listed)
 
@@ -144,8 +144,8 @@ same_stream : (W : World) (who : Who) (settings : Settings) (p : ℕ) (pmu : Pmu
 same_stream W who settings p pmu n k = λ i. record { id = k.stream i; time_base = k.time_base i; rate = n.rate i }
 
 -- a frame of a PMU is one of a stream of the node
-pub has_id : (pmus : List Pmu) (p : ℕ) (pmu : Pmu) → slice_get pmus p ≡ Some pmu → Contains (ids_of pmus) pmu.stream
-has_id pmus p pmu listed = place_there (ids_of pmus) p pmu.stream (slice_get-map (λ (x : Pmu). x.stream) pmus p ∙ ap (option_map (λ (x : Pmu). x.stream)) listed)
+pub has_id : (pmus : List Pmu) (p : ℕ) (pmu : Pmu) → slice_get pmus p ≡ Some pmu → Contains (ids_of pmus) pmu.stream.value
+has_id pmus p pmu listed = place_there (ids_of pmus) p pmu.stream.value (slice_get-map (λ (x : Pmu). x.stream.value) pmus p ∙ ap (option_map (λ (x : Pmu). x.stream.value)) listed)
 
 -- ---- its sections
 

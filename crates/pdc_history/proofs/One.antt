@@ -62,15 +62,15 @@ one_pmu f pmus p q x y d a b same =
 pub distinct_rest : (x : ℕ) (xs : List ℕ) → are_distinct (x ∷ xs) ≡ true → are_distinct xs ≡ true
 distinct_rest x xs d = (not_and (list_any (λ other. other == x) xs) (are_distinct xs) d).1
 
-pub pmu_of_stream : (W : World) (p q : ℕ) (x y : Pmu) → slice_get W.a.settings.pmus.items p ≡ Some x → slice_get W.a.settings.pmus.items q ≡ Some y → x.stream ≡ y.stream → x ≡ y
+pub pmu_of_stream : (W : World) (p q : ℕ) (x y : Pmu) → slice_get W.a.settings.pmus.items p ≡ Some x → slice_get W.a.settings.pmus.items q ≡ Some y → x.stream.value ≡ y.stream.value → x ≡ y
 pmu_of_stream W p q x y a b same =
-    one_pmu (λ (pmu : Pmu). pmu.stream) W.a.settings.pmus.items p q x y
-    (distinct_rest W.a.settings.output.id (map (λ (pmu : Pmu). pmu.stream) W.a.settings.pmus.items) W.a.settings.streams) a b same
+    one_pmu (λ (pmu : Pmu). pmu.stream.value) W.a.settings.pmus.items p q x y
+    (distinct_rest W.a.settings.output.id.value (map (λ (pmu : Pmu). pmu.stream.value) W.a.settings.pmus.items) W.a.settings.streams) a b same
 
 pub pmu_of_source : (W : World) (p q : ℕ) (x y : Pmu) → slice_get W.a.settings.pmus.items p ≡ Some x → slice_get W.a.settings.pmus.items q ≡ Some y → x.source ≡ y.source → x ≡ y
 pmu_of_source W p q x y a b same =
     one_pmu (λ (pmu : Pmu). pmu.source) W.a.settings.pmus.items p q x y
-    (distinct_rest W.a.settings.output.id (map (λ (pmu : Pmu). pmu.source) W.a.settings.pmus.items) W.a.settings.sources) a b same
+    (distinct_rest W.a.settings.output.id.value (map (λ (pmu : Pmu). pmu.source) W.a.settings.pmus.items) W.a.settings.sources) a b same
 
 -- ---- a frame of a PMU was sent by it, under the premises of a send
 
@@ -79,7 +79,7 @@ record IsNewSend (W : World) (H : List Happened) (h : Happened) (pmu : Pmu) (byt
   one_body : IsOneBody W H pmu bytes
   one_section : IsOneSection W H pmu bytes
 
-new_send : LifeLaws → FrameLaws → (W : World) (H : List Happened) (h : Happened) (p : ℕ) (pmu : Pmu) (bytes : List ℕ) (f : Fields) → IsHistory W (h ∷ H) → slice_get W.a.settings.pmus.items p ≡ Some pmu → IsFrame bytes f → f.id ≡ pmu.stream
+new_send : LifeLaws → FrameLaws → (W : World) (H : List Happened) (h : Happened) (p : ℕ) (pmu : Pmu) (bytes : List ℕ) (f : Fields) → IsHistory W (h ∷ H) → slice_get W.a.settings.pmus.items p ≡ Some pmu → IsFrame bytes f → f.id ≡ pmu.stream.value
     → SentAs W H h bytes → IsNewSend W H h pmu bytes
 new_send L F W H h p pmu bytes f is listed frame id (BySend same may) =
     let one : f ≡ may.of_pmu.fields = F.one_frame bytes f may.of_pmu.fields frame may.of_pmu.of_stream.frame in
@@ -91,7 +91,7 @@ new_send L F W H h p pmu bytes f is listed frame id (BySend same may) =
     }
 new_send L F W H h p pmu bytes f is listed frame id (ByTick v e same adopts spelled layout) =
     let one : f ≡ layout_fields (given_in W H v) (e ∷ life_of H v) = F.one_frame bytes f (layout_fields (given_in W H v) (e ∷ life_of H v)) frame layout in
-    absurd (no_pmu_is_own W H v p pmu is.1 listed (sym id ∙ ap (λ (x : Fields). x.id) one ∙ ap (λ (o : Output). o.id) (given_output W v (opened_with W H v))))
+    absurd (no_pmu_is_own W H v p pmu is.1 listed (sym id ∙ ap (λ (x : Fields). x.id) one ∙ ap (λ (o : Output). o.id.value) (given_output W v (opened_with W H v))))
 new_send L F W H h p pmu bytes f is listed frame id (ByPublish v row same spelled of_row) =
     let one : f ≡ row_fields (output_of W v) row = F.one_frame bytes f (row_fields (output_of W v) row) frame of_row in
     absurd (no_pmu_is_own W H v p pmu is.1 listed (sym id ∙ ap (λ (x : Fields). x.id) one))

@@ -119,12 +119,12 @@ place_there [] p x q = absurd (none_there p x q)
 place_there (y ∷ xs) zero x q = (0, omega arith, same_Some y x q)
 place_there (y ∷ xs) (suc p) x q = let k = place_there xs p x q in (suc k.0, omega (arith, k.1), k.2)
 
-pub no_pmu_is_own : (W : World) (H : List Happened) (who : Who) (p : ℕ) (pmu : Pmu) → IsHistory W H → slice_get W.a.settings.pmus.items p ≡ Some pmu → pmu.stream ≡ (output_of W who).id → ⊥
+pub no_pmu_is_own : (W : World) (H : List Happened) (who : Who) (p : ℕ) (pmu : Pmu) → IsHistory W H → slice_get W.a.settings.pmus.items p ≡ Some pmu → pmu.stream.value ≡ (output_of W who).id.value → ⊥
 no_pmu_is_own W H who p pmu is listed q =
-    element (λ (x : Pmu). x.stream ≢ (output_of W who).id) W.a.settings.pmus.items pmu ((began W H is).settings.no_pmu who)
+    element (λ (x : Pmu). x.stream.value ≢ (output_of W who).id.value) W.a.settings.pmus.items pmu ((began W H is).settings.no_pmu who)
     (place_there W.a.settings.pmus.items p pmu listed) q
 
-pub one_owner : (W : World) (H : List Happened) (v w : Who) → IsHistory W H → (output_of W v).id ≡ (output_of W w).id → v ≡ w
+pub one_owner : (W : World) (H : List Happened) (v w : Who) → IsHistory W H → (output_of W v).id.value ≡ (output_of W w).id.value → v ≡ w
 one_owner W H v w is q = same_who v w ((began W H is).settings.own_ids v w q)
 
 -- a frame with the id of an owner is its layout, or one of its rows
@@ -135,13 +135,13 @@ pub data IsOwned (W : World) (H : List Happened) (who : Who) (bytes : List ℕ) 
       → bytes ≡ wire_of (output_of W who) row → IsFrame bytes (row_fields (output_of W who) row) → IsOwned W H who bytes
 
 owned_as : LifeLaws → FrameLaws → (W : World) (H later earlier : List Happened) (h : Happened) (who : Who) (bytes : List ℕ) (f : Fields) → IsHistory W H → H ≡ later ++ h ∷ earlier
-    → IsFrame bytes f → f.id ≡ (output_of W who).id → SentAs W earlier h bytes → IsOwned W H who bytes
+    → IsFrame bytes f → f.id ≡ (output_of W who).id.value → SentAs W earlier h bytes → IsOwned W H who bytes
 owned_as L F W H later earlier h who bytes f is stands frame id (BySend same may) =
     let one : f ≡ may.of_pmu.fields = F.one_frame bytes f may.of_pmu.fields frame may.of_pmu.of_stream.frame in
     absurd (no_pmu_is_own W H who may.p may.pmu is may.of_pmu.listed (sym may.of_pmu.of_stream.id ∙ sym (ap (λ (x : Fields). x.id) one) ∙ id))
 owned_as L F W H later earlier h who bytes f is stands frame id (ByTick v e same adopts spelled layout) =
     let one : f ≡ layout_fields (given_in W earlier v) (e ∷ life_of earlier v) = F.one_frame bytes f (layout_fields (given_in W earlier v) (e ∷ life_of earlier v)) frame layout in
-    let own : (output_of W v).id ≡ (output_of W who).id = sym (ap (λ (o : Output). o.id) (given_output W v (opened_with W earlier v))) ∙ sym (ap (λ (x : Fields). x.id) one) ∙ id in
+    let own : (output_of W v).id.value ≡ (output_of W who).id.value = sym (ap (λ (o : Output). o.id.value) (given_output W v (opened_with W earlier v))) ∙ sym (ap (λ (x : Fields). x.id) one) ∙ id in
     let owner : v ≡ who = one_owner W H v who is own in
     AsLayout later earlier e (stands ∙ ap (λ (x : Happened). later ++ x ∷ earlier) (same ∙ ap (λ (w : Who). Ticks w e) owner)) adopts
     (subst (λ (w : Who). bytes ≡ layout_wire (given_in W earlier w) (e ∷ life_of earlier w) 0) owner spelled)
@@ -153,7 +153,7 @@ owned_as L F W H later earlier h who bytes f is stands frame id (ByPublish v row
     (subst (λ (w : Who). bytes ≡ wire_of (output_of W w) row) owner spelled)
     (subst (λ (w : Who). IsFrame bytes (row_fields (output_of W w) row)) owner of_row)
 
-pub owned : LifeLaws → FrameLaws → (W : World) (H : List Happened) (who : Who) (bytes : List ℕ) (f : Fields) → IsHistory W H → Contains (sent W H) bytes → IsFrame bytes f → f.id ≡ (output_of W who).id → IsOwned W H who bytes
+pub owned : LifeLaws → FrameLaws → (W : World) (H : List Happened) (who : Who) (bytes : List ℕ) (f : Fields) → IsHistory W H → Contains (sent W H) bytes → IsFrame bytes f → f.id ≡ (output_of W who).id.value → IsOwned W H who bytes
 owned L F W H who bytes f is k frame id =
     let s : WasSentAt W H bytes = was_sent_at W H bytes k in
     let then : IsHistory W (s.h ∷ s.earlier) = before W s.later (s.h ∷ s.earlier) (subst (IsHistory W) s.stands is) in

@@ -27,19 +27,17 @@ fields_12 = record { bytes = section_12; shape = one_phasor; source = 12; count 
 -- ---- settings
 
 abbrev pub pmu_11 : Pmu
-pmu_11 = record { stream = 11; source = 11; time_base = 1000000; stream_low = omega arith; stream_high = omega arith; source_low = omega arith; source_high = omega arith; time_base_high = omega arith }
+pmu_11 = record { stream = record { value = 11; low = omega arith; high = omega arith }; source = 11; time_base = 1000000; source_low = omega arith; source_high = omega arith; time_base_high = omega arith }
 
 abbrev pub pmu_12 : Pmu
-pmu_12 = record { stream = 12; source = 12; time_base = 1000000; stream_low = omega arith; stream_high = omega arith; source_low = omega arith; source_high = omega arith; time_base_high = omega arith }
+pmu_12 = record { stream = record { value = 12; low = omega arith; high = omega arith }; source = 12; time_base = 1000000; source_low = omega arith; source_high = omega arith; time_base_high = omega arith }
 
 abbrev pub output : (id : ℕ) → (0 < id) × (id ≤ 65534) → Output
 output id in_range = record {
-  id = id;
+  id = record { value = id; low = in_range.0; high = in_range.1 };
   rate = 50;
   nominal = Hz50;
   time_base = 1000000;
-  id_low = in_range.0;
-  id_high = in_range.1;
   rate_low = omega arith;
   rate_high = omega arith;
   time_base_low = omega arith;
@@ -74,7 +72,7 @@ node kind id in_range distinct = record {
 }
 
 abbrev pub merged_node : (id : ℕ) → (0 < id) × (id ≤ 65534) → MergedNode
-merged_node id in_range = record { id = id; time_base = 1000000; id_low = in_range.0; id_high = in_range.1; time_base_high = omega arith }
+merged_node id in_range = record { id = record { value = id; low = in_range.0; high = in_range.1 }; time_base = 1000000; time_base_high = omega arith }
 
 -- merger 301
 abbrev pub merger : MergerSettings

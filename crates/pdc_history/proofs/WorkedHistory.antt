@@ -35,7 +35,7 @@ one_rate A = refl
 one_rate B = refl
 one_rate M = refl
 
-three_ids : (v w : Who) → (output_of W v).id ≡ (output_of W w).id → is_same v w ≡ true
+three_ids : (v w : Who) → (output_of W v).id.value ≡ (output_of W w).id.value → is_same v w ≡ true
 three_ids A A q = refl
 three_ids B B q = refl
 three_ids M M q = refl
@@ -46,7 +46,7 @@ three_ids B M q = absurd (omega (arith, q))
 three_ids M A q = absurd (omega (arith, q))
 three_ids M B q = absurd (omega (arith, q))
 
-none_is_a_pmu : (who : Who) → AllByRecursion (λ (pmu : Pmu). pmu.stream ≢ (output_of W who).id) (pmu_11 ∷ pmu_12 ∷ [])
+none_is_a_pmu : (who : Who) → AllByRecursion (λ (pmu : Pmu). pmu.stream.value ≢ (output_of W who).id.value) (pmu_11 ∷ pmu_12 ∷ [])
 none_is_a_pmu A = (λ q. omega (arith, q), (λ q. omega (arith, q), tt))
 none_is_a_pmu B = (λ q. omega (arith, q), (λ q. omega (arith, q), tt))
 none_is_a_pmu M = (λ q. omega (arith, q), (λ q. omega (arith, q), tt))
@@ -193,7 +193,7 @@ other_data : FrameLaws → (stream : Stream) (bytes : List ℕ) (f : Fields) (i 
 other_data F stream bytes f i q payload frame differs d =
     differs (ap (λ (x : Fields). x.id) (F.one_frame bytes f d.fields frame d.of_stream.frame) ∙ d.of_stream.id)
 
-other_valid : FrameLaws → (pmu : Pmu) (bytes : List ℕ) (f : Fields) (s : SectionFields) → IsFrame bytes f → f.id ≢ pmu.stream → IsValid W.a.settings pmu bytes s → ⊥
+other_valid : FrameLaws → (pmu : Pmu) (bytes : List ℕ) (f : Fields) (s : SectionFields) → IsFrame bytes f → f.id ≢ pmu.stream.value → IsValid W.a.settings pmu bytes s → ⊥
 other_valid F pmu bytes f s frame differs v =
     differs (ap (λ (x : Fields). x.id) (F.one_frame bytes f v.base.has.fields frame v.base.has.of_stream.frame) ∙ v.base.has.of_stream.id)
 

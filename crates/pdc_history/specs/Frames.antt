@@ -16,7 +16,7 @@ use Rattle.pdc_history.specs.World.{Who, World, Happened, output_of, sent}
 
 -- the stream that an owner publishes
 abbrev pub stream_from : World → Who → Stream
-stream_from W who = record { id = (output_of W who).id; time_base = (output_of W who).time_base; rate = (output_of W who).rate }
+stream_from W who = record { id = (output_of W who).id.value; time_base = (output_of W who).time_base; rate = (output_of W who).rate }
 
 -- Some layout frame of the owner that was sent bears this stamp: its first section is the own one with this stamp, and these are the
 -- others.
@@ -27,7 +27,7 @@ pub record IsLayoutSent (W : World) (H : List Happened) (who : Who) (stamp : Sta
   pub has : HasConfig (stream_from W who) bytes config
   pub own : SectionFields
   pub all : config.sections ≡ own ∷ sections
-  pub itself : IsOwn (output_of W who).id own.bytes stamp
+  pub itself : IsOwn (output_of W who).id.value own.bytes stamp
 
 -- The layout under a stamp: after the own section these ones, as the owner's layout frames say that were sent and bear this stamp,
 -- in whatever life. Under change 0, which none bears, the own section stands alone.

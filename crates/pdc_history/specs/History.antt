@@ -44,7 +44,7 @@ pub record MaySend (W : World) (H : List Happened) (bytes : List ℕ) : Type 0 w
 abbrev pub stream_ids : World → Who → List ℕ
 stream_ids W A = ids_of W.a.settings.pmus.items
 stream_ids W B = ids_of W.b.settings.pmus.items
-stream_ids W M = map (λ (node : MergedNode). node.id) (nodes_of W.m.settings)
+stream_ids W M = map (λ (node : MergedNode). node.id.value) (nodes_of W.m.settings)
 
 -- the bytes read as a frame of a stream of the core
 pub record IsForOne (W : World) (who : Who) (bytes : List ℕ) : Type 0 where

@@ -251,7 +251,7 @@ module _ (laws : ReadOnce) where
       (subst (λ (bytes : List ℕ). IsConfig bytes one.1.config) payload one.1.spelled) two.1.spelled in
       let sections : one.1.own ∷ sections_in_force g E ≡ two.1.own ∷ sections_in_force h F = sym one.1.sections ∙ ap (λ (k : ConfigFields). k.sections) config ∙ two.1.sections in
       let parts = first_same one.1.own two.1.own (sections_in_force g E) (sections_in_force h F) sections in
-      let bytes : own_bytes g.output.id g.output.nominal g.start (changes E) ≡ own_bytes h.output.id h.output.nominal h.start (changes F) =
+      let bytes : own_bytes g.output.id.value g.output.nominal g.start (changes E) ≡ own_bytes h.output.id.value h.output.nominal h.start (changes F) =
       sym one.1.itself ∙ ap (λ (s : SectionFields). s.bytes) parts.0 ∙ two.1.itself in
-      let stamp = laws.stamps g.output.id h.output.id g.output.nominal h.output.nominal g.start (changes E) h.start (changes F) start (changes_fit g E run.ticked) start' (changes_fit h F also.ticked) bytes in
+      let stamp = laws.stamps g.output.id.value h.output.id.value g.output.nominal h.output.nominal g.start (changes E) h.start (changes F) start (changes_fit g E run.ticked) start' (changes_fit h F also.ticked) bytes in
       (stamp.0, stamp.1, parts.1)

@@ -99,8 +99,8 @@ InTable settings others stamp a =
 abbrev InOwn : MergerSettings → MergedNode → List SectionFields → Arrival → Type 0
 InOwn settings node [] a = ⊥
 InOwn settings node (own ∷ others) a =
-    (((stamp : Stamp) → IsOwn node.id own.bytes stamp → ⊥) × (a ≡ BytesRefused BadOwnBlock))
-    ⊎ ((stamp : Stamp) × IsOwn node.id own.bytes stamp × InTable settings others stamp a)
+    (((stamp : Stamp) → IsOwn node.id.value own.bytes stamp → ⊥) × (a ≡ BytesRefused BadOwnBlock))
+    ⊎ ((stamp : Stamp) × IsOwn node.id.value own.bytes stamp × InTable settings others stamp a)
 
 abbrev InRate : MergerSettings → MergedNode → ConfigFields → Arrival → Type 0
 InRate settings node c a =
@@ -135,7 +135,7 @@ InKind settings node f CommandFrame a = a ≡ BytesRefused (NoConfiguration Wron
 InKind settings node f Cfg3 a = a ≡ BytesRefused (NoConfiguration WrongKind)
 
 abbrev InFrame : MergerSettings → MergedNode → Fields → Arrival → Type 0
-InFrame settings node f a = ((f.id ≢ node.id) × (a ≡ BytesRefused WrongId)) ⊎ ((f.id ≡ node.id) × InKind settings node f f.kind a)
+InFrame settings node f a = ((f.id ≢ node.id.value) × (a ≡ BytesRefused WrongId)) ⊎ ((f.id ≡ node.id.value) × InKind settings node f f.kind a)
 
 record HasFrameFault (bytes : List ℕ) (a : Arrival) : Type 0 where
   fault : FrameFault
@@ -169,7 +169,7 @@ module _ (laws : ReadOnce) (tell : OwnSectionsTellStamps) where
   same_in_table settings others stamp a b (inl h) (inr k) = absurd (h.0 k.0 k.1)
   same_in_table settings others stamp a b (inr h) (inl k) = absurd (k.0 h.0 h.1)
   same_in_table settings others stamp a b (inr h) (inr k) =
-      let distinct : are_distinct settings.sources.items ≡ true = (both (not (list_any (λ other. other == settings.output.id) settings.sources.items)) (are_distinct settings.sources.items) settings.own).1 in
+      let distinct : are_distinct settings.sources.items ≡ true = (both (not (list_any (λ other. other == settings.output.id.value) settings.sources.items)) (are_distinct settings.sources.items) settings.own).1 in
       h.2 ∙ ap (λ (parts : Parts). Layout (Some stamp) parts) (same_table settings.sources.items others h.0 k.0 distinct h.1 k.1) ∙ sym k.2
 
   same_in_own : (settings : MergerSettings) (node : MergedNode) (sections : List SectionFields) (a b : Arrival) → InOwn settings node sections a → InOwn settings node sections b → a ≡ b
@@ -178,7 +178,7 @@ module _ (laws : ReadOnce) (tell : OwnSectionsTellStamps) where
   same_in_own settings node (own ∷ others) a b (inl h) (inr k) = absurd (h.0 k.0 k.1)
   same_in_own settings node (own ∷ others) a b (inr h) (inl k) = absurd (k.0 h.0 h.1)
   same_in_own settings node (own ∷ others) a b (inr h) (inr k) =
-      same_in_table settings others k.0 a b (subst (λ (stamp : Stamp). InTable settings others stamp a) (same_stamp node.id own.bytes h.0 k.0 h.1 k.1) h.2) k.2
+      same_in_table settings others k.0 a b (subst (λ (stamp : Stamp). InTable settings others stamp a) (same_stamp node.id.value own.bytes h.0 k.0 h.1 k.1) h.2) k.2
 
   same_in_rate : (settings : MergerSettings) (node : MergedNode) (c : ConfigFields) (a b : Arrival) → InRate settings node c a → InRate settings node c b → a ≡ b
   same_in_rate settings node c a b (inl h) (inl k) = h.1 ∙ sym k.1
@@ -234,7 +234,7 @@ module _ (laws : ReadOnce) (tell : OwnSectionsTellStamps) where
   other_kind settings node f CommandFrame is_data is_config = refl
   other_kind settings node f Cfg3 is_data is_config = refl
 
-  of_kind : (settings : MergerSettings) (node : MergedNode) (bytes : List ℕ) (f : Fields) (kind : Kind) (a : Arrival) → IsFrame bytes f → f.id ≡ node.id → f.kind ≡ kind → InKind settings node f kind a → Staged settings node bytes a
+  of_kind : (settings : MergerSettings) (node : MergedNode) (bytes : List ℕ) (f : Fields) (kind : Kind) (a : Arrival) → IsFrame bytes f → f.id ≡ node.id.value → f.kind ≡ kind → InKind settings node f kind a → Staged settings node bytes a
   of_kind settings node bytes f kind a frame id is h =
       inr (record { fields = f; frame = frame; in_frame = inr (id, subst (λ (k : Kind). InKind settings node f k a) (sym is) h) })
 

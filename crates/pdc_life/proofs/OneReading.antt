@@ -60,7 +60,7 @@ InKind p settings pmu f Cfg3 a = a ≡ BytesRefused (NoConfiguration WrongKind)
 
 -- the frame is of another stream, or of the PMU's
 abbrev InFrame : ℕ → Settings → Pmu → Fields → Arrival → Type 0
-InFrame p settings pmu f a = ((f.id ≢ pmu.stream) × (a ≡ BytesRefused WrongId)) ⊎ ((f.id ≡ pmu.stream) × InKind p settings pmu f f.kind a)
+InFrame p settings pmu f a = ((f.id ≢ pmu.stream.value) × (a ≡ BytesRefused WrongId)) ⊎ ((f.id ≡ pmu.stream.value) × InKind p settings pmu f f.kind a)
 
 -- the bytes are no frame, for a cause
 record HasFrameFault (bytes : List ℕ) (a : Arrival) : Type 0 where
@@ -133,7 +133,7 @@ module _ (laws : ReadOnce) where
   other_kind p settings pmu f Cfg3 is_data is_config = refl
 
   -- a frame of the stream that is of this kind
-  of_kind : (p : ℕ) (settings : Settings) (pmu : Pmu) (bytes : List ℕ) (f : Fields) (kind : Kind) (a : Arrival) → IsFrame bytes f → f.id ≡ pmu.stream → f.kind ≡ kind → InKind p settings pmu f kind a → Staged p settings pmu bytes a
+  of_kind : (p : ℕ) (settings : Settings) (pmu : Pmu) (bytes : List ℕ) (f : Fields) (kind : Kind) (a : Arrival) → IsFrame bytes f → f.id ≡ pmu.stream.value → f.kind ≡ kind → InKind p settings pmu f kind a → Staged p settings pmu bytes a
   of_kind p settings pmu bytes f kind a frame id is h =
       inr (record { fields = f; frame = frame; in_frame = inr (id, subst (λ (k : Kind). InKind p settings pmu f k a) (sym is) h) })
 

@@ -21,20 +21,18 @@ abbrev pub fields_13 : SectionFields
 fields_13 = record { bytes = section_13; shape = one_phasor; source = 13; count = 1; polar = false }
 
 abbrev pub pmu_11 : Pmu
-pmu_11 = record { stream = 11; source = 11; time_base = 1000000; stream_low = omega arith; stream_high = omega arith; source_low = omega arith; source_high = omega arith; time_base_high = omega arith }
+pmu_11 = record { stream = record { value = 11; low = omega arith; high = omega arith }; source = 11; time_base = 1000000; source_low = omega arith; source_high = omega arith; time_base_high = omega arith }
 
 abbrev pub pmu_12 : Pmu
-pmu_12 = record { stream = 12; source = 12; time_base = 1000000; stream_low = omega arith; stream_high = omega arith; source_low = omega arith; source_high = omega arith; time_base_high = omega arith }
+pmu_12 = record { stream = record { value = 12; low = omega arith; high = omega arith }; source = 12; time_base = 1000000; source_low = omega arith; source_high = omega arith; time_base_high = omega arith }
 
 -- nodes 201 and 202, and merger 301
 abbrev pub output : (id : ℕ) → (0 < id) × (id ≤ 65534) → Output
 output id in_range = record {
-  id = id;
+  id = record { value = id; low = in_range.0; high = in_range.1 };
   rate = 50;
   nominal = Hz50;
   time_base = 1000000;
-  id_low = in_range.0;
-  id_high = in_range.1;
   rate_low = omega arith;
   rate_high = omega arith;
   time_base_low = omega arith;

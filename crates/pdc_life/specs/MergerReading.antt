@@ -41,7 +41,7 @@ given_of_merger settings start floor counts opening = record {
 
 -- the stream of a node
 abbrev pub stream_from : MergerSettings → MergedNode → Stream
-stream_from settings node = record { id = node.id; time_base = node.time_base; rate = settings.output.rate }
+stream_from settings node = record { id = node.id.value; time_base = node.time_base; rate = settings.output.rate }
 
 -- The bytes are the own section of a node, with this stamp, for either nominal frequency.
 pub record IsOwn (id : ℕ) (bytes : List ℕ) (stamp : Stamp) : Type 0 where
@@ -66,7 +66,7 @@ pub record IsLayoutOf (settings : MergerSettings) (node : MergedNode) (bytes : L
   pub own : SectionFields
   pub others : List SectionFields
   pub has : HasSections settings node bytes own others
-  pub itself : IsOwn node.id own.bytes stamp
+  pub itself : IsOwn node.id.value own.bytes stamp
   pub of_table : AreOfTable settings.sources.items others parts
 
 -- Its first section is not the own one, with any stamp.
@@ -74,7 +74,7 @@ pub record HasNoOwn (settings : MergerSettings) (node : MergedNode) (bytes : Lis
   pub own : SectionFields
   pub others : List SectionFields
   pub has : HasSections settings node bytes own others
-  pub none : (stamp : Stamp) → IsOwn node.id own.bytes stamp → ⊥
+  pub none : (stamp : Stamp) → IsOwn node.id.value own.bytes stamp → ⊥
 
 -- It is, and the others are not of the table, or not in its order.
 pub record HasUnknownSource (settings : MergerSettings) (node : MergedNode) (bytes : List ℕ) : Type 0 where
@@ -82,7 +82,7 @@ pub record HasUnknownSource (settings : MergerSettings) (node : MergedNode) (byt
   pub others : List SectionFields
   pub has : HasSections settings node bytes own others
   pub stamp : Stamp
-  pub itself : IsOwn node.id own.bytes stamp
+  pub itself : IsOwn node.id.value own.bytes stamp
   pub none : (parts : List (ℕ × SectionFields)) → AreOfTable settings.sources.items others parts → ⊥
 
 -- Why bytes are refused, whatever came before: the first cause that holds.

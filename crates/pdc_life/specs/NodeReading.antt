@@ -13,7 +13,7 @@ use Rattle.pdc_life.specs.Reading.{Stream, HasBase, HasConfig, HasNoInstant, Has
 
 -- the stream of a PMU
 abbrev pub stream_of : Settings → Pmu → Stream
-stream_of settings pmu = record { id = pmu.stream; time_base = pmu.time_base; rate = settings.output.rate }
+stream_of settings pmu = record { id = pmu.stream.value; time_base = pmu.time_base; rate = settings.output.rate }
 
 -- A valid configuration: one section, and the TIME_BASE, the rate and the source of the settings.
 pub record IsValid (settings : Settings) (pmu : Pmu) (bytes : List ℕ) (section : SectionFields) : Type 0 where

@@ -9,17 +9,15 @@ ghost use Rattle.pdc_life.specs.declared.given.TheConstants.{MAX_PMUS};
 use crate::given::MAX_PMUS;
 use crate::timing::Timing;
 use arrayvec::ArrayVec;
-use pdc_output::Output;
+use pdc_output::{Output, StreamId};
 
 /// A node whose stream the merger takes.
 #[derive(Clone, Copy, Debug)]
 pub struct MergedNode {
-    /// The id of the stream that it publishes, 1 to 65534.
-    pub id: u16,
+    /// The id of the stream that it publishes.
+    pub id: StreamId,
     /// The counts of FRACSEC in a second of that stream, from the rate to 16777215.
     pub time_base: u32,
-    pub ghost id_low: { 0 < id },
-    pub ghost id_high: { id ≤ MAX_ID },
     pub ghost time_base_high: { time_base < COUNT_LIMIT },
 }
 
@@ -42,6 +40,6 @@ pub struct MergerSettings {
     pub ghost some: { 0 < length sources.items },
     pub ghost few: { length sources.items ≤ MAX_PMUS },
     pub ghost in_range: { IsTrue (list_all (λ source. nat_lt 0 source && nat_le source MAX_ID) sources.items) },
-    pub ghost own: { IsTrue (are_distinct (output.id ∷ sources.items)) },
-    pub ghost distinct: { IsTrue (are_distinct (first.id ∷ second.id ∷ sources.items)) },
+    pub ghost own: { IsTrue (are_distinct (output.id.value ∷ sources.items)) },
+    pub ghost distinct: { IsTrue (are_distinct (first.id.value ∷ second.id.value ∷ sources.items)) },
 }

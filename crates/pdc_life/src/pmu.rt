@@ -3,17 +3,17 @@ ghost use Rattle.std.specs.Prelude.{◌<◌, ◌≤◌};
 ghost use Rattle.pdc_output.specs.pdc_frame.declared.limits.TheConstants.{MAX_ID};
 ghost use Rattle.pdc_output.specs.pdc_tag.declared.limits.TheConstants.{COUNT_LIMIT};
 
+use pdc_output::StreamId;
+
 /// A PMU whose stream a node takes.
 #[derive(Clone, Copy, Debug)]
 pub struct Pmu {
-    /// The id of its stream, 1 to 65534.
-    pub stream: u16,
+    /// The id of its stream.
+    pub stream: StreamId,
     /// The id of the source that its section names, 1 to 65534.
     pub source: u16,
     /// The counts of FRACSEC in a second, from the rate to 16777215.
     pub time_base: u32,
-    pub ghost stream_low: { 0 < stream },
-    pub ghost stream_high: { stream ≤ MAX_ID },
     pub ghost source_low: { 0 < source },
     pub ghost source_high: { source ≤ MAX_ID },
     pub ghost time_base_high: { time_base < COUNT_LIMIT },
@@ -23,7 +23,7 @@ pub struct Pmu {
 impl Default for Pmu {
     fn default() -> Pmu {
         Pmu {
-            stream: 1,
+            stream: StreamId { value: 1 },
             source: 1,
             time_base: 0x00FF_FFFF,
         }

@@ -41,7 +41,7 @@ pub fn read_arrival<'a>(settings: &Settings, pmu: &Pmu, bytes: &'a [u8]) -> Read
         Ok(frame) => frame,
         Err(fault) => return Reading::BytesRefused(Refusal::NoFrame(fault)),
     };
-    if frame.id != pmu.stream {
+    if frame.id.value != pmu.stream.value {
         return Reading::BytesRefused(Refusal::WrongId);
     }
     match frame.kind {

@@ -1,12 +1,11 @@
 //! Frames over a TCP connection.
 ghost use Rattle.std.specs.Prelude.{◌≡◌, ◌≤◌, ◌<◌, ℕ, IfOk, IfSome, length};
-ghost use Rattle.pdc_frame.specs.declared.limits.TheConstants.{MAX_ID};
 
 use crate::loss::Loss;
 use crate::since::Since;
 use pdc_client::{Counting, Unread, tell};
 use pdc_command::Command;
-use pdc_frame::{Framer, MAX_ID, Step};
+use pdc_frame::{Framer, Step, StreamId};
 use pdc_journal::{Journal, Tally};
 use pdc_ports::{Next, Outcome, Refusal};
 use std::alloc::{AllocError, Global};
@@ -45,7 +44,7 @@ pub struct Connection<'a, R: Net<Listener = TcpListener, Stream = TcpStream> + C
     alloc: Global,
     journal: &'a Journal,
     tally: &'a Tally,
-    id: u16,
+    id: StreamId,
     to: SocketAddr,
     stream: Option<Counting<TcpStream>>,
     framer: Framer,
@@ -56,8 +55,6 @@ pub struct Connection<'a, R: Net<Listener = TcpListener, Stream = TcpStream> + C
     wait: u64,
     /// Since when the configuration was asked for.
     asked: Since,
-    pub ghost id_low: { 0 < id },
-    pub ghost id_high: { id ≤ MAX_ID },
 }
 
 /// What is told of a connection.
@@ -104,10 +101,7 @@ fn is_idle(kind: ErrorKind) -> bool {
 }
 
 /// Tells the stream to send its configuration, and then its data.
-fn ask(id: u16, stream: &mut Counting<TcpStream>) -> Result<(), Loss>
-    requires id_low { 0 < id }
-    requires id_high { id ≤ MAX_ID }
-{
+fn ask(id: StreamId, stream: &mut Counting<TcpStream>) -> Result<(), Loss> {
     tell(id, Command::SendCfg2, stream).map_err(|_| Loss::Untold)?;
     tell(id, Command::DataOn, stream).map_err(|_| Loss::Untold)
 }
@@ -164,12 +158,9 @@ impl<'a, R: Net<Listener = TcpListener, Stream = TcpStream> + Clock + Wait> Conn
         alloc: Global,
         journal: &'a Journal,
         tally: &'a Tally,
-        id: u16,
+        id: StreamId,
         to: SocketAddr,
-    ) -> Result<Connection<'a, R>, AllocError>
-        requires id_low { 0 < id }
-        requires id_high { id ≤ MAX_ID }
-    {
+    ) -> Result<Connection<'a, R>, AllocError> {
         Ok(Connection {
             rt,
             alloc,

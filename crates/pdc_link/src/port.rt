@@ -1,11 +1,10 @@
 //! Frames at a UDP port.
 ghost use Rattle.std.specs.Prelude.{◌≡◌, ◌≤◌, ◌<◌, ℕ, length};
-ghost use Rattle.pdc_frame.specs.declared.limits.TheConstants.{MAX_ID};
 
 use crate::since::Since;
 use pdc_client::command_frame;
 use pdc_command::Command;
-use pdc_frame::MAX_ID;
+use pdc_frame::StreamId;
 use pdc_journal::Tally;
 use pdc_network::UdpSource;
 use pdc_ports::{Next, Outcome, Refusal, Source};
@@ -22,13 +21,11 @@ pub struct Port<'a, R: Clock> {
     rt: &'a R,
     tally: &'a Tally,
     source: UdpSource,
-    id: u16,
+    id: StreamId,
     /// Where the commands go; where there is none, it is not asked for.
     commands: Option<SocketAddr>,
     /// Since when it was asked for, or came last; where there is none, it was not asked for yet.
     asked: Option<Since>,
-    pub ghost id_low: { 0 < id },
-    pub ghost id_high: { id ≤ MAX_ID },
 }
 
 impl<'a, R: Clock> Port<'a, R> {
@@ -37,12 +34,9 @@ impl<'a, R: Clock> Port<'a, R> {
         rt: &'a R,
         tally: &'a Tally,
         source: UdpSource,
-        id: u16,
+        id: StreamId,
         commands: Option<SocketAddr>,
-    ) -> Port<'a, R>
-        requires id_low { 0 < id }
-        requires id_high { id ≤ MAX_ID }
-    {
+    ) -> Port<'a, R> {
         Port {
             rt,
             tally,

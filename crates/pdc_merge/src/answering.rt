@@ -1,7 +1,7 @@
 //! What the merger answers to what arrives, over its alignment and the layouts that it holds.
 ghost use Rattle.std.specs.Prelude.{◌≡◌, ℕ, ◌+◌, ◌∷◌, ◌<◌, ◌≤◌, List, Some, drop, length, map, option_map};
 ghost use Rattle.std.specs.List.{AllByRecursion};
-ghost use Rattle.pdc_align.specs.Align.{KeepsSizes, StandsFor};
+ghost use Rattle.pdc_align.specs.Align.{StandsFor, Unchanged};
 ghost use Rattle.pdc_block.specs.Block.{words_in};
 ghost use Rattle.pdc_cfg.specs.Section.{SectionFields};
 ghost use Rattle.pdc_life.specs.declared.given.TheConstants.{MAX_PMUS};
@@ -66,10 +66,7 @@ fn put_data<T: Table>(
         (with_cells result (cells_in alignment.old.state quality layout.now.sections (drop 7 (words_in payload.now)))) ∷ E) →
         StandsFor g (Arrive stream bytes (Data instant quality payload.now)
         (with_cells result (cells_in alignment.old.state quality layout.now.sections (drop 7 (words_in payload.now)))) ∷ E) alignment.new.state }
-    ensures sizes { KeepsSizes alignment.old.state alignment.new.state }
-    ensures memory { alignment.new.memory ≡ alignment.old.memory }
-    ensures popped { alignment.new.popped ≡ alignment.old.popped }
-    ensures disagreements { alignment.new.disagreements ≡ alignment.old.disagreements }
+    ensures unchanged { Unchanged alignment.old alignment.new }
 {
     words_are_cut();
     let blocks = &payload[OWN_BLOCK_LEN..];
@@ -96,10 +93,7 @@ fn answer_under<T: Table>(
     ensures stands { (g : Given) (E : List Entry) (bytes : List ℕ) → StandsFor g E alignment.old.state → Some layout.now ≡ layout_at (layouts_of E) stream →
         IsRun g (answered merged_answer g E (ToArrive stream bytes (Data instant quality payload.now)) ∷ E) →
         StandsFor g (answered merged_answer g E (ToArrive stream bytes (Data instant quality payload.now)) ∷ E) alignment.new.state }
-    ensures sizes { KeepsSizes alignment.old.state alignment.new.state }
-    ensures memory { alignment.new.memory ≡ alignment.old.memory }
-    ensures popped { alignment.new.popped ≡ alignment.old.popped }
-    ensures disagreements { alignment.new.disagreements ≡ alignment.old.disagreements }
+    ensures unchanged { Unchanged alignment.old alignment.new }
 {
     others_are_left();
     columns_stand();
@@ -150,10 +144,7 @@ fn answer_layout<T: Table>(
         option_map stamp_view held ≡ option_map (λ (l : LayoutView). l.stamp) (layout_at (layouts_of E) stream) → stream < 2 →
         IsRun g (answered merged_answer g E (ToArrive stream bytes (Layout (Some (stamp_view stamp)) (map section_part sections.now))) ∷ E) →
         StandsFor g (answered merged_answer g E (ToArrive stream bytes (Layout (Some (stamp_view stamp)) (map section_part sections.now))) ∷ E) alignment.new.state }
-    ensures sizes { KeepsSizes alignment.old.state alignment.new.state }
-    ensures memory { alignment.new.memory ≡ alignment.old.memory }
-    ensures popped { alignment.new.popped ≡ alignment.old.popped }
-    ensures disagreements { alignment.new.disagreements ≡ alignment.old.disagreements }
+    ensures unchanged { Unchanged alignment.old alignment.new }
 {
     others_are_left();
     columns_stand();
@@ -184,10 +175,7 @@ fn answer_configuration<T: Table>(
     ensures held { (g : Given) (E : List Entry) (bytes : List ℕ) → StandsFor g E alignment.old.state → layouts.old ≡ layouts_of E →
         layouts.new ≡ layouts_of (answered merged_answer g E (ToArrive stream bytes (Layout (option_map stamp_view stamp) (map section_part sections.now))) ∷ E) }
     ensures in_place { AreAllInPlace (length alignment.old.state.columns) layouts.new }
-    ensures sizes { KeepsSizes alignment.old.state alignment.new.state }
-    ensures memory { alignment.new.memory ≡ alignment.old.memory }
-    ensures popped { alignment.new.popped ≡ alignment.old.popped }
-    ensures disagreements { alignment.new.disagreements ≡ alignment.old.disagreements }
+    ensures unchanged { Unchanged alignment.old alignment.new }
 {
     others_are_left();
     let Some(stamp) = stamp else {
@@ -217,10 +205,7 @@ pub fn answer_data<T: Table>(
     ensures stands { (g : Given) (E : List Entry) (bytes : List ℕ) → StandsFor g E alignment.old.state → layouts.now ≡ layouts_of E →
         IsRun g (answered merged_answer g E (ToArrive stream bytes (Data instant quality payload.now)) ∷ E) →
         StandsFor g (answered merged_answer g E (ToArrive stream bytes (Data instant quality payload.now)) ∷ E) alignment.new.state }
-    ensures sizes { KeepsSizes alignment.old.state alignment.new.state }
-    ensures memory { alignment.new.memory ≡ alignment.old.memory }
-    ensures popped { alignment.new.popped ≡ alignment.old.popped }
-    ensures disagreements { alignment.new.disagreements ≡ alignment.old.disagreements }
+    ensures unchanged { Unchanged alignment.old alignment.new }
 {
     others_are_left();
     match layouts.of(stream) {
@@ -246,10 +231,7 @@ pub fn answer<T: Table>(
     ensures held { (g : Given) (E : List Entry) (bytes : List ℕ) → StandsFor g E alignment.old.state → layouts.old ≡ layouts_of E →
         layouts.new ≡ layouts_of (answered merged_answer g E (ToArrive stream bytes (arrival_view arrival.now)) ∷ E) }
     ensures in_place { AreAllInPlace (length alignment.old.state.columns) layouts.new }
-    ensures sizes { KeepsSizes alignment.old.state alignment.new.state }
-    ensures memory { alignment.new.memory ≡ alignment.old.memory }
-    ensures popped { alignment.new.popped ≡ alignment.old.popped }
-    ensures disagreements { alignment.new.disagreements ≡ alignment.old.disagreements }
+    ensures unchanged { Unchanged alignment.old alignment.new }
 {
     others_are_left();
     match arrival {

@@ -1,7 +1,7 @@
 //! What a node answers to what arrives, over its alignment.
 ghost use Rattle.std.specs.Prelude.{◌≡◌, ℕ, ◌∷◌, ◌<◌, List, Option, length, map};
 ghost use Rattle.std.specs.List.{AllByRecursion};
-ghost use Rattle.pdc_align.specs.Align.{KeepsSizes, StandsFor};
+ghost use Rattle.pdc_align.specs.Align.{StandsFor, Unchanged};
 ghost use Rattle.pdc_cfg.specs.Section.{SectionFields};
 ghost use Rattle.pdc_life.specs.Answer.{answered, ToArrive};
 ghost use Rattle.pdc_life.specs.Arrival.{Data, Layout, Stamp};
@@ -33,9 +33,7 @@ pub fn answer_data<T: Table>(
     ensures stands { (g : Given) (E : List Entry) (bytes : List ℕ) → StandsFor g E alignment.old.state →
         IsRun g (answered node_answer g E (ToArrive stream bytes (Data instant quality payload.now)) ∷ E) →
         StandsFor g (answered node_answer g E (ToArrive stream bytes (Data instant quality payload.now)) ∷ E) alignment.new.state }
-    ensures sizes { KeepsSizes alignment.old.state alignment.new.state }
-    ensures memory { alignment.new.memory ≡ alignment.old.memory }
-    ensures popped { alignment.new.popped ≡ alignment.old.popped }
+    ensures unchanged { Unchanged alignment.old alignment.new }
 {
     others_are_left();
     let Some(shape) = alignment.shape_in_force(stream) else {
@@ -65,9 +63,7 @@ fn answer_layout<T: Table>(
     ensures stands { (g : Given) (E : List Entry) (bytes : List ℕ) (stamp : Option Stamp) → StandsFor g E alignment.old.state → opening ≡ count_for stream g.counts →
         IsRun g (answered node_answer g E (ToArrive stream bytes (Layout stamp (map section_part sections.now))) ∷ E) →
         StandsFor g (answered node_answer g E (ToArrive stream bytes (Layout stamp (map section_part sections.now))) ∷ E) alignment.new.state }
-    ensures sizes { KeepsSizes alignment.old.state alignment.new.state }
-    ensures memory { alignment.new.memory ≡ alignment.old.memory }
-    ensures popped { alignment.new.popped ≡ alignment.old.popped }
+    ensures unchanged { Unchanged alignment.old alignment.new }
 {
     others_are_left();
     let [only] = sections else {
@@ -94,9 +90,7 @@ pub fn answer<T: Table>(
     ensures stands { (g : Given) (E : List Entry) (bytes : List ℕ) → StandsFor g E alignment.old.state → opening.now ≡ g.counts →
         IsRun g (answered node_answer g E (ToArrive stream bytes (arrival_view arrival.now)) ∷ E) →
         StandsFor g (answered node_answer g E (ToArrive stream bytes (arrival_view arrival.now)) ∷ E) alignment.new.state }
-    ensures sizes { KeepsSizes alignment.old.state alignment.new.state }
-    ensures memory { alignment.new.memory ≡ alignment.old.memory }
-    ensures popped { alignment.new.popped ≡ alignment.old.popped }
+    ensures unchanged { Unchanged alignment.old alignment.new }
 {
     others_are_left();
     match arrival {

@@ -84,9 +84,9 @@ own_shape = record { phasors = 0; analogs = 0; digitals = 4; phasors_fit = omega
 -- what the own section says
 abbrev own_fields : Output → (start change : ℕ) → SectionFields
 own_fields output start change = record {
-  bytes = own_bytes output.id output.nominal start change;
+  bytes = own_bytes output.id.value output.nominal start change;
   shape = own_shape;
-  source = output.id;
+  source = output.id.value;
   count = change % 2 ^ 16;
   polar = false;
 }
@@ -115,7 +115,7 @@ short_sections (s ∷ sections) a =
 
 abbrev front_part : Output → (start change : ℕ) → List SectionFields → List ℕ
 front_part output start change sections =
-    to_be_bytes w32 output.time_base ++ to_be_bytes w16 (1 + length sections) ++ own_bytes output.id output.nominal start change
+    to_be_bytes w32 output.time_base ++ to_be_bytes w16 (1 + length sections) ++ own_bytes output.id.value output.nominal start change
 
 Bytes-layout : (output : Output) (start change : ℕ) (sections : List SectionFields) → AllByRecursion IsSection sections → Bytes (layout_payload_of output start change sections)
 Bytes-layout output start change sections a =
@@ -143,8 +143,8 @@ layouts_are_frames output start change soc sections few a soc_fits = (
   record {
     fits = record {
       version = inr refl;
-      id_low = output.id_low;
-      id_high = omega (arith, output.id_high);
+      id_low = output.id.low;
+      id_high = omega (arith, output.id.high);
       soc = soc_fits;
       quality = omega arith;
       frac = omega arith;

@@ -9,7 +9,7 @@ use Rattle.pdc_output.specs.declared.output.Output.{Output}
 use Rattle.pdc_output.specs.Layout.{own_bytes, layout_fields_of, layout_payload_of}
 
 pub same_payload : (output : Output) (start change : ℕ) (own : SectionFields) (xs : List SectionFields) (c : ConfigFields) → c.flags ≡ 0 → c.time_base ≡ output.time_base → c.sections ≡ own ∷ xs
-    → own.bytes ≡ own_bytes output.id output.nominal start change → cast_unsigned w16 c.rate ≡ output.rate → payload_of c ≡ layout_payload_of output start change xs
+    → own.bytes ≡ own_bytes output.id.value output.nominal start change → cast_unsigned w16 c.rate ≡ output.rate → payload_of c ≡ layout_payload_of output start change xs
 same_payload output start change own xs c flags time_base sections bytes rate =
     let base : c.flags * 2 ^ 24 + c.time_base ≡ output.time_base = omega (arith, flags, time_base) in
     let count : length (own ∷ xs) ≡ 1 + length xs = omega arith in
@@ -20,11 +20,11 @@ same_payload output start change own xs c flags time_base sections bytes rate =
     ∙ ap (λ (t : List SectionFields). to_be_bytes w32 output.time_base ++ to_be_bytes w16 (length t) ++ bytes_of_sections t ++ last) sections
     ∙ ap (λ (n : ℕ). to_be_bytes w32 output.time_base ++ to_be_bytes w16 n ++ bytes_of_sections (own ∷ xs) ++ last) count
     ∙ ap (λ (t : List ℕ). first ++ (t ++ bytes_of_sections xs) ++ last) bytes
-    ∙ ap (λ (t : List ℕ). t ++ last) (sym (append_assoc first (own_bytes output.id output.nominal start change) (bytes_of_sections xs)))
+    ∙ ap (λ (t : List ℕ). t ++ last) (sym (append_assoc first (own_bytes output.id.value output.nominal start change) (bytes_of_sections xs)))
 
 -- the frame of the configuration is that of the layout
 pub same_fields : (output : Output) (start change soc : ℕ) (own : SectionFields) (xs : List SectionFields) (c : ConfigFields) → c.flags ≡ 0 → c.time_base ≡ output.time_base → c.sections ≡ own ∷ xs
-    → own.bytes ≡ own_bytes output.id output.nominal start change → cast_unsigned w16 c.rate ≡ output.rate → config_frame_of Cfg2 output.id soc c ≡ layout_fields_of output start change xs soc
+    → own.bytes ≡ own_bytes output.id.value output.nominal start change → cast_unsigned w16 c.rate ≡ output.rate → config_frame_of Cfg2 output.id.value soc c ≡ layout_fields_of output start change xs soc
 same_fields output start change soc own xs c flags time_base sections bytes rate =
-    let of_payload : List ℕ → Fields = λ (payload : List ℕ). record { kind = Cfg2; version = 2; id = output.id; soc = soc; quality = 0; frac = 0; payload = payload } in
+    let of_payload : List ℕ → Fields = λ (payload : List ℕ). record { kind = Cfg2; version = 2; id = output.id.value; soc = soc; quality = 0; frac = 0; payload = payload } in
     ap of_payload (same_payload output start change own xs c flags time_base sections bytes rate)

@@ -34,27 +34,27 @@ Bytes-name id =
 -- all before CFGCNT
 abbrev front_of : Output → ℕ → ℕ → List ℕ
 front_of output start change =
-    own_name output.id ++ to_be_bytes w16 output.id ++ to_be_bytes w16 0 ++ to_be_bytes w16 0 ++ to_be_bytes w16 0
+    own_name output.id.value ++ to_be_bytes w16 output.id.value ++ to_be_bytes w16 0 ++ to_be_bytes w16 0 ++ to_be_bytes w16 0
     ++ to_be_bytes w16 4 ++ replicate (64 * 16) 32 ++ flat_map masks_of (stamp_words start change)
     ++ to_be_bytes w16 (nominal_word output.nominal)
 
-pub Bytes-own : (output : Output) (start change : ℕ) → Bytes (own_bytes output.id output.nominal start change)
+pub Bytes-own : (output : Output) (start change : ℕ) → Bytes (own_bytes output.id.value output.nominal start change)
 Bytes-own output start change =
-    let numbers = Bytes-append (Bytes-append (Bytes-append (Bytes-append (Bytes-append (Bytes-name output.id) (Bytes-word output.id)) (Bytes-word 0)) (Bytes-word 0)) (Bytes-word 0)) (Bytes-word 4) in
+    let numbers = Bytes-append (Bytes-append (Bytes-append (Bytes-append (Bytes-append (Bytes-name output.id.value) (Bytes-word output.id.value)) (Bytes-word 0)) (Bytes-word 0)) (Bytes-word 0)) (Bytes-word 4) in
     let masks = Bytes-append (Bytes-append numbers (Bytes-replicate (64 * 16) 32 (omega arith))) (Bytes-flat_map masks_of Bytes-masks (stamp_words start change)) in
     Bytes-append (Bytes-append masks (Bytes-word (nominal_word output.nominal))) (Bytes-word (change % 2 ^ 16))
 
 length-front : (output : Output) (start change : ℕ) → length (front_of output start change) ≡ 1068
 length-front output start change = refl
 
-pub length-own : (output : Output) (start change : ℕ) → length (own_bytes output.id output.nominal start change) ≡ 1070
+pub length-own : (output : Output) (start change : ℕ) → length (own_bytes output.id.value output.nominal start change) ≡ 1070
 length-own output start change = refl
 
 -- the own section says this
-pub own_is_section : (output : Output) (start change : ℕ) (s : SectionFields) → s.bytes ≡ own_bytes output.id output.nominal start change
-    → s.shape.phasors ≡ 0 → s.shape.analogs ≡ 0 → s.shape.digitals ≡ 4 → s.source ≡ output.id → s.count ≡ change % 2 ^ 16 → s.polar ≡ false → IsSection s
+pub own_is_section : (output : Output) (start change : ℕ) (s : SectionFields) → s.bytes ≡ own_bytes output.id.value output.nominal start change
+    → s.shape.phasors ≡ 0 → s.shape.analogs ≡ 0 → s.shape.digitals ≡ 4 → s.source ≡ output.id.value → s.count ≡ change % 2 ^ 16 → s.polar ≡ false → IsSection s
 own_is_section output start change s bytes phasors analogs digitals source count polar =
-    let low : output.id < 65535 = omega (arith, output.id_high) in
+    let low : output.id.value < 65535 = omega (arith, output.id.high) in
     let place : length s.bytes - 2 ≡ 1068 = omega (arith, ap length bytes, length-own output start change) in
     record {
       fits = subst AreBytes (sym bytes) (Bytes-own output start change).all;

@@ -27,7 +27,7 @@ Bytes-row_payload row =
 
 -- the fields before the payload of a row's frame, for any time tag
 abbrev pub head_of : Output → RowView → ℕ × ℕ → Fields
-head_of output row tag = record { kind = DataFrame; version = 2; id = output.id; soc = tag.0; quality = row.quality; frac = tag.1; payload = row_payload row }
+head_of output row tag = record { kind = DataFrame; version = 2; id = output.id.value; soc = tag.0; quality = row.quality; frac = tag.1; payload = row_payload row }
 
 -- what a row is on the wire is a frame
 pub row_is_frame : (output : Output) (row : RowView) (tag : ℕ × ℕ) → tag ≡ tag_of row.instant output.time_base output.rate → tag.0 < 2 ^ 32 → tag.1 < output.time_base
@@ -35,8 +35,8 @@ pub row_is_frame : (output : Output) (row : RowView) (tag : ℕ × ℕ) → tag 
 row_is_frame output row tag e soc frac quality size =
     let fits : Fits (head_of output row tag) = record {
       version = inr refl;
-      id_low = output.id_low;
-      id_high = omega (arith, output.id_high);
+      id_low = output.id.low;
+      id_high = omega (arith, output.id.high);
       soc = soc;
       quality = quality;
       frac = omega (arith, frac, output.time_base_high);

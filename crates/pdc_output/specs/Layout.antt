@@ -57,7 +57,7 @@ abbrev pub row_fields : Output → RowView → Fields
 row_fields output row = record {
   kind = DataFrame;
   version = 2;
-  id = output.id;
+  id = output.id.value;
   soc = (tag_of row.instant output.time_base output.rate).0;
   quality = row.quality;
   frac = (tag_of row.instant output.time_base output.rate).1;
@@ -71,7 +71,7 @@ wire_of output row = spelling_of (row_fields output row)
 -- TIME_BASE, NUM_PMU, the own section and those in force, DATA_RATE
 abbrev pub layout_payload_of : Output → (start change : ℕ) → List SectionFields → List ℕ
 layout_payload_of output start change sections =
-    to_be_bytes w32 output.time_base ++ to_be_bytes w16 (1 + length sections) ++ own_bytes output.id output.nominal start change
+    to_be_bytes w32 output.time_base ++ to_be_bytes w16 (1 + length sections) ++ own_bytes output.id.value output.nominal start change
     ++ bytes_of_sections sections ++ to_be_bytes w16 output.rate
 
 -- The payload is a configuration, with the TIME_BASE and the rate that go out: the own section, and then those in force.
@@ -79,7 +79,7 @@ pub record IsLayout (output : Output) (start change : ℕ) (in_force : List Sect
   pub config : ConfigFields
   pub own : SectionFields
   pub spelled : IsConfig payload config
-  pub itself : own.bytes ≡ own_bytes output.id output.nominal start change
+  pub itself : own.bytes ≡ own_bytes output.id.value output.nominal start change
   pub sections : config.sections ≡ own ∷ in_force
   pub time_base : config.time_base ≡ output.time_base
   pub rate : cast_unsigned w16 config.rate ≡ output.rate
@@ -89,7 +89,7 @@ abbrev pub layout_fields_of : Output → (start change : ℕ) → List SectionFi
 layout_fields_of output start change sections soc = record {
   kind = Cfg2;
   version = 2;
-  id = output.id;
+  id = output.id.value;
   soc = soc;
   quality = 0;
   frac = 0;

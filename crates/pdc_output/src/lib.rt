@@ -20,7 +20,7 @@ pub use layout_frame::{MAX_PMU_SECTIONS, append_layout};
 pub use output::{Nominal, Output};
 pub use pdc_row::{
     Block, Body, Buffer, CfgFault, ConfigView, DueRow, Frame, FrameFault, Kind, MAX_WINDOW,
-    MIN_WINDOW, Section, SectionView, Shape, bodies_are_their_words,
+    MIN_WINDOW, Section, SectionView, Shape, StreamId, bodies_are_their_words,
     configurations_are_read_in_one_way, frames_are_read_in_one_way, numbers_rise, read_body,
     read_config, read_frame, read_word,
 };

@@ -1,7 +1,8 @@
 //! What a concentrator says of itself, beside the stamp of a layout.
 ghost use Rattle.std.specs.Prelude.{◌<◌, ◌≤◌};
-ghost use Rattle.pdc_row.specs.pdc_frame.declared.limits.TheConstants.{MAX_ID};
 ghost use Rattle.pdc_tag.specs.declared.limits.TheConstants.{COUNT_LIMIT, MAX_RATE};
+
+use pdc_row::StreamId;
 
 /// The nominal frequency of the grid.
 #[derive(Clone, Copy, Debug, PartialEq, Eq)]
@@ -15,16 +16,14 @@ pub enum Nominal {
 /// What the frames say that a concentrator publishes (this profile).
 #[derive(Clone, Copy, Debug)]
 pub struct Output {
-    /// The id of the stream, 1 to 65534.
-    pub id: u16,
+    /// The id of the stream.
+    pub id: StreamId,
     /// The frames in a second, 1 to 240.
     pub rate: u16,
     /// The nominal frequency that the own section names.
     pub nominal: Nominal,
     /// The counts of FRACSEC in a second, from the rate to 16777215.
     pub time_base: u32,
-    pub ghost id_low: { 0 < id },
-    pub ghost id_high: { id ≤ MAX_ID },
     pub ghost rate_low: { 1 ≤ rate },
     pub ghost rate_high: { rate ≤ MAX_RATE },
     pub ghost time_base_low: { rate ≤ time_base },

@@ -110,11 +110,11 @@ fn nominal_word(nominal: Nominal) -> u16
 
 /// The bytes of the section, from STN to CFGCNT.
 fn section_bytes(output: &Output, start: u32, change: u32) -> ArrayVec<u8, MAX_SECTION_LEN>
-    ensures { result.items ≡ own_bytes output.now.id output.now.nominal start change }
+    ensures { result.items ≡ own_bytes output.now.id.value output.now.nominal start change }
 {
     let mut bytes = ArrayVec::new();
-    append_name(output.id, &mut bytes);
-    append_numbers(output.id, &mut bytes);
+    append_name(output.id.value, &mut bytes);
+    append_numbers(output.id.value, &mut bytes);
     append_bit_names(&mut bytes);
     append_masks(&stamp_words(start, change), &mut bytes);
     append_word(nominal_word(output.nominal), &mut bytes);
@@ -126,11 +126,11 @@ fn section_bytes(output: &Output, start: u32, change: u32) -> ArrayVec<u8, MAX_S
 /// words. CFGCNT is the low half of the change number. It takes no memory.
 pub fn own_section(output: &Output, start: u32, change: u32) -> Section
     ensures section { IsSection (fields_of_section result) }
-    ensures bytes { result.bytes.items ≡ own_bytes output.now.id output.now.nominal start change }
+    ensures bytes { result.bytes.items ≡ own_bytes output.now.id.value output.now.nominal start change }
     ensures phasors { result.shape.phasors ≡ 0 }
     ensures analogs { result.shape.analogs ≡ 0 }
     ensures digitals { result.shape.digitals ≡ 4 }
-    ensures source { result.source ≡ output.now.id }
+    ensures source { result.source ≡ output.now.id.value }
     ensures count { result.count ≡ change % 2 ^ 16 }
     ensures polar { result.polar ≡ false }
 {
@@ -141,7 +141,7 @@ pub fn own_section(output: &Output, start: u32, change: u32) -> Section
             analogs: 0,
             digitals: DIGITALS,
         },
-        source: output.id,
+        source: output.id.value,
         count: low_word(change),
         polar: false,
     }

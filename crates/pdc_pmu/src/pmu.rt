@@ -2,7 +2,7 @@
 ghost use Rattle.std.specs.Prelude.{◌≡◌, ◌<◌, ◌≤◌, ◌+◌, ◌*◌, ◌++◌, ◌∷◌, [], true, false, length, map, pos, IfErr, IsErrOf, IsSomeAnd, IsOk, OnErr, OnOk};
 ghost use Rattle.pdc_frame.specs.Frame.{IsFrame, spelling_of};
 ghost use Rattle.pdc_frame.specs.declared.frame.Kind.TheVariants.{Cfg2};
-ghost use Rattle.pdc_frame.specs.declared.limits.TheConstants.{MAX_ID, OVERHEAD};
+ghost use Rattle.pdc_frame.specs.declared.limits.TheConstants.{OVERHEAD};
 ghost use Rattle.pdc_cfg.specs.Config.{IsConfig, config_frame_of, payload_of};
 ghost use Rattle.pdc_cfg.specs.Section.{fields_of_section, fields_of_view};
 ghost use Rattle.pdc_cfg.specs.Shape.{word_count_of};
@@ -18,7 +18,7 @@ use arrayvec::ArrayVec;
 use pdc_block::append_words;
 use pdc_cfg::{ConfigView, Section, SectionView, Shape, write_config};
 use pdc_command::write_header;
-use pdc_frame::{Buffer, Frame, Kind, write_frame};
+use pdc_frame::{Buffer, Frame, Kind, StreamId, write_frame};
 use pdc_tag::tag_of;
 use std::alloc::AllocError;
 use std::marker::Model;
@@ -33,7 +33,7 @@ const MAX_BLOCK_LEN: usize = 214;
 /// its configurations.
 #[derive(Debug, Drop)]
 pub struct Pmu {
-    id: u16,
+    id: StreamId,
     rate: u16,
     time_base: u32,
     shape: Option<Shape>,
@@ -44,14 +44,13 @@ pub struct Pmu {
 
 impl Model for Pmu {
     ghost use Rattle.std.specs.Prelude.{◌<◌, ◌≤◌};
-    ghost use Rattle.pdc_frame.specs.declared.limits.TheConstants.{MAX_ID};
     ghost use Rattle.pdc_tag.specs.declared.limits.TheConstants.{COUNT_LIMIT, MAX_RATE};
     ghost use Rattle.pdc_pmu.specs.Pmu.{PmuView};
 
     ghost Value = { PmuView };
 
     ghost view = { λ p. record {
-      id = p.id;
+      id = p.id.value;
       rate = p.rate;
       time_base = p.time_base;
       shape = p.shape;
@@ -61,8 +60,6 @@ impl Model for Pmu {
     } };
 
     ghost invariant = { λ p. record {
-      id_low : 0 < p.id;
-      id_high : p.id ≤ MAX_ID;
       rate_low : 1 ≤ p.rate;
       rate_high : p.rate ≤ MAX_RATE;
       base_low : p.rate ≤ p.time_base;
@@ -71,16 +68,14 @@ impl Model for Pmu {
 }
 
 impl Pmu {
-    /// A PMU of this stream id, 1 to 65534, with so many frames a second, 1 to 240, and counts of FRACSEC in a second, from the rate
+    /// A PMU of this stream id, with so many frames a second, 1 to 240, and counts of FRACSEC in a second, from the rate
     /// to 16777215.
-    pub fn new(id: u16, rate: u16, time_base: u32) -> Pmu
-        requires id_low { 0 < id }
-        requires id_high { id ≤ MAX_ID }
+    pub fn new(id: StreamId, rate: u16, time_base: u32) -> Pmu
         requires rate_low { 1 ≤ rate }
         requires rate_high { rate ≤ MAX_RATE }
         requires base_low { rate ≤ time_base }
         requires base_high { time_base < COUNT_LIMIT }
-        ensures { result ≡ new_pmu id rate time_base }
+        ensures { result ≡ new_pmu id.value rate time_base }
     {
         Pmu {
             id,
@@ -107,15 +102,13 @@ impl Pmu {
         self.shape
     }
 
-    /// Gives it another stream id, 1 to 65534.
+    /// Gives it another stream id.
     ///
     /// # Errors
     ///
     /// `AlreadySent` exactly where it sent a frame.
-    pub fn set_id(&mut self, id: u16) -> Result<(), PmuFault>
-        requires id_low { 0 < id }
-        requires id_high { id ≤ MAX_ID }
-        ensures ok { OnOk result (self.new ≡ record self.old { id = id }) }
+    pub fn set_id(&mut self, id: StreamId) -> Result<(), PmuFault>
+        ensures ok { OnOk result (self.new ≡ record self.old { id = id.value }) }
         ensures err { OnErr result (self.new ≡ self.old) }
         ensures fault { OnErr result (IsErrOf result PmuFault.AlreadySent) }
         ensures sent { self.old.has_sent ≡ true → OnOk result ⊥ }

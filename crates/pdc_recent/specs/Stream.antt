@@ -16,7 +16,7 @@ pub record Stream : Type 0 where
 
 -- the stream of a concentrator
 abbrev pub stream_of : Output → Stream
-stream_of output = record { id = output.id; time_base = output.time_base; rate = output.rate }
+stream_of output = record { id = output.id.value; time_base = output.time_base; rate = output.rate }
 
 -- The bytes are a data frame of the stream, and its time tag tells this instant.
 pub record IsData (stream : Stream) (instant : ℕ) (bytes : List ℕ) : Type 0 where

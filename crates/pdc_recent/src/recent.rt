@@ -1,12 +1,11 @@
 //! The lock round what was sent last.
 ghost use Rattle.std.specs.Prelude.{◌≡◌, ◌≤◌, ◌<◌, ◌++◌, ℕ, List, OnErr, OnOk, IfOk};
-ghost use Rattle.pdc_frame.specs.declared.limits.TheConstants.{MAX_ID};
 ghost use Rattle.pdc_recent.specs.Given.{IsGiven};
 ghost use Rattle.pdc_recent.specs.Stream.{IsData, IsLayout, stream_of};
 
 use crate::naming::Naming;
 use crate::remembered::Remembered;
-use pdc_frame::{Buffer, MAX_ID};
+use pdc_frame::{Buffer, StreamId};
 use pdc_output::{Output, append_layout};
 use std::alloc::{AllocError, Global};
 use std::sync::{Mutex, Wait};
@@ -16,10 +15,8 @@ use std::sync::{Mutex, Wait};
 #[derive(Drop)]
 pub struct Recent<N: Naming> {
     remembered: Mutex<Remembered<N>>,
-    id: u16,
-    pub ghost id_is: { id ≡ N.stream.id },
-    pub ghost id_low: { 0 < id },
-    pub ghost id_high: { id ≤ MAX_ID },
+    id: StreamId,
+    pub ghost id_is: { id.value ≡ N.stream.id },
 }
 
 /// The layout frame before the first adoption of a life with this start: the own section alone.
@@ -47,11 +44,9 @@ impl<N: Naming> Recent<N> {
         })
     }
 
-    /// The id of the stream, 1 to 65534.
-    pub fn id(&self) -> u16
-        ensures is { result ≡ N.stream.id }
-        ensures low { 0 < result }
-        ensures high { result ≤ MAX_ID }
+    /// The id of the stream.
+    pub fn id(&self) -> StreamId
+        ensures { result.value ≡ N.stream.id }
     {
         self.id
     }

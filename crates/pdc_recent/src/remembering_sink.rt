@@ -33,7 +33,7 @@ pub struct RememberingSink<'a, N: Naming, K: Sink + Drop, R: Wait> {
 fn are_of_one_stream(one: &Output, other: &Output) -> bool
     ensures { result ≡ true → stream_of one.now ≡ stream_of other.now }
 {
-    one.id == other.id && one.time_base == other.time_base && one.rate == other.rate
+    one.id.value == other.id.value && one.time_base == other.time_base && one.rate == other.rate
 }
 
 impl<'a, N: Naming, K: Sink + Drop, R: Wait> RememberingSink<'a, N, K, R> {

@@ -57,7 +57,7 @@ pub trait Begins: Opens {
 impl<T: Table> Begins for Node<T> {
     fn begin(alloc: Global, begun: &Begun<'_>, text: &str) -> Result<Node<T>, Unbegun> {
         let settings = NodeSettings::from_toml(alloc, text)?.life;
-        if settings.output.id != begun.id || settings.output.rate != begun.rate {
+        if settings.output.id.value != begun.id || settings.output.rate != begun.rate {
             return Err(Unbegun::OtherOwner);
         }
         let node = Node::open(
@@ -79,7 +79,7 @@ impl<T: Table> Begins for Node<T> {
 impl<T: Table> Begins for Merger<T> {
     fn begin(alloc: Global, begun: &Begun<'_>, text: &str) -> Result<Merger<T>, Unbegun> {
         let settings = MergerSettings::from_toml(alloc, text)?.life;
-        if settings.output.id != begun.id || settings.output.rate != begun.rate {
+        if settings.output.id.value != begun.id || settings.output.rate != begun.rate {
             return Err(Unbegun::OtherOwner);
         }
         let merger = Merger::open(

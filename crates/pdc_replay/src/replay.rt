@@ -130,7 +130,7 @@ impl<C: Begins> Replay<C> {
     /// A file that goes on with this life.
     fn goes_on(&self, step: u64, begun: &Begun<'_>) -> Result<(), Halt> {
         let is_same = begun.start == self.start
-            && begun.id == self.output.id
+            && begun.id == self.output.id.value
             && begun.rate == self.output.rate;
         if !is_same {
             return Err(Halt::OtherLife);

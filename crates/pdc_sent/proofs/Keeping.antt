@@ -55,12 +55,12 @@ key_is : (settings : Settings) (pmu : Pmu) (bytes : List ℕ) (t : ToldView) (ke
 key_is settings pmu bytes t key x only tells = same_Some t (view key x) (only key x tells)
 
 pub fits_told : OneFrame → (settings : Settings) (frames : List (List ℕ)) (p : ℕ) (pmu : Pmu) (bytes : List ℕ) (bucket : ℕ) (t : ToldView) → IsOfPmu settings p pmu bytes → TellsOnly settings pmu bytes t
-    → HasToldAtMost settings frames pmu t.key t.content → bucket ≡ bucket_under pmu.stream t.key → Fits settings frames bytes bucket
+    → HasToldAtMost settings frames pmu t.key t.content → bucket ≡ bucket_under pmu.stream.value t.key → Fits settings frames bytes bucket
 fits_told one settings frames p pmu bytes bucket t is only most at = record {
   keyed = λ q other key x listed tells.
       let same : other ≡ pmu = told_of_pmu one settings p q pmu other bytes key x is listed tells in
       let told : t ≡ view key x = key_is settings pmu bytes t key x only (same_pmu one settings p q pmu other bytes key x is listed tells) in
-      at ∙ ap (λ (v : ToldView). bucket_under pmu.stream v.key) told ∙ ap (λ (y : Pmu). bucket_under y.stream key) (sym same);
+      at ∙ ap (λ (v : ToldView). bucket_under pmu.stream.value v.key) told ∙ ap (λ (y : Pmu). bucket_under y.stream.value key) (sym same);
   alone = λ q other key x y listed tells again.
       let told : t ≡ view key x = key_is settings pmu bytes t key x only (same_pmu one settings p q pmu other bytes key x is listed tells) in
       let twice : t ≡ view key y = key_is settings pmu bytes t key y only (same_pmu one settings p q pmu other bytes key y is listed again) in
@@ -146,14 +146,14 @@ indexed_push settings F K bytes bucket is fits = record {
 }
   where
     at_end : (n p : ℕ) (pmu : Pmu) (key : Key) (x : List ℕ) → n ≡ length F → slice_get settings.pmus.items p ≡ Some pmu → Tells settings pmu (get_or (F ++ bytes ∷ []) n []) key x
-        → get_or (K ++ bucket ∷ []) n 0 ≡ bucket_under pmu.stream key
+        → get_or (K ++ bucket ∷ []) n 0 ≡ bucket_under pmu.stream.value key
     at_end n p pmu key x at listed tells =
         let here : get_or (F ++ bytes ∷ []) n [] ≡ bytes = ap (λ (m : ℕ). get_or (F ++ bytes ∷ []) m []) at ∙ get_or-append_seam F bytes [] [] in
         let there : get_or (K ++ bucket ∷ []) n 0 ≡ bucket = ap (λ (m : ℕ). get_or (K ++ bucket ∷ []) m 0) (at ∙ sym is.len) ∙ get_or-append_seam K bucket [] 0 in
         there ∙ fits.keyed p pmu key x listed (subst (λ (z : List ℕ). Tells settings pmu z key x) here tells)
 
     at_place : (n p : ℕ) (pmu : Pmu) (key : Key) (x : List ℕ) → n < length F → slice_get settings.pmus.items p ≡ Some pmu → Tells settings pmu (get_or (F ++ bytes ∷ []) n []) key x
-        → get_or (K ++ bucket ∷ []) n 0 ≡ bucket_under pmu.stream key
+        → get_or (K ++ bucket ∷ []) n 0 ≡ bucket_under pmu.stream.value key
     at_place n p pmu key x l listed tells =
         get_or-append K (bucket ∷ []) 0 n (subst (λ (m : ℕ). n < m) (sym is.len) l)
         ∙ is.keyed n p pmu key x l listed (subst (λ (z : List ℕ). Tells settings pmu z key x) (get_or-append F (bytes ∷ []) [] n l) tells)

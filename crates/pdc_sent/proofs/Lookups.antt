@@ -42,7 +42,7 @@ has_told settings F K p pmu key n frame y is listed at tells = record {
   only = λ other x among its. is.one p pmu frame other key y x listed (is_among F n frame frame at refl) among tells its;
 }
 
-pub nothing_told : (settings : Settings) (F : List (List ℕ)) (K : List ℕ) (b p : ℕ) (pmu : Pmu) (key : Key) → IsIndexed settings F K → slice_get settings.pmus.items p ≡ Some pmu → b ≡ bucket_under pmu.stream key
+pub nothing_told : (settings : Settings) (F : List (List ℕ)) (K : List ℕ) (b p : ℕ) (pmu : Pmu) (key : Key) → IsIndexed settings F K → slice_get settings.pmus.items p ≡ Some pmu → b ≡ bucket_under pmu.stream.value key
     → HavePassed K b (λ n. (x : List ℕ) → Tells settings pmu (get_or F n []) key x → ⊥) None → (other x : List ℕ) → Contains F other → Tells settings pmu other key x → ⊥
 nothing_told settings F K b p pmu key is listed bucket passed other x (k, lt, at) tells =
     let here : get_or F k [] ≡ other = get_or_default F k [] other lt ∙ at in

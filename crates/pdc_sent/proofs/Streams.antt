@@ -44,18 +44,18 @@ one_place (x ∷ xs) (suc p) zero n d a b =
 one_place (x ∷ xs) (suc p) (suc q) n d a b = ap suc (one_place xs p q n (not_and (list_any (λ other. other == x) xs) (are_distinct xs) d).1 a b)
 
 abbrev streams : List Pmu → List ℕ
-streams pmus = map (λ (pmu : Pmu). pmu.stream) pmus
+streams pmus = map (λ (pmu : Pmu). pmu.stream.value) pmus
 
 distinct_streams : (settings : Settings) → are_distinct (streams settings.pmus.items) ≡ true
 distinct_streams settings =
-    (not_and (list_any (λ other. other == settings.output.id) (streams settings.pmus.items)) (are_distinct (streams settings.pmus.items)) settings.streams).1
+    (not_and (list_any (λ other. other == settings.output.id.value) (streams settings.pmus.items)) (are_distinct (streams settings.pmus.items)) settings.streams).1
 
-pmu_of_stream : (settings : Settings) (p q : ℕ) (x y : Pmu) → slice_get settings.pmus.items p ≡ Some x → slice_get settings.pmus.items q ≡ Some y → x.stream ≡ y.stream → x ≡ y
+pmu_of_stream : (settings : Settings) (p q : ℕ) (x y : Pmu) → slice_get settings.pmus.items p ≡ Some x → slice_get settings.pmus.items q ≡ Some y → x.stream.value ≡ y.stream.value → x ≡ y
 pmu_of_stream settings p q x y a b same =
-    let f : Pmu → ℕ = λ (pmu : Pmu). pmu.stream in
-    let first : slice_get (streams settings.pmus.items) p ≡ Some x.stream = slice_get-map f settings.pmus.items p ∙ ap (option_map f) a in
-    let second : slice_get (streams settings.pmus.items) q ≡ Some x.stream = slice_get-map f settings.pmus.items q ∙ ap (option_map f) b ∙ ap Some (sym same) in
-    let place : p ≡ q = one_place (streams settings.pmus.items) p q x.stream (distinct_streams settings) first second in
+    let f : Pmu → ℕ = λ (pmu : Pmu). pmu.stream.value in
+    let first : slice_get (streams settings.pmus.items) p ≡ Some x.stream.value = slice_get-map f settings.pmus.items p ∙ ap (option_map f) a in
+    let second : slice_get (streams settings.pmus.items) q ≡ Some x.stream.value = slice_get-map f settings.pmus.items q ∙ ap (option_map f) b ∙ ap Some (sym same) in
+    let place : p ≡ q = one_place (streams settings.pmus.items) p q x.stream.value (distinct_streams settings) first second in
     same_Some x y (sym a ∙ ap (slice_get settings.pmus.items) place ∙ b)
 
 -- what tells something of a PMU is a frame of it

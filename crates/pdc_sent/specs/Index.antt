@@ -43,7 +43,7 @@ pub record IsIndexed (settings : Settings) (frames : List (List ℕ)) (keys : Li
   pub len : length keys ≡ length frames
   pub keyed :
       (n p : ℕ) (pmu : Pmu) (key : Key) (x : List ℕ) → n < length frames → slice_get settings.pmus.items p ≡ Some pmu →
-      Tells settings pmu (slice_index_or frames n []) key x → slice_index keys n ≡ bucket_under pmu.stream key
+      Tells settings pmu (slice_index_or frames n []) key x → slice_index keys n ≡ bucket_under pmu.stream.value key
   pub one :
       (p : ℕ) (pmu : Pmu) (a b : List ℕ) (key : Key) (x y : List ℕ) → slice_get settings.pmus.items p ≡ Some pmu → Contains frames a →
       Contains frames b → Tells settings pmu a key x → Tells settings pmu b key y → x ≡ y
@@ -52,7 +52,7 @@ pub record IsIndexed (settings : Settings) (frames : List (List ℕ)) (keys : Li
 pub record Fits (settings : Settings) (frames : List (List ℕ)) (bytes : List ℕ) (bucket : ℕ) : Type 0 where
   pub keyed :
       (p : ℕ) (pmu : Pmu) (key : Key) (x : List ℕ) → slice_get settings.pmus.items p ≡ Some pmu → Tells settings pmu bytes key x →
-      bucket ≡ bucket_under pmu.stream key
+      bucket ≡ bucket_under pmu.stream.value key
   pub alone :
       (p : ℕ) (pmu : Pmu) (key : Key) (x y : List ℕ) → slice_get settings.pmus.items p ≡ Some pmu → Tells settings pmu bytes key x →
       Tells settings pmu bytes key y → x ≡ y

@@ -38,10 +38,10 @@ IsOfSome settings bytes pmu = (p : ℕ) × IsOfPmu settings p pmu bytes
 
 -- a PMU of this stream, and that there is none
 abbrev pub HaveStream : List Pmu → (id : ℕ) → Pmu → Type 0
-HaveStream pmus id pmu = (p : ℕ) × (slice_get pmus p ≡ Some pmu) × (pmu.stream ≡ id)
+HaveStream pmus id pmu = (p : ℕ) × (slice_get pmus p ≡ Some pmu) × (pmu.stream.value ≡ id)
 
 abbrev pub HaveNoStream : List Pmu → (id : ℕ) → Type 0
-HaveNoStream pmus id = (p : ℕ) (pmu : Pmu) → slice_get pmus p ≡ Some pmu → pmu.stream ≢ id
+HaveNoStream pmus id = (p : ℕ) (pmu : Pmu) → slice_get pmus p ≡ Some pmu → pmu.stream.value ≢ id
 
 -- Of what was told of a PMU under a key in these frames: nothing; nothing but this; this, and nothing else; another thing.
 abbrev pub HasToldNothing : Settings → List (List ℕ) → Pmu → Key → Type 0

@@ -21,7 +21,7 @@ fn pmu_of_stream(pmus: &[Pmu], id: u16) -> Option<&Pmu>
     ensures { MatchOption result (HaveNoStream pmus.now id) (λ pmu. HaveStream pmus.now id pmu.now) }
 {
     for pmu in pmus {
-        if pmu.stream == id {
+        if pmu.stream.value == id {
             return Some(pmu);
         }
     }
@@ -36,7 +36,7 @@ pub(crate) fn pmu_of<'a>(settings: &'a Settings, bytes: &[u8]) -> Option<&'a Pmu
     frames_are_written_in_parts();
     frames_are_read_in_one_way();
     let frame = read_frame(bytes).ok()?;
-    pmu_of_stream(&settings.pmus, frame.id)
+    pmu_of_stream(&settings.pmus, frame.id.value)
 }
 
 /// The fault of telling something else under this key.
@@ -59,7 +59,7 @@ fn bucket_of_told(
 ) -> Result<usize, SendFault>
     requires index { IsIndexed settings.now frames.now.frames by_key.now.keys }
     requires buckets { by_key.now.buckets ≡ BUCKETS + 1 }
-    ensures bucket { IfOk result (λ bucket. bucket ≡ bucket_under pmu.now.stream told.entry.key) }
+    ensures bucket { IfOk result (λ bucket. bucket ≡ bucket_under pmu.now.stream.value told.entry.key) }
     ensures bound { IfOk result (λ bucket. bucket < BUCKETS) }
     ensures same { (p : ℕ) → slice_get settings.now.pmus.items p ≡ Some pmu.now →
         OnOk result (HasToldAtMost settings.now frames.now.frames pmu.now told.entry.key told.entry.content.now) }
@@ -69,7 +69,7 @@ fn bucket_of_told(
 {
     match content_told(settings, pmu, frames, by_key, told.key) {
         Some(content) if content != told.content => Err(fault_of(told.key)),
-        _ => Ok(bucket_under(pmu.stream, told.key)),
+        _ => Ok(bucket_under(pmu.stream.value, told.key)),
     }
 }
 

@@ -42,7 +42,7 @@ pub(crate) fn content_told<'a>(
     ensures { (p : ℕ) → slice_get settings.now.pmus.items p ≡ Some pmu.now →
         MatchOption result (HasToldNothing settings.now frames.now.frames pmu.now key) (λ content. HasTold settings.now frames.now.frames pmu.now key content.now) }
 {
-    let bucket = bucket_under(pmu.stream, key);
+    let bucket = bucket_under(pmu.stream.value, key);
     let mut next = by_key.last(bucket);
     while let Some(number) = next {
         let content = content_under(settings, pmu, key, frames.at(number));

@@ -6,7 +6,7 @@ use Rattle.pdc_server.specs.declared.consumer.Consumer.{Consumer}
 
 -- the stream that it asks
 abbrev pub id_in : Consumer → ℕ
-id_in consumer = consumer.id
+id_in consumer = consumer.id.value
 
 -- its session
 abbrev pub session_in : Consumer → SessionView

@@ -1,13 +1,12 @@
 //! One session, turn by turn.
 ghost use Rattle.std.specs.Prelude.{◌≡◌, ◌≤◌, ◌<◌, take, Some, None, false, OnOk, IfOk, IfErr, vec_len};
-ghost use Rattle.pdc_frame.specs.declared.limits.TheConstants.{MAX_ID};
 ghost use Rattle.pdc_server.specs.Turn.{HasEnded, HasTurned, IsMade, dated_at, has_bytes};
 ghost use Rattle.pdc_session.specs.Served.{IsNew};
 
 use crate::ended::Ended;
 use crate::hearing::{Question, answer, append_data};
 use crate::traffic::{read_once, write_out};
-use pdc_frame::MAX_ID;
+use pdc_frame::StreamId;
 use pdc_recent::{Naming, Recent};
 use pdc_session::Session;
 use std::alloc::{AllocError, Global};
@@ -21,29 +20,27 @@ const PIECE_LEN: usize = 4096;
 #[derive(Drop)]
 pub struct Consumer {
     session: Session,
-    id: u16,
+    id: StreamId,
     got: u64,
     /// Whether bytes came in the last turn that read.
     heard: bool,
     piece: Vec<u8>,
     layout: Vec<u8>,
     out: Vec<u8>,
-    pub ghost of_stream: { session.id ≡ id },
+    pub ghost of_stream: { session.id ≡ id.value },
     pub ghost has_room: { 0 < vec_len piece },
 }
 
 impl Consumer {
     ghost use Rattle.pdc_server.specs.Consumer.{got_in, heard_in, id_in, is_silent_in, session_in, standing_in};
 
-    /// A consumer of the stream `id`, 1 to 65534, that sent nothing yet.
+    /// A consumer of the stream `id`, that sent nothing yet.
     ///
     /// # Errors
     ///
     /// [`AllocError`] where there is no memory for the longest frame and for a read.
-    pub fn new(alloc: Global, id: u16) -> Result<Consumer, AllocError>
-        requires id_low { 0 < id }
-        requires id_high { id ≤ MAX_ID }
-        ensures id { IfOk result (λ consumer. id_in consumer ≡ id) }
+    pub fn new(alloc: Global, id: StreamId) -> Result<Consumer, AllocError>
+        ensures id { IfOk result (λ consumer. id_in consumer ≡ id.value) }
         ensures is_new { IfOk result (λ consumer. IsNew (session_in consumer)) }
         ensures got { IfOk result (λ consumer. got_in consumer ≡ 0) }
         ensures heard { IfOk result (λ consumer. heard_in consumer ≡ false) }

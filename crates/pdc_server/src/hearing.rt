@@ -9,7 +9,7 @@ ghost use Rattle.pdc_server.specs.Turn.{HasFailed, HasHeard, IsAnswered, IsUnhea
 use crate::ended::Ended;
 use crate::header::header_of;
 use pdc_cfg::{ConfigView, read_config};
-use pdc_frame::read_frame;
+use pdc_frame::{StreamId, read_frame};
 use pdc_recent::{Naming, Recent};
 use pdc_session::{Serving, Session, SessionFault};
 use std::sync::Wait;
@@ -17,8 +17,8 @@ use std::sync::Wait;
 /// What a consumer asks: a piece of what it sent, the stream that it asks, and the second that the replies are dated with.
 #[derive(Clone, Copy, Debug)]
 pub struct Question<'a> {
-    /// The stream's id, 1 to 65534.
-    pub id: u16,
+    /// The stream's id.
+    pub id: StreamId,
     pub soc: u32,
     pub piece: &'a [u8],
 }
@@ -73,8 +73,8 @@ pub fn answer<N: Naming, R: Wait>(
     out: &mut Vec<u8>,
 ) -> Result<(), Ended>
     ensures id { session.new.id ≡ session.old.id }
-    ensures ok { OnOk result (HasHeard (dated_at N.stream question.now.soc) question.now.id question.now.piece.now session.old session.new out.old.items out.new.items) }
-    ensures unheard { IfErr result (λ ended. IsUnheard ended (dated_at N.stream question.now.soc) question.now.id question.now.piece.now session.old session.new out.old.items out.new.items) }
+    ensures ok { OnOk result (HasHeard (dated_at N.stream question.now.soc) question.now.id.value question.now.piece.now session.old session.new out.old.items out.new.items) }
+    ensures unheard { IfErr result (λ ended. IsUnheard ended (dated_at N.stream question.now.soc) question.now.id.value question.now.piece.now session.old session.new out.old.items out.new.items) }
 {
     if question.piece.is_empty() {
         return Ok(());
@@ -84,7 +84,7 @@ pub fn answer<N: Naming, R: Wait>(
         Ok(()) => {}
         Err(_) => return Err(Ended::NoMemory),
     }
-    let header = header_of(question.id);
+    let header = header_of(question.id.value);
     let heard = hear::<N>(session, question.piece, question.soc, &header, layout, out);
     match heard {
         Ok(()) => Ok(()),

@@ -49,17 +49,24 @@ pub fn begun_text(
     floor: u64,
     buffer: Option<u32>,
 ) -> Result<String, AllocError> {
-    let id = concentrator.output().id;
+    let id = concentrator.output().id.value;
     let mut text = format!(in alloc; "{id} begins: start={start} floor={floor}")?;
     match concentrator {
         Concentrator::Node(settings) => {
             let mut inputs = network.inputs.iter();
             for (pmu, port) in settings.life.pmus.iter().zip(settings.ports.iter()) {
-                append_input(alloc, "PMU", pmu.stream, *port, inputs.next(), &mut text)?;
+                append_input(
+                    alloc,
+                    "PMU",
+                    pmu.stream.value,
+                    *port,
+                    inputs.next(),
+                    &mut text,
+                )?;
             }
         }
         Concentrator::Merger(settings) => {
-            let (first, second) = (settings.life.first.id, settings.life.second.id);
+            let (first, second) = (settings.life.first.id.value, settings.life.second.id.value);
             let (at, to) = (network.inputs.get(0), network.inputs.get(1));
             append_input(alloc, "node", first, settings.first_port, at, &mut text)?;
             append_input(alloc, "node", second, settings.second_port, to, &mut text)?;

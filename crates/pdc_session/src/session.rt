@@ -13,15 +13,15 @@ use crate::serving::Serving;
 use crate::told::Told;
 use pdc_cfg::write_config;
 use pdc_command::{Command, read_command, write_header};
-use pdc_frame::{Buffer, Frame, Framer, Kind, MAX_ID, Step, streams_split_in_one_way};
+use pdc_frame::{Buffer, Frame, Framer, Kind, Step, StreamId, streams_split_in_one_way};
 use std::alloc::{AllocError, Allocator, Global};
 use std::marker::Model;
 
 /// The command that the frame tells the stream `id`.
-fn command_to(id: u16, frame: &Frame) -> Option<Command>
-    ensures { Tells id (fields_of frame.now) result }
+fn command_to(id: StreamId, frame: &Frame) -> Option<Command>
+    ensures { Tells id.value (fields_of frame.now) result }
 {
-    if frame.id != id {
+    if frame.id.value != id.value {
         return None;
     }
     match read_command(frame) {
@@ -32,20 +32,18 @@ fn command_to(id: u16, frame: &Frame) -> Option<Command>
 
 /// Keeps what the command tells, and appends the reply to it.
 fn obey<B: Buffer>(
-    id: u16,
+    id: StreamId,
     command: Option<Command>,
     serving: &Serving,
     told: &mut Told,
     out: &mut B,
 ) -> Result<(), AllocError>
-    requires id_low { 0 < id }
-    requires id_high { id ≤ MAX_ID }
     requires header { length serving.now.header.now ≤ MAX_TEXT }
-    ensures ok { OnOk result (B.content out.new ≡ B.content out.old ++ reply_of id serving.now command) }
+    ensures ok { OnOk result (B.content out.new ≡ B.content out.old ++ reply_of id.value serving.now command) }
     ensures told { told.new ≡ told_after told.old command }
     ensures err { OnErr result ((B.content out.new ≡ B.content out.old) × (B.capacity out.new ≡ B.capacity out.old)) }
-    ensures room { length (B.content out.old) + length (reply_of id serving.now command) ≤ B.capacity out.old → IsOk result }
-    ensures in_place { length (B.content out.old) + length (reply_of id serving.now command) ≤ B.capacity out.old → B.capacity out.new ≡ B.capacity out.old }
+    ensures room { length (B.content out.old) + length (reply_of id.value serving.now command) ≤ B.capacity out.old → IsOk result }
+    ensures in_place { length (B.content out.old) + length (reply_of id.value serving.now command) ≤ B.capacity out.old → B.capacity out.new ≡ B.capacity out.old }
 {
     match command {
         Some(Command::DataOff) => told.on = false,
@@ -64,23 +62,21 @@ fn obey<B: Buffer>(
 
 /// Takes in a piece of the stream, and appends the replies to the frames that end in it.
 fn hear<B: Buffer, A: Allocator>(
-    id: u16,
+    id: StreamId,
     framer: &mut Framer<A>,
     told: &mut Told,
     piece: &[u8],
     serving: &Serving,
     out: &mut B,
 ) -> Result<(), SessionFault>
-    requires id_low { 0 < id }
-    requires id_high { id ≤ MAX_ID }
     requires header { length serving.now.header.now ≤ MAX_TEXT }
     requires good { IsBad framer.old.step → ⊥ }
     ensures good { OnOk result (IsBad framer.new.step → ⊥) }
-    ensures ok { OnOk result (HasAnswered id serving.now piece.now framer.old told.old (B.content out.old) framer.new told.new (B.content out.new)) }
+    ensures ok { OnOk result (HasAnswered id.value serving.now piece.now framer.old told.old (B.content out.old) framer.new told.new (B.content out.new)) }
     ensures bad { IsErrOf result SessionFault.BadStream → IsBad framer.new.step
-        × (n : ℕ) × (n ≤ length piece.now) × HasAnswered id serving.now (take n piece.now) framer.old told.old (B.content out.old) framer.new told.new (B.content out.new) }
+        × (n : ℕ) × (n ≤ length piece.now) × HasAnswered id.value serving.now (take n piece.now) framer.old told.old (B.content out.old) framer.new told.new (B.content out.new) }
     ensures memory { IsErrOf result SessionFault.NoMemory
-        → (n : ℕ) × (n ≤ length piece.now) × LacksOne id serving.now (take n piece.now) framer.old told.old (B.content out.old) framer.new told.new (B.content out.new) (B.capacity out.new) }
+        → (n : ℕ) × (n ≤ length piece.now) × LacksOne id.value serving.now (take n piece.now) framer.old told.old (B.content out.old) framer.new told.new (B.content out.new) (B.capacity out.new) }
     ensures in_place { length (B.content out.new) ≤ B.capacity out.old → B.capacity out.new ≡ B.capacity out.old }
 {
     let mut at = 0;
@@ -105,39 +101,34 @@ fn hear<B: Buffer, A: Allocator>(
 /// A session with a consumer: it finds the command frames in what the consumer sends, and answers them.
 #[derive(Drop)]
 pub struct Session<A: Allocator = Global> {
-    id: u16,
+    id: StreamId,
     framer: Framer<A>,
     told: Told,
     ended: Option<SessionFault>,
 }
 
 impl<A: Allocator> Model for Session<A> {
-    ghost use Rattle.std.specs.Prelude.{◌≡◌, ◌<◌, ◌≤◌, None};
-    ghost use Rattle.pdc_frame.specs.declared.limits.TheConstants.{MAX_ID};
+    ghost use Rattle.std.specs.Prelude.{◌≡◌, None};
     ghost use Rattle.pdc_frame.specs.Stream.{IsBad};
     ghost use Rattle.pdc_session.specs.Session.{SessionView};
 
     ghost Value = { SessionView };
 
-    ghost view = { λ s. record { id = s.id; held = s.framer; told = s.told; ended = s.ended } };
+    ghost view = { λ s. record { id = s.id.value; held = s.framer; told = s.told; ended = s.ended } };
 
     ghost invariant = { λ s. record {
-      id_low : 0 < s.id;
-      id_high : s.id ≤ MAX_ID;
       good : s.ended ≡ None → IsBad s.framer.step → ⊥;
     } };
 }
 
 impl<A: Allocator> Session<A> {
-    /// A session of the stream `id`, 1 to 65534, to which no byte came yet.
+    /// A session of the stream `id`, to which no byte came yet.
     ///
     /// # Errors
     ///
     /// [`AllocError`] where there is no memory for the longest frame.
-    pub fn new(alloc: A, id: u16) -> Result<Session<A>, AllocError>
-        requires id_low { 0 < id }
-        requires id_high { id ≤ MAX_ID }
-        ensures id { IfOk result (λ session. session.id ≡ id) }
+    pub fn new(alloc: A, id: StreamId) -> Result<Session<A>, AllocError>
+        ensures id { IfOk result (λ session. session.id ≡ id.value) }
         ensures is_new { IfOk result (λ session. IsNew session) }
     {
         Ok(Session {

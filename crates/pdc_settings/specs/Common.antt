@@ -48,7 +48,7 @@ wait_kind_in members = wait_kind_of (get_member (codes "wait_kind") members)
 
 -- the settings say this of the output
 pub record IsOutput (members : Members) (output : Output) : Type 0 where
-  pub id : id_in members ≡ Some output.id
+  pub id : id_in members ≡ Some output.id.value
   pub rate : rate_in members ≡ Some output.rate
   pub nominal : nominal_in members ≡ Some output.nominal
   pub time_base : time_base_in output.rate members ≡ Some output.time_base

@@ -16,7 +16,7 @@ pub record PmuFields : Type 0 where
   pub time_base : ℕ
 
 abbrev pub pmu_fields : Pmu → PmuFields
-pmu_fields pmu = record { stream = pmu.stream; source = pmu.source; time_base = pmu.time_base }
+pmu_fields pmu = record { stream = pmu.stream.value; source = pmu.source; time_base = pmu.time_base }
 
 -- a node that the merger takes, as its table says it
 pub record NodeFields : Type 0 where
@@ -24,7 +24,7 @@ pub record NodeFields : Type 0 where
   pub time_base : ℕ
 
 abbrev pub node_fields : MergedNode → NodeFields
-node_fields node = record { id = node.id; time_base = node.time_base }
+node_fields node = record { id = node.id.value; time_base = node.time_base }
 
 -- the port of a stream; 0, which is none, where it is asked for over TCP
 abbrev pub port_or : (tcp port : Option Data) → Option ℕ

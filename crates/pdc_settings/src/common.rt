@@ -8,7 +8,7 @@ use crate::keys::{number, number_or, value_at};
 use crate::limits::{MAX_PORT, MAX_TIME_BASE};
 use crate::service::Service;
 use crate::wanted::Wanted;
-use pdc_frame::MAX_ID;
+use pdc_frame::{MAX_ID, StreamId};
 use pdc_life::{MAX_AHEAD, MAX_WAIT, MAX_WINDOW, MIN_WINDOW, Timing, WaitKind};
 use pdc_output::{Nominal, Output};
 use pdc_publisher::MAX_LEAD;
@@ -73,7 +73,7 @@ fn output(table: &Table) -> Result<Output, Wanted>
     let most = u64::from(MAX_TIME_BASE);
     let time_base = number(table, "time_base", rate, most, Wanted::TimeBase)?;
     Ok(Output {
-        id: id as u16,
+        id: StreamId { value: id as u16 },
         rate: rate as u16,
         nominal,
         time_base: time_base as u32,

@@ -25,20 +25,20 @@ pub(crate) fn ids_differ(ids: &[u16]) -> bool
 
 /// Whether one of the streams has this id.
 pub(crate) fn has_stream(pmus: &[Pmu], id: u16) -> bool
-    ensures { result ≡ list_any (λ other. other == id) (map (λ (pmu : PmuData). pmu.stream) pmus.now) }
+    ensures { result ≡ list_any (λ other. other == id) (map (λ (pmu : PmuData). pmu.stream.value) pmus.now) }
 {
     match pmus.split_first() {
-        Some((pmu, others)) => pmu.stream == id || has_stream(others, id),
+        Some((pmu, others)) => pmu.stream.value == id || has_stream(others, id),
         None => false,
     }
 }
 
 /// Whether no two streams have the same id.
 pub(crate) fn streams_differ(pmus: &[Pmu]) -> bool
-    ensures { result ≡ are_distinct (map (λ (pmu : PmuData). pmu.stream) pmus.now) }
+    ensures { result ≡ are_distinct (map (λ (pmu : PmuData). pmu.stream.value) pmus.now) }
 {
     match pmus.split_first() {
-        Some((pmu, others)) => !has_stream(others, pmu.stream) && streams_differ(others),
+        Some((pmu, others)) => !has_stream(others, pmu.stream.value) && streams_differ(others),
         None => true,
     }
 }

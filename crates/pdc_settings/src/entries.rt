@@ -8,7 +8,7 @@ ghost use Rattle.pdc_settings.specs.Entries.{node_fields, node_in, pmu_fields, p
 use crate::keys::{number, number_in, value_at};
 use crate::limits::{MAX_PORT, MAX_TIME_BASE};
 use crate::wanted::Wanted;
-use pdc_frame::MAX_ID;
+use pdc_frame::{MAX_ID, StreamId};
 use pdc_life::{MergedNode, Pmu};
 use toml::{Table, Value};
 
@@ -73,7 +73,9 @@ pub(crate) fn read_pmu(table: &Table, rate: u16) -> Result<Pmu, Wanted>
         Wanted::PmuTimeBase,
     )?;
     Ok(Pmu {
-        stream: stream as u16,
+        stream: StreamId {
+            value: stream as u16,
+        },
         source: source as u16,
         time_base: time_base as u32,
     })
@@ -95,7 +97,7 @@ pub(crate) fn read_node(table: &Table, rate: u16) -> Result<MergedNode, Wanted>
         Wanted::NodeTimeBase,
     )?;
     Ok(MergedNode {
-        id: id as u16,
+        id: StreamId { value: id as u16 },
         time_base: time_base as u32,
     })
 }

@@ -170,14 +170,16 @@ fn life_of(
     requires ids { IsTrue (list_all (λ id. nat_lt 0 id && nat_le id MAX_ID) sources.items) }
     requires first_base { output.rate ≤ first.time_base }
     requires second_base { output.rate ≤ second.time_base }
-    ensures doubled { result ≡ None → are_merger_ids output.id first.id second.id sources.items ≡ false }
+    ensures doubled { result ≡ None → are_merger_ids output.id.value first.id.value second.id.value sources.items ≡ false }
     ensures output { IfSome result (λ life. life.output ≡ output) }
     ensures timing { IfSome result (λ life. life.timing ≡ timing) }
     ensures first { IfSome result (λ life. life.first ≡ first) }
     ensures second { IfSome result (λ life. life.second ≡ second) }
     ensures sources { IfSome result (λ life. life.sources ≡ sources) }
 {
-    if !is_apart(&sources, output.id) || !are_apart(first.id, second.id, &sources) {
+    if !is_apart(&sources, output.id.value)
+        || !are_apart(first.id.value, second.id.value, &sources)
+    {
         return None;
     }
     Some(pdc_life::MergerSettings {

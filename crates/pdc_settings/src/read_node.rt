@@ -114,7 +114,7 @@ fn read_parts(
 
 /// Whether the ids of the PMUs and the node's own are distinct, those of streams and those of sources.
 fn ids_are_distinct(id: u16, pmus: &[Pmu]) -> bool
-    ensures { result ≡ are_node_ids id (map (λ (pmu : PmuData). pmu.stream) pmus.now) (map (λ (pmu : PmuData). pmu.source) pmus.now) }
+    ensures { result ≡ are_node_ids id (map (λ (pmu : PmuData). pmu.stream.value) pmus.now) (map (λ (pmu : PmuData). pmu.source) pmus.now) }
 {
     if has_stream(pmus, id) || !streams_differ(pmus) {
         return false;
@@ -126,13 +126,13 @@ fn ids_are_distinct(id: u16, pmus: &[Pmu]) -> bool
 fn life_of(output: Output, timing: Timing, pmus: ArrayVec<Pmu, MAX_PMUS>) -> Option<Settings>
     requires some { 1 ≤ length pmus.items }
     requires bases { IsTrue (list_all (λ (pmu : PmuData). nat_le output.rate pmu.time_base) pmus.items) }
-    ensures doubled { result ≡ None → are_node_ids output.id (map (λ (pmu : PmuData). pmu.stream) pmus.items) (map (λ (pmu : PmuData). pmu.source) pmus.items) ≡ false }
+    ensures doubled { result ≡ None → are_node_ids output.id.value (map (λ (pmu : PmuData). pmu.stream.value) pmus.items) (map (λ (pmu : PmuData). pmu.source) pmus.items) ≡ false }
     ensures output { IfSome result (λ life. life.output ≡ output) }
     ensures timing { IfSome result (λ life. life.timing ≡ timing) }
     ensures pmus { IfSome result (λ life. life.pmus ≡ pmus) }
     ensures len { IfSome result (λ life. length life.pmus.items ≡ length pmus.items) }
 {
-    if !ids_are_distinct(output.id, &pmus) {
+    if !ids_are_distinct(output.id.value, &pmus) {
         return None;
     }
     Some(Settings {

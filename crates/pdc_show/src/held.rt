@@ -5,7 +5,7 @@ ghost use Rattle.pdc_show.specs.declared.held.HeldSection.{HeldSection as HeldSe
 
 use arrayvec::ArrayVec;
 use pdc_cfg::{ConfigView, Shape};
-use pdc_frame::Frame;
+use pdc_frame::{Frame, StreamId};
 use pdc_tag::{MAX_RATE, instant};
 
 /// What is kept of a section.
@@ -23,7 +23,7 @@ pub struct HeldSection {
 #[derive(Debug, Drop)]
 pub struct Held {
     /// The stream's id.
-    pub id: u16,
+    pub id: StreamId,
     /// The counts of FRACSEC in a second.
     pub time_base: u32,
     /// The frames in a second, where it is above zero.
@@ -35,7 +35,7 @@ pub struct Held {
 
 impl Held {
     /// What is kept of a configuration of this stream.
-    pub fn new(id: u16, config: &ConfigView) -> Held {
+    pub fn new(id: StreamId, config: &ConfigView) -> Held {
         let mut sections = ArrayVec::new();
         for section in config.sections.as_slice() {
             sections.push(HeldSection {

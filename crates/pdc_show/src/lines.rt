@@ -4,7 +4,7 @@ use crate::held::{Held, HeldSection};
 use pdc_block::Block;
 use pdc_cfg::ConfigView;
 use pdc_command::Command;
-use pdc_frame::Frame;
+use pdc_frame::{Frame, StreamId};
 use std::io;
 use std::io::Write;
 
@@ -75,7 +75,7 @@ pub fn print_data<W: Write>(
     held: &Held,
     blocks: &[Block],
 ) -> io::Result<()> {
-    let (id, soc, frac, quality) = (frame.id, frame.soc, frame.frac, frame.quality);
+    let (id, soc, frac, quality) = (frame.id.value, frame.soc, frame.frac, frame.quality);
     write!(
         writer,
         "data id={id} soc={soc} frac={frac} quality={quality:02X}"
@@ -95,8 +95,8 @@ pub fn print_data<W: Write>(
 /// # Errors
 ///
 /// What the writer answers.
-pub fn print_header<W: Write>(writer: &mut W, id: u16, text: &[u8]) -> io::Result<()> {
-    writeln!(writer, "header id={id} bytes={}", text.len())
+pub fn print_header<W: Write>(writer: &mut W, id: StreamId, text: &[u8]) -> io::Result<()> {
+    writeln!(writer, "header id={} bytes={}", id.value, text.len())
 }
 
 /// The line of a command frame.
@@ -104,8 +104,8 @@ pub fn print_header<W: Write>(writer: &mut W, id: u16, text: &[u8]) -> io::Resul
 /// # Errors
 ///
 /// What the writer answers.
-pub fn print_command<W: Write>(writer: &mut W, id: u16, command: Command) -> io::Result<()> {
-    writeln!(writer, "command id={id} cmd={}", command as u16)
+pub fn print_command<W: Write>(writer: &mut W, id: StreamId, command: Command) -> io::Result<()> {
+    writeln!(writer, "command id={} cmd={}", id.value, command as u16)
 }
 
 /// The lines of a configuration: its fields, and a line for each section.
@@ -116,10 +116,11 @@ pub fn print_command<W: Write>(writer: &mut W, id: u16, command: Command) -> io:
 pub fn print_config<W: Write>(
     writer: &mut W,
     name: &str,
-    id: u16,
+    id: StreamId,
     config: &ConfigView,
 ) -> io::Result<()> {
-    let (time_base, rate, count) = (config.time_base, config.rate, config.sections.len());
+    let (id, count) = (id.value, config.sections.len());
+    let (time_base, rate) = (config.time_base, config.rate);
     writeln!(
         writer,
         "{name} id={id} time_base={time_base} rate={rate} pmus={count}"

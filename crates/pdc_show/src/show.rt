@@ -86,7 +86,7 @@ impl<A: Allocator + Copy> Show<A> {
     /// Prints the lines of a data frame.
     fn show_data<W: Write>(&mut self, frame: &Frame, writer: &mut W) -> Result<(), ShowFault> {
         let refusal = match &self.held {
-            Some(held) if held.id == frame.id => match cut(
+            Some(held) if held.id.value == frame.id.value => match cut(
                 held.shapes().as_slice(),
                 frame.payload,
             ) {

@@ -21,7 +21,7 @@ pub record Run : Type 0 where
 
 abbrev pub run_of : Simulated → (first : ℕ) → Run
 run_of simulated first = record {
-  id = simulated.id;
+  id = simulated.id.value;
   rate = simulated.rate;
   count = simulated.count;
   first = first;

@@ -29,9 +29,9 @@ pub fn second_of(instant: u64, rate: u16) -> u32
 /// The payload of the configuration.
 fn payload_for(alloc: Global, simulated: &Simulated<'_>) -> Result<Vec<u8>, AllocError> {
     if simulated.is_grid {
-        grid_payload(alloc, simulated.id)
+        grid_payload(alloc, simulated.id.value)
     } else {
-        Vec::from_slice(alloc, payload_of(simulated.id).as_slice())
+        Vec::from_slice(alloc, payload_of(simulated.id.value).as_slice())
     }
 }
 

@@ -131,7 +131,7 @@ pub fn send_number<K: Sink>(
     if run.simulated.is_grid {
         let instant = run.first.saturating_add(u64::from(number));
         let since = instant.saturating_mul(1000) / u64::from(run.simulated.rate);
-        let words = grid_words(run.simulated.id, since);
+        let words = grid_words(run.simulated.id.value, since);
         send_words(run, number, &words, sender, sink)
     } else {
         let words = [0, (number % PHASORS) as u16, 0, 0, 0];

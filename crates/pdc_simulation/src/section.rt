@@ -1,7 +1,7 @@
 //! The one section of a simulated PMU (C37.118.2-2011, table 9).
 
 use pdc_cfg::{ConfigView, read_config};
-use pdc_frame::{Frame, Kind, MAX_PAYLOAD};
+use pdc_frame::{Frame, Kind, MAX_PAYLOAD, StreamId};
 
 /// The bytes of a configuration payload with one section of one phasor.
 pub const PAYLOAD_LEN: usize = 58;
@@ -33,7 +33,7 @@ pub fn config_of(payload: &[u8]) -> Option<ConfigView<'_>> {
     read_config(&Frame {
         kind: Kind::Cfg2,
         version: 2,
-        id: 1,
+        id: StreamId { value: 1 },
         soc: 0,
         quality: 0,
         frac: 0,

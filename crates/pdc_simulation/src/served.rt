@@ -1,10 +1,9 @@
 //! A simulated PMU that waits to be asked.
 ghost use Rattle.std.specs.Prelude.{◌≡◌, ◌≤◌, ◌<◌, length};
 ghost use Rattle.pdc_command.specs.declared.header.TheConstants.{MAX_TEXT};
-ghost use Rattle.pdc_frame.specs.declared.limits.TheConstants.{MAX_ID};
 
 use pdc_cfg::{ConfigView, read_config};
-use pdc_frame::{MAX_ID, read_frame};
+use pdc_frame::{StreamId, read_frame};
 use pdc_session::{Serving, Session};
 use std::alloc::Global;
 use std::io;
@@ -31,11 +30,9 @@ struct Consumer {
 #[derive(Drop)]
 pub struct Served {
     alloc: Global,
-    id: u16,
+    id: StreamId,
     listener: TcpListener,
     consumers: Vec<Consumer>,
-    pub ghost id_low: { 0 < id },
-    pub ghost id_high: { id ≤ MAX_ID },
 }
 
 /// Whether nothing is there now.
@@ -80,10 +77,7 @@ fn send(consumer: &mut Consumer, bytes: &[u8]) -> bool {
 
 impl Served {
     /// Nobody is connected yet.
-    pub fn new(alloc: Global, id: u16, listener: TcpListener) -> Served
-        requires id_low { 0 < id }
-        requires id_high { id ≤ MAX_ID }
-    {
+    pub fn new(alloc: Global, id: StreamId, listener: TcpListener) -> Served {
         Served {
             alloc,
             id,

@@ -1,15 +1,15 @@
 //! What is simulated.
 ghost use Rattle.std.specs.Prelude.{◌≡◌, ◌≤◌, ◌<◌};
-ghost use Rattle.pdc_frame.specs.declared.limits.TheConstants.{MAX_ID};
 ghost use Rattle.pdc_tag.specs.declared.limits.TheConstants.{MAX_RATE};
 
 use crate::outlets::Place;
+use pdc_frame::StreamId;
 
 /// What is simulated.
 #[derive(Clone, Copy, Debug)]
 pub struct Simulated<'a> {
-    /// The stream id, 1 to 65534.
-    pub id: u16,
+    /// The stream id.
+    pub id: StreamId,
     /// The frames in a second, 1 to 240.
     pub rate: u16,
     /// How many data frames are sent.
@@ -22,8 +22,6 @@ pub struct Simulated<'a> {
     pub config_every: Option<u32>,
     /// Whether it is a PMU at a bus of a simulated grid; else it has one phasor, which counts.
     pub is_grid: bool,
-    pub ghost id_low: { 0 < id },
-    pub ghost id_high: { id ≤ MAX_ID },
     pub ghost rate_low: { 1 ≤ rate },
     pub ghost rate_high: { rate ≤ MAX_RATE },
 }

@@ -1,9 +1,8 @@
 //! What a node and the merger have in common.
 ghost use Rattle.std.specs.Prelude.{◌≡◌, ◌≤◌, ◌<◌, IfSome};
-ghost use Rattle.pdc_frame.specs.declared.limits.TheConstants.{MAX_ID};
 ghost use Rattle.pdc_startup.specs.Concentrator.{output_of};
 
-use pdc_frame::MAX_ID;
+use pdc_frame::StreamId;
 use pdc_journal::Tags;
 use pdc_output::Output;
 use pdc_settings::{MergerSettings, NodeSettings, Service};
@@ -29,9 +28,7 @@ impl Concentrator {
     }
 
     /// The id of the stream with this number, counted from 0; none where it takes no such stream.
-    pub fn stream_id(&self, number: usize) -> Option<u16>
-        ensures { IfSome result (λ id. (0 < id) × (id ≤ MAX_ID)) }
-    {
+    pub fn stream_id(&self, number: usize) -> Option<StreamId> {
         match self {
             Concentrator::Node(settings) => {
                 match settings.life.pmus.as_slice().get(number) {

@@ -207,7 +207,7 @@ impl Machine for ThisMachine {
         described: &Described,
     ) -> Result<Begun<DiskMark<FileDisk>>, ServiceFault> {
         let output = described.concentrator.output();
-        begin_mark(rt, files.mark, output.id, output.rate)
+        begin_mark(rt, files.mark, output.id.value, output.rate)
     }
 
     fn open_record<'a, M: Mark + Drop, R: Clock + Shelf + AllocGlobal>(

@@ -34,12 +34,12 @@ fn tallies_of(alloc: Global, concentrator: &Concentrator) -> Result<Vec<Tally>, 
     match concentrator {
         Concentrator::Node(settings) => {
             for pmu in settings.life.pmus.iter() {
-                tallies.push(Tally::new(Of::Pmu(pmu.stream)))?;
+                tallies.push(Tally::new(Of::Pmu(pmu.stream.value)))?;
             }
         }
         Concentrator::Merger(settings) => {
-            tallies.push(Tally::new(Of::Node(settings.life.first.id)))?;
-            tallies.push(Tally::new(Of::Node(settings.life.second.id)))?;
+            tallies.push(Tally::new(Of::Node(settings.life.first.id.value)))?;
+            tallies.push(Tally::new(Of::Node(settings.life.second.id.value)))?;
         }
     }
     Ok(tallies)

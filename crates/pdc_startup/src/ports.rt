@@ -1,13 +1,12 @@
 //! The ports of a concentrator.
 ghost use Rattle.std.specs.Prelude.{◌≡◌, ◌≤◌, ◌<◌, IfErr, IfOk, length, vec_len};
-ghost use Rattle.pdc_frame.specs.declared.limits.TheConstants.{MAX_ID};
 ghost use Rattle.pdc_startup.specs.Concentrator.{streams_of};
 ghost use Rattle.pdc_startup.specs.Faults.{IsOfListener, IsOfSink, IsOfSources};
 
 use crate::concentrator::Concentrator;
 use crate::fault::ServiceFault;
 use crate::observing::Observed;
-use pdc_frame::MAX_ID;
+use pdc_frame::StreamId;
 use pdc_hub::HubFault;
 use pdc_journal::{Journal, Tally};
 use pdc_link::{Connection, Link, Port};
@@ -52,7 +51,7 @@ fn address_of<R: Net>(rt: &R, text: &str) -> io::Result<SocketAddr> {
 /// The address that a key of the stream's table names, where it is there.
 fn asked_at<R: Net>(
     rt: &R,
-    id: u16,
+    id: StreamId,
     text: &Option<String>,
 ) -> Result<Option<SocketAddr>, ServiceFault>
     ensures faults { IfErr result IsOfSources }
@@ -60,7 +59,7 @@ fn asked_at<R: Net>(
     match text {
         Some(text) => match address_of(rt, text.as_str()) {
             Ok(address) => Ok(Some(address)),
-            Err(error) => Err(ServiceFault::Input(id, error)),
+            Err(error) => Err(ServiceFault::Input(id.value, error)),
         },
         None => Ok(None),
     }
@@ -69,12 +68,10 @@ fn asked_at<R: Net>(
 /// A stream of the settings: its id, the port and the table that they name for it, and its tally.
 #[derive(Drop)]
 struct Stream<'n, 'a> {
-    id: u16,
+    id: StreamId,
     port: u16,
     input: &'n Input,
     tally: &'a Tally,
-    ghost id_low: { 0 < id },
-    ghost id_high: { id ≤ MAX_ID },
 }
 
 /// The stream with this number, counted from 0, that comes to this port; none where no such stream is taken.

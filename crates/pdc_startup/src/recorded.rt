@@ -44,7 +44,7 @@ pub fn open_record<'a, M: Mark + Drop, R: Clock + Shelf>(
     let output = described.concentrator.output();
     let begun = BegunEntry {
         role: role_of(&described.concentrator),
-        id: output.id,
+        id: output.id.value,
         rate: output.rate,
         start: mark.start(),
         floor: mark.floor(),

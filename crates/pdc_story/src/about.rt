@@ -93,8 +93,8 @@ impl About {
     /// The id of its frames.
     pub fn id(&self) -> u16 {
         match &self.lived {
-            Lived::Node(settings) => settings.output.id,
-            Lived::Merger(settings) => settings.output.id,
+            Lived::Node(settings) => settings.output.id.value,
+            Lived::Merger(settings) => settings.output.id.value,
         }
     }
 
@@ -178,11 +178,11 @@ impl About {
     pub fn stream_id(&self, stream: usize) -> u16 {
         match &self.lived {
             Lived::Node(settings) => match settings.pmus.as_slice().get(stream) {
-                Some(pmu) => pmu.stream,
+                Some(pmu) => pmu.stream.value,
                 None => 0,
             },
-            Lived::Merger(settings) if stream == 0 => settings.first.id,
-            Lived::Merger(settings) => settings.second.id,
+            Lived::Merger(settings) if stream == 0 => settings.first.id.value,
+            Lived::Merger(settings) => settings.second.id.value,
         }
     }
 

@@ -1,10 +1,9 @@
 //! Where the sessions are, out of the settings of the pair.
 ghost use Rattle.std.specs.Prelude.{◌<◌, ◌≤◌};
-ghost use Rattle.pdc_frame.specs.declared.limits.TheConstants.{MAX_ID};
 ghost use Rattle.pdc_watch.specs.declared.cell.TheConstants.{MAX_RATE};
 
 use crate::words::Asked;
-use pdc_frame::MAX_ID;
+use pdc_frame::StreamId;
 use pdc_settings::{MergerSettings, Network, NodeSettings, SettingsFault};
 use pdc_watch::{MAX_RATE, Three};
 use std::alloc::Global;
@@ -16,14 +15,12 @@ use std::{fs, io};
 /// A session: of which stream, and where.
 #[derive(Clone, Copy)]
 pub struct Session {
-    /// The id of the stream, 1 to 65534.
-    pub id: u16,
+    /// The id of the stream.
+    pub id: StreamId,
     /// Its frames a second, 1 to 240.
     pub rate: u16,
     /// Where it is served.
     pub to: SocketAddr,
-    pub ghost id_low: { 0 < id },
-    pub ghost id_high: { id ≤ MAX_ID },
     pub ghost rate_high: { rate ≤ MAX_RATE },
 }
 

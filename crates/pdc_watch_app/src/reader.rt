@@ -1,12 +1,11 @@
 //! The frames of a session.
 ghost use Rattle.std.specs.Prelude.{◌≡◌, ◌<◌, ◌≤◌};
-ghost use Rattle.pdc_frame.specs.declared.limits.TheConstants.{MAX_ID};
 ghost use Rattle.pdc_frame.specs.declared.step.Step.TheVariants.{Whole};
 
 use crate::loading::Session;
 use pdc_client::{Counting, Unread, tell};
 use pdc_command::Command;
-use pdc_frame::{Framer, MAX_ID, Step};
+use pdc_frame::{Framer, Step};
 use pdc_watch::{Watch, Who};
 use std::alloc::Global;
 use std::io::ErrorKind;
@@ -132,7 +131,7 @@ impl<'a, R: Net<Listener = TcpListener, Stream = TcpStream> + Clock + Wait> Read
         requires { framer.now.step ≡ Whole }
     {
         let frame = framer.fields();
-        if frame.id != self.session.id {
+        if frame.id.value != self.session.id.value {
             return Turn::Bytes;
         }
         let now = now_ms(self.rt);

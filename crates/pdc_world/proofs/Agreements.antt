@@ -51,10 +51,10 @@ alike_from [] [] e = record { streams = refl; time_bases = refl; sources = refl 
 alike_from [] (q ∷ qs) e = cc
 alike_from (p ∷ ps) [] e = cc
 alike_from (p ∷ ps) (q ∷ qs) e =
-    let parts = parts4 (p.stream == q.stream) (p.time_base == q.time_base) (p.source == q.source) (are_alike ps qs) e in
+    let parts = parts4 (p.stream.value == q.stream.value) (p.time_base == q.time_base) (p.source == q.source) (are_alike ps qs) e in
     let more : Alike ps qs = alike_from ps qs parts.3 in
     record {
-      streams = pair p.stream q.stream (ids_of ps) (ids_of qs) (eqb-true p.stream q.stream parts.0) more.streams;
+      streams = pair p.stream.value q.stream.value (ids_of ps) (ids_of qs) (eqb-true p.stream.value q.stream.value parts.0) more.streams;
       time_bases = pair p.time_base q.time_base (time_bases_of ps) (time_bases_of qs) (eqb-true p.time_base q.time_base parts.1) more.time_bases;
       sources = pair p.source q.source (sources_of ps) (sources_of qs) (eqb-true p.source q.source parts.2) more.sources;
     }
@@ -67,8 +67,8 @@ alike_to (p ∷ ps) (q ∷ qs) streams time_bases sources =
     let more_streams : ids_of ps ≡ ids_of qs = cc in
     let more_time_bases : time_bases_of ps ≡ time_bases_of qs = cc in
     let more_sources : sources_of ps ≡ sources_of qs = cc in
-    all4 (p.stream == q.stream) (p.time_base == q.time_base) (p.source == q.source) (are_alike ps qs)
-    (eq-eqb p.stream q.stream cc) (eq-eqb p.time_base q.time_base cc) (eq-eqb p.source q.source cc) (alike_to ps qs more_streams more_time_bases more_sources)
+    all4 (p.stream.value == q.stream.value) (p.time_base == q.time_base) (p.source == q.source) (are_alike ps qs)
+    (eq-eqb p.stream.value q.stream.value cc) (eq-eqb p.time_base q.time_base cc) (eq-eqb p.source q.source cc) (alike_to ps qs more_streams more_time_bases more_sources)
 
 sources_from : (ids : List ℕ) (ps : List Pmu) → are_sources ids ps ≡ true → ids ≡ sources_of ps
 sources_from [] [] e = refl
@@ -92,40 +92,40 @@ differ_from a b e = eqb-false a b (not-true (a == b) e)
 differ_to : (a b : ℕ) → (a ≡ b → ⊥) → not (a == b) ≡ true
 differ_to a b e = not_from_false (a == b) (ne_eqb a b e)
 
-free_from : (id : ℕ) (ps : List Pmu) → is_free id ps ≡ true → AllByRecursion (λ (pmu : Pmu). pmu.stream ≢ id) ps
+free_from : (id : ℕ) (ps : List Pmu) → is_free id ps ≡ true → AllByRecursion (λ (pmu : Pmu). pmu.stream.value ≢ id) ps
 free_from id [] e = tt
 free_from id (p ∷ ps) e =
-    let parts = and_parts (not (p.stream == id)) (is_free id ps) e in
-    (differ_from p.stream id parts.0, free_from id ps parts.1)
+    let parts = and_parts (not (p.stream.value == id)) (is_free id ps) e in
+    (differ_from p.stream.value id parts.0, free_from id ps parts.1)
 
-free_to : (id : ℕ) (ps : List Pmu) → AllByRecursion (λ (pmu : Pmu). pmu.stream ≢ id) ps → is_free id ps ≡ true
+free_to : (id : ℕ) (ps : List Pmu) → AllByRecursion (λ (pmu : Pmu). pmu.stream.value ≢ id) ps → is_free id ps ≡ true
 free_to id [] all = refl
-free_to id (p ∷ ps) all = and_from (not (p.stream == id)) (is_free id ps) (differ_to p.stream id all.0) (free_to id ps all.1)
+free_to id (p ∷ ps) all = and_from (not (p.stream.value == id)) (is_free id ps) (differ_to p.stream.value id all.0) (free_to id ps all.1)
 
 record Three (a b m : Output) : Type 0 where
   pub b_rate : b.rate ≡ a.rate
   pub m_rate : m.rate ≡ a.rate
-  pub a_b : a.id ≡ b.id → ⊥
-  pub a_m : a.id ≡ m.id → ⊥
-  pub b_m : b.id ≡ m.id → ⊥
+  pub a_b : a.id.value ≡ b.id.value → ⊥
+  pub a_m : a.id.value ≡ m.id.value → ⊥
+  pub b_m : b.id.value ≡ m.id.value → ⊥
 
 three_from : (a b m : Output) → are_three a b m ≡ true → Three a b m
 three_from a b m e =
-    let parts = parts5 (b.rate == a.rate) (m.rate == a.rate) (not (a.id == b.id)) (not (a.id == m.id)) (not (b.id == m.id)) e in
+    let parts = parts5 (b.rate == a.rate) (m.rate == a.rate) (not (a.id.value == b.id.value)) (not (a.id.value == m.id.value)) (not (b.id.value == m.id.value)) e in
     record {
       b_rate = eqb-true b.rate a.rate parts.0;
       m_rate = eqb-true m.rate a.rate parts.1;
-      a_b = differ_from a.id b.id parts.2;
-      a_m = differ_from a.id m.id parts.3;
-      b_m = differ_from b.id m.id parts.4;
+      a_b = differ_from a.id.value b.id.value parts.2;
+      a_m = differ_from a.id.value m.id.value parts.3;
+      b_m = differ_from b.id.value m.id.value parts.4;
     }
 
 three_to : (a b m : Output) → Three a b m → are_three a b m ≡ true
 three_to a b m t =
-    all5 (b.rate == a.rate) (m.rate == a.rate) (not (a.id == b.id)) (not (a.id == m.id)) (not (b.id == m.id))
-    (eq-eqb b.rate a.rate t.b_rate) (eq-eqb m.rate a.rate t.m_rate) (differ_to a.id b.id t.a_b) (differ_to a.id m.id t.a_m) (differ_to b.id m.id t.b_m)
+    all5 (b.rate == a.rate) (m.rate == a.rate) (not (a.id.value == b.id.value)) (not (a.id.value == m.id.value)) (not (b.id.value == m.id.value))
+    (eq-eqb b.rate a.rate t.b_rate) (eq-eqb m.rate a.rate t.m_rate) (differ_to a.id.value b.id.value t.a_b) (differ_to a.id.value m.id.value t.a_m) (differ_to b.id.value m.id.value t.b_m)
 
-own_alone : (W : World) → Three W.a.settings.output W.b.settings.output W.m.settings.output → (v w : Who) → (output_of W v).id ≡ (output_of W w).id → is_same v w ≡ true
+own_alone : (W : World) → Three W.a.settings.output W.b.settings.output W.m.settings.output → (v w : Who) → (output_of W v).id.value ≡ (output_of W w).id.value → is_same v w ≡ true
 own_alone W t A A e = refl
 own_alone W t A B e = absurd (t.a_b e)
 own_alone W t A M e = absurd (t.a_m e)
@@ -142,15 +142,15 @@ one_rate W t B = t.b_rate
 one_rate W t M = t.m_rate
 
 free_parts : (W : World) → are_free W.a.settings.output W.b.settings.output W.m.settings.output W.a.settings.pmus.items ≡ true
-    → (is_free W.a.settings.output.id W.a.settings.pmus.items ≡ true) × (is_free W.b.settings.output.id W.a.settings.pmus.items ≡ true)
-    × (is_free W.m.settings.output.id W.a.settings.pmus.items ≡ true)
-free_parts W e = parts3 (is_free W.a.settings.output.id W.a.settings.pmus.items) (is_free W.b.settings.output.id W.a.settings.pmus.items) (is_free W.m.settings.output.id W.a.settings.pmus.items) e
+    → (is_free W.a.settings.output.id.value W.a.settings.pmus.items ≡ true) × (is_free W.b.settings.output.id.value W.a.settings.pmus.items ≡ true)
+    × (is_free W.m.settings.output.id.value W.a.settings.pmus.items ≡ true)
+free_parts W e = parts3 (is_free W.a.settings.output.id.value W.a.settings.pmus.items) (is_free W.b.settings.output.id.value W.a.settings.pmus.items) (is_free W.m.settings.output.id.value W.a.settings.pmus.items) e
 
 none_free : (W : World) → are_free W.a.settings.output W.b.settings.output W.m.settings.output W.a.settings.pmus.items ≡ true → (who : Who)
-    → AllByRecursion (λ (pmu : Pmu). pmu.stream ≢ (output_of W who).id) W.a.settings.pmus.items
-none_free W e A = free_from W.a.settings.output.id W.a.settings.pmus.items (free_parts W e).0
-none_free W e B = free_from W.b.settings.output.id W.a.settings.pmus.items (free_parts W e).1
-none_free W e M = free_from W.m.settings.output.id W.a.settings.pmus.items (free_parts W e).2
+    → AllByRecursion (λ (pmu : Pmu). pmu.stream.value ≢ (output_of W who).id.value) W.a.settings.pmus.items
+none_free W e A = free_from W.a.settings.output.id.value W.a.settings.pmus.items (free_parts W e).0
+none_free W e B = free_from W.b.settings.output.id.value W.a.settings.pmus.items (free_parts W e).1
+none_free W e M = free_from W.m.settings.output.id.value W.a.settings.pmus.items (free_parts W e).2
 
 -- ---- both directions
 
@@ -162,17 +162,17 @@ agree_from W e =
     let parts = parts6 (are_alike b.pmus.items a.pmus.items) (are_sources m.sources.items a.pmus.items) (is_taken_for m.first a.output) (is_taken_for m.second b.output)
     (are_three a.output b.output m.output) (are_free a.output b.output m.output a.pmus.items) e in
     let alike : Alike b.pmus.items a.pmus.items = alike_from b.pmus.items a.pmus.items parts.0 in
-    let first = and_parts (m.first.id == a.output.id) (m.first.time_base == a.output.time_base) parts.2 in
-    let second = and_parts (m.second.id == b.output.id) (m.second.time_base == b.output.time_base) parts.3 in
+    let first = and_parts (m.first.id.value == a.output.id.value) (m.first.time_base == a.output.time_base) parts.2 in
+    let second = and_parts (m.second.id.value == b.output.id.value) (m.second.time_base == b.output.time_base) parts.3 in
     let three : Three a.output b.output m.output = three_from a.output b.output m.output parts.4 in
     record {
       streams = alike.streams;
       time_bases = alike.time_bases;
       sources = alike.sources;
       merged = sources_from m.sources.items a.pmus.items parts.1;
-      first_id = eqb-true m.first.id a.output.id first.0;
+      first_id = eqb-true m.first.id.value a.output.id.value first.0;
       first_time_base = eqb-true m.first.time_base a.output.time_base first.1;
-      second_id = eqb-true m.second.id b.output.id second.0;
+      second_id = eqb-true m.second.id.value b.output.id.value second.0;
       second_time_base = eqb-true m.second.time_base b.output.time_base second.1;
       rate = one_rate W three;
       own_ids = own_alone W three;
@@ -197,8 +197,8 @@ agree_to W agree =
     (are_three a.output b.output m.output) (are_free a.output b.output m.output a.pmus.items)
     (alike_to b.pmus.items a.pmus.items agree.streams agree.time_bases agree.sources)
     (sources_to m.sources.items a.pmus.items agree.merged)
-    (and_from (m.first.id == a.output.id) (m.first.time_base == a.output.time_base) (eq-eqb m.first.id a.output.id agree.first_id) (eq-eqb m.first.time_base a.output.time_base agree.first_time_base))
-    (and_from (m.second.id == b.output.id) (m.second.time_base == b.output.time_base) (eq-eqb m.second.id b.output.id agree.second_id) (eq-eqb m.second.time_base b.output.time_base agree.second_time_base))
+    (and_from (m.first.id.value == a.output.id.value) (m.first.time_base == a.output.time_base) (eq-eqb m.first.id.value a.output.id.value agree.first_id) (eq-eqb m.first.time_base a.output.time_base agree.first_time_base))
+    (and_from (m.second.id.value == b.output.id.value) (m.second.time_base == b.output.time_base) (eq-eqb m.second.id.value b.output.id.value agree.second_id) (eq-eqb m.second.time_base b.output.time_base agree.second_time_base))
     (three_to a.output b.output m.output (three_of W agree))
-    (all3 (is_free a.output.id a.pmus.items) (is_free b.output.id a.pmus.items) (is_free m.output.id a.pmus.items)
-    (free_to a.output.id a.pmus.items (agree.no_pmu A)) (free_to b.output.id a.pmus.items (agree.no_pmu B)) (free_to m.output.id a.pmus.items (agree.no_pmu M)))
+    (all3 (is_free a.output.id.value a.pmus.items) (is_free b.output.id.value a.pmus.items) (is_free m.output.id.value a.pmus.items)
+    (free_to a.output.id.value a.pmus.items (agree.no_pmu A)) (free_to b.output.id.value a.pmus.items (agree.no_pmu B)) (free_to m.output.id.value a.pmus.items (agree.no_pmu M)))

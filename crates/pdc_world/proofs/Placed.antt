@@ -5,11 +5,11 @@ use Rattle.std.proofs.lemmas.Option.{get_or_from_slice_get, slice_get-map, slice
 use Rattle.pdc_history.specs.Agree.{ids_of}
 use Rattle.pdc_life.specs.declared.pmu.Pmu.{Pmu}
 
-at_place : (xs : List Pmu) (id s : ℕ) (o : Option Pmu) → All (λ (pmu : Pmu). pmu.stream ≢ id) xs → slice_get xs s ≡ o → option_map (λ (pmu : Pmu). pmu.stream) o ≡ Some id → ⊥
+at_place : (xs : List Pmu) (id s : ℕ) (o : Option Pmu) → All (λ (pmu : Pmu). pmu.stream.value ≢ id) xs → slice_get xs s ≡ o → option_map (λ (pmu : Pmu). pmu.stream.value) o ≡ Some id → ⊥
 at_place xs id s None all is same = cc
 at_place xs id s (Some pmu) all is same =
-    all s pmu (slice_get_within xs s pmu is) (let e : pmu.stream ≡ id = cc in ap (λ (p : Pmu). p.stream) (get_or_from_slice_get xs s pmu pmu is) ∙ e)
+    all s pmu (slice_get_within xs s pmu is) (let e : pmu.stream.value ≡ id = cc in ap (λ (p : Pmu). p.stream.value) (get_or_from_slice_get xs s pmu pmu is) ∙ e)
 
-pub none_named : (xs : List Pmu) (id : ℕ) (o : Option ℕ) → IfNone o (All (λ (pmu : Pmu). pmu.stream ≢ id) xs) → IfNone o ((s : ℕ) → slice_get (ids_of xs) s ≢ Some id)
-none_named xs id None all = λ s same. at_place xs id s (slice_get xs s) all refl (sym (slice_get-map (λ (pmu : Pmu). pmu.stream) xs s) ∙ same)
+pub none_named : (xs : List Pmu) (id : ℕ) (o : Option ℕ) → IfNone o (All (λ (pmu : Pmu). pmu.stream.value ≢ id) xs) → IfNone o ((s : ℕ) → slice_get (ids_of xs) s ≢ Some id)
+none_named xs id None all = λ s same. at_place xs id s (slice_get xs s) all refl (sym (slice_get-map (λ (pmu : Pmu). pmu.stream.value) xs s) ∙ same)
 none_named xs id (Some n) all = tt

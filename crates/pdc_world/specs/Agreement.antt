@@ -9,7 +9,7 @@ use Rattle.pdc_output.specs.declared.output.Output.{Output}
 -- the same streams with the same TIME_BASEs and sources, in the same order
 abbrev pub are_alike : List Pmu → List Pmu → Bool
 are_alike [] [] = true
-are_alike (pmu ∷ pmus) (other ∷ others) = (pmu.stream == other.stream) && (pmu.time_base == other.time_base) && (pmu.source == other.source) && are_alike pmus others
+are_alike (pmu ∷ pmus) (other ∷ others) = (pmu.stream.value == other.stream.value) && (pmu.time_base == other.time_base) && (pmu.source == other.source) && are_alike pmus others
 are_alike pmus others = false
 
 -- these are their sources, in the same order
@@ -21,19 +21,19 @@ are_sources ids pmus = false
 -- none of them has a stream of this id
 abbrev pub is_free : (id : ℕ) → List Pmu → Bool
 is_free id [] = true
-is_free id (pmu ∷ pmus) = not (pmu.stream == id) && is_free id pmus
+is_free id (pmu ∷ pmus) = not (pmu.stream.value == id) && is_free id pmus
 
 -- the merger takes this stream for the one that this output makes
 abbrev pub is_taken_for : MergedNode → Output → Bool
-is_taken_for node output = (node.id == output.id) && (node.time_base == output.time_base)
+is_taken_for node output = (node.id.value == output.id.value) && (node.time_base == output.time_base)
 
 -- they have one rate, and three ids
 abbrev pub are_three : (a b m : Output) → Bool
-are_three a b m = (b.rate == a.rate) && (m.rate == a.rate) && not (a.id == b.id) && not (a.id == m.id) && not (b.id == m.id)
+are_three a b m = (b.rate == a.rate) && (m.rate == a.rate) && not (a.id.value == b.id.value) && not (a.id.value == m.id.value) && not (b.id.value == m.id.value)
 
 -- none of their ids is a PMU's
 abbrev pub are_free : (a b m : Output) → List Pmu → Bool
-are_free a b m pmus = is_free a.id pmus && is_free b.id pmus && is_free m.id pmus
+are_free a b m pmus = is_free a.id.value pmus && is_free b.id.value pmus && is_free m.id.value pmus
 
 abbrev pub do_agree : (a b : Settings) → MergerSettings → Bool
 do_agree a b m =

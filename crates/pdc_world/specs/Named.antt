@@ -17,4 +17,4 @@ IsUnnamed ids bytes = (s : ℕ) → IsNamed ids bytes s → ⊥
 
 -- the ids of the streams of a merger: node A's, node B's
 abbrev pub node_ids : MergerSettings → List ℕ
-node_ids settings = map (λ (node : MergedNode). node.id) (nodes_of settings)
+node_ids settings = map (λ (node : MergedNode). node.id.value) (nodes_of settings)

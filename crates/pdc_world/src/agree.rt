@@ -11,7 +11,7 @@ fn have_alike(pmus: &[Pmu], others: &[Pmu]) -> bool
 {
     match (pmus.split_first(), others.split_first()) {
         (Some((pmu, pmus)), Some((other, others))) => {
-            pmu.stream == other.stream
+            pmu.stream.value == other.stream.value
                 && pmu.time_base == other.time_base
                 && pmu.source == other.source
                 && have_alike(pmus, others)
@@ -37,7 +37,7 @@ fn is_no_stream(id: u16, pmus: &[Pmu]) -> bool
     ensures { result ≡ is_free id pmus.now }
 {
     match pmus.split_first() {
-        Some((pmu, pmus)) => pmu.stream != id && is_no_stream(id, pmus),
+        Some((pmu, pmus)) => pmu.stream.value != id && is_no_stream(id, pmus),
         None => true,
     }
 }
@@ -46,21 +46,27 @@ fn is_no_stream(id: u16, pmus: &[Pmu]) -> bool
 fn takes_for(node: &MergedNode, output: &Output) -> bool
     ensures { result ≡ is_taken_for node.now output.now }
 {
-    node.id == output.id && node.time_base == output.time_base
+    node.id.value == output.id.value && node.time_base == output.time_base
 }
 
 /// Whether the outputs have one rate, and three ids.
 fn are_three_outputs(a: &Output, b: &Output, m: &Output) -> bool
     ensures { result ≡ are_three a.now b.now m.now }
 {
-    b.rate == a.rate && m.rate == a.rate && a.id != b.id && a.id != m.id && b.id != m.id
+    b.rate == a.rate
+        && m.rate == a.rate
+        && a.id.value != b.id.value
+        && a.id.value != m.id.value
+        && b.id.value != m.id.value
 }
 
 /// Whether no output has the id of a PMU's stream.
 fn are_no_streams(a: &Output, b: &Output, m: &Output, pmus: &[Pmu]) -> bool
     ensures { result ≡ are_free a.now b.now m.now pmus.now }
 {
-    is_no_stream(a.id, pmus) && is_no_stream(b.id, pmus) && is_no_stream(m.id, pmus)
+    is_no_stream(a.id.value, pmus)
+        && is_no_stream(b.id.value, pmus)
+        && is_no_stream(m.id.value, pmus)
 }
 
 /// Whether the settings of two nodes and a merger agree.

@@ -12,7 +12,7 @@ pub(crate) fn named<C: Plays>(core: &C, bytes: &[u8]) -> Option<usize>
     ensures none { IfNone result (IsUnnamed (C.ids (C.settings_of core.now)) bytes.now) }
 {
     match read_frame(bytes) {
-        Ok(frame) => core.stream_of(frame.id),
+        Ok(frame) => core.stream_of(frame.id.value),
         Err(_) => None,
     }
 }

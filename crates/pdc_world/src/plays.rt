@@ -31,9 +31,9 @@ pub(crate) trait Plays: Opens {
 fn first_of(pmus: &[Pmu], id: u16) -> Option<usize>
     ensures there { IfSome result (λ s. slice_get (ids_of pmus.now) s ≡ Some id) }
     ensures exists { IfSome result (λ s. s < length pmus.now) }
-    ensures none { IfNone result (All (λ (pmu : PmuData). pmu.stream ≢ id) pmus.now) }
+    ensures none { IfNone result (All (λ (pmu : PmuData). pmu.stream.value ≢ id) pmus.now) }
 {
-    pmus.iter().position(|pmu| pmu.stream == id)
+    pmus.iter().position(|pmu| pmu.stream.value == id)
 }
 
 /// The number of the PMU with this stream id.
@@ -51,10 +51,10 @@ fn node_of(settings: &MergerSettings, id: u16) -> Option<usize>
     ensures exists { IfSome result (λ s. s < 2) }
     ensures none { IfNone result ((s : ℕ) → slice_get (node_ids settings.now) s ≢ Some id) }
 {
-    if settings.first.id == id {
+    if settings.first.id.value == id {
         return Some(0);
     }
-    if settings.second.id == id {
+    if settings.second.id.value == id {
         return Some(1);
     }
     None

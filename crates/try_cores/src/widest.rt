@@ -1,6 +1,6 @@
 //! The widest node: sixteen PMUs with the most channels, and their frames.
 
-use pdc_frame::{Frame, Kind, write_frame};
+use pdc_frame::{Frame, Kind, StreamId, write_frame};
 use pdc_life::{MAX_PMUS, Settings};
 use pdc_settings::NodeSettings;
 use std::alloc::{AllocError, Global};
@@ -65,7 +65,7 @@ fn frame_of(
     let fields = Frame {
         kind,
         version: 2,
-        id,
+        id: StreamId { value: id },
         soc: SOC,
         quality: 0,
         frac,

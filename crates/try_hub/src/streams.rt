@@ -1,6 +1,6 @@
 //! What arrives of two streams.
 
-use pdc_frame::{Frame, Kind, MAX_ID, MAX_PAYLOAD, write_frame};
+use pdc_frame::{Frame, Kind, MAX_PAYLOAD, StreamId, write_frame};
 use std::alloc::Global;
 
 /// The second of the first instant.
@@ -29,7 +29,8 @@ pub struct Streams {
 impl Stream {
     /// Its data for the instant so many frames after the first. None where memory was wanted, or id or payload are out of range.
     pub fn data(&self, alloc: Global, after: u16) -> Option<Vec<u8>> {
-        if self.id == 0 || self.id > MAX_ID || self.payload.len() > MAX_PAYLOAD {
+        let id = StreamId::new(self.id)?;
+        if self.payload.len() > MAX_PAYLOAD {
             return None;
         }
         let after = u32::from(after);
@@ -37,7 +38,7 @@ impl Stream {
         let frame = Frame {
             kind: Kind::DataFrame,
             version: 2,
-            id: self.id,
+            id,
             soc: SOC + after / RATE,
             quality: 0,
             frac: (after % RATE) * FRAME_COUNTS,

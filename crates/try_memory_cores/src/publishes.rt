@@ -3,7 +3,7 @@ ghost use Rattle.std.specs.Prelude.{◌≡◌};
 
 use crate::vectors::{BEFORE, FIRST, WORDS};
 use arrayvec::ArrayVec;
-use pdc_life::{Block, DueRow, Nominal, Output, Shape};
+use pdc_life::{Block, DueRow, Nominal, Output, Shape, StreamId};
 use pdc_mark::{Mark, ModelMark};
 use pdc_publisher::{PublishFault, Published, Publisher, spare_frame};
 use std::alloc::{AllocError, Global};
@@ -12,7 +12,7 @@ use try_memory::{DONE, NO_CALL, NO_MEMORY, State, Trial, make, state_of};
 
 /// What node 201 says of itself.
 pub const OUTPUT: Output = Output {
-    id: 201,
+    id: StreamId { value: 201 },
     rate: 50,
     nominal: Nominal::Hz50,
     time_base: 1_000_000,

@@ -2,6 +2,7 @@
 
 use crate::answers::of_client;
 use crate::line::Line;
+use crate::vectors::STREAM;
 use pdc_client::Pdc;
 use std::alloc::{AllocError, Global};
 use std::io;
@@ -52,7 +53,7 @@ impl Trial for ClientTrial {
 
     fn call(&mut self) -> &'static str {
         let answer = match self.asked {
-            Asked::New => return of_memory(Pdc::new(self.alloc, 11, Line::new())),
+            Asked::New => return of_memory(Pdc::new(self.alloc, STREAM, Line::new())),
             Asked::Config => self.client.get_config(self.alloc),
             Asked::Header => self.client.get_header(self.alloc),
             Asked::Data => self.client.get(self.alloc),
@@ -64,7 +65,7 @@ impl Trial for ClientTrial {
     }
 
     fn renew(&mut self) -> Result<(), AllocError> {
-        self.client = Pdc::new(self.alloc, 11, Line::new())?;
+        self.client = Pdc::new(self.alloc, STREAM, Line::new())?;
         Ok(())
     }
 }
@@ -75,7 +76,7 @@ pub fn play<R: Print>(rt: &R, alloc: Global) -> io::Result<()> {
         let mut trial = ClientTrial {
             alloc,
             asked,
-            client: Pdc::new(alloc, 11, Line::new())?,
+            client: Pdc::new(alloc, STREAM, Line::new())?,
             answer: Vec::new(alloc),
         };
         make(rt, &mut trial)?;

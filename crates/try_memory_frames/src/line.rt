@@ -1,6 +1,6 @@
 //! What a client reads from and writes to.
 
-use crate::vectors::{CONFIG_11, PAYLOAD, SOC, TEXT};
+use crate::vectors::{CONFIG_11, PAYLOAD, SOC, STREAM, TEXT};
 use arrayvec::ArrayVec;
 use pdc_command::write_header;
 use pdc_frame::{Buffer, Frame, Kind, write_frame};
@@ -22,11 +22,11 @@ pub struct Line {
 fn append(input: &mut ArrayVec<u8, ROOM>) -> Result<(), AllocError> {
     input.make_room(CONFIG_11.len())?;
     input.append_bytes(&CONFIG_11);
-    write_header(11, SOC, &TEXT, input)?;
+    write_header(STREAM, SOC, &TEXT, input)?;
     let data = Frame {
         kind: Kind::DataFrame,
         version: 2,
-        id: 11,
+        id: STREAM,
         soc: SOC,
         quality: 0,
         frac: 20_000,

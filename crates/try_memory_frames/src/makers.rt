@@ -1,5 +1,6 @@
 //! The calls that reserve room once.
 
+use crate::vectors::STREAM;
 use pdc_frame::Framer;
 use pdc_session::{Frames, Session};
 use std::alloc::{AllocError, Global};
@@ -29,7 +30,7 @@ struct MakerTrial {
 fn answer_of(alloc: Global, maker: Maker) -> &'static str {
     match maker {
         Maker::Framer => of_memory(Framer::new(alloc)),
-        Maker::Session => of_memory(Session::new(alloc, 11)),
+        Maker::Session => of_memory(Session::new(alloc, STREAM)),
         Maker::Frames => of_memory(Frames::new(alloc)),
     }
 }

@@ -2,7 +2,7 @@
 ghost use Rattle.std.specs.Prelude.{◌≡◌};
 
 use crate::answers::of_pmu;
-use crate::vectors::{BEFORE, CONFIG_11, FIRST, SOC, TEXT, WORDS};
+use crate::vectors::{BEFORE, CONFIG_11, FIRST, SOC, STREAM, TEXT, WORDS};
 use pdc_cfg::read_config;
 use pdc_frame::read_frame;
 use pdc_pmu::Pmu;
@@ -104,7 +104,7 @@ impl Trial for PmuTrial {
 pub fn play<R: Print>(rt: &R, alloc: Global) -> io::Result<()> {
     let mut trial = PmuTrial {
         sent: Sent::Header,
-        pmu: Pmu::new(11, RATE, 1_000_000),
+        pmu: Pmu::new(STREAM, RATE, 1_000_000),
         rate: RATE,
         out: Vec::new(alloc),
     };

@@ -1,7 +1,7 @@
 //! Sessions that are asked for a header, and for a header and a configuration in one piece.
 
 use crate::answers::of_session;
-use crate::vectors::{BEFORE, CONFIG_11, SOC, TEXT};
+use crate::vectors::{BEFORE, CONFIG_11, SOC, STREAM, TEXT};
 use pdc_cfg::read_config;
 use pdc_command::{Command, write_command};
 use pdc_frame::read_frame;
@@ -27,14 +27,14 @@ impl SessionTrial {
             alloc,
             name,
             piece: Vec::new(alloc),
-            session: Session::new(alloc, 11)?,
+            session: Session::new(alloc, STREAM)?,
             out: Vec::from_slice(alloc, &BEFORE)?,
         })
     }
 
     /// Adds a command to the piece.
     fn tell(&mut self, command: Command) -> Result<(), AllocError> {
-        write_command(11, SOC, command, &mut self.piece)
+        write_command(STREAM, SOC, command, &mut self.piece)
     }
 }
 
@@ -63,7 +63,7 @@ impl Trial for SessionTrial {
     }
 
     fn renew(&mut self) -> Result<(), AllocError> {
-        self.session = Session::new(self.alloc, 11)?;
+        self.session = Session::new(self.alloc, STREAM)?;
         self.out = Vec::from_slice(self.alloc, &BEFORE)?;
         Ok(())
     }

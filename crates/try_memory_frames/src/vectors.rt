@@ -1,5 +1,7 @@
 //! What the calls are given.
 
+use pdc_frame::StreamId;
+
 /// What stands before a frame that is appended.
 pub const BEFORE: [u8; 3] = [1, 2, 3];
 
@@ -14,6 +16,9 @@ pub const CONFIG_11: [u8; 74] = [
 
 /// The second of its first frames.
 pub const SOC: u32 = 1_149_577_200;
+
+/// The stream of all frames.
+pub const STREAM: StreamId = StreamId { value: 11 };
 
 /// The text of a header.
 pub const TEXT: [u8; 6] = *b"pmu 11";

@@ -1,6 +1,6 @@
 //! The calls that append to a caller's bytes.
 
-use crate::vectors::{BEFORE, CONFIG_11, PAYLOAD, SOC, TEXT, WORDS};
+use crate::vectors::{BEFORE, CONFIG_11, PAYLOAD, SOC, STREAM, TEXT, WORDS};
 use pdc_block::{Block, join};
 use pdc_cfg::{Shape, read_config, write_config};
 use pdc_command::{Command, write_command, write_header};
@@ -33,7 +33,7 @@ fn frame(out: &mut Vec<u8>) -> Result<(), AllocError> {
     let frame = Frame {
         kind: Kind::DataFrame,
         version: 2,
-        id: 11,
+        id: STREAM,
         soc: SOC,
         quality: 0,
         frac: 20_000,
@@ -93,8 +93,8 @@ impl Trial for WriterTrial {
             Writer::Frame => frame(out),
             Writer::Config => config(out),
             Writer::Blocks => blocks(out),
-            Writer::Command => write_command(11, SOC, Command::SendCfg2, out),
-            Writer::Header => write_header(11, SOC, &TEXT, out),
+            Writer::Command => write_command(STREAM, SOC, Command::SendCfg2, out),
+            Writer::Header => write_header(STREAM, SOC, &TEXT, out),
         })
     }
 

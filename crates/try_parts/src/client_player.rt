@@ -15,7 +15,7 @@
 use crate::line::Line;
 use crate::told::{NO_CALL, done, hex_of};
 use pdc_client::{ClientFault, Pdc};
-use pdc_frame::MAX_ID;
+use pdc_frame::StreamId;
 use std::alloc::{AllocError, Global};
 use try_script::Player;
 
@@ -84,13 +84,13 @@ impl ClientPlayer {
 
     /// Begins a client over the line.
     fn begin(&mut self, alloc: Global, id: &str) -> Result<&'static str, AllocError> {
-        match id.parse::<u16>() {
-            Ok(id) if 0 < id && id <= MAX_ID => {
+        match id.parse::<u16>().ok().and_then(StreamId::new) {
+            Some(id) => {
                 let line = std::mem::replace(&mut self.line, Line::new(alloc));
                 self.client = Some(Pdc::new(alloc, id, line)?);
                 Ok("ok")
             }
-            _ => Ok(NO_CALL),
+            None => Ok(NO_CALL),
         }
     }
 

@@ -17,7 +17,7 @@ use crate::told::NO_CALL;
 use arrayvec::ArrayVec;
 use pdc_cfg::{Shape, read_config};
 use pdc_command::MAX_TEXT;
-use pdc_frame::{MAX_ID, read_frame};
+use pdc_frame::{StreamId, read_frame};
 use pdc_pmu::{Pmu, PmuFault};
 use pdc_tag::{COUNT_LIMIT, MAX_RATE, SECONDS};
 use std::alloc::{AllocError, Global};
@@ -38,7 +38,7 @@ impl PmuPlayer {
     /// With PMU 1 of one frame a second.
     pub fn new() -> PmuPlayer {
         PmuPlayer {
-            pmu: Pmu::new(1, 1, 1),
+            pmu: Pmu::new(StreamId { value: 1 }, 1, 1),
             rate: 1,
         }
     }
@@ -51,7 +51,8 @@ impl PmuPlayer {
         let Ok(time_base) = time_base.parse::<u32>() else {
             return None;
         };
-        if id == 0 || id > MAX_ID || rate == 0 || u32::from(rate) > MAX_RATE {
+        let id = StreamId::new(id)?;
+        if rate == 0 || u32::from(rate) > MAX_RATE {
             return None;
         }
         if time_base < u32::from(rate) || time_base >= COUNT_LIMIT {
@@ -66,10 +67,7 @@ impl PmuPlayer {
 
     /// Gives the PMU another id.
     fn set_id(&mut self, id: &str) -> Option<Result<(), PmuFault>> {
-        let id: u16 = id.parse().ok()?;
-        if id == 0 || id > MAX_ID {
-            return None;
-        }
+        let id = StreamId::new(id.parse().ok()?)?;
         Some(self.pmu.set_id(id))
     }
 

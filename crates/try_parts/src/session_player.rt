@@ -15,7 +15,7 @@ use crate::told::{NO_CALL, hex_of};
 use arrayvec::ArrayVec;
 use pdc_cfg::read_config;
 use pdc_command::MAX_TEXT;
-use pdc_frame::{Buffer, MAX_ID, read_frame};
+use pdc_frame::{Buffer, StreamId, read_frame};
 use pdc_session::{Serving, Session, SessionFault};
 use std::alloc::{AllocError, Global};
 use try_script::Player;
@@ -61,12 +61,12 @@ impl SessionPlayer {
 
     /// Begins another session.
     fn begin(&mut self, alloc: Global, id: &str) -> Result<&'static str, AllocError> {
-        match id.parse::<u16>() {
-            Ok(id) if 0 < id && id <= MAX_ID => {
+        match id.parse::<u16>().ok().and_then(StreamId::new) {
+            Some(id) => {
                 self.session = Some(Session::new(alloc, id)?);
                 Ok("ok")
             }
-            _ => Ok(NO_CALL),
+            None => Ok(NO_CALL),
         }
     }
 

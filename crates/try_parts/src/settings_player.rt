@@ -75,7 +75,7 @@ fn fault_text(alloc: Global, fault: SettingsFault) -> Result<String, AllocError>
 fn output_text(alloc: Global, output: &Output) -> Result<String, AllocError> {
     format!(in alloc;
         "{} {} {:?} {}",
-        output.id, output.rate, output.nominal, output.time_base
+        output.id.value, output.rate, output.nominal, output.time_base
     )
 }
 
@@ -125,7 +125,7 @@ fn node_text(alloc: Global, settings: &NodeSettings) -> Result<String, AllocErro
 
 /// One node of the merger.
 fn merged_text(alloc: Global, node: &MergedNode, port: u16) -> Result<String, AllocError> {
-    format!(in alloc; ", {} {} {port}", node.id, node.time_base)
+    format!(in alloc; ", {} {} {port}", node.id.value, node.time_base)
 }
 
 /// What the merger is told.

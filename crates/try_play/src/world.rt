@@ -39,7 +39,7 @@ pub fn over_memory(alloc: Global, three: Three, script: &[u8]) -> io::Result<Vec
 
 /// A new mark on a disk in memory.
 fn new_mark(output: &Output) -> io::Result<DiskMark<MemoryDisk>> {
-    DiskMark::init(MemoryDisk::new(&[]), output.id, output.rate).map_err(|_| io::Error::other(
+    DiskMark::init(MemoryDisk::new(&[]), output.id.value, output.rate).map_err(|_| io::Error::other(
         "a mark is not made",
     ))
 }

@@ -4,8 +4,8 @@ ghost use Rattle.std.specs.Prelude.{◌≡◌, ◌+◌, ◌≤◌, if◌then◌e
 use crate::words::{counts_of, numbers};
 use arrayvec::ArrayVec;
 use pdc_life::{
-    MAX_PMUS, MAX_WAIT, MAX_WINDOW, MIN_WINDOW, MergedNode, MergerSettings, Pmu, Settings, Timing,
-    WaitKind,
+    MAX_PMUS, MAX_WAIT, MAX_WINDOW, MIN_WINDOW, MergedNode, MergerSettings, Pmu, Settings,
+    StreamId, Timing, WaitKind,
 };
 use pdc_output::{Nominal, Output};
 
@@ -21,30 +21,30 @@ pub const PLAIN_TIMING: Timing = Timing {
 };
 
 const PMU_11: Pmu = Pmu {
-    stream: 11,
+    stream: StreamId { value: 11 },
     source: 11,
     time_base: 1_000_000,
 };
 
 const PMU_12: Pmu = Pmu {
-    stream: 12,
+    stream: StreamId { value: 12 },
     source: 12,
     time_base: 1_000_000,
 };
 
 const PMU_13: Pmu = Pmu {
-    stream: 13,
+    stream: StreamId { value: 13 },
     source: 13,
     time_base: 1_000_000,
 };
 
 const NODE_201: MergedNode = MergedNode {
-    id: 201,
+    id: StreamId { value: 201 },
     time_base: 1_000_000,
 };
 
 const NODE_202: MergedNode = MergedNode {
-    id: 202,
+    id: StreamId { value: 202 },
     time_base: 1_000_000,
 };
 
@@ -58,7 +58,7 @@ pub fn node(timing: Timing, has_third: bool) -> Settings {
     }
     Settings {
         output: Output {
-            id: 201,
+            id: StreamId { value: 201 },
             rate: 50,
             nominal: Nominal::Hz50,
             time_base: 1_000_000,
@@ -75,7 +75,7 @@ pub fn merger(timing: Timing) -> MergerSettings {
     sources.push(12);
     MergerSettings {
         output: Output {
-            id: 301,
+            id: StreamId { value: 301 },
             rate: 50,
             nominal: Nominal::Hz50,
             time_base: 1_000_000,

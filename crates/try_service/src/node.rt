@@ -6,7 +6,7 @@ use crate::network::{connect, is_ended, listen, next_datagram, send};
 use crate::scripted::{Gauges, Paced, Watched};
 use pdc_cfg::read_config;
 use pdc_client::{ClientFault, Pdc};
-use pdc_frame::read_frame;
+use pdc_frame::{StreamId, read_frame};
 use pdc_life::Settings;
 use pdc_mark::ModelMark;
 use pdc_network::{UdpSink, UdpSource};
@@ -26,7 +26,7 @@ use std::time::Duration;
 use std::{io, thread};
 
 /// The stream of node A.
-const ID: u16 = 201;
+const ID: StreamId = StreamId { value: 201 };
 
 /// Node A of the worked scenarios: PMUs 11 and 12, at 50 frames a second. Its ports are not those of the settings.
 const SETTINGS: &str = "id = 201

@@ -1,7 +1,7 @@
 //! A simulated PMU.
 
 use crate::network::next_datagram;
-use pdc_frame::{Kind, read_frame};
+use pdc_frame::{Kind, StreamId, read_frame};
 use pdc_simulation::{Place, Simulated, simulate};
 use pdc_tag::instant;
 use std::alloc::Global;
@@ -45,7 +45,7 @@ fn print_frame<R: Print>(rt: &R, bytes: &[u8], before: Option<u64>) -> io::Resul
 pub fn play(rt: &HostRuntime, alloc: Global, port: u16, socket: &UdpSocket) -> io::Result<()> {
     println!(rt; "a simulated PMU")?;
     let simulated = Simulated {
-        id: 11,
+        id: StreamId { value: 11 },
         rate: RATE,
         count: 3,
         places: &[Place::Port(port)],

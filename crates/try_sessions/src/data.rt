@@ -1,9 +1,9 @@
 //! The data frames of a trial, and how they come to be kept.
 ghost use Rattle.std.specs.Prelude.{◌≡◌, ◌<◌, ◌≤◌};
-ghost use Rattle.pdc_frame.specs.declared.limits.TheConstants.{MAX_ID};
 ghost use Rattle.pdc_recent.specs.Stream.{stream_of};
 
 use arrayvec::ArrayVec;
+use pdc_frame::StreamId;
 use pdc_mark::ModelMark;
 use pdc_output::{Nominal, Output};
 use pdc_ports::MemorySink;
@@ -16,7 +16,7 @@ use std::sync::Wait;
 use std::sync::atomic::{AtomicU64, Ordering};
 
 /// The stream of node A.
-pub const ID: u16 = 201;
+pub const ID: StreamId = StreamId { value: 201 };
 
 /// How many bytes a data frame of a trial has: 14 before the payload, the own block, and the check word.
 pub const DATA_LEN: usize = 30;
@@ -25,9 +25,7 @@ pub const DATA_LEN: usize = 30;
 pub const START_PLACE: usize = 22;
 
 /// What the frames of a stream say.
-fn output_of(id: u16) -> Output
-    requires id_low { 0 < id }
-    requires id_high { id ≤ MAX_ID }
+fn output_of(id: StreamId) -> Output
     ensures { result.rate ≡ 50 }
 {
     Output {
@@ -44,10 +42,7 @@ pub fn node_a() -> Output {
 }
 
 /// The data frame of a row of this instant without blocks, whose start number is the instant.
-fn frame_of(id: u16, instant: u16) -> Published
-    requires id_low { 0 < id }
-    requires id_high { id ≤ MAX_ID }
-{
+fn frame_of(id: StreamId, instant: u16) -> Published {
     let output = output_of(id);
     let row = DueRow {
         instant: u64::from(instant),
@@ -70,12 +65,10 @@ pub fn send_data<N: Naming, R: Wait>(
     alloc: Global,
     recent: &Recent<N>,
     output: &Output,
-    id: u16,
+    id: StreamId,
     instant: u16,
 ) -> io::Result<()>
     requires named { N.stream ≡ stream_of output.now }
-    requires id_low { 0 < id }
-    requires id_high { id ≤ MAX_ID }
 {
     let unkept = AtomicU64::new(0);
     let inner = MemorySink::new(alloc);

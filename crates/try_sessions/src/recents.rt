@@ -3,6 +3,7 @@ ghost use Rattle.std.specs.Prelude.{◌≡◌};
 ghost use Rattle.pdc_recent.specs.Stream.{stream_of};
 
 use crate::data::{DATA_LEN, ID, START_PLACE, node_a, send_data};
+use pdc_frame::StreamId;
 use pdc_output::Output;
 use pdc_recent::{Naming, Recent};
 use std::alloc::Global;
@@ -36,7 +37,7 @@ fn play_named<N: Naming, R: Wait + Print>(rt: &R, alloc: Global, output: &Output
     for instant in 1..=300u16 {
         send_data(rt, alloc, &recent, output, ID, instant)?;
     }
-    send_data(rt, alloc, &recent, output, ID + 1, 301)?;
+    send_data(rt, alloc, &recent, output, StreamId { value: 202 }, 301)?;
     print_after(rt, alloc, &recent, 0)?;
     print_after(rt, alloc, &recent, 300)
 }

@@ -7,7 +7,7 @@ use super::vectors::{BOTH, ONE_ABSENT, OWN_END, OWN_HEAD, SECTIONS};
 use arrayvec::ArrayVec;
 use pdc_block::Block;
 use pdc_cfg::{SectionView, Shape, read_config};
-use pdc_frame::{Frame, Kind, read_frame};
+use pdc_frame::{Frame, Kind, StreamId, read_frame};
 use pdc_output::{MAX_PMU_SECTIONS, Nominal, Output, append_layout, append_row, own_section};
 use pdc_row::DueRow;
 use std::process::Abort;
@@ -28,7 +28,7 @@ const ABSENT: [u16; 5] = [0xA1F0, 0x8000, 0x8000, 0x8000, 0x8000];
 
 /// Node 201: 50 Hz, 50 frames a second and TIME_BASE 1000000.
 const NODE_201: Output = Output {
-    id: 201,
+    id: StreamId { value: 201 },
     rate: 50,
     nominal: Nominal::Hz50,
     time_base: 1_000_000,
@@ -96,7 +96,7 @@ fn layout_of_no_pmu(rt: HostRuntime) {
     let out = layout(&rt, 65538, &[], 1_149_577_200);
     is!(&rt; out.len(), 1094);
     let frame = read_frame(&out).expect(&rt, "a frame");
-    is!(&rt; (frame.kind, frame.version, frame.id), (Kind::Cfg2, 2, 201));
+    is!(&rt; (frame.kind, frame.version, frame.id.value), (Kind::Cfg2, 2, 201));
     is!(&rt; (frame.soc, frame.quality, frame.frac), (1_149_577_200, 0, 0));
     let config = read_config(&frame).expect(&rt, "a configuration");
     is!(&rt; config.sections.len(), 1);
@@ -122,7 +122,7 @@ fn layout_of_two_pmus(rt: HostRuntime) {
     let frame = Frame {
         kind: Kind::Cfg2,
         version: 2,
-        id: 1,
+        id: StreamId { value: 1 },
         soc: 0,
         quality: 0,
         frac: 0,

@@ -4,7 +4,7 @@ ghost use Rattle.std.specs.Prelude.{◌≡◌, IfOk, length};
 use super::same::is;
 use arrayvec::ArrayVec;
 use pdc_frame::FrameFault;
-use pdc_life::{MAX_PMUS, Outcome, Pmu, Refusal, Settings, Timing, WaitKind};
+use pdc_life::{MAX_PMUS, Outcome, Pmu, Refusal, Settings, StreamId, Timing, WaitKind};
 use pdc_node::{Core, Node};
 use pdc_output::{Nominal, Output};
 use pdc_table::{RingTable, Table};
@@ -14,7 +14,7 @@ use try_table::SortedTable;
 
 /// What node 201 says of itself.
 const OUTPUT: Output = Output {
-    id: 201,
+    id: StreamId { value: 201 },
     rate: 50,
     nominal: Nominal::Hz50,
     time_base: 1_000_000,
@@ -26,7 +26,7 @@ fn settings() -> Settings
 {
     let mut pmus = ArrayVec::new();
     pmus.push(Pmu {
-        stream: 11,
+        stream: StreamId { value: 11 },
         source: 11,
         time_base: 1_000_000,
     });

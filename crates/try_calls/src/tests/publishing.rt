@@ -7,13 +7,13 @@ use arrayvec::ArrayVec;
 use pdc_block::Block;
 use pdc_cfg::Shape;
 use pdc_mark::{Mark, ModelMark};
-use pdc_output::{Nominal, Output};
+use pdc_output::{Nominal, Output, StreamId};
 use pdc_publisher::{PublishFault, Publisher, spare_frame};
 use pdc_row::DueRow;
 
 /// Node 201: 50 Hz, 50 frames a second and TIME_BASE 1000000.
 const NODE_201: Output = Output {
-    id: 201,
+    id: StreamId { value: 201 },
     rate: 50,
     nominal: Nominal::Hz50,
     time_base: 1_000_000,

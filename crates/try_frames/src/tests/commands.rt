@@ -4,7 +4,7 @@ ghost use Rattle.std.specs.Prelude.{◌<◌, ◌≤◌, length};
 use super::same::is;
 use super::vectors::DATA_ON;
 use pdc_command::*;
-use pdc_frame::{Frame, Kind, MAX_ID, read_frame};
+use pdc_frame::{Frame, Kind, MAX_ID, StreamId, read_frame};
 use std::alloc::{AllocError, Global};
 use std::test::*;
 
@@ -24,7 +24,12 @@ fn command_read(rt: HostRuntime) -> Result<(), Fail> {
 #[test]
 fn command_written(rt: HostRuntime) -> Result<(), Fail> {
     let mut out = Vec::new(rt.alloc());
-    write_command(201, 1_149_577_200, Command::SendCfg2, &mut out)?;
+    write_command(
+        StreamId { value: 201 },
+        1_149_577_200,
+        Command::SendCfg2,
+        &mut out,
+    )?;
     is!(&rt; out.as_slice(), SEND_CFG2.as_slice());
     Ok(())
 }
@@ -41,7 +46,7 @@ fn frame_of(kind: Kind, payload: &[u8]) -> Frame<'_>
     Frame {
         kind,
         version: 2,
-        id: 201,
+        id: StreamId { value: 201 },
         soc: 0,
         quality: 0,
         frac: 0,
@@ -75,11 +80,11 @@ fn faults_in_order(rt: HostRuntime) {
 #[test]
 fn header_written_and_read(rt: HostRuntime) -> Result<(), Fail> {
     let mut out = Vec::new(rt.alloc());
-    write_header(201, 0, b"PDC 00201", &mut out)?;
+    write_header(StreamId { value: 201 }, 0, b"PDC 00201", &mut out)?;
     is!(&rt; out.len(), 25);
     let frame = read_frame(&out)?;
     is!(&rt; frame.kind, Kind::HeaderFrame);
-    is!(&rt; frame.id, 201);
+    is!(&rt; frame.id.value, 201);
     is!(&rt; read_header(&frame), Ok(b"PDC 00201".as_slice()));
     Ok(())
 }
@@ -103,16 +108,13 @@ fn fault_texts(rt: HostRuntime) -> Result<(), Fail> {
 
 /// A command that is written and read back. The prover sees that no arm is left out and that the commands are equal, by
 /// the contracts alone.
-fn read_back(alloc: Global, id: u16, soc: u32, command: Command) -> Result<(), AllocError>
-    requires id_low { 0 < id }
-    requires id_high { id ≤ MAX_ID }
-{
+fn read_back(alloc: Global, id: StreamId, soc: u32, command: Command) -> Result<(), AllocError> {
     let mut out = Vec::new(alloc);
     write_command(id, soc, command, &mut out)?;
     let Ok(frame) = read_frame(&out) else {
         unreachable!()
     };
-    prove_eq!(frame.id, id);
+    prove_eq!(frame.id.value, id.value);
     let Ok(read) = read_command(&frame) else {
         unreachable!()
     };
@@ -123,8 +125,8 @@ fn read_back(alloc: Global, id: u16, soc: u32, command: Command) -> Result<(), A
 #[test]
 fn commands_are_read_back(rt: HostRuntime) -> Result<(), Fail> {
     for command in [Command::DataOff, Command::DataOn, Command::SendHeader] {
-        read_back(rt.alloc(), 1, 0, command)?;
-        read_back(rt.alloc(), MAX_ID, u32::MAX, command)?;
+        read_back(rt.alloc(), StreamId { value: 1 }, 0, command)?;
+        read_back(rt.alloc(), StreamId { value: MAX_ID }, u32::MAX, command)?;
     }
     Ok(())
 }

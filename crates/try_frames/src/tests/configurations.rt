@@ -2,7 +2,7 @@
 
 use super::same::is;
 use pdc_cfg::{CfgFault, SectionView, read_config};
-use pdc_frame::{Frame, Kind, MAX_PAYLOAD, read_frame};
+use pdc_frame::{Frame, Kind, MAX_PAYLOAD, StreamId, read_frame};
 use std::alloc::{AllocError, Global};
 use std::process::Abort;
 use std::test::Fail;
@@ -67,7 +67,7 @@ fn fault_of(format: u8, phasors: u8, rest: usize, alloc: Global) -> Result<Optio
     let frame = Frame {
         kind: Kind::Cfg2,
         version: 2,
-        id: 11,
+        id: StreamId { value: 11 },
         soc: 0,
         quality: 0,
         frac: 0,

@@ -60,7 +60,7 @@ fn fields_of_a_command(rt: HostRuntime) -> Result<(), Fail> {
     let frame = read_frame(&DATA_ON).ok().ok_or("it is a frame")?;
     is!(&rt; frame.kind, Kind::CommandFrame);
     is!(&rt; frame.version, 1);
-    is!(&rt; frame.id, 7734);
+    is!(&rt; frame.id.value, 7734);
     is!(&rt; frame.soc, 0x4485_6030);
     is!(&rt; frame.quality, 0x0F);
     is!(&rt; frame.frac, 770_000);

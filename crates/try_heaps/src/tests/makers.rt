@@ -7,11 +7,14 @@ use crate::tests::vectors::{CONFIG_11, DATA_11, DATA_ON, HEADER, SEND_HEADER, SO
 use linked_list_allocator::LocalHeap;
 use pdc_cfg::read_config;
 use pdc_client::Pdc;
-use pdc_frame::{Framer, Step, read_frame};
+use pdc_frame::{Framer, Step, StreamId, read_frame};
 use pdc_session::{Serving, Session};
 use std::io;
 use std::io::{Read, Write};
 use std::test::*;
+
+/// The stream that sessions and clients are of.
+const STREAM: StreamId = StreamId { value: 11 };
 
 /// How many sizes of heaps there are above the smallest: up to some blocks more than a client wants.
 const SIZES: usize = 4400;
@@ -51,7 +54,7 @@ fn session_on_falling_heaps(rt: HostRuntime) -> Result<(), Fail> {
     for step in 0..=SIZES {
         let size = BLOCK * (SIZES - step);
         let heap = LocalHeap::new(rt.alloc(), size)?;
-        falling.see(&rt, size, Session::new(&heap, 11).is_ok());
+        falling.see(&rt, size, Session::new(&heap, STREAM).is_ok());
     }
     falling.ends_at(&rt, FRAMER);
     Ok(())
@@ -60,7 +63,7 @@ fn session_on_falling_heaps(rt: HostRuntime) -> Result<(), Fail> {
 #[test]
 fn session_on_the_smallest_heap(rt: HostRuntime) -> Result<(), Fail> {
     let heap = LocalHeap::new(rt.alloc(), FRAMER)?;
-    let mut session = Session::new(&heap, 11)?;
+    let mut session = Session::new(&heap, STREAM)?;
     let frame = read_frame(&CONFIG_11)?;
     let serving = Serving {
         soc: SOC,
@@ -105,7 +108,7 @@ fn client_on_falling_heaps(rt: HostRuntime) -> Result<(), Fail> {
     for step in 0..=SIZES {
         let size = BLOCK * (SIZES - step);
         let heap = LocalHeap::new(rt.alloc(), size)?;
-        falling.see(&rt, size, Pdc::new(&heap, 11, Line::default()).is_ok());
+        falling.see(&rt, size, Pdc::new(&heap, STREAM, Line::default()).is_ok());
     }
     falling.ends_at(&rt, CLIENT);
     Ok(())
@@ -114,7 +117,7 @@ fn client_on_falling_heaps(rt: HostRuntime) -> Result<(), Fail> {
 #[test]
 fn client_on_the_smallest_heap(rt: HostRuntime) -> Result<(), Fail> {
     let heap = LocalHeap::new(rt.alloc(), CLIENT)?;
-    let mut client = Pdc::new(&heap, 11, Line::default())?;
+    let mut client = Pdc::new(&heap, STREAM, Line::default())?;
     let data = client.get(rt.alloc())?;
     same(&rt, &data.as_slice(), &DATA_11.as_slice(), CLIENT);
     Ok(())
@@ -123,10 +126,10 @@ fn client_on_the_smallest_heap(rt: HostRuntime) -> Result<(), Fail> {
 #[test]
 fn client_without_memory_for_an_answer(rt: HostRuntime) -> Result<(), Fail> {
     let heap = LocalHeap::new(rt.alloc(), CLIENT)?;
-    let mut client = Pdc::new(&heap, 11, Line::default())?;
+    let mut client = Pdc::new(&heap, STREAM, Line::default())?;
     same(&rt, &client.get(&heap).is_err(), &true, CLIENT);
     let heap = LocalHeap::new(rt.alloc(), CLIENT + 2 * BLOCK)?;
-    let mut client = Pdc::new(&heap, 11, Line::default())?;
+    let mut client = Pdc::new(&heap, STREAM, Line::default())?;
     let data = client.get(&heap)?;
     same(
         &rt,

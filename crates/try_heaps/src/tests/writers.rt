@@ -7,7 +7,7 @@ use linked_list_allocator::LocalHeap;
 use pdc_block::{join, read_body};
 use pdc_cfg::{Shape, read_config, write_config};
 use pdc_command::{Command, write_command, write_header};
-use pdc_frame::{Frame, Kind, read_frame, write_frame};
+use pdc_frame::{Frame, Kind, StreamId, read_frame, write_frame};
 use std::process::Abort;
 use std::test::*;
 
@@ -49,7 +49,7 @@ fn write_frame_refused(rt: HostRuntime) -> Result<(), Fail> {
     let frame = Frame {
         kind: Kind::DataFrame,
         version: 2,
-        id: 201,
+        id: StreamId { value: 201 },
         soc: 0,
         quality: 0,
         frac: 0,
@@ -73,7 +73,7 @@ fn write_header_refused(rt: HostRuntime) -> Result<(), Fail> {
     for size in SIZES {
         let heap = LocalHeap::new(rt.alloc(), size)?;
         let mut out = Vec::from_slice(&heap, &BEFORE)?;
-        let refused = write_header(201, 0, &text, &mut out).is_err();
+        let refused = write_header(StreamId { value: 201 }, 0, &text, &mut out).is_err();
         seen.see(&rt, size, refused, &out, 3 + 616);
     }
     seen.saw_both(&rt);
@@ -86,7 +86,12 @@ fn write_command_refused(rt: HostRuntime) -> Result<(), Fail> {
     for size in SIZES {
         let heap = LocalHeap::new(rt.alloc(), size)?;
         let mut out = Vec::from_slice(&heap, &BEFORE)?;
-        let refused = write_command(201, 0, Command::SendCfg2, &mut out).is_err();
+        let refused = write_command(
+            StreamId { value: 201 },
+            0,
+            Command::SendCfg2,
+            &mut out,
+        ).is_err();
         seen.see(&rt, size, refused, &out, 3 + 18);
     }
     seen.saw_both(&rt);

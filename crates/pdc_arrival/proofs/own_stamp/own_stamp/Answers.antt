@@ -7,7 +7,7 @@ use Rattle.pdc_arrival.proofs.own_stamp.own_stamp.Goals as goal
 
 pub returns-else-is_own : goal.returns-else-is_own
 returns-else-is_own c stamp own =
-    let id = c.args.node.now.id in
+    let id = c.args.node.now.id.value in
     let bytes = c.args.bytes.now in
     let found = c.stamp_in-stamp.result in
     let spelled : (bytes ≡ own_bytes id Hz50 found.start found.change) ⊎ (bytes ≡ own_bytes id Hz60 found.start found.change) =

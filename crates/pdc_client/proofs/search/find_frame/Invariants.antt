@@ -6,7 +6,7 @@ use Rattle.pdc_client.proofs.search.find_frame.Given as goal
 
 abbrev pub invariant-loop : goal.invariant-loop
 invariant-loop g l = record {
-  passes : PassesOver l.id l.kind l.counter l.initial.framer l.initial.unread (g.R.Read.remaining (inner_of l.initial.reader)) l.framer l.unread (g.R.Read.remaining (inner_of l.reader));
+  passes : PassesOver l.id.value l.kind l.counter l.initial.framer l.initial.unread (g.R.Read.remaining (inner_of l.initial.reader)) l.framer l.unread (g.R.Read.remaining (inner_of l.reader));
   few : l.reads ≤ l.initial.reads;
   counted : reads_of l.reader ≡ reads_after (l.initial.reads - l.reads) (reads_of l.initial.reader);
   whole : faults_of l.reader ≡ faults_of l.initial.reader;

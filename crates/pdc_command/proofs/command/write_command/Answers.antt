@@ -6,5 +6,5 @@ use Rattle.pdc_command.proofs.command.write_command.Goals as goal
 
 pub returns-clause-ok : goal.returns-clause-ok
 returns-clause-ok g c =
-    subst (λ (payload : List ℕ). OnOk c.write_frame.result (g.B.Buffer.content c.write_frame.new.out ≡ g.B.Buffer.content c.args.out.now ++ spelling_of (record { kind = CommandFrame; version = 2; id = c.args.id; soc = c.args.soc; quality = 0; frac = 0; payload = payload })))
+    subst (λ (payload : List ℕ). OnOk c.write_frame.result (g.B.Buffer.content c.write_frame.new.out ≡ g.B.Buffer.content c.args.out.now ++ spelling_of (record { kind = CommandFrame; version = 2; id = c.args.id.value; soc = c.args.soc; quality = 0; frac = 0; payload = payload })))
     c.cmd_bytes-payload.ensures c.write_frame.ensures.ok

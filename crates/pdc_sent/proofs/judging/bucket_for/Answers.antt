@@ -24,7 +24,7 @@ returns-in-Some-told_by-clause-fits c =
     let is : IsOfPmu c.args.settings.now p c.in-Some.pmu.now c.args.bytes.now = c.in-Some.ensures.pmu.1 in
     let t : ToldView = told_view c.in-Some-told_by.told in
     both_ok c.bucket_of_told.result (HasToldAtMost c.args.settings.now c.args.frames.now.frames c.in-Some.pmu.now t.key t.content)
-    (λ bucket. bucket ≡ bucket_under c.in-Some.pmu.now.stream t.key) (Fits c.args.settings.now c.args.frames.now.frames c.args.bytes.now)
+    (λ bucket. bucket ≡ bucket_under c.in-Some.pmu.now.stream.value t.key) (Fits c.args.settings.now c.args.frames.now.frames c.args.bytes.now)
     (λ bucket most at. fits_told c.frames_are_read_in_one_way.ensures.same c.args.settings.now c.args.frames.now.frames p c.in-Some.pmu.now c.args.bytes.now bucket t is c.in-Some-told_by.ensures.only most at)
     (c.bucket_of_told.ensures.same p is.listed) c.bucket_of_told.ensures.bucket
 

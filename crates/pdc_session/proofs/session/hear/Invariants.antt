@@ -7,7 +7,7 @@ abbrev pub invariant-loop-at : goal.invariant-loop-at
 invariant-loop-at g l = record {
   within : l.at ≤ length l.piece;
   good : IsBad l.framer.step → ⊥;
-  answered : HasAnswered l.id l.serving (take l.at l.piece) l.initial.framer l.initial.told (g.B.Buffer.content l.initial.out) l.framer l.told (g.B.Buffer.content l.out);
+  answered : HasAnswered l.id.value l.serving (take l.at l.piece) l.initial.framer l.initial.told (g.B.Buffer.content l.initial.out) l.framer l.told (g.B.Buffer.content l.out);
   in_place : length (g.B.Buffer.content l.out) ≤ g.B.Buffer.capacity l.initial.out → g.B.Buffer.capacity l.out ≡ g.B.Buffer.capacity l.initial.out;
 }
 

@@ -12,7 +12,7 @@ answer_data-outcome-requires-clause-ready g c = is_ready (length c.self.inside.s
 pub invariant_of-self : goal.invariant_of-self
 invariant_of-self g c =
     is_whole (length c.self.inside.settings.sources.items) c.self.inside.alignment.state c.answer_data-outcome.new.alignment.state c.self.inside.layouts c.self.inside.layouts
-    c.answer_data-outcome.ensures.sizes (is_ready (length c.self.inside.settings.sources.items) c.self.inside.alignment.state c.self.inside.layouts c.self.invariant).in_place c.self.invariant
+    c.answer_data-outcome.ensures.unchanged.sizes (is_ready (length c.self.inside.settings.sources.items) c.self.inside.alignment.state c.self.inside.layouts c.self.invariant).in_place c.self.invariant
 
 pub returns-clause-stands : goal.returns-clause-stands
 returns-clause-stands g c h E bytes reads before =

@@ -21,7 +21,7 @@ answer-outcome-requires-clause-ready g c = is_ready (length c.self.inside.settin
 pub invariant_of-self : goal.invariant_of-self
 invariant_of-self g c =
     is_whole (length c.self.inside.settings.sources.items) c.self.inside.alignment.state c.answer-outcome.new.alignment.state c.self.inside.layouts c.answer-outcome.new.layouts
-    c.answer-outcome.ensures.sizes c.answer-outcome.ensures.in_place c.self.invariant
+    c.answer-outcome.ensures.unchanged.sizes c.answer-outcome.ensures.in_place c.self.invariant
 
 pub returns-clause-stands : goal.returns-clause-stands
 returns-clause-stands g c h E bytes reads before =

@@ -13,7 +13,7 @@ answer_data-outcome-requires g c =
 
 pub invariant_of-self : goal.invariant_of-self
 invariant_of-self g c =
-    same_sizes (length c.self.inside.settings.pmus.items) 1 c.self.inside.alignment.state c.answer_data-outcome.new.alignment.state c.answer_data-outcome.ensures.sizes c.self.invariant
+    same_sizes (length c.self.inside.settings.pmus.items) 1 c.self.inside.alignment.state c.answer_data-outcome.new.alignment.state c.answer_data-outcome.ensures.unchanged.sizes c.self.invariant
 
 pub returns-clause-stands : goal.returns-clause-stands
 returns-clause-stands g c h E bytes reads before =

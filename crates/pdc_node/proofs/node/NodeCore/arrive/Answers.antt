@@ -18,7 +18,7 @@ answer-outcome-requires-clause-own g c = passed_own c.args.self.now.settings c.a
 
 pub invariant_of-self : goal.invariant_of-self
 invariant_of-self g c =
-    same_sizes (length c.self.inside.settings.pmus.items) 1 c.self.inside.alignment.state c.answer-outcome.new.alignment.state c.answer-outcome.ensures.sizes c.self.invariant
+    same_sizes (length c.self.inside.settings.pmus.items) 1 c.self.inside.alignment.state c.answer-outcome.new.alignment.state c.answer-outcome.ensures.unchanged.sizes c.self.invariant
 
 pub returns-clause-stands : goal.returns-clause-stands
 returns-clause-stands g c h E bytes reads before =

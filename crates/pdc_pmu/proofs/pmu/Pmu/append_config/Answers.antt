@@ -18,10 +18,10 @@ next g c =
     (c.config_of-config.ensures.sections ∙ ap (λ (t : SectionFields). t ∷ []) (c.renamed-next.ensures ∙ ap (λ (p : PmuView). renamed p.id (p.count + 1) s) c.self.view_is))
     c.config_of-config.ensures.rate
 
-same : (g : given.Over) (c : goal.After-write_config g) → config_frame_of Cfg2 c.self.inside.id c.args.soc (config_fields_of c.config_of-config.result)
+same : (g : given.Over) (c : goal.After-write_config g) → config_frame_of Cfg2 c.self.inside.id.value c.args.soc (config_fields_of c.config_of-config.result)
     ≡ config_frame_of Cfg2 c.args.self.now.id c.args.soc (next_config c.args.self.now (fields_of_view c.args.section.now))
 same g c =
-    ap (config_frame_of Cfg2 c.self.inside.id c.args.soc) (next g c) ∙ ap (λ (p : PmuView). config_frame_of Cfg2 p.id c.args.soc (next_config c.args.self.now (fields_of_view c.args.section.now))) c.self.view_is
+    ap (config_frame_of Cfg2 c.self.inside.id.value c.args.soc) (next g c) ∙ ap (λ (p : PmuView). config_frame_of Cfg2 p.id c.args.soc (next_config c.args.self.now (fields_of_view c.args.section.now))) c.self.view_is
 
 pub returns-clause-ok : goal.returns-clause-ok
 returns-clause-ok g c =
