@@ -1,3 +1,4 @@
+pub mod AgesKept
 pub mod Blank
 pub mod CallLaws
 pub mod Due

@@ -1,5 +1,5 @@
 -- Rows with the ages that are kept beside them.
-use Rattle.std.proofs.Common.{◌≡◌, ℕ, ◌%◌, ◌<◌, Bool, true, false, if◌then◌else◌, eqb, List, [], ◌∷◌, length, get_or, set, map, refl, sym, ◌∙◌, ap, subst, arith, Some, None, zero, suc, inl, inr}
+use Rattle.std.proofs.Common.{◌≡◌, ℕ, ◌%◌, ◌<◌, Bool, true, false, if◌then◌else◌, eqb, List, [], ◌∷◌, length, get_or, set, map, refl, sym, ◌∙◌, ap, subst, arith, Some, None, zero, suc}
 use Rattle.std.proofs.Math.Nat.{mod-lt}
 use Rattle.std.specs.List.{All}
 use Rattle.std.specs.Option.{unwrap_or}
@@ -8,7 +8,7 @@ use Rattle.std.proofs.lemmas.List.{length-map, length-set}
 use Rattle.pdc_row.specs.CellView.{CellView}
 use Rattle.pdc_table.specs.Closing.{aged}
 use Rattle.pdc_table.specs.Layout.{LayoutView}
-use Rattle.pdc_table.specs.RingRows.{at_age, base_row, changed, closed_rows, met_row, HaveGrown, grown, older, row_in, rows_in, with_ages}
+use Rattle.pdc_table.specs.RingRows.{at_age, base_row, changed, closed_rows, met_row, older, row_in, rows_in, with_ages}
 use Rattle.pdc_table.specs.Steps.{answer_at, disagreements_in, is_taken}
 use Rattle.pdc_table.specs.Taking.{with_frame}
 use Rattle.pdc_table.specs.Content.{HasPlaces}
@@ -57,34 +57,6 @@ older_rows (row ∷ rows) (age ∷ ages) = rw (older_rows rows ages) refl
 
 pub older_length : (ages now : List ℕ) (window : ℕ) → now ≡ map older ages → length ages ≡ window → length now ≡ window
 older_length ages now window e k = ap length e ∙ length-map ages older ∙ k
-
-grown_length : (window : ℕ) (is ages : List ℕ) → length (grown window is ages) ≡ length ages
-grown_length window [] ages = refl
-grown_length window (i ∷ is) ages = grown_length window is (set ages (i % window) (older (get_or ages (i % window) 0))) ∙ length-set ages (i % window) (older (get_or ages (i % window) 0))
-
-pub grew_length : (window : ℕ) (is ages now : List ℕ) → HaveGrown window is ages now → length ages ≡ window → length now ≡ window
-grew_length window is ages now h k = elim h [
-  | inl e ↦ older_length ages now window e k
-  | inr e ↦ ap length e ∙ grown_length window is ages ∙ k
-]
-
--- a row whose age is this, a tick older
-grown_row : (a : ℕ) (row base : OpenRowView) → row ≡ at_age a base → at_age (older a) row ≡ aged row
-grown_row a row base e = ap (at_age (older a)) e ∙ sym (ap aged e)
-
-set_age : (places : List OpenRowView) (ages : List ℕ) (k a : ℕ) → length ages ≡ length places → k < length places → with_ages places (set ages k a) ≡ set (with_ages places ages) k (at_age a (get_or (with_ages places ages) k (blank_row 0 0 0)))
-set_age [] ages k a e h = absurd (omega arith)
-set_age (r ∷ rs) [] k a e h = absurd (omega arith)
-set_age (r ∷ rs) (age ∷ ages) zero a e h = refl
-set_age (r ∷ rs) (age ∷ ages) (suc k) a e h = ap (λ xs. at_age age r ∷ xs) (set_age rs ages k a (omega arith) (omega arith))
-
--- one more tick at the places of these instants
-pub grown_rows : (window : ℕ) (is : List ℕ) (places : List OpenRowView) (ages : List ℕ) → 0 < window → length places ≡ window → length ages ≡ window → with_ages places (grown window is ages) ≡ changed aged window is (with_ages places ages)
-grown_rows window [] places ages h e k = refl
-grown_rows window (i ∷ is) places ages h e k =
-    grown_rows window is places (set ages (i % window) (older (get_or ages (i % window) 0))) h e (length-set ages (i % window) (older (get_or ages (i % window) 0)) ∙ k)
-    ∙ ap (changed aged window is) (set_age places ages (i % window) (older (get_or ages (i % window) 0)) (omega arith) (omega (arith, mod-lt i h))
-    ∙ ap (set (with_ages places ages) (i % window)) (grown_row (get_or ages (i % window) 0) (row_in (with_ages places ages) window i) (row_in places window i) (aged_row places ages window i h e k)))
 
 map_at : (f : OpenRowView → OpenRowView) (rows : List OpenRowView) (k : ℕ) (d e : OpenRowView) → k < length rows → get_or (map f rows) k d ≡ f (get_or rows k e)
 map_at f [] k d e h = absurd (omega arith)

@@ -1,3 +1,4 @@
+pub mod AgesView
 pub mod Calls
 pub mod Chosen
 pub mod Closing

@@ -25,7 +25,7 @@ abbrev pub view_of : Inside → TableView
 view_of t = record {
   content = content_of t;
   disagreements = t.closed.disagree;
-  memory = vec_capacity t.rows.places ∷ vec_capacity t.rows.ages ∷ vec_capacity t.closed.layouts ∷ vec_capacity t.rows.open ∷ deque_capacity t.closed.instants ∷ [];
+  memory = vec_capacity t.rows.places ∷ t.rows.ages.capacity ∷ vec_capacity t.closed.layouts ∷ vec_capacity t.rows.open ∷ deque_capacity t.closed.instants ∷ [];
 }
 
 -- There is a place for each instant of the window, and room for each instant that can be held. At the place of an instant that

@@ -1,5 +1,5 @@
 -- Rows that stand at the places of their instants.
-use Rattle.std.specs.Prelude.{◌≡◌, ◌⊎◌, ℕ, ◌+◌, ◌%◌, ◌==◌, List, [], ◌∷◌, length, map, slice_index_or, slice_set, Option, Some, None, if◌then◌else◌}
+use Rattle.std.specs.Prelude.{ℕ, ◌+◌, ◌%◌, ◌==◌, List, [], ◌∷◌, length, map, slice_index_or, slice_set, Option, Some, None, if◌then◌else◌}
 use Rattle.std.specs.Option.{unwrap_or}
 use Rattle.pdc_row.specs.RowView.{RowView}
 use Rattle.pdc_table.specs.Closing.{counter}
@@ -20,15 +20,6 @@ with_ages (row ∷ rows) (age ∷ ages) = at_age age row ∷ with_ages rows ages
 -- an age after one more tick
 abbrev pub older : ℕ → ℕ
 older age = counter (age + 1)
-
--- the ages after one more tick for each of these instants, at its place
-abbrev pub grown : (window : ℕ) → List ℕ → List ℕ → List ℕ
-grown window [] ages = ages
-grown window (i ∷ instants) ages = grown window instants (slice_set ages (i % window) (older (slice_index_or ages (i % window) 0)))
-
--- One more tick was counted for each of the open instants, and else at each place or at none: no other age is looked at.
-abbrev pub HaveGrown : (window : ℕ) → (opened : List ℕ) → (ages now : List ℕ) → Type 0
-HaveGrown window opened ages now = (now ≡ map older ages) ⊎ (now ≡ grown window opened ages)
 
 -- the row at the place of an instant
 abbrev pub row_in : List OpenRowView → (window i : ℕ) → OpenRowView

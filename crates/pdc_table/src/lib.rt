@@ -9,6 +9,7 @@
 //! it holds the first block taken for each column, and that no call but `new` takes memory.
 #![tactic(auto)]
 
+mod ages;
 mod circle;
 mod closing_layout;
 mod column;

@@ -4,17 +4,18 @@
 //! window 8, open 13 14 18     place  0  1  2  3  4  5  6  7
 //!                             row          18       13 14
 //! ```
-ghost use Rattle.std.specs.Prelude.{◌≡◌, ℕ, ◌+◌, ◌%◌, ◌==◌, ◌<◌, ◌≤◌, ◌++◌, length, map, nat_lt, replicate, IfOk, slice_set, true, vec_len, if◌then◌else◌};
+ghost use Rattle.std.specs.Prelude.{◌≡◌, ℕ, ◌+◌, ◌%◌, ◌==◌, ◌<◌, ◌≤◌, ◌++◌, length, nat_lt, replicate, IfOk, slice_set, true, vec_len, if◌then◌else◌};
 ghost use Rattle.std.specs.List.{All, AllByRecursion, list_all, list_any, prefix_len, slice_get};
 ghost use Rattle.std.specs.Vec.{vec_capacity};
 ghost use Rattle.pdc_row.specs.Rising.{AreNear, Rises, highest_of, is_near, place};
 ghost use Rattle.pdc_table.specs.Closing.{counter, is_due};
 ghost use Rattle.pdc_table.specs.Layout.{layout_view};
-ghost use Rattle.pdc_table.specs.RingRows.{HaveGrown, base_row, changed, grown, met_row, older, row_in, rows_in, with_ages};
+ghost use Rattle.pdc_table.specs.RingRows.{base_row, changed, met_row, row_in, rows_in, with_ages};
 ghost use Rattle.pdc_table.specs.Steps.{answer_at, disagreements_in, is_taken};
 ghost use Rattle.pdc_table.specs.Taking.{cells_in, with_frame, without_column, without_stream};
 ghost use Rattle.pdc_table.specs.Views.{OpenRowView, blank_row};
 
+use crate::ages::Ages;
 use crate::circle::Circle;
 use crate::front::is_near;
 use crate::open_row::{OpenRow, Places};
@@ -28,8 +29,8 @@ use std::collections::VecDeque;
 pub struct Rows {
     /// The row of an instant that is held stands at its place.
     pub places: Vec<OpenRow>,
-    /// At the same place stands the age of an open row, in ticks.
-    pub ages: Vec<u64>,
+    /// At the same place stands the age of an open row.
+    pub ages: Ages,
     /// The open instants, in rising order.
     pub open: Vec<u64>,
 }
@@ -89,44 +90,6 @@ fn highest(open: &[u64], closed: &VecDeque<u64>) -> Option<u64>
         (Some(instant), _) => Some(*instant),
         (None, Some(instant)) => Some(*instant),
         (None, None) => None,
-    }
-}
-
-/// One open instant for so many places, or fewer, are few: their places are looked for, and the others passed over.
-const FEW: u64 = 16;
-
-/// Counts one more tick for each open instant.
-pub fn grow_older(ages: &mut Vec<u64>, circle: &Circle, open: &[u64])
-    requires size { length ages.old.items ≡ circle.now.window }
-    ensures grown { HaveGrown circle.now.window open.now ages.old.items ages.new.items }
-    ensures capacity { vec_capacity ages.new ≡ vec_capacity ages.old }
-{
-    if (open.len() as u64) <= circle.window / FEW {
-        grow_open(ages, circle, open);
-    } else {
-        grow_all(ages);
-    }
-}
-
-/// Counts one more tick at the place of each of these instants.
-fn grow_open(ages: &mut Vec<u64>, circle: &Circle, open: &[u64])
-    requires size { length ages.old.items ≡ circle.now.window }
-    ensures items { ages.new.items ≡ grown circle.now.window open.now ages.old.items }
-    ensures capacity { vec_capacity ages.new ≡ vec_capacity ages.old }
-{
-    for instant in open {
-        let place = circle.place_of(*instant);
-        ages[place] = ages[place].saturating_add(1);
-    }
-}
-
-/// Counts one more tick at each place.
-fn grow_all(ages: &mut Vec<u64>)
-    ensures items { ages.new.items ≡ map older ages.old.items }
-    ensures capacity { vec_capacity ages.new ≡ vec_capacity ages.old }
-{
-    for age in ages.iter_mut() {
-        *age = age.saturating_add(1);
     }
 }
 
@@ -214,14 +177,14 @@ impl Rows {
             then self.old.ages.items else slice_set self.old.ages.items (here.now.instant % here.now.window) 0) }
         ensures open { self.new.open.items ≡ (if (row_in self.old.places.items here.now.window here.now.instant).instant == here.now.instant
             then self.old.open.items else place here.now.instant self.old.open.items) }
-        ensures ages_capacity { vec_capacity self.new.ages ≡ vec_capacity self.old.ages }
+        ensures ages_capacity { self.new.ages.capacity ≡ self.old.ages.capacity }
         ensures capacity { vec_capacity self.new.places ≡ vec_capacity self.old.places }
         ensures open_capacity { vec_capacity self.new.open ≡ vec_capacity self.old.open }
     {
         let row = &mut self.places[here.place];
         if row.instant() != here.instant {
             row.begin(here.instant);
-            self.ages[here.place] = 0;
+            self.ages.begin(here.place);
             open_instant(&mut self.open, here.instant);
         }
         row.offer(stream, lane, cells, quality)
@@ -238,7 +201,7 @@ pub fn count_due(rows: &Rows, circle: &Circle, required: &[bool], rule: WaitRule
     let mut count = 0;
     for instant in rows.open.as_slice() {
         let place = circle.place_of(*instant);
-        if !rows.places[place].is_due(rows.ages[place], required, rule) {
+        if !rows.places[place].is_due(rows.ages.at(place), required, rule) {
             return count;
         }
         count += 1;

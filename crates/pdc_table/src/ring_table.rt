@@ -4,6 +4,7 @@ ghost use Rattle.pdc_table.specs.Content.{HasSizesOf, IsContent, IsPut};
 ghost use Rattle.pdc_table.specs.Steps.{after_put, put_answer};
 ghost use Rattle.pdc_table.specs.Taking.{cells_in};
 
+use crate::ages::Ages;
 use crate::circle::Circle;
 use crate::open_row::Places;
 use crate::ring::Rows;
@@ -106,7 +107,7 @@ impl Table for RingTable {
             },
             rows: Rows {
                 places: ring::new_places(alloc, room, Places { streams, columns })?,
-                ages: vec![in alloc; 0; room]?,
+                ages: Ages::new(alloc, room)?,
                 open: Vec::with_capacity(alloc, room)?,
             },
             closed: Closed {
@@ -151,7 +152,7 @@ impl Table for RingTable {
             closed,
             ..
         } = self;
-        ring::grow_older(&mut rows.ages, circle, &rows.open);
+        rows.ages.grow_older();
         let count = closed.close_due(rows, circle, required.as_slice(), rule, layout);
         remove_front(&mut rows.open, count);
         count as u32

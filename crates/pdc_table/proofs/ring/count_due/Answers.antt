@@ -21,10 +21,10 @@ ends : (b : Bool) (n m count total : ℕ) → n ≡ (if b then 1 + m else 0) →
 ends true n m count total e k t = cc
 ends false n m count total e k t = omega arith
 
-due_at : (required : List Bool) (rule : WaitRule) (places : List OpenRowView) (ages : List ℕ) (window i place age : ℕ) (row : OpenRowView) (result : Bool) → 0 < window → length places ≡ window → length ages ≡ window → place ≡ i % window → row ≡ get_or places place row → age ≡ get_or ages place age → result ≡ is_due required rule (at_age age row) → is_due required rule (row_in (with_ages places ages) window i) ≡ result
+due_at : (required : List Bool) (rule : WaitRule) (places : List OpenRowView) (ages : List ℕ) (window i place age : ℕ) (row : OpenRowView) (result : Bool) → 0 < window → length places ≡ window → length ages ≡ window → place ≡ i % window → row ≡ get_or places place row → age ≡ get_or ages place 0 → result ≡ is_due required rule (at_age age row) → is_due required rule (row_in (with_ages places ages) window i) ≡ result
 due_at required rule places ages window i place age row result h e k v d a r =
     sym (r ∙ ap (is_due required rule) (
-    ap (λ n. at_age n row) (a ∙ get_or_default ages place age 0 (omega (arith, mod-lt i h)))
+    ap (λ n. at_age n row) a
     ∙ ap (at_age (get_or ages place 0)) (d ∙ get_or_default places place row (blank_row 0 0 0) (omega (arith, mod-lt i h)))
     ∙ ap (λ n. at_age (get_or ages n 0) (get_or places n (blank_row 0 0 0))) v
     ∙ sym (aged_row places ages window i h e k)
@@ -35,14 +35,14 @@ loop-instant-preserved c = record {
   counted = omega arith;
   left = goes_on _ _ _ _ _
       (prefix_step (is_due c.args.required.now c.args.rule) (with_ages c.args.rows.now.places.items c.args.rows.now.ages.items) c.args.circle.now.window c.as_slice-instant-items.result.now c.loop-instant.instant-index c.loop-instant-test.true)
-      c.loop-instant.invariant.left (due_at c.args.required.now c.args.rule c.args.rows.now.places.items c.args.rows.now.ages.items c.args.circle.now.window (get_or c.as_slice-instant-items.result.now c.loop-instant.instant-index 0) c.place_of-place.result c.index-in-loop-instant.result.now c.index.result.now c.is_due.result
-      c.args.circle.now.least c.requires.size c.requires.ages_size c.place_of-place.ensures.value c.index.ensures c.index-in-loop-instant.ensures c.is_due.ensures ∙ c.if-not-is_due.false);
+      c.loop-instant.invariant.left (due_at c.args.required.now c.args.rule c.args.rows.now.places.items c.args.rows.now.ages.items c.args.circle.now.window (get_or c.as_slice-instant-items.result.now c.loop-instant.instant-index 0) c.place_of-place.result c.at.result c.index.result.now c.is_due.result
+      c.args.circle.now.least c.requires.size c.requires.ages_size c.place_of-place.ensures.value c.index.ensures c.at.ensures c.is_due.ensures ∙ c.if-not-is_due.false);
 }
 
 pub returns-then-not-is_due-clause-count : goal.returns-then-not-is_due-clause-count
 returns-then-not-is_due-clause-count c =
     ends _ _ _ _ _
     (prefix_step (is_due c.args.required.now c.args.rule) (with_ages c.args.rows.now.places.items c.args.rows.now.ages.items) c.args.circle.now.window c.as_slice-instant-items.result.now c.loop-instant.instant-index c.loop-instant-test.true)
-    c.loop-instant.invariant.left (due_at c.args.required.now c.args.rule c.args.rows.now.places.items c.args.rows.now.ages.items c.args.circle.now.window (get_or c.as_slice-instant-items.result.now c.loop-instant.instant-index 0) c.place_of-place.result c.index-in-loop-instant.result.now c.index.result.now c.is_due.result
-    c.args.circle.now.least c.requires.size c.requires.ages_size c.place_of-place.ensures.value c.index.ensures c.index-in-loop-instant.ensures c.is_due.ensures ∙ c.if-not-is_due.true)
+    c.loop-instant.invariant.left (due_at c.args.required.now c.args.rule c.args.rows.now.places.items c.args.rows.now.ages.items c.args.circle.now.window (get_or c.as_slice-instant-items.result.now c.loop-instant.instant-index 0) c.place_of-place.result c.at.result c.index.result.now c.is_due.result
+    c.args.circle.now.least c.requires.size c.requires.ages_size c.place_of-place.ensures.value c.index.ensures c.at.ensures c.is_due.ensures ∙ c.if-not-is_due.true)
     ∙ ap (λ is. prefix_len (is_due c.args.required.now c.args.rule) (rows_in (with_ages c.args.rows.now.places.items c.args.rows.now.ages.items) c.args.circle.now.window is)) c.as_slice-instant-items.ensures.value

@@ -1,4 +1,4 @@
-use Rattle.std.proofs.Common.{arith, eqb, ◌≡◌, ◌<◌, ◌++◌, ◌∙◌, ap, ℕ, ◌%◌, cond, if◌then◌else◌, set, subst, sym, true, false, refl, length, None, Some}
+use Rattle.std.proofs.Common.{arith, eqb, ◌≡◌, ◌<◌, ◌∙◌, ap, ℕ, ◌%◌, cond, if◌then◌else◌, set, subst, sym, true, false, refl, length, None, Some}
 use Rattle.std.specs.List.{All, list_all}
 use Rattle.std.proofs.lemmas.Bool.{ne_eqb}
 use Rattle.std.proofs.lemmas.List.{length-map}

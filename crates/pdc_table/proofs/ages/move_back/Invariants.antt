@@ -1,0 +1,6 @@
+use Rattle.std.proofs.Common.{◌≡◌, ◌++◌, drop, map, take}
+use Rattle.pdc_table.specs.AgesView.{earlier}
+use Rattle.pdc_table.proofs.ages.move_back.Given as goal
+
+abbrev pub invariant-loop-since : goal.invariant-loop-since
+invariant-loop-since l = l.since-items ≡ map earlier (take l.since-index l.fn.since.items) ++ drop l.since-index l.fn.since.items

@@ -1,0 +1,88 @@
+//! The ages of the rows of a ring.
+ghost use Rattle.std.specs.Prelude.{◌≡◌, ◌<◌, length, map, replicate, slice_index_or, slice_set, IfOk};
+ghost use Rattle.std.specs.Vec.{vec_capacity};
+ghost use Rattle.pdc_table.specs.AgesView.{earlier};
+ghost use Rattle.pdc_table.specs.RingRows.{older};
+
+use std::alloc::{AllocError, Global};
+use std::marker::Model;
+
+/// The age at each place, in ticks. What is kept is the count of ticks at which the age was 0, so that one more tick touches no place.
+#[derive(Drop)]
+pub struct Ages {
+    /// How many ticks were counted.
+    ticks: u64,
+    /// For each place how many there were when its age was 0.
+    since: Vec<u64>,
+}
+
+impl Model for Ages {
+    ghost use Rattle.std.specs.Prelude.{◌≤◌};
+    ghost use Rattle.std.specs.List.{All};
+    ghost use Rattle.std.specs.Vec.{vec_capacity};
+    ghost use Rattle.pdc_table.specs.AgesView.{AgesView, ages_at};
+
+    ghost Value = { AgesView };
+
+    ghost view = { λ ages. record {
+      items = ages_at ages.ticks ages.since.items;
+      capacity = vec_capacity ages.since;
+    } };
+
+    ghost invariant = { λ ages. All (λ since. since ≤ ages.ticks) ages.since.items };
+}
+
+impl Ages {
+    /// So many places, each of age 0.
+    pub fn new(alloc: Global, count: usize) -> Result<Ages, AllocError>
+        ensures { IfOk result (λ ages. ages.items ≡ replicate count 0) }
+    {
+        Ok(Ages {
+            ticks: 0,
+            since: vec![in alloc; 0; count]?,
+        })
+    }
+
+    /// The age at a place.
+    #[inline]
+    pub fn at(&self, place: usize) -> u64
+        requires { place < length self.now.items }
+        ensures { result ≡ slice_index_or self.now.items place 0 }
+    {
+        self.ticks - self.since[place]
+    }
+
+    /// Makes the age at a place 0.
+    #[inline]
+    pub fn begin(&mut self, place: usize)
+        requires { place < length self.old.items }
+        ensures items { self.new.items ≡ slice_set self.old.items place 0 }
+        ensures capacity { self.new.capacity ≡ self.old.capacity }
+    {
+        self.since[place] = self.ticks;
+    }
+
+    /// Counts one more tick at each place.
+    #[inline]
+    pub fn grow_older(&mut self)
+        ensures items { self.new.items ≡ map older self.old.items }
+        ensures capacity { self.new.capacity ≡ self.old.capacity }
+    {
+        if self.ticks < u64::MAX {
+            self.ticks += 1;
+        } else {
+            move_back(&mut self.since);
+        }
+    }
+}
+
+/// Where no tick is left to be counted, each age was 0 a tick earlier.
+#[inline(never)]
+fn move_back(since: &mut Vec<u64>)
+    ensures items { since.new.items ≡ map earlier since.old.items }
+    ensures capacity { vec_capacity since.new ≡ vec_capacity since.old }
+{
+    for since in since.iter_mut() {
+        *since = since.saturating_sub(1);
+    }
+}
