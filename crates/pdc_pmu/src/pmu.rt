@@ -251,7 +251,7 @@ impl Pmu {
         ensures err { OnErr result (B.content out.new ≡ B.content out.old) }
         ensures room { length (B.content out.old) + length (config_of self.now soc (fields_of_view section.now)) ≤ B.capacity out.old → IsOk result }
     {
-        let next = renamed(section, self.id, self.count + 1);
+        let next = renamed(section, self.id.value, self.count + 1);
         let config = self.config_of(&next);
         write_config(&config, Kind::Cfg2, self.id, soc, out)
     }

@@ -75,7 +75,7 @@ impl<'a, N: Naming, K: Sink + Drop, R: Wait> RememberingSink<'a, N, K, R> {
         let Ok(frame) = read_frame(bytes) else {
             return Ok(());
         };
-        if frame.id != self.output.id || frame.kind != Kind::Cfg2 {
+        if frame.id.value != self.output.id.value || frame.kind != Kind::Cfg2 {
             return Ok(());
         }
         let Ok(config) = read_config(&frame) else {

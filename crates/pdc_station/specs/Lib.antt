@@ -1,2 +1,3 @@
+pub mod Calls
 pub mod Published
 pub mod Station

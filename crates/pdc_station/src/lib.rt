@@ -17,5 +17,5 @@ mod stops;
 mod stores;
 
 pub use fault::StopFault;
-pub use laws::rows_are_published;
+pub use laws::{calls_publish_what_was_popped, rows_are_published};
 pub use station::Station;
