@@ -15,10 +15,9 @@ use Rattle.pdc_output.specs.declared.output.Nominal.TheVariants.{Hz50, Hz60}
 use Rattle.pdc_life.specs.Arrival.{Stamp}
 use Rattle.pdc_life.specs.MergerReading.{IsOwn}
 use Rattle.pdc_life.specs.Reading.{HasConfig}
-use Rattle.pdc_history.specs.Frames.{IsCutUnder}
+use Rattle.pdc_history.specs.Frames.{IsCutOf, IsCutUnder, IsLayoutUnder}
+use Rattle.pdc_history.specs.Seen.{Seen, output_in, stream_in}
 use Rattle.pdc_history.specs.World.{Who}
-use Rattle.pdc_headline.specs.Frames.{IsCutOf, IsLayoutUnder}
-use Rattle.pdc_headline.specs.Seen.{Seen, output_in, stream_in}
 use Rattle.pdc_headline.proofs.Layouts.{HasSomeConfig, has_some_config}
 use Rattle.pdc_headline.proofs.Reading.{config_in, frame_stands_there, is_frame}
 use Rattle.pdc_headline.proofs.Told.{HasOne, IsTold, among, both, either, has_one, is_below, is_list, is_number, likewise, there}

@@ -5,43 +5,26 @@ use Rattle.pdc_cfg.specs.Section.{SectionFields}
 use Rattle.pdc_event.specs.Event.{who_of}
 use Rattle.pdc_event.specs.declared.reply.Published.{Published}
 use Rattle.pdc_history.specs.Genuine as genuine
-use Rattle.pdc_history.specs.History.{IsHistory}
-use Rattle.pdc_history.specs.Pmus as pmus
-use Rattle.pdc_history.specs.World.{A, B, M, World, Happened}
-use Rattle.pdc_headline.specs.Agree.{FramesAgree, PublishedAgree, Shows, ShowsPublished}
-use Rattle.pdc_headline.specs.Frames.{HasGenuineFrames, LayoutsAreOne, PmusSendOneBody, PmusSendOneSection, bytes_of}
-use Rattle.pdc_headline.specs.Seen.{Seen}
-use Rattle.pdc_headline.proofs.Histories.{genuine_frames, seen_in, shows_of_history, under_of_history}
+use Rattle.pdc_history.specs.Genuine.{FramesAgree, HasGenuineFrames, Shows}
+use Rattle.pdc_history.specs.Pmus.{PmusSendOneBody, PmusSendOneSection}
+use Rattle.pdc_history.specs.Seen.{OfHistories, Seen}
+use Rattle.pdc_history.specs.World.{A, B, M}
+use Rattle.pdc_headline.specs.Agree.{PublishedAgree, ShowsPublished}
+use Rattle.pdc_headline.specs.Frames.{LayoutsAreOne, bytes_of}
 use Rattle.pdc_headline.proofs.Told.{CannotFail, are_lists, holds, is_list, so_does}
 
 -- ---- in a history
 
-pub layouts_are_one_in : genuine.LayoutsAreOne → (W : World) (H : List Happened) → IsHistory W H → LayoutsAreOne (seen_in W H)
+pub layouts_are_one_in : genuine.LayoutsAreOne → OfHistories LayoutsAreOne
 layouts_are_one_in L W H is who stamp sections others a b =
     ap bytes_of
-    (L W H who stamp sections others is (under_of_history W H who stamp sections a) (under_of_history W H who stamp others b))
-
-pub frames_agree_in : genuine.FramesAgree → (W : World) (H : List Happened) → IsHistory W H → FramesAgree (seen_in W H)
-frames_agree_in F W H is v w i s t words others a b source count =
-    F W H v w i s t words others is (shows_of_history W H v i s words a) (shows_of_history W H w i t others b) source count
-
-pub one_body_in : pmus.PmusSendOneBody → (W : World) (H : List Happened) → IsHistory W H → PmusSendOneBody (seen_in W H)
-one_body_in P W H is p pmu bytes other i q r payload body listed a b c d = P W H p pmu bytes other i q r payload body is listed a b c d
-
-pub one_section_in : pmus.PmusSendOneSection → (W : World) (H : List Happened) → IsHistory W H → PmusSendOneSection (seen_in W H)
-one_section_in P W H is p pmu bytes other s t listed a b c d count = P W H p pmu bytes other s t is listed a b c d count
+    (L W H who stamp sections others is a b)
 
 abbrev pub NodesAreGenuine : Seen → Type 0
 NodesAreGenuine seen = HasGenuineFrames seen A × HasGenuineFrames seen B
 
 abbrev pub MergerIsGenuine : Seen → Type 0
 MergerIsGenuine seen = HasGenuineFrames seen M
-
-pub nodes_in : genuine.NodeBlocksAreGenuine → (W : World) (H : List Happened) → IsHistory W H → NodesAreGenuine (seen_in W H)
-nodes_in N W H is = (genuine_frames W H A (N W H is).0, genuine_frames W H B (N W H is).1)
-
-pub merger_in : genuine.MergedBlocksAreGenuine → (W : World) (H : List Happened) → IsHistory W H → MergerIsGenuine (seen_in W H)
-merger_in N W H is = genuine_frames W H M (N W H is)
 
 -- ---- of whatever is seen
 
@@ -64,14 +47,14 @@ agree seen k v w i s t words others a b source count = (
 )
 
 -- what a published row shows, a frame that was sent shows
-published_shows : (seen : Seen) (row : Published) (s : SectionFields) (words : List ℕ) → ShowsPublished seen row s words → Shows seen (who_of row.who) row.instant s words
-published_shows seen row s words k = record {
+published_shows : (seen : Seen) (rows : List Published) (row : Published) (s : SectionFields) (words : List ℕ) → ShowsPublished seen rows row s words → Shows seen (who_of row.who) row.instant s words
+published_shows seen rows row s words k = record {
   bytes = k.bytes;
   among = (row.number, slice_get_within seen.frames row.number k.bytes k.there, get_or_from_slice_get seen.frames row.number k.bytes k.bytes k.there);
   shown = k.shown;
 }
 
-pub published_agree : (seen : Seen) → FramesAgree seen → PublishedAgree seen
-published_agree seen F q r s t words others a b instant source count =
-    F (who_of q.who) (who_of r.who) q.instant s t words others (published_shows seen q s words a)
-    (subst (λ (i : ℕ). Shows seen (who_of r.who) i t others) (sym instant) (published_shows seen r t others b)) source count
+pub published_agree : (seen : Seen) (rows : List Published) → FramesAgree seen → PublishedAgree seen rows
+published_agree seen rows F q r s t words others a b instant source count =
+    F (who_of q.who) (who_of r.who) q.instant s t words others (published_shows seen rows q s words a)
+    (subst (λ (i : ℕ). Shows seen (who_of r.who) i t others) (sym instant) (published_shows seen rows r t others b)) source count

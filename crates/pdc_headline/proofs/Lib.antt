@@ -1,7 +1,6 @@
 pub mod Stable
 pub mod Told
 pub mod Reading
-pub mod Histories
 pub mod Rising
 pub mod Rows
 pub mod Genuine

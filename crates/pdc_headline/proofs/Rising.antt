@@ -10,8 +10,7 @@ use Rattle.pdc_row.specs.Rising.{Rises}
 use Rattle.pdc_row.specs.RowView.{RowView, row_instants}
 use Rattle.pdc_world.specs.Replies.{listed, listed_at, name_of}
 use Rattle.pdc_headline.specs.Published.{InstantsRise}
-use Rattle.pdc_headline.specs.Seen.{AreRising, Seen, instants_of}
-use Rattle.pdc_headline.proofs.Histories.{seen_in}
+use Rattle.pdc_headline.specs.Seen.{AreRising, instants_of}
 use Rattle.pdc_headline.proofs.Stable.{all_rising}
 use Rattle.pdc_headline.proofs.Told.{CannotFail, so_does}
 
@@ -82,10 +81,10 @@ without_low : (low : ℕ) (ns : List ℕ) → Rises low ns → AreRising ns
 without_low low [] k = tt
 without_low low (n ∷ ns) k = k.1
 
-pub instants_rise_in : marks.InstantsRise → (W : World) (H : List Happened) → IsHistory W H → InstantsRise (seen_in W H)
+pub instants_rise_in : marks.InstantsRise → (W : World) (H : List Happened) → IsHistory W H → InstantsRise (listed W H)
 instants_rise_in R W H is who =
     subst AreRising (of_rows H who ∙ sym (same_instants W H who)) (without_low (first_mark W who).floor (row_instants (rows_of_one who (published H))) (R W H who is))
 
--- whatever is seen
-pub rise : (seen : Seen) → CannotFail (InstantsRise seen) → InstantsRise seen
-rise seen k who = all_rising (instants_of who seen.published) (so_does (λ (r : InstantsRise seen). r who) k)
+-- of whatever is seen
+pub rise : (rows : List Published) → CannotFail (InstantsRise rows) → InstantsRise rows
+rise rows k who = all_rising (instants_of who rows) (so_does (λ (r : InstantsRise rows). r who) k)

@@ -6,14 +6,13 @@ use Rattle.pdc_event.specs.Event.{who_of}
 use Rattle.pdc_event.specs.declared.reply.Published.{Published}
 use Rattle.pdc_history.specs.Genuine.{IsPublishedData, PublishedWereSent}
 use Rattle.pdc_history.specs.History.{IsHistory}
+use Rattle.pdc_history.specs.Seen.{Seen, seen_in, stream_in}
 use Rattle.pdc_history.specs.World.{Who, World, Happened, Sends, Comes, PassesBy, Ticks, Publishes, Ends, output_of, published, sent, sent_at}
 use Rattle.pdc_life.specs.Reading.{IsData, Stream}
 use Rattle.pdc_output.specs.Layout.{row_payload, wire_of}
 use Rattle.pdc_row.specs.RowView.{RowView}
 use Rattle.pdc_world.specs.Replies.{listed, listed_at, published_as}
 use Rattle.pdc_headline.specs.Published.{IsSentData, RowsAreSentData}
-use Rattle.pdc_headline.specs.Seen.{Seen, stream_in}
-use Rattle.pdc_headline.proofs.Histories.{data_of_frames, same_stream, seen_in}
 use Rattle.pdc_headline.proofs.Reading.{IsDataThere, TagsAreComputed, data_in, data_there, is_data_there, there_of_data}
 use Rattle.pdc_headline.proofs.Rising.{same_who}
 use Rattle.pdc_headline.proofs.Stable.{each}
@@ -48,7 +47,7 @@ still_sent W H h row k = record {
   there = stays_there (sent W H) (sent_at W H h) row.number k.bytes k.there;
   quality = k.quality;
   payload = k.payload;
-  is_data = subst (λ (s : Stream). IsData s k.bytes row.instant k.quality k.payload) (same_stream W H (who_of row.who) ∙ sym (same_stream W (h ∷ H) (who_of row.who))) k.is_data;
+  is_data = k.is_data;
 }
 
 sent_now : PublishedWereSent → (W : World) (H : List Happened) (v : Who) (row : RowView) → IsHistory W (Publishes v (Some row) ∷ H)
@@ -61,8 +60,7 @@ sent_now P W H v row is =
       there = comes_last (sent W H) (wire_of (output_of W v) row);
       quality = row.quality;
       payload = row_payload row;
-      is_data = subst (λ (w : Who). IsData (stream_in (seen_in W X) w) (wire_of (output_of W v) row) row.instant row.quality (row_payload row)) (sym (same_who v))
-          (data_of_frames W X v (wire_of (output_of W v) row) row.instant row.quality (row_payload row) k.is_data);
+      is_data = subst (λ (w : Who). IsData (stream_in (seen_in W X) w) (wire_of (output_of W v) row) row.instant row.quality (row_payload row)) (sym (same_who v)) k.is_data;
     }
 
 all_now : PublishedWereSent → (W : World) (H : List Happened) (h : Happened) → IsHistory W (h ∷ H) → AllByRecursion (IsSentData (seen_in W (h ∷ H))) (listed_at W H h)
@@ -74,7 +72,7 @@ all_now P W H (Publishes v None) is = tt
 all_now P W H (Publishes v (Some row)) is = (sent_now P W H v row is, tt)
 all_now P W H (Ends v mark) is = tt
 
-pub rows_are_sent_in : PublishedWereSent → (W : World) (H : List Happened) → IsHistory W H → RowsAreSentData (seen_in W H)
+pub rows_are_sent_in : PublishedWereSent → (W : World) (H : List Happened) → IsHistory W H → RowsAreSentData (seen_in W H) (listed W H)
 rows_are_sent_in P W [] is = tt
 rows_are_sent_in P W (h ∷ H) is =
     and_then (IsSentData (seen_in W (h ∷ H))) (listed W H) (listed_at W H h)
@@ -99,5 +97,5 @@ there_or_not seen row (Some bytes) e T k = record {
       (holds (is_data_there (stream_in seen (who_of row.who)) bytes row.instant) (so_does (of_there T seen row bytes e) k));
 }
 
-pub sent_data : TagsAreComputed → (seen : Seen) → CannotFail (RowsAreSentData seen) → RowsAreSentData seen
-sent_data T seen k = each (IsSentData seen) (λ row d. there_or_not seen row (slice_get seen.frames row.number) refl T d) seen.published k
+pub sent_data : TagsAreComputed → (seen : Seen) (rows : List Published) → CannotFail (RowsAreSentData seen rows) → RowsAreSentData seen rows
+sent_data T seen rows k = each (IsSentData seen) (λ row d. there_or_not seen row (slice_get seen.frames row.number) refl T d) rows k

@@ -11,10 +11,11 @@ use Rattle.pdc_block.specs.AbsentBlock.{absent_of}
 use Rattle.pdc_life.specs.Arrival.{Stamp}
 use Rattle.pdc_life.specs.NodeReading.{IsValid, stream_of}
 use Rattle.pdc_life.specs.declared.pmu.Pmu.{Pmu}
+use Rattle.pdc_history.specs.Frames.{AreGenuineBlocks, IsCutOf, SectionWasSent, WasSent}
+use Rattle.pdc_history.specs.Genuine.{HasGenuineFrames, IsGenuineData}
+use Rattle.pdc_history.specs.Seen.{Seen, stream_in}
 use Rattle.pdc_history.specs.World.{Who}
 use Rattle.pdc_life.specs.Reading.{IsData}
-use Rattle.pdc_headline.specs.Frames.{AreGenuineBlocks, HasGenuineFrames, IsCutOf, IsGenuineData, SectionWasSent, WasSent}
-use Rattle.pdc_headline.specs.Seen.{Seen, stream_in}
 use Rattle.pdc_headline.proofs.Cuts.{CutLaws, IsSomehowCut, is_somehow_cut}
 use Rattle.pdc_headline.proofs.Reading.{IsDataThere, TagsAreComputed, data_in, data_there, is_data_there, same_data, there_of_data}
 use Rattle.pdc_headline.proofs.Stable.{each}

@@ -1,15 +1,25 @@
 -- What holds of every history cannot fail to hold of what is seen of a world.
-use Rattle.std.proofs.Common.{List, sym, subst}
+use Rattle.std.proofs.Common.{◌≡◌, List, sym, subst}
+use Rattle.pdc_event.specs.declared.reply.Published.{Published}
 use Rattle.pdc_history.specs.History.{IsHistory}
+use Rattle.pdc_history.specs.Seen.{OfHistories, Seen, seen_in}
 use Rattle.pdc_history.specs.World.{World, Happened}
 use Rattle.pdc_world.specs.Holds.{Holds, HoldsSome}
+use Rattle.pdc_world.specs.Replies.{listed}
 use Rattle.pdc_world.specs.Views.{WorldView}
-use Rattle.pdc_headline.specs.Seen.{Seen, seen_of}
-use Rattle.pdc_headline.proofs.Histories.{seen_again, seen_in}
+use Rattle.pdc_headline.specs.Seen.{rows_of, seen_of}
 use Rattle.pdc_headline.proofs.Told.{CannotFail}
 
-pub of_history : (C : Seen → Type 0) (v : WorldView) (W : World) (H : List Happened) → ((X : World) (Y : List Happened) → IsHistory X Y → C (seen_in X Y)) → Holds W H v → C (seen_of v)
-of_history C v W H f h = subst C (sym (seen_again W H v h)) (f W H h.history)
+of_history : (C : Seen → List Published → Type 0) (v : WorldView) (W : World) (H : List Happened) → ((X : World) (Y : List Happened) → IsHistory X Y → C (seen_in X Y) (listed X Y))
+    → Holds W H v → C (seen_of v) (rows_of v)
+of_history C v W H f h =
+    let same : ◌≡◌ {A = Seen × List Published} (seen_of v, rows_of v) (seen_in W H, listed W H) =
+    λ i. (record { a = h.a_settings i; b = h.b_settings i; m = h.m_settings i; frames = h.ledger.frames i }, h.ledger.published i) in
+    subst (λ (p : Seen × List Published). C p.0 p.1) (sym same) (f W H h.history)
 
-pub of_world : (C : Seen → Type 0) (v : WorldView) → ((W : World) (H : List Happened) → IsHistory W H → C (seen_in W H)) → HoldsSome v → CannotFail (C (seen_of v))
+pub of_world : (C : Seen → List Published → Type 0) (v : WorldView) → ((W : World) (H : List Happened) → IsHistory W H → C (seen_in W H) (listed W H)) → HoldsSome v → CannotFail (C (seen_of v) (rows_of v))
 of_world C v f some = λ none. some (λ W H h. none (of_history C v W H f h))
+
+-- the same of frames alone
+pub of_frames : (C : Seen → Type 0) (v : WorldView) → OfHistories C → HoldsSome v → CannotFail (C (seen_of v))
+of_frames C v f = of_world (λ seen rows. C seen) v f

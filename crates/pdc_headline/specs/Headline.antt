@@ -1,13 +1,17 @@
 -- All that a reader of the streams may rest on (this profile).
+use Rattle.std.specs.Prelude.{List}
+use Rattle.pdc_event.specs.declared.reply.Published.{Published}
+use Rattle.pdc_history.specs.Genuine.{FramesAgree, HasGenuineFrames}
+use Rattle.pdc_history.specs.Pmus.{PmusSendOneBody, PmusSendOneSection}
+use Rattle.pdc_history.specs.Seen.{Seen}
 use Rattle.pdc_history.specs.World.{A, B, M}
-use Rattle.pdc_headline.specs.Agree.{FramesAgree, PublishedAgree}
-use Rattle.pdc_headline.specs.Frames.{HasGenuineFrames, LayoutsAreOne, PmusSendOneBody, PmusSendOneSection}
+use Rattle.pdc_headline.specs.Agree.{PublishedAgree}
+use Rattle.pdc_headline.specs.Frames.{LayoutsAreOne}
 use Rattle.pdc_headline.specs.Published.{InstantsRise, RowsAreSentData}
-use Rattle.pdc_headline.specs.Seen.{Seen}
 
-pub record Headline (seen : Seen) : Type 0 where
-  pub rise : InstantsRise seen
-  pub rows : RowsAreSentData seen
+pub record Headline (seen : Seen) (rows : List Published) : Type 0 where
+  pub rise : InstantsRise rows
+  pub sent : RowsAreSentData seen rows
   pub body : PmusSendOneBody seen
   pub section : PmusSendOneSection seen
   pub layouts : LayoutsAreOne seen
@@ -15,4 +19,4 @@ pub record Headline (seen : Seen) : Type 0 where
   pub second_node : HasGenuineFrames seen B
   pub merger : HasGenuineFrames seen M
   pub agree : FramesAgree seen
-  pub published : PublishedAgree seen
+  pub published : PublishedAgree seen rows

@@ -5,11 +5,12 @@ use Rattle.pdc_event.specs.Event.{who_of}
 use Rattle.pdc_event.specs.declared.reply.Published.{Published}
 use Rattle.pdc_history.specs.World.{Who}
 use Rattle.pdc_life.specs.Reading.{IsData}
-use Rattle.pdc_headline.specs.Seen.{Seen, AreRising, instants_of, stream_in}
+use Rattle.pdc_history.specs.Seen.{Seen, stream_in}
+use Rattle.pdc_headline.specs.Seen.{AreRising, instants_of}
 
 -- Over all lives of an owner the instants that it published strictly rise.
-abbrev pub InstantsRise : Seen → Type 0
-InstantsRise seen = (who : Who) → AreRising (instants_of who seen.published)
+abbrev pub InstantsRise : List Published → Type 0
+InstantsRise rows = (who : Who) → AreRising (instants_of who rows)
 
 -- The frame of the row is the one with its number among those that were sent: data of its owner for its instant.
 pub record IsSentData (seen : Seen) (row : Published) : Type 0 where
@@ -20,5 +21,5 @@ pub record IsSentData (seen : Seen) (row : Published) : Type 0 where
   pub is_data : IsData (stream_in seen (who_of row.who)) bytes row.instant quality payload
 
 -- So is that of each row.
-abbrev pub RowsAreSentData : Seen → Type 0
-RowsAreSentData seen = AllByRecursion (IsSentData seen) seen.published
+abbrev pub RowsAreSentData : Seen → List Published → Type 0
+RowsAreSentData seen rows = AllByRecursion (IsSentData seen) rows

@@ -3,7 +3,7 @@ ghost use Rattle.std.specs.Prelude.{IfErr, List, OnOk, map};
 ghost use Rattle.std.specs.List.{AllByRecursion};
 ghost use Rattle.pdc_event.specs.Event.{asked_of};
 ghost use Rattle.pdc_headline.specs.Headline.{Headline};
-ghost use Rattle.pdc_headline.specs.Seen.{seen_of};
+ghost use Rattle.pdc_headline.specs.Seen.{rows_of, seen_of};
 ghost use Rattle.pdc_history.specs.Lives.{IsRowAt};
 ghost use Rattle.pdc_history.specs.World.{Happened, World as Fixed, published};
 ghost use Rattle.pdc_world.specs.Holds.{Holds, IsCutShort, IsPlayed};
@@ -18,7 +18,7 @@ use pdc_world::World;
 
 /// The headline holds of every world.
 pub fn headline_holds<S: Store>(world: &World<S>)
-    ensures { Headline (seen_of world.now) }
+    ensures { Headline (seen_of world.now) (rows_of world.now) }
 {
     instants_rise(world);
     pmus_send_one(world);
@@ -38,8 +38,8 @@ pub fn play_under_headline<S: Store>(
     world: &mut World<S>,
     events: &[Event<'_>],
 ) -> Result<(), WorldFault>
-    ensures before { Headline (seen_of world.old) }
-    ensures after { Headline (seen_of world.new) }
+    ensures before { Headline (seen_of world.old) (rows_of world.old) }
+    ensures after { Headline (seen_of world.new) (rows_of world.new) }
     ensures exact { (W : Fixed) (H : List Happened) → Holds W H world.new → AllByRecursion (IsRowAt W H) (published H) }
     ensures made { (W : Fixed) (H : List Happened) → Holds W H world.old → OnOk result (IsPlayed W H (map asked_of events.now) world.new) }
     ensures cut { (W : Fixed) (H : List Happened) → Holds W H world.old → IfErr result (λ fault. IsCutShort W H (map asked_of events.now) fault world.new) }

@@ -1,11 +1,12 @@
 //! Laws of every world: each is the contract of a function that does nothing but call the laws that it stands on.
 ghost use Rattle.std.specs.Prelude.{◌≡◌, List};
 ghost use Rattle.std.specs.List.{AllByRecursion};
-ghost use Rattle.pdc_headline.specs.Agree.{FramesAgree, PublishedAgree};
-ghost use Rattle.pdc_headline.specs.Frames.{HasGenuineFrames, LayoutsAreOne, PmusSendOneBody, PmusSendOneSection};
+ghost use Rattle.pdc_headline.specs.Agree.{PublishedAgree};
+ghost use Rattle.pdc_headline.specs.Frames.{LayoutsAreOne};
 ghost use Rattle.pdc_headline.specs.Published.{InstantsRise, RowsAreSentData};
-ghost use Rattle.pdc_headline.specs.Seen.{seen_of};
-ghost use Rattle.pdc_history.specs.Genuine.{IsPublishedData};
+ghost use Rattle.pdc_headline.specs.Seen.{rows_of, seen_of};
+ghost use Rattle.pdc_history.specs.Genuine.{FramesAgree, HasGenuineFrames, IsPublishedData};
+ghost use Rattle.pdc_history.specs.Pmus.{PmusSendOneBody, PmusSendOneSection};
 ghost use Rattle.pdc_history.specs.Lives.{IsRowAt};
 ghost use Rattle.pdc_history.specs.World.{A, B, Happened, M, World as Fixed, published};
 ghost use Rattle.pdc_world.specs.Holds.{Holds};
@@ -20,8 +21,8 @@ use pdc_world::World;
 /// Over all lives of one owner the instants of the rows in `published` strictly rise; and the frame of each row, the one with its number
 /// among those that were sent, is data of its owner for its instant.
 pub fn instants_rise<S: Store>(world: &World<S>)
-    ensures rise { InstantsRise (seen_of world.now) }
-    ensures sent { RowsAreSentData (seen_of world.now) }
+    ensures rise { InstantsRise (rows_of world.now) }
+    ensures sent { RowsAreSentData (seen_of world.now) (rows_of world.now) }
 {
     world.holds_some_history();
     pdc_history::instants_rise();
@@ -76,7 +77,7 @@ pub fn merged_blocks_are_genuine<S: Store>(world: &World<S>)
 /// both under one configuration count: the words are equal, and so are the sections, byte for byte. So do the frames of published rows.
 pub fn frames_agree<S: Store>(world: &World<S>)
     ensures sent { FramesAgree (seen_of world.now) }
-    ensures published { PublishedAgree (seen_of world.now) }
+    ensures published { PublishedAgree (seen_of world.now) (rows_of world.now) }
 {
     world.holds_some_history();
     pdc_history::frames_agree();

@@ -17,6 +17,7 @@ use Rattle.pdc_life.specs.Life.{Entry, Tick, changes, section_in_force}
 use Rattle.pdc_history.specs.Frames.{AreGenuineBlocks, IsCutUnder, IsGenuineBlock, IsLayoutUnder, SectionWasSent, WasSent}
 use Rattle.pdc_history.specs.History.{IsHistory}
 use Rattle.pdc_history.specs.Known.{FrameLaws, LifeLaws}
+use Rattle.pdc_history.specs.Seen.{seen_in}
 use Rattle.pdc_history.specs.World.{Who, World, Happened, Ticks, given_in, life_of}
 use Rattle.pdc_history.proofs.Layouts.{IsOfTick, at_sections, layout_is_of_tick, sections_at, stamp_at}
 use Rattle.pdc_history.proofs.Lists.{mapped}
@@ -25,7 +26,7 @@ use Rattle.pdc_history.proofs.Moments.{Moment, before, given_then, moment, stays
 
 -- ---- what was sent stays sent
 
-pub section_stays : (W : World) (later H : List Happened) (s : SectionFields) → SectionWasSent W H s → SectionWasSent W (later ++ H) s
+pub section_stays : (W : World) (later H : List Happened) (s : SectionFields) → SectionWasSent (seen_in W H) s → SectionWasSent (seen_in W (later ++ H)) s
 section_stays W later H s k = record {
   p = k.p;
   pmu = k.pmu;
@@ -35,7 +36,7 @@ section_stays W later H s k = record {
   valid = k.valid;
 }
 
-pub words_stay : (W : World) (later H : List Happened) (i : ℕ) (s : SectionFields) (words : List ℕ) → WasSent W H i s words → WasSent W (later ++ H) i s words
+pub words_stay : (W : World) (later H : List Happened) (i : ℕ) (s : SectionFields) (words : List ℕ) → WasSent (seen_in W H) i s words → WasSent (seen_in W (later ++ H)) i s words
 words_stay W later H i s words k = record {
   p = k.p;
   pmu = k.pmu;
@@ -49,11 +50,11 @@ words_stay W later H i s words k = record {
   body = k.body;
 }
 
-pub block_stays : (W : World) (later H : List Happened) (i : ℕ) (s : SectionFields) (words : List ℕ) → IsGenuineBlock W H i s words → IsGenuineBlock W (later ++ H) i s words
+pub block_stays : (W : World) (later H : List Happened) (i : ℕ) (s : SectionFields) (words : List ℕ) → IsGenuineBlock (seen_in W H) i s words → IsGenuineBlock (seen_in W (later ++ H)) i s words
 block_stays W later H i s words (inl a) = inl a
 block_stays W later H i s words (inr k) = inr (words_stay W later H i s words k)
 
-pub blocks_stay : (W : World) (later H : List Happened) (i : ℕ) (sections : List SectionFields) (blocks : List (List ℕ)) → AreGenuineBlocks W H i sections blocks → AreGenuineBlocks W (later ++ H) i sections blocks
+pub blocks_stay : (W : World) (later H : List Happened) (i : ℕ) (sections : List SectionFields) (blocks : List (List ℕ)) → AreGenuineBlocks (seen_in W H) i sections blocks → AreGenuineBlocks (seen_in W (later ++ H)) i sections blocks
 blocks_stay W later H i [] [] k = tt
 blocks_stay W later H i (s ∷ sections) (words ∷ blocks) k = (block_stays W later H i s words k.0, blocks_stay W later H i sections blocks k.1)
 blocks_stay W later H i [] (words ∷ blocks) k = k
@@ -62,9 +63,9 @@ blocks_stay W later H i (s ∷ sections) [] k = k
 -- ---- where the sections and blocks of an owner's lives come from
 
 pub record IsSourced (W : World) (who : Who) : Type 0 where
-  pub columns : (H : List Happened) (c : ℕ) (s : SectionFields) → IsHistory W H → section_in_force (given_in W H who) (life_of H who) c ≡ Some s → SectionWasSent W H s
+  pub columns : (H : List Happened) (c : ℕ) (s : SectionFields) → IsHistory W H → section_in_force (given_in W H who) (life_of H who) c ≡ Some s → SectionWasSent (seen_in W H) s
   pub blocks :
-      (H : List Happened) (c i : ℕ) (s : SectionFields) (b : BlockView) → IsHistory W H → HasBrought (given_in W H who) (life_of H who) c i s b → IsGenuineBlock W H i s b.words
+      (H : List Happened) (c i : ℕ) (s : SectionFields) (b : BlockView) → IsHistory W H → HasBrought (given_in W H who) (life_of H who) c i s b → IsGenuineBlock (seen_in W H) i s b.words
 
 -- ---- sections
 
@@ -76,19 +77,19 @@ all_columns : (P : SectionFields → Type 0) (f : ℕ → Option SectionFields) 
 all_columns P f [] k = tt
 all_columns P f (c ∷ cs) k = from_columns P f c (f c) (filter_map f cs) refl (k c) (all_columns P f cs k)
 
-pub sections_were_sent : (W : World) (H : List Happened) (who : Who) → IsSourced W who → IsHistory W H → AllByRecursion (SectionWasSent W H) (sections_at W H who)
+pub sections_were_sent : (W : World) (H : List Happened) (who : Who) → IsSourced W who → IsHistory W H → AllByRecursion (SectionWasSent (seen_in W H)) (sections_at W H who)
 sections_were_sent W H who S is =
-    all_columns (SectionWasSent W H) (section_in_force (given_in W H who) (life_of H who)) (columns_of (given_in W H who)) (λ c s q. S.columns H c s is q)
+    all_columns (SectionWasSent (seen_in W H)) (section_in_force (given_in W H who) (life_of H who)) (columns_of (given_in W H who)) (λ c s q. S.columns H c s is q)
 
-pub under_were_sent : LifeLaws → FrameLaws → (W : World) (H : List Happened) (who : Who) (stamp : Stamp) (sections : List SectionFields) → IsSourced W who → IsHistory W H → IsLayoutUnder W H who stamp sections → AllByRecursion (SectionWasSent W H) sections
-under_were_sent L F W H who stamp sections S is (inl a) = subst (AllByRecursion (SectionWasSent W H)) (sym a.1) tt
+pub under_were_sent : LifeLaws → FrameLaws → (W : World) (H : List Happened) (who : Who) (stamp : Stamp) (sections : List SectionFields) → IsSourced W who → IsHistory W H → IsLayoutUnder (seen_in W H) who stamp sections → AllByRecursion (SectionWasSent (seen_in W H)) sections
+under_were_sent L F W H who stamp sections S is (inl a) = subst (AllByRecursion (SectionWasSent (seen_in W H))) (sym a.1) tt
 under_were_sent L F W H who stamp sections S is (inr k) =
     let t : IsOfTick W H who stamp sections = layout_is_of_tick L F W H who stamp sections is k in
     let X : List Happened = Ticks who t.e ∷ t.earlier in
     let then : IsHistory W X = before W t.later X (subst (IsHistory W) t.stands is) in
-    subst (AllByRecursion (SectionWasSent W H)) (sym (at_sections W H who stamp sections t))
-    (subst (λ (Y : List Happened). AllByRecursion (SectionWasSent W Y) (sections_at W X who)) (sym t.stands)
-    (mapped (SectionWasSent W X) (SectionWasSent W (t.later ++ X)) (sections_at W X who) (section_stays W t.later X) (sections_were_sent W X who S then)))
+    subst (AllByRecursion (SectionWasSent (seen_in W H))) (sym (at_sections W H who stamp sections t))
+    (subst (λ (Y : List Happened). AllByRecursion (SectionWasSent (seen_in W Y)) (sections_at W X who)) (sym t.stands)
+    (mapped (SectionWasSent (seen_in W X)) (SectionWasSent (seen_in W (t.later ++ X))) (sections_at W X who) (section_stays W t.later X) (sections_were_sent W X who S then)))
 
 -- ---- the history in which a row closed
 
@@ -112,7 +113,7 @@ closed_at W H who row t =
 
 -- ---- its blocks
 
-one_genuine : (W : World) (H : List Happened) (who : Who) (c i : ℕ) (s : SectionFields) (b : BlockView) → IsSourced W who → IsHistory W H → IsGenuine (given_in W H who) (life_of H who) c i s b → IsGenuineBlock W H i s b.words
+one_genuine : (W : World) (H : List Happened) (who : Who) (c i : ℕ) (s : SectionFields) (b : BlockView) → IsSourced W who → IsHistory W H → IsGenuine (given_in W H who) (life_of H who) c i s b → IsGenuineBlock (seen_in W H) i s b.words
 one_genuine W H who c i s b S is (inl a) = inl (ap (λ (x : BlockView). x.words) a)
 one_genuine W H who c i s b S is (inr k) = S.blocks H c i s b is k
 
@@ -130,7 +131,7 @@ without_columns f [] = refl
 without_columns f (c ∷ cs) = without_column c (f c) (filter_map (parts_of f) cs) (filter_map f cs) (without_columns f cs)
 
 all_genuine : (W : World) (H : List Happened) (who : Who) (i : ℕ) (parts : List (ℕ × SectionFields)) (blocks : List BlockView) → IsSourced W who → IsHistory W H → AreGenuine (given_in W H who) (life_of H who) i parts blocks
-    → AreGenuineBlocks W H i (map (λ (p : ℕ × SectionFields). p.1) parts) (map (λ (b : BlockView). b.words) blocks)
+    → AreGenuineBlocks (seen_in W H) i (map (λ (p : ℕ × SectionFields). p.1) parts) (map (λ (b : BlockView). b.words) blocks)
 all_genuine W H who i [] [] S is k = tt
 all_genuine W H who i (p ∷ parts) (b ∷ blocks) S is k = (one_genuine W H who p.0 i p.1 b S is k.0, all_genuine W H who i parts blocks S is k.1)
 all_genuine W H who i [] (b ∷ blocks) S is k = absurd k
@@ -142,7 +143,7 @@ pub record IsGenuineAt (W : World) (H : List Happened) (who : Who) (row : RowVie
   pub then : List Happened
   pub stands : H ≡ later ++ then
   pub cut : IsCutUnder (stamp_at W then who) (sections_at W then who) (row_payload row) (words_of_row row)
-  pub blocks : AreGenuineBlocks W H row.instant (sections_at W then who) (words_of_row row)
+  pub blocks : AreGenuineBlocks (seen_in W H) row.instant (sections_at W then who) (words_of_row row)
 
 pub cut_then : LifeLaws → FrameLaws → (W : World) (H : List Happened) (who : Who) (row : RowView) (f : IsFramedRow (given_in W H who) (life_of H who) row) (k : ClosedAt W H who f.of_tick.before) → IsHistory W k.then
     → (given_in W k.then who).start < 2 ^ 32 → IsCutUnder (stamp_at W k.then who) (sections_at W k.then who) (row_payload row) (words_of_row row)
@@ -159,9 +160,9 @@ pub change_of : (W : World) (H : List Happened) (who : Who) (row : RowView) (t :
 change_of W H who row t k = ap changes k.life ∙ sym (ap (λ (r : RowView). r.change) t.same)
 
 pub genuine_then : (W : World) (H : List Happened) (who : Who) (row : RowView) (f : IsGenuineRow (given_in W H who) (life_of H who) row) (k : ClosedAt W H who f.of_tick.before) → IsSourced W who → IsHistory W k.then
-    → AreGenuineBlocks W k.then row.instant (sections_at W k.then who) (words_of_row row)
+    → AreGenuineBlocks (seen_in W k.then) row.instant (sections_at W k.then who) (words_of_row row)
 genuine_then W H who row f k S is =
-    subst (λ (ss : List SectionFields). AreGenuineBlocks W k.then row.instant ss (words_of_row row)) (without_columns (section_in_force (given_in W k.then who) (life_of k.then who)) (columns_of (given_in W k.then who)))
+    subst (λ (ss : List SectionFields). AreGenuineBlocks (seen_in W k.then) row.instant ss (words_of_row row)) (without_columns (section_in_force (given_in W k.then who) (life_of k.then who)) (columns_of (given_in W k.then who)))
     (all_genuine W k.then who row.instant (columns_in_force (given_in W k.then who) (life_of k.then who)) row.blocks S is
     (subst (λ (g : Given). AreGenuine g (life_of k.then who) row.instant (columns_in_force g (life_of k.then who)) row.blocks) (sym k.given)
     (subst (λ (E : List Entry). AreGenuine (given_in W H who) E row.instant (columns_in_force (given_in W H who) E) row.blocks) (sym k.life) f.blocks)))

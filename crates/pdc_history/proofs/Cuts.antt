@@ -22,6 +22,7 @@ use Rattle.pdc_history.specs.Frames.{AreGenuineBlocks, IsCutOf, IsCutUnder, IsLa
 use Rattle.pdc_history.specs.Genuine.{HasGenuineFrames, IsGenuineData, IsPublishedData, PublishedWereSent}
 use Rattle.pdc_history.specs.History.{IsHistory, IsMade}
 use Rattle.pdc_history.specs.Known.{BlockLaws, FrameLaws, LifeLaws}
+use Rattle.pdc_history.specs.Seen.{seen_in}
 use Rattle.pdc_history.specs.World.{Who, World, Happened, Sends, Comes, PassesBy, Ticks, Publishes, Ends, given_in, life_of, output_of, published, published_at, sent}
 use Rattle.pdc_history.proofs.Blocks.{ClosedAt, IsGenuineAt, IsSourced, blocks_stay, change_of, closed_at, cut_then, genuine_then, under_were_sent}
 use Rattle.pdc_history.proofs.Layouts.{layout_at, layouts_are_one, same_stamp, sections_at, stamp_at}
@@ -100,15 +101,15 @@ is_genuine_at L F B W H who row S is made =
     let same : sections_at W k.then who ≡ sections_at W l.then who =
     same_stamp L W H k.then l.then k.later l.later who is k.stands l.stands (ap (λ (g : Given). g.start) k.given ∙ sym (ap (λ (g : Given). g.start) l.given))
     (change_of W H who row f.of_tick k ∙ sym (change_of W H who row n.of_tick l)) in
-    let blocks : AreGenuineBlocks W (l.later ++ l.then) row.instant (sections_at W l.then who) (words_of_row row) =
+    let blocks : AreGenuineBlocks (seen_in W (l.later ++ l.then)) row.instant (sections_at W l.then who) (words_of_row row) =
     blocks_stay W l.later l.then row.instant (sections_at W l.then who) (words_of_row row) (genuine_then W H who row n l S second) in
     record {
       later = k.later;
       then = k.then;
       stands = k.stands;
       cut = cut_then L F W H who row f k first (start_fits L W k.then who first);
-      blocks = subst (λ (ss : List SectionFields). AreGenuineBlocks W H row.instant ss (words_of_row row)) (sym same)
-          (subst (λ (X : List Happened). AreGenuineBlocks W X row.instant (sections_at W l.then who) (words_of_row row)) (sym l.stands) blocks);
+      blocks = subst (λ (ss : List SectionFields). AreGenuineBlocks (seen_in W H) row.instant ss (words_of_row row)) (sym same)
+          (subst (λ (X : List Happened). AreGenuineBlocks (seen_in W X) row.instant (sections_at W l.then who) (words_of_row row)) (sym l.stands) blocks);
     }
 
 -- the frame of a row has the row's instant
@@ -118,7 +119,7 @@ row_instant F W who row =
     (F.tag row.instant (output_of W who).time_base (output_of W who).rate (output_of W who).rate_low (output_of W who).time_base_low)
 
 abbrev GenuineFrom : World → List Happened → Who → RowView → Type 0
-GenuineFrom W H who row = IsGenuineData W H who row.instant (row_payload row)
+GenuineFrom W H who row = IsGenuineData (seen_in W H) who row.instant (row_payload row)
 
 of_row : LifeLaws → FrameLaws → BlockLaws → (W : World) (H later earlier : List Happened) (who : Who) (row : RowView) → IsSourced W who → IsHistory W H → H ≡ later ++ Publishes who (Some row) ∷ earlier → GenuineFrom W H who row
 of_row L F B W H later earlier who row S is stands =
@@ -127,13 +128,13 @@ of_row L F B W H later earlier who row S is stands =
     let pre : List Happened = later ++ Publishes who (Some row) ∷ [] in
     let at_earlier : H ≡ pre ++ earlier = stands ∙ sym (append_assoc later (Publishes who (Some row) ∷ []) earlier) in
     let at_then : H ≡ (pre ++ n.later) ++ n.then = at_earlier ∙ ap (λ (X : List Happened). pre ++ X) n.stands ∙ sym (append_assoc pre n.later n.then) in
-    let under : IsLayoutUnder W ((pre ++ n.later) ++ n.then) who (stamp_at W n.then who) (sections_at W n.then who) = layout_at L F W (pre ++ n.later) n.then who (subst (IsHistory W) at_then is) in
+    let under : IsLayoutUnder (seen_in W ((pre ++ n.later) ++ n.then)) who (stamp_at W n.then who) (sections_at W n.then who) = layout_at L F W (pre ++ n.later) n.then who (subst (IsHistory W) at_then is) in
     record {
       stamp = stamp_at W n.then who;
       sections = sections_at W n.then who;
       blocks = words_of_row row;
-      is_cut = record { under = subst (λ (X : List Happened). IsLayoutUnder W X who (stamp_at W n.then who) (sections_at W n.then who)) (sym at_then) under; cut = n.cut };
-      genuine = subst (λ (X : List Happened). AreGenuineBlocks W X row.instant (sections_at W n.then who) (words_of_row row)) (sym at_earlier) (blocks_stay W pre earlier row.instant (sections_at W n.then who) (words_of_row row) n.blocks);
+      is_cut = record { under = subst (λ (X : List Happened). IsLayoutUnder (seen_in W X) who (stamp_at W n.then who) (sections_at W n.then who)) (sym at_then) under; cut = n.cut };
+      genuine = subst (λ (X : List Happened). AreGenuineBlocks (seen_in W X) row.instant (sections_at W n.then who) (words_of_row row)) (sym at_earlier) (blocks_stay W pre earlier row.instant (sections_at W n.then who) (words_of_row row) n.blocks);
     }
 
 -- a layout is no data
@@ -141,17 +142,17 @@ not_layout : (f : Fields) (g : Given) (E : List Entry) → f.kind ≡ DataFrame 
 not_layout f g E k q = let e : DataFrame ≡ Cfg2 = sym k ∙ ap (λ (x : Fields). x.kind) q in cc
 
 from_row : LifeLaws → FrameLaws → BlockLaws → (W : World) (H later earlier : List Happened) (who : Who) (bytes : List ℕ) (i quality : ℕ) (payload : List ℕ) (row : RowView) → IsSourced W who → IsHistory W H
-    → IsData (stream_from W who) bytes i quality payload → H ≡ later ++ Publishes who (Some row) ∷ earlier → IsFrame bytes (row_fields (output_of W who) row) → IsGenuineData W H who i payload
+    → IsData (stream_from W who) bytes i quality payload → H ≡ later ++ Publishes who (Some row) ∷ earlier → IsFrame bytes (row_fields (output_of W who) row) → IsGenuineData (seen_in W H) who i payload
 from_row L F B W H later earlier who bytes i quality payload row S is d stands frame =
     let one : d.fields ≡ row_fields (output_of W who) row = F.one_frame bytes d.fields (row_fields (output_of W who) row) d.of_stream.frame frame in
     let instant : i ≡ row.instant =
     F.one_instant (row_fields (output_of W who) row).soc (row_fields (output_of W who) row).frac (output_of W who).time_base (output_of W who).rate i row.instant
     (subst (λ (f : Fields). IsInstant f.soc f.frac (output_of W who).time_base (output_of W who).rate i) one d.tag) (row_instant F W who row) in
     let same : payload ≡ row_payload row = sym d.same_payload ∙ ap (λ (f : Fields). f.payload) one in
-    subst (λ (p : List ℕ). IsGenuineData W H who i p) (sym same) (subst (λ (n : ℕ). IsGenuineData W H who n (row_payload row)) (sym instant) (of_row L F B W H later earlier who row S is stands))
+    subst (λ (p : List ℕ). IsGenuineData (seen_in W H) who i p) (sym same) (subst (λ (n : ℕ). IsGenuineData (seen_in W H) who n (row_payload row)) (sym instant) (of_row L F B W H later earlier who row S is stands))
 
 every_frame : LifeLaws → FrameLaws → BlockLaws → (W : World) (H : List Happened) (who : Who) (bytes : List ℕ) (i quality : ℕ) (payload : List ℕ) → IsSourced W who → IsHistory W H
-    → Contains (sent W H) bytes → IsData (stream_from W who) bytes i quality payload → IsGenuineData W H who i payload
+    → Contains (sent W H) bytes → IsData (stream_from W who) bytes i quality payload → IsGenuineData (seen_in W H) who i payload
 every_frame L F B W H who bytes i quality payload S is k d = elim (owned L F W H who bytes d.fields is k d.of_stream.frame d.of_stream.id) [
   | AsLayout later earlier e stands adopts spelled frame ↦
       absurd (not_layout d.fields (given_in W earlier who) (e ∷ life_of earlier who) d.kind (F.one_frame bytes d.fields (layout_fields (given_in W earlier who) (e ∷ life_of earlier who)) d.of_stream.frame frame))
@@ -170,10 +171,10 @@ pub record IsOneCut (s t : Stamp) (sections others : List SectionFields) (blocks
   pub one_split : blocks ≡ more
 
 pub one_cut : LifeLaws → FrameLaws → (W : World) (H : List Happened) (who : Who) (payload : List ℕ) (s t : Stamp) (sections others : List SectionFields) (blocks more : List (List ℕ)) → IsHistory W H
-    → IsCutOf W H who payload s sections blocks → IsCutOf W H who payload t others more → IsOneCut s t sections others blocks more
+    → IsCutOf (seen_in W H) who payload s sections blocks → IsCutOf (seen_in W H) who payload t others more → IsOneCut s t sections others blocks more
 one_cut L F W H who payload s t sections others blocks more is a b =
     let stamp : s ≡ t = same_stamp_in s t sections others payload blocks more a.cut b.cut in
-    let layout : sections ≡ others = layouts_are_one L F W H who t sections others is (subst (λ (x : Stamp). IsLayoutUnder W H who x sections) stamp a.under) b.under in
+    let layout : sections ≡ others = layouts_are_one L F W H who t sections others is (subst (λ (x : Stamp). IsLayoutUnder (seen_in W H) who x sections) stamp a.under) b.under in
     let first : IsCut (own_shape ∷ map (λ (x : SectionFields). x.shape) others) payload (own_block s.start s.change ∷ blocks) =
     subst (λ (ss : List SectionFields). IsCut (own_shape ∷ map (λ (x : SectionFields). x.shape) ss) payload (own_block s.start s.change ∷ blocks)) layout (a.cut.cut own_shape refl refl refl) in
     record {
@@ -184,12 +185,12 @@ one_cut L F W H who payload s t sections others blocks more is a b =
     }
 
 pub of_one_cut : LifeLaws → FrameLaws → (W : World) (H : List Happened) (who : Who) (i : ℕ) (payload : List ℕ) (t : Stamp) (others : List SectionFields) (more : List (List ℕ)) → IsHistory W H
-    → IsGenuineData W H who i payload → IsCutOf W H who payload t others more → AreGenuineBlocks W H i others more
+    → IsGenuineData (seen_in W H) who i payload → IsCutOf (seen_in W H) who payload t others more → AreGenuineBlocks (seen_in W H) i others more
 of_one_cut L F W H who i payload t others more is n b =
     let one : IsOneCut n.stamp t n.sections others n.blocks more = one_cut L F W H who payload n.stamp t n.sections others n.blocks more is n.is_cut b in
-    subst (λ (ss : List SectionFields). AreGenuineBlocks W H i ss more) one.one_layout (subst (AreGenuineBlocks W H i n.sections) one.one_split n.genuine)
+    subst (λ (ss : List SectionFields). AreGenuineBlocks (seen_in W H) i ss more) one.one_layout (subst (AreGenuineBlocks (seen_in W H) i n.sections) one.one_split n.genuine)
 
-pub genuine_frames : LifeLaws → FrameLaws → BlockLaws → (W : World) (H : List Happened) (who : Who) → IsSourced W who → IsHistory W H → HasGenuineFrames W H who
+pub genuine_frames : LifeLaws → FrameLaws → BlockLaws → (W : World) (H : List Happened) (who : Who) → IsSourced W who → IsHistory W H → HasGenuineFrames (seen_in W H) who
 genuine_frames L F B W H who S is = record {
   sections = λ stamp sections under. under_were_sent L F W H who stamp sections S is under;
   every_frame = λ bytes i quality payload k d. every_frame L F B W H who bytes i quality payload S is k d;

@@ -24,6 +24,7 @@ use Rattle.pdc_history.specs.Frames.{IsLayoutSent, IsLayoutUnder}
 use Rattle.pdc_history.specs.Genuine.{LayoutsAreOne}
 use Rattle.pdc_history.specs.History.{IsHistory, IsMade}
 use Rattle.pdc_history.specs.Known.{FrameLaws, LifeLaws}
+use Rattle.pdc_history.specs.Seen.{seen_in}
 use Rattle.pdc_history.specs.World.{Who, World, Happened, Ticks, entry_at, given_by, given_in, life_of, opened_with, output_of, with_entry}
 use Rattle.pdc_history.proofs.Made.{tick_ticks}
 use Rattle.pdc_history.proofs.Marks.{given_start}
@@ -107,7 +108,7 @@ own_stamp F id output bytes stamp start change s c own q = elim own.spelled [
   | inr h ↦ F.stamps id output.id.value Hz60 output.nominal stamp.start stamp.change start change own.start_fits own.change_fits s c (sym h ∙ q)
 ]
 
-from_layout : LifeLaws → FrameLaws → (W : World) (H later earlier : List Happened) (who : Who) (e : Entry) (stamp : Stamp) (sections : List SectionFields) → IsHistory W H → (k : IsLayoutSent W H who stamp sections)
+from_layout : LifeLaws → FrameLaws → (W : World) (H later earlier : List Happened) (who : Who) (e : Entry) (stamp : Stamp) (sections : List SectionFields) → IsHistory W H → (k : IsLayoutSent (seen_in W H) who stamp sections)
     → H ≡ later ++ Ticks who e ∷ earlier → is_adoption e ≡ true → IsFrame k.bytes (layout_fields (given_in W earlier who) (e ∷ life_of earlier who)) → IsOfTick W H who stamp sections
 from_layout L F W H later earlier who e stamp sections is k stands adopts frame =
     let then : IsHistory W (Ticks who e ∷ earlier) = before W later (Ticks who e ∷ earlier) (subst (IsHistory W) stands is) in
@@ -137,7 +138,7 @@ from_layout L F W H later earlier who e stamp sections is k stands adopts frame 
 not_data : (f : Fields) (output : Output) (row : RowView) → f.kind ≡ Cfg2 → f ≡ row_fields output row → ⊥
 not_data f output row k q = let e : Cfg2 ≡ DataFrame = sym k ∙ ap (λ (x : Fields). x.kind) q in cc
 
-pub layout_is_of_tick : LifeLaws → FrameLaws → (W : World) (H : List Happened) (who : Who) (stamp : Stamp) (sections : List SectionFields) → IsHistory W H → IsLayoutSent W H who stamp sections → IsOfTick W H who stamp sections
+pub layout_is_of_tick : LifeLaws → FrameLaws → (W : World) (H : List Happened) (who : Who) (stamp : Stamp) (sections : List SectionFields) → IsHistory W H → IsLayoutSent (seen_in W H) who stamp sections → IsOfTick W H who stamp sections
 layout_is_of_tick L F W H who stamp sections is k = elim (owned L F W H who k.bytes k.has.fields is k.among k.has.of_stream.frame k.has.of_stream.id) [
   | AsLayout later earlier e stands adopts spelled frame ↦ from_layout L F W H later earlier who e stamp sections is k stands adopts frame
   | AsRow later earlier row stands spelled frame ↦
@@ -242,7 +243,7 @@ in_cond false x q = absurd (false≢true q)
 
 -- the layout of a tick that adopted is among what was sent
 layout_sent : LifeLaws → FrameLaws → (W : World) (later H : List Happened) (who : Who) (e : Entry) → IsHistory W (later ++ Ticks who e ∷ H) → is_adoption e ≡ true
-    → IsLayoutSent W (later ++ Ticks who e ∷ H) who (record { start = (given_in W H who).start; change = changes (e ∷ life_of H who) }) (sections_in_force (given_in W H who) (e ∷ life_of H who))
+    → IsLayoutSent (seen_in W (later ++ Ticks who e ∷ H)) who (record { start = (given_in W H who).start; change = changes (e ∷ life_of H who) }) (sections_in_force (given_in W H who) (e ∷ life_of H who))
 layout_sent L F W later H who e is adopts =
     let then : IsHistory W (Ticks who e ∷ H) = before W later (Ticks who e ∷ H) is in
     let g : Given = given_in W H who in
@@ -268,7 +269,7 @@ abbrev pub stamp_at : World → List Happened → Who → Stamp
 stamp_at W H who = record { start = (given_in W H who).start; change = changes (life_of H who) }
 
 from_adoption : LifeLaws → FrameLaws → (W : World) (later H : List Happened) (who : Who) → IsHistory W (later ++ H) → LastAdoption (life_of H who)
-    → IsLayoutSent W (later ++ H) who (stamp_at W H who) (sections_at W H who)
+    → IsLayoutSent (seen_in W (later ++ H)) who (stamp_at W H who) (sections_at W H who)
 from_adoption L F W later H who is l =
     let now : IsHistory W H = before W later H is in
     let m : Moment W H who l.e l.earlier = moment W H who l.later l.e l.earlier l.stands in
@@ -279,18 +280,18 @@ from_adoption L F W later H who is l =
     let g : given_in W m.earlier who ≡ given_in W H who = given_then W H who l.e l.earlier m in
     let one : changes (life_of H who) ≡ changes (l.e ∷ l.earlier) = ap changes l.stands ∙ l.same in
     let was = layout_sent L F W (later ++ m.later) m.earlier who l.e (subst (IsHistory W) all is) l.adopts in
-    let there : IsLayoutSent W (later ++ H) who (record { start = (given_in W m.earlier who).start; change = changes (l.e ∷ life_of m.earlier who) }) (sections_in_force (given_in W m.earlier who) (l.e ∷ life_of m.earlier who)) =
-    subst (λ (X : List Happened). IsLayoutSent W X who (record { start = (given_in W m.earlier who).start; change = changes (l.e ∷ life_of m.earlier who) }) (sections_in_force (given_in W m.earlier who) (l.e ∷ life_of m.earlier who))) (sym all) was in
-    let given : IsLayoutSent W (later ++ H) who (record { start = (given_in W H who).start; change = changes (l.e ∷ life_of m.earlier who) }) (sections_in_force (given_in W H who) (l.e ∷ life_of m.earlier who)) =
-    subst (λ (x : Given). IsLayoutSent W (later ++ H) who (record { start = x.start; change = changes (l.e ∷ life_of m.earlier who) }) (sections_in_force x (l.e ∷ life_of m.earlier who))) g there in
-    let lived : IsLayoutSent W (later ++ H) who (record { start = (given_in W H who).start; change = changes (l.e ∷ l.earlier) }) (sections_in_force (given_in W H who) (l.e ∷ l.earlier)) =
-    subst (λ (E : List Entry). IsLayoutSent W (later ++ H) who (record { start = (given_in W H who).start; change = changes (l.e ∷ E) }) (sections_in_force (given_in W H who) (l.e ∷ E))) m.life given in
+    let there : IsLayoutSent (seen_in W (later ++ H)) who (record { start = (given_in W m.earlier who).start; change = changes (l.e ∷ life_of m.earlier who) }) (sections_in_force (given_in W m.earlier who) (l.e ∷ life_of m.earlier who)) =
+    subst (λ (X : List Happened). IsLayoutSent (seen_in W X) who (record { start = (given_in W m.earlier who).start; change = changes (l.e ∷ life_of m.earlier who) }) (sections_in_force (given_in W m.earlier who) (l.e ∷ life_of m.earlier who))) (sym all) was in
+    let given : IsLayoutSent (seen_in W (later ++ H)) who (record { start = (given_in W H who).start; change = changes (l.e ∷ life_of m.earlier who) }) (sections_in_force (given_in W H who) (l.e ∷ life_of m.earlier who)) =
+    subst (λ (x : Given). IsLayoutSent (seen_in W (later ++ H)) who (record { start = x.start; change = changes (l.e ∷ life_of m.earlier who) }) (sections_in_force x (l.e ∷ life_of m.earlier who))) g there in
+    let lived : IsLayoutSent (seen_in W (later ++ H)) who (record { start = (given_in W H who).start; change = changes (l.e ∷ l.earlier) }) (sections_in_force (given_in W H who) (l.e ∷ l.earlier)) =
+    subst (λ (E : List Entry). IsLayoutSent (seen_in W (later ++ H)) who (record { start = (given_in W H who).start; change = changes (l.e ∷ E) }) (sections_in_force (given_in W H who) (l.e ∷ E))) m.life given in
     let sections : sections_in_force (given_in W H who) (l.e ∷ l.earlier) ≡ sections_at W H who =
     sym (ap (sections_in_force (given_in W H who)) l.stands ∙ same_in_life L (given_in W H who) l.later (l.e ∷ l.earlier) l.same) in
-    subst (λ (n : ℕ). IsLayoutSent W (later ++ H) who (record { start = (given_in W H who).start; change = n }) (sections_at W H who)) (sym one)
-    (subst (λ (s : List SectionFields). IsLayoutSent W (later ++ H) who (record { start = (given_in W H who).start; change = changes (l.e ∷ l.earlier) }) s) sections lived)
+    subst (λ (n : ℕ). IsLayoutSent (seen_in W (later ++ H)) who (record { start = (given_in W H who).start; change = n }) (sections_at W H who)) (sym one)
+    (subst (λ (s : List SectionFields). IsLayoutSent (seen_in W (later ++ H)) who (record { start = (given_in W H who).start; change = changes (l.e ∷ l.earlier) }) s) sections lived)
 
-pub layout_at : LifeLaws → FrameLaws → (W : World) (later H : List Happened) (who : Who) → IsHistory W (later ++ H) → IsLayoutUnder W (later ++ H) who (stamp_at W H who) (sections_at W H who)
+pub layout_at : LifeLaws → FrameLaws → (W : World) (later H : List Happened) (who : Who) → IsHistory W (later ++ H) → IsLayoutUnder (seen_in W (later ++ H)) who (stamp_at W H who) (sections_at W H who)
 layout_at L F W later H who is = elim (last_adoption (life_of H who)) [
   | inl none ↦ inl (none, none_in_force L (given_in W H who) (life_of H who) none)
   | inr l ↦ inr (from_adoption L F W later H who is l)

@@ -17,6 +17,7 @@ use Rattle.pdc_history.specs.Frames.{AreGenuineBlocks, IsGenuineBlock, IsLayoutS
 use Rattle.pdc_history.specs.Genuine.{HasGenuineFrames}
 use Rattle.pdc_history.specs.History.{IsForOne, IsHistory, stream_ids}
 use Rattle.pdc_history.specs.Known.{BlockLaws, FrameLaws, LifeLaws}
+use Rattle.pdc_history.specs.Seen.{seen_in}
 use Rattle.pdc_history.specs.World.{A, B, M, Who, World, Happened, given_in, life_of, sent}
 use Rattle.pdc_history.proofs.Lists.{element}
 use Rattle.pdc_history.proofs.Moments.{began}
@@ -29,7 +30,7 @@ use Rattle.pdc_history.proofs.Nodes.{HasArrived, has_arrived, sent_since}
 pub record IsFrom (W : World) (node : MergedNode) (v : Who) : Type 0 where
   pub stream : reading.stream_from W.m.settings node ≡ stream_from W v
   pub listed : Contains (stream_ids W M) node.id.value
-  pub genuine : LifeLaws → FrameLaws → BlockLaws → (H : List Happened) → IsHistory W H → HasGenuineFrames W H v
+  pub genuine : LifeLaws → FrameLaws → BlockLaws → (H : List Happened) → IsHistory W H → HasGenuineFrames (seen_in W H) v
 
 -- node A or node B
 abbrev pub FromNode : World → MergedNode → Type 0
@@ -62,7 +63,7 @@ from_node W (suc (suc s)) node k q = absurd (none_there s node q)
 
 -- what came to the merger as a layout of a node is a layout frame of that node that was sent
 came_sent : (W : World) (H : List Happened) (node : MergedNode) (v : Who) (bytes : List ℕ) (stamp : Stamp) (parts : List (ℕ × SectionFields)) → IsFrom W node v → Contains (sent W H) bytes → (k : IsLayoutOf W.m.settings node bytes stamp parts)
-    → IsLayoutSent W H v stamp k.others
+    → IsLayoutSent (seen_in W H) v stamp k.others
 came_sent W H node v bytes stamp parts from among k = record {
   bytes = bytes;
   among = among;
@@ -84,7 +85,7 @@ config_for_one W node v bytes stamp parts from k = record {
 pub record LayoutCame (W : World) (H : List Happened) (node : MergedNode) (stamp : Stamp) (parts : List (ℕ × SectionFields)) : Type 0 where
   pub others : List SectionFields
   pub same : map (λ (part : ℕ × SectionFields). part.1) parts ≡ others
-  pub sent : (v : Who) → IsFrom W node v → IsLayoutSent W H v stamp others
+  pub sent : (v : Who) → IsFrom W node v → IsLayoutSent (seen_in W H) v stamp others
 
 with_stamp : (W : World) (s : ℕ) (bytes : List ℕ) (parts : List (ℕ × SectionFields)) (k : ReadsForMerger W.m.settings s bytes (Layout None parts)) → ⊥
 with_stamp W s bytes parts k = k.reads
@@ -108,15 +109,15 @@ part_section parts others P c s q a k =
     parts_all (part ∷ parts) a = (a.0, parts_all parts a.1)
 
 section_of_stamp : LifeLaws → FrameLaws → BlockLaws → (W : World) (H : List Happened) (stream c : ℕ) (s : SectionFields) (bytes : List ℕ) (stamp : Option Stamp) (parts : List (ℕ × SectionFields)) (later then : List Happened)
-    → IsHistory W H → H ≡ later ++ then → (IsForOne W M bytes → Contains (sent W then) bytes) → ReadsForMerger W.m.settings stream bytes (Layout stamp parts) → Contains parts (c, s) → SectionWasSent W H s
+    → IsHistory W H → H ≡ later ++ then → (IsForOne W M bytes → Contains (sent W then) bytes) → ReadsForMerger W.m.settings stream bytes (Layout stamp parts) → Contains parts (c, s) → SectionWasSent (seen_in W H) s
 section_of_stamp L F K W H stream c s bytes None parts later then is stands was reads k = absurd (with_stamp W stream bytes parts reads)
 section_of_stamp L F K W H stream c s bytes (Some stamp) parts later then is stands was reads k =
     let from = from_node W stream reads.node (began W H is).settings reads.listed in
     let came : LayoutCame W H reads.node stamp parts = layout_came W H reads.node bytes stamp parts later then stands was reads.reads in
-    let all : AllByRecursion (SectionWasSent W H) came.others = (from.1.genuine L F K H is).sections stamp came.others (inr (came.sent from.0 from.1)) in
-    part_section parts came.others (SectionWasSent W H) c s came.same all k
+    let all : AllByRecursion (SectionWasSent (seen_in W H)) came.others = (from.1.genuine L F K H is).sections stamp came.others (inr (came.sent from.0 from.1)) in
+    part_section parts came.others (SectionWasSent (seen_in W H)) c s came.same all k
 
-pub merged_column : LifeLaws → FrameLaws → BlockLaws → (W : World) (H : List Happened) (c : ℕ) (s : SectionFields) → IsHistory W H → section_in_force (given_in W H M) (life_of H M) c ≡ Some s → SectionWasSent W H s
+pub merged_column : LifeLaws → FrameLaws → BlockLaws → (W : World) (H : List Happened) (c : ℕ) (s : SectionFields) → IsHistory W H → section_in_force (given_in W H M) (life_of H M) c ≡ Some s → SectionWasSent (seen_in W H) s
 merged_column L F K W H c s is q =
     let come = L.come (given_in W H M) (life_of H M) c s q in
     let a : HasArrived W H M come.stream come.bytes (Layout come.stamp come.sections) come.earlier =
@@ -173,10 +174,10 @@ held_under W H s node layout is listed q =
 -- ---- its blocks
 
 -- the block at a place
-pub genuine_place : (W : World) (H : List Happened) (i place : ℕ) (sections : List SectionFields) (blocks : List (List ℕ)) (s : SectionFields) (words : List ℕ) → AreGenuineBlocks W H i sections blocks → slice_get sections place ≡ Some s
-    → slice_get blocks place ≡ Some words → IsGenuineBlock W H i s words
+pub genuine_place : (W : World) (H : List Happened) (i place : ℕ) (sections : List SectionFields) (blocks : List (List ℕ)) (s : SectionFields) (words : List ℕ) → AreGenuineBlocks (seen_in W H) i sections blocks → slice_get sections place ≡ Some s
+    → slice_get blocks place ≡ Some words → IsGenuineBlock (seen_in W H) i s words
 genuine_place W H i zero (t ∷ sections) (other ∷ blocks) s words k p q =
-    subst (λ (x : SectionFields). IsGenuineBlock W H i x words) (same_Some t s p) (subst (IsGenuineBlock W H i t) (same_Some other words q) k.0)
+    subst (λ (x : SectionFields). IsGenuineBlock (seen_in W H) i x words) (same_Some t s p) (subst (IsGenuineBlock (seen_in W H) i t) (same_Some other words q) k.0)
 genuine_place W H i (suc place) (t ∷ sections) (other ∷ blocks) s words k p q = genuine_place W H i place sections blocks s words k.1 p q
 genuine_place W H i zero [] blocks s words k p q = absurd (none-some s p)
 genuine_place W H i (suc place) [] blocks s words k p q = absurd (none-some s p)

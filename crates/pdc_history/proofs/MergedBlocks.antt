@@ -20,6 +20,7 @@ use Rattle.pdc_history.specs.Frames.{AreGenuineBlocks, IsGenuineBlock, IsLayoutS
 use Rattle.pdc_history.specs.Genuine.{HeldLayoutsWereSent, IsGenuineData, MergedBlocksAreGenuine}
 use Rattle.pdc_history.specs.History.{IsForOne, IsHistory, stream_ids}
 use Rattle.pdc_history.specs.Known.{BlockLaws, FrameLaws, LifeLaws}
+use Rattle.pdc_history.specs.Seen.{seen_in}
 use Rattle.pdc_history.specs.World.{A, B, M, Who, World, Happened, given_in, life_of, sent}
 use Rattle.pdc_history.proofs.Blocks.{IsSourced, block_stays}
 use Rattle.pdc_history.proofs.Cuts.{block_rests, genuine_frames, own_shape, same_own, stamps_of_words}
@@ -48,45 +49,45 @@ data_for_one W stream bytes i quality payload listed d = record {
 -- the frame of the node from which a block was taken, in the history in which it came: cut under the layout that was held then, and
 -- in no other way
 cut_alike : LifeLaws → FrameLaws → (W : World) (X : List Happened) (v : Who) (i : ℕ) (payload own : List ℕ) (layout : HeldLayout) (others : List SectionFields) (blocks : List (List ℕ)) → IsHistory W X
-    → IsGenuineData W X v i payload → IsLayoutUnder W X v layout.stamp others → map (λ (part : ℕ × SectionFields). part.1) layout.sections ≡ others → IsCut (own_shape ∷ shapes_of layout) payload (own ∷ blocks)
-    → drop 3 own ≡ stamp_words layout.stamp.start layout.stamp.change → AreGenuineBlocks W X i others blocks
+    → IsGenuineData (seen_in W X) v i payload → IsLayoutUnder (seen_in W X) v layout.stamp others → map (λ (part : ℕ × SectionFields). part.1) layout.sections ≡ others → IsCut (own_shape ∷ shapes_of layout) payload (own ∷ blocks)
+    → drop 3 own ≡ stamp_words layout.stamp.start layout.stamp.change → AreGenuineBlocks (seen_in W X) i others blocks
 cut_alike L F W X v i payload own layout others blocks is n under same cut stamp =
     let shapes : List Shape = map (λ (s : SectionFields). s.shape) n.sections in
     let first : IsCut (own_shape ∷ shapes) payload (own_block n.stamp.start n.stamp.change ∷ n.blocks) = n.is_cut.cut.cut own_shape refl refl refl in
     let alike : own_block n.stamp.start n.stamp.change ≡ own = same_own shapes (shapes_of layout) payload (own_block n.stamp.start n.stamp.change) own n.blocks blocks first cut in
     let stamps = stamps_of_words n.stamp.start n.stamp.change layout.stamp.start layout.stamp.change [] [] (ap (drop 3) alike ∙ stamp) in
     let one : n.stamp ≡ layout.stamp = λ j. record { start = stamps.0 j; change = stamps.1 j } in
-    let sections : n.sections ≡ others = layouts_are_one L F W X v layout.stamp n.sections others is (subst (λ (x : Stamp). IsLayoutUnder W X v x n.sections) one n.is_cut.under) under in
+    let sections : n.sections ≡ others = layouts_are_one L F W X v layout.stamp n.sections others is (subst (λ (x : Stamp). IsLayoutUnder (seen_in W X) v x n.sections) one n.is_cut.under) under in
     let same_shapes : shapes ≡ shapes_of layout = ap (map (λ (s : SectionFields). s.shape)) (sections ∙ sym same) ∙ shapes_same layout.sections in
     let split : n.blocks ≡ blocks =
     block_rests (own_block n.stamp.start n.stamp.change) own n.blocks blocks
     (F.one_cut (own_shape ∷ shapes_of layout) payload (own_block n.stamp.start n.stamp.change ∷ n.blocks) (own ∷ blocks)
     (subst (λ (ss : List Shape). IsCut (own_shape ∷ ss) payload (own_block n.stamp.start n.stamp.change ∷ n.blocks)) same_shapes first) cut) in
-    subst (λ (ss : List SectionFields). AreGenuineBlocks W X i ss blocks) sections (subst (AreGenuineBlocks W X i n.sections) split n.genuine)
+    subst (λ (ss : List SectionFields). AreGenuineBlocks (seen_in W X) i ss blocks) sections (subst (AreGenuineBlocks (seen_in W X) i n.sections) split n.genuine)
 
 -- the block at the section of the column, in that history
 then_genuine : LifeLaws → FrameLaws → BlockLaws → (W : World) (X : List Happened) (E : List Entry) (stream c i : ℕ) (s : SectionFields) (b : BlockView) (quality : ℕ) → IsHistory W X → (d : IsMergedData W.m.settings E stream c i s (record { block = b; quality = quality }))
-    → life_of X M ≡ d.earlier → (IsForOne W M d.bytes → Contains (sent W X) d.bytes) → IsGenuineBlock W X i s b.words
+    → life_of X M ≡ d.earlier → (IsForOne W M d.bytes → Contains (sent W X) d.bytes) → IsGenuineBlock (seen_in W X) i s b.words
 then_genuine L F K W X E stream c i s b quality is d life was =
     let from : FromNode W d.reads.node = from_node W stream d.reads.node (began W X is).settings d.reads.listed in
     let of_node : IsData (stream_from W from.0) d.bytes i d.quality d.payload = subst (λ (x : Stream). IsData x d.bytes i d.quality d.payload) from.1.stream d.reads.reads in
     let among : Contains (sent W X) d.bytes = was (data_for_one W (reading.stream_from W.m.settings d.reads.node) d.bytes i d.quality d.payload from.1.listed d.reads.reads) in
-    let n : IsGenuineData W X from.0 i d.payload = (from.1.genuine L F K X is).every_frame d.bytes i d.quality d.payload among of_node in
+    let n : IsGenuineData (seen_in W X) from.0 i d.payload = (from.1.genuine L F K X is).every_frame d.bytes i d.quality d.payload among of_node in
     let came : LayoutCame W X d.reads.node d.layout.stamp d.layout.sections =
     held_under W X stream d.reads.node d.layout is d.reads.listed (subst (λ (F : List Entry). held_layout F stream ≡ Some d.layout) (sym life) d.held) in
-    let all : AreGenuineBlocks W X i came.others d.blocks =
+    let all : AreGenuineBlocks (seen_in W X) i came.others d.blocks =
     cut_alike L F W X from.0 i d.payload d.own d.layout came.others d.blocks is n (inr (came.sent from.0 from.1)) came.same (d.cut.cut own_shape refl refl refl) d.cut.stamp in
     genuine_place W X i d.place came.others d.blocks s b.words all (at_part d.layout.sections came.others d.place c s came.same d.section) d.block
 
-merged_block : LifeLaws → FrameLaws → BlockLaws → (W : World) (H : List Happened) (c i : ℕ) (s : SectionFields) (b : BlockView) → IsHistory W H → HasBrought (given_in W H M) (life_of H M) c i s b → IsGenuineBlock W H i s b.words
+merged_block : LifeLaws → FrameLaws → BlockLaws → (W : World) (H : List Happened) (c i : ℕ) (s : SectionFields) (b : BlockView) → IsHistory W H → HasBrought (given_in W H M) (life_of H M) c i s b → IsGenuineBlock (seen_in W H) i s b.words
 merged_block L F K W H c i s b is k =
     let d : IsMergedData W.m.settings (life_of H M) k.stream c i s k.cell = K.merger_cells W.m.settings (given_in W H M) (life_of H M) k.stream c i s k.cell (life_is_life W H M is) k.in_force k.given in
     let a : HasArrived W H M k.stream d.bytes (Data i d.quality d.payload) d.earlier = has_arrived W H M d.later k.stream d.bytes (Data i d.quality d.payload) d.answer d.earlier is d.stands in
     let then : IsHistory W a.then = before W a.later a.then (subst (IsHistory W) a.stands is) in
-    let there : IsGenuineBlock W a.then i s k.cell.block.words = then_genuine L F K W a.then (life_of H M) k.stream c i s k.cell.block k.cell.quality then d a.life a.was_sent in
-    let here : IsGenuineBlock W H i s k.cell.block.words =
-    subst (λ (X : List Happened). IsGenuineBlock W X i s k.cell.block.words) (sym a.stands) (block_stays W a.later a.then i s k.cell.block.words there) in
-    subst (λ (x : BlockView). IsGenuineBlock W H i s x.words) k.block here
+    let there : IsGenuineBlock (seen_in W a.then) i s k.cell.block.words = then_genuine L F K W a.then (life_of H M) k.stream c i s k.cell.block k.cell.quality then d a.life a.was_sent in
+    let here : IsGenuineBlock (seen_in W H) i s k.cell.block.words =
+    subst (λ (X : List Happened). IsGenuineBlock (seen_in W X) i s k.cell.block.words) (sym a.stands) (block_stays W a.later a.then i s k.cell.block.words there) in
+    subst (λ (x : BlockView). IsGenuineBlock (seen_in W H) i s x.words) k.block here
 
 pub merger_is_sourced : LifeLaws → FrameLaws → BlockLaws → (W : World) → IsSourced W M
 merger_is_sourced L F K W = record {
@@ -100,10 +101,10 @@ merged_blocks_are_genuine L F K W H is = genuine_frames L F K W H M (merger_is_s
 -- ---- the layouts that the merger holds
 
 held_of : LifeLaws → (W : World) (H : List Happened) (s : ℕ) (node : MergedNode) (v : Who) (layout : HeldLayout) → IsHistory W H → IsFrom W node v → slice_get (nodes_of W.m.settings) s ≡ Some node → held_layout (life_of H M) s ≡ Some layout
-    → IsLayoutUnder W H v layout.stamp (map (λ (part : ℕ × SectionFields). part.1) layout.sections)
+    → IsLayoutUnder (seen_in W H) v layout.stamp (map (λ (part : ℕ × SectionFields). part.1) layout.sections)
 held_of L W H s node v layout is from listed q =
     let came : LayoutCame W H node layout.stamp layout.sections = held_under W H s node layout is listed q in
-    inr (subst (IsLayoutSent W H v layout.stamp) (sym came.same) (came.sent v from))
+    inr (subst (IsLayoutSent (seen_in W H) v layout.stamp) (sym came.same) (came.sent v from))
 
 pub held_layouts_were_sent : LifeLaws → HeldLayoutsWereSent
 held_layouts_were_sent L W H is = record {

@@ -20,6 +20,7 @@ use Rattle.pdc_history.specs.Frames.{WasSent}
 use Rattle.pdc_history.specs.History.{IsForOne, IsHistory, IsMade, MayCome, Says, stream_ids}
 use Rattle.pdc_history.specs.Known.{BlockLaws, LifeLaws}
 use Rattle.pdc_history.specs.Lives.{IsLifeOf}
+use Rattle.pdc_history.specs.Seen.{seen_in}
 use Rattle.pdc_history.specs.World.{A, B, Who, World, Happened, given_in, life_of, rules_of, sent}
 use Rattle.pdc_history.proofs.Blocks.{IsSourced}
 use Rattle.pdc_history.proofs.Lives.{life_is_life}
@@ -221,7 +222,7 @@ node_column L W who settings H c s n is q =
 -- ---- its blocks
 
 block_was_sent : LifeLaws → BlockLaws → (W : World) (who : Who) (settings : Settings) (H : List Happened) (c i : ℕ) (s : SectionFields) (b : BlockView) → IsNode W who settings → IsHistory W H
-    → HasBrought (given_in W H who) (life_of H who) c i s b → WasSent W H i s b.words
+    → HasBrought (given_in W H who) (life_of H who) c i s b → WasSent (seen_in W H) i s b.words
 block_was_sent L K W who settings H c i s b n is k =
     let d : IsNodeData settings (life_of H who) c i s k.cell =
     (K.node_cells settings (given_in W H who) (life_of H who) k.stream c i s k.cell (n.life (given_in W H who) (life_of H who) (life_is_life W H who is)) k.in_force k.given).1 in

@@ -9,4 +9,5 @@ pub mod Lives
 pub mod Marks
 pub mod Play
 pub mod Pmus
+pub mod Seen
 pub mod World

@@ -76,10 +76,13 @@ given_by W A mark = given_of W.a.settings mark.start mark.floor mark.counts 0
 given_by W B mark = given_of W.b.settings mark.start mark.floor mark.counts 0
 given_by W M mark = given_of_merger W.m.settings mark.start mark.floor mark.counts 0
 
+abbrev pub output_among : Settings → Settings → MergerSettings → Who → Output
+output_among a b m A = a.output
+output_among a b m B = b.output
+output_among a b m M = m.output
+
 abbrev pub output_of : World → Who → Output
-output_of W A = W.a.settings.output
-output_of W B = W.b.settings.output
-output_of W M = W.m.settings.output
+output_of W who = output_among W.a.settings W.b.settings W.m.settings who
 
 -- The present life of a core.
 

@@ -6,6 +6,7 @@ ghost use Rattle.pdc_history.specs.Lives.{LivesAreLives, PublishedRowsAreThose, 
 ghost use Rattle.pdc_history.specs.Marks.{AdoptedCountsNeverFall, GreaterIsRaised, InstantsRise, MarksBound, WaitingIsWhole};
 ghost use Rattle.pdc_history.specs.Play.{PlaysAreHistories, PlaysAreOne, StepsAreOne};
 ghost use Rattle.pdc_history.specs.Pmus.{PmusSendOneBody, PmusSendOneSection, PmusSendTheirOwn};
+ghost use Rattle.pdc_history.specs.Seen.{OfHistories};
 
 use crate::known::{blocks_are_known, frames_are_known, lives_are_known};
 use pdc_life::{bytes_are_read_in_one_way, merger_steps_have_one_life};
@@ -70,8 +71,8 @@ pub fn instants_rise()
 /// Frames of a PMU are sent by it alone; it sent one body for one instant, and one section under one count.
 pub fn pmus_send_one()
     ensures own { PmusSendTheirOwn }
-    ensures body { PmusSendOneBody }
-    ensures section { PmusSendOneSection }
+    ensures body { OfHistories PmusSendOneBody }
+    ensures section { OfHistories PmusSendOneSection }
 {
     lives_are_known();
     frames_are_known();
@@ -112,7 +113,7 @@ pub fn merged_blocks_are_genuine()
 /// Any two frames for one instant that were sent, of a node or the merger and of whatever lives, agree on each PMU that is present in
 /// both under one configuration count: the words are equal, and so are the sections, byte for byte. So do published frames.
 pub fn frames_agree()
-    ensures sent { FramesAgree }
+    ensures sent { OfHistories FramesAgree }
     ensures published { PublishedAgree }
 {
     lives_are_known();

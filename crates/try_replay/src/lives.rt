@@ -107,7 +107,7 @@ impl<T: Table> Lives for Node<T> {
             settings.timing.wait_kind,
         )?;
         for each in settings.pmus.as_slice() {
-            let table = pmu(alloc, each.stream)?;
+            let table = pmu(alloc, each.stream.value)?;
             text.push_str(table.as_str())?;
         }
         Ok(Some(Beginning {

@@ -1,9 +1,9 @@
 use Rattle.pdc_history.specs.World.{M}
 use Rattle.pdc_headline.specs.Seen.{seen_of}
 use Rattle.pdc_headline.proofs.Cuts.{CutLaws}
-use Rattle.pdc_headline.proofs.Genuine.{MergerIsGenuine, merger_in}
+use Rattle.pdc_headline.proofs.Genuine.{MergerIsGenuine}
 use Rattle.pdc_headline.proofs.Sources.{genuine_frames_hold}
-use Rattle.pdc_headline.proofs.Worlds.{of_world}
+use Rattle.pdc_headline.proofs.Worlds.{of_frames}
 use Rattle.pdc_headline.proofs.laws.merged_blocks_are_genuine.Goals as goal
 
 pub returns : goal.returns
@@ -16,4 +16,4 @@ returns g c =
       found = c.payloads_are_cut_in_one_way.ensures.found;
     } in
     genuine_frames_hold c.instant_is_nearest.ensures.computed C (seen_of c.args.world.now) M
-    (of_world MergerIsGenuine c.args.world.now (merger_in c.merged_blocks_are_genuine.ensures.genuine) c.holds_some_history.ensures)
+    (of_frames MergerIsGenuine c.args.world.now c.merged_blocks_are_genuine.ensures.genuine c.holds_some_history.ensures)

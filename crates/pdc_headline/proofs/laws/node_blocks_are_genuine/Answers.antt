@@ -1,10 +1,10 @@
 use Rattle.pdc_history.specs.World.{A, B}
 use Rattle.pdc_headline.specs.Seen.{seen_of}
 use Rattle.pdc_headline.proofs.Cuts.{CutLaws}
-use Rattle.pdc_headline.proofs.Genuine.{NodesAreGenuine, nodes_in}
+use Rattle.pdc_headline.proofs.Genuine.{NodesAreGenuine}
 use Rattle.pdc_headline.proofs.Sources.{genuine_frames_hold}
 use Rattle.pdc_headline.proofs.Told.{so_does}
-use Rattle.pdc_headline.proofs.Worlds.{of_world}
+use Rattle.pdc_headline.proofs.Worlds.{of_frames}
 use Rattle.pdc_headline.proofs.laws.node_blocks_are_genuine.Goals as goal
 
 pub returns : goal.returns
@@ -16,7 +16,7 @@ returns g c =
       size = c.payloads_are_cut_in_one_way.ensures.size;
       found = c.payloads_are_cut_in_one_way.ensures.found;
     } in
-    let k = of_world NodesAreGenuine c.args.world.now (nodes_in c.node_blocks_are_genuine.ensures) c.holds_some_history.ensures in (
+    let k = of_frames NodesAreGenuine c.args.world.now c.node_blocks_are_genuine.ensures c.holds_some_history.ensures in (
       genuine_frames_hold c.instant_is_nearest.ensures.computed C (seen_of c.args.world.now) A (so_does (λ n. n.0) k),
       genuine_frames_hold c.instant_is_nearest.ensures.computed C (seen_of c.args.world.now) B (so_does (λ n. n.1) k),
     )
