@@ -17,4 +17,5 @@ pub mod RingPut
 pub mod RingRows
 pub mod RowAt
 pub mod RowSteps
+pub mod TakenParts
 pub mod Told

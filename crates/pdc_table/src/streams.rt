@@ -1,5 +1,5 @@
 //! Streams and their lanes.
-ghost use Rattle.std.specs.Prelude.{◌≡◌, ◌≤◌, ◌==◌, false, if◌then◌else◌, replicate};
+ghost use Rattle.std.specs.Prelude.{◌≡◌, ◌≤◌, ◌==◌, false, if◌then◌else◌, length, replicate};
 ghost use Rattle.pdc_table.specs.Closing.{all_taken};
 ghost use Rattle.pdc_table.specs.Content.{stream_count};
 
@@ -32,8 +32,40 @@ pub fn falses(count: usize) -> ArrayVec<bool, MAX_COLUMNS>
     falses
 }
 
+/// How many streams are looked at in one step.
+const STREAMS_AT_ONCE: usize = 8;
+
 /// Whether each required stream was taken.
 pub fn all_taken(required: &[bool], taken: &[bool]) -> bool
+    ensures { result ≡ all_taken required.now taken.now }
+{
+    if required.len() < STREAMS_AT_ONCE || taken.len() < STREAMS_AT_ONCE {
+        return each_taken(required, taken);
+    }
+    let (required, behind) = required.split_at(STREAMS_AT_ONCE);
+    let (taken, taken_behind) = taken.split_at(STREAMS_AT_ONCE);
+    eight_taken(required, taken) && all_taken(behind, taken_behind)
+}
+
+/// The same of eight streams: no test stands between two of them, so that they are looked at in one step.
+#[inline(always)]
+fn eight_taken(required: &[bool], taken: &[bool]) -> bool
+    requires required { length required.now ≡ 8 }
+    requires taken { length taken.now ≡ 8 }
+    ensures { result ≡ all_taken required.now taken.now }
+{
+    (!required[0] | taken[0])
+        & (!required[1] | taken[1])
+        & (!required[2] | taken[2])
+        & (!required[3] | taken[3])
+        & (!required[4] | taken[4])
+        & (!required[5] | taken[5])
+        & (!required[6] | taken[6])
+        & (!required[7] | taken[7])
+}
+
+/// The same, each with a test of its own.
+fn each_taken(required: &[bool], taken: &[bool]) -> bool
     ensures { result ≡ all_taken required.now taken.now }
 {
     for (stream, is_required) in required.iter().enumerate() {
