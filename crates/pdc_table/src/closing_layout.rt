@@ -1,9 +1,10 @@
 //! The layout that a row closed under.
-ghost use Rattle.std.specs.Prelude.{◌≡◌};
+ghost use Rattle.std.specs.Prelude.{◌≡◌, ◌≤◌, length};
 ghost use Rattle.pdc_table.specs.Layout.{layout_view};
 
-use crate::RowLayout;
+use crate::{MAX_COLUMNS, RowLayout};
 use arrayvec::ArrayVec;
+use pdc_row::Shape;
 use std::marker::Model;
 
 /// A copy of the layout that a row closed under.
@@ -40,11 +41,7 @@ impl ClosingLayout {
     pub(crate) fn set(&mut self, layout: &RowLayout)
         ensures { self.new ≡ layout_view layout.now }
     {
-        let shapes = &mut self.layout.shapes;
-        shapes.clear();
-        shapes
-            .try_extend_from_slice(layout.shapes.as_slice())
-            .unwrap();
+        set_shapes(&mut self.layout.shapes, layout.shapes.as_slice());
         self.layout.start = layout.start;
         self.layout.change = layout.change;
     }
@@ -55,4 +52,17 @@ impl ClosingLayout {
     {
         &self.layout
     }
+}
+
+/// Makes these the shapes of a layout. Where there were as many before, they are written over, and nothing is emptied first.
+fn set_shapes(kept: &mut ArrayVec<Option<Shape>, MAX_COLUMNS>, shapes: &[Option<Shape>])
+    requires { length shapes.now ≤ MAX_COLUMNS }
+    ensures { kept.new.items ≡ shapes.now }
+{
+    if kept.len() == shapes.len() {
+        kept.as_mut_slice().copy_from_slice(shapes);
+        return;
+    }
+    kept.clear();
+    kept.try_extend_from_slice(shapes).unwrap();
 }

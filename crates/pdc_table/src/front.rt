@@ -9,7 +9,9 @@ pub fn remove_front<T: Drop>(items: &mut Vec<T>, count: usize)
     ensures items { items.new.items ≡ drop count items.old.items }
     ensures capacity { vec_capacity items.new ≡ vec_capacity items.old }
 {
-    items.drain(..count);
+    if count > 0 {
+        items.drain(..count);
+    }
 }
 
 /// Whether the instant that is held, if there is one, is less than the window away.
