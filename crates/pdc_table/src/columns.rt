@@ -1,9 +1,9 @@
 //! The columns of a row, as the lists that the row keeps of them: which lanes hold a cell, and the cells of each lane.
-ghost use Rattle.std.specs.Prelude.{◌≡◌, ℕ, ◌<◌, ◌≤◌, length, option_copied, replicate, false, slice_index_or};
+ghost use Rattle.std.specs.Prelude.{◌≡◌, ℕ, ◌<◌, ◌≤◌, Some, length, option_copied, replicate, false, slice_index_or, slice_set};
 ghost use Rattle.std.specs.List.{All, list_any};
 ghost use Rattle.pdc_table.specs.Chosen.{chosen_of};
 ghost use Rattle.pdc_table.specs.Steps.{disagreement_at};
-ghost use Rattle.pdc_table.specs.Taking.{cell_in, cells_in, conflicts, holds_other, with_cells};
+ghost use Rattle.pdc_table.specs.Taking.{cell_in, cells_in, conflicts, holds_other, with_cell, with_cells};
 ghost use Rattle.pdc_table.specs.OpenRowParts.{columns_of, nothing};
 ghost use Rattle.pdc_table.specs.Views.{empty_column};
 ghost use Rattle.pdc_table.specs.declared.column.Held.{Held as HeldData};
@@ -23,9 +23,66 @@ pub fn nothings(count: usize) -> ArrayVec<Held, MAX_COLUMNS>
     nothings
 }
 
-/// Puts the blocks into their columns, in this lane.
+/// Puts the blocks into their columns, in this lane: most frames bring one.
 #[inline(always)]
 pub fn put_cells<B: Offered>(
+    held: &mut [Held],
+    first: &mut [Cell],
+    second: &mut [Cell],
+    lane: usize,
+    cells: &[(usize, B)],
+    quality: u8,
+)
+    requires columns { All (λ (cell : ℕ × B). cell.0 < length held.old) cells.now }
+    requires first { length held.old ≤ length first.old }
+    requires second { length held.old ≤ length second.old }
+    ensures columns { columns_of held.new first.new second.new
+        ≡ with_cells lane (cells_in B.view cells.now quality) (columns_of held.old first.old second.old) }
+    ensures held { length held.new ≡ length held.old }
+    ensures first { length first.new ≡ length first.old }
+    ensures second { length second.new ≡ length second.old }
+    ensures alone { lane ≡ 0 → list_any (λ (h : HeldData). h.second) held.new ≡ list_any (λ (h : HeldData). h.second) held.old }
+{
+    if let [cell] = cells {
+        put_one(held, first, second, lane, cell, quality);
+    } else {
+        put_each(held, first, second, lane, cells, quality);
+    }
+}
+
+/// Puts the block of a cell into its column, in this lane.
+#[inline(always)]
+fn put_one<B: Offered>(
+    held: &mut [Held],
+    first: &mut [Cell],
+    second: &mut [Cell],
+    lane: usize,
+    cell: &(usize, B),
+    quality: u8,
+)
+    requires column { cell.now.0 < length held.old }
+    requires first { length held.old ≤ length first.old }
+    requires second { length held.old ≤ length second.old }
+    ensures columns { columns_of held.new first.new second.new ≡ slice_set (columns_of held.old first.old second.old) cell.now.0
+        (with_cell lane (Some (record { block = B.view cell.now.1; quality = quality })) (slice_index_or (columns_of held.old first.old second.old) cell.now.0 empty_column)) }
+    ensures held { length held.new ≡ length held.old }
+    ensures first { length first.new ≡ length first.old }
+    ensures second { length second.new ≡ length second.old }
+    ensures alone { lane ≡ 0 → list_any (λ (h : HeldData). h.second) held.new ≡ list_any (λ (h : HeldData). h.second) held.old }
+{
+    let (column, block) = cell;
+    held[*column].put(
+        &mut first[*column],
+        &mut second[*column],
+        lane,
+        block,
+        quality,
+    );
+}
+
+/// The same of any number of blocks: a call of its own, so that the way of one block keeps what it needs in registers.
+#[inline(never)]
+fn put_each<B: Offered>(
     held: &mut [Held],
     first: &mut [Cell],
     second: &mut [Cell],

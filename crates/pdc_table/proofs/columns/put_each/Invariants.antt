@@ -2,7 +2,7 @@ use Rattle.std.proofs.Common.{◌≡◌, drop, length}
 use Rattle.pdc_table.specs.OpenRowParts.{columns_of}
 use Rattle.pdc_table.proofs.OpenRowParts.{any_second}
 use Rattle.pdc_table.specs.Taking.{cells_in, with_cells}
-use Rattle.pdc_table.proofs.columns.put_cells.Given as goal
+use Rattle.pdc_table.proofs.columns.put_each.Given as goal
 
 -- what is left goes into the columns as they are
 abbrev pub invariant-loop-column : goal.invariant-loop-column

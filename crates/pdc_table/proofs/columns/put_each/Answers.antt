@@ -3,7 +3,7 @@ use Rattle.pdc_table.specs.OpenRowParts.{columns_of, nothing}
 use Rattle.pdc_table.specs.Taking.{cells_in, with_cells}
 use Rattle.pdc_table.proofs.OpenRowParts.{column_put, second_kept}
 use Rattle.pdc_table.proofs.RowSteps.{cells_step}
-use Rattle.pdc_table.proofs.columns.put_cells.Goals as goal
+use Rattle.pdc_table.proofs.columns.put_each.Goals as goal
 
 pub loop-column-preserved : goal.loop-column-preserved
 loop-column-preserved g c =
