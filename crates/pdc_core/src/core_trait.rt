@@ -4,6 +4,7 @@ ghost use Rattle.pdc_align.specs.Align.{ticked_of};
 ghost use Rattle.pdc_align.specs.pdc_arrival.Counts.{after_answer, counts_after};
 ghost use Rattle.pdc_align.specs.pdc_arrival.declared.counts.Counts.{Counts as CountsData};
 ghost use Rattle.pdc_core.specs.Core.{Hears};
+ghost use Rattle.pdc_core.specs.KeptArrival.{taken_view};
 ghost use Rattle.pdc_align.specs.Popped.{popped_after};
 ghost use Rattle.pdc_core.specs.Step.{IsOf, Tells, answers, counted_by, is_allowed, popped_by, rises_by};
 ghost use Rattle.pdc_align.specs.pdc_life.Answer.{IsReadStep, ReadStep, Rules, ToArrive, ToPop, ToTick, answered, pop_answer, tick_answer, waiting_counts};
@@ -16,7 +17,7 @@ ghost use Rattle.pdc_align.specs.pdc_row.RowView.{RowView, row_instants, row_vie
 ghost use Rattle.pdc_align.specs.pdc_table.KeptRow.{popped_into};
 ghost use Rattle.pdc_align.specs.pdc_tag.declared.limits.TheConstants.{SECONDS};
 
-use crate::{CoreStep, Reads, Reply};
+use crate::{CoreStep, KeptArrival, Reads, Reply};
 use pdc_align::{Arrival, Buffer, Counts, DueRow, MAX_PMUS, Outcome, Ticked};
 use std::alloc::AllocError;
 
@@ -59,6 +60,22 @@ pub trait Core {
         ensures popped { popped_of self.new ≡ popped_of self.old }
         ensures settings { settings_of self.new ≡ settings_of self.old }
         ensures memory { memory self.new ≡ memory self.old };
+
+    /// Answers what was kept of what arrived for a stream, as it does what arrived.
+    fn arrive_kept(&mut self, stream: usize, taken: &KeptArrival) -> Outcome
+        requires { Self.Settings.fits (settings_of self.old) stream (taken_view taken.now) ≡ true }
+        ensures answer { (g : Given) (E : List Entry) → stands_for self.old g E →
+            result ≡ (rules g E stream (taken_view taken.now)).outcome }
+        ensures stands { (g : Given) (E : List Entry) (bytes : List ℕ) → Self.Settings.says (settings_of self.old) stream bytes (taken_view taken.now) →
+            stands_for self.old g E → stands_for self.new g (answered rules g E (ToArrive stream bytes (taken_view taken.now)) ∷ E) }
+        ensures counts { counts_of self.new ≡ after_answer result (counts_of self.old) }
+        ensures popped { popped_of self.new ≡ popped_of self.old }
+        ensures settings { settings_of self.new ≡ settings_of self.old }
+        ensures memory { memory self.new ≡ memory self.old }
+    {
+        let arrival = taken.view();
+        self.arrive(stream, &arrival)
+    }
 
     /// A tick: the instant that is now, and for each column the count up to which a section may be adopted.
     fn tick(&mut self, now: u64, counts: &[u16; MAX_PMUS]) -> Ticked
@@ -141,10 +158,7 @@ pub trait Core {
         ensures memory { memory self.new ≡ memory self.old }
     {
         match step {
-            CoreStep::Arrive { stream, taken } => {
-                let arrival = taken.view();
-                Reply::Arrived(self.arrive(*stream, &arrival))
-            }
+            CoreStep::Arrive { stream, taken } => Reply::Arrived(self.arrive_kept(*stream, taken)),
             CoreStep::Tick { now, counts } => Reply::Closed(self.tick(*now, counts)),
             CoreStep::Pop => Reply::Popped(self.pop_due()),
         }

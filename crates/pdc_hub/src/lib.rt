@@ -18,6 +18,7 @@ mod receiver;
 mod recorder;
 mod replayed;
 mod shares;
+mod totals;
 
 pub use fault::HubFault;
 pub use hub::Hub;

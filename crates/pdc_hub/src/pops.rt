@@ -28,13 +28,7 @@ impl<N: Ledgers> Pops<N> {
     {
         Pops {
             top,
-            row: DueRow {
-                instant: 0,
-                start: 0,
-                change: 0,
-                quality: 15,
-                blocks: Default::default(),
-            },
+            row: spare_row(),
             count: 0,
         }
     }
@@ -44,5 +38,16 @@ impl<N: Ledgers> Pops<N> {
         ensures { result ≡ popped_by self.now }
     {
         self.count
+    }
+}
+
+/// A row of instant 0, without blocks, to be written over.
+pub(crate) fn spare_row() -> DueRow {
+    DueRow {
+        instant: 0,
+        start: 0,
+        change: 0,
+        quality: 15,
+        blocks: Default::default(),
     }
 }

@@ -19,6 +19,7 @@ use crate::naming::Naming;
 use crate::pops::Pops;
 use crate::replayed::Replayed;
 use crate::shares::{Books, Shares};
+use crate::totals::Totals;
 use pdc_core::{Core, Counts, KeptArrival, Ticked};
 use pdc_frame::Buffer;
 use pdc_life::{MAX_PMUS, Outcome};
@@ -41,11 +42,14 @@ pub struct Recorder<C: Core + Drop, N: Naming<C::Settings>> {
     pub top: Book<TopIn<N>>,
     /// That instant.
     pub popped: u64,
+    // The totals of the first three books.
+    totals: Totals,
     pub ghost taken_is: { (C.counts_of core.state).taken ≡ taken.total },
     pub ghost refused_is: { (C.counts_of core.state).refused ≡ refused.total },
     pub ghost configured_is: { configurations (C.counts_of core.state) ≡ configured.total },
     pub ghost top_is: { C.popped_of core.state ≡ top.total },
     pub ghost popped_is: { top.total ≡ popped },
+    ghost totals_are: { (taken.total ≡ totals.taken) × (refused.total ≡ totals.refused) × (configured.total ≡ totals.configured) },
 }
 
 impl<C: Core + Drop, N: Naming<C::Settings>> Recorder<C, N> {
@@ -76,6 +80,7 @@ impl<C: Core + Drop, N: Naming<C::Settings>> Recorder<C, N> {
             configured,
             top,
             popped: floor,
+            totals: Totals::new(),
         }
     }
 
@@ -118,7 +123,7 @@ impl<C: Core + Drop, N: Naming<C::Settings>> Recorder<C, N> {
             × (mine.new.refused.amount ≡ mine.old.refused.amount) × (mine.new.configured.amount ≡ mine.old.configured.amount)) }
     {
         self.audit(mine);
-        if self.is_used_up() {
+        if self.totals.are_used_up() {
             return Err(HubFault::CountsUsedUp);
         }
         self.add(stream, datagram, mine)
@@ -135,20 +140,10 @@ impl<C: Core + Drop, N: Naming<C::Settings>> Recorder<C, N> {
             × (mine.new.configured.amount ≡ mine.old.configured.amount) }
         ensures parts { (mine.new.taken.parts ≡ mine.old.taken.parts) × (mine.new.refused.parts ≡ mine.old.refused.parts) × (mine.new.configured.parts ≡ mine.old.configured.parts) }
     {
-        let _counts = self.core.state.counts();
+        self.totals.fit();
         self.taken.audit(&mut mine.taken);
         self.refused.audit(&mut mine.refused);
         self.configured.audit(&mut mine.configured);
-    }
-
-    /// One of the three totals is at its greatest value.
-    fn is_used_up(&self) -> bool
-        ensures { result ≡ is_used_up self.now.taken.total self.now.refused.total self.now.configured.total }
-    {
-        let counts = self.core.state.counts();
-        counts.taken == u64::MAX
-            || counts.refused == u64::MAX
-            || counts.candidate.saturating_add(counts.known) == u64::MAX
     }
 
     /// Adds what arrived, where no total is at its greatest value.
@@ -183,6 +178,7 @@ impl<C: Core + Drop, N: Naming<C::Settings>> Recorder<C, N> {
             taken,
             refused,
             configured,
+            totals,
             ..
         } = self;
         let step = core.step();
@@ -190,6 +186,7 @@ impl<C: Core + Drop, N: Naming<C::Settings>> Recorder<C, N> {
             return Err(HubFault::NoMemory);
         };
         count(outcome, taken, refused, configured, mine);
+        totals.count(outcome);
         Ok(Numbered {
             step,
             answer: outcome,

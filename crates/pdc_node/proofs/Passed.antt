@@ -24,6 +24,9 @@ each p (part ∷ sections) h =
 pub passed_own : (settings : Settings) (p : ℕ) (arrival : Arrival) → fits_node settings p arrival ≡ true → IsOwn p arrival
 passed_own settings p arrival h = each p (sections_of arrival) (both (nat_lt p (length settings.pmus.items)) (list_all (is_of p) (sections_of arrival)) h).1
 
+pub passed_stream : (settings : Settings) (p : ℕ) (arrival : Arrival) → fits_node settings p arrival ≡ true → p < length settings.pmus.items
+passed_stream settings p arrival h = ltb-true p (length settings.pmus.items) (both (nat_lt p (length settings.pmus.items)) (list_all (is_of p) (sections_of arrival)) h).0
+
 -- a stream of the settings has its column
 pub ready : (n : NodeView) (p : ℕ) → p < length n.settings.pmus.items → HasSizes (length n.settings.pmus.items) 1 n.state → IsReady n.state p
 ready n p h sizes = record {
@@ -33,4 +36,4 @@ ready n p h sizes = record {
 }
 
 pub passed_ready : (n : NodeView) (p : ℕ) (arrival : Arrival) → fits_node n.settings p arrival ≡ true → HasSizes (length n.settings.pmus.items) 1 n.state → IsReady n.state p
-passed_ready n p arrival h sizes = ready n p (ltb-true p (length n.settings.pmus.items) (both (nat_lt p (length n.settings.pmus.items)) (list_all (is_of p) (sections_of arrival)) h).0) sizes
+passed_ready n p arrival h sizes = ready n p (passed_stream n.settings p arrival h) sizes

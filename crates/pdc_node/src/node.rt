@@ -1,7 +1,9 @@
 //! A node.
-ghost use Rattle.std.specs.Prelude.{◌≡◌, ◌<◌, ◌∷◌, ℕ, [], IfOk, List, length};
+ghost use Rattle.std.specs.Prelude.{◌≡◌, ◌<◌, ◌∷◌, ℕ, [], IfOk, List, length, true};
 ghost use Rattle.pdc_align.specs.Align.{given_by};
 ghost use Rattle.pdc_arrival.specs.Counts.{after_answer};
+ghost use Rattle.pdc_core.specs.Fits.{fits_node};
+ghost use Rattle.pdc_core.specs.KeptArrival.{taken_view};
 ghost use Rattle.pdc_life.specs.Answer.{ToArrive, answered};
 ghost use Rattle.pdc_life.specs.Arrival.{Data};
 ghost use Rattle.pdc_life.specs.Given.{Given, given_of};
@@ -12,7 +14,7 @@ ghost use Rattle.pdc_node.specs.Node.{StandsFor};
 use crate::answering;
 use pdc_align::{Alignment, Plan, Ticked, append_layout_frame};
 use pdc_arrival::{Arrival, Counts, arrival_from_pmu, hear_from_pmu};
-use pdc_core::Core;
+use pdc_core::{Core, KeptArrival};
 use pdc_frame::Buffer;
 use pdc_life::{MAX_PMUS, Outcome, Reading, Settings, lives_are_runs, rows_have_tags};
 use pdc_table::{DueRow, Table};
@@ -118,6 +120,23 @@ impl<T: Table> Node<T> {
         self.counts.count(outcome);
         outcome
     }
+
+    /// Answers what was kept of an arrival. It stands apart, so that data does not pay for an [`Arrival`].
+    #[inline(never)]
+    fn arrive_whole(&mut self, stream: usize, taken: &KeptArrival) -> Outcome
+        requires { fits_node self.old.settings stream (taken_view taken.now) ≡ true }
+        ensures answer { (g : Given) (E : List Entry) → StandsFor g E self.old →
+            result ≡ (node_answer g E stream (taken_view taken.now)).outcome }
+        ensures stands { (g : Given) (E : List Entry) (bytes : List ℕ) → ReadsFor self.old.settings stream bytes (taken_view taken.now) →
+            StandsFor g E self.old → StandsFor g (answered node_answer g E (ToArrive stream bytes (taken_view taken.now)) ∷ E) self.new }
+        ensures counts { self.new.counts ≡ after_answer result self.old.counts }
+        ensures popped { self.new.popped ≡ self.old.popped }
+        ensures settings { self.new.settings ≡ self.old.settings }
+        ensures memory { self.new.memory ≡ self.old.memory }
+    {
+        let arrival = taken.view();
+        self.arrive(stream, &arrival)
+    }
 }
 
 /// A stream comes from each PMU, and has the column of its number.
@@ -145,6 +164,18 @@ impl<T: Table> Core for Node<T> {
         let outcome = answering::answer(&mut self.alignment, &self.opening, stream, arrival);
         self.counts.count(outcome);
         outcome
+    }
+
+    /// Data is answered as it was kept: an [`Arrival`] has room for all sections of a layout, and is made for what else there is.
+    fn arrive_kept(&mut self, stream: usize, taken: &KeptArrival) -> Outcome {
+        match taken {
+            KeptArrival::Data {
+                instant,
+                quality,
+                payload,
+            } => self.arrive_data(stream, *instant, *quality, payload.as_slice()),
+            _ => self.arrive_whole(stream, taken),
+        }
     }
 
     /// Data is answered as it was read: an [`Arrival`] has room for all sections of a layout, and is made for configurations alone.

@@ -16,9 +16,9 @@ loop-event-preserved g c =
     let s = c.event-item.result in
     let says = g.C.Settings.Reads.says (g.C.Core.settings_of c.args.base.now) in
     let more : take (i + 1) events ≡ take i events ++ s ∷ [] = take_more events i s (omega arith) ∙ ap (λ (t : CoreStep). take i events ++ t ∷ []) (sym c.event-item.is) in
-    let makes : (h : Given) (E : List Entry) (read : ReadStep) → IsOf s read → IsReadStep says read → g.C.Core.stands_for c.loop-event.base h E → g.C.Core.stands_for c.apply.new.self h (answered g.C.Core.rules h E read ∷ E) =
-    λ h E read is reads stands. c.apply.ensures.stands h E read is (subst (λ (t : g.row.C-Settings.Denot). IsReadStep (g.C.Settings.Reads.says t) read) (sym c.loop-event.invariant.1) reads) stands in (
-      subst (λ (l : List CoreStep). Replaying g.C.Core.rules says (g.C.Core.stands_for c.args.base.now) (g.C.Core.stands_for c.apply.new.self) l) (sym more)
-          (extended g.C.Core.rules says (g.C.Core.stands_for c.args.base.now) (g.C.Core.stands_for c.loop-event.base) (g.C.Core.stands_for c.apply.new.self) (take i events) s c.loop-event.invariant.0 makes),
-      c.apply.ensures.settings ∙ c.loop-event.invariant.1,
+    let makes : (h : Given) (E : List Entry) (read : ReadStep) → IsOf s read → IsReadStep says read → g.C.Core.stands_for c.loop-event.base h E → g.C.Core.stands_for c.repeat.new.base h (answered g.C.Core.rules h E read ∷ E) =
+    λ h E read is reads stands. c.repeat.ensures.stands read is (subst (λ (t : g.row.C-Settings.Denot). IsReadStep (g.C.Settings.Reads.says t) read) (sym c.loop-event.invariant.1) reads) h E stands in (
+      subst (λ (l : List CoreStep). Replaying g.C.Core.rules says (g.C.Core.stands_for c.args.base.now) (g.C.Core.stands_for c.repeat.new.base) l) (sym more)
+          (extended g.C.Core.rules says (g.C.Core.stands_for c.args.base.now) (g.C.Core.stands_for c.loop-event.base) (g.C.Core.stands_for c.repeat.new.base) (take i events) s c.loop-event.invariant.0 makes),
+      c.repeat.ensures.settings ∙ c.loop-event.invariant.1,
     )
