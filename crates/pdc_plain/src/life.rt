@@ -2,6 +2,7 @@
 ghost use Rattle.std.specs.Prelude.{◌≡◌, ◌++◌, ◌*◌, ◌^◌, ◌<◌, IfOk, OnErr, OnOk, map};
 ghost use Rattle.std.specs.List.{All};
 ghost use Rattle.pdc_row.specs.RowView.{row_instants, row_view};
+ghost use Rattle.pdc_output.specs.pdc_tag.declared.limits.TheConstants.{SECONDS};
 ghost use Rattle.pdc_life.specs.Answer.{waiting_counts};
 ghost use Rattle.pdc_life.specs.Life.{changes, closed, popped};
 ghost use Rattle.pdc_life.specs.Published.{layout_wire, published};
@@ -21,7 +22,7 @@ pub struct Life<'a> {
     /// Its steps with their answers, newest first.
     pub entries: Vec<Answered<'a>>,
     // Each row that a pop gave lies in a second that SOC can name,
-    pub ghost tagged: { All (λ n. n < 4294967296 * given.output.rate) (row_instants (popped (life_view entries.items))) },
+    pub ghost tagged: { All (λ n. n < SECONDS * given.output.rate) (row_instants (popped (life_view entries.items))) },
     // and the change number has 32 bits.
     pub ghost changes_fit: { changes (life_view entries.items) < 2 ^ 32 },
 }

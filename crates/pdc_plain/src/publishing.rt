@@ -3,6 +3,7 @@ ghost use Rattle.std.specs.Prelude.{◌≡◌, ◌<◌, ◌*◌, ◌^◌, ◌++�
 ghost use Rattle.std.specs.List.{All};
 ghost use Rattle.pdc_row.specs.RowView.{row_instants, row_view};
 ghost use Rattle.pdc_output.specs.Layout.{wire_of};
+ghost use Rattle.pdc_output.specs.pdc_tag.declared.limits.TheConstants.{SECONDS};
 ghost use Rattle.pdc_life.specs.Life.{changes, closed, popped};
 ghost use Rattle.pdc_life.specs.Published.{layout_wire, published};
 ghost use Rattle.pdc_plain_steps.specs.Views.{given_view, life_view};
@@ -58,7 +59,7 @@ pub fn frames_of(
     given: &Given,
     life: &[Answered],
 ) -> Result<Vec<Vec<u8>>, AllocError>
-    requires { All (λ n. n < 4294967296 * given.now.output.rate) (row_instants (popped (life_view life.now))) }
+    requires { All (λ n. n < SECONDS * given.now.output.rate) (row_instants (popped (life_view life.now))) }
     ensures { IfOk result (λ frames. map (λ frame. frame.items) frames.items ≡ published (given_view given.now) (life_view life.now)) }
 {
     let rows = popped(alloc, life)?;
@@ -94,7 +95,7 @@ pub fn append_layout_of(
 
 /// The frames of the rows, in their order.
 fn frames(alloc: Global, output: &Output, rows: &[DueRow]) -> Result<Vec<Vec<u8>>, AllocError>
-    requires { All (λ row. row.instant < 4294967296 * output.now.rate) rows.now }
+    requires { All (λ row. row.instant < SECONDS * output.now.rate) rows.now }
     ensures { IfOk result (λ frames. map (λ frame. frame.items) frames.items ≡ map (λ row. wire_of output.now (row_view row)) rows.now) }
 {
     let mut frames = Vec::new(alloc);
@@ -106,7 +107,7 @@ fn frames(alloc: Global, output: &Output, rows: &[DueRow]) -> Result<Vec<Vec<u8>
 
 /// The frame of the row.
 fn frame(alloc: Global, output: &Output, row: &DueRow) -> Result<Vec<u8>, AllocError>
-    requires { row.now.instant < 4294967296 * output.now.rate }
+    requires { row.now.instant < SECONDS * output.now.rate }
     ensures { IfOk result (λ frame. frame.items ≡ wire_of output.now (row_view row.now)) }
 {
     let mut frame = Vec::new(alloc);

@@ -11,7 +11,7 @@ show|--format|json -> Some(Show(Json))
 show|--format=csv -> Some(Show(Csv))
 show|--format|xml -> status 2
 show|--format -> status 2
-mark-init|a.mark|65534|240 -> Some(MarkInit(MarkInit { file: "a.mark", id: 65534, rate: 240 }))
+mark-init|a.mark|65534|240 -> Some(MarkInit(MarkInit { file: "a.mark", id: StreamId { value: 65534 }, rate: 240 }))
 mark-convert|a.mark|a2.mark -> Some(MarkConvert(MarkConvert { old: "a.mark", new: "a2.mark" }))
 shew -> status 2
 show|x -> status 2
@@ -38,9 +38,9 @@ play|--help -> status 0
 help|play -> status 0
 help|mark-init -> status 0
 help|mark-convert -> status 0
-mark-init|a|201|1 -> Some(MarkInit(MarkInit { file: "a", id: 201, rate: 1 }))
-mark-init|a|201|0050 -> Some(MarkInit(MarkInit { file: "a", id: 201, rate: 50 }))
-mark-init|a|201|240 -> Some(MarkInit(MarkInit { file: "a", id: 201, rate: 240 }))
+mark-init|a|201|1 -> Some(MarkInit(MarkInit { file: "a", id: StreamId { value: 201 }, rate: 1 }))
+mark-init|a|201|0050 -> Some(MarkInit(MarkInit { file: "a", id: StreamId { value: 201 }, rate: 50 }))
+mark-init|a|201|240 -> Some(MarkInit(MarkInit { file: "a", id: StreamId { value: 201 }, rate: 240 }))
 mark-init|a|201|0 -> status 2
 mark-init|a|201| -> status 2
 mark-init|a|201|+1 -> status 2
@@ -49,7 +49,7 @@ mark-init|a|201|1  -> status 2
 mark-init|a|201|1e1 -> status 2
 mark-init|a|201|65537 -> status 2
 mark-init|a|201|99999999999999999999 -> status 2
-mark-init|a|1|1 -> Some(MarkInit(MarkInit { file: "a", id: 1, rate: 1 }))
+mark-init|a|1|1 -> Some(MarkInit(MarkInit { file: "a", id: StreamId { value: 1 }, rate: 1 }))
 node|a.toml|a.mark|4294967295 -> Some(Node(Running { settings: "a.toml", mark: "a.mark", ticks: Some(4294967295), every: None, is_quiet: false, record: None }))
 node|a.toml|a.mark -> Some(Node(Running { settings: "a.toml", mark: "a.mark", ticks: None, every: None, is_quiet: false, record: None }))
 node|a.toml -> status 2
@@ -61,16 +61,16 @@ node|a.toml|a.mark|0 -> status 2
 node|a.toml|a.mark|4294967296 -> status 2
 merge|m.toml|m.mark|1 -> Some(Merge(Running { settings: "m.toml", mark: "m.mark", ticks: Some(1), every: None, is_quiet: false, record: None }))
 merge|m.toml|m.mark|1|x -> status 2
-pmu|11|50|3|4811|4911 -> Some(Pmu(Simulated { id: 11, rate: 50, count: 3, places: [Port(4811), Port(4911)], tcp: None, config_every: None, is_grid: false }))
-pmu|11|50|3|4811|--config-every|5 -> Some(Pmu(Simulated { id: 11, rate: 50, count: 3, places: [Port(4811)], tcp: None, config_every: Some(5), is_grid: false }))
+pmu|11|50|3|4811|4911 -> Some(Pmu(Simulated { id: StreamId { value: 11 }, rate: 50, count: 3, places: [Port(4811), Port(4911)], tcp: None, config_every: None, is_grid: false }))
+pmu|11|50|3|4811|--config-every|5 -> Some(Pmu(Simulated { id: StreamId { value: 11 }, rate: 50, count: 3, places: [Port(4811)], tcp: None, config_every: Some(5), is_grid: false }))
 pmu|11|50|3|4811|--config-every|0 -> status 2
 pmu|11|50|3|4811|--config-every|86401 -> status 2
 pmu|11|50|3 -> status 2
 pmu|11|50|3|4811|65536 -> status 2
-pmu|11|50|3|10.0.0.2:4811 -> Some(Pmu(Simulated { id: 11, rate: 50, count: 3, places: [At("10.0.0.2:4811")], tcp: None, config_every: None, is_grid: false }))
-pmu|11|50|3|--tcp|4712 -> Some(Pmu(Simulated { id: 11, rate: 50, count: 3, places: [], tcp: Some(Port(4712)), config_every: None, is_grid: false }))
-pmu|11|50|3|--tcp|0.0.0.0:4712 -> Some(Pmu(Simulated { id: 11, rate: 50, count: 3, places: [], tcp: Some(At("0.0.0.0:4712")), config_every: None, is_grid: false }))
-pmu|11|50|3|4811|--grid -> Some(Pmu(Simulated { id: 11, rate: 50, count: 3, places: [Port(4811)], tcp: None, config_every: None, is_grid: true }))
+pmu|11|50|3|10.0.0.2:4811 -> Some(Pmu(Simulated { id: StreamId { value: 11 }, rate: 50, count: 3, places: [At("10.0.0.2:4811")], tcp: None, config_every: None, is_grid: false }))
+pmu|11|50|3|--tcp|4712 -> Some(Pmu(Simulated { id: StreamId { value: 11 }, rate: 50, count: 3, places: [], tcp: Some(Port(4712)), config_every: None, is_grid: false }))
+pmu|11|50|3|--tcp|0.0.0.0:4712 -> Some(Pmu(Simulated { id: StreamId { value: 11 }, rate: 50, count: 3, places: [], tcp: Some(At("0.0.0.0:4712")), config_every: None, is_grid: false }))
+pmu|11|50|3|4811|--grid -> Some(Pmu(Simulated { id: StreamId { value: 11 }, rate: 50, count: 3, places: [Port(4811)], tcp: None, config_every: None, is_grid: true }))
 pmu|11|50|3|--tcp|0 -> status 2
 pmu|--help -> status 0
 node|--every|10|a.toml|a.mark|5 -> Some(Node(Running { settings: "a.toml", mark: "a.mark", ticks: Some(5), every: Some(10), is_quiet: false, record: None }))
