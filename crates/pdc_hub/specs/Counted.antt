@@ -1,8 +1,9 @@
 -- What a delivery adds to the caller's shares (this profile).
-use Rattle.std.specs.Prelude.{ℕ, ◌+◌, ◌-◌, ◌^◌, ◌≤◌, Bool, ◌||◌, nat_le}
+use Rattle.std.specs.Prelude.{◌≡◌, ℕ, ◌+◌, ◌-◌, ◌^◌, ◌≤◌, Bool, ◌||◌, nat_le}
 use Rattle.pdc_core.specs.Step.{Counts}
 use Rattle.pdc_life.specs.declared.outcome.Outcome.{Outcome}
 use Rattle.pdc_life.specs.declared.outcome.Outcome.TheVariants.{Taken, Candidate, Known, Refused}
+use Rattle.pdc_hub.specs.declared.shares.Shares.{Shares}
 
 abbrev pub taken_by : Outcome → ℕ
 taken_by Taken = 1
@@ -35,3 +36,10 @@ pub record CountsAtLeast (counts : Counts) (taken refused : ℕ) (more : ℕ) : 
   pub taken_counted : taken ≤ counts.taken
   pub refused_counted : refused ≤ counts.refused
   pub configured_counted : more ≤ configurations counts
+
+-- The shares are as many parts as they were, and they count what they counted.
+abbrev pub HasSameParts : {N : Type 0} → (old new : Shares N) → Type 0
+HasSameParts old new = (new.taken.parts ≡ old.taken.parts) × (new.refused.parts ≡ old.refused.parts) × (new.configured.parts ≡ old.configured.parts)
+
+abbrev pub HasSameAmounts : {N : Type 0} → (old new : Shares N) → Type 0
+HasSameAmounts old new = (new.taken.amount ≡ old.taken.amount) × (new.refused.amount ≡ old.refused.amount) × (new.configured.amount ≡ old.configured.amount)

@@ -7,7 +7,7 @@ ghost use Rattle.pdc_life.specs.Given.{Given};
 ghost use Rattle.pdc_life.specs.Life.{Entry, changes};
 ghost use Rattle.pdc_life.specs.Published.{layout_wire};
 ghost use Rattle.pdc_hub.specs.Closing.{closing_of};
-ghost use Rattle.pdc_hub.specs.Counted.{CountsAtLeast, configurations, configured_by, refused_by, taken_by};
+ghost use Rattle.pdc_hub.specs.Counted.{CountsAtLeast, HasSameAmounts, HasSameParts, configurations, configured_by, refused_by, taken_by};
 ghost use Rattle.pdc_hub.specs.Faults.{IsOfDelivery};
 ghost use Rattle.pdc_hub.specs.Pops.{HasPoppedNone, HasPoppedOne, IsPop, popped_by};
 ghost use Rattle.pdc_hub.specs.Replay.{InSomeLife, WasRead, number_in};
@@ -110,10 +110,9 @@ impl<C: Core + Drop, N: Naming<C::Settings>> Hub<C, N> {
         ensures refused { IfOk result (λ numbered. mine.new.refused.amount ≡ mine.old.refused.amount + refused_by numbered.answer) }
         ensures configured { IfOk result (λ numbered. mine.new.configured.amount ≡ mine.old.configured.amount + configured_by numbered.answer) }
         ensures most { (mine.new.taken.amount < 2 ^ 64) × (mine.new.refused.amount < 2 ^ 64) }
-        ensures parts { (mine.new.taken.parts ≡ mine.old.taken.parts) × (mine.new.refused.parts ≡ mine.old.refused.parts) × (mine.new.configured.parts ≡ mine.old.configured.parts) }
+        ensures parts { HasSameParts mine.old mine.new }
         ensures causes { IfErr result IsOfDelivery }
-        ensures err { OnErr result ((mine.new.taken.amount ≡ mine.old.taken.amount) × (mine.new.refused.amount ≡ mine.old.refused.amount)
-            × (mine.new.configured.amount ≡ mine.old.configured.amount)) }
+        ensures err { OnErr result (HasSameAmounts mine.old mine.new) }
     {
         self.table.lock(rt).deliver(stream, datagram, mine)
     }
@@ -179,8 +178,8 @@ impl<C: Core + Drop, N: Naming<C::Settings>> Hub<C, N> {
     pub fn totals<R: Wait>(&self, rt: &R, all: &mut Shares<N>) -> Counts
         requires { (all.old.taken.parts ≡ N.taken.parts) × (all.old.refused.parts ≡ N.refused.parts) × (all.old.configured.parts ≡ N.configured.parts) }
         ensures amounts { (result.taken ≡ all.old.taken.amount) × (result.refused ≡ all.old.refused.amount) × (configurations result ≡ all.old.configured.amount) }
-        ensures kept { (all.new.taken.amount ≡ all.old.taken.amount) × (all.new.refused.amount ≡ all.old.refused.amount) × (all.new.configured.amount ≡ all.old.configured.amount) }
-        ensures parts { (all.new.taken.parts ≡ all.old.taken.parts) × (all.new.refused.parts ≡ all.old.refused.parts) × (all.new.configured.parts ≡ all.old.configured.parts) }
+        ensures kept { HasSameAmounts all.old all.new }
+        ensures parts { HasSameParts all.old all.new }
     {
         self.table.lock(rt).totals(all)
     }

@@ -1,7 +1,7 @@
 //! One receiver: what it reads of its source, outside the lock, it delivers.
 ghost use Rattle.std.specs.Prelude.{◌≡◌, ◌<◌, ◌≤◌, ◌+◌, ◌^◌, ℕ, IfErr, IfOk, IfSome, IsSome, OnErr, Some, length};
 ghost use Rattle.pdc_hub.specs.Closing.{closing_of};
-ghost use Rattle.pdc_hub.specs.Counted.{refused_by, taken_by};
+ghost use Rattle.pdc_hub.specs.Counted.{HasSameParts, refused_by, taken_by};
 ghost use Rattle.pdc_ports.specs.Failures.{HasRisen};
 ghost use Rattle.pdc_ports.specs.Heard.{HasTold};
 ghost use Rattle.pdc_hub.specs.Faults.{IsOfDelivery, IsOfReceiver};
@@ -51,7 +51,7 @@ fn hand_in<C: Core + Drop, N: Naming<C::Settings>, R: Wait>(
     ensures taken { IfOk result (λ numbered. shares.new.taken.amount ≡ shares.old.taken.amount + taken_by numbered.answer) }
     ensures refused { IfOk result (λ numbered. shares.new.refused.amount ≡ shares.old.refused.amount + refused_by numbered.answer) }
     ensures most { IfOk result (λ _. (shares.new.taken.amount < 2 ^ 64) × (shares.new.refused.amount < 2 ^ 64)) }
-    ensures parts { (shares.new.taken.parts ≡ shares.old.taken.parts) × (shares.new.refused.parts ≡ shares.old.refused.parts) × (shares.new.configured.parts ≡ shares.old.configured.parts) }
+    ensures parts { HasSameParts shares.old shares.new }
     ensures causes { IfErr result IsOfDelivery }
     ensures err { OnErr result ((shares.new.taken.amount ≡ shares.old.taken.amount) × (shares.new.refused.amount ≡ shares.old.refused.amount)) }
 {

@@ -7,7 +7,7 @@ ghost use Rattle.pdc_life.specs.Answer.{ToArrive, ToPop, ToTick, pop_answer, tic
 ghost use Rattle.pdc_life.specs.Given.{Given};
 ghost use Rattle.pdc_life.specs.Life.{Entry, changes};
 ghost use Rattle.pdc_life.specs.Published.{layout_wire};
-ghost use Rattle.pdc_hub.specs.Counted.{CountsAtLeast, configurations, configured_by, is_used_up, refused_by, taken_by};
+ghost use Rattle.pdc_hub.specs.Counted.{CountsAtLeast, HasSameAmounts, HasSameParts, configurations, configured_by, is_used_up, refused_by, taken_by};
 ghost use Rattle.pdc_hub.specs.Faults.{IsOfDelivery};
 ghost use Rattle.pdc_hub.specs.Pops.{HasPoppedNone, HasPoppedOne, IsPop};
 ghost use Rattle.pdc_hub.specs.Replay.{Follows, InSomeLife, WasRead, number_in, since};
@@ -115,12 +115,11 @@ impl<C: Core + Drop, N: Naming<C::Settings>> Recorder<C, N> {
         ensures configured { IfOk result (λ numbered. mine.new.configured.amount ≡ mine.old.configured.amount + configured_by numbered.answer) }
         // stay below 2^64, and keep their parts.
         ensures most { (mine.new.taken.amount < 2 ^ 64) × (mine.new.refused.amount < 2 ^ 64) }
-        ensures parts { (mine.new.taken.parts ≡ mine.old.taken.parts) × (mine.new.refused.parts ≡ mine.old.refused.parts) × (mine.new.configured.parts ≡ mine.old.configured.parts) }
+        ensures parts { HasSameParts mine.old mine.new }
         ensures used_up { (result ≡ Err HubFault.CountsUsedUp → is_used_up self.old.taken.total self.old.refused.total self.old.configured.total ≡ true)
             × (is_used_up self.old.taken.total self.old.refused.total self.old.configured.total ≡ true → result ≡ Err HubFault.CountsUsedUp) }
         ensures causes { IfErr result IsOfDelivery }
-        ensures err { OnErr result ((self.new.core.state ≡ self.old.core.state) × (mine.new.taken.amount ≡ mine.old.taken.amount)
-            × (mine.new.refused.amount ≡ mine.old.refused.amount) × (mine.new.configured.amount ≡ mine.old.configured.amount)) }
+        ensures err { OnErr result ((self.new.core.state ≡ self.old.core.state) × HasSameAmounts mine.old mine.new) }
     {
         self.audit(mine);
         if self.totals.are_used_up() {
@@ -136,9 +135,8 @@ impl<C: Core + Drop, N: Naming<C::Settings>> Recorder<C, N> {
             × (self.new.configured.total ≡ self.old.configured.total) }
         ensures counted { CountsAtLeast (C.counts_of self.old.core.state) mine.old.taken.amount mine.old.refused.amount mine.old.configured.amount }
         ensures most { (mine.new.taken.amount < 2 ^ 64) × (mine.new.refused.amount < 2 ^ 64) }
-        ensures amounts { (mine.new.taken.amount ≡ mine.old.taken.amount) × (mine.new.refused.amount ≡ mine.old.refused.amount)
-            × (mine.new.configured.amount ≡ mine.old.configured.amount) }
-        ensures parts { (mine.new.taken.parts ≡ mine.old.taken.parts) × (mine.new.refused.parts ≡ mine.old.refused.parts) × (mine.new.configured.parts ≡ mine.old.configured.parts) }
+        ensures amounts { HasSameAmounts mine.old mine.new }
+        ensures parts { HasSameParts mine.old mine.new }
     {
         self.totals.fit();
         self.taken.audit(&mut mine.taken);
@@ -168,10 +166,9 @@ impl<C: Core + Drop, N: Naming<C::Settings>> Recorder<C, N> {
         ensures taken { IfOk result (λ numbered. mine.new.taken.amount ≡ mine.old.taken.amount + taken_by numbered.answer) }
         ensures refused { IfOk result (λ numbered. mine.new.refused.amount ≡ mine.old.refused.amount + refused_by numbered.answer) }
         ensures configured { IfOk result (λ numbered. mine.new.configured.amount ≡ mine.old.configured.amount + configured_by numbered.answer) }
-        ensures parts { (mine.new.taken.parts ≡ mine.old.taken.parts) × (mine.new.refused.parts ≡ mine.old.refused.parts) × (mine.new.configured.parts ≡ mine.old.configured.parts) }
+        ensures parts { HasSameParts mine.old mine.new }
         ensures causes { OnErr result (result ≡ Err HubFault.NoMemory) }
-        ensures err { OnErr result ((self.new.core.state ≡ self.old.core.state) × (mine.new.taken.amount ≡ mine.old.taken.amount)
-            × (mine.new.refused.amount ≡ mine.old.refused.amount) × (mine.new.configured.amount ≡ mine.old.configured.amount)) }
+        ensures err { OnErr result ((self.new.core.state ≡ self.old.core.state) × HasSameAmounts mine.old mine.new) }
     {
         let Recorder {
             core,
@@ -293,8 +290,8 @@ impl<C: Core + Drop, N: Naming<C::Settings>> Recorder<C, N> {
     pub fn totals(&mut self, all: &mut Shares<N>) -> Counts
         requires { (all.old.taken.parts ≡ N.taken.parts) × (all.old.refused.parts ≡ N.refused.parts) × (all.old.configured.parts ≡ N.configured.parts) }
         ensures amounts { (result.taken ≡ all.old.taken.amount) × (result.refused ≡ all.old.refused.amount) × (configurations result ≡ all.old.configured.amount) }
-        ensures kept { (all.new.taken.amount ≡ all.old.taken.amount) × (all.new.refused.amount ≡ all.old.refused.amount) × (all.new.configured.amount ≡ all.old.configured.amount) }
-        ensures parts { (all.new.taken.parts ≡ all.old.taken.parts) × (all.new.refused.parts ≡ all.old.refused.parts) × (all.new.configured.parts ≡ all.old.configured.parts) }
+        ensures kept { HasSameAmounts all.old all.new }
+        ensures parts { HasSameParts all.old all.new }
     {
         let counts = self.counts();
         let Recorder {
@@ -331,7 +328,7 @@ fn count<N: Ledgers>(
     ensures refused { (refused.new.total ≡ refused.old.total + refused_by outcome) × (mine.new.refused.amount ≡ mine.old.refused.amount + refused_by outcome) }
     ensures configured { (configured.new.total ≡ configured.old.total + configured_by outcome)
         × (mine.new.configured.amount ≡ mine.old.configured.amount + configured_by outcome) }
-    ensures parts { (mine.new.taken.parts ≡ mine.old.taken.parts) × (mine.new.refused.parts ≡ mine.old.refused.parts) × (mine.new.configured.parts ≡ mine.old.configured.parts) }
+    ensures parts { HasSameParts mine.old mine.new }
 {
     match outcome {
         Outcome::Taken => taken.add(&mut mine.taken, 1),

@@ -1,5 +1,6 @@
 //! The receivers: each in a thread of its own, started and joined.
 ghost use Rattle.std.specs.Prelude.{◌≡◌, ◌≤◌, ◌<◌, ◌+◌, ◌++◌, ℕ, IfSome, List, Some, [], length, map, sum, true, vec_len};
+ghost use Rattle.pdc_hub.specs.Counted.{HasSameAmounts};
 ghost use Rattle.pdc_hub.specs.Faults.{IsOfReceiver};
 ghost use Rattle.pdc_threads.specs.Ended.{AreFor, HasEndedAs, HaveJoined, ending_by, or_else};
 
@@ -152,7 +153,7 @@ where
 fn split_one<N: Ledgers>(left: &mut Shares<N>) -> Shares<N>
     requires parts { (1 < left.old.taken.parts) × (1 < left.old.refused.parts) × (1 < left.old.configured.parts) }
     ensures left { (left.new.taken.parts + 1 ≡ left.old.taken.parts) × (left.new.refused.parts + 1 ≡ left.old.refused.parts) × (left.new.configured.parts + 1 ≡ left.old.configured.parts) }
-    ensures amounts { (left.new.taken.amount ≡ left.old.taken.amount) × (left.new.refused.amount ≡ left.old.refused.amount) × (left.new.configured.amount ≡ left.old.configured.amount) }
+    ensures amounts { HasSameAmounts left.old left.new }
     ensures one { (result.taken.parts ≡ 1) × (result.refused.parts ≡ 1) × (result.configured.parts ≡ 1) }
     ensures nothing { (result.taken.amount ≡ 0) × (result.refused.amount ≡ 0) }
 {

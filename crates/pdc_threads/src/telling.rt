@@ -1,6 +1,7 @@
 //! What a run counted, and which fault it tells of.
 ghost use Rattle.std.specs.Prelude.{◌≡◌, ◌<◌, ◌+◌, Bool, IfErr, IfOk, IfSome, IsErrOf, Ok, OnOk, map, sum, true, vec_len};
 ghost use Rattle.pdc_aligner.specs.Device.{IsOfAligner};
+ghost use Rattle.pdc_hub.specs.Counted.{HasSameParts};
 ghost use Rattle.pdc_hub.specs.Faults.{IsOfReceiver};
 ghost use Rattle.pdc_threads.specs.Ended.{fault_in, first_fault};
 ghost use Rattle.pdc_threads.specs.Run.{IsSummed};
@@ -36,7 +37,7 @@ pub fn outcome<C: Core + Drop, N: Naming<C::Settings>, R: Wait>(
     requires aligner { IfErr aligned IsOfAligner }
     ensures totals { IsSummed result }
     ensures counted { IfOk result (λ totals. (shares.new.taken.amount ≡ totals.taken) × (shares.new.refused.amount ≡ totals.refused)) }
-    ensures parts { (shares.new.taken.parts ≡ shares.old.taken.parts) × (shares.new.refused.parts ≡ shares.old.refused.parts) × (shares.new.configured.parts ≡ shares.old.configured.parts) }
+    ensures parts { HasSameParts shares.old shares.new }
     ensures receivers { IfOk result (λ totals. (vec_len totals.receivers ≡ vec_len joined.receivers) × (joined.complete ≡ true)) }
     ensures ended { OnOk result (ended ≡ Ended.AtEndMark) }
     ensures published { IfOk result (λ totals. aligned ≡ Ok totals.published) }
