@@ -3,7 +3,7 @@ use Rattle.std.proofs.Common.{◌≡◌, List, sym, subst}
 use Rattle.pdc_event.specs.declared.reply.Published.{Published}
 use Rattle.pdc_history.specs.History.{IsHistory}
 use Rattle.pdc_history.specs.Seen.{OfHistories, Seen, seen_in}
-use Rattle.pdc_history.specs.World.{World, Happened}
+use Rattle.pdc_history.specs.World.{A, B, M, World, Happened}
 use Rattle.pdc_world.specs.Holds.{Holds, HoldsSome}
 use Rattle.pdc_world.specs.Replies.{listed}
 use Rattle.pdc_world.specs.Views.{WorldView}
@@ -14,7 +14,7 @@ of_history : (C : Seen → List Published → Type 0) (v : WorldView) (W : World
     → Holds W H v → C (seen_of v) (rows_of v)
 of_history C v W H f h =
     let same : ◌≡◌ {A = Seen × List Published} (seen_of v, rows_of v) (seen_in W H, listed W H) =
-    λ i. (record { a = h.a_settings i; b = h.b_settings i; m = h.m_settings i; frames = h.ledger.frames i }, h.ledger.published i) in
+    λ i. (record { a = (h.seats A).settings i; b = (h.seats B).settings i; m = (h.seats M).settings i; frames = h.ledger.frames i }, h.ledger.published i) in
     subst (λ (p : Seen × List Published). C p.0 p.1) (sym same) (f W H h.history)
 
 pub of_world : (C : Seen → List Published → Type 0) (v : WorldView) → ((W : World) (H : List Happened) → IsHistory W H → C (seen_in W H) (listed W H)) → HoldsSome v → CannotFail (C (seen_of v) (rows_of v))

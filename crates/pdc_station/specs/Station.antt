@@ -1,14 +1,19 @@
 -- What a station keeps, and how it raises its mark (this profile).
-use Rattle.std.specs.Prelude.{◌≡◌, ℕ, ◌+◌, Bool, List, [], nat_lt, if◌then◌else◌, Option, None, Some}
+use Rattle.std.specs.Prelude.{◌≡◌, ℕ, ◌+◌, Bool, List, [], nat_lt, if◌then◌else◌, Option, None, Some, option_map}
 use Rattle.pdc_history.specs.World.{raised_to}
-use Rattle.pdc_mark.specs.Stops.{Between, InRaise, InReserve, Stop}
+use Rattle.pdc_mark.specs.Stops.{Between, InBegin, InRaise, InReserve, Stop}
 use Rattle.pdc_mark.specs.Stored.{with_counts, with_floor, with_next_start}
+use Rattle.pdc_life.specs.Answer.{pop_answer, waiting_counts}
 use Rattle.pdc_life.specs.Given.{Given}
 use Rattle.pdc_life.specs.Life.{Entry}
 use Rattle.pdc_mark.specs.declared.stored.Stored.{Stored}
 use Rattle.pdc_output.specs.declared.output.Output.{Output}
 use Rattle.pdc_output.specs.Layout.{wire_of}
 use Rattle.pdc_row.specs.RowView.{RowView}
+use Rattle.pdc_station.specs.declared.stop_at.StopAt.{StopAt}
+use Rattle.pdc_station.specs.declared.stop_at.StopAt.TheVariants as at
+use Rattle.pdc_station.specs.declared.stop_at.Storing.{Storing}
+use Rattle.pdc_station.specs.declared.stop_at.Storing.TheVariants as storing
 
 -- after a raise to the counts that wait
 abbrev pub with_waiting : (waiting : List ℕ) → Stored → Stored
@@ -28,10 +33,26 @@ wire_of_some output (Some row) = wire_of output row
 abbrev pub IsOfSomeLife : (Given → List Entry → Type 0) → Type 0
 IsOfSomeLife Stands = ((g : Given) (E : List Entry) → Stands g E → ⊥) → ⊥
 
--- the floor after a reservation for the instant, if there is one
-abbrev pub floor_with : (lead : ℕ) → Option ℕ → (floor : ℕ) → ℕ
-floor_with lead None floor = floor
-floor_with lead (Some instant) floor = if nat_lt floor instant then instant + lead else floor
+-- after a publish whose row has this instant, if there is one
+abbrev pub with_due : (lead : ℕ) → Option ℕ → Stored → Stored
+with_due lead None stored = stored
+with_due lead (Some instant) stored = with_instant lead instant stored
+
+-- What is stored by a publish, where a row of this instant is the next, by a tick, where these counts wait, and by the next start.
+abbrev pub stored_by : Storing → (lead : ℕ) → (due : Option ℕ) → (waiting : List ℕ) → Stored → Stored
+stored_by storing.Publish lead due waiting stored = with_due lead due stored
+stored_by storing.Tick lead due waiting stored = with_waiting waiting stored
+stored_by storing.Start lead due waiting stored = with_next_start stored
+
+-- What a stop leaves stored: where the store that it fell into landed, that is done.
+abbrev pub left_by : StopAt → (lead : ℕ) → (due : Option ℕ) → (waiting : List ℕ) → Stored → Stored
+left_by at.Between lead due waiting stored = stored
+left_by (at.In storing landed) lead due waiting stored = if landed then stored_by storing lead due waiting stored else stored
+
+-- the start number that it leaves
+abbrev pub start_left : StopAt → (start : ℕ) → ℕ
+start_left (at.In storing.Start landed) start = if landed then start + 1 else start
+start_left at start = start
 
 -- where a stop falls in a publish: in the store of a reservation for the instant, where it is above the floor, and else between stores
 abbrev pub stop_in_reserving : (landed : Bool) (lead : ℕ) → Option ℕ → (floor : ℕ) → Stop
@@ -43,8 +64,24 @@ pub record StopsInRaise {M : Type 0} (StopsAs : Stop → M → M → Type 0) (la
   pub in_store : (counts ≡ raised_to counts waiting → ⊥) → StopsAs (InRaise (raised_to counts waiting) landed) before after
   pub between : counts ≡ raised_to counts waiting → StopsAs Between before after
 
--- A stop ended a life, and the next one began: on the mark as the stop left it, the next start was stored.
-pub record HasStopped {M : Type 0} (stored : M → Stored) (Stops : M → M → Type 0) (before after : M) : Type 0 where
+-- The stop falls so on a mark that stores this: between stores, or in the store.
+abbrev pub FallsAt : {M : Type 0} (StopsAs : Stop → M → M → Type 0) → StopAt → (lead : ℕ) → (due : Option ℕ) → (waiting : List ℕ) → Stored → (before after : M) → Type 0
+FallsAt StopsAs at.Between lead due waiting stored before after = StopsAs Between before after
+FallsAt StopsAs (at.In storing.Publish landed) lead due waiting stored before after = StopsAs (stop_in_reserving landed lead due stored.floor) before after
+FallsAt StopsAs (at.In storing.Tick landed) lead due waiting stored before after = StopsInRaise StopsAs landed waiting stored.counts before after
+FallsAt StopsAs (at.In storing.Start landed) lead due waiting stored before after = StopsAs (InBegin landed) before after
+
+-- the instant of the next row of a life
+abbrev pub due_in : List Entry → Option ℕ
+due_in E = option_map (λ (row : RowView). row.instant) (pop_answer E)
+
+-- A stop ended a life of a core, and the next one began. It fell so on the mark, where the next row and the counts that wait are those of
+-- each life that the core stood for; and on the mark as the stop left it, the next start was stored.
+pub record HasStopped {M : Type 0} (stored : M → Stored) (StopsAs : Stop → M → M → Type 0) (Stood : Given → List Entry → Type 0) (at : StopAt) (lead : ℕ) (before after : M) : Type 0 where
+  pub due : Option ℕ
+  pub waiting : List ℕ
+  pub waits : (g : Given) (E : List Entry) → Stood g E → (due ≡ due_in E) × (waiting ≡ waiting_counts g E)
+  pub mark : stored after ≡ with_next_start (left_by at lead due waiting (stored before))
   pub left : M
-  pub stops : Stops before left
+  pub falls : FallsAt StopsAs at lead due waiting (stored before) before left
   pub begins : stored after ≡ with_next_start (stored left)

@@ -13,9 +13,11 @@ mod fault;
 mod laws;
 mod next_row;
 mod station;
+mod stop_at;
 mod stops;
 mod stores;
 
 pub use fault::StopFault;
 pub use laws::{calls_publish_what_was_popped, rows_are_published};
 pub use station::Station;
+pub use stop_at::{StopAt, Storing};

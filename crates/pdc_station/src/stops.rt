@@ -1,41 +1,96 @@
 //! Stops of a station: its life ends, and the next one begins with what the mark then stores. It is opened before anything is stored,
 //! so a stop that is refused changes nothing.
-ghost use Rattle.std.specs.Prelude.{◌≡◌, ◌+◌, ◌<◌, ◌↔◌, [], IfOk, IsErrOf, List, OnErr, OnOk, option_map, if◌then◌else◌};
-ghost use Rattle.pdc_history.specs.World.{reserved};
-ghost use Rattle.pdc_life.specs.Answer.{pop_answer, waiting_counts};
-ghost use Rattle.pdc_life.specs.Given.{Given};
-ghost use Rattle.pdc_life.specs.Life.{Entry};
-ghost use Rattle.pdc_mark.specs.Stops.{Between, InBegin};
+ghost use Rattle.std.specs.Prelude.{◌≡◌, ◌+◌, ◌*◌, ◌<◌, ◌≤◌, ◌↔◌, [], IfNone, IfOk, IfSome, IsErrOf, OnErr, OnOk};
 ghost use Rattle.pdc_mark.specs.Stored.{with_next_start};
-ghost use Rattle.pdc_station.specs.Station.{HasStopped, IsOfSomeLife, StopsInRaise, stop_in_reserving, with_waiting};
+ghost use Rattle.pdc_station.specs.Station.{FallsAt, HasStopped, IsOfSomeLife, left_by, start_left};
+ghost use Rattle.pdc_tag.specs.declared.limits.TheConstants.{MAX_RATE, SECONDS};
 
 use crate::fault::StopFault;
 use crate::next_row::next_instant;
 use crate::station::Station;
-use crate::stores::{begin_next, counts_after, floor_after, stop_in_raise, stop_in_reserve};
+use crate::stop_at::{StopAt, Storing};
+use crate::stores::{begin_next, raised_by, reserved_by, stop_in_raise, stop_in_reserve};
 use pdc_core::Opens;
 use pdc_life::MAX_PMUS;
-use pdc_mark::Store;
+use pdc_mark::{Store, Stored};
 use std::alloc::{AllocError, Global};
 
-/// The core of the life behind this start.
-fn opened<C: Opens>(
-    core: &C,
-    alloc: Global,
-    start: u32,
-    floor: u64,
-    counts: &[u16; MAX_PMUS],
-) -> Result<C, StopFault>
-    ensures stands { IfOk result (λ next. C.stands_for next (C.given_with (C.settings_of core.now) (start + 1) floor counts.now) []) }
+/// What is stored.
+fn stored_in<M: Store>(mark: &M) -> Stored
+    ensures { result ≡ M.stored mark.now }
+{
+    let (start, floor) = mark.stored();
+    Stored {
+        start,
+        floor,
+        counts: mark.counts(),
+    }
+}
+
+/// What a stop leaves stored, where a row of this instant is the next and these counts wait; none where that start has more than 32 bits.
+fn left_behind(
+    stored: Stored,
+    at: StopAt,
+    lead: u16,
+    due: Option<u64>,
+    waiting: &[u16; MAX_PMUS],
+) -> Option<Stored>
+    requires { IfSome due (λ instant. instant < SECONDS * MAX_RATE) }
+    ensures left { IfSome result (λ left. left ≡ left_by at lead due waiting.now stored) }
+    ensures start { IfSome result (λ left. left.start ≡ start_left at stored.start) }
+    ensures none { IfNone result (u32.MAX < start_left at stored.start) }
+{
+    match at {
+        StopAt::In {
+            storing,
+            landed: true,
+        } => match storing {
+            Storing::Publish => Some(reserved_by(stored, due, lead)),
+            Storing::Tick => Some(raised_by(stored, waiting)),
+            Storing::Start => Some(Stored {
+                start: stored.start.checked_add(1)?,
+                ..stored
+            }),
+        },
+        _ => Some(stored),
+    }
+}
+
+/// Stops a mark, where a row of this instant is the next and these counts wait.
+fn stop_mark<M: Store>(
+    mark: &mut M,
+    at: StopAt,
+    lead: u16,
+    due: Option<u64>,
+    waiting: &[u16; MAX_PMUS],
+)
+    requires tagged { IfSome due (λ instant. instant < SECONDS * MAX_RATE) }
+    requires left { start_left at (M.stored mark.old).start < u32.MAX }
+    ensures stored { M.stored mark.new ≡ left_by at lead due waiting.now (M.stored mark.old) }
+    ensures stops { FallsAt M.stops_as at lead due waiting.now (M.stored mark.old) mark.old mark.new }
+{
+    match at {
+        StopAt::Between => mark.stopped(),
+        StopAt::In { storing, landed } => match storing {
+            Storing::Publish => stop_in_reserve(mark, due, lead, landed),
+            Storing::Tick => stop_in_raise(mark, waiting, landed),
+            Storing::Start => mark.begin_stopped(landed),
+        },
+    }
+}
+
+/// The core of the life behind this start, with what is stored before it.
+fn opened<C: Opens>(core: &C, alloc: Global, stored: &Stored) -> Result<C, StopFault>
+    ensures stands { IfOk result (λ next. C.stands_for next (C.given_with (C.settings_of core.now) (stored.now.start + 1) stored.now.floor stored.now.counts) []) }
     ensures some { IfOk result (λ next. IsOfSomeLife (C.stands_for next)) }
     ensures settings { IfOk result (λ next. C.settings_of next ≡ C.settings_of core.now) }
-    ensures left { OnOk result (start < u32.MAX) }
-    ensures used_up { IsErrOf result StopFault.StartsUsedUp ↔ (start ≡ u32.MAX) }
+    ensures left { OnOk result (stored.now.start < u32.MAX) }
+    ensures used_up { IsErrOf result StopFault.StartsUsedUp ↔ (stored.now.start ≡ u32.MAX) }
 {
-    if start == u32::MAX {
+    if stored.start == u32::MAX {
         return Err(StopFault::StartsUsedUp);
     }
-    match core.open_next(alloc, start + 1, floor, counts) {
+    match core.open_next(alloc, stored.start + 1, stored.floor, &stored.counts) {
         Ok(next) => Ok(next),
         Err(AllocError) => Err(StopFault::NoMemory),
     }
@@ -54,111 +109,29 @@ impl<C: Opens, M: Store> Station<C, M> {
         self.core = core;
     }
 
-    /// A stop between stores.
+    /// A stop: between stores, or in a store, which landed or not. The step whose store that was is not taken. Where the store of the next
+    /// start landed, that life ends before its first step.
     ///
     /// # Errors
     ///
-    /// `StartsUsedUp` at the last start number; `NoMemory` where there is no memory for the next life. Then nothing changes.
-    pub fn stop(&mut self, alloc: Global) -> Result<(), StopFault>
-        ensures mark { OnOk result (M.stored self.new.mark ≡ with_next_start (M.stored self.old.mark)) }
-        ensures stops { OnOk result (HasStopped M.stored (M.stops_as Between) self.old.mark self.new.mark) }
+    /// `StartsUsedUp` where what is left is the last start number; `NoMemory` where there is no memory for the next life. Then nothing
+    /// changes.
+    pub fn stop(&mut self, alloc: Global, at: StopAt) -> Result<(), StopFault>
+        ensures stops { OnOk result (HasStopped M.stored M.stops_as (C.stands_for self.old.core) at self.old.lead self.old.mark self.new.mark) }
         ensures stands { OnOk result (C.stands_for self.new.core (C.given_with (C.settings_of self.old.core)
             (M.stored self.new.mark).start (M.stored self.new.mark).floor (M.stored self.new.mark).counts) []) }
-        ensures used_up { IsErrOf result StopFault.StartsUsedUp ↔ ((M.stored self.old.mark).start ≡ u32.MAX) }
+        ensures used_up { IsErrOf result StopFault.StartsUsedUp ↔ (u32.MAX ≤ start_left at (M.stored self.old.mark).start) }
         ensures err { OnErr result (self.new ≡ self.old) }
         ensures settings { C.settings_of self.new.core ≡ C.settings_of self.old.core }
         ensures lead { self.new.lead ≡ self.old.lead }
     {
-        let (start, floor) = self.mark.stored();
-        let counts = self.mark.counts();
-        let next = opened(&self.core, alloc, start, floor, &counts)?;
-        self.mark.stopped();
-        self.begin(next);
-        Ok(())
-    }
-
-    /// A stop in the store of the raise that a tick begins with, which landed or not. The core does not tick.
-    ///
-    /// # Errors
-    ///
-    /// As [`Station::stop`].
-    pub fn stop_in_tick(&mut self, alloc: Global, landed: bool) -> Result<(), StopFault>
-        ensures mark { (g : Given) (E : List Entry) → C.stands_for self.old.core g E → OnOk result (M.stored self.new.mark
-            ≡ with_next_start (if landed then with_waiting (waiting_counts g E) (M.stored self.old.mark) else M.stored self.old.mark)) }
-        ensures stops { (g : Given) (E : List Entry) → C.stands_for self.old.core g E → OnOk result
-            (HasStopped M.stored (StopsInRaise M.stops_as landed (waiting_counts g E) (M.stored self.old.mark).counts) self.old.mark self.new.mark) }
-        ensures stands { OnOk result (C.stands_for self.new.core (C.given_with (C.settings_of self.old.core)
-            (M.stored self.new.mark).start (M.stored self.new.mark).floor (M.stored self.new.mark).counts) []) }
-        ensures used_up { IsErrOf result StopFault.StartsUsedUp ↔ ((M.stored self.old.mark).start ≡ u32.MAX) }
-        ensures err { OnErr result (self.new ≡ self.old) }
-        ensures settings { C.settings_of self.new.core ≡ C.settings_of self.old.core }
-        ensures lead { self.new.lead ≡ self.old.lead }
-    {
-        let (start, floor) = self.mark.stored();
-        let waiting = self.core.waiting();
-        let counts = counts_after(&self.mark, &waiting, landed);
-        let next = opened(&self.core, alloc, start, floor, &counts)?;
-        stop_in_raise(&mut self.mark, &waiting, landed);
-        self.begin(next);
-        Ok(())
-    }
-
-    /// A stop in the store of the next start, which landed or not. Where it landed, that life ends before its first step.
-    ///
-    /// # Errors
-    ///
-    /// As [`Station::stop`]; `StartsUsedUp` also at the last start number but one, where the store landed.
-    pub fn stop_at_start(&mut self, alloc: Global, landed: bool) -> Result<(), StopFault>
-        ensures mark { OnOk result (M.stored self.new.mark
-            ≡ (if landed then with_next_start (with_next_start (M.stored self.old.mark)) else with_next_start (M.stored self.old.mark))) }
-        ensures stops { OnOk result (HasStopped M.stored (M.stops_as (InBegin landed)) self.old.mark self.new.mark) }
-        ensures stands { OnOk result (C.stands_for self.new.core (C.given_with (C.settings_of self.old.core)
-            (M.stored self.new.mark).start (M.stored self.new.mark).floor (M.stored self.new.mark).counts) []) }
-        ensures used_up { IsErrOf result StopFault.StartsUsedUp
-            ↔ (u32.MAX < (if landed then (M.stored self.old.mark).start + 2 else (M.stored self.old.mark).start + 1)) }
-        ensures err { OnErr result (self.new ≡ self.old) }
-        ensures settings { C.settings_of self.new.core ≡ C.settings_of self.old.core }
-        ensures lead { self.new.lead ≡ self.old.lead }
-    {
-        let (start, floor) = self.mark.stored();
-        let counts = self.mark.counts();
-        if start == u32::MAX {
-            return Err(StopFault::StartsUsedUp);
-        }
-        let begun = if landed { start + 1 } else { start };
-        let next = opened(&self.core, alloc, begun, floor, &counts)?;
-        self.mark.begin_stopped(landed);
-        self.begin(next);
-        Ok(())
-    }
-
-    /// A stop in the store of a publish, which landed or not. No frame goes out.
-    ///
-    /// # Errors
-    ///
-    /// As [`Station::stop`].
-    pub fn stop_in_publish(&mut self, alloc: Global, landed: bool) -> Result<(), StopFault>
-        ensures mark { (g : Given) (E : List Entry) → C.stands_for self.old.core g E → OnOk result (M.stored self.new.mark
-            ≡ with_next_start (if landed then reserved self.old.lead (pop_answer E) (M.stored self.old.mark) else M.stored self.old.mark)) }
-        ensures stops { (g : Given) (E : List Entry) → C.stands_for self.old.core g E → OnOk result
-            (HasStopped M.stored (M.stops_as (stop_in_reserving landed self.old.lead (option_map (λ row. row.instant) (pop_answer E)) (M.stored self.old.mark).floor)) self.old.mark self.new.mark) }
-        ensures stands { OnOk result (C.stands_for self.new.core (C.given_with (C.settings_of self.old.core)
-            (M.stored self.new.mark).start (M.stored self.new.mark).floor (M.stored self.new.mark).counts) []) }
-        ensures used_up { IsErrOf result StopFault.StartsUsedUp ↔ ((M.stored self.old.mark).start ≡ u32.MAX) }
-        ensures err { OnErr result (self.new ≡ self.old) }
-        ensures settings { C.settings_of self.new.core ≡ C.settings_of self.old.core }
-        ensures lead { self.new.lead ≡ self.old.lead }
-    {
-        let (start, floor) = self.mark.stored();
-        let counts = self.mark.counts();
         let due = next_instant(&self.core);
-        let floor = if landed {
-            floor_after(floor, due, self.lead)
-        } else {
-            floor
+        let waiting = self.core.waiting();
+        let Some(left) = left_behind(stored_in(&self.mark), at, self.lead, due, &waiting) else {
+            return Err(StopFault::StartsUsedUp);
         };
-        let next = opened(&self.core, alloc, start, floor, &counts)?;
-        stop_in_reserve(&mut self.mark, due, self.lead, landed);
+        let next = opened(&self.core, alloc, &left)?;
+        stop_mark(&mut self.mark, at, self.lead, due, &waiting);
         self.begin(next);
         Ok(())
     }

@@ -3,11 +3,11 @@ ghost use Rattle.std.specs.Prelude.{◌≡◌, ◌+◌, ◌*◌, ◌<◌, ◌≤
 ghost use Rattle.pdc_history.specs.World.{raised_to};
 ghost use Rattle.pdc_mark.specs.Counts.{IsRaise};
 ghost use Rattle.pdc_mark.specs.Stored.{with_counts, with_next_start};
-ghost use Rattle.pdc_station.specs.Station.{StopsInRaise, floor_with, stop_in_reserving, with_instant, with_waiting};
+ghost use Rattle.pdc_station.specs.Station.{StopsInRaise, stop_in_reserving, with_due, with_instant, with_waiting};
 ghost use Rattle.pdc_tag.specs.declared.limits.TheConstants.{MAX_RATE, SECONDS};
 
 use pdc_life::MAX_PMUS;
-use pdc_mark::{Store, raised};
+use pdc_mark::{Store, Stored, raised};
 
 /// The greater of each two counts, where that differs from the first ones.
 pub(crate) fn raised_counts(
@@ -58,30 +58,19 @@ pub(crate) fn begin_next<M: Store>(mark: &mut M)
     let _start = mark.begin().unwrap();
 }
 
-/// The counts after a stop in the raise to the counts that wait, which landed or not.
-pub(crate) fn counts_after<M: Store>(
-    mark: &M,
-    waiting: &[u16; MAX_PMUS],
-    landed: bool,
-) -> [u16; MAX_PMUS]
-    ensures { result ≡ (if landed then raised_to (M.stored mark.now).counts waiting.now else (M.stored mark.now).counts) }
+/// After a raise to the counts that wait.
+pub(crate) fn raised_by(stored: Stored, waiting: &[u16; MAX_PMUS]) -> Stored
+    ensures { result ≡ with_waiting waiting.now stored }
 {
-    let counts = mark.counts();
-    if !landed {
-        return counts;
-    }
-    match raised_counts(&counts, waiting) {
-        Some(greater) => greater,
-        None => counts,
+    match raised_counts(&stored.counts, waiting) {
+        Some(counts) => Stored { counts, ..stored },
+        None => stored,
     }
 }
 
 /// A stop in the raise to the counts that wait, which landed or not; where nothing is to be raised, a stop between stores.
 pub(crate) fn stop_in_raise<M: Store>(mark: &mut M, waiting: &[u16; MAX_PMUS], landed: bool)
-    ensures start { (M.stored mark.new).start ≡ (M.stored mark.old).start }
-    ensures floor { (M.stored mark.new).floor ≡ (M.stored mark.old).floor }
-    ensures counts { (M.stored mark.new).counts
-        ≡ (if landed then raised_to (M.stored mark.old).counts waiting.now else (M.stored mark.old).counts) }
+    ensures stored { M.stored mark.new ≡ (if landed then with_waiting waiting.now (M.stored mark.old) else M.stored mark.old) }
     ensures stops { StopsInRaise M.stops_as landed waiting.now (M.stored mark.old).counts mark.old mark.new }
 {
     match raised_counts(&mark.counts(), waiting) {
@@ -90,24 +79,24 @@ pub(crate) fn stop_in_raise<M: Store>(mark: &mut M, waiting: &[u16; MAX_PMUS], l
     }
 }
 
-/// The floor after a reservation for the instant, if there is one.
-pub(crate) fn floor_after(floor: u64, due: Option<u64>, lead: u16) -> u64
+/// After a reservation for the instant, if there is one.
+pub(crate) fn reserved_by(stored: Stored, due: Option<u64>, lead: u16) -> Stored
     requires { IfSome due (λ instant. instant < SECONDS * MAX_RATE) }
-    ensures { result ≡ floor_with lead due floor }
+    ensures { result ≡ with_due lead due stored }
 {
     match due {
-        Some(instant) if floor < instant => instant + u64::from(lead),
-        _ => floor,
+        Some(instant) if stored.floor < instant => Stored {
+            floor: instant + u64::from(lead),
+            ..stored
+        },
+        _ => stored,
     }
 }
 
 /// A stop in the reservation for the instant, which landed or not; where there is none, or it needs no store, a stop between stores.
 pub(crate) fn stop_in_reserve<M: Store>(mark: &mut M, due: Option<u64>, lead: u16, landed: bool)
     requires { IfSome due (λ instant. instant < SECONDS * MAX_RATE) }
-    ensures start { (M.stored mark.new).start ≡ (M.stored mark.old).start }
-    ensures counts { (M.stored mark.new).counts ≡ (M.stored mark.old).counts }
-    ensures floor { (M.stored mark.new).floor
-        ≡ (if landed then floor_with lead due (M.stored mark.old).floor else (M.stored mark.old).floor) }
+    ensures stored { M.stored mark.new ≡ (if landed then with_due lead due (M.stored mark.old) else M.stored mark.old) }
     ensures stops { M.stops_as (stop_in_reserving landed lead due (M.stored mark.old).floor) mark.old mark.new }
 {
     let (_, floor) = mark.stored();

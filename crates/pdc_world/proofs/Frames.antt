@@ -12,8 +12,7 @@ use Rattle.pdc_history.specs.Genuine.{IsPublishedData}
 use Rattle.pdc_history.specs.History.{IsHistory}
 use Rattle.pdc_history.specs.Lives.{IsLifeOf}
 use Rattle.pdc_history.specs.World.{Who, A, B, M, World, Happened, Ticks, Publishes, given_by, given_in, life_of, opened_with, output_of, published, raised}
-use Rattle.pdc_life.specs.Answer.{Rules, ToTick, answered, pop_answer, tick_answer, waiting_counts}
-use Rattle.pdc_life.specs.Arrival.{Arrival}
+use Rattle.pdc_life.specs.Answer.{ToTick, answered, pop_answer, tick_answer, waiting_counts}
 use Rattle.pdc_life.specs.Given.{Given}
 use Rattle.pdc_life.specs.Life.{Entry, Tick, changes}
 use Rattle.pdc_life.specs.Published.{layout_wire}
@@ -28,6 +27,7 @@ use Rattle.pdc_sent.specs.Sent.{IsOfNone, IsOfPmu}
 use Rattle.pdc_station.specs.Station.{wire_of_some, with_waiting}
 use Rattle.pdc_world.specs.Acts.{IsPart, IsSomeFrame, IsSomePart, Keeps, frames_if, frames_with, layouts_of}
 use Rattle.pdc_world.specs.Known.{FramesAreKnown}
+use Rattle.pdc_world.specs.Seats.{Seat}
 use Rattle.pdc_world.specs.Views.{LedgerView}
 use Rattle.pdc_world.proofs.Own.{same_output}
 
@@ -72,24 +72,22 @@ row_wire : (W : World) (H : List Happened) (v : Who) (row : RowView) (out : List
 row_wire W H v row out gave bytes =
     bytes ∙ ap (λ (r : Option RowView). wire_of_some (given_in W H v).output r) (sym gave) ∙ ap (λ (o : Output). wire_of o row) (same_output W v (opened_with W H v))
 
-pub row_most : FramesAreKnown → (v : Who) (rules : Rules) (given : (start floor : ℕ) → List ℕ → Given) (Reads : ℕ → List ℕ → Arrival → Type 0) (ids : List ℕ) (lead : ℕ)
-    (Stands : Given → List Entry → Type 0) (mark : Stored) (l : LedgerView) (row : Option DueRow) (out : List ℕ) → IsSomePart v rules given Reads ids lead Stands mark l
-    → ((g : Given) (E : List Entry) → Stands g E → option_map row_view row ≡ pop_answer E) → ((g : Given) (E : List Entry) → Stands g E → out ≡ wire_of_some g.output (pop_answer E))
+pub row_most : FramesAreKnown → (v : Who) (seat : Seat) (l : LedgerView) (row : Option DueRow) (out : List ℕ) → IsSomePart v seat l
+    → ((g : Given) (E : List Entry) → seat.stands g E → option_map row_view row ≡ pop_answer E) → ((g : Given) (E : List Entry) → seat.stands g E → out ≡ wire_of_some g.output (pop_answer E))
     → IfSome row (λ (r : DueRow). length out ≤ MAX_SIZE)
-row_most known v rules given Reads ids lead Stands mark l None out some gives bytes = tt
-row_most known v rules given Reads ids lead Stands mark l (Some row) out some gives bytes =
+row_most known v seat l None out some gives bytes = tt
+row_most known v seat l (Some row) out some gives bytes =
     stable (length out) MAX_SIZE (λ over. some (λ W H part. over
     (subst (λ (x : List ℕ). length x ≤ MAX_SIZE)
     (sym (row_wire W H v (row_view row) out (gives (given_in W H v) (life_of H v) part.come.stands) (bytes (given_in W H v) (life_of H v) part.come.stands)))
     (row_fits_in known W H v (row_view row) (row_history W H v (row_view row) part.history (gives (given_in W H v) (life_of H v) part.come.stands))))))
 
-pub row_none : FramesAreKnown → (v : Who) (rules : Rules) (given : (start floor : ℕ) → List ℕ → Given) (Reads : ℕ → List ℕ → Arrival → Type 0) (ids : List ℕ) (lead : ℕ)
-    (Stands : Given → List Entry → Type 0) (mark : Stored) (l : LedgerView) (table : Settings) (row : Option DueRow) (out : List ℕ) → table ≡ l.table
-    → IsSomePart v rules given Reads ids lead Stands mark l
-    → ((g : Given) (E : List Entry) → Stands g E → option_map row_view row ≡ pop_answer E) → ((g : Given) (E : List Entry) → Stands g E → out ≡ wire_of_some g.output (pop_answer E))
+pub row_none : FramesAreKnown → (v : Who) (seat : Seat) (l : LedgerView) (table : Settings) (row : Option DueRow) (out : List ℕ) → table ≡ l.table
+    → IsSomePart v seat l
+    → ((g : Given) (E : List Entry) → seat.stands g E → option_map row_view row ≡ pop_answer E) → ((g : Given) (E : List Entry) → seat.stands g E → out ≡ wire_of_some g.output (pop_answer E))
     → IfSome row (λ (r : DueRow). IsOfNone table out)
-row_none known v rules given Reads ids lead Stands mark l table None out same some gives bytes = tt
-row_none known v rules given Reads ids lead Stands mark l table (Some row) out same some gives bytes =
+row_none known v seat l table None out same some gives bytes = tt
+row_none known v seat l table (Some row) out same some gives bytes =
     λ p pmu of_pmu. some (λ W H part.
     subst (λ (s : Settings). IsOfNone s out) (sym (same ∙ part.keeps.table))
     (subst (λ (x : List ℕ). IsOfNone W.a.settings x)
@@ -128,20 +126,19 @@ layout_sent : (b : Bool) (bytes : List ℕ) → b ≡ true → Contains (cond b 
 layout_sent true bytes e = alone bytes
 layout_sent false bytes e = cc
 
-pub layout_some : FramesAreKnown → (v : Who) (rules : Rules) (given : (start floor : ℕ) → List ℕ → Given) (Reads : ℕ → List ℕ → Arrival → Type 0) (ids : List ℕ) (lead : ℕ)
-    (Before After : Given → List Entry → Type 0) (old new : Stored) (l : LedgerView) (table : Settings) (now : ℕ) (ticked : Ticked) → table ≡ l.table
-    → IsSomePart v rules given Reads ids lead Before old l
-    → ((g : Given) (E : List Entry) → Before g E → new ≡ with_waiting (waiting_counts g E) old)
-    → ((g : Given) (E : List Entry) → Before g E → ticked ≡ ticked_of (changes E) (tick_answer g E now new.counts))
-    → ((g : Given) (E : List Entry) → Before g E → After g (answered rules g E (ToTick now new.counts) ∷ E))
+pub layout_some : FramesAreKnown → (v : Who) (old : Seat) (After : Given → List Entry → Type 0) (new : Stored) (l : LedgerView) (table : Settings) (now : ℕ) (ticked : Ticked) → table ≡ l.table
+    → IsSomePart v old l
+    → ((g : Given) (E : List Entry) → old.stands g E → new ≡ with_waiting (waiting_counts g E) old.mark)
+    → ((g : Given) (E : List Entry) → old.stands g E → ticked ≡ ticked_of (changes E) (tick_answer g E now new.counts))
+    → ((g : Given) (E : List Entry) → old.stands g E → After g (answered old.rules g E (ToTick now new.counts) ∷ E))
     → IsSome ticked.change → IsSomeFrame After table
-layout_some known v rules given Reads ids lead Before After old new l table now ticked same some marks tells stands change =
+layout_some known v old After new l table now ticked same some marks tells stands change =
     λ none. some (λ W H part.
     let g : Given = given_in W H v in
     let E : List Entry = life_of H v in
     let r : Stored = raised W H v in
     let e : Entry = Tick now r.counts (tick_answer g E now r.counts) in
-    let is : new ≡ r = marks g E part.come.stands ∙ ap (with_waiting (waiting_counts g E)) part.come.marked in
+    let is : new ≡ r = marks g E part.come.stands ∙ ap (with_waiting (waiting_counts g E)) part.come.mark in
     let after : After g (e ∷ E) = subst (λ (x : Stored). After g (Tick now x.counts (tick_answer g E now x.counts) ∷ E)) is (stands g E part.come.stands) in
     let told : ticked ≡ ticked_of (changes E) (tick_answer g E now r.counts) =
     tells g E part.come.stands ∙ ap (λ (x : Stored). ticked_of (changes E) (tick_answer g E now x.counts)) is in
@@ -165,10 +162,9 @@ pub ok_stable : {A B : Type 0} (r : Result A B) → ((IsOk r → ⊥) → ⊥) �
 ok_stable (Ok x) some = refl
 ok_stable (Err x) some = absurd (some (λ e. cc))
 
-pub same_part : (W : World) (H : List Happened) (v : Who) (rules : Rules) (given : (start floor : ℕ) → List ℕ → Given) (Reads : ℕ → List ℕ → Arrival → Type 0) (ids : List ℕ) (lead : ℕ)
-    (Stands : Given → List Entry → Type 0) (mark : Stored) (l m : LedgerView) → m ≡ l → IsPart W H v rules given Reads ids lead Stands mark l
-    → IsPart W H v rules given Reads ids lead Stands mark m
-same_part W H v rules given Reads ids lead Stands mark l m same part = record {
+pub same_part : (W : World) (H : List Happened) (v : Who) (seat : Seat) (l m : LedgerView) → m ≡ l → IsPart W H v seat l
+    → IsPart W H v seat m
+same_part W H v seat l m same part = record {
   history = part.history;
   one = part.one;
   come = part.come;

@@ -1,6 +1,8 @@
 pub mod Own
 pub mod Others
+pub mod Ended
 pub mod Made
+pub mod Same
 pub mod Refused
 pub mod Parts
 pub mod Heard

@@ -12,14 +12,13 @@ use Rattle.pdc_event.specs.declared.reply.Reply.TheVariants as reply
 use Rattle.pdc_event.specs.declared.who.Who.{Who as WhoData}
 use Rattle.pdc_history.specs.Asked.{Asked, IsReadOf}
 use Rattle.pdc_history.specs.Asked as asked
-use Rattle.pdc_history.specs.Event.{Event, Bring, Miss, happens}
+use Rattle.pdc_history.specs.Event.{Bring, Miss}
 use Rattle.pdc_history.specs.Event as event
-use Rattle.pdc_history.specs.History.{MayCome, MayHappen}
+use Rattle.pdc_history.specs.History.{MayCome}
 use Rattle.pdc_event.specs.declared.fault.Fault.{Fault}
 use Rattle.pdc_history.specs.Play.{IsStepOf}
 use Rattle.pdc_history.specs.World.{Who, World, Happened, Sends, Comes, PassesBy, Ticks, Publishes, Ends, given_by, given_in, lead_of, life_of, mark_of, opened_with, output_of, raised, reserved, rules_of, sent, sent_at}
 use Rattle.pdc_life.specs.Answer.{Rules, ToArrive, ToPop, ToTick, answered, pop_answer, tick_answer, waiting_counts}
-use Rattle.pdc_life.specs.Arrival.{Arrival}
 use Rattle.pdc_life.specs.Given.{Given}
 use Rattle.pdc_life.specs.Life.{Entry, Tick, changes}
 use Rattle.pdc_life.specs.Published.{layout_wire}
@@ -27,10 +26,15 @@ use Rattle.pdc_life.specs.declared.outcome.Outcome.{Outcome}
 use Rattle.pdc_mark.specs.declared.stored.Stored.{Stored}
 use Rattle.pdc_output.specs.declared.output.Output.{Output}
 use Rattle.pdc_row.specs.RowView.{RowView}
-use Rattle.pdc_station.specs.Station.{with_waiting}
-use Rattle.pdc_world.specs.Acts.{IsAct, IsSend, IsPart, Keeps, frames_with, layouts_of, listed_with}
+use Rattle.pdc_mark.specs.Stops.{Stop}
+use Rattle.pdc_mark.specs.Stored.{with_next_start}
+use Rattle.pdc_station.specs.Station.{HasStopped, left_by, with_waiting}
+use Rattle.pdc_station.specs.declared.stop_at.StopAt.{StopAt}
+use Rattle.pdc_world.specs.Acts.{IsAct, IsSend, IsPart, Keeps, asked_to_stop, frames_with, layouts_of, listed_with}
 use Rattle.pdc_world.specs.Replies.{listed_at, published_as}
+use Rattle.pdc_world.specs.Seats.{Seat}
 use Rattle.pdc_world.specs.Views.{LedgerView}
+use Rattle.pdc_world.proofs.Ended.{begun_by, stop_step}
 use Rattle.pdc_world.proofs.Own.{come_comes, come_ends, come_passes, come_publishes, come_ticks, name_back, same_itself, same_output}
 
 -- ---- the ledger
@@ -50,12 +54,11 @@ quiet W H h l keeps unsent unlisted =
 
 -- ---- arrivals
 
-pub heard_made : (W : World) (H : List Happened) (w : WhoData) (asked : Asked) (rules : Rules) (given : (start floor : ℕ) → List ℕ → Given) (Reads : ℕ → List ℕ → Arrival → Type 0)
-    (ids : List ℕ) (lead : ℕ) (Before After : Given → List Entry → Type 0) (old new : Stored) (l : LedgerView) (s : ℕ) (bytes : List ℕ) (outcome : Outcome)
-    → IsPart W H (who_of w) rules given Reads ids lead Before old l → (hears : Hears Reads rules Before After s bytes outcome) → new ≡ old
+pub heard_made : (W : World) (H : List Happened) (w : WhoData) (asked : Asked) (old new : Seat) (l : LedgerView) (s : ℕ) (bytes : List ℕ) (outcome : Outcome)
+    → IsPart W H (who_of w) old l → (hears : Hears old.says old.rules old.stands new.stands s bytes outcome) → new.mark ≡ old.mark
     → IsReadOf W H asked (Bring (who_of w) s bytes hears.arrival) → MayCome W H (who_of w) s bytes hears.arrival
-    → IsAct W H (who_of w) asked After new l (reply.Came w (Some outcome))
-heard_made W H w asked rules given Reads ids lead Before After old new l s bytes outcome part hears stays read may =
+    → IsAct W H (who_of w) asked new l (reply.Came w (Some outcome))
+heard_made W H w asked old new l s bytes outcome part hears stays read may =
     let v : Who = who_of w in
     let g : Given = given_in W H v in
     let E : List Entry = life_of H v in
@@ -64,23 +67,22 @@ heard_made W H w asked rules given Reads ids lead Before After old new l s bytes
       step = record { event = Bring v s bytes hears.arrival; read = read; may = may; made = refl };
       own = same_itself v;
       come =
-          come_comes W H v (answered (rules_of v) g E (ToArrive s bytes hears.arrival)) After new
-          (subst (λ (r : Rules). After g (answered r g E (ToArrive s bytes hears.arrival) ∷ E)) part.one.same_rules (hears.stands g E part.come.stands))
-          (stays ∙ part.come.marked);
+          come_comes W H v (answered (rules_of v) g E (ToArrive s bytes hears.arrival)) new
+          (subst (λ (r : Rules). new.stands g (answered r g E (ToArrive s bytes hears.arrival) ∷ E)) part.one.rules (hears.stands g E part.come.stands))
+          (stays ∙ part.come.mark);
       keeps = quiet W H (Comes v (answered (rules_of v) g E (ToArrive s bytes hears.arrival))) l part.keeps refl refl;
       told =
-          ap (λ (o : Outcome). reply.Came w (Some o)) (hears.answer g E part.come.stands ∙ ap (λ (r : Rules). (r g E s hears.arrival).outcome) part.one.same_rules)
+          ap (λ (o : Outcome). reply.Came w (Some o)) (hears.answer g E part.come.stands ∙ ap (λ (r : Rules). (r g E s hears.arrival).outcome) part.one.rules)
           ∙ ap (λ (x : WhoData). reply.Came x (Some (rules_of v g E s hears.arrival).outcome)) (sym (name_back w));
     }
 
-pub passed_made : (W : World) (H : List Happened) (w : WhoData) (asked : Asked) (rules : Rules) (given : (start floor : ℕ) → List ℕ → Given) (Reads : ℕ → List ℕ → Arrival → Type 0)
-    (ids : List ℕ) (lead : ℕ) (Stands : Given → List Entry → Type 0) (mark : Stored) (l : LedgerView) → IsPart W H (who_of w) rules given Reads ids lead Stands mark l
-    → IsReadOf W H asked (Miss (who_of w)) → IsAct W H (who_of w) asked Stands mark l (reply.Came w None)
-passed_made W H w asked rules given Reads ids lead Stands mark l part read = record {
+pub passed_made : (W : World) (H : List Happened) (w : WhoData) (asked : Asked) (seat : Seat) (l : LedgerView) → IsPart W H (who_of w) seat l
+    → IsReadOf W H asked (Miss (who_of w)) → IsAct W H (who_of w) asked seat l (reply.Came w None)
+passed_made W H w asked seat l part read = record {
   happened = PassesBy (who_of w);
   step = record { event = Miss (who_of w); read = read; may = tt; made = refl };
   own = same_itself (who_of w);
-  come = come_passes W H (who_of w) Stands mark part.come;
+  come = come_passes W H (who_of w) seat part.come;
   keeps = quiet W H (PassesBy (who_of w)) l part.keeps refl refl;
   told = ap (λ (x : WhoData). reply.Came x None) (sym (name_back w));
 }
@@ -97,29 +99,28 @@ same_change : (change : ℕ) (adopted : List ℕ) → new_change change adopted 
 same_change change [] = refl
 same_change change (c ∷ cs) = ap (λ (b : Bool). cond b (Some (change + 1)) None) (sym (lt-ltb 0 (length (c ∷ cs)) (omega arith)))
 
-pub ticked_made : (W : World) (H : List Happened) (w : WhoData) (rules : Rules) (given : (start floor : ℕ) → List ℕ → Given) (Reads : ℕ → List ℕ → Arrival → Type 0) (ids : List ℕ)
-    (lead : ℕ) (Before After : Given → List Entry → Type 0) (old new : Stored) (l m : LedgerView) (now : ℕ) (ticked : Ticked)
-    → IsPart W H (who_of w) rules given Reads ids lead Before old l
-    → ((g : Given) (E : List Entry) → Before g E → new ≡ with_waiting (waiting_counts g E) old)
-    → ((g : Given) (E : List Entry) → Before g E → ticked ≡ ticked_of (changes E) (tick_answer g E now new.counts))
-    → ((g : Given) (E : List Entry) → Before g E → After g (answered rules g E (ToTick now new.counts) ∷ E))
-    → m.table ≡ l.table → ((g : Given) (E : List Entry) → After g E → m.frames ≡ l.frames ++ layouts_of ticked.change g E) → m.published ≡ l.published
-    → IsAct W H (who_of w) (asked.TickAt (who_of w) now) After new m (reply.Ticked w ticked)
-ticked_made W H w rules given Reads ids lead Before After old new l m now ticked part marks tells stands table frames published =
+pub ticked_made : (W : World) (H : List Happened) (w : WhoData) (old new : Seat) (l m : LedgerView) (now : ℕ) (ticked : Ticked)
+    → IsPart W H (who_of w) old l
+    → ((g : Given) (E : List Entry) → old.stands g E → new.mark ≡ with_waiting (waiting_counts g E) old.mark)
+    → ((g : Given) (E : List Entry) → old.stands g E → ticked ≡ ticked_of (changes E) (tick_answer g E now new.mark.counts))
+    → ((g : Given) (E : List Entry) → old.stands g E → new.stands g (answered old.rules g E (ToTick now new.mark.counts) ∷ E))
+    → m.table ≡ l.table → ((g : Given) (E : List Entry) → new.stands g E → m.frames ≡ l.frames ++ layouts_of ticked.change g E) → m.published ≡ l.published
+    → IsAct W H (who_of w) (asked.TickAt (who_of w) now) new m (reply.Ticked w ticked)
+ticked_made W H w old new l m now ticked part marks tells stands table frames published =
     let v : Who = who_of w in
     let g : Given = given_in W H v in
     let E : List Entry = life_of H v in
     let r : Stored = raised W H v in
     let e : Entry = Tick now r.counts (tick_answer g E now r.counts) in
-    let same : new ≡ r = marks g E part.come.stands ∙ ap (with_waiting (waiting_counts g E)) part.come.marked in
-    let after : After g (e ∷ E) = subst (λ (x : Stored). After g (Tick now x.counts (tick_answer g E now x.counts) ∷ E)) same (stands g E part.come.stands) in
+    let same : new.mark ≡ r = marks g E part.come.stands ∙ ap (with_waiting (waiting_counts g E)) part.come.mark in
+    let after : new.stands g (e ∷ E) = subst (λ (x : Stored). new.stands g (Tick now x.counts (tick_answer g E now x.counts) ∷ E)) same (stands g E part.come.stands) in
     let told : ticked ≡ ticked_of (changes E) (tick_answer g E now r.counts) =
     tells g E part.come.stands ∙ ap (λ (x : Stored). ticked_of (changes E) (tick_answer g E now x.counts)) same in
     record {
       happened = Ticks v e;
       step = record { event = event.TickAt v now; read = refl; may = tt; made = refl };
       own = same_itself v;
-      come = come_ticks W H v e After new after same;
+      come = come_ticks W H v e new after same;
       keeps =
           more_kept W H (Ticks v e) l m part.keeps table
           (frames g (e ∷ E) after ∙ ap (λ (t : Ticked). l.frames ++ layouts_of t.change g (e ∷ E)) told
@@ -146,27 +147,26 @@ same_listed : (W : World) (H : List Happened) (v : Who) (row : Option RowView) �
 same_listed W H v None = refl
 same_listed W H v (Some row) = refl
 
-pub published_made : (W : World) (H : List Happened) (w : WhoData) (rules : Rules) (given : (start floor : ℕ) → List ℕ → Given) (Reads : ℕ → List ℕ → Arrival → Type 0) (ids : List ℕ)
-    (lead : ℕ) (Before After : Given → List Entry → Type 0) (old new : Stored) (l m : LedgerView) (row : Option RowView) (out : Option Published)
-    → IsPart W H (who_of w) rules given Reads ids lead Before old l
-    → ((g : Given) (E : List Entry) → Before g E → row ≡ pop_answer E)
-    → ((g : Given) (E : List Entry) → Before g E → new ≡ reserved lead (pop_answer E) old)
-    → ((g : Given) (E : List Entry) → Before g E → After g (answered rules g E ToPop ∷ E))
-    → m.table ≡ l.table → ((g : Given) (E : List Entry) → Before g E → m.frames ≡ l.frames ++ frames_with g.output row)
+pub published_made : (W : World) (H : List Happened) (w : WhoData) (old new : Seat) (l m : LedgerView) (row : Option RowView) (out : Option Published)
+    → IsPart W H (who_of w) old l
+    → ((g : Given) (E : List Entry) → old.stands g E → row ≡ pop_answer E)
+    → ((g : Given) (E : List Entry) → old.stands g E → new.mark ≡ reserved old.lead (pop_answer E) old.mark)
+    → ((g : Given) (E : List Entry) → old.stands g E → new.stands g (answered old.rules g E ToPop ∷ E))
+    → m.table ≡ l.table → ((g : Given) (E : List Entry) → old.stands g E → m.frames ≡ l.frames ++ frames_with g.output row)
     → m.published ≡ l.published ++ listed_with (who_of w) (length l.frames) row → out ≡ option_map (published_as (who_of w) (length l.frames)) row
-    → IsAct W H (who_of w) (asked.Publish (who_of w)) After new m (reply.Published w out)
-published_made W H w rules given Reads ids lead Before After old new l m row out part gives marks stands table frames published listing =
+    → IsAct W H (who_of w) (asked.Publish (who_of w)) new m (reply.Published w out)
+published_made W H w old new l m row out part gives marks stands table frames published listing =
     let v : Who = who_of w in
     let g : Given = given_in W H v in
     let E : List Entry = life_of H v in
     let gave : row ≡ pop_answer E = gives g E part.come.stands in
-    let same : new ≡ reserved (lead_of W v) (pop_answer E) (mark_of W H v) =
-    marks g E part.come.stands ∙ ap (λ (n : ℕ). reserved n (pop_answer E) old) part.one.same_lead ∙ ap (reserved (lead_of W v) (pop_answer E)) part.come.marked in
+    let same : new.mark ≡ reserved (lead_of W v) (pop_answer E) (mark_of W H v) =
+    marks g E part.come.stands ∙ ap (λ (n : ℕ). reserved n (pop_answer E) old.mark) part.one.lead ∙ ap (reserved (lead_of W v) (pop_answer E)) part.come.mark in
     record {
       happened = Publishes v (pop_answer E);
       step = record { event = event.Publish v; read = refl; may = tt; made = refl };
       own = same_itself v;
-      come = come_publishes W H v (pop_answer E) After new (stands g E part.come.stands) same;
+      come = come_publishes W H v (pop_answer E) new (stands g E part.come.stands) same;
       keeps =
           more_kept W H (Publishes v (pop_answer E)) l m part.keeps table
           (frames g E part.come.stands ∙ ap (λ (o : Output). l.frames ++ frames_with o row) (same_output W v (opened_with W H v))
@@ -182,36 +182,39 @@ published_made W H w rules given Reads ids lead Before After old new l m row out
 
 -- ---- stops
 
-pub ended_made : (W : World) (H : List Happened) (w : WhoData) (asked : Asked) (event : Event) (begun : Stored) (rules : Rules) (given : (start floor : ℕ) → List ℕ → Given)
-    (Reads : ℕ → List ℕ → Arrival → Type 0) (ids : List ℕ) (lead : ℕ) (Before After : Given → List Entry → Type 0) (old new : Stored) (l : LedgerView) (said : Reply)
-    → IsPart W H (who_of w) rules given Reads ids lead Before old l → IsReadOf W H asked event → happens W H event ≡ Ends (who_of w) begun
-    → (begun.start < 2 ^ 32 → MayHappen W H event) → new ≡ begun → new.start < 2 ^ 32 → After (given new.start new.floor new.counts) []
-    → said ≡ reply.Stopped w new.start new.floor → IsAct W H (who_of w) asked After new l said
-ended_made W H w asked event begun rules given Reads ids lead Before After old new l said part read made may same fits stands is =
+pub ended_made : (W : World) (H : List Happened) (w : WhoData) (at : StopAt) (old new : Seat) (l : LedgerView) (said : Reply) {S : Type 0} (stored : S → Stored)
+    (StopsAs : Stop → S → S → Type 0) (before after : S) → IsPart W H (who_of w) old l → old.mark ≡ stored before → new.mark ≡ stored after
+    → HasStopped stored StopsAs old.stands at old.lead before after → new.mark.start < 2 ^ 32 → new.stands (old.given new.mark) []
+    → said ≡ reply.Stopped w new.mark.start new.mark.floor → IsAct W H (who_of w) (asked_to_stop (who_of w) at) new l said
+ended_made W H w at old new l said stored StopsAs before after part was is stopped fits stands tells =
     let v : Who = who_of w in
+    let waits = stopped.waits (given_in W H v) (life_of H v) part.come.stands in
+    let same : new.mark ≡ begun_by W H v at =
+    is ∙ stopped.mark ∙ (λ i. with_next_start (left_by at (part.one.lead i) (waits.0 i) (waits.1 i) ((sym was ∙ part.come.mark) i))) in
     record {
-      happened = Ends v begun;
-      step = record { event = event; read = read; may = may (subst (λ (s : Stored). s.start < 2 ^ 32) same fits); made = sym made };
+      happened = Ends v (begun_by W H v at);
+      step = stop_step W H v at (subst (λ (s : Stored). s.start < 2 ^ 32) same fits);
       own = same_itself v;
       come =
-          come_ends W H v begun After new
-          (subst (λ (s : Stored). After (given_by W v s) []) same (subst (λ (g : Given). After g []) (part.one.same_given new) stands)) same;
-      keeps = quiet W H (Ends v begun) l part.keeps refl refl;
-      told = is ∙ ap (λ (s : Stored). reply.Stopped w s.start s.floor) same ∙ ap (λ (x : WhoData). reply.Stopped x begun.start begun.floor) (sym (name_back w));
+          come_ends W H v (begun_by W H v at) new
+          (subst (λ (s : Stored). new.stands (given_by W v s) []) same (subst (λ (g : Given). new.stands g []) (part.one.given new.mark) stands)) same;
+      keeps = quiet W H (Ends v (begun_by W H v at)) l part.keeps refl refl;
+      told =
+          tells ∙ ap (λ (s : Stored). reply.Stopped w s.start s.floor) same
+          ∙ ap (λ (x : WhoData). reply.Stopped x (begun_by W H v at).start (begun_by W H v at).floor) (sym (name_back w));
     }
 
 -- ---- sends
 
-pub sent_made : (W : World) (H : List Happened) (v : Who) (what : Asked) (bytes : List ℕ) (rules : Rules) (given : (start floor : ℕ) → List ℕ → Given)
-    (Reads : ℕ → List ℕ → Arrival → Type 0) (ids : List ℕ) (lead : ℕ) (Stands : Given → List Entry → Type 0) (mark : Stored) (l m : LedgerView) (result : Result Reply Fault)
-    → what ≡ asked.Send bytes → IsPart W H v rules given Reads ids lead Stands mark l → IfOk result (λ (reply : Reply). IsSend W H bytes m reply)
-    → IfOk result (λ (reply : Reply). IsAct W H v what Stands mark m reply)
-sent_made W H v what bytes rules given Reads ids lead Stands mark l m (Err fault) is part sends = tt
-sent_made W H v what bytes rules given Reads ids lead Stands mark l m (Ok reply) is part sends = record {
+pub sent_made : (W : World) (H : List Happened) (v : Who) (what : Asked) (bytes : List ℕ) (seat : Seat) (l m : LedgerView) (result : Result Reply Fault)
+    → what ≡ asked.Send bytes → IsPart W H v seat l → IfOk result (λ (reply : Reply). IsSend W H bytes m reply)
+    → IfOk result (λ (reply : Reply). IsAct W H v what seat m reply)
+sent_made W H v what bytes seat l m (Err fault) is part sends = tt
+sent_made W H v what bytes seat l m (Ok reply) is part sends = record {
   happened = Sends bytes;
   step = subst (λ (a : Asked). IsStepOf W H a (Sends bytes)) (sym is) sends.step;
   own = refl;
-  come = record { stands = part.come.stands; marked = part.come.marked };
+  come = record { stands = part.come.stands; mark = part.come.mark };
   keeps = sends.keeps;
   told = sends.told;
 }

@@ -1,10 +1,9 @@
 -- A world whose first lives begin.
-use Rattle.std.proofs.Common.{◌≡◌, ◌^◌, ◌<◌, Bool, true, false, ◌&&◌, nat_lt, ◌⊎◌, inl, inr, List, [], sym, ap, subst, ◌∙◌, arith}
+use Rattle.std.proofs.Common.{◌≡◌, ◌^◌, ◌<◌, Bool, true, false, ◌&&◌, nat_lt, ◌⊎◌, inl, inr, [], sym, ap, subst, ◌∙◌, arith}
 use Rattle.std.proofs.lemmas.Bool.{and_cases, and_parts, both_ways, ltb-false, ltb-true}
 use Rattle.pdc_history.specs.Agree.{MayBegin, SettingsAgree}
 use Rattle.pdc_history.specs.World.{A, B, M, Who, World, first_mark, given_by}
-use Rattle.pdc_life.specs.Given.{Given, given_of}
-use Rattle.pdc_life.specs.Life.{Entry}
+use Rattle.pdc_life.specs.Given.{given_of}
 use Rattle.pdc_life.specs.MergerReading.{given_of_merger}
 use Rattle.pdc_life.specs.declared.given.Settings.{Settings}
 use Rattle.pdc_life.specs.declared.merging.MergerSettings.{MergerSettings}
@@ -16,6 +15,7 @@ use Rattle.pdc_world.specs.Acts.{HasCome}
 use Rattle.pdc_world.specs.Agreement.{do_agree}
 use Rattle.pdc_world.specs.Holds.{Holds}
 use Rattle.pdc_world.specs.Opening.{HasNoStart, are_left, world_of}
+use Rattle.pdc_world.specs.Seats.{Seat, merger_seat, node_seat}
 use Rattle.pdc_world.specs.Views.{LedgerView, WorldView}
 use Rattle.pdc_world.specs.declared.opening.Leads.{Leads}
 use Rattle.pdc_world.proofs.Agreements.{agree_from, agree_to}
@@ -24,8 +24,8 @@ either : {P Q R : Type 0} → P ⊎ Q → (P → R) → (Q → R) → R
 either (inl p) f g = f p
 either (inr q) f g = g q
 
-come_first : (W : World) (v : Who) (Stands : Given → List Entry → Type 0) (mark : Stored) → mark ≡ first_mark W v → Stands (given_by W v mark) [] → HasCome W [] v Stands mark
-come_first W v Stands mark same stands = record { stands = subst (λ (s : Stored). Stands (given_by W v s) []) same stands; marked = same }
+come_first : (W : World) (v : Who) (seat : Seat) → seat.mark ≡ first_mark W v → seat.stands (given_by W v seat.mark) [] → HasCome W [] v seat
+come_first W v seat same stands = record { stands = subst (λ (s : Stored). seat.stands (given_by W v s) []) same stands; mark = same }
 
 -- Three starts are left.
 pub record AreLeft (of_a of_b of_m : Stored) : Type 0 where
@@ -96,14 +96,10 @@ pub begun_holds : (a b : Settings) (m : MergerSettings) (leads : Leads) (of_a of
     → v.ledger ≡ record { table = a; frames = []; published = [] } → Holds (world_of a b m leads of_a of_b of_m) [] v
 begun_holds a b m leads of_a of_b of_m v agree left a_mark a_stands a_settings a_lead b_mark b_stands b_settings b_lead m_mark m_stands m_settings m_lead ledger = record {
   history = may_begin a b m leads of_a of_b of_m agree left;
-  a_settings = a_settings;
-  b_settings = b_settings;
-  m_settings = m_settings;
-  a_lead = a_lead;
-  b_lead = b_lead;
-  m_lead = m_lead;
-  a = come_first (world_of a b m leads of_a of_b of_m) A (λ (g : Given) (E : List Entry). node.StandsFor g E v.a.core) v.a.mark a_mark a_stands;
-  b = come_first (world_of a b m leads of_a of_b of_m) B (λ (g : Given) (E : List Entry). node.StandsFor g E v.b.core) v.b.mark b_mark b_stands;
-  m = come_first (world_of a b m leads of_a of_b of_m) M (λ (g : Given) (E : List Entry). merger.StandsFor g E v.m.core) v.m.mark m_mark m_stands;
+  seats = elim [
+    | A ↦ record { settings = a_settings; lead = a_lead; come = come_first (world_of a b m leads of_a of_b of_m) A (node_seat v.a) a_mark a_stands }
+    | B ↦ record { settings = b_settings; lead = b_lead; come = come_first (world_of a b m leads of_a of_b of_m) B (node_seat v.b) b_mark b_stands }
+    | M ↦ record { settings = m_settings; lead = m_lead; come = come_first (world_of a b m leads of_a of_b of_m) M (merger_seat v.m) m_mark m_stands }
+  ];
   ledger = record { table = ap (λ (l : LedgerView). l.table) ledger; frames = ap (λ (l : LedgerView). l.frames) ledger; published = ap (λ (l : LedgerView). l.published) ledger };
 }

@@ -5,6 +5,7 @@ use Rattle.pdc_life.specs.Given.{Given}
 use Rattle.pdc_life.specs.Life.{Entry, Pop}
 use Rattle.pdc_mark.specs.declared.stored.Stored.{Stored}
 use Rattle.pdc_world.specs.Acts.{HasCome, is_own}
+use Rattle.pdc_world.specs.Seats.{Seat}
 
 same_who : (v w : Who) → is_same v w ≡ true → v ≡ w
 same_who A A e = refl
@@ -38,23 +39,23 @@ no_begin : (b : Bool) (begun mark stored : Stored) → b ≡ false → stored �
 no_begin false begun mark stored none e = e
 no_begin true begun mark stored none e = cc
 
-pub others_stay : (W : World) (H : List Happened) (h : Happened) (who w : Who) (Stands : Given → List Entry → Type 0) (mark : Stored) → is_own who h ≡ true → is_same who w ≡ false
-    → HasCome W H w Stands mark → HasCome W (h ∷ H) w Stands mark
-others_stay W H (Sends bytes) who w Stands mark own other come = record { stands = come.stands; marked = come.marked }
-others_stay W H (Comes v e) who w Stands mark own other come = record {
-  stands = no_entry W H w (is_same v w) e Stands (another v who w own other) come.stands;
-  marked = come.marked;
+pub others_stay : (W : World) (H : List Happened) (h : Happened) (who w : Who) (seat : Seat) → is_own who h ≡ true → is_same who w ≡ false
+    → HasCome W H w seat → HasCome W (h ∷ H) w seat
+others_stay W H (Sends bytes) who w seat own other come = record { stands = come.stands; mark = come.mark }
+others_stay W H (Comes v e) who w seat own other come = record {
+  stands = no_entry W H w (is_same v w) e seat.stands (another v who w own other) come.stands;
+  mark = come.mark;
 }
-others_stay W H (PassesBy v) who w Stands mark own other come = record { stands = come.stands; marked = come.marked }
-others_stay W H (Ticks v e) who w Stands mark own other come = record {
-  stands = no_entry W H w (is_same v w) e Stands (another v who w own other) come.stands;
-  marked = no_mark (is_same v w) (with_counts_of e (mark_of W H w)) (mark_of W H w) mark (another v who w own other) come.marked;
+others_stay W H (PassesBy v) who w seat own other come = record { stands = come.stands; mark = come.mark }
+others_stay W H (Ticks v e) who w seat own other come = record {
+  stands = no_entry W H w (is_same v w) e seat.stands (another v who w own other) come.stands;
+  mark = no_mark (is_same v w) (with_counts_of e (mark_of W H w)) (mark_of W H w) seat.mark (another v who w own other) come.mark;
 }
-others_stay W H (Publishes v row) who w Stands mark own other come = record {
-  stands = no_entry W H w (is_same v w) (Pop row) Stands (another v who w own other) come.stands;
-  marked = no_mark (is_same v w) (reserved (lead_of W w) row (mark_of W H w)) (mark_of W H w) mark (another v who w own other) come.marked;
+others_stay W H (Publishes v row) who w seat own other come = record {
+  stands = no_entry W H w (is_same v w) (Pop row) seat.stands (another v who w own other) come.stands;
+  mark = no_mark (is_same v w) (reserved (lead_of W w) row (mark_of W H w)) (mark_of W H w) seat.mark (another v who w own other) come.mark;
 }
-others_stay W H (Ends v begun) who w Stands mark own other come = record {
-  stands = no_end W H w (is_same v w) begun Stands (another v who w own other) come.stands;
-  marked = no_begin (is_same v w) begun (mark_of W H w) mark (another v who w own other) come.marked;
+others_stay W H (Ends v begun) who w seat own other come = record {
+  stands = no_end W H w (is_same v w) begun seat.stands (another v who w own other) come.stands;
+  mark = no_begin (is_same v w) begun (mark_of W H w) seat.mark (another v who w own other) come.mark;
 }

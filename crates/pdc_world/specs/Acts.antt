@@ -1,5 +1,5 @@
 -- What an act of one core makes of a world: of the core and its mark, and of what was sent and published (this profile).
-use Rattle.std.specs.Prelude.{◌≡◌, ◌≤◌, ℕ, Bool, true, List, [], ◌∷◌, length, if◌then◌else◌, Option, None, Some}
+use Rattle.std.specs.Prelude.{◌≡◌, ◌≤◌, ℕ, Bool, true, List, [], ◌∷◌, length, Option, None, Some, Result, IfErr, IfOk}
 use Rattle.pdc_event.specs.declared.fault.Fault.{Fault}
 use Rattle.pdc_event.specs.declared.fault.Fault.TheVariants as fault
 use Rattle.pdc_event.specs.declared.fault.Premise.TheVariants.{OneBody, OneSection, Genuine, OneTable}
@@ -10,10 +10,9 @@ use Rattle.pdc_history.specs.Asked as asked
 use Rattle.pdc_history.specs.History.{IsHistory, Says, stream_ids}
 use Rattle.pdc_history.specs.Play.{IsStepOf}
 use Rattle.pdc_history.specs.World.{Who, World, Happened, Sends, given_by, given_in, is_same, lead_of, life_of, mark_of, rules_of, sent}
-use Rattle.pdc_life.specs.Answer.{Rules}
 use Rattle.pdc_life.specs.Arrival.{Arrival}
 use Rattle.pdc_life.specs.Given.{Given}
-use Rattle.pdc_life.specs.Life.{Entry, is_adoption}
+use Rattle.pdc_life.specs.Life.{Entry}
 use Rattle.pdc_life.specs.Published.{layout_wire}
 use Rattle.pdc_mark.specs.declared.stored.Stored.{Stored}
 use Rattle.pdc_output.specs.declared.output.Output.{Output}
@@ -26,22 +25,25 @@ use Rattle.pdc_sent.specs.declared.fault.SendFault.{SendFault}
 use Rattle.pdc_sent.specs.declared.fault.SendFault.TheVariants as send
 use Rattle.pdc_station.specs.declared.fault.StopFault.{StopFault}
 use Rattle.pdc_station.specs.declared.fault.StopFault.TheVariants as stop
+use Rattle.pdc_station.specs.declared.stop_at.StopAt.{StopAt}
+use Rattle.pdc_station.specs.declared.stop_at.StopAt.TheVariants as at
+use Rattle.pdc_station.specs.declared.stop_at.Storing.TheVariants as storing
 use Rattle.pdc_world.specs.Replies.{listed, published_as, reply_of, whose_is}
+use Rattle.pdc_world.specs.Seats.{Seat}
 use Rattle.pdc_world.specs.Views.{LedgerView}
 
--- What is fixed of a core is that of this one of the world: its rules, what is given to a life of it, what bytes say to it, the ids of
--- its streams, and how far ahead its mark is reserved.
-pub record IsOne (W : World) (who : Who) (rules : Rules) (given : (start floor : ℕ) → List ℕ → Given) (Reads : ℕ → List ℕ → Arrival → Type 0) (ids : List ℕ) (lead : ℕ) : Type 0 where
-  pub same_rules : rules ≡ rules_of who
-  pub same_given : (mark : Stored) → given mark.start mark.floor mark.counts ≡ given_by W who mark
-  pub same_says : (s : ℕ) (bytes : List ℕ) (arrival : Arrival) → Reads s bytes arrival → Says W who s bytes arrival
-  pub same_ids : ids ≡ stream_ids W who
-  pub same_lead : lead ≡ lead_of W who
+-- What is fixed of the seat is that of this core of the world.
+pub record IsSeat (W : World) (who : Who) (seat : Seat) : Type 0 where
+  pub rules : seat.rules ≡ rules_of who
+  pub given : (mark : Stored) → seat.given mark ≡ given_by W who mark
+  pub says : (s : ℕ) (bytes : List ℕ) (arrival : Arrival) → seat.says s bytes arrival → Says W who s bytes arrival
+  pub ids : seat.ids ≡ stream_ids W who
+  pub lead : seat.lead ≡ lead_of W who
 
 -- It stands for its present life, and this is its mark.
-pub record HasCome (W : World) (H : List Happened) (who : Who) (Stands : Given → List Entry → Type 0) (mark : Stored) : Type 0 where
-  pub stands : Stands (given_in W H who) (life_of H who)
-  pub marked : mark ≡ mark_of W H who
+pub record HasCome (W : World) (H : List Happened) (who : Who) (seat : Seat) : Type 0 where
+  pub stands : seat.stands (given_in W H who) (life_of H who)
+  pub mark : seat.mark ≡ mark_of W H who
 
 -- The ledger tells what was sent and published.
 pub record Keeps (W : World) (H : List Happened) (ledger : LedgerView) : Type 0 where
@@ -49,29 +51,29 @@ pub record Keeps (W : World) (H : List Happened) (ledger : LedgerView) : Type 0 
   pub frames : ledger.frames ≡ sent W H
   pub published : ledger.published ≡ listed W H
 
--- All this of a core and the ledger, after a history.
-pub record IsPart (W : World) (H : List Happened) (who : Who) (rules : Rules) (given : (start floor : ℕ) → List ℕ → Given) (Reads : ℕ → List ℕ → Arrival → Type 0) (ids : List ℕ) (lead : ℕ) (Stands : Given → List Entry → Type 0) (mark : Stored) (ledger : LedgerView) : Type 0 where
+-- All this of a seat and the ledger, after a history.
+pub record IsPart (W : World) (H : List Happened) (who : Who) (seat : Seat) (ledger : LedgerView) : Type 0 where
   pub history : IsHistory W H
-  pub one : IsOne W who rules given Reads ids lead
-  pub come : HasCome W H who Stands mark
+  pub one : IsSeat W who seat
+  pub come : HasCome W H who seat
   pub keeps : Keeps W H ledger
 
 -- There is a history of which they are a part: that there were none is absurd.
-abbrev pub IsSomePart : (who : Who) (rules : Rules) (given : (start floor : ℕ) → List ℕ → Given) (Reads : ℕ → List ℕ → Arrival → Type 0) (ids : List ℕ) (lead : ℕ) (Stands : Given → List Entry → Type 0) (mark : Stored) (ledger : LedgerView) → Type 0
-IsSomePart who rules given Reads ids lead Stands mark ledger = ((W : World) (H : List Happened) → IsPart W H who rules given Reads ids lead Stands mark ledger → ⊥) → ⊥
+abbrev pub IsSomePart : Who → Seat → LedgerView → Type 0
+IsSomePart who seat ledger = ((W : World) (H : List Happened) → IsPart W H who seat ledger → ⊥) → ⊥
 
 -- it is no other core's
 abbrev pub is_own : Who → Happened → Bool
 is_own who (Sends bytes) = true
 is_own who h = is_same (whose_is h) who
 
--- What was asked was made: something happened to this core alone, and it, its mark and the ledger are those of the history with that
--- more. This is what is replied.
-pub record IsAct (W : World) (H : List Happened) (who : Who) (asked : Asked) (Stands : Given → List Entry → Type 0) (mark : Stored) (ledger : LedgerView) (reply : Reply) : Type 0 where
+-- What was asked was made: something happened to this core alone, and its seat and the ledger are those of the history with that more.
+-- This is what is replied.
+pub record IsAct (W : World) (H : List Happened) (who : Who) (asked : Asked) (seat : Seat) (ledger : LedgerView) (reply : Reply) : Type 0 where
   pub happened : Happened
   pub step : IsStepOf W H asked happened
   pub own : is_own who happened ≡ true
-  pub come : HasCome W (happened ∷ H) who Stands mark
+  pub come : HasCome W (happened ∷ H) who seat
   pub keeps : Keeps W (happened ∷ H) ledger
   pub told : reply ≡ reply_of W H happened
 
@@ -86,11 +88,16 @@ IsWhy W H what fault.NoSuchFrame = IsFault W H what asked.NoSuchFrame
 IsWhy W H what fault.StartsUsedUp = IsFault W H what asked.StartsUsedUp
 IsWhy W H what fault.NoMemory = (cause : Cause) → IsFault W H what cause → ⊥
 
--- the layout that a tick adds to what is sent: that behind it, where it adopted
-abbrev pub layouts_after : Given → List Entry → Entry → List (List ℕ)
-layouts_after g E entry = if is_adoption entry then layout_wire g (entry ∷ E) 0 ∷ [] else []
+-- The contract of an act. Of whatever history the seat and the ledger are a part: what was asked was made of them,
+abbrev pub IsMade : Who → Asked → (before after : Seat) → (old new : LedgerView) → Result Reply Fault → Type 0
+IsMade who asked before after old new result =
+    (W : World) (H : List Happened) → IsPart W H who before old → IfOk result (IsAct W H who asked after new)
 
--- the same, by the change number that a tick tells
+-- or the fault tells why not.
+abbrev pub IsRefused : Who → Asked → (before : Seat) → (old : LedgerView) → Result Reply Fault → Type 0
+IsRefused who asked before old result = (W : World) (H : List Happened) → IsPart W H who before old → IfErr result (IsWhy W H asked)
+
+-- the layout that a tick adds to what is sent, by the change number that it tells
 abbrev pub layouts_of : (change : Option ℕ) → Given → List Entry → List (List ℕ)
 layouts_of None g E = []
 layouts_of (Some change) g E = layout_wire g E 0 ∷ []
@@ -131,3 +138,10 @@ fault_of_stop stop.StartsUsedUp = fault.StartsUsedUp
 abbrev pub frames_if : (bytes : List ℕ) → Option RowView → List (List ℕ)
 frames_if bytes None = []
 frames_if bytes (Some row) = bytes ∷ []
+
+-- what a stop is asked as
+abbrev pub asked_to_stop : Who → StopAt → Asked
+asked_to_stop who at.Between = asked.Stop who
+asked_to_stop who (at.In storing.Publish landed) = asked.StopIn who landed
+asked_to_stop who (at.In storing.Tick landed) = asked.StopInTick who landed
+asked_to_stop who (at.In storing.Start landed) = asked.StopAtStart who landed

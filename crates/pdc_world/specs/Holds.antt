@@ -5,28 +5,23 @@ use Rattle.pdc_event.specs.declared.reply.Reply.{Reply}
 use Rattle.pdc_history.specs.Asked.{Asked}
 use Rattle.pdc_history.specs.History.{IsHistory}
 use Rattle.pdc_history.specs.Play.{IsPlayOf, IsStepOf}
-use Rattle.pdc_history.specs.World.{World, Happened, A, B, M}
-use Rattle.pdc_life.specs.Given.{Given}
-use Rattle.pdc_life.specs.Life.{Entry}
-use Rattle.pdc_merge.specs.Merger as merger
-use Rattle.pdc_node.specs.Node as node
+use Rattle.pdc_history.specs.World.{Who, World, Happened, lead_of}
 use Rattle.pdc_world.specs.Acts.{HasCome, IsWhy, Keeps}
 use Rattle.pdc_world.specs.Replies.{reply_of}
-use Rattle.pdc_world.specs.Views.{WorldView}
+use Rattle.pdc_world.specs.Seats.{CoreOf, seat_of, settings_in, settings_of, station_of}
+use Rattle.pdc_world.specs.Views.{StationView, WorldView}
 
--- The world is that of this history: each core has its settings and stands for its present life, each mark is the one that was stored,
--- and what was sent and published is what the history says.
+-- The station of a seat has the settings and the lead of this core of the world, and has come to where the history left it.
+pub record IsSeated (W : World) (H : List Happened) (who : Who) (station : StationView (CoreOf who)) : Type 0 where
+  pub settings : settings_in who station.core ≡ settings_of W who
+  pub lead : station.lead ≡ lead_of W who
+  pub come : HasCome W H who (seat_of who station)
+
+-- The world is that of this history: in each seat the core has its settings and stands for its present life, the mark is the one that was
+-- stored, and what was sent and published is what the history says.
 pub record Holds (W : World) (H : List Happened) (v : WorldView) : Type 0 where
   pub history : IsHistory W H
-  pub a_settings : v.a.core.settings ≡ W.a.settings
-  pub b_settings : v.b.core.settings ≡ W.b.settings
-  pub m_settings : v.m.core.settings ≡ W.m.settings
-  pub a_lead : v.a.lead ≡ W.a.lead
-  pub b_lead : v.b.lead ≡ W.b.lead
-  pub m_lead : v.m.lead ≡ W.m.lead
-  pub a : HasCome W H A (λ (g : Given) (E : List Entry). node.StandsFor g E v.a.core) v.a.mark
-  pub b : HasCome W H B (λ (g : Given) (E : List Entry). node.StandsFor g E v.b.core) v.b.mark
-  pub m : HasCome W H M (λ (g : Given) (E : List Entry). merger.StandsFor g E v.m.core) v.m.mark
+  pub seats : (who : Who) → IsSeated W H who (station_of v who)
   pub ledger : Keeps W H v.ledger
 
 -- There is a history that it holds: that there were none is absurd.

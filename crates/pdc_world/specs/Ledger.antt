@@ -1,8 +1,12 @@
 -- What contracts see of the ledger (this profile).
 use Rattle.std.specs.Prelude.{◌≡◌, ◌<◌, ◌≤◌, ◌&&◌, Bool, [], IsTrue, nat_le, nat_lt, vec_capacity, vec_len}
 use Rattle.pdc_frame.specs.declared.limits.TheConstants.{MAX_SIZE}
+use Rattle.pdc_mark.specs.declared.stored.Stored.{Stored}
+use Rattle.pdc_merge.specs.Merger.{MergerView}
+use Rattle.pdc_node.specs.Node.{NodeView}
+use Rattle.pdc_station.specs.declared.station.Station.{Station}
 use Rattle.pdc_world.specs.declared.ledger.Ledger.{Ledger}
-use Rattle.pdc_world.specs.Views.{LedgerView}
+use Rattle.pdc_world.specs.Views.{LedgerView, StationView, WorldView}
 
 abbrev pub ledger_view : Ledger → LedgerView
 ledger_view ledger = record { table = ledger.sent.settings; frames = ledger.sent.frames; published = ledger.published.items }
@@ -17,3 +21,11 @@ pub record IsReady (ledger : Ledger) : Type 0 where
   pub row : vec_len ledger.published < vec_capacity ledger.published
   pub empty : ledger.frame.items ≡ []
   pub most : MAX_SIZE ≤ vec_capacity ledger.frame
+
+-- what is seen of a station, whose mark stores this
+abbrev pub station_view : {C M S : Type 0} {opens core reads store mark : _} (stored : M → Stored) → Station C M S opens core reads store mark → StationView C
+station_view stored station = record { core = station.core; mark = stored station.mark; lead = station.lead }
+
+-- what is seen of a world of these stations and this ledger
+abbrev pub world_view : (a b : StationView NodeView) → StationView MergerView → Ledger → WorldView
+world_view a b m ledger = record { a = a; b = b; m = m; ledger = ledger_view ledger; has_room = ledger_has_room ledger }

@@ -1,5 +1,6 @@
 pub mod Views
 pub mod Replies
+pub mod Seats
 pub mod Acts
 pub mod Ledger
 pub mod Holds

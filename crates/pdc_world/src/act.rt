@@ -1,23 +1,22 @@
 //! What one core is asked.
-ghost use Rattle.std.specs.Prelude.{◌≡◌, IfErr, IfOk, IsErrOf, List, OnErr};
+ghost use Rattle.std.specs.Prelude.{◌≡◌, IsErrOf, OnErr};
 ghost use Rattle.pdc_event.specs.declared.fault.Fault.TheVariants.{NoMemory};
 ghost use Rattle.pdc_event.specs.Event.{asked_of};
-ghost use Rattle.pdc_history.specs.World.{Happened, World};
-ghost use Rattle.pdc_world.specs.Acts.{IsAct, IsPart, IsSomePart, IsWhy};
+ghost use Rattle.pdc_world.specs.Acts.{IsMade, IsRefused, IsSomePart};
 ghost use Rattle.pdc_world.specs.Ledger.{ledger_has_room, ledger_view};
 ghost use Rattle.pdc_world.specs.Receiver.{core_in};
 ghost use Rattle.pdc_world.specs.Room.{HasRoomFor};
 
 use crate::arrivals::{bring, bring_junk};
 use crate::ledger::Ledger;
-use crate::plays::Plays;
+use crate::plays::{Plays, Sits};
 use crate::publishes::publish;
 use crate::sends::send;
-use crate::stops::{stop, stop_at_start, stop_in, stop_in_tick};
+use crate::stops::stop;
 use crate::ticks::tick;
 use pdc_event::{Event, Fault, Reply};
 use pdc_mark::Store;
-use pdc_station::Station;
+use pdc_station::{Station, StopAt, Storing};
 use std::alloc::Global;
 
 /// Makes what a core is asked, if it may happen.
@@ -27,16 +26,10 @@ pub(crate) fn act<C: Plays, S: Store>(
     alloc: Global,
     event: &Event<'_>,
 ) -> Result<Reply, Fault>
-    requires { IsSomePart (core_in event.now) C.rules (C.given_with (C.settings_of station.old.core)) (C.Settings.says (C.settings_of station.old.core))
-        (C.ids (C.settings_of station.old.core)) station.old.lead (C.stands_for station.old.core) (S.stored station.old.mark) (ledger_view ledger.old) }
-    ensures made { (W : World) (H : List Happened) → IsPart W H (core_in event.now) C.rules (C.given_with (C.settings_of station.old.core))
-        (C.Settings.says (C.settings_of station.old.core)) (C.ids (C.settings_of station.old.core)) station.old.lead (C.stands_for station.old.core)
-        (S.stored station.old.mark) (ledger_view ledger.old) →
-        IfOk result (λ reply. IsAct W H (core_in event.now) (asked_of event.now) (C.stands_for station.new.core) (S.stored station.new.mark)
-        (ledger_view ledger.new) reply) }
-    ensures why { (W : World) (H : List Happened) → IsPart W H (core_in event.now) C.rules (C.given_with (C.settings_of station.old.core))
-        (C.Settings.says (C.settings_of station.old.core)) (C.ids (C.settings_of station.old.core)) station.old.lead (C.stands_for station.old.core)
-        (S.stored station.old.mark) (ledger_view ledger.old) → IfErr result (IsWhy W H (asked_of event.now)) }
+    requires { IsSomePart (core_in event.now) (⟦<Station<C, S> as Sits>⟧.seat station.old) (ledger_view ledger.old) }
+    ensures made { IsMade (core_in event.now) (asked_of event.now) (⟦<Station<C, S> as Sits>⟧.seat station.old)
+        (⟦<Station<C, S> as Sits>⟧.seat station.new) (ledger_view ledger.old) (ledger_view ledger.new) result }
+    ensures why { IsRefused (core_in event.now) (asked_of event.now) (⟦<Station<C, S> as Sits>⟧.seat station.old) (ledger_view ledger.old) result }
     ensures err { OnErr result ((station.new ≡ station.old) × (ledger_view ledger.new ≡ ledger_view ledger.old)
         × (ledger_has_room ledger.new ≡ ledger_has_room ledger.old)) }
     ensures room { HasRoomFor (ledger_has_room ledger.old) (asked_of event.now) → IsErrOf result NoMemory → ⊥ }
@@ -49,9 +42,27 @@ pub(crate) fn act<C: Plays, S: Store>(
         Event::Junk { who, bytes } => bring_junk(station, ledger, *who, bytes),
         Event::Tick { who, now } => tick(station, ledger, *who, *now),
         Event::Publish { who } => publish(station, ledger, *who),
-        Event::Stop { who } => stop(station, ledger, alloc, *who),
-        Event::StopIn { who, landed } => stop_in(station, ledger, alloc, *who, *landed),
-        Event::StopInTick { who, landed } => stop_in_tick(station, ledger, alloc, *who, *landed),
-        Event::StopAtStart { who, landed } => stop_at_start(station, ledger, alloc, *who, *landed),
+        Event::Stop { who } => stop(station, ledger, alloc, *who, StopAt::Between),
+        Event::StopIn { who, landed } => {
+            let at = StopAt::In {
+                storing: Storing::Publish,
+                landed: *landed,
+            };
+            stop(station, ledger, alloc, *who, at)
+        }
+        Event::StopInTick { who, landed } => {
+            let at = StopAt::In {
+                storing: Storing::Tick,
+                landed: *landed,
+            };
+            stop(station, ledger, alloc, *who, at)
+        }
+        Event::StopAtStart { who, landed } => {
+            let at = StopAt::In {
+                storing: Storing::Start,
+                landed: *landed,
+            };
+            stop(station, ledger, alloc, *who, at)
+        }
     }
 }

@@ -1,15 +1,14 @@
 //! Arrivals.
-ghost use Rattle.std.specs.Prelude.{◌≡◌, IfErr, IfOk, IsErrOf, List, OnErr};
+ghost use Rattle.std.specs.Prelude.{◌≡◌, IsErrOf, OnErr};
 ghost use Rattle.pdc_event.specs.declared.fault.Fault.TheVariants.{NoMemory};
 ghost use Rattle.pdc_event.specs.Event.{who_of};
 ghost use Rattle.pdc_history.specs.Asked as asked;
-ghost use Rattle.pdc_history.specs.World.{Happened, World};
-ghost use Rattle.pdc_world.specs.Acts.{IsAct, IsPart, IsWhy};
+ghost use Rattle.pdc_world.specs.Acts.{IsMade, IsRefused};
 ghost use Rattle.pdc_world.specs.Ledger.{ledger_view};
 
 use crate::ledger::Ledger;
 use crate::named::named;
-use crate::plays::Plays;
+use crate::plays::{Plays, Sits};
 use pdc_event::{Fault, Premise, Reply, Who};
 use pdc_mark::Store;
 use pdc_station::Station;
@@ -21,14 +20,9 @@ pub(crate) fn bring<C: Plays, S: Store>(
     who: Who,
     number: usize,
 ) -> Result<Reply, Fault>
-    ensures made { (W : World) (H : List Happened) → IsPart W H (who_of who) C.rules (C.given_with (C.settings_of station.old.core))
-        (C.Settings.says (C.settings_of station.old.core)) (C.ids (C.settings_of station.old.core)) station.old.lead (C.stands_for station.old.core)
-        (S.stored station.old.mark) (ledger_view ledger.now) →
-        IfOk result (λ reply. IsAct W H (who_of who) (asked.To (who_of who) number) (C.stands_for station.new.core) (S.stored station.new.mark) (ledger_view ledger.now) reply) }
-    ensures why { (W : World) (H : List Happened) → IsPart W H (who_of who) C.rules (C.given_with (C.settings_of station.old.core))
-        (C.Settings.says (C.settings_of station.old.core)) (C.ids (C.settings_of station.old.core)) station.old.lead (C.stands_for station.old.core)
-        (S.stored station.old.mark) (ledger_view ledger.now) →
-        IfErr result (IsWhy W H (asked.To (who_of who) number)) }
+    ensures made { IsMade (who_of who) (asked.To (who_of who) number) (⟦<Station<C, S> as Sits>⟧.seat station.old)
+        (⟦<Station<C, S> as Sits>⟧.seat station.new) (ledger_view ledger.now) (ledger_view ledger.now) result }
+    ensures why { IsRefused (who_of who) (asked.To (who_of who) number) (⟦<Station<C, S> as Sits>⟧.seat station.old) (ledger_view ledger.now) result }
     ensures err { OnErr result (station.new ≡ station.old) }
     ensures room { IsErrOf result NoMemory → ⊥ }
     ensures settings { C.settings_of station.new.core ≡ C.settings_of station.old.core }
@@ -51,14 +45,9 @@ pub(crate) fn bring_junk<C: Plays, S: Store>(
     who: Who,
     bytes: &[u8],
 ) -> Result<Reply, Fault>
-    ensures made { (W : World) (H : List Happened) → IsPart W H (who_of who) C.rules (C.given_with (C.settings_of station.old.core))
-        (C.Settings.says (C.settings_of station.old.core)) (C.ids (C.settings_of station.old.core)) station.old.lead (C.stands_for station.old.core)
-        (S.stored station.old.mark) (ledger_view ledger.now) →
-        IfOk result (λ reply. IsAct W H (who_of who) (asked.Junk (who_of who) bytes.now) (C.stands_for station.new.core) (S.stored station.new.mark) (ledger_view ledger.now) reply) }
-    ensures why { (W : World) (H : List Happened) → IsPart W H (who_of who) C.rules (C.given_with (C.settings_of station.old.core))
-        (C.Settings.says (C.settings_of station.old.core)) (C.ids (C.settings_of station.old.core)) station.old.lead (C.stands_for station.old.core)
-        (S.stored station.old.mark) (ledger_view ledger.now) →
-        IfErr result (IsWhy W H (asked.Junk (who_of who) bytes.now)) }
+    ensures made { IsMade (who_of who) (asked.Junk (who_of who) bytes.now) (⟦<Station<C, S> as Sits>⟧.seat station.old)
+        (⟦<Station<C, S> as Sits>⟧.seat station.new) (ledger_view ledger.now) (ledger_view ledger.now) result }
+    ensures why { IsRefused (who_of who) (asked.Junk (who_of who) bytes.now) (⟦<Station<C, S> as Sits>⟧.seat station.old) (ledger_view ledger.now) result }
     ensures err { OnErr result (station.new ≡ station.old) }
     ensures room { IsErrOf result NoMemory → ⊥ }
     ensures settings { C.settings_of station.new.core ≡ C.settings_of station.old.core }

@@ -1,12 +1,8 @@
 //! What was sent and published.
-ghost use Rattle.std.specs.Prelude.{◌≡◌, ◌≤◌, ◌<◌, ◌∷◌, ◌++◌, [], ℕ, IfOk, IsOk, IsTrue, List, OnErr, OnOk, length, true, vec_capacity, vec_len};
+ghost use Rattle.std.specs.Prelude.{◌≡◌, ◌≤◌, ◌<◌, ◌∷◌, ◌++◌, [], IfOk, IsOk, IsTrue, OnErr, OnOk, length, true, vec_capacity, vec_len};
 ghost use Rattle.pdc_event.specs.declared.reply.Published.{Published};
 ghost use Rattle.pdc_frame.specs.declared.limits.TheConstants.{MAX_SIZE};
-ghost use Rattle.pdc_life.specs.Given.{Given};
-ghost use Rattle.pdc_life.specs.Life.{Entry};
-ghost use Rattle.pdc_life.specs.Published.{layout_wire};
 ghost use Rattle.pdc_sent.specs.Sent.{IsOfNone};
-ghost use Rattle.pdc_world.specs.Acts.{layouts_of};
 ghost use Rattle.pdc_world.specs.Ledger.{IsReady, ledger_has_room, ledger_view};
 
 use pdc_core::Core;

@@ -5,11 +5,14 @@ ghost use Rattle.std.specs.List.{All, slice_get};
 ghost use Rattle.pdc_life.specs.declared.pmu.Pmu.{Pmu as PmuData};
 ghost use Rattle.pdc_history.specs.Agree.{ids_of};
 ghost use Rattle.pdc_world.specs.Named.{node_ids};
+ghost use Rattle.pdc_world.specs.Seats.{Seat};
 
 use pdc_core::{Core, Opens};
 use pdc_life::{MergerSettings, Pmu, Settings};
+use pdc_mark::Store;
 use pdc_merge::Merger;
 use pdc_node::Node;
+use pdc_station::Station;
 use pdc_table::Table;
 
 /// A core whose streams are named by ids.
@@ -25,6 +28,24 @@ pub(crate) trait Plays: Opens {
 
     // It has a stream.
     ghost has_stream: { (settings : Self.Settings) → 0 < Self.Settings.streams settings };
+}
+
+/// What sits in a seat of a world.
+pub(crate) trait Sits {
+    // What it is to the world.
+    ghost seat: { Self → Seat };
+}
+
+impl<C: Plays, S: Store> Sits for Station<C, S> {
+    ghost seat = { λ station. record {
+      rules = C.rules;
+      given = λ mark. C.given_with (C.settings_of station.core) mark.start mark.floor mark.counts;
+      says = C.Settings.says (C.settings_of station.core);
+      ids = C.ids (C.settings_of station.core);
+      lead = station.lead;
+      stands = C.stands_for station.core;
+      mark = S.stored station.mark;
+    } };
 }
 
 /// The number of the first PMU with this stream id.

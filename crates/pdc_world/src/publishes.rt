@@ -1,10 +1,9 @@
 //! Publishes.
-ghost use Rattle.std.specs.Prelude.{◌≡◌, ◌≤◌, ◌<◌, ◌++◌, IfErr, IfOk, IfSome, IsOk, IsTrue, List, OnErr, length, option_map, vec_capacity, vec_len};
+ghost use Rattle.std.specs.Prelude.{◌≡◌, ◌≤◌, ◌<◌, ◌++◌, IfErr, IfSome, IsOk, IsTrue, OnErr, length, option_map, vec_capacity, vec_len};
 ghost use Rattle.pdc_event.specs.declared.fault.Fault.TheVariants.{NoMemory};
 ghost use Rattle.pdc_event.specs.Event.{who_of};
 ghost use Rattle.pdc_history.specs.Asked as asked;
-ghost use Rattle.pdc_history.specs.World.{Happened, World};
-ghost use Rattle.pdc_world.specs.Acts.{IsAct, IsPart, IsSomePart, frames_if, listed_with};
+ghost use Rattle.pdc_world.specs.Acts.{IsMade, IsSomePart, frames_if, listed_with};
 ghost use Rattle.pdc_frame.specs.declared.limits.TheConstants.{MAX_SIZE};
 ghost use Rattle.pdc_row.specs.RowView.{row_view};
 ghost use Rattle.pdc_sent.specs.Sent.{IsOfNone};
@@ -13,7 +12,7 @@ ghost use Rattle.pdc_world.specs.Ledger.{ledger_has_room, ledger_view};
 
 use crate::known::frames_are_known;
 use crate::ledger::Ledger;
-use crate::plays::Plays;
+use crate::plays::{Plays, Sits};
 use pdc_event::{Fault, Published, Reply, Who};
 use pdc_mark::Store;
 use pdc_row::DueRow;
@@ -50,12 +49,9 @@ pub(crate) fn publish<C: Plays, S: Store>(
     ledger: &mut Ledger,
     who: Who,
 ) -> Result<Reply, Fault>
-    requires some { IsSomePart (who_of who) C.rules (C.given_with (C.settings_of station.old.core)) (C.Settings.says (C.settings_of station.old.core))
-        (C.ids (C.settings_of station.old.core)) station.old.lead (C.stands_for station.old.core) (S.stored station.old.mark) (ledger_view ledger.old) }
-    ensures made { (W : World) (H : List Happened) → IsPart W H (who_of who) C.rules (C.given_with (C.settings_of station.old.core))
-        (C.Settings.says (C.settings_of station.old.core)) (C.ids (C.settings_of station.old.core)) station.old.lead (C.stands_for station.old.core)
-        (S.stored station.old.mark) (ledger_view ledger.old) →
-        IfOk result (λ reply. IsAct W H (who_of who) (asked.Publish (who_of who)) (C.stands_for station.new.core) (S.stored station.new.mark) (ledger_view ledger.new) reply) }
+    requires some { IsSomePart (who_of who) (⟦<Station<C, S> as Sits>⟧.seat station.old) (ledger_view ledger.old) }
+    ensures made { IsMade (who_of who) (asked.Publish (who_of who)) (⟦<Station<C, S> as Sits>⟧.seat station.old)
+        (⟦<Station<C, S> as Sits>⟧.seat station.new) (ledger_view ledger.old) (ledger_view ledger.new) result }
     ensures memory { IfErr result (λ fault. fault ≡ NoMemory) }
     ensures err { OnErr result ((station.new ≡ station.old) × (ledger_view ledger.new ≡ ledger_view ledger.old)
         × (ledger_has_room ledger.new ≡ ledger_has_room ledger.old)) }

@@ -1,18 +1,17 @@
 //! Ticks.
-ghost use Rattle.std.specs.Prelude.{◌≡◌, [], ◌∷◌, ◌++◌, IfErr, IfOk, IsOk, IsTrue, List, OnErr};
+ghost use Rattle.std.specs.Prelude.{◌≡◌, [], ◌∷◌, ◌++◌, IfErr, IsOk, IsTrue, List, OnErr};
 ghost use Rattle.pdc_life.specs.Given.{Given};
 ghost use Rattle.pdc_life.specs.Life.{Entry};
 ghost use Rattle.pdc_life.specs.Published.{layout_wire};
 ghost use Rattle.pdc_event.specs.declared.fault.Fault.TheVariants.{NoMemory};
 ghost use Rattle.pdc_event.specs.Event.{who_of};
 ghost use Rattle.pdc_history.specs.Asked as asked;
-ghost use Rattle.pdc_history.specs.World.{Happened, World};
-ghost use Rattle.pdc_world.specs.Acts.{IsAct, IsPart, IsSomePart, IsSomeFrame};
+ghost use Rattle.pdc_world.specs.Acts.{IsMade, IsSomePart, IsSomeFrame};
 ghost use Rattle.pdc_world.specs.Ledger.{IsReady, ledger_has_room, ledger_view};
 
 use crate::known::frames_are_known;
 use crate::ledger::Ledger;
-use crate::plays::Plays;
+use crate::plays::{Plays, Sits};
 use pdc_core::Core;
 use pdc_event::{Fault, Reply, Who};
 use pdc_mark::Store;
@@ -37,12 +36,9 @@ pub(crate) fn tick<C: Plays, S: Store>(
     who: Who,
     now: u64,
 ) -> Result<Reply, Fault>
-    requires some { IsSomePart (who_of who) C.rules (C.given_with (C.settings_of station.old.core)) (C.Settings.says (C.settings_of station.old.core))
-        (C.ids (C.settings_of station.old.core)) station.old.lead (C.stands_for station.old.core) (S.stored station.old.mark) (ledger_view ledger.old) }
-    ensures made { (W : World) (H : List Happened) → IsPart W H (who_of who) C.rules (C.given_with (C.settings_of station.old.core))
-        (C.Settings.says (C.settings_of station.old.core)) (C.ids (C.settings_of station.old.core)) station.old.lead (C.stands_for station.old.core)
-        (S.stored station.old.mark) (ledger_view ledger.old) →
-        IfOk result (λ reply. IsAct W H (who_of who) (asked.TickAt (who_of who) now) (C.stands_for station.new.core) (S.stored station.new.mark) (ledger_view ledger.new) reply) }
+    requires some { IsSomePart (who_of who) (⟦<Station<C, S> as Sits>⟧.seat station.old) (ledger_view ledger.old) }
+    ensures made { IsMade (who_of who) (asked.TickAt (who_of who) now) (⟦<Station<C, S> as Sits>⟧.seat station.old)
+        (⟦<Station<C, S> as Sits>⟧.seat station.new) (ledger_view ledger.old) (ledger_view ledger.new) result }
     ensures memory { IfErr result (λ fault. fault ≡ NoMemory) }
     ensures err { OnErr result ((station.new ≡ station.old) × (ledger_view ledger.new ≡ ledger_view ledger.old)
         × (ledger_has_room ledger.new ≡ ledger_has_room ledger.old)) }

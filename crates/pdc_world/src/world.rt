@@ -4,10 +4,9 @@ ghost use Rattle.std.specs.List.{slice_get};
 ghost use Rattle.pdc_event.specs.declared.fault.Fault.TheVariants.{NoMemory};
 ghost use Rattle.pdc_event.specs.Event.{asked_of, fault_of};
 ghost use Rattle.pdc_history.specs.Asked.{Cause, IsFault};
-ghost use Rattle.pdc_history.specs.World.{A, B, Happened, M, World as Fixed};
+ghost use Rattle.pdc_history.specs.World.{Happened, World as Fixed};
 ghost use Rattle.pdc_world.specs.Acts.{IsWhy};
 ghost use Rattle.pdc_world.specs.Holds.{Holds, IsAnswered};
-ghost use Rattle.pdc_world.specs.Receiver.{core_in};
 ghost use Rattle.pdc_world.specs.Room.{HasRoomFor};
 
 use crate::act::act;
@@ -35,26 +34,14 @@ pub struct World<S: Store> {
 
 impl<S: Store> Model for World<S> {
     ghost use Rattle.pdc_world.specs.Holds.{HoldsSome};
-    ghost use Rattle.pdc_world.specs.Ledger.{ledger_has_room, ledger_view};
+    ghost use Rattle.pdc_world.specs.Ledger.{station_view, world_view};
     ghost use Rattle.pdc_world.specs.Views.{WorldView};
 
     ghost Value = { WorldView };
 
-    ghost view = { λ w. record {
-      a = record { core = w.a.core; mark = S.stored w.a.mark; lead = w.a.lead };
-      b = record { core = w.b.core; mark = S.stored w.b.mark; lead = w.b.lead };
-      m = record { core = w.m.core; mark = S.stored w.m.mark; lead = w.m.lead };
-      ledger = ledger_view w.ledger;
-      has_room = ledger_has_room w.ledger;
-    } };
+    ghost view = { λ w. world_view (station_view S.stored w.a) (station_view S.stored w.b) (station_view S.stored w.m) w.ledger };
 
-    ghost invariant = { λ w. HoldsSome (record {
-      a = record { core = w.a.core; mark = S.stored w.a.mark; lead = w.a.lead };
-      b = record { core = w.b.core; mark = S.stored w.b.mark; lead = w.b.lead };
-      m = record { core = w.m.core; mark = S.stored w.m.mark; lead = w.m.lead };
-      ledger = ledger_view w.ledger;
-      has_room = ledger_has_room w.ledger;
-    }) };
+    ghost invariant = { λ w. HoldsSome (world_view (station_view S.stored w.a) (station_view S.stored w.b) (station_view S.stored w.m) w.ledger) };
 }
 
 impl<S: Store> World<S> {
@@ -79,39 +66,6 @@ impl<S: Store> World<S> {
         self.ledger.published.as_slice()
     }
 
-    /// What node or merger A is asked, or a PMU.
-    fn act_a(&mut self, event: &Event<'_>) -> Result<Reply, Fault>
-        requires { core_in event.now ≡ A }
-        ensures made { (W : Fixed) (H : List Happened) → Holds W H self.old → IfOk result (λ reply. IsAnswered W H (asked_of event.now) reply self.new) }
-        ensures why { (W : Fixed) (H : List Happened) → Holds W H self.old → IfErr result (IsWhy W H (asked_of event.now)) }
-        ensures err { OnErr result (self.new ≡ self.old) }
-        ensures room { HasRoomFor self.old.has_room (asked_of event.now) → IsErrOf result NoMemory → ⊥ }
-    {
-        act(&mut self.a, &mut self.ledger, self.alloc, event)
-    }
-
-    /// What node or merger B is asked, or a PMU.
-    fn act_b(&mut self, event: &Event<'_>) -> Result<Reply, Fault>
-        requires { core_in event.now ≡ B }
-        ensures made { (W : Fixed) (H : List Happened) → Holds W H self.old → IfOk result (λ reply. IsAnswered W H (asked_of event.now) reply self.new) }
-        ensures why { (W : Fixed) (H : List Happened) → Holds W H self.old → IfErr result (IsWhy W H (asked_of event.now)) }
-        ensures err { OnErr result (self.new ≡ self.old) }
-        ensures room { HasRoomFor self.old.has_room (asked_of event.now) → IsErrOf result NoMemory → ⊥ }
-    {
-        act(&mut self.b, &mut self.ledger, self.alloc, event)
-    }
-
-    /// What node or merger M is asked, or a PMU.
-    fn act_m(&mut self, event: &Event<'_>) -> Result<Reply, Fault>
-        requires { core_in event.now ≡ M }
-        ensures made { (W : Fixed) (H : List Happened) → Holds W H self.old → IfOk result (λ reply. IsAnswered W H (asked_of event.now) reply self.new) }
-        ensures why { (W : Fixed) (H : List Happened) → Holds W H self.old → IfErr result (IsWhy W H (asked_of event.now)) }
-        ensures err { OnErr result (self.new ≡ self.old) }
-        ensures room { HasRoomFor self.old.has_room (asked_of event.now) → IsErrOf result NoMemory → ⊥ }
-    {
-        act(&mut self.m, &mut self.ledger, self.alloc, event)
-    }
-
     /// What the core that an event is for is asked, or a PMU.
     fn act_for(&mut self, event: &Event<'_>) -> Result<Reply, Fault>
         ensures made { (W : Fixed) (H : List Happened) → Holds W H self.old → IfOk result (λ reply. IsAnswered W H (asked_of event.now) reply self.new) }
@@ -120,9 +74,9 @@ impl<S: Store> World<S> {
         ensures room { HasRoomFor self.old.has_room (asked_of event.now) → IsErrOf result NoMemory → ⊥ }
     {
         match receiver(event) {
-            Who::A => self.act_a(event),
-            Who::B => self.act_b(event),
-            Who::M => self.act_m(event),
+            Who::A => act(&mut self.a, &mut self.ledger, self.alloc, event),
+            Who::B => act(&mut self.b, &mut self.ledger, self.alloc, event),
+            Who::M => act(&mut self.m, &mut self.ledger, self.alloc, event),
         }
     }
 

@@ -2,10 +2,53 @@ use Rattle.std.proofs.Common.{ap}
 use Rattle.pdc_event.specs.Event.{asked_of}
 use Rattle.pdc_world.specs.Receiver.{core_in}
 use Rattle.pdc_world.proofs.Made.{sent_made}
+use Rattle.pdc_world.proofs.Same.{made_of, refused_of}
 use Rattle.pdc_world.proofs.act.act.Goals as goal
 
 pub returns-in-Send-clause-made : goal.returns-in-Send-clause-made
 returns-in-Send-clause-made g c =
     λ W H part.
-    sent_made W H (core_in c.args.event.now) (asked_of c.args.event.now) c.in-Send.bytes.now _ _ _ _ _ _ _ _ _ c.send.result (ap asked_of c.in-Send.is) part
+    sent_made W H (core_in c.args.event.now) (asked_of c.args.event.now) c.in-Send.bytes.now _ _ _ c.send.result (ap asked_of c.in-Send.is) part
     (c.send.ensures.made W H part.keeps)
+
+pub returns-in-To-clause-made : goal.returns-in-To-clause-made
+returns-in-To-clause-made g c = made_of _ _ _ _ _ _ c.bring.result c.in-To.is c.bring.ensures.made
+
+pub returns-in-To-clause-why : goal.returns-in-To-clause-why
+returns-in-To-clause-why g c = refused_of _ _ _ _ c.bring.result c.in-To.is c.bring.ensures.why
+
+pub returns-in-Junk-clause-made : goal.returns-in-Junk-clause-made
+returns-in-Junk-clause-made g c = made_of _ _ _ _ _ _ c.bring_junk.result c.in-Junk.is c.bring_junk.ensures.made
+
+pub returns-in-Junk-clause-why : goal.returns-in-Junk-clause-why
+returns-in-Junk-clause-why g c = refused_of _ _ _ _ c.bring_junk.result c.in-Junk.is c.bring_junk.ensures.why
+
+pub returns-in-Tick-clause-made : goal.returns-in-Tick-clause-made
+returns-in-Tick-clause-made g c = made_of _ _ _ _ _ _ c.tick.result c.in-Tick.is c.tick.ensures.made
+
+pub returns-in-Publish-clause-made : goal.returns-in-Publish-clause-made
+returns-in-Publish-clause-made g c = made_of _ _ _ _ _ _ c.publish.result c.in-Publish.is c.publish.ensures.made
+
+pub returns-in-Stop-clause-made : goal.returns-in-Stop-clause-made
+returns-in-Stop-clause-made g c = made_of _ _ _ _ _ _ c.stop.result c.in-Stop.is c.stop.ensures.made
+
+pub returns-in-Stop-clause-why : goal.returns-in-Stop-clause-why
+returns-in-Stop-clause-why g c = refused_of _ _ _ _ c.stop.result c.in-Stop.is c.stop.ensures.why
+
+pub returns-in-StopIn-clause-made : goal.returns-in-StopIn-clause-made
+returns-in-StopIn-clause-made g c = made_of _ _ _ _ _ _ c.stop-in-StopIn.result c.in-StopIn.is c.stop-in-StopIn.ensures.made
+
+pub returns-in-StopIn-clause-why : goal.returns-in-StopIn-clause-why
+returns-in-StopIn-clause-why g c = refused_of _ _ _ _ c.stop-in-StopIn.result c.in-StopIn.is c.stop-in-StopIn.ensures.why
+
+pub returns-in-StopInTick-clause-made : goal.returns-in-StopInTick-clause-made
+returns-in-StopInTick-clause-made g c = made_of _ _ _ _ _ _ c.stop-in-StopInTick.result c.in-StopInTick.is c.stop-in-StopInTick.ensures.made
+
+pub returns-in-StopInTick-clause-why : goal.returns-in-StopInTick-clause-why
+returns-in-StopInTick-clause-why g c = refused_of _ _ _ _ c.stop-in-StopInTick.result c.in-StopInTick.is c.stop-in-StopInTick.ensures.why
+
+pub returns-in-StopAtStart-clause-made : goal.returns-in-StopAtStart-clause-made
+returns-in-StopAtStart-clause-made g c = made_of _ _ _ _ _ _ c.stop-in-StopAtStart.result c.in-StopAtStart.is c.stop-in-StopAtStart.ensures.made
+
+pub returns-in-StopAtStart-clause-why : goal.returns-in-StopAtStart-clause-why
+returns-in-StopAtStart-clause-why g c = refused_of _ _ _ _ c.stop-in-StopAtStart.result c.in-StopAtStart.is c.stop-in-StopAtStart.ensures.why

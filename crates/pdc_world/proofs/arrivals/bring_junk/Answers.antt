@@ -11,17 +11,17 @@ pub returns-clause-made : goal.returns-clause-made
 returns-clause-made g c =
     λ W H part.
     let hears = c.put_datagram-outcome.ensures.hears in
-    let says = part.one.same_says c.match-named.stream c.args.bytes.now hears.arrival hears.says in
+    let says = part.one.says c.match-named.stream c.args.bytes.now hears.arrival hears.says in
     let ids : List ℕ = g.C.Plays.ids (g.C.Core.settings_of c.args.station.now.core) in
     elim c.match-named.branch [
       | in-Some+else-not-has w ↦
-          heard_made W H c.args.who (asked.Junk (who_of c.args.who) c.args.bytes.now) _ _ _ _ _ _ _ _ _ _ _ _ _ part hears (ap g.S.Mark.stored c.put_datagram-outcome.ensures.mark)
-          (read_named W H (who_of c.args.who) c.match-named.stream ids c.args.bytes.now _ part.one.same_ids
+          heard_made W H c.args.who (asked.Junk (who_of c.args.who) c.args.bytes.now) _ _ _ _ _ _ part hears (ap g.S.Mark.stored c.put_datagram-outcome.ensures.mark)
+          (read_named W H (who_of c.args.who) c.match-named.stream ids c.args.bytes.now _ part.one.ids
           (subst (λ (s : ℕ). IsNamed ids c.args.bytes.now s) (sym w.stream-is) w.in-Some.ensures.named) says)
           (may_named W H (who_of c.args.who) c.match-named.stream c.args.bytes.now c.args.ledger.now.sent.frames _ part.keeps.frames
           (w.has.ensures.0 w.if-not-has.false) says)
       | in-None w ↦
-          heard_made W H c.args.who (asked.Junk (who_of c.args.who) c.args.bytes.now) _ _ _ _ _ _ _ _ _ _ _ _ _ part hears (ap g.S.Mark.stored c.put_datagram-outcome.ensures.mark)
-          (read_unnamed W H (who_of c.args.who) c.match-named.stream ids c.args.bytes.now _ w.stream-is part.one.same_ids w.in-None.ensures.none says)
-          (may_unnamed W H (who_of c.args.who) c.match-named.stream ids c.args.bytes.now _ part.one.same_ids w.in-None.ensures.none says)
+          heard_made W H c.args.who (asked.Junk (who_of c.args.who) c.args.bytes.now) _ _ _ _ _ _ part hears (ap g.S.Mark.stored c.put_datagram-outcome.ensures.mark)
+          (read_unnamed W H (who_of c.args.who) c.match-named.stream ids c.args.bytes.now _ w.stream-is part.one.ids w.in-None.ensures.none says)
+          (may_unnamed W H (who_of c.args.who) c.match-named.stream ids c.args.bytes.now _ part.one.ids w.in-None.ensures.none says)
     ]

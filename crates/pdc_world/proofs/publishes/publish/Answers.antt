@@ -10,13 +10,13 @@ use Rattle.pdc_world.proofs.publishes.publish.Goals as goal
 
 pub join-published-requires-clause-most : goal.join-published-requires-clause-most
 join-published-requires-clause-most g c =
-    row_most c.frames_are_known.ensures (who_of c.args.who) _ _ _ _ _ _ _ _ c.unwrap-row.result c.publish.new.out.items c.requires.some
+    row_most c.frames_are_known.ensures (who_of c.args.who) _ _ c.unwrap-row.result c.publish.new.out.items c.requires.some
     (λ h E stands. rw c.unwrap-row.ensures at (c.publish.ensures.answer h E stands))
     (λ h E stands. rw c.unwrap-row.ensures at (c.publish.ensures.bytes h E stands) ∙ ap (λ (xs : List ℕ). xs ++ wire_of_some h.output (pop_answer E)) c.in-Ok.ensures.ready.empty)
 
 pub join-published-requires-clause-of_none : goal.join-published-requires-clause-of_none
 join-published-requires-clause-of_none g c =
-    row_none c.frames_are_known.ensures (who_of c.args.who) _ _ _ _ _ _ _ _ c.make_room.new.self.sent.settings c.unwrap-row.result c.publish.new.out.items
+    row_none c.frames_are_known.ensures (who_of c.args.who) _ _ c.make_room.new.self.sent.settings c.unwrap-row.result c.publish.new.out.items
     (ap (λ l. l.table) c.make_room.ensures.same) c.requires.some
     (λ h E stands. rw c.unwrap-row.ensures at (c.publish.ensures.answer h E stands))
     (λ h E stands. rw c.unwrap-row.ensures at (c.publish.ensures.bytes h E stands) ∙ ap (λ (xs : List ℕ). xs ++ wire_of_some h.output (pop_answer E)) c.in-Ok.ensures.ready.empty)
@@ -24,8 +24,8 @@ join-published-requires-clause-of_none g c =
 pub returns-clause-made : goal.returns-clause-made
 returns-clause-made g c =
     λ W H part.
-    published_made W H c.args.who _ _ _ _ _ _ _ _ _ (ledger_view c.make_room.new.self) _ (option_map row_view c.unwrap-row.result) _
-    (same_part _ _ _ _ _ _ _ _ _ _ _ (ledger_view c.make_room.new.self) c.make_room.ensures.same part)
+    published_made W H c.args.who _ _ (ledger_view c.make_room.new.self) _ (option_map row_view c.unwrap-row.result) _
+    (same_part _ _ _ _ _ (ledger_view c.make_room.new.self) c.make_room.ensures.same part)
     (λ h E stands. rw c.unwrap-row.ensures at (c.publish.ensures.answer h E stands))
     (λ h E stands. rw c.unwrap-row.ensures at (c.publish.ensures.mark h E stands))
     (λ h E stands. rw c.unwrap-row.ensures at (c.publish.ensures.stands h E stands))

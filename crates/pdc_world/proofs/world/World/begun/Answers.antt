@@ -1,6 +1,6 @@
 use Rattle.std.proofs.Common.{[], ap, ◌∙◌}
 use Rattle.pdc_life.specs.declared.given.Settings.{Settings}
-use Rattle.pdc_world.specs.Ledger.{ledger_has_room, ledger_view}
+use Rattle.pdc_world.specs.Ledger.{station_view, world_view}
 use Rattle.pdc_world.specs.Opening.{world_of}
 use Rattle.pdc_world.specs.Views.{WorldView}
 use Rattle.pdc_world.proofs.Openings.{begun_holds, left_from}
@@ -8,13 +8,7 @@ use Rattle.pdc_world.proofs.world.World.begun.Goals as goal
 
 pub invariant_of-result : goal.invariant_of-result
 invariant_of-result g c =
-    let v : WorldView = record {
-      a = record { core = c.in_ok-begun.field-0.core; mark = g.S.Mark.stored c.in_ok-begun.field-0.mark; lead = c.in_ok-begun.field-0.lead };
-      b = record { core = c.in_ok-begun-2.field-0.core; mark = g.S.Mark.stored c.in_ok-begun-2.field-0.mark; lead = c.in_ok-begun-2.field-0.lead };
-      m = record { core = c.in_ok-begun-3.field-0.core; mark = g.S.Mark.stored c.in_ok-begun-3.field-0.mark; lead = c.in_ok-begun-3.field-0.lead };
-      ledger = ledger_view c.in_ok-ledger.ledger;
-      has_room = ledger_has_room c.in_ok-ledger.ledger;
-    } in
+    let v : WorldView = world_view (station_view g.S.Mark.stored c.in_ok-begun.field-0) (station_view g.S.Mark.stored c.in_ok-begun-2.field-0) (station_view g.S.Mark.stored c.in_ok-begun-3.field-0) c.in_ok-ledger.ledger in
     λ none. none (world_of c.args.a c.args.b c.args.m c.args.leads (g.S.Mark.stored c.args.stores.0) (g.S.Mark.stored c.args.stores.1) (g.S.Mark.stored c.args.stores.2)) []
     (begun_holds c.args.a c.args.b c.args.m c.args.leads (g.S.Mark.stored c.args.stores.0) (g.S.Mark.stored c.args.stores.1) (g.S.Mark.stored c.args.stores.2) v c.requires.agree c.requires.left
     c.in_ok-begun.ensures.mark c.in_ok-begun.ensures.stands c.in_ok-begun.ensures.settings c.in_ok-begun.ensures.lead
@@ -24,13 +18,7 @@ invariant_of-result g c =
 
 pub returns : goal.returns
 returns g c =
-    let v : WorldView = record {
-      a = record { core = c.in_ok-begun.field-0.core; mark = g.S.Mark.stored c.in_ok-begun.field-0.mark; lead = c.in_ok-begun.field-0.lead };
-      b = record { core = c.in_ok-begun-2.field-0.core; mark = g.S.Mark.stored c.in_ok-begun-2.field-0.mark; lead = c.in_ok-begun-2.field-0.lead };
-      m = record { core = c.in_ok-begun-3.field-0.core; mark = g.S.Mark.stored c.in_ok-begun-3.field-0.mark; lead = c.in_ok-begun-3.field-0.lead };
-      ledger = ledger_view c.in_ok-ledger.ledger;
-      has_room = ledger_has_room c.in_ok-ledger.ledger;
-    } in
+    let v : WorldView = world_view (station_view g.S.Mark.stored c.in_ok-begun.field-0) (station_view g.S.Mark.stored c.in_ok-begun-2.field-0) (station_view g.S.Mark.stored c.in_ok-begun-3.field-0) c.in_ok-ledger.ledger in
     begun_holds c.args.a c.args.b c.args.m c.args.leads (g.S.Mark.stored c.args.stores.0) (g.S.Mark.stored c.args.stores.1) (g.S.Mark.stored c.args.stores.2) v c.requires.agree c.requires.left
     c.in_ok-begun.ensures.mark c.in_ok-begun.ensures.stands c.in_ok-begun.ensures.settings c.in_ok-begun.ensures.lead
     c.in_ok-begun-2.ensures.mark c.in_ok-begun-2.ensures.stands c.in_ok-begun-2.ensures.settings c.in_ok-begun-2.ensures.lead

@@ -1,0 +1,26 @@
+//! Where a stop falls.
+
+/// What is stored when a stop falls into the store.
+#[derive(Clone, Copy, Debug, PartialEq, Eq)]
+pub enum Storing {
+    /// The floor, by a publish.
+    Publish,
+    /// The counts, by a tick, which begins with it.
+    Tick,
+    /// The next start.
+    Start,
+}
+
+/// Where a stop falls.
+#[derive(Clone, Copy, Debug, PartialEq, Eq)]
+pub enum StopAt {
+    /// Between stores.
+    Between,
+    /// In a store.
+    In {
+        /// What is stored.
+        storing: Storing,
+        /// Whether the store is done.
+        landed: bool,
+    },
+}
