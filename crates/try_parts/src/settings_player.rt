@@ -109,7 +109,10 @@ fn common_text(
 
 /// One PMU of a node.
 fn pmu_text(alloc: Global, pmu: &Pmu, port: u16) -> Result<String, AllocError> {
-    format!(in alloc; ", {} {} {} {port}", pmu.stream.value, pmu.source, pmu.time_base)
+    format!(in alloc;
+        ", {} {} {} {port}",
+        pmu.stream.value, pmu.source, pmu.time_base
+    )
 }
 
 /// What a node is told.
