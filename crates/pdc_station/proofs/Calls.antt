@@ -21,8 +21,8 @@ frame_more : (g : Given) (rows : List RowView) (row : RowView) (a b c : List ℕ
 frame_more g rows row a b c so one =
     one ∙ ap (λ (xs : List ℕ). xs ++ wire_of g.output row) so ∙ append_assoc a (concat (map (wire_of g.output) rows)) (wire_of g.output row)
     ∙ ap (λ (xs : List ℕ). a ++ xs)
-      (ap (λ (xs : List ℕ). concat (map (wire_of g.output) rows) ++ xs) (sym (append-nil (wire_of g.output row)))
-      ∙ sym (concat-append (map (wire_of g.output) rows) (map (wire_of g.output) (row ∷ []))) ∙ ap concat (sym (map-append (wire_of g.output) rows (row ∷ []))))
+    (ap (λ (xs : List ℕ). concat (map (wire_of g.output) rows) ++ xs) (sym (append-nil (wire_of g.output row)))
+    ∙ sym (concat-append (map (wire_of g.output) rows) (map (wire_of g.output) (row ∷ []))) ∙ ap concat (sym (map-append (wire_of g.output) rows (row ∷ []))))
 
 pub appended : SentRowsAreAppended
 appended rules g [] old new h = ap (λ (t : Told). t.bytes) h ∙ sym (append-nil old.bytes)
@@ -94,17 +94,17 @@ apart rules g (Arrived s bytes arrival ∷ calls) old new lost sent h a b same =
 apart rules g (Ticked now counts ∷ calls) old new lost sent h a b same = apart rules g calls old h.0 lost sent h.1 a b same
 apart rules g (Empty ∷ calls) old new lost sent h a b same = apart rules g calls old h.0 lost sent h.1 a b same
 apart rules g (Sent row ∷ calls) old new lost sent h a b same = elim (Contains-append_cases (rows_sent calls) (row ∷ []) sent b) [
-    inl k ↦ apart rules g calls old h.0 lost sent h.1 a k same
+  | inl k ↦ apart rules g calls old h.0 lost sent h.1 a k same
   | inr k ↦
       let at : row.instant ≡ sent.instant = ap (λ (r : RowView). r.instant) (in_one row sent k) in
       absurd (omega (arith, h.2.0.above, at, same, is_below (rows_lost calls) lost (h.0.popped + 1) (lost_under rules g calls old h.0 h.1) a))
-  ]
+]
 apart rules g (Lost row ∷ calls) old new lost sent h a b same = elim (Contains-append_cases (rows_lost calls) (row ∷ []) lost a) [
-    inl k ↦ apart rules g calls old h.0 lost sent h.1 k b same
+  | inl k ↦ apart rules g calls old h.0 lost sent h.1 k b same
   | inr k ↦
       let at : row.instant ≡ lost.instant = ap (λ (r : RowView). r.instant) (in_one row lost k) in
       absurd (omega (arith, h.2.0.above, at, same, is_below (rows_sent calls) sent (h.0.popped + 1) (sent_under rules g calls old h.0 h.1) b))
-  ]
+]
 
 -- a pop of the life takes this row out
 one_more : (E : List Entry) (row : RowView) → pop_answer E ≡ Some row → popped (Pop (pop_answer E) ∷ E) ≡ popped E ++ row ∷ []
@@ -142,4 +142,4 @@ pub all_sent : AllAreSent
 all_sent rules g calls old new h fresh empty e =
     appended rules g calls old new h ∙ ap (λ (xs : List ℕ). xs ++ concat (map (wire_of g.output) (rows_sent calls))) empty
     ∙ ap (λ (rows : List RowView). concat (map (wire_of g.output) rows))
-      (sym (of_life rules g calls old new h ∙ ap (λ (E : List Entry). popped E ++ rows_popped calls) fresh ∙ none_lost calls e))
+    (sym (of_life rules g calls old new h ∙ ap (λ (E : List Entry). popped E ++ rows_popped calls) fresh ∙ none_lost calls e))
