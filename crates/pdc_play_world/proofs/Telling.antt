@@ -4,7 +4,7 @@ use Rattle.std.specs.Io.KnownBytes.{Consumes}
 use Rattle.std.specs.List.{slice_get}
 use Rattle.std.specs.Str.Lines.{strip_carriage_return}
 use Rattle.pdc_headline.specs.Headline.{Headline}
-use Rattle.pdc_headline.specs.Seen.{seen_of}
+use Rattle.pdc_headline.specs.Seen.{rows_of, seen_of}
 use Rattle.pdc_history.specs.Lives.{PublishedRowsAreThose}
 use Rattle.pdc_history.specs.World.{World, Happened}
 use Rattle.pdc_play.specs.Run.{HasEnded}
@@ -124,7 +124,7 @@ all_told W first read (ending.Refused fault) printed last holds e =
 
 -- A script that was played on a world that held the empty history is told.
 pub told : (W : World) (first : WorldView) (start : Option (List ℕ)) (read : List ℕ) (end : Ending) (last : WorldView) (contents : Option (List ℕ))
-    → Holds W [] first → HasEnded RepliesSeen RefusesSeen frames_seen first start read end last contents → Headline (seen_of last) → PublishedRowsAreThose → IsTold W start read end contents
+    → Holds W [] first → HasEnded RepliesSeen RefusesSeen frames_seen first start read end last contents → Headline (seen_of last) (rows_of last) → PublishedRowsAreThose → IsTold W start read end contents
 told W first start read end last contents holds h headline exact =
     let all : TellsAll W read end h.printed last = all_told W first read end h.printed last holds h.ends in
     record {
@@ -138,7 +138,7 @@ told W first start read end last contents holds h headline exact =
     }
 
 pub run_told : (W : World) (first world : WorldView) (remaining rest start contents : Option (List ℕ)) (last : WorldView) (r : Result Ending PlayFault)
-    → first ≡ world → Holds W [] world → Headline (seen_of last) → PublishedRowsAreThose
+    → first ≡ world → Holds W [] world → Headline (seen_of last) (rows_of last) → PublishedRowsAreThose
     → IfOk r (λ end. (read : List ℕ) × Consumes remaining rest read × HasEnded RepliesSeen RefusesSeen frames_seen first start read end last contents)
     → IfOk r (IsPlayedOn W remaining rest start contents)
 run_told W first world remaining rest start contents last (Ok end) e holds headline exact h =

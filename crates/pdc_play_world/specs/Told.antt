@@ -7,7 +7,7 @@ use Rattle.pdc_event.specs.declared.fault.Fault.TheVariants.{PremiseBroken}
 use Rattle.pdc_event.specs.declared.fault.Premise.TheVariants.{OneTable}
 use Rattle.pdc_event.specs.declared.reply.Reply.{Reply}
 use Rattle.pdc_headline.specs.Headline.{Headline}
-use Rattle.pdc_headline.specs.Seen.{seen_of}
+use Rattle.pdc_headline.specs.Seen.{rows_of, seen_of}
 use Rattle.pdc_history.specs.Asked.{Asked}
 use Rattle.pdc_history.specs.History.{IsHistory}
 use Rattle.pdc_history.specs.Lives.{IsRowAt}
@@ -45,7 +45,7 @@ pub record IsTold (W : World) (start : Option (List ℕ)) (read : List ℕ) (end
   pub ended : HasEnded (Tells W) (IsWhy W) (frames_in W) [] start read end after contents
   pub last : WorldView
   pub holds : Holds W after last
-  pub headline : Headline (seen_of last)
+  pub headline : Headline (seen_of last) (rows_of last)
   pub exact : AllByRecursion (IsRowAt W after) (published after)
 
 -- these bytes were read, and the script of them is told
