@@ -111,12 +111,17 @@ impl<'a> Line<'a> {
         }
     }
 
+    /// Does each work once, and prints of which line and side it is, whether it is an opening, and how many frames, datagrams or puts
+    /// it has.
     fn count_steps(&mut self) {
-        for side in self.sides() {
+        let (name, count) = (self.name.clone(), self.counted);
+        for (number, side) in self.sides().enumerate() {
             if let Some(opening) = &mut side.opening {
                 counted(opening);
+                println!("counted: {name}: {number}: opening: {count}");
             }
             counted(&mut side.whole);
+            println!("counted: {name}: {number}: whole: {count}");
         }
     }
 

@@ -1,6 +1,6 @@
 //! The reading and writing paths, the table, a node and the merger, proved and plain, side by side in one process.
 //!
-//! `bench steps` does each work once, for a tool that counts the steps of the processor. `bench TURNS [FILE]` prints the tables: medians of
+//! `bench steps` does each work once, for a tool that counts the steps of the processor, and prints which it was. `bench TURNS [FILE]` prints the tables: medians of
 //! so many turns, and beside them the steps that stand in the file, one number a line.
 
 mod alignment;
