@@ -14,8 +14,8 @@
 
 use crate::line::Line;
 use crate::told::{NO_CALL, done, hex_of};
+use crate::words::stream_id;
 use pdc_client::{ClientFault, Pdc};
-use pdc_frame::StreamId;
 use std::alloc::{AllocError, Global};
 use try_script::Player;
 
@@ -84,7 +84,7 @@ impl ClientPlayer {
 
     /// Begins a client over the line.
     fn begin(&mut self, alloc: Global, id: &str) -> Result<&'static str, AllocError> {
-        match id.parse::<u16>().ok().and_then(StreamId::new) {
+        match stream_id(id) {
             Some(id) => {
                 let line = std::mem::replace(&mut self.line, Line::new(alloc));
                 self.client = Some(Pdc::new(alloc, id, line)?);

@@ -13,6 +13,7 @@ mod sent_player;
 mod session_player;
 mod settings_player;
 mod told;
+mod words;
 
 use client_player::ClientPlayer;
 use pmu_player::PmuPlayer;

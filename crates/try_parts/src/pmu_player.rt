@@ -14,6 +14,7 @@
 ghost use Rattle.std.specs.Prelude.{◌≡◌};
 
 use crate::told::NO_CALL;
+use crate::words::stream_id;
 use arrayvec::ArrayVec;
 use pdc_cfg::{Shape, read_config};
 use pdc_command::MAX_TEXT;
@@ -45,13 +46,12 @@ impl PmuPlayer {
 
     /// Begins another PMU.
     fn begin(&mut self, id: &str, rate: &str, time_base: &str) -> Option<Result<(), PmuFault>> {
-        let (Ok(id), Ok(rate)) = (id.parse::<u16>(), rate.parse::<u16>()) else {
+        let (Some(id), Ok(rate)) = (stream_id(id), rate.parse::<u16>()) else {
             return None;
         };
         let Ok(time_base) = time_base.parse::<u32>() else {
             return None;
         };
-        let id = StreamId::new(id)?;
         if rate == 0 || u32::from(rate) > MAX_RATE {
             return None;
         }
@@ -67,8 +67,7 @@ impl PmuPlayer {
 
     /// Gives the PMU another id.
     fn set_id(&mut self, id: &str) -> Option<Result<(), PmuFault>> {
-        let id = StreamId::new(id.parse().ok()?)?;
-        Some(self.pmu.set_id(id))
+        Some(self.pmu.set_id(stream_id(id)?))
     }
 
     /// Sends data, where the words fit the shape.

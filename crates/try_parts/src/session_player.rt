@@ -12,10 +12,11 @@
 //! Frames are in hexadecimal. What is none of these, or what cannot be asked, is answered `no such call`.
 
 use crate::told::{NO_CALL, hex_of};
+use crate::words::stream_id;
 use arrayvec::ArrayVec;
 use pdc_cfg::read_config;
 use pdc_command::MAX_TEXT;
-use pdc_frame::{Buffer, StreamId, read_frame};
+use pdc_frame::{Buffer, read_frame};
 use pdc_session::{Serving, Session, SessionFault};
 use std::alloc::{AllocError, Global};
 use try_script::Player;
@@ -61,7 +62,7 @@ impl SessionPlayer {
 
     /// Begins another session.
     fn begin(&mut self, alloc: Global, id: &str) -> Result<&'static str, AllocError> {
-        match id.parse::<u16>().ok().and_then(StreamId::new) {
+        match stream_id(id) {
             Some(id) => {
                 self.session = Some(Session::new(alloc, id)?);
                 Ok("ok")
