@@ -17,6 +17,7 @@ use Rattle.pdc_align.specs.State.{after_adoptions, rule_of, shape_in}
 use Rattle.pdc_align.specs.Align.{State, ColumnState, StandsFor, column_state_of, new_change}
 use Rattle.pdc_align.specs.declared.plan.Plan.{Plan}
 use Rattle.pdc_align.specs.declared.ticked.Ticked.{Ticked}
+use Rattle.pdc_arrival.specs.pdc_row.declared.limits.TheConstants.{MAX_PMUS}
 
 -- a column for which nothing came; up to its opening count all is cleared
 abbrev pub new_column : (counts : List ℕ) → (c : ℕ) → ColumnState
@@ -83,7 +84,7 @@ row_layout_in a = record { start = a.start; change = a.change; shapes = map (λ 
 
 -- the counts that wait to be stored: the greater of cleared and held, and 0 past the last of 16
 abbrev pub waiting_in : State → List ℕ
-waiting_in a = map (λ (column : ColumnState). greatest_count column.cleared column.held) a.columns ++ replicate (16 - length a.columns) 0
+waiting_in a = map (λ (column : ColumnState). greatest_count column.cleared column.held) a.columns ++ replicate (MAX_PMUS - length a.columns) 0
 
 -- ---- a tick
 

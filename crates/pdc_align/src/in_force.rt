@@ -17,11 +17,11 @@ pub fn sections_in_force<'a, T: Table>(
     alignment: &'a Alignment<T>,
     columns: usize,
 ) -> ArrayVec<SectionView<'a>, MAX_PMUS>
-    requires few { columns ≤ 16 }
+    requires few { columns ≤ MAX_PMUS }
     requires columns { length alignment.now.state.columns ≡ columns }
     ensures sections { (g : Given) (E : List Entry) → StandsFor g E alignment.now.state →
         map fields_of_view result.items ≡ filter_map (section_in_force g E) (range_with_len 0 columns) }
-    ensures few { length result.items ≤ 16 }
+    ensures few { length result.items ≤ MAX_PMUS }
 {
     let mut sections = ArrayVec::new();
     for column in 0..columns {

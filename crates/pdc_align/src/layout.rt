@@ -7,7 +7,7 @@ ghost use Rattle.pdc_arrival.specs.pdc_life.Published.{layout_wire};
 
 use crate::Alignment;
 use crate::in_force::sections_in_force;
-use pdc_arrival::{Buffer, Output, append_layout};
+use pdc_arrival::{Buffer, MAX_PMUS, Output, append_layout};
 use pdc_table::Table;
 use std::alloc::AllocError;
 
@@ -25,7 +25,7 @@ pub fn append_layout_frame<T: Table, B: Buffer>(
     soc: u32,
     out: &mut B,
 ) -> Result<(), AllocError>
-    requires few { columns ≤ 16 }
+    requires few { columns ≤ MAX_PMUS }
     requires columns { length alignment.now.state.columns ≡ columns }
     ensures ok { (g : Given) (E : List Entry) → StandsFor g E alignment.now.state → output.now ≡ g.output → start ≡ g.start → columns ≡ g.columns →
         OnOk result (B.content out.new ≡ B.content out.old ++ layout_wire g E soc) }

@@ -42,7 +42,7 @@ fn kept(alloc: Global, sections: &[ColumnSection<'_>]) -> Result<Vec<KeptSection
 
 /// The sections as they were read.
 fn lent(sections: &[KeptSection]) -> ArrayVec<ColumnSection<'_>, MAX_PMUS>
-    requires { length sections.now ≤ 16 }
+    requires { length sections.now ≤ MAX_PMUS }
     ensures { map section_part result.items ≡ map kept_part sections.now }
 {
     let mut parts = ArrayVec::new();

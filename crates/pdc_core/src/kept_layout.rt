@@ -1,7 +1,7 @@
 //! A layout that is kept.
 ghost use Rattle.std.specs.Prelude.{◌≤◌, length};
 
-use pdc_align::{Section, Stamp};
+use pdc_align::{MAX_PMUS, Section, Stamp};
 
 /// A section of a layout that is kept, beside its column.
 #[derive(Debug, Drop)]
@@ -19,5 +19,5 @@ pub struct KeptLayout {
     pub stamp: Option<Stamp>,
     /// The sections of PMUs, each beside its column, at most 16.
     pub sections: Vec<KeptSection>,
-    pub ghost few: { length sections.items ≤ 16 },
+    pub ghost few: { length sections.items ≤ MAX_PMUS },
 }

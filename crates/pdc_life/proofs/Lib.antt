@@ -3,6 +3,8 @@ pub mod Closing
 pub mod Come
 pub mod Exact
 pub mod ExactRows
+mod Filtered
+mod Found
 pub mod Frames
 pub mod Genuine
 pub mod Held

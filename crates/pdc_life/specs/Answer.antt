@@ -12,6 +12,7 @@ use Rattle.pdc_life.specs.Given.{Given, columns_of, count_for}
 use Rattle.pdc_life.specs.Arrival.{Arrival}
 use Rattle.pdc_life.specs.Life.{Answer, TickAnswer, Entry, Arrive, Tick, Pop, Take, changes, cell_of, cleared_count, held_instants, held_section, is_taken, last_of, now_of, section_in_force, take_of, waiting}
 use Rattle.pdc_life.specs.Row.{rows_of}
+use Rattle.pdc_output.specs.pdc_row.declared.limits.TheConstants.{MAX_PMUS}
 
 -- The common end of every data answer, of a stream and for an instant, with the cells that the data would give.
 
@@ -85,7 +86,7 @@ greatest_count cleared None = cleared
 greatest_count cleared (Some held) = max cleared held.count
 
 abbrev pub waiting_counts : Given → List Entry → List ℕ
-waiting_counts g E = map (λ c. greatest_count (cleared_count g E c) (held_section g E c)) (columns_of g) ++ replicate (16 - g.columns) 0
+waiting_counts g E = map (λ c. greatest_count (cleared_count g E c) (held_section g E c)) (columns_of g) ++ replicate (MAX_PMUS - g.columns) 0
 
 -- What arrives after E is answered by the rules of a kind of core: those of a node, or those of the merger.
 abbrev pub Rules : Type 0

@@ -13,6 +13,7 @@ use Rattle.pdc_life.specs.Laws.{IsRowOfTick}
 use Rattle.pdc_life.specs.Life.{Entry, changes, closed}
 use Rattle.pdc_life.specs.Published.{layout_wire, sections_in_force}
 use Rattle.pdc_life.specs.Run.{IsRun, IsTicked}
+use Rattle.pdc_output.specs.pdc_row.declared.limits.TheConstants.{MAX_PMUS}
 
 -- At most 4294967295 ticks of a life adopt.
 abbrev pub ChangesFit : Type 0
@@ -32,18 +33,18 @@ pub record IsFramedRow (g : Given) (E : List Entry) (row : RowView) : Type 0 whe
 
 abbrev pub ClosedRowsAreFrames : Type 0
 ClosedRowsAreFrames =
-    (g : Given) (E : List Entry) → IsRun g E → g.columns ≤ 16 → g.start < 2 ^ 32 → AllByRecursion (IsFramedRow g E) (closed E)
+    (g : Given) (E : List Entry) → IsRun g E → g.columns ≤ MAX_PMUS → g.start < 2 ^ 32 → AllByRecursion (IsFramedRow g E) (closed E)
 
 -- The layout of every life, of any second, is a frame, whose payload is a configuration with the own section first.
 abbrev pub LayoutsOfLivesAreFrames : Type 0
 LayoutsOfLivesAreFrames =
-    (g : Given) (E : List Entry) (soc : ℕ) → IsRun g E → g.columns ≤ 16 → soc < 2 ^ 32 →
+    (g : Given) (E : List Entry) (soc : ℕ) → IsRun g E → g.columns ≤ MAX_PMUS → soc < 2 ^ 32 →
     IsFrame (layout_wire g E soc) (layout_fields_of g.output g.start (changes E) (sections_in_force g E) soc)
     × IsLayout g.output g.start (changes E) (sections_in_force g E) (layout_payload_of g.output g.start (changes E) (sections_in_force g E))
 
 -- The layouts of two lives that have the same wire have one stamp, and the same sections: the wire tells them.
 abbrev pub LayoutsTellStamps : Type 0
 LayoutsTellStamps =
-    (g h : Given) (E F : List Entry) (soc other : ℕ) → IsRun g E → IsRun h F → g.columns ≤ 16 → h.columns ≤ 16 →
+    (g h : Given) (E F : List Entry) (soc other : ℕ) → IsRun g E → IsRun h F → g.columns ≤ MAX_PMUS → h.columns ≤ MAX_PMUS →
     soc < 2 ^ 32 → other < 2 ^ 32 → g.start < 2 ^ 32 → h.start < 2 ^ 32 → layout_wire g E soc ≡ layout_wire h F other →
     (g.start ≡ h.start) × (changes E ≡ changes F) × (sections_in_force g E ≡ sections_in_force h F)

@@ -15,6 +15,7 @@ use Rattle.pdc_life.specs.Life.{Answer, Entry, Arrive, held_section, is_candidat
 use Rattle.pdc_life.specs.Answer.{answer_in_time, bare}
 use Rattle.pdc_output.specs.Layout.{stamp_words}
 use Rattle.pdc_life.specs.Node.{cell_under}
+use Rattle.pdc_output.specs.declared.row_frame.TheConstants.{OWN_BLOCK_LEN}
 
 -- the layout of a node that was accepted last: its stamp, and its sections of PMUs, each with its column
 pub record HeldLayout : Type 0 where
@@ -64,7 +65,7 @@ merged_cells g E quality (part ∷ parts) words =
 
 -- the bytes of the own block, and what data under these sections has
 abbrev pub payload_len : List (ℕ × SectionFields) → ℕ
-payload_len sections = 14 + sum (map (λ (part : ℕ × SectionFields). 2 * word_count_of part.1.shape) sections)
+payload_len sections = OWN_BLOCK_LEN + sum (map (λ (part : ℕ × SectionFields). 2 * word_count_of part.1.shape) sections)
 
 -- the digital words of the own block, which stands first: STAT, FREQ and DFREQ come before them
 abbrev pub own_words : List ℕ → List ℕ
@@ -74,7 +75,7 @@ own_words payload = drop 3 (take 7 (words_in payload))
 abbrev pub merged_data_answer : Given → List Entry → (s i quality : ℕ) → (payload : List ℕ) → Option HeldLayout → Answer
 merged_data_answer g E s i quality payload None = bare (Refused NoConfig)
 merged_data_answer g E s i quality payload (Some held) =
-    if nat_lt (length payload) 14 then bare (Refused WrongLength)
+    if nat_lt (length payload) OWN_BLOCK_LEN then bare (Refused WrongLength)
     else (if not (pointwise nat_eq (own_words payload) (stamp_words held.stamp.start held.stamp.change)) then bare (Refused OtherStamp)
     else (if not (length payload == payload_len held.sections) then bare (Refused WrongLength)
     else answer_in_time g E s i (merged_cells g E quality held.sections (drop 7 (words_in payload)))))

@@ -3,15 +3,12 @@ ghost use Rattle.std.specs.Prelude.{◌<◌, ◌≤◌, ◌∷◌, IsTrue, lengt
 ghost use Rattle.std.specs.List.{list_all};
 ghost use Rattle.pdc_life.specs.Distinct.{are_distinct};
 ghost use Rattle.pdc_life.specs.declared.pmu.Pmu.{Pmu as PmuData};
-ghost use Rattle.pdc_life.specs.declared.given.TheConstants.{MAX_PMUS};
+ghost use Rattle.pdc_output.specs.pdc_row.declared.limits.TheConstants.{MAX_PMUS};
 
 use crate::pmu::Pmu;
 use crate::timing::Timing;
 use arrayvec::ArrayVec;
-use pdc_output::Output;
-
-/// The most PMUs of a node, and of the merger.
-pub const MAX_PMUS: usize = 16;
+use pdc_output::{MAX_PMUS, Output};
 
 /// The settings of a node, as far as its answers depend on them (this profile).
 #[derive(Debug, Drop)]

@@ -4,7 +4,7 @@ ghost use Rattle.std.specs.List.{list_all};
 ghost use Rattle.pdc_output.specs.pdc_frame.declared.limits.TheConstants.{MAX_ID};
 ghost use Rattle.pdc_output.specs.pdc_tag.declared.limits.TheConstants.{COUNT_LIMIT};
 ghost use Rattle.pdc_life.specs.Distinct.{are_distinct};
-ghost use Rattle.pdc_life.specs.declared.given.TheConstants.{MAX_PMUS};
+ghost use Rattle.pdc_output.specs.pdc_row.declared.limits.TheConstants.{MAX_PMUS};
 
 use crate::given::MAX_PMUS;
 use crate::timing::Timing;

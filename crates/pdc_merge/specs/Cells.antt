@@ -13,6 +13,7 @@ use Rattle.pdc_align.specs.Align.{State}
 use Rattle.pdc_align.specs.Calls.{column_in}
 use Rattle.pdc_merge.specs.Held.{LayoutView}
 use Rattle.pdc_merge.specs.declared.held_layout.HeldSection.{HeldSection}
+use Rattle.pdc_output.specs.declared.row_frame.TheConstants.{OWN_BLOCK_LEN}
 
 -- the section in force has this count
 abbrev pub has_count : Option SectionFields → (count : ℕ) → Bool
@@ -38,9 +39,9 @@ blocks_len sections = sum_by (λ (s : HeldSection). 2 * word_count_of s.shape) s
 -- why data is refused under a layout: the first cause that holds
 abbrev pub data_refusal : LayoutView → (payload : List ℕ) → Option Refusal
 data_refusal layout payload =
-    if nat_lt (length payload) 14 then Some WrongLength
+    if nat_lt (length payload) OWN_BLOCK_LEN then Some WrongLength
     else (if not (pointwise nat_eq (own_words payload) (stamp_words layout.stamp.start layout.stamp.change)) then Some OtherStamp
-    else (if not (length payload == 14 + blocks_len layout.sections) then Some WrongLength
+    else (if not (length payload == OWN_BLOCK_LEN + blocks_len layout.sections) then Some WrongLength
     else None))
 
 -- some section has the count of the one that is held of its column, or in force, and other bytes

@@ -4,7 +4,7 @@ ghost use Rattle.std.specs.List.{AllByRecursion};
 ghost use Rattle.pdc_align.specs.Align.{StandsFor, Unchanged};
 ghost use Rattle.pdc_block.specs.Block.{words_in};
 ghost use Rattle.pdc_cfg.specs.Section.{SectionFields};
-ghost use Rattle.pdc_life.specs.declared.given.TheConstants.{MAX_PMUS};
+ghost use Rattle.pdc_life.specs.pdc_row.declared.limits.TheConstants.{MAX_PMUS};
 ghost use Rattle.pdc_life.specs.Answer.{answered, outcome_in_time, with_cells, ToArrive};
 ghost use Rattle.pdc_life.specs.Arrival.{Data, Layout};
 ghost use Rattle.pdc_life.specs.Given.{Given};
@@ -58,7 +58,7 @@ fn put_data<T: Table>(
     requires lanes { alignment.old.state.content.lanes ≡ 2 }
     requires stream { stream < 2 }
     requires in_place { AreInPlace (length alignment.old.state.columns) layout.now.sections }
-    requires size { length payload.now ≡ 14 + blocks_len layout.now.sections }
+    requires size { length payload.now ≡ OWN_BLOCK_LEN + blocks_len layout.now.sections }
     ensures answer { (g : Given) (E : List Entry) → StandsFor g E alignment.old.state →
         result ≡ outcome_in_time g E stream instant (cells_in alignment.old.state quality layout.now.sections (drop 7 (words_in payload.now))) }
     ensures stands { (g : Given) (E : List Entry) (bytes : List ℕ) → StandsFor g E alignment.old.state →

@@ -1,6 +1,6 @@
 //! The layout of a node, as far as its data is read by it.
 ghost use Rattle.std.specs.Prelude.{◌≡◌, ◌≤◌, length, map};
-ghost use Rattle.pdc_life.specs.declared.given.TheConstants.{MAX_PMUS};
+ghost use Rattle.pdc_life.specs.pdc_row.declared.limits.TheConstants.{MAX_PMUS};
 ghost use Rattle.pdc_arrival.specs.Views.{section_part, stamp_view};
 ghost use Rattle.pdc_arrival.specs.declared.arrival.ColumnSection.{ColumnSection as ColumnSectionData};
 ghost use Rattle.pdc_merge.specs.Cells.{blocks_len};

@@ -11,6 +11,7 @@ use Rattle.pdc_tag.specs.declared.limits.TheConstants.{SECONDS}
 use Rattle.pdc_output.specs.declared.output.Output.{Output}
 use Rattle.pdc_output.specs.declared.output.Nominal.{Nominal}
 use Rattle.pdc_output.specs.Layout.{IsLayout, layout_fields_of, layout_payload_of, layout_wire_of, own_block, own_bytes, row_fields, row_payload, wire_of}
+use Rattle.pdc_row.specs.declared.limits.TheConstants.{MAX_PMUS}
 
 -- the words of the blocks of a row
 abbrev pub words_of_row : RowView → List (List ℕ)
@@ -26,13 +27,13 @@ RowsAreCut =
 -- The wire of such a row, of at most 16 blocks, is a frame.
 abbrev pub RowsAreFrames : Type 0
 RowsAreFrames =
-    (output : Output) (row : RowView) (shapes : List Shape) → length shapes ≤ 16 → AreOfShapes shapes (words_of_row row) →
+    (output : Output) (row : RowView) (shapes : List Shape) → length shapes ≤ MAX_PMUS → AreOfShapes shapes (words_of_row row) →
     row.instant < SECONDS * output.rate → row.quality < 2 ^ 8 → IsFrame (wire_of output row) (row_fields output row)
 
 -- The wire of a layout of at most 16 sections is a frame, whose payload is the layout.
 abbrev pub LayoutsAreFrames : Type 0
 LayoutsAreFrames =
-    (output : Output) (start change soc : ℕ) (sections : List SectionFields) → length sections ≤ 16 → AllByRecursion IsSection sections → soc < 2 ^ 32 →
+    (output : Output) (start change soc : ℕ) (sections : List SectionFields) → length sections ≤ MAX_PMUS → AllByRecursion IsSection sections → soc < 2 ^ 32 →
     IsFrame (layout_wire_of output start change sections soc) (layout_fields_of output start change sections soc)
     × IsLayout output start change sections (layout_payload_of output start change sections)
 

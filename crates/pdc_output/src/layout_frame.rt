@@ -8,11 +8,8 @@ ghost use Rattle.pdc_output.specs.Layout.{IsLayout, layout_fields_of, layout_pay
 use crate::output::Output;
 use crate::section::own_section;
 use arrayvec::ArrayVec;
-use pdc_row::{Buffer, ConfigView, Kind, Section, SectionView, write_config};
+use pdc_row::{Buffer, ConfigView, Kind, MAX_PMUS, Section, SectionView, write_config};
 use std::alloc::AllocError;
-
-/// The most sections of a layout beside the own one.
-pub const MAX_PMU_SECTIONS: usize = 16;
 
 /// The same section, lent for as long as the view of it is.
 fn lent<'a>(section: &'a SectionView) -> SectionView<'a>
@@ -29,7 +26,7 @@ fn lent<'a>(section: &'a SectionView) -> SectionView<'a>
 
 /// The configuration that the own section and these make.
 fn config_of<'a>(output: &Output, own: &'a Section, sections: &'a [SectionView]) -> ConfigView<'a>
-    requires { length sections.now ≤ MAX_PMU_SECTIONS }
+    requires { length sections.now ≤ MAX_PMUS }
     ensures flags { result.flags ≡ 0 }
     ensures time_base { result.time_base ≡ output.now.time_base }
     ensures sections { map fields_of_view result.sections.items ≡ fields_of_section own.now ∷ map fields_of_view sections.now }
@@ -62,7 +59,7 @@ pub fn append_layout<B: Buffer>(
     soc: u32,
     out: &mut B,
 ) -> Result<(), AllocError>
-    requires { length sections.now ≤ MAX_PMU_SECTIONS }
+    requires { length sections.now ≤ MAX_PMUS }
     // What is appended is the frame,
     ensures ok { OnOk result (B.content out.new ≡ B.content out.old ++ layout_wire_of output.now start change (map fields_of_view sections.now) soc) }
     // which is read back with these fields.

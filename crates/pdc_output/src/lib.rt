@@ -16,11 +16,11 @@ mod section;
 mod stamp;
 
 pub use laws::{layouts_are_frames, own_sections_tell_stamps, rows_are_frames};
-pub use layout_frame::{MAX_PMU_SECTIONS, append_layout};
+pub use layout_frame::append_layout;
 pub use output::{Nominal, Output};
 pub use pdc_row::{
-    Block, Body, Buffer, CfgFault, ConfigView, DueRow, Frame, FrameFault, Kind, MAX_WINDOW,
-    MIN_WINDOW, Section, SectionView, Shape, StreamId, bodies_are_their_words,
+    Block, Body, Buffer, CfgFault, ConfigView, DueRow, Frame, FrameFault, Kind, MAX_PMUS,
+    MAX_WINDOW, MIN_WINDOW, Section, SectionView, Shape, StreamId, bodies_are_their_words,
     configurations_are_read_in_one_way, frames_are_read_in_one_way, numbers_rise, read_body,
     read_config, read_frame, read_word,
 };

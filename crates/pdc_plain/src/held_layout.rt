@@ -1,6 +1,6 @@
 //! A layout that the merger holds.
 ghost use Rattle.std.specs.Prelude.{◌≤◌, length};
-ghost use Rattle.pdc_life.specs.declared.given.TheConstants.{MAX_PMUS};
+ghost use Rattle.pdc_life.specs.pdc_row.declared.limits.TheConstants.{MAX_PMUS};
 
 use pdc_arrival::{ColumnSection, Stamp};
 

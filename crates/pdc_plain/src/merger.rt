@@ -5,7 +5,7 @@ ghost use Rattle.pdc_block.specs.Block.{words_in};
 ghost use Rattle.pdc_cfg.specs.Section.{SectionFields, fields_of_view};
 ghost use Rattle.pdc_cfg.specs.Shape.{word_count_of};
 ghost use Rattle.pdc_cfg.specs.declared.shape.TheConstants.{MAX_WORDS};
-ghost use Rattle.pdc_life.specs.declared.given.TheConstants.{MAX_PMUS};
+ghost use Rattle.pdc_life.specs.pdc_row.declared.limits.TheConstants.{MAX_PMUS};
 ghost use Rattle.pdc_life.specs.Merger.{has_count_conflict, held_layout, is_in_force, layout_answer, merged_answer, merged_cells, merged_data_answer};
 ghost use Rattle.pdc_life.specs.Node.{cell_under};
 ghost use Rattle.pdc_arrival.specs.Views.{arrival_view, section_part, stamp_view};

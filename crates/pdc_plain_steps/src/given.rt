@@ -29,5 +29,5 @@ pub struct Given {
     pub counts: [u16; MAX_PMUS],
     /// What counts as now until the first tick.
     pub opening: u64,
-    pub ghost few: { columns ≤ 16 },
+    pub ghost few: { columns ≤ MAX_PMUS },
 }

@@ -10,12 +10,16 @@ use crate::past::section_in_force;
 use crate::steps::Answered;
 use arrayvec::ArrayVec;
 use pdc_cfg::SectionView;
+use pdc_life::MAX_PMUS;
 
 /// The sections in force, in column order.
 #[tactic(auto, using(crate::proofs::Ranges::filter_map_step))]
-pub fn sections_in_force<'a>(given: &Given, life: &[Answered<'a>]) -> ArrayVec<SectionView<'a>, 16>
+pub fn sections_in_force<'a>(
+    given: &Given,
+    life: &[Answered<'a>],
+) -> ArrayVec<SectionView<'a>, MAX_PMUS>
     ensures sections { map fields_of_view result.items ≡ sections_in_force (given_view given.now) (life_view life.now) }
-    ensures few { length result.items ≤ 16 }
+    ensures few { length result.items ≤ MAX_PMUS }
 {
     let mut sections = ArrayVec::new();
     for column in 0..given.columns {
@@ -25,8 +29,11 @@ pub fn sections_in_force<'a>(given: &Given, life: &[Answered<'a>]) -> ArrayVec<S
 }
 
 /// Appends the section, if there is one.
-fn push_some<'a>(section: Option<SectionView<'a>>, sections: &mut ArrayVec<SectionView<'a>, 16>)
-    requires { length sections.old.items < 16 }
+fn push_some<'a>(
+    section: Option<SectionView<'a>>,
+    sections: &mut ArrayVec<SectionView<'a>, MAX_PMUS>,
+)
+    requires { length sections.old.items < MAX_PMUS }
     ensures sections { map fields_of_view sections.new.items
         ≡ map fields_of_view sections.old.items ++ option_to_list (option_map fields_of_view section.entry) }
     ensures grown { length sections.new.items ≤ length sections.old.items + 1 }

@@ -20,6 +20,7 @@ use crate::steps::{Answered, ColumnCell};
 use crate::taking::cell_of;
 use arrayvec::ArrayVec;
 use pdc_block::{Block, absent};
+use pdc_life::MAX_PMUS;
 use pdc_row::{DueRow, is_present};
 use std::alloc::{AllocError, Global};
 
@@ -107,10 +108,10 @@ fn quality_at(given: &Given, life: &[Answered], instant: u64, column: usize) -> 
 
 /// The blocks of the row of an instant: one for each column with a section in force, in column order.
 #[tactic(auto, using(crate::proofs::Ranges::filter_map_step))]
-fn blocks_at(given: &Given, life: &[Answered], instant: u64) -> ArrayVec<Block, 16>
+fn blocks_at(given: &Given, life: &[Answered], instant: u64) -> ArrayVec<Block, MAX_PMUS>
     ensures blocks { map block_view result.items
         ≡ filter_map (λ c. block_in (section_in_force (given_view given.now) (life_view life.now) c) (chosen_of (given_view given.now) (life_view life.now) c instant)) (columns_of (given_view given.now)) }
-    ensures few { length result.items ≤ 16 }
+    ensures few { length result.items ≤ MAX_PMUS }
 {
     let mut blocks = ArrayVec::new();
     for column in 0..given.columns {
@@ -120,8 +121,8 @@ fn blocks_at(given: &Given, life: &[Answered], instant: u64) -> ArrayVec<Block, 
 }
 
 /// Appends the block, if there is one.
-fn push_some(block: Option<Block>, blocks: &mut ArrayVec<Block, 16>)
-    requires { length blocks.old.items < 16 }
+fn push_some(block: Option<Block>, blocks: &mut ArrayVec<Block, MAX_PMUS>)
+    requires { length blocks.old.items < MAX_PMUS }
     ensures blocks { map block_view blocks.new.items ≡ map block_view blocks.old.items ++ option_to_list (option_map block_view block) }
     ensures grown { length blocks.new.items ≤ length blocks.old.items + 1 }
 {

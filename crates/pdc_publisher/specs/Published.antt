@@ -8,6 +8,7 @@ use Rattle.pdc_row.specs.pdc_cfg.declared.shape.Shape.{Shape}
 use Rattle.pdc_output.specs.declared.output.Output.{Output}
 use Rattle.pdc_output.specs.Laws.{words_of_row}
 use Rattle.pdc_output.specs.Layout.{wire_of}
+use Rattle.pdc_row.specs.declared.limits.TheConstants.{MAX_PMUS}
 
 abbrev pub shapes_of : RowView → List Shape
 shapes_of row = map (λ (block : BlockView). block.shape) row.blocks
@@ -15,7 +16,7 @@ shapes_of row = map (λ (block : BlockView). block.shape) row.blocks
 -- The row fits a data frame of this rate: at most 16 blocks, each with the words of its shape, a time quality of four bits, and an instant
 -- whose second has 32 bits.
 pub record Fits (output : Output) (row : RowView) : Type 0 where
-  pub few : length row.blocks ≤ 16
+  pub few : length row.blocks ≤ MAX_PMUS
   pub shaped : AreOfShapes (shapes_of row) (words_of_row row)
   pub quality : row.quality < 16
   pub tagged : row.instant < SECONDS * output.rate

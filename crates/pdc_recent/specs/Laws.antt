@@ -8,9 +8,10 @@ use Rattle.pdc_output.specs.declared.output.Output.{Output}
 use Rattle.pdc_output.specs.Laws.{words_of_row}
 use Rattle.pdc_output.specs.Layout.{wire_of}
 use Rattle.pdc_recent.specs.Stream.{IsData, stream_of}
+use Rattle.pdc_row.specs.declared.limits.TheConstants.{MAX_PMUS}
 
 -- The frame of a row, of at most 16 blocks, is a data frame of the row's instant.
 abbrev pub RowsAreData : Type 0
 RowsAreData =
-    (output : Output) (row : RowView) (shapes : List Shape) → length shapes ≤ 16 → AreOfShapes shapes (words_of_row row) →
+    (output : Output) (row : RowView) (shapes : List Shape) → length shapes ≤ MAX_PMUS → AreOfShapes shapes (words_of_row row) →
     row.instant < SECONDS * output.rate → row.quality < 2 ^ 8 → IsData (stream_of output) row.instant (wire_of output row)

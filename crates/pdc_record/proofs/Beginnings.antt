@@ -3,7 +3,7 @@ use Rattle.std.proofs.Common.{◌≡◌, ℕ, ◌+◌, ◌^◌, ◌<◌, List, [
 use Rattle.std.specs.Int.{w16, w32, w64, to_be_bytes}
 use Rattle.pdc_record.specs.declared.begun.Role.{Role}
 use Rattle.pdc_record.specs.declared.begun.Role.TheVariants.{Node, Merger}
-use Rattle.pdc_record.specs.declared.limits.TheConstants.{COUNTS}
+use Rattle.pdc_life.specs.pdc_row.declared.limits.TheConstants.{MAX_PMUS}
 use Rattle.pdc_record.specs.Told.{Start, Began}
 use Rattle.pdc_record.specs.Bodies.{FitsStart, IsTold, back_of, body_of, front_of, role_number, words_of}
 use Rattle.pdc_record.proofs.Numbers.{same_word, same_long, same_wide, same_byte, same_words, length-words_of}
@@ -53,7 +53,7 @@ same_start s t h k e =
     let rate = same_word s.rate t.rate _ _ h.rate k.rate id.1 in
     let start = same_long s.start t.start _ _ h.start k.start rate.1 in
     let floor = same_wide s.floor t.floor _ _ h.floor k.floor start.1 in
-    let counts = same_words COUNTS s.counts t.counts _ _ h.counts k.counts floor.1 in
+    let counts = same_words MAX_PMUS s.counts t.counts _ _ h.counts k.counts floor.1 in
     let now = same_wide s.now t.now _ _ h.now k.now counts.1 in
     let program = same_words 3 s.program t.program _ _ h.program k.program now.1 in
     same_fields s t (role_known s.role t.role role.0) id.0 rate.0 start.0 floor.0 counts.0 now.0 program.0 program.1

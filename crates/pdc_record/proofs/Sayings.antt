@@ -7,7 +7,7 @@ use Rattle.pdc_life.specs.declared.outcome.Outcome.{Outcome}
 use Rattle.pdc_life.specs.declared.outcome.Outcome.TheVariants.{Taken, Candidate, Known, Refused}
 use Rattle.pdc_life.specs.declared.outcome.Refusal.{Refusal}
 use Rattle.pdc_life.specs.declared.outcome.Refusal.TheVariants.{NoFrame, WrongId, NoConfiguration, WrongTimeBase, WrongRate, WrongSource, BadOwnBlock, UnknownSource, OldStamp, StaleCount, CountConflict, BadTag, NoConfig, WrongLength, OtherStamp, Late, Ahead, OutOfWindow, Duplicate, Conflict}
-use Rattle.pdc_record.specs.declared.limits.TheConstants.{COUNTS}
+use Rattle.pdc_life.specs.pdc_row.declared.limits.TheConstants.{MAX_PMUS}
 use Rattle.pdc_record.specs.Answers.{answer_number, refusal_number}
 use Rattle.pdc_record.specs.Told.{Tick, Told, Began, Arrived, Unanswered, Ticked, FoundNone, Popped, Laid, Missing}
 use Rattle.pdc_record.specs.Bodies.{AreWords, FitsTick, FitsWidths, IsTold, body_of, change_number, flags_of, kind_number, outcome_of, rest_of, words_of}
@@ -92,7 +92,7 @@ same_tick : (t u : Tick) → FitsTick t → FitsTick u → body_of (Ticked t) �
 unfolding spelled
 same_tick t u h k e =
     let now = same_wide t.now u.now _ _ h.now k.now (sym (chain t) ∙ e ∙ chain u) in
-    let counts = same_words COUNTS t.counts u.counts _ _ h.counts k.counts now.1 in
+    let counts = same_words MAX_PMUS t.counts u.counts _ _ h.counts k.counts now.1 in
     let closed = same_long t.closed u.closed _ _ h.closed k.closed counts.1 in
     let flags = same_byte (flags_of t.change t.used_up) (flags_of u.change u.used_up) _ _ closed.1 in
     let change = same_long (change_number t.change) (change_number u.change) [] [] h.change k.change flags.1 in
@@ -155,13 +155,13 @@ pub ticked_sized : (body : List ℕ) → (length body ≡ 49 → ⊥) → (t : T
 ticked_sized body other = no_ticked body (λ t fits e. other (ap length e ∙ length-ticked t fits))
 
 -- and neither is one whose FLAGS and CHANGE say nothing
-pub ticked_other : (body b1 b2 b3 b4 b5 : List ℕ) (now closed flags change : ℕ) (counts : List ℕ) → now < 2 ^ 64 → closed < 2 ^ 32 → change < 2 ^ 32 → AreWords COUNTS counts
+pub ticked_other : (body b1 b2 b3 b4 b5 : List ℕ) (now closed flags change : ℕ) (counts : List ℕ) → now < 2 ^ 64 → closed < 2 ^ 32 → change < 2 ^ 32 → AreWords MAX_PMUS counts
     → ((number : Option ℕ) (used_up : Bool) → flags ≡ flags_of number used_up → change ≡ change_number number → ⊥)
     → body ≡ to_be_bytes w64 now ++ b1 → b1 ≡ words_of counts ++ b2 → b2 ≡ to_be_bytes w32 closed ++ b3 → b3 ≡ flags ∷ b4 → b4 ≡ to_be_bytes w32 change ++ b5 → (t : Told) → IsTold 3 body t → ⊥
 unfolding spelled
 ticked_other body b1 b2 b3 b4 b5 now closed flags change counts now_fits closed_fits change_fits counts_fit none e1 e2 e3 e4 e5 = no_ticked body (λ t h e.
     let first = same_wide now t.now b1 _ now_fits h.now (sym e1 ∙ e ∙ chain t) in
-    let second = same_words COUNTS counts t.counts b2 _ counts_fit h.counts (sym e2 ∙ first.1) in
+    let second = same_words MAX_PMUS counts t.counts b2 _ counts_fit h.counts (sym e2 ∙ first.1) in
     let third = same_long closed t.closed b3 _ closed_fits h.closed (sym e3 ∙ second.1) in
     let fourth = same_byte flags (flags_of t.change t.used_up) b4 _ (sym e4 ∙ third.1) in
     let fifth = same_long change (change_number t.change) b5 [] change_fits h.change (sym e5 ∙ fourth.1) in

@@ -4,7 +4,8 @@ use Rattle.std.specs.List.{flat_map}
 use Rattle.std.specs.Int.{w16, w32, w64, to_be_bytes}
 use Rattle.pdc_record.specs.declared.begun.Role.{Role}
 use Rattle.pdc_record.specs.declared.begun.Role.TheVariants.{Node, Merger}
-use Rattle.pdc_record.specs.declared.limits.TheConstants.{VERSION, COUNTS}
+use Rattle.pdc_life.specs.pdc_row.declared.limits.TheConstants.{MAX_PMUS}
+use Rattle.pdc_record.specs.declared.limits.TheConstants.{VERSION}
 use Rattle.pdc_record.specs.Answers.{answer_number}
 use Rattle.pdc_record.specs.Told.{Start, Tick, Told, Began, Arrived, Unanswered, Ticked, FoundNone, Popped, Laid, Missing}
 
@@ -93,13 +94,13 @@ pub record FitsStart (s : Start) : Type 0 where
   pub rate : s.rate < 2 ^ 16
   pub start : s.start < 2 ^ 32
   pub floor : s.floor < 2 ^ 64
-  pub counts : AreWords COUNTS s.counts
+  pub counts : AreWords MAX_PMUS s.counts
   pub now : s.now < 2 ^ 64
   pub program : AreWords 3 s.program
 
 pub record FitsTick (t : Tick) : Type 0 where
   pub now : t.now < 2 ^ 64
-  pub counts : AreWords COUNTS t.counts
+  pub counts : AreWords MAX_PMUS t.counts
   pub closed : t.closed < 2 ^ 32
   pub change : change_number t.change < 2 ^ 32
 

@@ -21,9 +21,6 @@ pub(crate) const REFUSALS: u8 = 27;
 /// How many answers there are.
 pub(crate) const ANSWERS: u8 = 30;
 
-/// The number of counts, one for each column.
-pub(crate) const COUNTS: usize = 16;
-
 /// The bytes of the counts.
 pub(crate) const COUNTS_LEN: usize = 32;
 

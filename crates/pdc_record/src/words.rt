@@ -3,8 +3,9 @@ ghost use Rattle.std.specs.Prelude.{◌≡◌, ◌+◌, ◌≤◌, ◌∷◌, �
 ghost use Rattle.std.specs.Int.{w16, w32, w64, to_be_bytes};
 ghost use Rattle.pdc_record.specs.Bodies.{AreWords, words_of};
 
-use crate::limits::{COUNTS, COUNTS_LEN};
+use crate::limits::COUNTS_LEN;
 use byteorder::{BigEndian, ByteOrder};
+use pdc_life::MAX_PMUS;
 
 /// A byte, and the bytes behind it.
 pub(crate) fn split_byte(bytes: &[u8]) -> (u8, &[u8])
@@ -55,29 +56,29 @@ pub(crate) fn split_wide(bytes: &[u8]) -> (u64, &[u8])
 }
 
 /// The counts that these bytes are.
-fn read_counts(bytes: &[u8]) -> [u16; COUNTS]
+fn read_counts(bytes: &[u8]) -> [u16; MAX_PMUS]
     requires { length bytes.now ≡ COUNTS_LEN }
     ensures value { words_of result ≡ bytes.now }
-    ensures fits { AreWords COUNTS result }
+    ensures fits { AreWords MAX_PMUS result }
 {
-    let mut counts = [0; COUNTS];
+    let mut counts = [0; MAX_PMUS];
     BigEndian::read_u16_into(bytes, &mut counts);
     counts
 }
 
 /// A count for each column, and the bytes behind them.
-pub(crate) fn split_counts(bytes: &[u8]) -> ([u16; COUNTS], &[u8])
+pub(crate) fn split_counts(bytes: &[u8]) -> ([u16; MAX_PMUS], &[u8])
     requires { COUNTS_LEN ≤ length bytes.now }
     ensures joined { bytes.now ≡ words_of result.0 ++ result.1.now }
     ensures len { length bytes.now ≡ COUNTS_LEN + length result.1.now }
-    ensures fits { AreWords COUNTS result.0 }
+    ensures fits { AreWords MAX_PMUS result.0 }
 {
     let (front, rest) = bytes.split_at(COUNTS_LEN);
     (read_counts(front), rest)
 }
 
 /// How many bytes the counts have.
-pub(crate) fn counts_len(counts: &[u16; COUNTS]) -> usize
+pub(crate) fn counts_len(counts: &[u16; MAX_PMUS]) -> usize
     ensures value { result ≡ length (words_of counts.now) }
     ensures size { result ≡ COUNTS_LEN }
 {
@@ -85,10 +86,10 @@ pub(crate) fn counts_len(counts: &[u16; COUNTS]) -> usize
 }
 
 /// The bytes of the counts.
-pub(crate) fn count_bytes(counts: &[u16; COUNTS]) -> [u8; COUNTS_LEN]
+pub(crate) fn count_bytes(counts: &[u16; MAX_PMUS]) -> [u8; COUNTS_LEN]
     ensures value { result ≡ words_of counts.now }
     ensures len { length result ≡ COUNTS_LEN }
-    ensures fits { AreWords COUNTS counts.now }
+    ensures fits { AreWords MAX_PMUS counts.now }
 {
     let mut bytes = [0; COUNTS_LEN];
     BigEndian::write_u16_into(counts, &mut bytes);

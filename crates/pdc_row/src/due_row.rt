@@ -1,7 +1,9 @@
 //! A closed row.
 ghost use Rattle.std.specs.Prelude.{◌≡◌, ◌≤◌, length, map};
 ghost use Rattle.pdc_row.specs.CellView.{block_view};
+ghost use Rattle.pdc_row.specs.declared.limits.TheConstants.{MAX_PMUS};
 
+use crate::limits::MAX_PMUS;
 use arrayvec::ArrayVec;
 use pdc_block::Block;
 use std::alloc::AllocError;
@@ -18,9 +20,9 @@ pub struct DueRow {
     /// Time quality, 0 to 15, greater is worse: the worst of the frames whose blocks are present, 15 if none is.
     pub quality: u8,
     /// The block of each column that had a shape, in column order, at most 16.
-    pub blocks: ArrayVec<Block, 16>,
+    pub blocks: ArrayVec<Block, MAX_PMUS>,
     pub ghost quality_fits: { quality ≤ 15 },
-    pub ghost few: { length blocks.items ≤ 16 },
+    pub ghost few: { length blocks.items ≤ MAX_PMUS },
 }
 
 /// A copy takes no memory.
@@ -43,8 +45,8 @@ impl Clone for DueRow {
 }
 
 /// The same blocks again.
-fn copies(blocks: &[Block]) -> ArrayVec<Block, 16>
-    requires { length blocks.now ≤ 16 }
+fn copies(blocks: &[Block]) -> ArrayVec<Block, MAX_PMUS>
+    requires { length blocks.now ≤ MAX_PMUS }
     ensures { map block_view result.items ≡ map block_view blocks.now }
 {
     let mut copies = ArrayVec::new();

@@ -17,7 +17,7 @@ mod same;
 pub use cell::Cell;
 pub use due_row::DueRow;
 pub use laws::numbers_rise;
-pub use limits::{MAX_WINDOW, MIN_WINDOW};
+pub use limits::{MAX_PMUS, MAX_WINDOW, MIN_WINDOW};
 pub use offered::Offered;
 pub use pdc_block::{
     Block, Body, Buffer, CfgFault, ConfigView, Frame, FrameFault, Kind, MAX_SECTION_LEN, OVERHEAD,

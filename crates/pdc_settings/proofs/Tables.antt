@@ -9,7 +9,7 @@ use Rattle.std.proofs.Math.Seq.{drop-cons}
 use Rattle.toml.specs.Data.{Data, Members}
 use Rattle.toml.specs.View.{items_of, items_view, view}
 use Rattle.toml.specs.declared.value.Value.{Value}
-use Rattle.pdc_life.specs.declared.given.TheConstants.{MAX_PMUS}
+use Rattle.pdc_life.specs.pdc_row.declared.limits.TheConstants.{MAX_PMUS}
 use Rattle.pdc_settings.specs.Entries.{both, count_of, each_of, some_pmus, two_of}
 use Rattle.pdc_settings.specs.Places.{as_place}
 use Rattle.pdc_settings.specs.Network.{IsKeyFault, IsUnread, fault_of, few_outputs, outputs_in}

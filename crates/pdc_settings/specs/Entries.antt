@@ -2,7 +2,7 @@
 use Rattle.std.specs.Prelude.{ℕ, suc, List, [], ◌∷◌, codes, nat_le, ◌&&◌, if◌then◌else◌, Option, Some, None, option_and_then, option_map}
 use Rattle.toml.specs.Data.{Data, Items, no_items, item, Members, as_array, as_table, get_member}
 use Rattle.pdc_frame.specs.declared.limits.TheConstants.{MAX_ID}
-use Rattle.pdc_life.specs.declared.given.TheConstants.{MAX_PMUS}
+use Rattle.pdc_life.specs.pdc_row.declared.limits.TheConstants.{MAX_PMUS}
 use Rattle.pdc_life.specs.declared.pmu.Pmu.{Pmu}
 use Rattle.pdc_life.specs.declared.merging.MergedNode.{MergedNode}
 use Rattle.pdc_settings.specs.Common.{time_base_in}

@@ -5,7 +5,7 @@ ghost use Rattle.toml.specs.Parse.{parse_document};
 ghost use Rattle.toml.specs.View.{items_view, table_view, view};
 ghost use Rattle.pdc_frame.specs.declared.limits.TheConstants.{MAX_ID};
 ghost use Rattle.pdc_life.specs.Distinct.{are_distinct};
-ghost use Rattle.pdc_life.specs.declared.given.TheConstants.{MAX_PMUS};
+ghost use Rattle.pdc_life.specs.pdc_row.declared.limits.TheConstants.{MAX_PMUS};
 ghost use Rattle.pdc_settings.specs.Entries.{each_of, first_node_in, first_port_in, node_fields, node_of, node_tables_in, port_of, second_node_in, second_port_in, source_at, sources_in, two_of};
 ghost use Rattle.pdc_settings.specs.Kind.{is_merger};
 ghost use Rattle.pdc_settings.specs.Settings.{IsCommon, IsFaultOf, IsMergerFault, IsMergerSettings, are_merger_ids, has_merger_keys};

@@ -3,7 +3,7 @@ ghost use Rattle.std.specs.Prelude.{◌≡◌, ◌≤◌, ◌∷◌, ◌&&◌, I
 ghost use Rattle.std.specs.List.{list_all};
 ghost use Rattle.toml.specs.Parse.{parse_document};
 ghost use Rattle.toml.specs.View.{items_view, table_view, view};
-ghost use Rattle.pdc_life.specs.declared.given.TheConstants.{MAX_PMUS};
+ghost use Rattle.pdc_life.specs.pdc_row.declared.limits.TheConstants.{MAX_PMUS};
 ghost use Rattle.pdc_life.specs.declared.pmu.Pmu.{Pmu as PmuData};
 ghost use Rattle.pdc_settings.specs.Entries.{each_of, pmu_fields, pmu_of, pmu_tables_in, pmus_in, port_of, ports_in};
 ghost use Rattle.pdc_settings.specs.Kind.{is_merger};

@@ -8,6 +8,7 @@ use Rattle.pdc_row.specs.Rising.{Rises, AreBelow, AreNear}
 use Rattle.pdc_table.specs.OpenInstants.{instants_of}
 use Rattle.pdc_table.specs.Layout.{LayoutView}
 use Rattle.pdc_table.specs.Views.{ColumnView, OpenRowView}
+use Rattle.pdc_table.specs.declared.limits.TheConstants.{MAX_COLUMNS}
 
 pub record Content : Type 0 where
   -- what is fixed: the window, how many columns there are, and one lane or two
@@ -59,7 +60,7 @@ pub record IsContent (c : Content) : Type 0 where
   pub window_least : 8 ≤ c.window
   pub window_most : c.window ≤ 256
   pub columns_least : 1 ≤ c.columns
-  pub columns_most : c.columns ≤ 16
+  pub columns_most : c.columns ≤ MAX_COLUMNS
   pub lanes_least : 1 ≤ c.lanes
   pub lanes_most : c.lanes ≤ 2
   pub required_each : length c.required ≡ streams_of c

@@ -1,7 +1,8 @@
 //! How large a table may be (this profile).
+use pdc_row::MAX_PMUS;
 
 /// The most columns: one for each PMU.
-pub const MAX_COLUMNS: usize = 16;
+pub const MAX_COLUMNS: usize = MAX_PMUS;
 
 /// The most lanes: two nodes.
 pub const MAX_LANES: usize = 2;

@@ -1,4 +1,5 @@
 //! The layout under which rows close.
+use crate::MAX_COLUMNS;
 use arrayvec::ArrayVec;
 use pdc_row::Shape;
 
@@ -10,5 +11,5 @@ pub struct RowLayout {
     /// The change number of the stamp.
     pub change: u32,
     /// The shape of each column's blocks, at most 16; a column without one has no block in a row.
-    pub shapes: ArrayVec<Option<Shape>, 16>,
+    pub shapes: ArrayVec<Option<Shape>, MAX_COLUMNS>,
 }

@@ -7,6 +7,7 @@ use Rattle.pdc_mark.specs.declared.stored.Stored.{Stored}
 use Rattle.pdc_pipe.specs.Writing.{IsOpen, put_by}
 use Rattle.pdc_publisher.specs.Publisher.{last_in, mark_in, output_in}
 use Rattle.pdc_threads.specs.declared.crew.Manned.{Manned}
+use Rattle.pdc_life.specs.pdc_row.declared.limits.TheConstants.{MAX_PMUS}
 
 -- A run over this hub and these settings may begin, where the mark stores this. The settings are those that are named, and each stream has
 -- an input. The shares are whole, with a part for each input and one more, and have counted nothing. The greatest instant popped is the last
@@ -15,7 +16,7 @@ pub record IsReady {C N S W P M I K : Type 0} {core : _} {reads : _} {naming : _
     (intake : Intake C N S core reads naming ledgers) (manned : Manned N W P M I K g) (stored : Stored) : Type 0 where
   pub settings : naming.settings ≡ Some intake.settings.now
   pub streams : vec_len manned.inputs ≡ reads.streams intake.settings.now
-  pub few : vec_len manned.inputs ≤ 16
+  pub few : vec_len manned.inputs ≤ MAX_PMUS
   pub parts : (manned.shares.taken.parts ≡ vec_len manned.inputs + 1) × (manned.shares.refused.parts ≡ vec_len manned.inputs + 1) × (manned.shares.configured.parts ≡ vec_len manned.inputs + 1)
   pub whole : (manned.shares.taken.parts ≡ ledgers.taken.parts) × (manned.shares.refused.parts ≡ ledgers.refused.parts) × (manned.shares.configured.parts ≡ ledgers.configured.parts)
   pub amounts : (manned.shares.taken.amount ≡ 0) × (manned.shares.refused.amount ≡ 0) × (manned.shares.configured.amount ≡ 0)

@@ -7,6 +7,7 @@ ghost use Rattle.pdc_threads.specs.Ended.{AreFor, HasEndedAs, HaveJoined, ending
 use pdc_core::Core;
 use pdc_frame::MAX_SIZE;
 use pdc_hub::{HubFault, Intake, Ledgers, Naming, Place, Received, Shares, receive};
+use pdc_life::MAX_PMUS;
 use pdc_ports::Source;
 use std::alloc::{AllocError, Global};
 use std::marker::PhantomData;
@@ -106,7 +107,7 @@ where
     C::Settings: Sync + 's,
     requires settings { N.settings ≡ Some intake.now.settings.now }
     requires streams { vec_len inputs ≡ C.Settings.streams intake.now.settings.now }
-    requires few { vec_len inputs ≤ 16 }
+    requires few { vec_len inputs ≤ MAX_PMUS }
     requires parts { (shares.old.taken.parts ≡ vec_len inputs + 1) × (shares.old.refused.parts ≡ vec_len inputs + 1) × (shares.old.configured.parts ≡ vec_len inputs + 1) }
     requires amounts { (shares.old.taken.amount ≡ 0) × (shares.old.refused.amount ≡ 0) × (shares.old.configured.amount ≡ 0) }
     ensures complete { result.complete ≡ true → (shares.new.taken.amount ≡ 0) × (shares.new.refused.amount ≡ 0) × (shares.new.taken.parts ≡ 1) × (shares.new.refused.parts ≡ 1) × (shares.new.configured.parts ≡ 1) × (vec_len result.running ≡ vec_len inputs) }

@@ -26,6 +26,7 @@ use crate::telling::outcome;
 use pdc_aligner::{Aligner, Pace, align};
 use pdc_core::Core;
 use pdc_hub::{Hub, HubFault, Intake, Naming};
+use pdc_life::MAX_PMUS;
 use pdc_mark::Mark;
 use pdc_pipe::{Ends, HandsOn, Receiver, Sent, channel, close, send_owned, settle};
 use pdc_ports::Ticker;
@@ -208,7 +209,7 @@ pub fn run<
 where
     C::Settings: Sync,
     requires settings { N.settings ≡ Some settings.now }
-    requires streams { (vec_len crew.sources ≡ C.Settings.streams settings.now) × (vec_len crew.sources ≤ 16) }
+    requires streams { (vec_len crew.sources ≡ C.Settings.streams settings.now) × (vec_len crew.sources ≤ MAX_PMUS) }
     requires parts { (crew.shares.taken.parts ≡ vec_len crew.sources + 1) × (crew.shares.refused.parts ≡ vec_len crew.sources + 1) × (crew.shares.configured.parts ≡ vec_len crew.sources + 1) }
     requires whole { (crew.shares.taken.parts ≡ N.taken.parts) × (crew.shares.refused.parts ≡ N.refused.parts) × (crew.shares.configured.parts ≡ N.configured.parts) }
     requires amounts { (crew.shares.taken.amount ≡ 0) × (crew.shares.refused.amount ≡ 0) × (crew.shares.configured.amount ≡ 0) }

@@ -8,7 +8,7 @@ use arrayvec::ArrayVec;
 use pdc_block::Block;
 use pdc_cfg::{SectionView, Shape, read_config};
 use pdc_frame::{Frame, Kind, StreamId, read_frame};
-use pdc_output::{MAX_PMU_SECTIONS, Nominal, Output, append_layout, append_row, own_section};
+use pdc_output::{MAX_PMUS, Nominal, Output, append_layout, append_row, own_section};
 use pdc_row::DueRow;
 use std::process::Abort;
 
@@ -84,7 +84,7 @@ fn layout(
     sections: &[SectionView],
     soc: u32,
 ) -> Vec<u8>
-    requires { length sections.now ≤ MAX_PMU_SECTIONS }
+    requires { length sections.now ≤ MAX_PMUS }
 {
     let mut out = Vec::new(rt.alloc());
     append_layout(&NODE_201, 1, change, sections, soc, &mut out).expect(rt, "memory");
