@@ -6,10 +6,9 @@ ghost use Rattle.pdc_output.specs.pdc_tag.declared.limits.TheConstants.{COUNT_LI
 ghost use Rattle.pdc_life.specs.Distinct.{are_distinct};
 ghost use Rattle.pdc_output.specs.pdc_row.declared.limits.TheConstants.{MAX_PMUS};
 
-use crate::given::MAX_PMUS;
 use crate::timing::Timing;
 use arrayvec::ArrayVec;
-use pdc_output::{Output, StreamId};
+use pdc_output::{MAX_PMUS, Output, StreamId};
 
 /// A node whose stream the merger takes.
 #[derive(Clone, Copy, Debug)]
