@@ -1,7 +1,8 @@
 //! A layout that is kept.
 ghost use Rattle.std.specs.Prelude.{◌≤◌, length};
+ghost use Rattle.pdc_align.specs.pdc_row.declared.limits.TheConstants.{MAX_PMUS};
 
-use pdc_align::{MAX_PMUS, Section, Stamp};
+use pdc_align::{Section, Stamp};
 
 /// A section of a layout that is kept, beside its column.
 #[derive(Debug, Drop)]

@@ -1,5 +1,6 @@
 //! What is given to a life.
 ghost use Rattle.std.specs.Prelude.{◌≤◌};
+ghost use Rattle.pdc_life.specs.pdc_row.declared.limits.TheConstants.{MAX_PMUS};
 
 use pdc_life::{MAX_PMUS, WaitKind};
 use pdc_output::Output;
