@@ -4,7 +4,7 @@
 //! window 8, open 13 14 18     place  0  1  2  3  4  5  6  7
 //!                             row          18       13 14
 //! ```
-ghost use Rattle.std.specs.Prelude.{◌≡◌, ℕ, ◌+◌, ◌%◌, ◌==◌, ◌<◌, ◌≤◌, ◌++◌, length, nat_lt, replicate, IfOk, slice_set, true, vec_len, if◌then◌else◌};
+ghost use Rattle.std.specs.Prelude.{◌≡◌, ℕ, ◌+◌, ◌%◌, ◌==◌, ◌<◌, ◌≤◌, ◌++◌, [], length, nat_lt, replicate, IfOk, slice_set, true, vec_len, if◌then◌else◌};
 ghost use Rattle.std.specs.List.{All, AllByRecursion, list_all, list_any, prefix_len, slice_get};
 ghost use Rattle.std.specs.Vec.{vec_capacity};
 ghost use Rattle.pdc_row.specs.Rising.{AreNear, Rises, highest_of, is_near, place};
@@ -36,7 +36,7 @@ pub struct Rows {
 }
 
 /// So many places, in each of which stands a row of no instant.
-pub fn new_places(alloc: Global, count: usize, sizes: Places) -> Result<Vec<OpenRow>, AllocError>
+fn new_places(alloc: Global, count: usize, sizes: Places) -> Result<Vec<OpenRow>, AllocError>
     requires streams { sizes.streams ≤ MAX_COLUMNS }
     requires columns { sizes.columns ≤ MAX_COLUMNS }
     ensures items { IfOk result (λ places. places.items ≡ replicate count (blank_row sizes.streams sizes.columns 0)) }
@@ -150,6 +150,22 @@ fn open_instant(open: &mut Vec<u64>, instant: u64)
 }
 
 impl Rows {
+    /// So many places, of which none is open.
+    pub fn new(alloc: Global, count: usize, sizes: Places) -> Result<Rows, AllocError>
+        requires streams { sizes.streams ≤ MAX_COLUMNS }
+        requires columns { sizes.columns ≤ MAX_COLUMNS }
+        ensures places { IfOk result (λ rows. rows.places.items ≡ replicate count (blank_row sizes.streams sizes.columns 0)) }
+        ensures ages { IfOk result (λ rows. rows.ages.items ≡ replicate count 0) }
+        ensures open { IfOk result (λ rows. rows.open.items ≡ []) }
+        ensures room { IfOk result (λ rows. count ≤ vec_capacity rows.open) }
+    {
+        Ok(Rows {
+            places: new_places(alloc, count, sizes)?,
+            ages: Ages::new(alloc, count)?,
+            open: Vec::with_capacity(alloc, count)?,
+        })
+    }
+
     /// Takes a frame of a stream for the instant of the circle, unless the stream was taken there.
     pub fn take<B: Offered>(
         &mut self,

@@ -1,5 +1,5 @@
 //! How the rows of a ring close, and come out: a closed row stays at its place until it is popped.
-ghost use Rattle.std.specs.Prelude.{◌≡◌, ◌+◌, ◌≤◌, ◌++◌, drop, false, length, option_map, replicate, IfOk, take, vec_len};
+ghost use Rattle.std.specs.Prelude.{◌≡◌, ◌+◌, ◌≤◌, ◌++◌, [], drop, false, length, option_map, replicate, IfOk, take, vec_len};
 ghost use Rattle.std.specs.List.{AllByRecursion, slice_get};
 ghost use Rattle.std.specs.Vec.{vec_capacity};
 ghost use Rattle.std.specs.VecDeque.{deque_capacity, deque_len};
@@ -35,7 +35,7 @@ pub struct Closed {
 }
 
 /// So many places for the layouts of closed rows.
-pub fn new_layouts(alloc: Global, count: usize) -> Result<Vec<ClosingLayout>, AllocError>
+fn new_layouts(alloc: Global, count: usize) -> Result<Vec<ClosingLayout>, AllocError>
     ensures items { IfOk result (λ layouts. layouts.items ≡ replicate count no_layout) }
 {
     let mut layouts = Vec::with_capacity(alloc, count)?;
@@ -79,6 +79,22 @@ fn greatest(due: &[u64], last: u64) -> u64
 }
 
 impl Closed {
+    /// Nothing closed above the floor, with room for so many rows.
+    pub fn new(alloc: Global, count: usize, floor: u64) -> Result<Closed, AllocError>
+        ensures instants { IfOk result (λ closed. closed.instants.items ≡ []) }
+        ensures room { IfOk result (λ closed. count ≤ deque_capacity closed.instants) }
+        ensures layouts { IfOk result (λ closed. closed.layouts.items ≡ replicate count no_layout) }
+        ensures last { IfOk result (λ closed. closed.last ≡ floor) }
+        ensures disagree { IfOk result (λ closed. closed.disagree ≡ 0) }
+    {
+        Ok(Closed {
+            instants: VecDeque::with_capacity(alloc, count)?,
+            layouts: new_layouts(alloc, count)?,
+            last: floor,
+            disagree: 0,
+        })
+    }
+
     /// Closes the rows for which every row up to them is due, and answers how many: so many open instants, from the front on, are
     /// open no more.
     pub fn close_due(

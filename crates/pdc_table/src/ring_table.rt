@@ -4,7 +4,6 @@ ghost use Rattle.pdc_table.specs.Content.{HasSizesOf, IsContent, IsPut};
 ghost use Rattle.pdc_table.specs.Steps.{after_put, put_answer};
 ghost use Rattle.pdc_table.specs.Taking.{cells_in};
 
-use crate::ages::Ages;
 use crate::circle::Circle;
 use crate::open_row::Places;
 use crate::ring::Rows;
@@ -16,7 +15,6 @@ use crate::{
 use arrayvec::ArrayVec;
 use pdc_row::{Block, Body, DueRow, Offered, numbers_rise};
 use std::alloc::{AllocError, Global};
-use std::collections::VecDeque;
 use std::marker::Model;
 
 /// A table kept as a place for each instant of the window: a put finds its row at the remainder of its instant, and no row is
@@ -96,6 +94,8 @@ impl Table for RingTable {
     ) -> Result<RingTable, AllocError> {
         let room = window as usize;
         let streams = stream_count(columns, lanes);
+        let rows = Rows::new(alloc, room, Places { streams, columns })?;
+        let closed = Closed::new(alloc, room, floor)?;
         Ok(RingTable {
             columns,
             lanes,
@@ -105,17 +105,8 @@ impl Table for RingTable {
                 instant: floor,
                 place: (floor % window) as usize,
             },
-            rows: Rows {
-                places: ring::new_places(alloc, room, Places { streams, columns })?,
-                ages: Ages::new(alloc, room)?,
-                open: Vec::with_capacity(alloc, room)?,
-            },
-            closed: Closed {
-                instants: VecDeque::with_capacity(alloc, room)?,
-                layouts: ring_closing::new_layouts(alloc, room)?,
-                last: floor,
-                disagree: 0,
-            },
+            rows,
+            closed,
         })
     }
 
