@@ -15,18 +15,21 @@ const MASKS_PLACE: usize = 1050;
 /// The bytes of an own section.
 const OWN_SECTION_LEN: usize = 1070;
 
+/// How many words of 16 bits there are.
+const WORDS: u32 = 65536;
+
 /// The number whose high and low half these are.
 fn long_of(high: u16, low: u16) -> u32
-    ensures { result ≡ 65536 * high + low }
+    ensures { result ≡ WORDS * high + low }
 {
-    65536 * u32::from(high) + u32::from(low)
+    WORDS * u32::from(high) + u32::from(low)
 }
 
 /// The stamp that the masks of an own section say: the normal status of each digital word is the word.
 fn stamp_in(bytes: &[u8]) -> Stamp
     requires { length bytes.now ≡ OWN_SECTION_LEN }
-    ensures start { result.start ≡ 65536 * word_at (drop 1050 bytes.now) 0 + word_at (drop 1050 bytes.now) 4 }
-    ensures change { result.change ≡ 65536 * word_at (drop 1050 bytes.now) 8 + word_at (drop 1050 bytes.now) 12 }
+    ensures start { result.start ≡ WORDS * word_at (drop MASKS_PLACE bytes.now) 0 + word_at (drop MASKS_PLACE bytes.now) 4 }
+    ensures change { result.change ≡ WORDS * word_at (drop MASKS_PLACE bytes.now) 8 + word_at (drop MASKS_PLACE bytes.now) 12 }
 {
     let masks = &bytes[MASKS_PLACE..];
     Stamp {

@@ -4,7 +4,7 @@ ghost use Rattle.pdc_output.specs.Layout.{digit};
 ghost use Rattle.pdc_server.specs.Header.{header_text};
 
 /// How many bytes the text has.
-pub const HEADER_LEN: usize = 9;
+pub const TEXT_LEN: usize = 9;
 
 /// The last decimal digit of a number, in ASCII.
 fn digit(number: u16) -> u8
@@ -14,7 +14,7 @@ fn digit(number: u16) -> u8
 }
 
 /// The text of the header frame of the stream `id`: "PDC " and the id with five digits.
-pub fn header_of(id: u16) -> [u8; HEADER_LEN]
+pub fn header_of(id: u16) -> [u8; TEXT_LEN]
     ensures { result ≡ header_text id }
 {
     [
