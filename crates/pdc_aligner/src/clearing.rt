@@ -11,7 +11,7 @@ ghost use Rattle.pdc_hub.specs.Replay.{InSomeLife, number_in};
 use pdc_align::Ticked;
 use pdc_core::Core;
 use pdc_hub::{Hub, HubFault, Naming};
-use pdc_mark::{COUNTS, Mark, raised};
+use pdc_mark::{COUNTS, Mark};
 use pdc_ports::Numbered;
 use pdc_publisher::Publisher;
 use std::sync::Wait;
@@ -31,11 +31,8 @@ fn clear_counts<M: Mark>(
     ensures causes { OnErr result (result ≡ Err HubFault.Device) }
     ensures device { HasDevice (standing_of publisher.old) (standing_of publisher.new) result }
 {
-    if let Some(counts) = raised(&publisher.counts(), waiting) {
-        if publisher.raise(&counts).is_err() {
-            return Err(HubFault::Device);
-        }
-        return Ok(counts);
+    if publisher.raise(waiting).is_err() {
+        return Err(HubFault::Device);
     }
     Ok(publisher.counts())
 }

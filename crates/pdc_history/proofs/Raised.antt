@@ -3,11 +3,12 @@ use Rattle.std.proofs.Common.{◌≡◌, ℕ, zero, suc, ◌-◌, ◌≤◌, Lis
 use Rattle.std.specs.List.{range_with_len}
 use Rattle.std.proofs.lemmas.List.{length-map, length-replicate}
 use Rattle.std.proofs.lemmas.List.FromFn.{length-range_with_len}
+use Rattle.pdc_mark.specs.Counts.{raised_to}
 use Rattle.pdc_life.specs.Answer.{greatest_count}
 use Rattle.pdc_life.specs.Given.{Given}
 use Rattle.pdc_life.specs.Life.{Entry, cleared_count, held_section}
 use Rattle.pdc_history.specs.Marks.{GreaterIsRaised, WaitingIsWhole}
-use Rattle.pdc_history.specs.World.{given_in, life_of, opened_with, raised_to}
+use Rattle.pdc_history.specs.World.{given_in, life_of, opened_with}
 use Rattle.pdc_history.proofs.Sent.{few_columns}
 
 same_lists : (xs ys : List ℕ) → length xs ≡ length ys → ((i : ℕ) → get_or xs i 0 ≡ get_or ys i 0) → xs ≡ ys

@@ -2,12 +2,13 @@
 use Rattle.std.proofs.Common.{◌≡◌, ℕ, zero, suc, ◌+◌, ◌<◌, ◌≤◌, ◌^◌, Bool, true, false, List, [], ◌∷◌, cond, ltb, refl, sym, subst, arith, rules, Option, Some, None}
 use Rattle.pdc_row.specs.RowView.{RowView}
 use Rattle.pdc_mark.specs.declared.stored.Stored.{Stored}
+use Rattle.pdc_mark.specs.Counts.{raised_to}
 use Rattle.pdc_mark.specs.Stored.{with_next_start}
 use Rattle.pdc_life.specs.Answer.{pop_answer, waiting_counts}
 use Rattle.pdc_life.specs.Given.{count_for}
 use Rattle.pdc_history.specs.Event.{Event, Send, Bring, Miss, TickAt, Publish, Stop, StopIn, StopInTick, StopAtStart, happens, stored}
 use Rattle.pdc_history.specs.History.{IsMade, MayHappen}
-use Rattle.pdc_history.specs.World.{Who, World, Happened, Ends, given_in, lead_of, life_of, mark_of, raised, raised_to, reserved}
+use Rattle.pdc_history.specs.World.{Who, World, Happened, Ends, given_in, lead_of, life_of, mark_of, raised, reserved}
 
 -- the same start, and nothing lower
 pub record AtLeast (m n : Stored) : Type 0 where

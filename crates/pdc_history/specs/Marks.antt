@@ -4,14 +4,14 @@ use Rattle.std.specs.List.{AllByRecursion}
 use Rattle.pdc_cfg.specs.Section.{SectionFields}
 use Rattle.pdc_row.specs.Rising.{Rises}
 use Rattle.pdc_row.specs.RowView.{RowView, row_instants}
-use Rattle.pdc_mark.specs.Counts.{IsGreater}
+use Rattle.pdc_mark.specs.Counts.{IsGreater, raised_to}
 use Rattle.pdc_mark.specs.declared.layout.TheConstants.{COUNTS}
 use Rattle.pdc_life.specs.Answer.{waiting_counts}
 use Rattle.pdc_life.specs.Given.{count_for}
 use Rattle.pdc_life.specs.Life.{section_in_force}
 use Rattle.pdc_history.specs.History.{IsHistory}
 use Rattle.pdc_history.specs.Lives.{rows_of_one}
-use Rattle.pdc_history.specs.World.{Who, World, Happened, PastLife, first_mark, given_in, life_of, mark_of, opened_with, past_lives, published, raised_to}
+use Rattle.pdc_history.specs.World.{Who, World, Happened, PastLife, first_mark, given_in, life_of, mark_of, opened_with, past_lives, published}
 
 -- The stored start is that of the present life, and those of earlier lives are below it; the stored floor is at or above each
 -- instant published; what an earlier life had in force is at most the count with which the present one began, and what is in force

@@ -1,8 +1,8 @@
 -- The world of two nodes, a merger and the network between them, as the list of what happened in it, the newest first, each with
 -- what followed from it (this profile). All else is recursion over that list: each definition speaks of what had happened before.
-use Rattle.std.specs.Prelude.{ℕ, ◌+◌, Bool, true, false, List, [], ◌∷◌, ◌++◌, max, nat_lt, if◌then◌else◌, Option, None, Some}
+use Rattle.std.specs.Prelude.{ℕ, Bool, true, false, List, [], ◌∷◌, ◌++◌, if◌then◌else◌, Option, None, Some, option_map}
 use Rattle.pdc_mark.specs.declared.stored.Stored.{Stored}
-use Rattle.pdc_mark.specs.Stored.{with_counts, with_floor}
+use Rattle.pdc_mark.specs.Stored.{with_counts, with_due, with_waiting}
 use Rattle.pdc_row.specs.RowView.{RowView}
 use Rattle.pdc_output.specs.declared.output.Output.{Output}
 use Rattle.pdc_output.specs.Layout.{wire_of}
@@ -138,16 +138,9 @@ past_lives W (h ∷ H) who = ended (begins_at who h) (record { given = given_in 
 
 -- Marks.
 
--- A publish stores the instant and the lead, where the instant is above the floor.
+-- A publish reserves for the instant of its row, if there is one.
 abbrev pub reserved : (lead : ℕ) → Option RowView → Stored → Stored
-reserved lead None mark = mark
-reserved lead (Some row) mark = if nat_lt mark.floor row.instant then with_floor mark (row.instant + lead) else mark
-
--- for each column the greater count
-abbrev pub raised_to : List ℕ → List ℕ → List ℕ
-raised_to [] counts = counts
-raised_to (n ∷ ns) [] = n ∷ ns
-raised_to (n ∷ ns) (m ∷ ms) = max n m ∷ raised_to ns ms
+reserved lead row mark = with_due lead (option_map (λ (r : RowView). r.instant) row) mark
 
 -- a tick is handed the counts of the mark
 abbrev pub with_counts_of : Entry → Stored → Stored
@@ -166,7 +159,7 @@ mark_of W (h ∷ H) who = mark_after W who h (mark_of W H who)
 
 -- Before a tick the mark is raised to the counts that wait.
 abbrev pub raised : World → List Happened → Who → Stored
-raised W H who = with_counts (mark_of W H who) (raised_to (mark_of W H who).counts (waiting_counts (given_in W H who) (life_of H who)))
+raised W H who = with_waiting (waiting_counts (given_in W H who) (life_of H who)) (mark_of W H who)
 
 -- What was sent, and what was published.
 

@@ -1,6 +1,7 @@
 mod Counts
 mod Fields
 mod Fresh
+mod GreaterCounts
 mod Images
 mod Marks
 mod Runs

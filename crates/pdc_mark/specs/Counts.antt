@@ -16,6 +16,12 @@ pub record IsGreater (counts others greater : List ℕ) : Type 0 where
   pub size : length greater ≡ COUNTS
   pub each : (i : ℕ) → slice_index greater i ≡ max (slice_index counts i) (slice_index others i)
 
+-- for each count the greater of two; where there are more of one, those
+abbrev pub raised_to : List ℕ → List ℕ → List ℕ
+raised_to [] others = others
+raised_to (n ∷ ns) [] = n ∷ ns
+raised_to (n ∷ ns) (m ∷ ms) = max n m ∷ raised_to ns ms
+
 -- these are lower: of the first that differ, the one here is
 unfoldable pub are_below : List ℕ → List ℕ → Bool
 are_below counts others = is_lt (slice_cmp nat_cmp counts others)

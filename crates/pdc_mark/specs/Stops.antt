@@ -1,7 +1,8 @@
 -- Where a stop falls on a mark, and what it leaves of the mark's file.
-use Rattle.std.specs.Prelude.{◌≡◌, ℕ, Bool, List}
+use Rattle.std.specs.Prelude.{◌≡◌, ◌+◌, ℕ, nat_lt, if◌then◌else◌, Bool, List}
 use Rattle.pdc_disk.specs.Disk.{AllSettled}
 use Rattle.pdc_mark.specs.declared.slot.Slot.{Slot}
+use Rattle.pdc_mark.specs.Counts.{raised_to}
 use Rattle.pdc_mark.specs.Stores.{file_stopped}
 
 -- between stores, or in the store of a next start, of a floor or of counts, which landed or not
@@ -10,6 +11,15 @@ pub data Stop : Type 0 where
   InBegin : (landed : Bool) → Stop
   InReserve : (floor : ℕ) (landed : Bool) → Stop
   InRaise : (counts : List ℕ) (landed : Bool) → Stop
+
+-- where a stop falls in a reservation for an instant: in its store, where the instant is above the floor, and else between stores
+abbrev pub stop_in_reserving : (landed : Bool) (lead instant floor : ℕ) → Stop
+stop_in_reserving landed lead instant floor = if nat_lt floor instant then InReserve (instant + lead) landed else Between
+
+-- A stop in the raise to the counts that wait: in its store, where one of them is greater, and else between stores.
+pub record StopsInRaise {M : Type 0} (StopsAs : Stop → M → M → Type 0) (landed : Bool) (waiting counts : List ℕ) (before after : M) : Type 0 where
+  pub in_store : (counts ≡ raised_to counts waiting → ⊥) → StopsAs (InRaise (raised_to counts waiting) landed) before after
+  pub between : counts ≡ raised_to counts waiting → StopsAs Between before after
 
 -- the file after the stop, where the mark is then this one: a stop between stores leaves it, and one in a store tears it where it did not land
 abbrev pub file_left : Stop → List ℕ → Slot → List ℕ

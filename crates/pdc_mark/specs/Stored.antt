@@ -1,8 +1,8 @@
 -- What a mark stores, how each store changes it, and the order of marks.
-use Rattle.std.specs.Prelude.{ℕ, ◌+◌, ◌==◌, ◌||◌, ◌&&◌, nat_lt, Bool, List, replicate}
+use Rattle.std.specs.Prelude.{ℕ, ◌+◌, ◌==◌, ◌||◌, ◌&&◌, nat_lt, if◌then◌else◌, Bool, List, Option, None, Some, replicate}
 use Rattle.pdc_mark.specs.declared.layout.TheConstants.{COUNTS}
 use Rattle.pdc_mark.specs.declared.stored.Stored.{Stored}
-use Rattle.pdc_mark.specs.Counts.{are_below}
+use Rattle.pdc_mark.specs.Counts.{are_below, raised_to}
 
 -- before the first life
 abbrev pub first_stored : Stored
@@ -23,6 +23,19 @@ with_floor stored floor = record stored { floor = floor }
 -- after counts were raised
 abbrev pub with_counts : Stored → List ℕ → Stored
 with_counts stored counts = record stored { counts = counts }
+
+-- After a reservation for an instant: where it is above the floor, it is the floor with so many instants behind it; else nothing changes.
+abbrev pub with_instant : (lead instant : ℕ) → Stored → Stored
+with_instant lead instant stored = if nat_lt stored.floor instant then with_floor stored (instant + lead) else stored
+
+-- and where there is such an instant at all
+abbrev pub with_due : (lead : ℕ) → Option ℕ → Stored → Stored
+with_due lead None stored = stored
+with_due lead (Some instant) stored = with_instant lead instant stored
+
+-- after a raise to the greater of its counts and of those that wait
+abbrev pub with_waiting : (waiting : List ℕ) → Stored → Stored
+with_waiting waiting stored = with_counts stored (raised_to stored.counts waiting)
 
 -- this is lower: by the start, then by the floor, then by the counts
 abbrev pub is_below : Stored → Stored → Bool

@@ -38,7 +38,7 @@ mod version_1;
 pub use disk_mark::{DiskMark, Refused};
 pub use fault::MarkFault;
 pub use file_conversion::{MarkConvertFault, convert_mark};
-pub use greater::raised;
+pub use greater::{needed_floor, raised};
 pub use layout::{COUNTS, MARK_LEN};
 pub use make::{MarkInitFault, make_mark};
 pub use mark::Mark;

@@ -1,7 +1,8 @@
 //! What a mark stores, and the order of marks.
-ghost use Rattle.std.specs.Prelude.{◌≡◌, ◌<◌, true};
+ghost use Rattle.std.specs.Prelude.{◌≡◌, ◌+◌, ◌<◌, ◌≤◌, true};
 ghost use Rattle.pdc_mark.specs.Counts.{are_below, IsRaise};
 
+use crate::greater::{needed_floor, raised};
 use crate::layout::COUNTS;
 
 /// What a mark stores.
@@ -16,7 +17,7 @@ pub struct Stored {
 }
 
 impl Stored {
-    ghost use Rattle.pdc_mark.specs.Stored.{first_stored, is_below, with_counts, with_floor, with_next_start};
+    ghost use Rattle.pdc_mark.specs.Stored.{first_stored, is_below, with_counts, with_floor, with_instant, with_next_start, with_waiting};
 
     /// What a mark stores before the first life: nothing but zeros.
     pub(crate) fn first() -> Stored
@@ -58,6 +59,27 @@ impl Stored {
     {
         counts_rise(&self.counts, &counts);
         Stored { counts, ..self }
+    }
+
+    /// With the floor that the instant needs, where it is above this one: itself and so many instants behind it.
+    pub fn with_instant(self, instant: u64, lead: u16) -> Stored
+        requires { instant + lead ≤ u64.MAX }
+        ensures { result ≡ with_instant lead instant self }
+    {
+        match needed_floor(self.floor, instant, lead) {
+            Some(floor) => Stored { floor, ..self },
+            None => self,
+        }
+    }
+
+    /// With the greater of each two counts.
+    pub fn with_waiting(self, waiting: &[u16; COUNTS]) -> Stored
+        ensures { result ≡ with_waiting waiting.now self }
+    {
+        match raised(&self.counts, waiting) {
+            Some(counts) => Stored { counts, ..self },
+            None => self,
+        }
     }
 
     /// Whether this is lower: by the start, then by the floor, then by the counts, from the first on.

@@ -1,8 +1,6 @@
--- What a publisher keeps, and what publishing a row makes of it (this profile).
-use Rattle.std.specs.Prelude.{ℕ, ◌+◌, nat_lt, Bool, if◌then◌else◌}
+-- What a publisher keeps (this profile).
+use Rattle.std.specs.Prelude.{ℕ, Bool}
 use Rattle.pdc_mark.specs.declared.mark.Mark.{Ghosts}
-use Rattle.pdc_mark.specs.declared.stored.Stored.{Stored}
-use Rattle.pdc_mark.specs.Stored.{with_floor}
 use Rattle.pdc_output.specs.declared.output.Output.{Output}
 use Rattle.pdc_publisher.specs.declared.publisher.Publisher.{Publisher}
 
@@ -25,8 +23,3 @@ last_in publisher = publisher.last
 -- a store of it was answered `Device`
 abbrev pub has_failed_in : {M : Type 0} {marks : Ghosts M} → Publisher M marks → Bool
 has_failed_in publisher = publisher.has_failed
-
--- what is stored once a row of the instant was published: where the instant is above the floor, it is reserved with so many
--- instants behind it, and else the mark stays
-abbrev pub reserved : (lead : ℕ) → Stored → (instant : ℕ) → Stored
-reserved lead stored instant = if nat_lt stored.floor instant then with_floor stored (instant + lead) else stored

@@ -11,6 +11,7 @@
 mod fault;
 mod published;
 mod publisher;
+mod stops;
 
 pub use fault::PublishFault;
 pub use published::{Published, spare_frame};

@@ -2,14 +2,13 @@
 ghost use Rattle.std.specs.Prelude.{◌≡◌, ◌⊎◌, ◌+◌, ◌*◌, ◌<◌, ◌≤◌, ◌++◌, true, false, length, IsTrue, IsErrOf, IfOk, IfErr, OnOk, OnErr};
 ghost use Rattle.pdc_tag.specs.declared.limits.TheConstants.{SECONDS};
 ghost use Rattle.pdc_disk.specs.Disk.{HasFailed};
-ghost use Rattle.pdc_mark.specs.Counts.{IsRaise};
+ghost use Rattle.pdc_mark.specs.Counts.{IsGreater, raised_to};
 ghost use Rattle.pdc_mark.specs.Faults.{HasDeviceCause};
-ghost use Rattle.pdc_mark.specs.Stored.{with_counts};
+ghost use Rattle.pdc_mark.specs.Stored.{with_instant, with_waiting};
 ghost use Rattle.pdc_row.specs.RowView.{row_view};
 ghost use Rattle.pdc_output.specs.Layout.{wire_of};
 ghost use Rattle.pdc_publisher.specs.Faults.{HandsBack, IsDevice};
 ghost use Rattle.pdc_publisher.specs.Published.{IsRowFrame};
-ghost use Rattle.pdc_publisher.specs.declared.publisher.TheConstants.{MAX_LEAD};
 
 use crate::fault::PublishFault;
 use crate::published::{Published, frame_of, write_over};
@@ -18,7 +17,7 @@ use pdc_mark::{COUNTS, Mark, MarkFault};
 use pdc_output::Output;
 use pdc_row::DueRow;
 
-/// The most instants that are reserved ahead.
+/// The most instants that settings may reserve ahead.
 pub const MAX_LEAD: u16 = 1000;
 
 /// Publishes the rows of one life. It alone owns the mark: a row goes out only once the floor is stored at or above its
@@ -27,21 +26,19 @@ pub const MAX_LEAD: u16 = 1000;
 /// After a device fault each call that publishes or raises is refused so.
 #[derive(Drop)]
 pub struct Publisher<M: Mark> {
-    mark: M,
+    pub(crate) mark: M,
     output: Output,
-    lead: u16,
-    last: u64,
-    has_failed: bool,
-    pub ghost lead_fits: { lead ≤ MAX_LEAD },
+    pub(crate) lead: u16,
+    pub(crate) last: u64,
+    pub(crate) has_failed: bool,
+    pub ghost covered: { last ≤ (M.stored mark).floor },
 }
 
 impl<M: Mark> Publisher<M> {
-    ghost use Rattle.pdc_publisher.specs.Publisher.{has_failed_in, last_in, lead_in, mark_in, output_in, reserved};
+    ghost use Rattle.pdc_publisher.specs.Publisher.{has_failed_in, last_in, lead_in, mark_in, output_in};
 
-    /// A publisher over this mark. Where a row's instant is above the stored floor, it reserves so many instants behind it,
-    /// at most 1000.
+    /// A publisher over this mark. Where a row's instant is above the stored floor, it reserves so many instants behind it.
     pub fn new(mark: M, output: Output, lead: u16) -> Publisher<M>
-        requires { lead ≤ MAX_LEAD }
         ensures mark { mark_in result ≡ mark }
         ensures output { output_in result ≡ output }
         ensures lead { lead_in result ≡ lead }
@@ -63,6 +60,20 @@ impl<M: Mark> Publisher<M> {
         ensures { result ≡ last_in self.now }
     {
         self.last
+    }
+
+    /// How many instants it reserves ahead.
+    pub fn lead(&self) -> u16
+        ensures { result ≡ lead_in self.now }
+    {
+        self.lead
+    }
+
+    /// The mark.
+    pub fn mark(&self) -> &M
+        ensures { result.now ≡ mark_in self.now }
+    {
+        &self.mark
     }
 
     /// The mark.
@@ -87,24 +98,31 @@ impl<M: Mark> Publisher<M> {
         self.mark.counts()
     }
 
-    /// Stores counts of which none is lower and one is greater.
+    /// Raises the mark to the counts that wait: stores the greater of each two, where that differs from the stored ones. Else nothing is
+    /// stored, and the mark stays.
     ///
     /// # Errors
     ///
-    /// `Device`, from then on by each call that publishes or raises.
-    pub fn raise(&mut self, counts: &[u16; COUNTS]) -> Result<(), MarkFault>
-        requires { IsRaise (M.stored (mark_in self.old)).counts counts.now }
-        ensures ok { OnOk result (M.stored (mark_in self.new) ≡ with_counts (M.stored (mark_in self.old)) counts.now) }
+    /// `Device`, from then on by each call that publishes, and by each that raises where something is to be stored.
+    pub fn raise(&mut self, waiting: &[u16; COUNTS]) -> Result<(), MarkFault>
+        ensures ok { OnOk result (M.stored (mark_in self.new) ≡ with_waiting waiting.now (M.stored (mark_in self.old))) }
+        ensures greater { OnOk result (IsGreater (M.stored (mark_in self.old)).counts waiting.now (M.stored (mark_in self.new)).counts) }
         ensures err { OnErr result (M.stored (mark_in self.new) ≡ M.stored (mark_in self.old)) }
+        ensures spared { (M.stored (mark_in self.old)).counts ≡ raised_to (M.stored (mark_in self.old)).counts waiting.now
+            → (mark_in self.new ≡ mark_in self.old) × OnErr result ⊥ }
         ensures faults { OnErr result (IsErrOf result MarkFault.Device) }
         ensures device { OnErr result (has_failed_in self.new ≡ true) }
         ensures works { OnOk result (has_failed_in self.new ≡ has_failed_in self.old) }
-        ensures cause { HasDeviceCause (M.is_broken (mark_in self.old)) (M.is_broken (mark_in self.new))
+        ensures cause { ((M.stored (mark_in self.old)).counts ≡ raised_to (M.stored (mark_in self.old)).counts waiting.now → ⊥)
+            → HasDeviceCause (M.is_broken (mark_in self.old)) (M.is_broken (mark_in self.new))
             (M.failures (mark_in self.old)) (M.failures (mark_in self.new)) result }
-        ensures safe { M.is_safe → IsErrOf result MarkFault.Device → ⊥ }
+        ensures broken { OnErr result (IsTrue (M.is_broken (mark_in self.old)) ⊎ HasFailed (M.failures (mark_in self.old)) (M.failures (mark_in self.new))) }
+        ensures mark { OnOk result (M.is_broken (mark_in self.new) ≡ M.is_broken (mark_in self.old)) }
+        ensures failures { M.failures (mark_in self.old) ≤ M.failures (mark_in self.new) }
+        ensures safe { M.is_safe → OnErr result ⊥ }
         ensures kept { (output_in self.new ≡ output_in self.old) × (lead_in self.new ≡ lead_in self.old) × (last_in self.new ≡ last_in self.old) }
     {
-        let raised = self.mark.raise(counts);
+        let raised = self.mark.raise_to(waiting);
         if raised.is_err() {
             self.has_failed = true;
         }
@@ -114,7 +132,7 @@ impl<M: Mark> Publisher<M> {
     /// Stores the floor that the instant needs: itself and the instants reserved behind it, where it is above the floor.
     fn reserve(&mut self, instant: u64) -> Result<(), MarkFault>
         requires { instant < SECONDS * (output_in self.old).rate }
-        ensures ok { OnOk result (M.stored (mark_in self.new) ≡ reserved (lead_in self.old) (M.stored (mark_in self.old)) instant) }
+        ensures ok { OnOk result (M.stored (mark_in self.new) ≡ with_instant (lead_in self.old) instant (M.stored (mark_in self.old))) }
         ensures err { OnErr result (M.stored (mark_in self.new) ≡ M.stored (mark_in self.old)) }
         ensures spared { instant ≤ (M.stored (mark_in self.old)).floor → (mark_in self.new ≡ mark_in self.old) × OnErr result ⊥ }
         ensures failed { OnErr result (has_failed_in self.new ≡ true) }
@@ -125,11 +143,7 @@ impl<M: Mark> Publisher<M> {
         ensures safe { M.is_safe → OnErr result ⊥ }
         ensures kept { (output_in self.new ≡ output_in self.old) × (lead_in self.new ≡ lead_in self.old) × (last_in self.new ≡ last_in self.old) }
     {
-        let (_, floor) = self.mark.stored();
-        if instant <= floor {
-            return Ok(());
-        }
-        let stored = self.mark.reserve(instant + u64::from(self.lead));
+        let stored = self.mark.reserve_for(instant, self.lead);
         if stored.is_err() {
             self.has_failed = true;
         }
@@ -156,7 +170,7 @@ impl<M: Mark> Publisher<M> {
         ensures published { IfOk result (λ p. IsRowFrame p.instant p.start p.change p.bytes.items (output_in self.old) (row_view row)) }
         ensures output { IfOk result (λ p. p.output ≡ output_in self.old) }
         // Its instant was reserved before.
-        ensures stored { OnOk result (M.stored (mark_in self.new) ≡ reserved (lead_in self.old) (M.stored (mark_in self.old)) row.instant) }
+        ensures stored { OnOk result (M.stored (mark_in self.new) ≡ with_instant (lead_in self.old) row.instant (M.stored (mark_in self.old))) }
         ensures covered { OnOk result (row.instant ≤ (M.stored (mark_in self.new)).floor) }
         ensures last { OnOk result (last_in self.new ≡ row.instant) }
         // Below the floor, no device call is made.
@@ -212,7 +226,7 @@ impl<M: Mark> Publisher<M> {
         ensures output { OnOk result (frame.new.output ≡ output_in self.old) }
         ensures ok { OnOk result (IsRowFrame frame.new.instant frame.new.start frame.new.change frame.new.bytes.items (output_in self.old) (row_view row.now)) }
         // Its instant was reserved before.
-        ensures stored { OnOk result (M.stored (mark_in self.new) ≡ reserved (lead_in self.old) (M.stored (mark_in self.old)) row.now.instant) }
+        ensures stored { OnOk result (M.stored (mark_in self.new) ≡ with_instant (lead_in self.old) row.now.instant (M.stored (mark_in self.old))) }
         ensures covered { OnOk result (row.now.instant ≤ (M.stored (mark_in self.new)).floor) }
         ensures last { OnOk result (last_in self.new ≡ row.now.instant) }
         // Below the floor, no device call is made.

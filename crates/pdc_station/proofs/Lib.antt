@@ -1,3 +1,2 @@
 mod Calls
 mod Published
-mod Raised

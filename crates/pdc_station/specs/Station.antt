@@ -1,8 +1,8 @@
--- What a station keeps, and how it raises its mark (this profile).
+-- What a station keeps, and what stops leave of its mark (this profile).
 use Rattle.std.specs.Prelude.{◌≡◌, ℕ, ◌+◌, Bool, List, [], nat_lt, if◌then◌else◌, Option, None, Some, option_map}
-use Rattle.pdc_history.specs.World.{raised_to}
+use Rattle.pdc_mark.specs.Counts.{raised_to}
 use Rattle.pdc_mark.specs.Stops.{Between, InBegin, InRaise, InReserve, Stop}
-use Rattle.pdc_mark.specs.Stored.{with_counts, with_floor, with_next_start}
+use Rattle.pdc_mark.specs.Stored.{with_due, with_next_start, with_waiting}
 use Rattle.pdc_life.specs.Answer.{pop_answer, waiting_counts}
 use Rattle.pdc_life.specs.Given.{Given}
 use Rattle.pdc_life.specs.Life.{Entry}
@@ -15,14 +15,6 @@ use Rattle.pdc_station.specs.declared.stop_at.StopAt.TheVariants as at
 use Rattle.pdc_station.specs.declared.stop_at.Storing.{Storing}
 use Rattle.pdc_station.specs.declared.stop_at.Storing.TheVariants as storing
 
--- after a raise to the counts that wait
-abbrev pub with_waiting : (waiting : List ℕ) → Stored → Stored
-with_waiting waiting stored = with_counts stored (raised_to stored.counts waiting)
-
--- after a reservation for an instant: where it is above the floor, it is stored with so many instants behind it
-abbrev pub with_instant : (lead instant : ℕ) → Stored → Stored
-with_instant lead instant stored = if nat_lt stored.floor instant then with_floor stored (instant + lead) else stored
-
 -- the bytes of the row, if there is one
 abbrev pub wire_of_some : Output → Option RowView → List ℕ
 wire_of_some output None = []
@@ -32,11 +24,6 @@ wire_of_some output (Some row) = wire_of output row
 -- of its own, so it is said in this way.
 abbrev pub IsOfSomeLife : (Given → List Entry → Type 0) → Type 0
 IsOfSomeLife Stands = ((g : Given) (E : List Entry) → Stands g E → ⊥) → ⊥
-
--- after a publish whose row has this instant, if there is one
-abbrev pub with_due : (lead : ℕ) → Option ℕ → Stored → Stored
-with_due lead None stored = stored
-with_due lead (Some instant) stored = with_instant lead instant stored
 
 -- What is stored by a publish, where a row of this instant is the next, by a tick, where these counts wait, and by the next start.
 abbrev pub stored_by : Storing → (lead : ℕ) → (due : Option ℕ) → (waiting : List ℕ) → Stored → Stored

@@ -8,7 +8,8 @@ ghost use Rattle.pdc_life.specs.Given.{Given};
 ghost use Rattle.pdc_life.specs.Life.{Entry, changes};
 ghost use Rattle.pdc_output.specs.declared.row_frame.TheConstants.{MAX_ROW_LEN};
 ghost use Rattle.pdc_row.specs.RowView.{row_view};
-ghost use Rattle.pdc_station.specs.Station.{IsOfSomeLife, wire_of_some, with_waiting};
+ghost use Rattle.pdc_mark.specs.Stored.{with_waiting};
+ghost use Rattle.pdc_station.specs.Station.{IsOfSomeLife, wire_of_some};
 
 use crate::next_row::{append_some, next_row};
 use crate::stores::{raise_to, reserve_for};

@@ -1,41 +1,17 @@
 //! The stores of a station's mark, whose device never fails.
-ghost use Rattle.std.specs.Prelude.{◌≡◌, ◌+◌, ◌*◌, ◌<◌, ◌≤◌, IfNone, IfSome, if◌then◌else◌};
-ghost use Rattle.pdc_history.specs.World.{raised_to};
-ghost use Rattle.pdc_mark.specs.Counts.{IsRaise};
-ghost use Rattle.pdc_mark.specs.Stored.{with_counts, with_next_start};
-ghost use Rattle.pdc_station.specs.Station.{StopsInRaise, stop_in_reserving, with_due, with_instant, with_waiting};
+ghost use Rattle.std.specs.Prelude.{◌≡◌, ◌+◌, ◌*◌, ◌<◌, ◌≤◌, IfSome, if◌then◌else◌};
+ghost use Rattle.pdc_mark.specs.Stored.{with_due, with_instant, with_next_start, with_waiting};
+ghost use Rattle.pdc_station.specs.Station.{StopsInRaise, stop_in_reserving};
 ghost use Rattle.pdc_tag.specs.declared.limits.TheConstants.{MAX_RATE, SECONDS};
 
 use pdc_life::MAX_PMUS;
-use pdc_mark::{Store, Stored, raised};
-
-/// The greater of each two counts, where that differs from the first ones.
-pub(crate) fn raised_counts(
-    counts: &[u16; MAX_PMUS],
-    waiting: &[u16; MAX_PMUS],
-) -> Option<[u16; MAX_PMUS]>
-    ensures raise { IfSome result (IsRaise counts.now) }
-    ensures greater { IfSome result (λ greater. greater ≡ raised_to counts.now waiting.now) }
-    ensures same { IfNone result (counts.now ≡ raised_to counts.now waiting.now) }
-{
-    raised(counts, waiting)
-}
-
-/// Stores counts that were raised.
-fn store_counts<M: Store>(mark: &mut M, counts: &[u16; MAX_PMUS])
-    requires { IsRaise (M.stored mark.old).counts counts.now }
-    ensures { M.stored mark.new ≡ with_counts (M.stored mark.old) counts.now }
-{
-    mark.raise(counts).unwrap();
-}
+use pdc_mark::{Store, Stored, needed_floor, raised};
 
 /// Raises the mark to the counts that wait, where one of them is greater.
 pub(crate) fn raise_to<M: Store>(mark: &mut M, waiting: &[u16; MAX_PMUS])
     ensures { M.stored mark.new ≡ with_waiting waiting.now (M.stored mark.old) }
 {
-    if let Some(counts) = raised_counts(&mark.counts(), waiting) {
-        store_counts(mark, &counts);
-    }
+    mark.raise_to(waiting).unwrap();
 }
 
 /// Stores the floor that the instant needs: itself and the instants reserved behind it, where it is above the floor.
@@ -44,10 +20,7 @@ pub(crate) fn reserve_for<M: Store>(mark: &mut M, instant: u64, lead: u16)
     ensures stored { M.stored mark.new ≡ with_instant lead instant (M.stored mark.old) }
     ensures covered { instant ≤ (M.stored mark.new).floor }
 {
-    let (_, floor) = mark.stored();
-    if floor < instant {
-        mark.reserve(instant + u64::from(lead)).unwrap();
-    }
+    mark.reserve_for(instant, lead).unwrap();
 }
 
 /// Stores the next start number, of which one is left.
@@ -62,7 +35,7 @@ pub(crate) fn begin_next<M: Store>(mark: &mut M)
 pub(crate) fn raised_by(stored: Stored, waiting: &[u16; MAX_PMUS]) -> Stored
     ensures { result ≡ with_waiting waiting.now stored }
 {
-    match raised_counts(&stored.counts, waiting) {
+    match raised(&stored.counts, waiting) {
         Some(counts) => Stored { counts, ..stored },
         None => stored,
     }
@@ -73,7 +46,7 @@ pub(crate) fn stop_in_raise<M: Store>(mark: &mut M, waiting: &[u16; MAX_PMUS], l
     ensures stored { M.stored mark.new ≡ (if landed then with_waiting waiting.now (M.stored mark.old) else M.stored mark.old) }
     ensures stops { StopsInRaise M.stops_as landed waiting.now (M.stored mark.old).counts mark.old mark.new }
 {
-    match raised_counts(&mark.counts(), waiting) {
+    match raised(&mark.counts(), waiting) {
         Some(greater) => mark.raise_stopped(&greater, landed),
         None => mark.stopped(),
     }
@@ -84,12 +57,9 @@ pub(crate) fn reserved_by(stored: Stored, due: Option<u64>, lead: u16) -> Stored
     requires { IfSome due (λ instant. instant < SECONDS * MAX_RATE) }
     ensures { result ≡ with_due lead due stored }
 {
-    match due {
-        Some(instant) if stored.floor < instant => Stored {
-            floor: instant + u64::from(lead),
-            ..stored
-        },
-        _ => stored,
+    match due.and_then(|instant| needed_floor(stored.floor, instant, lead)) {
+        Some(floor) => Stored { floor, ..stored },
+        None => stored,
     }
 }
 
@@ -100,10 +70,8 @@ pub(crate) fn stop_in_reserve<M: Store>(mark: &mut M, due: Option<u64>, lead: u1
     ensures stops { M.stops_as (stop_in_reserving landed lead due (M.stored mark.old).floor) mark.old mark.new }
 {
     let (_, floor) = mark.stored();
-    match due {
-        Some(instant) if floor < instant => {
-            mark.reserve_stopped(instant + u64::from(lead), landed);
-        }
-        _ => mark.stopped(),
+    match due.and_then(|instant| needed_floor(floor, instant, lead)) {
+        Some(floor) => mark.reserve_stopped(floor, landed),
+        None => mark.stopped(),
     }
 }

@@ -24,7 +24,8 @@ use Rattle.pdc_output.specs.declared.output.Output.{Output}
 use Rattle.pdc_row.specs.RowView.{RowView, row_view}
 use Rattle.pdc_row.specs.declared.due_row.DueRow.{DueRow}
 use Rattle.pdc_sent.specs.Sent.{IsOfNone, IsOfPmu}
-use Rattle.pdc_station.specs.Station.{wire_of_some, with_waiting}
+use Rattle.pdc_mark.specs.Stored.{with_waiting}
+use Rattle.pdc_station.specs.Station.{wire_of_some}
 use Rattle.pdc_world.specs.Acts.{IsPart, IsSomeFrame, IsSomePart, Keeps, frames_if, frames_with, layouts_of}
 use Rattle.pdc_world.specs.Known.{FramesAreKnown}
 use Rattle.pdc_world.specs.Seats.{Seat}

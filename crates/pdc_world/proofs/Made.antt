@@ -28,7 +28,8 @@ use Rattle.pdc_output.specs.declared.output.Output.{Output}
 use Rattle.pdc_row.specs.RowView.{RowView}
 use Rattle.pdc_mark.specs.Stops.{Stop}
 use Rattle.pdc_mark.specs.Stored.{with_next_start}
-use Rattle.pdc_station.specs.Station.{HasStopped, left_by, with_waiting}
+use Rattle.pdc_mark.specs.Stored.{with_waiting}
+use Rattle.pdc_station.specs.Station.{HasStopped, left_by}
 use Rattle.pdc_station.specs.declared.stop_at.StopAt.{StopAt}
 use Rattle.pdc_world.specs.Acts.{IsAct, IsSend, IsPart, Keeps, asked_to_stop, frames_with, layouts_of, listed_with}
 use Rattle.pdc_world.specs.Replies.{listed_at, published_as}

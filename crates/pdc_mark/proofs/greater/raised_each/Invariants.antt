@@ -1,5 +1,5 @@
 use Rattle.std.proofs.Common.{◌≡◌, ℕ, ◌<◌, ◌≤◌, max, true, false, length, slice_index}
-use Rattle.pdc_mark.proofs.greater.raised.Given as goal
+use Rattle.pdc_mark.proofs.greater.raised_each.Given as goal
 
 abbrev pub invariant-loop-i : goal.invariant-loop-i
 invariant-loop-i l = record {

@@ -1,8 +1,7 @@
--- The greater of each two counts.
+-- The greater of each two counts are those that a mark is raised to.
 use Rattle.std.proofs.Common.{◌≡◌, ℕ, suc, ◌≤◌, List, [], ◌∷◌, length, max, slice_index, Option, None, Some, IfSome, IfNone, refl, sym, ap, ◌∙◌, arith}
 use Rattle.std.proofs.Math.Nat.{max-eq_left}
-use Rattle.pdc_history.specs.World.{raised_to}
-use Rattle.pdc_mark.specs.Counts.{IsGreater}
+use Rattle.pdc_mark.specs.Counts.{IsGreater, raised_to}
 
 all_greater : (xs ys zs : List ℕ) → length xs ≡ length zs → length ys ≡ length zs → ((i : ℕ) → slice_index zs i ≡ max (slice_index xs i) (slice_index ys i))
     → zs ≡ raised_to xs ys
@@ -28,3 +27,10 @@ some_raised xs ys (Some zs) a b greater = all_greater xs ys zs (a ∙ sym greate
 pub none_raised : (xs ys : List ℕ) (r : Option (List ℕ)) → length xs ≡ 16 → length ys ≡ 16 → IfNone r ((i : ℕ) → slice_index ys i ≤ slice_index xs i) → IfNone r (xs ≡ raised_to xs ys)
 none_raised xs ys None a b below = none_greater xs ys (a ∙ sym b) below
 none_raised xs ys (Some zs) a b below = tt
+
+still_greater : (xs ys : List ℕ) → length xs ≡ 16 → ((i : ℕ) → slice_index ys i ≤ slice_index xs i) → IsGreater xs ys xs
+still_greater xs ys a below = record { size = a; each = λ i. sym (max-eq_left (below i)) }
+
+pub stays : (xs ys : List ℕ) (r : Option (List ℕ)) → length xs ≡ 16 → IfNone r ((i : ℕ) → slice_index ys i ≤ slice_index xs i) → IfNone r (IsGreater xs ys xs)
+stays xs ys None a below = still_greater xs ys a below
+stays xs ys (Some zs) a below = tt
