@@ -6,9 +6,10 @@ use crate::mark_init::{MARK_INIT, mark_init_request};
 use crate::play::{PLAY, play_request};
 use crate::pmu::{PMU, pmu_request};
 use crate::request::Request;
-use crate::running::{MERGE, NODE, merge_request, node_request};
+use crate::running::{MERGE, NODE, running};
 use crate::show::{SHOW, show_form};
 use crate::words::{Told, command_of};
+use crate::wrong::{Wrong, error_of};
 use clap::{ArgMatches, Command, Error};
 use std::alloc::{AllocError, Global};
 
@@ -76,22 +77,48 @@ fn pdc<'a>(alloc: Global) -> Result<Command<'a>, AllocError> {
     with(alloc, pdc, &LISTEN)
 }
 
-/// What is asked of the command with this name, by the words behind it.
-fn request_of<'a>(
-    alloc: Global,
-    name: &str,
-    words: &ArgMatches<'a>,
-) -> Result<Option<Request<'a>>, Error> {
+/// What is asked of a command with this name that wants no number, by the words behind it.
+fn plain_request_of<'a>(name: &str, words: &ArgMatches<'a>) -> Option<Request<'a>> {
     match name {
-        "show" => Ok(Some(Request::Show(show_form(words)))),
-        "play" => Ok(play_request(words)),
-        "mark-init" => Ok(mark_init_request(alloc, words)?.map(Request::MarkInit)),
-        "mark-convert" => Ok(mark_convert_request(words)),
-        "node" => node_request(alloc, words),
-        "merge" => merge_request(alloc, words),
-        "pmu" => pmu_request(alloc, words),
-        "listen" => listen_request(alloc, words),
-        _ => Ok(None),
+        "show" => Some(Request::Show(show_form(words))),
+        "play" => play_request(words),
+        "mark-convert" => mark_convert_request(words),
+        _ => None,
+    }
+}
+
+/// What is asked of the command with this name, by the words behind it.
+fn request_of<'a>(name: &str, words: &ArgMatches<'a>) -> Result<Option<Request<'a>>, Wrong<'a>> {
+    match name {
+        "mark-init" => Ok(mark_init_request(words)?.map(Request::MarkInit)),
+        "node" => Ok(running(words)?.map(Request::Node)),
+        "merge" => Ok(running(words)?.map(Request::Merge)),
+        "pmu" => pmu_request(words),
+        "listen" => listen_request(words),
+        _ => Ok(plain_request_of(name, words)),
+    }
+}
+
+/// What is wrong with the words of the command with this name, as `clap` tells it.
+fn refused(alloc: Global, name: &str, wrong: &Wrong<'_>) -> Result<Error, AllocError> {
+    match name {
+        "mark-init" => error_of(alloc, &MARK_INIT, wrong),
+        "node" => error_of(alloc, &NODE, wrong),
+        "merge" => error_of(alloc, &MERGE, wrong),
+        "pmu" => error_of(alloc, &PMU, wrong),
+        // the last one that wants a number
+        _ => error_of(alloc, &LISTEN, wrong),
+    }
+}
+
+/// What is asked by the words that the parser has read.
+fn asked_of<'a>(alloc: Global, matches: &ArgMatches<'a>) -> Result<Option<Request<'a>>, Error> {
+    let Some((name, words)) = matches.subcommand() else {
+        return Ok(None);
+    };
+    match request_of(name, words) {
+        Ok(request) => Ok(request),
+        Err(wrong) => Err(refused(alloc, name, &wrong)?),
     }
 }
 
@@ -103,8 +130,5 @@ fn request_of<'a>(
 /// What `clap` has to say: the help that was asked for, or what is wrong.
 pub fn parse<'a>(alloc: Global, words: &'a [String]) -> Result<Option<Request<'a>>, Error> {
     let matches = pdc(alloc)?.try_get_matches_from(words)?;
-    match matches.subcommand() {
-        Some((name, inner)) => request_of(alloc, name, inner),
-        None => Ok(None),
-    }
+    asked_of(alloc, &matches)
 }

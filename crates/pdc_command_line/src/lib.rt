@@ -15,6 +15,7 @@ mod request;
 mod running;
 mod show;
 mod words;
+mod wrong;
 
 pub use command::parse;
 pub use request::{

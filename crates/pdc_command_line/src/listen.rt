@@ -2,8 +2,8 @@
 
 use crate::request::{Listen, Request};
 use crate::words::{Form, Told, Wanted, optional_number_of, short_number_of};
-use clap::{ArgMatches, Error};
-use std::alloc::Global;
+use crate::wrong::Wrong;
+use clap::ArgMatches;
 
 const ABOUT: &str = "Print the datagrams that come to a UDP port";
 
@@ -38,15 +38,12 @@ pub const LISTEN: Told<'static> = Told {
 /// # Errors
 ///
 /// A number is none, or out of its range.
-pub fn listen_request<'a>(
-    alloc: Global,
-    matches: &ArgMatches<'a>,
-) -> Result<Option<Request<'a>>, Error> {
+pub fn listen_request<'a>(matches: &ArgMatches<'a>) -> Result<Option<Request<'a>>, Wrong<'a>> {
     let Some(port) = matches.get_str("PORT") else {
         return Ok(None);
     };
-    let port = short_number_of(alloc, &LISTEN, "<PORT>", port, u16::MAX)?;
+    let port = short_number_of("<PORT>", port, u16::MAX)?;
     let count = matches.get_str("COUNT");
-    let count = optional_number_of(alloc, &LISTEN, "<COUNT>", count, u32::MAX)?;
+    let count = optional_number_of("<COUNT>", count, u32::MAX)?;
     Ok(Some(Request::Listen(Listen { port, count })))
 }

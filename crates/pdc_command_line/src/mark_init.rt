@@ -5,9 +5,9 @@ ghost use Rattle.pdc_command_line.specs.MarkInit.{AsksFor, HasWrongNumber, Lacks
 
 use crate::request::{MAX_RATE, MarkInit};
 use crate::words::{Form, Told, Wanted, short_number_of};
-use clap::{ArgMatches, Error};
+use crate::wrong::Wrong;
+use clap::ArgMatches;
 use pdc_frame::{MAX_ID, StreamId};
-use std::alloc::Global;
 
 const ABOUT: &str = "Make the mark file of a node or a merger";
 
@@ -44,10 +44,7 @@ pub const MARK_INIT: Told<'static> = Told {
 /// # Errors
 ///
 /// A number is none, or out of its range.
-pub fn mark_init_request<'a>(
-    alloc: Global,
-    matches: &ArgMatches<'a>,
-) -> Result<Option<MarkInit<'a>>, Error>
+pub fn mark_init_request<'a>(matches: &ArgMatches<'a>) -> Result<Option<MarkInit<'a>>, Wrong<'a>>
     ensures asked { IfOk result (λ asked. IfSome asked (AsksFor (found_of matches.now))) }
     ensures missing { IfOk result (λ asked. IfNone asked (LacksWord (found_of matches.now))) }
     ensures wrong { IfErr result (λ _. HasWrongNumber (found_of matches.now)) }
@@ -59,8 +56,8 @@ pub fn mark_init_request<'a>(
     ) else {
         return Ok(None);
     };
-    let id = short_number_of(alloc, &MARK_INIT, "<ID>", id, MAX_ID)?;
-    let rate = short_number_of(alloc, &MARK_INIT, "<RATE>", rate, MAX_RATE)?;
+    let id = short_number_of("<ID>", id, MAX_ID)?;
+    let rate = short_number_of("<RATE>", rate, MAX_RATE)?;
     let id = StreamId { value: id };
     Ok(Some(MarkInit { file, id, rate }))
 }

@@ -1,12 +1,13 @@
 //! The command `pmu`.
+ghost use Rattle.std.specs.Prelude.{◌<◌, ◌≤◌};
+ghost use Rattle.pdc_command_line.specs.declared.request.TheConstants.{MAX_RATE};
 
 use crate::request::{MAX_PLACES, MAX_RATE, MAX_SECONDS, Place, Request, Simulated};
-use crate::words::{Form, Told, Wanted, number_of, optional_number_of, short_number_of, wrong};
+use crate::words::{Form, Told, Wanted, number_of, optional_number_of, short_number_of};
+use crate::wrong::Wrong;
 use arrayvec::ArrayVec;
-use clap::error::ErrorKind;
-use clap::{ArgMatches, Error};
+use clap::ArgMatches;
 use pdc_frame::{MAX_ID, StreamId};
-use std::alloc::Global;
 
 const ABOUT: &str = "Simulate a PMU: send its configuration and data to UDP ports, or over TCP";
 
@@ -67,99 +68,103 @@ pub const PMU: Told<'static> = Told {
     ],
 };
 
-/// Where a PMU sends to and serves, and when its configuration.
-#[derive(Drop)]
+/// Where else a PMU is to be found, and when its configuration goes out again.
+#[derive(Clone, Copy)]
 struct Aims<'a> {
-    places: ArrayVec<Place<'a>, MAX_PLACES>,
     tcp: Option<Place<'a>>,
     config_every: Option<u32>,
 }
 
+/// How often a PMU sends, and what it is called.
+#[derive(Clone, Copy)]
+struct Beat {
+    id: StreamId,
+    rate: u16,
+    count: u32,
+    ghost some_rate: { 0 < rate },
+    ghost rate_fits: { rate ≤ MAX_RATE },
+}
+
 /// The place that a word says: a port of 127.0.0.1, or with a colon one elsewhere.
-fn place_of<'a>(alloc: Global, name: &str, word: &'a str) -> Result<Place<'a>, Error> {
+fn place_of<'a>(name: &'static str, word: &'a str) -> Result<Place<'a>, Wrong<'a>> {
     if word.as_bytes().contains(&b':') {
         return Ok(Place::At(word));
     }
-    match short_number_of(alloc, &PMU, name, word, u16::MAX) {
+    match short_number_of(name, word, u16::MAX) {
         Ok(port) => Ok(Place::Port(port)),
-        Err(error) => Err(error),
+        Err(wrong) => Err(wrong),
     }
 }
 
-/// The places that these words say.
-fn places_of<'a>(
-    alloc: Global,
+/// Appends the places that these words say.
+fn add_places<'a>(
     words: &[&'a str],
-) -> Result<ArrayVec<Place<'a>, MAX_PLACES>, Error> {
-    let mut places = ArrayVec::new();
+    places: &mut ArrayVec<Place<'a>, MAX_PLACES>,
+) -> Result<(), Wrong<'a>> {
     for word in words {
-        let place = place_of(alloc, "[PORT]...", word)?;
+        let place = place_of("[PORT]...", word)?;
         if places.try_push(place).is_err() {
-            let message = "at most 16 values of '[PORT]...' are wanted";
-            return Err(wrong(alloc, &PMU, ErrorKind::TooManyValues, message)?);
+            return Err(Wrong::TooManyPorts);
         }
     }
-    Ok(places)
+    Ok(())
 }
 
 /// The TCP port at which it serves.
-fn tcp<'a>(alloc: Global, matches: &ArgMatches<'a>) -> Result<Option<Place<'a>>, Error> {
+fn tcp<'a>(matches: &ArgMatches<'a>) -> Result<Option<Place<'a>>, Wrong<'a>> {
     match matches.get_str("tcp") {
-        Some(word) => Ok(Some(place_of(alloc, "--tcp <PORT>", word)?)),
+        Some(word) => Ok(Some(place_of("--tcp <PORT>", word)?)),
         None => Ok(None),
     }
 }
 
 /// It sends somewhere, or serves.
-fn some_place(alloc: Global, is_there_one: bool) -> Result<(), Error> {
+fn some_place<'a>(is_there_one: bool) -> Result<(), Wrong<'a>> {
     if is_there_one {
-        return Ok(());
+        Ok(())
+    } else {
+        Err(Wrong::NoPort)
     }
-    let message = "a PORT or --tcp is wanted";
-    Err(wrong(alloc, &PMU, ErrorKind::MissingRequiredArgument, message)?)
 }
 
 /// After how many seconds its configuration is sent again.
-fn config_every(alloc: Global, matches: &ArgMatches<'_>) -> Result<Option<u32>, Error> {
+fn config_every<'a>(matches: &ArgMatches<'a>) -> Result<Option<u32>, Wrong<'a>> {
     let text = matches.get_str("config-every");
-    optional_number_of(alloc, &PMU, "--config-every <SECONDS>", text, MAX_SECONDS)
+    optional_number_of("--config-every <SECONDS>", text, MAX_SECONDS)
 }
 
-/// Where it sends to and serves, and when its configuration.
-fn aims_of<'a>(alloc: Global, matches: &ArgMatches<'a>) -> Result<Aims<'a>, Error> {
-    let places = places_of(alloc, matches.get_strs("PORT").unwrap_or(&[]))?;
-    let tcp = tcp(alloc, matches)?;
-    some_place(alloc, !places.is_empty() || tcp.is_some())?;
-    Ok(Aims {
-        places,
-        tcp,
-        config_every: config_every(alloc, matches)?,
-    })
-}
-
-/// The PMU with this id, rate and count.
-fn simulated<'a>(
-    alloc: Global,
-    id: &str,
-    rate: &str,
-    count: &str,
+/// Where it serves, and when its configuration goes out again. The places that it sends to are appended.
+fn aims_of<'a>(
     matches: &ArgMatches<'a>,
-) -> Result<Simulated<'a>, Error> {
-    let id = short_number_of(alloc, &PMU, "<ID>", id, MAX_ID)?;
-    let rate = short_number_of(alloc, &PMU, "<RATE>", rate, MAX_RATE)?;
-    let count = number_of(alloc, &PMU, "<COUNT>", count, u32::MAX)?;
-    let Aims {
-        places,
-        tcp,
-        config_every,
-    } = aims_of(alloc, matches)?;
+    places: &mut ArrayVec<Place<'a>, MAX_PLACES>,
+) -> Result<Aims<'a>, Wrong<'a>> {
+    add_places(matches.get_strs("PORT").unwrap_or(&[]), places)?;
+    let tcp = tcp(matches)?;
+    some_place(!places.is_empty() || tcp.is_some())?;
+    let config_every = config_every(matches)?;
+    Ok(Aims { tcp, config_every })
+}
+
+/// The id, rate and count that these words write.
+fn beat_of<'a>(id: &'a str, rate: &'a str, count: &'a str) -> Result<Beat, Wrong<'a>> {
+    let id = short_number_of("<ID>", id, MAX_ID)?;
+    let rate = short_number_of("<RATE>", rate, MAX_RATE)?;
+    let count = number_of("<COUNT>", count, u32::MAX)?;
+    let id = StreamId { value: id };
+    Ok(Beat { id, rate, count })
+}
+
+/// The PMU that sends so, and what else these words ask of it.
+fn simulated<'a>(beat: Beat, matches: &ArgMatches<'a>) -> Result<Simulated<'a>, Wrong<'a>> {
+    let mut places = ArrayVec::new();
+    let aims = aims_of(matches, &mut places)?;
     Ok(Simulated {
-        id: StreamId { value: id },
-        rate,
-        count,
+        id: beat.id,
+        rate: beat.rate,
+        count: beat.count,
         places,
-        tcp,
-        config_every,
+        tcp: aims.tcp,
+        config_every: aims.config_every,
         is_grid: matches.get_flag("grid"),
     })
 }
@@ -169,10 +174,7 @@ fn simulated<'a>(
 /// # Errors
 ///
 /// A number is none, or out of its range.
-pub fn pmu_request<'a>(
-    alloc: Global,
-    matches: &ArgMatches<'a>,
-) -> Result<Option<Request<'a>>, Error> {
+pub fn pmu_request<'a>(matches: &ArgMatches<'a>) -> Result<Option<Request<'a>>, Wrong<'a>> {
     let (Some(id), Some(rate), Some(count)) = (
         matches.get_str("ID"),
         matches.get_str("RATE"),
@@ -180,6 +182,6 @@ pub fn pmu_request<'a>(
     ) else {
         return Ok(None);
     };
-    let simulated = simulated(alloc, id, rate, count, matches)?;
+    let simulated = simulated(beat_of(id, rate, count)?, matches)?;
     Ok(Some(Request::Pmu(simulated)))
 }

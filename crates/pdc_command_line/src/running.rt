@@ -1,9 +1,9 @@
 //! The commands `node` and `merge`.
 
-use crate::request::{MAX_RECORD_SIZE, MAX_SECONDS, RECORD_SIZE, Record, Request, Running};
+use crate::request::{MAX_RECORD_SIZE, MAX_SECONDS, RECORD_SIZE, Record, Running};
 use crate::words::{Form, Told, Wanted, optional_number_of};
-use clap::{ArgMatches, Error};
-use std::alloc::Global;
+use crate::wrong::Wrong;
+use clap::ArgMatches;
 
 const ABOUT_NODE: &str =
     "Run a node: align the streams of PMUs and send one frame for each instant";
@@ -114,17 +114,13 @@ pub const MERGE: Told<'static> = Told {
 };
 
 /// The record that is asked for.
-fn record_of<'a>(
-    alloc: Global,
-    told: &Told<'_>,
-    matches: &ArgMatches<'a>,
-) -> Result<Option<Record<'a>>, Error> {
+fn record_of<'a>(matches: &ArgMatches<'a>) -> Result<Option<Record<'a>>, Wrong<'a>> {
     let size = matches.get_str("record-size");
     let name = "--record-size <MEBIBYTES>";
-    let size = optional_number_of(alloc, told, name, size, MAX_RECORD_SIZE)?;
+    let size = optional_number_of(name, size, MAX_RECORD_SIZE)?;
     let keep = matches.get_str("record-keep");
     let name = "--record-keep <FILES>";
-    let keep = optional_number_of(alloc, told, name, keep, u32::MAX)?;
+    let keep = optional_number_of(name, keep, u32::MAX)?;
     match matches.get_str("record") {
         Some(name) => Ok(Some(Record {
             name,
@@ -136,48 +132,24 @@ fn record_of<'a>(
 }
 
 /// What is asked of `node` or of `merge` by these words; `None` where one is missing, which the parser refuses before.
-fn running<'a>(
-    alloc: Global,
-    told: &Told<'_>,
-    matches: &ArgMatches<'a>,
-) -> Result<Option<Running<'a>>, Error> {
+///
+/// # Errors
+///
+/// A number is none, or out of its range.
+pub fn running<'a>(matches: &ArgMatches<'a>) -> Result<Option<Running<'a>>, Wrong<'a>> {
     let (Some(settings), Some(mark)) = (matches.get_str("SETTINGS"), matches.get_str("MARK")) else {
         return Ok(None);
     };
     let ticks = matches.get_str("TICKS");
-    let ticks = optional_number_of(alloc, told, "[TICKS]", ticks, u32::MAX)?;
+    let ticks = optional_number_of("[TICKS]", ticks, u32::MAX)?;
     let every = matches.get_str("every");
-    let every = optional_number_of(alloc, told, "--every <SECONDS>", every, MAX_SECONDS)?;
+    let every = optional_number_of("--every <SECONDS>", every, MAX_SECONDS)?;
     Ok(Some(Running {
         settings,
         mark,
         ticks,
         every,
         is_quiet: matches.get_flag("quiet"),
-        record: record_of(alloc, told, matches)?,
+        record: record_of(matches)?,
     }))
-}
-
-/// What is asked of `node` by these words; `None` where one is missing, which the parser refuses before.
-///
-/// # Errors
-///
-/// A number is none, or out of its range.
-pub fn node_request<'a>(
-    alloc: Global,
-    matches: &ArgMatches<'a>,
-) -> Result<Option<Request<'a>>, Error> {
-    Ok(running(alloc, &NODE, matches)?.map(Request::Node))
-}
-
-/// The same of `merge`.
-///
-/// # Errors
-///
-/// A number is none, or out of its range.
-pub fn merge_request<'a>(
-    alloc: Global,
-    matches: &ArgMatches<'a>,
-) -> Result<Option<Request<'a>>, Error> {
-    Ok(running(alloc, &MERGE, matches)?.map(Request::Merge))
 }

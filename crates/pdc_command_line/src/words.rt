@@ -3,8 +3,8 @@ ghost use Rattle.std.specs.Prelude.{ℕ, ◌≤◌, IfErr, IfOk};
 ghost use Rattle.pdc_command_line.specs.Number.{IsNumber};
 
 use crate::number::number;
-use clap::error::ErrorKind;
-use clap::{Arg, ArgAction, Command, Error};
+use crate::wrong::Wrong;
+use clap::{Arg, ArgAction, Command};
 use std::alloc::{AllocError, Global};
 
 /// In which form something is wanted.
@@ -77,42 +77,12 @@ pub fn command_of<'a>(alloc: Global, told: &Told<'a>) -> Result<Command<'a>, All
     Ok(command)
 }
 
-/// What is wrong with the words of a command.
-pub fn wrong(
-    alloc: Global,
-    told: &Told<'_>,
-    kind: ErrorKind,
-    message: &str,
-) -> Result<Error, AllocError> {
-    command_of(alloc, told)?.error(kind, message)
-}
-
-/// What is wrong with a number: its name as the help has it, what stands there, and the greatest that is wanted.
-pub fn out_of_range(
-    alloc: Global,
-    told: &Told<'_>,
-    name: &str,
-    text: &str,
-    most: u32,
-) -> Result<Error, AllocError> {
-    let message = format!(in alloc;
-        "invalid value '{text}' for '{name}': a whole number from 1 to {most} is wanted"
-    )?;
-    wrong(alloc, told, ErrorKind::ValueValidation, message.as_str())
-}
-
 /// The number that the text writes, from 1 to the most, under its name as the help has it.
 ///
 /// # Errors
 ///
 /// It writes none, or one out of this range.
-pub fn number_of(
-    alloc: Global,
-    told: &Told<'_>,
-    name: &str,
-    text: &str,
-    most: u32,
-) -> Result<u32, Error>
+pub fn number_of<'a>(name: &'static str, text: &'a str, most: u32) -> Result<u32, Wrong<'a>>
     ensures found { IfOk result (IsNumber text.now) }
     ensures low { IfOk result (λ n. 1 ≤ n) }
     ensures high { IfOk result (λ n. n ≤ most) }
@@ -120,7 +90,7 @@ pub fn number_of(
 {
     match number(text, 1, most) {
         Some(n) => Ok(n),
-        None => Err(out_of_range(alloc, told, name, text, most)?),
+        None => Err(Wrong::Number { name, text, most }),
     }
 }
 
@@ -129,21 +99,15 @@ pub fn number_of(
 /// # Errors
 ///
 /// The text writes none, or one out of this range.
-pub fn short_number_of(
-    alloc: Global,
-    told: &Told<'_>,
-    name: &str,
-    text: &str,
-    most: u16,
-) -> Result<u16, Error>
+pub fn short_number_of<'a>(name: &'static str, text: &'a str, most: u16) -> Result<u16, Wrong<'a>>
     ensures found { IfOk result (IsNumber text.now) }
     ensures low { IfOk result (λ n. 1 ≤ n) }
     ensures high { IfOk result (λ n. n ≤ most) }
     ensures none { IfErr result (λ _. (n : ℕ) → IsNumber text.now n → 1 ≤ n → n ≤ most → ⊥) }
 {
-    match number_of(alloc, told, name, text, u32::from(most)) {
+    match number_of(name, text, u32::from(most)) {
         Ok(n) => Ok(n as u16),
-        Err(error) => Err(error),
+        Err(wrong) => Err(wrong),
     }
 }
 
@@ -152,15 +116,13 @@ pub fn short_number_of(
 /// # Errors
 ///
 /// The text writes none, or one out of this range.
-pub fn optional_number_of(
-    alloc: Global,
-    told: &Told<'_>,
-    name: &str,
-    text: Option<&str>,
+pub fn optional_number_of<'a>(
+    name: &'static str,
+    text: Option<&'a str>,
     most: u32,
-) -> Result<Option<u32>, Error> {
+) -> Result<Option<u32>, Wrong<'a>> {
     match text {
-        Some(text) => Ok(Some(number_of(alloc, told, name, text, most)?)),
+        Some(text) => Ok(Some(number_of(name, text, most)?)),
         None => Ok(None),
     }
 }

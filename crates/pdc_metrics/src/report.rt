@@ -113,81 +113,89 @@ const LAG: Family = Family {
     help: "How far the last instant that was published lies behind the clock.",
 };
 
-/// What was taken and refused of each stream.
-fn append_answers<R: Wait>(
-    rt: &R,
-    alloc: Global,
-    tallies: &[Tally],
-    text: &mut String,
-) -> Result<(), AllocError> {
-    append_head(alloc, TAKEN, text)?;
+/// What was taken of each stream.
+fn append_taken<R: Wait>(rt: &R, tallies: &[Tally], text: &mut String) -> Result<(), AllocError> {
+    append_head(TAKEN, text)?;
     for tally in tallies {
-        append_of(alloc, TAKEN, tally.of, tally.counts(rt).taken, text)?;
+        append_of(TAKEN, tally.of, tally.counts(rt).taken, text)?;
     }
-    append_head(alloc, REFUSED, text)?;
-    for tally in tallies {
-        let counts = tally.counts(rt);
-        for cause in CAUSES {
-            let count = counts.refused_as(cause);
-            if count > 0 {
-                append_cause(alloc, REFUSED, tally.of, cause.text(), count, text)?;
-            }
+    Ok(())
+}
+
+/// What was refused of a stream, by cause.
+fn append_causes<R: Wait>(rt: &R, tally: &Tally, text: &mut String) -> Result<(), AllocError> {
+    let counts = tally.counts(rt);
+    for cause in CAUSES {
+        let count = counts.refused_as(cause);
+        if count > 0 {
+            append_cause(REFUSED, tally.of, cause.text(), count, text)?;
         }
     }
     Ok(())
 }
 
-/// How the datagrams of each stream came.
-fn append_ways(alloc: Global, tallies: &[Tally], text: &mut String) -> Result<(), AllocError> {
-    append_head(alloc, STRANGERS, text)?;
+/// What was refused of each stream.
+fn append_refused<R: Wait>(rt: &R, tallies: &[Tally], text: &mut String) -> Result<(), AllocError> {
+    append_head(REFUSED, text)?;
     for tally in tallies {
-        append_of(alloc, STRANGERS, tally.of, tally.strangers(), text)?;
-    }
-    append_head(alloc, LOST, text)?;
-    for tally in tallies {
-        append_of(alloc, LOST, tally.of, tally.lost(), text)?;
+        append_causes(rt, tally, text)?;
     }
     Ok(())
+}
+
+/// From which other addresses the datagrams of each stream came.
+fn append_strangers(tallies: &[Tally], text: &mut String) -> Result<(), AllocError> {
+    append_head(STRANGERS, text)?;
+    for tally in tallies {
+        append_of(STRANGERS, tally.of, tally.strangers(), text)?;
+    }
+    Ok(())
+}
+
+/// How often the connection of each stream was lost.
+fn append_lost(tallies: &[Tally], text: &mut String) -> Result<(), AllocError> {
+    append_head(LOST, text)?;
+    for tally in tallies {
+        append_of(LOST, tally.of, tally.lost(), text)?;
+    }
+    Ok(())
+}
+
+/// What was taken and refused of each stream, and how its datagrams came.
+fn append_streams<R: Wait>(rt: &R, tallies: &[Tally], text: &mut String) -> Result<(), AllocError> {
+    append_taken(rt, tallies, text)?;
+    append_refused(rt, tallies, text)?;
+    append_strangers(tallies, text)?;
+    append_lost(tallies, text)
 }
 
 /// What could not be sent to each further destination.
-fn append_outputs(
-    alloc: Global,
-    outputs: &[OutputTally],
-    text: &mut String,
-) -> Result<(), AllocError> {
-    append_head(alloc, OUTPUT_UNSENT, text)?;
+fn append_outputs(outputs: &[OutputTally], text: &mut String) -> Result<(), AllocError> {
+    append_head(OUTPUT_UNSENT, text)?;
     for output in outputs {
-        append_output(
-            alloc,
-            OUTPUT_UNSENT,
-            output.to.as_str(),
-            output.unsent(),
-            text,
-        )?;
+        append_output(OUTPUT_UNSENT, output.to.as_str(), output.unsent(), text)?;
     }
     Ok(())
 }
 
-/// What is published of each source.
-fn append_sources(alloc: Global, standing: &Standing, text: &mut String) -> Result<(), AllocError> {
-    append_head(alloc, ABSENT, text)?;
+/// In how many frames each source was absent.
+fn append_absent(standing: &Standing, text: &mut String) -> Result<(), AllocError> {
+    append_head(ABSENT, text)?;
     for measured in &standing.sources {
         if measured.source != 0 {
-            append_of(
-                alloc,
-                ABSENT,
-                Of::Pmu(measured.source),
-                measured.absent,
-                text,
-            )?;
+            append_of(ABSENT, Of::Pmu(measured.source), measured.absent, text)?;
         }
     }
-    append_head(alloc, CONFIGURATION, text)?;
+    Ok(())
+}
+
+/// The configuration count of each source.
+fn append_configurations(standing: &Standing, text: &mut String) -> Result<(), AllocError> {
+    append_head(CONFIGURATION, text)?;
     for measured in &standing.sources {
         if measured.source != 0 {
             let count = u64::from(measured.count);
-            append_of(alloc, CONFIGURATION, Of::Pmu(measured.source), count, text)?;
+            append_of(CONFIGURATION, Of::Pmu(measured.source), count, text)?;
         }
     }
     Ok(())
@@ -196,29 +204,57 @@ fn append_sources(alloc: Global, standing: &Standing, text: &mut String) -> Resu
 /// What the merger left out of each source.
 fn append_left_out<R: Wait>(
     rt: &R,
-    alloc: Global,
     left_out: &LeftOut,
     text: &mut String,
 ) -> Result<(), AllocError> {
-    append_head(alloc, LEFT_OUT, text)?;
+    append_head(LEFT_OUT, text)?;
     for merged in left_out.sources(rt) {
         if merged.source != 0 {
-            append_of(
-                alloc,
-                LEFT_OUT,
-                Of::Pmu(merged.source),
-                merged.left_out,
-                text,
-            )?;
+            append_of(LEFT_OUT, Of::Pmu(merged.source), merged.left_out, text)?;
         }
     }
     Ok(())
 }
 
+/// What was published, and what of it could not be sent.
+fn append_published(
+    metered: &Metered,
+    standing: &Standing,
+    text: &mut String,
+) -> Result<(), AllocError> {
+    let unsent = metered.unsent.load(Ordering::Relaxed);
+    append_single(PUBLISHED, standing.published, text)?;
+    append_single(UNSENT, unsent, text)?;
+    append_outputs(metered.outputs, text)
+}
+
+/// What is published of each source, and what a merger left out.
+fn append_sources<R: Wait>(
+    rt: &R,
+    metered: &Metered,
+    standing: &Standing,
+    text: &mut String,
+) -> Result<(), AllocError> {
+    append_absent(standing, text)?;
+    append_configurations(standing, text)?;
+    match metered.left_out {
+        Some(left_out) => append_left_out(rt, left_out, text),
+        None => Ok(()),
+    }
+}
+
+/// The open instants, the layout in force, and who is served.
+fn append_now(metered: &Metered, standing: &Standing, text: &mut String) -> Result<(), AllocError> {
+    let consumers = metered.consumers.load(Ordering::Relaxed);
+    append_single(OPEN, standing.open as u64, text)?;
+    append_single(START, u64::from(standing.start), text)?;
+    append_single(CHANGE, u64::from(standing.change), text)?;
+    append_single(CONSUMERS, consumers, text)
+}
+
 /// The last instant that was published, if there was one, and how far it lies behind the clock.
 fn append_last<R: Clock>(
     rt: &R,
-    alloc: Global,
     time_base: u32,
     standing: &Standing,
     text: &mut String,
@@ -227,12 +263,26 @@ fn append_last<R: Clock>(
         return Ok(());
     };
     let micros = tag_micros(standing.tag, time_base);
-    append_single(alloc, LAST, last, text)?;
-    append_seconds(alloc, LAST_TIME, micros, text)?;
+    append_single(LAST, last, text)?;
+    append_seconds(LAST_TIME, micros, text)?;
     match now_micros(rt) {
-        Some(now) => append_seconds(alloc, LAG, now.saturating_sub(micros), text),
+        Some(now) => append_seconds(LAG, now.saturating_sub(micros), text),
         None => Ok(()),
     }
+}
+
+/// All samples of a run that stands so.
+fn append_all<R: Wait + Clock>(
+    rt: &R,
+    metered: &Metered,
+    standing: &Standing,
+    text: &mut String,
+) -> Result<(), AllocError> {
+    append_streams(rt, metered.tallies, text)?;
+    append_published(metered, standing, text)?;
+    append_sources(rt, metered, standing, text)?;
+    append_now(metered, standing, text)?;
+    append_last(rt, metered.measured.tags.time_base, standing, text)
 }
 
 /// All samples of a run, as Prometheus reads them.
@@ -246,33 +296,7 @@ pub fn metrics_text<R: Wait + Clock>(
     metered: &Metered,
 ) -> Result<String, AllocError> {
     let standing = metered.measured.standing(rt);
-    let (start, change) = (u64::from(standing.start), u64::from(standing.change));
     let mut text = String::new(alloc);
-    append_answers(rt, alloc, metered.tallies, &mut text)?;
-    append_ways(alloc, metered.tallies, &mut text)?;
-    append_single(alloc, PUBLISHED, standing.published, &mut text)?;
-    append_single(
-        alloc,
-        UNSENT,
-        metered.unsent.load(Ordering::Relaxed),
-        &mut text,
-    )?;
-    append_outputs(alloc, metered.outputs, &mut text)?;
-    append_sources(alloc, &standing, &mut text)?;
-    if let Some(left_out) = metered.left_out {
-        append_left_out(rt, alloc, left_out, &mut text)?;
-    }
-    append_single(alloc, OPEN, standing.open as u64, &mut text)?;
-    append_single(alloc, START, start, &mut text)?;
-    append_single(alloc, CHANGE, change, &mut text)?;
-    let consumers = metered.consumers.load(Ordering::Relaxed);
-    append_single(alloc, CONSUMERS, consumers, &mut text)?;
-    append_last(
-        rt,
-        alloc,
-        metered.measured.tags.time_base,
-        &standing,
-        &mut text,
-    )?;
+    append_all(rt, metered, &standing, &mut text)?;
     Ok(text)
 }
