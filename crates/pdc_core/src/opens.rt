@@ -2,6 +2,7 @@
 ghost use Rattle.std.specs.Prelude.{◌≡◌, ℕ, [], IfOk, List};
 ghost use Rattle.pdc_align.specs.pdc_life.Given.{Given};
 ghost use Rattle.pdc_align.specs.pdc_life.Life.{Entry};
+ghost use Rattle.pdc_align.specs.pdc_output.declared.output.Output.{Output as OutputData};
 
 use crate::core_trait::Core;
 use pdc_align::{MAX_PMUS, Output};
@@ -12,9 +13,13 @@ pub trait Opens: Core + Drop {
     // What is given to a life by the settings, and by a start number, a floor and counts; what counts as now is 0 until a tick.
     ghost given_with: { Self.Settings → (start floor : ℕ) → List ℕ → Given };
 
+    // What its frames say of it, by its settings.
+    ghost output_of: { Self.Settings → OutputData };
+
     /// What its frames say of itself.
     fn output(&self) -> Output
-        ensures { (g : Given) (E : List Entry) → Self.stands_for self.now g E → result ≡ g.output };
+        ensures settings { result ≡ output_of (Self.settings_of self.now) }
+        ensures life { (g : Given) (E : List Entry) → Self.stands_for self.now g E → result ≡ g.output };
 
     /// A core of these settings at the start of a life: the number of the start, the instant up to which all is published, and
     /// for each column the count below which no section is held.
@@ -30,7 +35,8 @@ pub trait Opens: Core + Drop {
         counts: &[u16; MAX_PMUS],
     ) -> Result<Self, AllocError>
         ensures stands { IfOk result (λ first. Self.stands_for first (given_with settings start floor counts.now) []) }
-        ensures settings { IfOk result (λ first. Self.settings_of first ≡ settings) };
+        ensures settings { IfOk result (λ first. Self.settings_of first ≡ settings) }
+        ensures popped { IfOk result (λ first. Self.popped_of first ≡ floor) };
 
     /// A core of the same settings at the start of a life: the number of the start, the instant up to which all is published, and
     /// for each column the count below which no section is held.

@@ -30,6 +30,8 @@ pub fn copy_of_merger(settings: &MergerSettings) -> MergerSettings
 impl<T: Table> Opens for Merger<T> {
     ghost given_with = { λ settings start floor counts. given_of_merger settings start floor counts 0 };
 
+    ghost output_of = { λ settings. settings.output };
+
     fn output(&self) -> Output {
         self.settings().output
     }

@@ -1,2 +1,3 @@
 mod Calls
+mod Made
 mod Published

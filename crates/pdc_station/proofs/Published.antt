@@ -5,7 +5,7 @@ use Rattle.std.specs.Option.{option_to_list}
 use Rattle.std.proofs.lemmas.List.{append-nil, map-append}
 use Rattle.std.proofs.lemmas.List.Folds.{concat-append}
 use Rattle.pdc_life.specs.Given.{Given}
-use Rattle.pdc_life.specs.Life.{Entry, popped}
+use Rattle.pdc_life.specs.Life.{popped}
 use Rattle.pdc_life.specs.Published.{published}
 use Rattle.pdc_output.specs.Layout.{wire_of}
 use Rattle.pdc_row.specs.RowView.{RowView}

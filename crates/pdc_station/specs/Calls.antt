@@ -1,5 +1,5 @@
 -- Calls of a core and of the publisher of its mark, one after the other, and the bytes that the publishes append (this profile).
-use Rattle.std.specs.Prelude.{◌≡◌, ℕ, ◌<◌, List, [], ◌∷◌, ◌++◌, Some, None, map}
+use Rattle.std.specs.Prelude.{◌≡◌, ℕ, ◌<◌, List, [], ◌∷◌, ◌++◌, Option, Some, None, map}
 use Rattle.std.specs.List.{Contains, concat}
 use Rattle.pdc_life.specs.Answer.{Rules, ToArrive, ToPop, ToTick, answered, pop_answer}
 use Rattle.pdc_life.specs.Arrival.{Arrival}
@@ -42,6 +42,11 @@ Makes rules g Empty old new =
     (pop_answer old.life ≡ None) × (new.life ≡ answered rules g old.life ToPop ∷ old.life) × (new.popped ≡ old.popped) × (new.bytes ≡ old.bytes)
 Makes rules g (Sent row) old new = HasPopped rules g row old new × (new.bytes ≡ old.bytes ++ wire_of g.output row)
 Makes rules g (Lost row) old new = HasPopped rules g row old new × (new.bytes ≡ old.bytes)
+
+-- What a publish of a station is, by the row that it answers: a pop that gave none, or a row that was popped and published.
+abbrev pub publish_of : Option RowView → Call
+publish_of None = Empty
+publish_of (Some row) = Sent row
 
 -- the calls, newest first
 abbrev pub MakeAll : Rules → Given → List Call → (old new : Told) → Type 0

@@ -1,7 +1,6 @@
 -- What a station keeps, and what stops leave of its mark (this profile).
-use Rattle.std.specs.Prelude.{◌≡◌, ℕ, ◌+◌, Bool, List, [], nat_lt, if◌then◌else◌, Option, None, Some, option_map}
-use Rattle.pdc_mark.specs.Counts.{raised_to}
-use Rattle.pdc_mark.specs.Stops.{Between, InBegin, InRaise, InReserve, Stop}
+use Rattle.std.specs.Prelude.{◌≡◌, ℕ, ◌+◌, Bool, List, [], if◌then◌else◌, Option, None, Some, option_map}
+use Rattle.pdc_mark.specs.Stops.{Between, InBegin, Stop, StopsInRaise, stop_in_reserving}
 use Rattle.pdc_mark.specs.Stored.{with_due, with_next_start, with_waiting}
 use Rattle.pdc_life.specs.Answer.{pop_answer, waiting_counts}
 use Rattle.pdc_life.specs.Given.{Given}
@@ -41,20 +40,15 @@ abbrev pub start_left : StopAt → (start : ℕ) → ℕ
 start_left (at.In storing.Start landed) start = if landed then start + 1 else start
 start_left at start = start
 
--- where a stop falls in a publish: in the store of a reservation for the instant, where it is above the floor, and else between stores
-abbrev pub stop_in_reserving : (landed : Bool) (lead : ℕ) → Option ℕ → (floor : ℕ) → Stop
-stop_in_reserving landed lead None floor = Between
-stop_in_reserving landed lead (Some instant) floor = if nat_lt floor instant then InReserve (instant + lead) landed else Between
-
--- A stop in the raise to the counts that wait: in its store, where one of them is greater, and else between stores.
-pub record StopsInRaise {M : Type 0} (StopsAs : Stop → M → M → Type 0) (landed : Bool) (waiting counts : List ℕ) (before after : M) : Type 0 where
-  pub in_store : (counts ≡ raised_to counts waiting → ⊥) → StopsAs (InRaise (raised_to counts waiting) landed) before after
-  pub between : counts ≡ raised_to counts waiting → StopsAs Between before after
+-- where a stop falls in a publish: in the reservation for the instant, if there is one, and else between stores
+abbrev pub stop_in_publish : (landed : Bool) (lead : ℕ) → Option ℕ → (floor : ℕ) → Stop
+stop_in_publish landed lead None floor = Between
+stop_in_publish landed lead (Some instant) floor = stop_in_reserving landed lead instant floor
 
 -- The stop falls so on a mark that stores this: between stores, or in the store.
 abbrev pub FallsAt : {M : Type 0} (StopsAs : Stop → M → M → Type 0) → StopAt → (lead : ℕ) → (due : Option ℕ) → (waiting : List ℕ) → Stored → (before after : M) → Type 0
 FallsAt StopsAs at.Between lead due waiting stored before after = StopsAs Between before after
-FallsAt StopsAs (at.In storing.Publish landed) lead due waiting stored before after = StopsAs (stop_in_reserving landed lead due stored.floor) before after
+FallsAt StopsAs (at.In storing.Publish landed) lead due waiting stored before after = StopsAs (stop_in_publish landed lead due stored.floor) before after
 FallsAt StopsAs (at.In storing.Tick landed) lead due waiting stored before after = StopsInRaise StopsAs landed waiting stored.counts before after
 FallsAt StopsAs (at.In storing.Start landed) lead due waiting stored before after = StopsAs (InBegin landed) before after
 

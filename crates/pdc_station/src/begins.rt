@@ -1,12 +1,20 @@
 //! The first life of a station.
 ghost use Rattle.std.specs.Prelude.{◌≡◌, ◌<◌, [], IfOk};
 ghost use Rattle.pdc_mark.specs.Stored.{with_next_start};
+ghost use Rattle.pdc_publisher.specs.Publisher.{lead_in, mark_in};
 
 use crate::station::Station;
-use crate::stores::begin_next;
 use pdc_core::Opens;
 use pdc_mark::Store;
 use std::alloc::{AllocError, Global};
+
+/// Stores the next start number, of which one is left.
+fn begin_next<M: Store>(mark: &mut M)
+    requires { (M.stored mark.old).start < u32.MAX }
+    ensures { M.stored mark.new ≡ with_next_start (M.stored mark.old) }
+{
+    let _start = mark.begin().unwrap();
+}
 
 impl<C: Opens, M: Store + Drop> Station<C, M> {
     /// A station whose first life begins: the next start is stored, and then the core is opened with what the mark stores.
@@ -21,11 +29,11 @@ impl<C: Opens, M: Store + Drop> Station<C, M> {
         lead: u16,
     ) -> Result<Station<C, M>, AllocError>
         requires { (M.stored mark).start < u32.MAX }
-        ensures mark { IfOk result (λ station. M.stored station.mark ≡ with_next_start (M.stored mark)) }
+        ensures mark { IfOk result (λ station. M.stored (mark_in station.publisher) ≡ with_next_start (M.stored mark)) }
         ensures stands { IfOk result (λ station. C.stands_for station.core (C.given_with settings
-            (M.stored station.mark).start (M.stored station.mark).floor (M.stored station.mark).counts) []) }
+            (M.stored (mark_in station.publisher)).start (M.stored (mark_in station.publisher)).floor (M.stored (mark_in station.publisher)).counts) []) }
         ensures settings { IfOk result (λ station. C.settings_of station.core ≡ settings) }
-        ensures lead { IfOk result (λ station. station.lead ≡ lead) }
+        ensures lead { IfOk result (λ station. lead_in station.publisher ≡ lead) }
     {
         begin_next(&mut mark);
         let (start, floor) = mark.stored();

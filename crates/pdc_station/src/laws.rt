@@ -14,6 +14,8 @@ pub fn rows_are_published()
 
 /// Whatever is called of a core and of the publisher of its mark, one call after the other: the bytes that the publishes append are
 /// the frames of the rows whose publish answered Ok, their instants rise, and no row whose publish failed is among them.
+///
+/// A publish of a [`Station`](crate::Station) is such a call (`call`), and so are its ticks and what comes to it, which append nothing.
 pub fn calls_publish_what_was_popped()
     ensures bytes { SentRowsAreAppended }
     ensures rise { SentRowsRise }

@@ -1,18 +1,19 @@
 //! Stops of a station: its life ends, and the next one begins with what the mark then stores. It is opened before anything is stored,
 //! so a stop that is refused changes nothing.
-ghost use Rattle.std.specs.Prelude.{◌≡◌, ◌+◌, ◌*◌, ◌<◌, ◌≤◌, ◌↔◌, [], IfNone, IfOk, IfSome, IsErrOf, OnErr, OnOk};
-ghost use Rattle.pdc_mark.specs.Stored.{with_next_start};
-ghost use Rattle.pdc_station.specs.Station.{FallsAt, HasStopped, IsOfSomeLife, left_by, start_left};
+ghost use Rattle.std.specs.Prelude.{◌≡◌, ◌+◌, ◌*◌, ◌<◌, ◌≤◌, ◌↔◌, [], IfNone, IfOk, IfSome, IsErrOf, OnErr, OnOk, if◌then◌else◌};
+ghost use Rattle.pdc_mark.specs.Stored.{with_due};
+ghost use Rattle.pdc_publisher.specs.Publisher.{lead_in, mark_in, output_in};
+ghost use Rattle.pdc_station.specs.Station.{FallsAt, HasStopped, IsOfSomeLife, left_by, start_left, stop_in_publish};
 ghost use Rattle.pdc_tag.specs.declared.limits.TheConstants.{MAX_RATE, SECONDS};
 
 use crate::fault::StopFault;
 use crate::next_row::next_instant;
 use crate::station::Station;
 use crate::stop_at::{StopAt, Storing};
-use crate::stores::{begin_next, raised_by, reserved_by, stop_in_raise, stop_in_reserve};
 use pdc_core::Opens;
 use pdc_life::MAX_PMUS;
 use pdc_mark::{Store, Stored};
+use pdc_publisher::Publisher;
 use std::alloc::{AllocError, Global};
 
 /// What is stored.
@@ -24,6 +25,17 @@ fn stored_in<M: Store>(mark: &M) -> Stored
         start,
         floor,
         counts: mark.counts(),
+    }
+}
+
+/// After a publish whose row has this instant, if there is one.
+fn published_by(stored: Stored, lead: u16, due: Option<u64>) -> Stored
+    requires { IfSome due (λ instant. instant < SECONDS * MAX_RATE) }
+    ensures { result ≡ with_due lead due stored }
+{
+    match due {
+        Some(instant) => stored.with_instant(instant, lead),
+        None => stored,
     }
 }
 
@@ -45,8 +57,8 @@ fn left_behind(
             storing,
             landed: true,
         } => match storing {
-            Storing::Publish => Some(reserved_by(stored, due, lead)),
-            Storing::Tick => Some(raised_by(stored, waiting)),
+            Storing::Publish => Some(published_by(stored, lead, due)),
+            Storing::Tick => Some(stored.with_waiting(waiting)),
             Storing::Start => Some(Stored {
                 start: stored.start.checked_add(1)?,
                 ..stored
@@ -56,25 +68,40 @@ fn left_behind(
     }
 }
 
-/// Stops a mark, where a row of this instant is the next and these counts wait.
-fn stop_mark<M: Store>(
-    mark: &mut M,
+/// A stop in the publish of a row of this instant, if there is one.
+fn stop_publish<M: Store>(publisher: &mut Publisher<M>, due: Option<u64>, landed: bool)
+    requires { IfSome due (λ instant. instant < SECONDS * MAX_RATE) }
+    ensures stored { M.stored (mark_in publisher.new)
+        ≡ (if landed then with_due (lead_in publisher.old) due (M.stored (mark_in publisher.old)) else M.stored (mark_in publisher.old)) }
+    ensures stops { M.stops_as (stop_in_publish landed (lead_in publisher.old) due (M.stored (mark_in publisher.old)).floor)
+        (mark_in publisher.old) (mark_in publisher.new) }
+    ensures kept { (output_in publisher.new ≡ output_in publisher.old) × (lead_in publisher.new ≡ lead_in publisher.old) }
+{
+    match due {
+        Some(instant) => publisher.publish_stopped(instant, landed),
+        None => publisher.stopped(),
+    }
+}
+
+/// Stops a publisher, where a row of this instant is the next and these counts wait.
+fn stop_publisher<M: Store>(
+    publisher: &mut Publisher<M>,
     at: StopAt,
-    lead: u16,
     due: Option<u64>,
     waiting: &[u16; MAX_PMUS],
 )
     requires tagged { IfSome due (λ instant. instant < SECONDS * MAX_RATE) }
-    requires left { start_left at (M.stored mark.old).start < u32.MAX }
-    ensures stored { M.stored mark.new ≡ left_by at lead due waiting.now (M.stored mark.old) }
-    ensures stops { FallsAt M.stops_as at lead due waiting.now (M.stored mark.old) mark.old mark.new }
+    requires left { start_left at (M.stored (mark_in publisher.old)).start < u32.MAX }
+    ensures stored { M.stored (mark_in publisher.new) ≡ left_by at (lead_in publisher.old) due waiting.now (M.stored (mark_in publisher.old)) }
+    ensures stops { FallsAt M.stops_as at (lead_in publisher.old) due waiting.now (M.stored (mark_in publisher.old)) (mark_in publisher.old) (mark_in publisher.new) }
+    ensures kept { (output_in publisher.new ≡ output_in publisher.old) × (lead_in publisher.new ≡ lead_in publisher.old) }
 {
     match at {
-        StopAt::Between => mark.stopped(),
+        StopAt::Between => publisher.stopped(),
         StopAt::In { storing, landed } => match storing {
-            Storing::Publish => stop_in_reserve(mark, due, lead, landed),
-            Storing::Tick => stop_in_raise(mark, waiting, landed),
-            Storing::Start => mark.begin_stopped(landed),
+            Storing::Publish => stop_publish(publisher, due, landed),
+            Storing::Tick => publisher.raise_stopped(waiting, landed),
+            Storing::Start => publisher.begin_stopped(landed),
         },
     }
 }
@@ -84,6 +111,7 @@ fn opened<C: Opens>(core: &C, alloc: Global, stored: &Stored) -> Result<C, StopF
     ensures stands { IfOk result (λ next. C.stands_for next (C.given_with (C.settings_of core.now) (stored.now.start + 1) stored.now.floor stored.now.counts) []) }
     ensures some { IfOk result (λ next. IsOfSomeLife (C.stands_for next)) }
     ensures settings { IfOk result (λ next. C.settings_of next ≡ C.settings_of core.now) }
+    ensures popped { IfOk result (λ next. C.popped_of next ≡ stored.now.floor) }
     ensures left { OnOk result (stored.now.start < u32.MAX) }
     ensures used_up { IsErrOf result StopFault.StartsUsedUp ↔ (stored.now.start ≡ u32.MAX) }
 {
@@ -97,18 +125,6 @@ fn opened<C: Opens>(core: &C, alloc: Global, stored: &Stored) -> Result<C, StopF
 }
 
 impl<C: Opens, M: Store> Station<C, M> {
-    /// Stores the next start, and goes on with this core.
-    fn begin(&mut self, core: C)
-        requires left { (M.stored self.old.mark).start < u32.MAX }
-        requires some { IsOfSomeLife (C.stands_for core) }
-        ensures mark { M.stored self.new.mark ≡ with_next_start (M.stored self.old.mark) }
-        ensures core { self.new.core ≡ core }
-        ensures lead { self.new.lead ≡ self.old.lead }
-    {
-        begin_next(&mut self.mark);
-        self.core = core;
-    }
-
     /// A stop: between stores, or in a store, which landed or not. The step whose store that was is not taken. Where the store of the next
     /// start landed, that life ends before its first step.
     ///
@@ -117,22 +133,24 @@ impl<C: Opens, M: Store> Station<C, M> {
     /// `StartsUsedUp` where what is left is the last start number; `NoMemory` where there is no memory for the next life. Then nothing
     /// changes.
     pub fn stop(&mut self, alloc: Global, at: StopAt) -> Result<(), StopFault>
-        ensures stops { OnOk result (HasStopped M.stored M.stops_as (C.stands_for self.old.core) at self.old.lead self.old.mark self.new.mark) }
+        ensures stops { OnOk result (HasStopped M.stored M.stops_as (C.stands_for self.old.core) at (lead_in self.old.publisher) (mark_in self.old.publisher) (mark_in self.new.publisher)) }
         ensures stands { OnOk result (C.stands_for self.new.core (C.given_with (C.settings_of self.old.core)
-            (M.stored self.new.mark).start (M.stored self.new.mark).floor (M.stored self.new.mark).counts) []) }
-        ensures used_up { IsErrOf result StopFault.StartsUsedUp ↔ (u32.MAX ≤ start_left at (M.stored self.old.mark).start) }
+            (M.stored (mark_in self.new.publisher)).start (M.stored (mark_in self.new.publisher)).floor (M.stored (mark_in self.new.publisher)).counts) []) }
+        ensures used_up { IsErrOf result StopFault.StartsUsedUp ↔ (u32.MAX ≤ start_left at (M.stored (mark_in self.old.publisher)).start) }
         ensures err { OnErr result (self.new ≡ self.old) }
         ensures settings { C.settings_of self.new.core ≡ C.settings_of self.old.core }
-        ensures lead { self.new.lead ≡ self.old.lead }
+        ensures lead { lead_in self.new.publisher ≡ lead_in self.old.publisher }
     {
         let due = next_instant(&self.core);
         let waiting = self.core.waiting();
-        let Some(left) = left_behind(stored_in(&self.mark), at, self.lead, due, &waiting) else {
+        let stored = stored_in(self.publisher.mark());
+        let Some(left) = left_behind(stored, at, self.publisher.lead(), due, &waiting) else {
             return Err(StopFault::StartsUsedUp);
         };
         let next = opened(&self.core, alloc, &left)?;
-        stop_mark(&mut self.mark, at, self.lead, due, &waiting);
-        self.begin(next);
+        stop_publisher(&mut self.publisher, at, due, &waiting);
+        self.publisher.begin();
+        self.core = next;
         Ok(())
     }
 }

@@ -1,16 +1,15 @@
 -- A stop, as the event that it is and the life that begins behind it.
-use Rattle.std.proofs.Common.{◌≡◌, ℕ, ◌+◌, ◌^◌, ◌≤◌, ◌<◌, Bool, true, false, List, nat_lt, Option, Some, None, cond, if◌then◌else◌, ◌↔◌, Err, IsErrOf, option_map, refl, sym, ap, subst, arith}
+use Rattle.std.proofs.Common.{◌≡◌, ℕ, ◌+◌, ◌^◌, ◌≤◌, ◌<◌, Bool, true, false, List, nat_lt, Option, Some, None, cond, ◌↔◌, Err, IsErrOf, refl, sym, ap, subst, arith}
 use Rattle.std.proofs.lemmas.Bool.{ltb-false, ltb-true}
 use Rattle.pdc_event.specs.declared.fault.Fault.{Fault}
 use Rattle.pdc_history.specs.Asked.{FaultsMayNotHappen, IsFault, StartsUsedUp}
 use Rattle.pdc_history.specs.Event as event
 use Rattle.pdc_history.specs.Play.{IsStepOf}
-use Rattle.pdc_history.specs.World.{Who, World, Happened, Ends, given_in, lead_of, life_of, mark_of, reserved}
-use Rattle.pdc_life.specs.Answer.{pop_answer, waiting_counts}
-use Rattle.pdc_mark.specs.Stored.{with_next_start}
+use Rattle.pdc_history.specs.World.{Who, World, Happened, Ends, given_in, lead_of, life_of, mark_of}
+use Rattle.pdc_life.specs.Answer.{waiting_counts}
+use Rattle.pdc_mark.specs.Stored.{with_due, with_next_start}
 use Rattle.pdc_mark.specs.declared.stored.Stored.{Stored}
-use Rattle.pdc_row.specs.RowView.{RowView}
-use Rattle.pdc_station.specs.Station.{due_in, left_by, start_left, with_due}
+use Rattle.pdc_station.specs.Station.{due_in, left_by, start_left}
 use Rattle.pdc_station.specs.declared.fault.StopFault.{StopFault}
 use Rattle.pdc_station.specs.declared.fault.StopFault.TheVariants as stop
 use Rattle.pdc_station.specs.declared.stop_at.StopAt.{StopAt}
@@ -22,21 +21,9 @@ use Rattle.pdc_world.specs.Acts.{IsWhy, asked_to_stop, fault_of_stop}
 abbrev pub begun_by : World → List Happened → Who → StopAt → Stored
 begun_by W H v at = with_next_start (left_by at (lead_of W v) (due_in (life_of H v)) (waiting_counts (given_in W H v) (life_of H v)) (mark_of W H v))
 
-same_due : (lead : ℕ) (row : Option RowView) (mark : Stored) → with_due lead (option_map (λ (r : RowView). r.instant) row) mark ≡ reserved lead row mark
-same_due lead None mark = refl
-same_due lead (Some row) mark = refl
-
 pub stop_step : (W : World) (H : List Happened) (v : Who) (at : StopAt) → (begun_by W H v at).start < 2 ^ 32 → IsStepOf W H (asked_to_stop v at) (Ends v (begun_by W H v at))
 stop_step W H v at.Between fits = record { event = event.Stop v; read = refl; may = fits; made = refl }
-stop_step W H v (at.In storing.Publish landed) fits =
-    let mark : Stored = mark_of W H v in
-    let same = same_due (lead_of W v) (pop_answer (life_of H v)) mark in
-    record {
-      event = event.StopIn v landed;
-      read = refl;
-      may = subst (λ (s : Stored). (with_next_start (if landed then s else mark)).start < 2 ^ 32) same fits;
-      made = ap (λ (s : Stored). Ends v (with_next_start (if landed then s else mark))) same;
-    }
+stop_step W H v (at.In storing.Publish landed) fits = record { event = event.StopIn v landed; read = refl; may = fits; made = refl }
 stop_step W H v (at.In storing.Tick landed) fits = record { event = event.StopInTick v landed; read = refl; may = fits; made = refl }
 stop_step W H v (at.In storing.Start true) fits = record { event = event.StopAtStart v true; read = refl; may = fits; made = refl }
 stop_step W H v (at.In storing.Start false) fits = record { event = event.StopAtStart v false; read = refl; may = fits; made = refl }
@@ -45,8 +32,7 @@ stop_step W H v (at.In storing.Start false) fits = record { event = event.StopAt
 
 stop_fault : (W : World) (H : List Happened) (v : Who) (at : StopAt) → 2 ^ 32 ≤ (begun_by W H v at).start → IsFault W H (asked_to_stop v at) StartsUsedUp
 stop_fault W H v at.Between past = past
-stop_fault W H v (at.In storing.Publish landed) past =
-    subst (λ (s : Stored). 2 ^ 32 ≤ (with_next_start (if landed then s else mark_of W H v)).start) (same_due (lead_of W v) (pop_answer (life_of H v)) (mark_of W H v)) past
+stop_fault W H v (at.In storing.Publish landed) past = past
 stop_fault W H v (at.In storing.Tick landed) past = past
 stop_fault W H v (at.In storing.Start true) past = past
 stop_fault W H v (at.In storing.Start false) past = past

@@ -4,6 +4,7 @@ use Rattle.pdc_frame.specs.declared.limits.TheConstants.{MAX_SIZE}
 use Rattle.pdc_mark.specs.declared.stored.Stored.{Stored}
 use Rattle.pdc_merge.specs.Merger.{MergerView}
 use Rattle.pdc_node.specs.Node.{NodeView}
+use Rattle.pdc_station.specs.pdc_publisher.Publisher.{lead_in, mark_in}
 use Rattle.pdc_station.specs.declared.station.Station.{Station}
 use Rattle.pdc_world.specs.declared.ledger.Ledger.{Ledger}
 use Rattle.pdc_world.specs.Views.{LedgerView, StationView, WorldView}
@@ -24,7 +25,7 @@ pub record IsReady (ledger : Ledger) : Type 0 where
 
 -- what is seen of a station, whose mark stores this
 abbrev pub station_view : {C M S : Type 0} {opens core reads store mark : _} (stored : M → Stored) → Station C M S opens core reads store mark → StationView C
-station_view stored station = record { core = station.core; mark = stored station.mark; lead = station.lead }
+station_view stored station = record { core = station.core; mark = stored (mark_in station.publisher); lead = lead_in station.publisher }
 
 -- what is seen of a world of these stations and this ledger
 abbrev pub world_view : (a b : StationView NodeView) → StationView MergerView → Ledger → WorldView

@@ -2,6 +2,7 @@
 ghost use Rattle.std.specs.Prelude.{◌≡◌, IsErrOf, OnErr};
 ghost use Rattle.pdc_event.specs.declared.fault.Fault.TheVariants.{NoMemory};
 ghost use Rattle.pdc_event.specs.Event.{asked_of};
+ghost use Rattle.pdc_station.specs.pdc_publisher.Publisher.{lead_in};
 ghost use Rattle.pdc_world.specs.Acts.{IsMade, IsRefused, IsSomePart};
 ghost use Rattle.pdc_world.specs.Ledger.{ledger_has_room, ledger_view};
 ghost use Rattle.pdc_world.specs.Receiver.{core_in};
@@ -34,7 +35,7 @@ pub(crate) fn act<C: Plays, S: Store>(
         × (ledger_has_room ledger.new ≡ ledger_has_room ledger.old)) }
     ensures room { HasRoomFor (ledger_has_room ledger.old) (asked_of event.now) → IsErrOf result NoMemory → ⊥ }
     ensures settings { C.settings_of station.new.core ≡ C.settings_of station.old.core }
-    ensures lead { station.new.lead ≡ station.old.lead }
+    ensures lead { lead_in station.new.publisher ≡ lead_in station.old.publisher }
 {
     match event {
         Event::Send { bytes } => send(ledger, bytes),

@@ -3,6 +3,7 @@ ghost use Rattle.std.specs.Prelude.{◌≡◌, IsErrOf, OnErr};
 ghost use Rattle.pdc_event.specs.declared.fault.Fault.TheVariants.{NoMemory};
 ghost use Rattle.pdc_event.specs.Event.{who_of};
 ghost use Rattle.pdc_history.specs.Asked as asked;
+ghost use Rattle.pdc_station.specs.pdc_publisher.Publisher.{lead_in};
 ghost use Rattle.pdc_world.specs.Acts.{IsMade, IsRefused};
 ghost use Rattle.pdc_world.specs.Ledger.{ledger_view};
 
@@ -26,7 +27,7 @@ pub(crate) fn bring<C: Plays, S: Store>(
     ensures err { OnErr result (station.new ≡ station.old) }
     ensures room { IsErrOf result NoMemory → ⊥ }
     ensures settings { C.settings_of station.new.core ≡ C.settings_of station.old.core }
-    ensures lead { station.new.lead ≡ station.old.lead }
+    ensures lead { lead_in station.new.publisher ≡ lead_in station.old.publisher }
 {
     let Some(bytes) = ledger.sent.get(number) else {
         return Err(Fault::NoSuchFrame);
@@ -51,7 +52,7 @@ pub(crate) fn bring_junk<C: Plays, S: Store>(
     ensures err { OnErr result (station.new ≡ station.old) }
     ensures room { IsErrOf result NoMemory → ⊥ }
     ensures settings { C.settings_of station.new.core ≡ C.settings_of station.old.core }
-    ensures lead { station.new.lead ≡ station.old.lead }
+    ensures lead { lead_in station.new.publisher ≡ lead_in station.old.publisher }
 {
     let stream = match named(&station.core, bytes) {
         Some(stream) => {

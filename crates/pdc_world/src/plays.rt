@@ -4,6 +4,7 @@ ghost use Rattle.std.proofs.Common.{lit<};
 ghost use Rattle.std.specs.List.{All, slice_get};
 ghost use Rattle.pdc_life.specs.declared.pmu.Pmu.{Pmu as PmuData};
 ghost use Rattle.pdc_history.specs.Agree.{ids_of};
+ghost use Rattle.pdc_station.specs.pdc_publisher.Publisher.{lead_in, mark_in};
 ghost use Rattle.pdc_world.specs.Named.{node_ids};
 ghost use Rattle.pdc_world.specs.Seats.{Seat};
 
@@ -42,9 +43,9 @@ impl<C: Plays, S: Store> Sits for Station<C, S> {
       given = λ mark. C.given_with (C.settings_of station.core) mark.start mark.floor mark.counts;
       says = C.Settings.says (C.settings_of station.core);
       ids = C.ids (C.settings_of station.core);
-      lead = station.lead;
+      lead = lead_in station.publisher;
       stands = C.stands_for station.core;
-      mark = S.stored station.mark;
+      mark = S.stored (mark_in station.publisher);
     } };
 }
 

@@ -3,6 +3,7 @@ ghost use Rattle.std.specs.Prelude.{◌≡◌, ◌≤◌, ◌<◌, ◌++◌, IfE
 ghost use Rattle.pdc_event.specs.declared.fault.Fault.TheVariants.{NoMemory};
 ghost use Rattle.pdc_event.specs.Event.{who_of};
 ghost use Rattle.pdc_history.specs.Asked as asked;
+ghost use Rattle.pdc_station.specs.pdc_publisher.Publisher.{lead_in};
 ghost use Rattle.pdc_world.specs.Acts.{IsMade, IsSomePart, frames_if, listed_with};
 ghost use Rattle.pdc_frame.specs.declared.limits.TheConstants.{MAX_SIZE};
 ghost use Rattle.pdc_row.specs.RowView.{row_view};
@@ -57,7 +58,7 @@ pub(crate) fn publish<C: Plays, S: Store>(
         × (ledger_has_room ledger.new ≡ ledger_has_room ledger.old)) }
     ensures room { IsTrue (ledger_has_room ledger.old) → IsOk result }
     ensures settings { C.settings_of station.new.core ≡ C.settings_of station.old.core }
-    ensures lead { station.new.lead ≡ station.old.lead }
+    ensures lead { lead_in station.new.publisher ≡ lead_in station.old.publisher }
 {
     frames_are_known();
     let Ok(()) = ledger.make_room() else {

@@ -2,6 +2,7 @@
 ghost use Rattle.std.specs.Prelude.{◌≡◌, ◌^◌, ◌<◌, OnErr};
 ghost use Rattle.pdc_event.specs.declared.reply.Reply.TheVariants.{Stopped};
 ghost use Rattle.pdc_event.specs.Event.{who_of};
+ghost use Rattle.pdc_station.specs.pdc_publisher.Publisher.{lead_in, mark_in};
 ghost use Rattle.pdc_world.specs.Acts.{IsMade, IsRefused, asked_to_stop, fault_of_stop};
 ghost use Rattle.pdc_world.specs.Ledger.{ledger_view};
 
@@ -25,10 +26,10 @@ fn fault_of(fault: StopFault) -> Fault
 
 /// What is told of a life that began.
 fn begun<C: Plays, S: Store>(station: &Station<C, S>, who: Who) -> Reply
-    ensures value { result ≡ Stopped who (S.stored station.now.mark).start (S.stored station.now.mark).floor }
-    ensures fits { (S.stored station.now.mark).start < 2 ^ 32 }
+    ensures value { result ≡ Stopped who (S.stored (mark_in station.now.publisher)).start (S.stored (mark_in station.now.publisher)).floor }
+    ensures fits { (S.stored (mark_in station.now.publisher)).start < 2 ^ 32 }
 {
-    let (start, floor) = station.mark.stored();
+    let (start, floor) = station.publisher.mark().stored();
     Reply::Stopped { who, start, floor }
 }
 
@@ -45,7 +46,7 @@ pub(crate) fn stop<C: Plays, S: Store>(
     ensures why { IsRefused (who_of who) (asked_to_stop (who_of who) at) (⟦<Station<C, S> as Sits>⟧.seat station.old) (ledger_view ledger.now) result }
     ensures err { OnErr result (station.new ≡ station.old) }
     ensures settings { C.settings_of station.new.core ≡ C.settings_of station.old.core }
-    ensures lead { station.new.lead ≡ station.old.lead }
+    ensures lead { lead_in station.new.publisher ≡ lead_in station.old.publisher }
 {
     asked_is_event_or_fault();
     match station.stop(alloc, at) {

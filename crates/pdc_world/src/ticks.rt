@@ -6,6 +6,7 @@ ghost use Rattle.pdc_life.specs.Published.{layout_wire};
 ghost use Rattle.pdc_event.specs.declared.fault.Fault.TheVariants.{NoMemory};
 ghost use Rattle.pdc_event.specs.Event.{who_of};
 ghost use Rattle.pdc_history.specs.Asked as asked;
+ghost use Rattle.pdc_station.specs.pdc_publisher.Publisher.{lead_in};
 ghost use Rattle.pdc_world.specs.Acts.{IsMade, IsSomePart, IsSomeFrame};
 ghost use Rattle.pdc_world.specs.Ledger.{IsReady, ledger_has_room, ledger_view};
 
@@ -44,7 +45,7 @@ pub(crate) fn tick<C: Plays, S: Store>(
         × (ledger_has_room ledger.new ≡ ledger_has_room ledger.old)) }
     ensures room { IsTrue (ledger_has_room ledger.old) → IsOk result }
     ensures settings { C.settings_of station.new.core ≡ C.settings_of station.old.core }
-    ensures lead { station.new.lead ≡ station.old.lead }
+    ensures lead { lead_in station.new.publisher ≡ lead_in station.old.publisher }
 {
     frames_are_known();
     let Ok(()) = ledger.make_room() else {

@@ -1,5 +1,6 @@
 use Rattle.std.proofs.Common.{ap, ◌∙◌}
 use Rattle.pdc_mark.specs.Stored.{with_next_start}
+use Rattle.pdc_publisher.specs.Publisher.{mark_in}
 use Rattle.pdc_station.proofs.station.Station.stop.Goals as goal
 
 pub returns-clause-stops : goal.returns-clause-stops
@@ -7,8 +8,8 @@ returns-clause-stops g c = record {
   due = c.next_instant-due.result;
   waiting = c.waiting-waiting.result;
   waits = λ h E stands. (c.next_instant-due.ensures.answer h E stands, c.waiting-waiting.ensures h E stands);
-  mark = c.begin.ensures.mark ∙ ap with_next_start c.stop_mark.ensures.stored;
-  left = c.stop_mark.new.mark;
-  falls = c.stop_mark.ensures.stops;
+  mark = c.begin.ensures.mark ∙ ap with_next_start c.stop_publisher.ensures.stored;
+  left = mark_in c.stop_publisher.new.publisher;
+  falls = c.stop_publisher.ensures.stops;
   begins = c.begin.ensures.mark;
 }
