@@ -23,7 +23,7 @@ pub const MAX_LEAD: u16 = 1000;
 /// Publishes the rows of one life. It alone owns the mark: a row goes out only once the floor is stored at or above its
 /// instant.
 ///
-/// After a device fault each call that publishes or raises is refused so.
+/// After a device fault each call that publishes is refused so, and each that raises where something is to be stored.
 #[derive(Drop)]
 pub struct Publisher<M: Mark> {
     pub(crate) mark: M,
