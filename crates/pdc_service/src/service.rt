@@ -1,17 +1,112 @@
 //! A node and the merger, from their files to the end of their run.
-ghost use Rattle.std.specs.Prelude.{IfOk, None};
+ghost use Rattle.std.specs.Prelude.{◌≡◌, ◌∷◌, IfOk, None, Some, [], vec_len};
 ghost use Rattle.pdc_service.specs.Handed.{WasHanded};
 ghost use Rattle.pdc_service.specs.Summed.{AreSums, HaveEach};
+ghost use Rattle.pdc_startup.specs.Begun.{begun_mark};
 ghost use Rattle.pdc_startup.specs.Concentrator.{IsMerger, IsNode, streams_of};
 ghost use Rattle.pdc_startup.specs.Steps.{HasOpened, HasStarted, steps_with};
+ghost use Rattle.pdc_startup.specs.declared.described.Step.TheVariants.{BeginRecord, OpenListener, OpenMetrics, OpenSink, OpenSources};
 
 use crate::host::Host;
 use crate::serving::{Consumers, Opened, Serving, run_serving};
 use crate::telling::begun_text;
-use pdc_startup::{Described, Files, Machine, Observed, OutputsSink, RunOptions, ServiceFault};
-use pdc_threads::{HubFault, Totals};
+use pdc_mark::Mark;
+use pdc_recording::Series;
+use pdc_startup::{
+    Begun, Described, Files, Machine, Observed, OutputsSink, RunOptions, ServiceFault,
+};
+use pdc_threads::{HubFault, Source, Totals};
 
-/// Tries the steps behind the settings, in their order, and runs the concentrator that these describe.
+/// A life whose mark has begun, and what is watched of it.
+#[derive(Drop)]
+struct Watched<'a, M: Mark + Drop> {
+    mark: Begun<M>,
+    observed: &'a Observed,
+}
+
+/// What a run has once a link to the sender of each stream is open: its mark, the links, in order, the files of its record, where it is
+/// recorded, and how many bytes of datagrams wait at a port at most, where the system tells it.
+#[derive(Drop)]
+struct Linked<'a, S: Source + Drop, M: Mark + Drop> {
+    mark: Begun<M>,
+    sources: Vec<S>,
+    record: Option<Series<'a>>,
+    buffer: Option<u32>,
+}
+
+/// Tries the steps behind the links, in their order, and runs the concentrator that the settings describe.
+fn serve_linked<M: Machine, S: Source + Send + Drop, R: Host>(
+    rt: &R,
+    machine: &mut M,
+    options: &RunOptions,
+    described: &Described,
+    observed: &Observed,
+    linked: Linked<'_, S, M::Mark>,
+) -> Result<Totals, ServiceFault>
+    requires { vec_len linked.sources ≡ streams_of described.now.concentrator }
+    ensures totals { IfOk result AreSums }
+    ensures each { IfOk result (HaveEach (streams_of described.now.concentrator)) }
+    ensures opened { HasOpened M.tried machine.old machine.new described.now (λ stored. WasHanded M.fresh M.Outputs.took stored result) (Some (M.Mark.stored (begun_mark linked.entry.mark))) (OpenSink ∷ OpenListener ∷ OpenMetrics ∷ []) result }
+{
+    let alloc = rt.alloc();
+    let concentrator = &described.concentrator;
+    let network = &described.network;
+    let outputs = machine.open_outputs(rt, described)?;
+    let listener = machine.open_listener(rt, described)?;
+    let metrics = machine.open_metrics(rt, described)?;
+    let (start, floor) = (linked.mark.start(), linked.mark.floor());
+    observed.journal.note(
+        rt,
+        begun_text(alloc, concentrator, network, start, floor, linked.buffer),
+    );
+    let opened = Opened {
+        mark: linked.mark,
+        sources: linked.sources,
+        sink: OutputsSink::new(outputs, observed.outputs.as_slice()),
+        record: linked.record,
+    };
+    let consumers = Consumers {
+        listener,
+        most: network.sessions,
+        metrics,
+    };
+    let serving = Serving {
+        concentrator,
+        options,
+        consumers: &consumers,
+        observed,
+    };
+    run_serving(rt, alloc, &serving, opened)
+}
+
+/// Tries the steps behind the mark, in their order, and runs the concentrator that the settings describe.
+fn serve_watched<M: Machine, R: Host>(
+    rt: &R,
+    machine: &mut M,
+    files: &Files<'_>,
+    options: &RunOptions,
+    described: &Described,
+    watched: Watched<'_, M::Mark>,
+) -> Result<Totals, ServiceFault>
+    ensures totals { IfOk result AreSums }
+    ensures each { IfOk result (HaveEach (streams_of described.now.concentrator)) }
+    ensures opened { HasOpened M.tried machine.old machine.new described.now (λ stored. WasHanded M.fresh M.Outputs.took stored result) (Some (M.Mark.stored (begun_mark watched.entry.mark))) (BeginRecord files.now ∷ OpenSources ∷ OpenSink ∷ OpenListener ∷ OpenMetrics ∷ []) result }
+{
+    let Watched { mark, observed } = watched;
+    let record = machine.open_record(rt, files, described, &mark)?;
+    let sources = machine.open_links(rt, described, observed)?;
+    let buffer = sources.first().and_then(|source| source.buffer());
+    let linked = Linked {
+        mark,
+        sources,
+        record,
+        buffer,
+    };
+    serve_linked(rt, machine, options, described, observed, linked)
+}
+
+/// Tries the steps behind the settings, in their order, and runs the concentrator that these describe. What is watched of the run is lent to
+/// what follows: it has so many parts that to own it over each step's exit is dear to prove.
 fn serve_described<M: Machine, R: Host>(
     rt: &R,
     machine: &mut M,
@@ -23,44 +118,18 @@ fn serve_described<M: Machine, R: Host>(
     ensures each { IfOk result (HaveEach (streams_of described.now.concentrator)) }
     ensures opened { HasOpened M.tried machine.old machine.new described.now (λ stored. WasHanded M.fresh M.Outputs.took stored result) None (steps_with files.now) result }
 {
-    let alloc = rt.alloc();
-    let concentrator = &described.concentrator;
-    let network = &described.network;
+    let (concentrator, network) = (&described.concentrator, &described.network);
+    let (alloc, is_recorded) = (rt.alloc(), files.record.is_some());
     let mark = machine.begin_mark(rt, files, described)?;
-    let is_recorded = files.record.is_some();
     let Ok(observed) = Observed::new(alloc, concentrator, network, options.is_quiet, is_recorded)
     else {
         return Err(ServiceFault::Run(HubFault::NoMemory));
     };
-    let (start, floor) = (mark.start(), mark.floor());
-    let record = machine.open_record(rt, files, described, &mark)?;
-    let sources = machine.open_links(rt, described, &observed)?;
-    let buffer = sources.first().and_then(|source| source.buffer());
-    let outputs = machine.open_outputs(rt, described)?;
-    let listener = machine.open_listener(rt, described)?;
-    let metrics = machine.open_metrics(rt, described)?;
-    observed.journal.note(
-        rt,
-        begun_text(alloc, concentrator, network, start, floor, buffer),
-    );
-    let opened = Opened {
+    let watched = Watched {
         mark,
-        sources,
-        sink: OutputsSink::new(outputs, observed.outputs.as_slice()),
-        record,
-    };
-    let consumers = Consumers {
-        listener,
-        most: network.sessions,
-        metrics,
-    };
-    let serving = Serving {
-        concentrator,
-        options,
-        consumers: &consumers,
         observed: &observed,
     };
-    run_serving(rt, alloc, &serving, opened)
+    serve_watched(rt, machine, files, options, described, watched)
 }
 
 /// Runs a node, and serves its consumers as long. On standard error it tells what happens to it, and counters where they are asked for; a
