@@ -1,5 +1,5 @@
 use Rattle.std.proofs.Common.{Some}
-use Rattle.try_record_hub.proofs.life.record_life.Given as goal
+use Rattle.try_hub.proofs.life.record_life.Given as goal
 
 abbrev pub ghosts-live_on-N-Naming : goal.ghosts-live_on-N-Naming
 ghosts-live_on-N-Naming g a = record { given = Some (g.C.Opens.given_with a.opened.settings.now 1 0 a.opened.counts); settings = Some a.opened.settings.now }

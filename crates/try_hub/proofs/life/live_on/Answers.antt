@@ -1,5 +1,5 @@
 use Rattle.std.proofs.Common.{rules}
-use Rattle.try_record_hub.proofs.life.live_on.Goals as goal
+use Rattle.try_hub.proofs.life.live_on.Goals as goal
 
 pub new-hub-requires-clause-alike : goal.new-hub-requires-clause-alike
 new-hub-requires-clause-alike g c = (
