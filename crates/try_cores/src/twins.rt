@@ -11,7 +11,7 @@
 use crate::table_player::TablePlayer;
 use pdc_table::RingTable;
 use std::alloc::{AllocError, Global};
-use try_script::Player;
+use try_script::{Player, numbers};
 use try_table::SortedTable;
 
 /// The answers of a put that the plays should give.
@@ -54,11 +54,22 @@ impl Twins {
     fn play_both(&mut self, alloc: Global, call: &str) -> Result<Option<String>, AllocError> {
         let sorted = self.sorted.play(alloc, call)?;
         let ring = self.ring.play(alloc, call)?;
-        if sorted.as_str() != ring.as_str() {
+        self.compared(alloc, call, &sorted, &ring)
+    }
+
+    /// Notes the answer that both gave; tells where they differ.
+    fn compared(
+        &mut self,
+        alloc: Global,
+        call: &str,
+        sorted: &str,
+        ring: &str,
+    ) -> Result<Option<String>, AllocError> {
+        if sorted != ring {
             return Ok(Some(format!(in alloc; "{call}: {sorted}, {ring}")?));
         }
         for (kind, came) in KINDS.iter().zip(self.came.iter_mut()) {
-            if sorted.as_str() == *kind {
+            if sorted == *kind {
                 *came = true;
             }
         }
@@ -168,33 +179,38 @@ fn call_of(alloc: Global, play: &Play, step: u64, number: u64) -> Result<String,
 }
 
 /// What the words say that is to be played.
-fn play_of(words: [&str; 6]) -> Option<Play> {
-    let [calls, seed, window, columns, lanes, floor] = words;
+fn play_of(words: &[&str]) -> Option<Play> {
+    let [calls, seed, window, columns, lanes, floor] = numbers::<6>(words)?;
     Some(Play {
-        calls: calls.parse().ok()?,
-        seed: seed.parse().ok()?,
-        window: window.parse().ok()?,
-        columns: columns.parse().ok()?,
-        lanes: lanes.parse().ok()?,
-        floor: floor.parse().ok()?,
+        calls,
+        seed,
+        window,
+        columns,
+        lanes,
+        floor,
     })
 }
 
-impl Player for Twins {
-    fn play(&mut self, alloc: Global, call: &str) -> Result<String, AllocError> {
-        let words: Vec<&str> = call.split_whitespace().collect(alloc)?;
-        match words.as_slice() {
-            ["play", calls, seed, window, columns, lanes, floor] => {
-                match play_of([calls, seed, window, columns, lanes, floor]) {
-                    Some(play) => self.play_all(alloc, &play),
-                    None => "no such call".to_string(alloc),
-                }
-            }
+impl Twins {
+    /// What the call of these words is answered.
+    fn answer(&mut self, alloc: Global, words: &[&str]) -> Result<String, AllocError> {
+        match words {
+            ["play", words @ ..] => match play_of(words) {
+                Some(play) => self.play_all(alloc, &play),
+                None => "no such call".to_string(alloc),
+            },
             ["kinds"] => {
                 let came = self.came.iter().filter(|came| **came).count();
                 came.to_string(alloc)
             }
             _ => "no such call".to_string(alloc),
         }
+    }
+}
+
+impl Player for Twins {
+    fn play(&mut self, alloc: Global, call: &str) -> Result<String, AllocError> {
+        let words: Vec<&str> = call.split_whitespace().collect(alloc)?;
+        self.answer(alloc, &words)
     }
 }

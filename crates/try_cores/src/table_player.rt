@@ -21,7 +21,7 @@ use pdc_row::DueRow;
 use pdc_table::{PutOutcome, RowLayout, Table, WaitRule, spare_row};
 use std::alloc::{AllocError, Global};
 use std::fmt::Write;
-use try_script::Player;
+use try_script::{Player, numbers};
 
 /// A table, and its sizes.
 #[derive(Drop)]
@@ -224,16 +224,6 @@ fn layout(columns: &str) -> RowLayout {
     }
 }
 
-fn sizes(words: [&str; 4]) -> Option<[u64; 4]> {
-    let [window, columns, lanes, floor] = words;
-    Some([
-        window.parse().ok()?,
-        columns.parse().ok()?,
-        lanes.parse().ok()?,
-        floor.parse().ok()?,
-    ])
-}
-
 fn append(text: &mut String, word: &str) -> Result<(), AllocError> {
     write!(text, " {word}")
 }
@@ -276,11 +266,11 @@ fn number(alloc: Global, number: Option<u64>) -> Result<String, AllocError> {
     }
 }
 
-impl<T: Table> Player for TablePlayer<T> {
-    fn play(&mut self, alloc: Global, call: &str) -> Result<String, AllocError> {
-        let words: Vec<&str> = call.split_whitespace().collect(alloc)?;
-        match words.as_slice() {
-            ["new", window, columns, lanes, floor] => match sizes([window, columns, lanes, floor]) {
+impl<T: Table> TablePlayer<T> {
+    /// What the call of these words is answered.
+    fn answer(&mut self, alloc: Global, words: &[&str]) -> Result<String, AllocError> {
+        match words {
+            ["new", words @ ..] => match numbers::<4>(words) {
                 Some(sizes) => {
                     let is_done = self.renew(alloc, sizes)?;
                     done(alloc, Some(is_done))
@@ -301,5 +291,12 @@ impl<T: Table> Player for TablePlayer<T> {
             ["disagree"] => number(alloc, Some(self.table.disagree())),
             _ => done(alloc, None),
         }
+    }
+}
+
+impl<T: Table> Player for TablePlayer<T> {
+    fn play(&mut self, alloc: Global, call: &str) -> Result<String, AllocError> {
+        let words: Vec<&str> = call.split_whitespace().collect(alloc)?;
+        self.answer(alloc, &words)
     }
 }
