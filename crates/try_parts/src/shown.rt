@@ -4,19 +4,20 @@ use pdc_show::{Shown, run_show};
 use std::alloc::Global;
 use std::rt::Files;
 use std::{fs, io};
-use try_script::Played;
 
-/// Shows the frames of this name, and complains where what is printed, or whether each line was shown, is not as wanted.
+/// Shows the frames of this name, and says that it did; complains where what is printed, or whether each line was shown, is not as wanted,
+/// and tells whether it is.
 ///
 /// # Errors
 ///
 /// A file that cannot be read, want of memory, or a standard error that cannot be written.
 pub fn play_shown(
-    rt: &(impl Files + AllocGlobal + Eprint),
+    rt: &(impl Files + AllocGlobal + Eprint + Print),
     alloc: Global,
+    how: &str,
     name: &str,
     wanted: Shown,
-) -> io::Result<Played> {
+) -> io::Result<bool> {
     let input = fs::read(rt, format!(in alloc; "show/{name}.hex")?)?;
     let lines = fs::read(rt, format!(in alloc; "show/{name}.txt")?)?;
     let mut reader = input.as_slice();
@@ -27,8 +28,6 @@ pub fn play_shown(
         eprintln!(rt; "show/{name}.hex: {outcome:?}, and what is printed:")?;
         eprintln!(rt; "{}", printed.escape_ascii())?;
     }
-    Ok(Played {
-        calls: 1,
-        as_wanted,
-    })
+    println!(rt; "{how} {name}: 1 played")?;
+    Ok(as_wanted)
 }

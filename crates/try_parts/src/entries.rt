@@ -1,19 +1,15 @@
-//! Plays the entries of a record, one in hexadecimal on each line of standard input: what it says, whether it is written so again, and what is
-//! told of it with any one of its bytes changed. Then all that were read are one record, which is cut at every byte.
-#![tactic(auto)]
+//! The entries of a record: what each says, whether it is written so again, and what is told of it with any one of its bytes changed. Then all
+//! that were read are one record, which is cut at every byte.
 
-mod changes;
-mod cuts;
-
-use changes::{Answers, answers_to_changes, is_written_again};
-use cuts::{Record, cuts_that_differ};
+use crate::changes::{Answers, answers_to_changes, is_written_again};
+use crate::cuts::{Record, cuts_that_differ};
 use pdc_record::read_entry;
 use std::alloc::Global;
-use std::io;
-use std::io::Read;
+use std::rt::Files;
+use std::{fs, io};
 
 /// Prints what the bytes begin with, and plays the entry that they are.
-fn play(rt: &HostRuntime, alloc: Global, bytes: &[u8], record: &mut Record) -> io::Result<()> {
+fn play_entry(rt: &impl Print, alloc: Global, bytes: &[u8], record: &mut Record) -> io::Result<()> {
     match read_entry(bytes) {
         Err(cause) => println!(rt; "{cause:?}")?,
         Ok((entry, len)) => {
@@ -38,19 +34,22 @@ fn play(rt: &HostRuntime, alloc: Global, bytes: &[u8], record: &mut Record) -> i
     Ok(())
 }
 
-fn main(rt: HostRuntime) -> io::Result<()> {
-    let alloc = rt.alloc();
-    let mut text = String::new(alloc);
-    rt.reader().read_to_string(&mut text)?;
+/// Plays each entry of the file, and then the record that they are.
+pub fn play(
+    rt: &(impl Files + AllocGlobal + Print),
+    alloc: Global,
+    file: &str,
+) -> io::Result<bool> {
+    let text = fs::read_to_string(rt, file)?;
     let mut record = Record::new(alloc);
     for line in text.lines() {
         match hex::decode(alloc, line) {
-            Ok(bytes) => play(&rt, alloc, bytes.as_slice(), &mut record)?,
+            Ok(bytes) => play_entry(rt, alloc, bytes.as_slice(), &mut record)?,
             Err(_) => println!(rt; "no hexadecimal")?,
         }
     }
     let cuts = record.bytes().len();
     let differ = cuts_that_differ(&record);
     println!(rt; "{cuts} bytes in one record, cut at each: {differ} are not read up to the cut")?;
-    Ok(())
+    Ok(true)
 }

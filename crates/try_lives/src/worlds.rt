@@ -1,28 +1,22 @@
-//! Plays scripts on worlds of two nodes and a merger, and complains of each that prints other lines than it is to print.
+//! Scripts on worlds of two nodes and a merger, of which each is to print its own lines.
 //!
-//! The file `scenarios` has a line for each: its name, and the settings of node A, of node B and of the merger. `NAME.txt` is the script,
+//! The file of scenarios has a line for each: its name, and the settings of node A, of node B and of the merger. `NAME.txt` is the script,
 //! `NAME.printed` the lines that it is to print and then its exit status. These were reckoned from the definitions of this profile by hand,
 //! with check words of another program. Each script is played over marks in memory and over marks on disks in memory.
-#![tactic(auto)]
 
-mod compare;
-mod scenario;
-mod world;
-
-use compare::agree;
-use scenario::Scenario;
+use crate::compare::agree;
+use crate::scenario::Scenario;
+use crate::world::{over_disks, over_memory};
 use std::alloc::Global;
-use std::process::ExitCode;
 use std::rt::Files;
 use std::{fs, io};
-use world::{over_disks, over_memory};
 
 /// How many scripts were played, and whether each printed what it is to print.
 #[derive(Clone, Copy, Debug)]
-struct Tally {
-    in_memory: u32,
-    on_disks: u32,
-    all_agree: bool,
+pub struct Tally {
+    pub in_memory: u32,
+    pub on_disks: u32,
+    pub all_agree: bool,
 }
 
 /// Plays the scenario over marks of both kinds.
@@ -46,9 +40,13 @@ fn try_scenario(
     Ok(tally)
 }
 
-fn main(rt: HostRuntime) -> io::Result<ExitCode> {
-    let alloc = rt.alloc();
-    let scenarios = fs::read_to_string(&rt, "scenarios")?;
+/// Plays the scenarios of this file, and complains of each that prints other lines than it is to print.
+pub fn play(
+    rt: &(impl Files + AllocGlobal + Eprint),
+    alloc: Global,
+    file: &str,
+) -> io::Result<Tally> {
+    let scenarios = fs::read_to_string(rt, file)?;
     let mut tally = Tally {
         in_memory: 0,
         on_disks: 0,
@@ -56,17 +54,18 @@ fn main(rt: HostRuntime) -> io::Result<ExitCode> {
     };
     for line in scenarios.lines() {
         match Scenario::of_line(line) {
-            Some(scenario) => tally = try_scenario(&rt, alloc, &scenario, tally)?,
+            Some(scenario) => tally = try_scenario(rt, alloc, &scenario, tally)?,
             None => {
-                eprintln!(rt; "scenarios: {line}: not four words")?;
+                eprintln!(rt; "{file}: {line}: not four words")?;
                 tally.all_agree = false;
             }
         }
     }
-    if !tally.all_agree {
-        return Ok(ExitCode::FAILURE);
-    }
+    Ok(tally)
+}
+
+/// Prints how many scripts agree.
+pub fn print(rt: &impl Print, tally: Tally) -> io::Result<()> {
     println!(rt; "{} scripts agree over marks in memory", tally.in_memory)?;
-    println!(rt; "{} scripts agree over marks on disks", tally.on_disks)?;
-    Ok(ExitCode::SUCCESS)
+    println!(rt; "{} scripts agree over marks on disks", tally.on_disks)
 }
