@@ -1,8 +1,8 @@
 //! A stream cut into its frames, and lines of hexadecimal shown, on heaps of falling size: refused below the size that their blocks have, and
 //! from it on answered as with ample memory.
 
-use crate::tests::falling::{BLOCK, Falling};
-use crate::tests::same::same;
+use crate::tests::heaps::falling::{BLOCK, Falling};
+use crate::tests::heaps::same::same;
 use crate::tests::vectors::DATA_11;
 use linked_list_allocator::LocalHeap;
 use pdc_frame::frames_of;

@@ -1,7 +1,7 @@
 //! The calls that append to a caller's bytes, where the memory for them is refused. The contracts say that such a call fails only where
 //! there was no room and leaves the bytes as they were; here it really happens, on a small heap.
 
-use crate::tests::same::same;
+use crate::tests::heaps::same::same;
 use crate::tests::vectors::CONFIG_11;
 use linked_list_allocator::LocalHeap;
 use pdc_block::{join, read_body};

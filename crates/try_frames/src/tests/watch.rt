@@ -1,5 +1,6 @@
 //! What is shown of a pair, as JSON.
 
+use super::same::is;
 use pdc_watch::{Three, Watch};
 use pdc_watch_data::json_of;
 use std::alloc::{AllocError, Global};
@@ -26,6 +27,6 @@ fn addresses(alloc: Global) -> Result<Three<String>, AllocError> {
 fn nothing_known_yet(rt: HostRuntime) -> Result<(), Fail> {
     let watch = Watch::new(rt.alloc(), 50, 1000)?;
     let text = json_of(rt.alloc(), &watch, &addresses(rt.alloc())?, 2500)?;
-    assert_eq!(rt; text.as_slice(), NOTHING.as_bytes());
+    is!(&rt; text.as_slice(), NOTHING.as_bytes());
     Ok(())
 }

@@ -1,7 +1,7 @@
 //! The ring of the frames that were sent last, on heaps of falling size.
 
-use crate::tests::falling::{BLOCK, Falling};
-use crate::tests::same::same;
+use crate::tests::heaps::falling::{BLOCK, Falling};
+use crate::tests::heaps::same::same;
 use crate::tests::vectors::CONFIG_11;
 use linked_list_allocator::LocalHeap;
 use pdc_session::Frames;

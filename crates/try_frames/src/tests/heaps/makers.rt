@@ -1,8 +1,8 @@
 //! The calls that reserve their room once, on heaps of all sizes from ample down to the smallest: each succeeds exactly from the size on
 //! that its blocks have, and what the smallest such heap holds works there.
 
-use crate::tests::falling::{BLOCK, Falling};
-use crate::tests::same::same;
+use crate::tests::heaps::falling::{BLOCK, Falling};
+use crate::tests::heaps::same::same;
 use crate::tests::vectors::{CONFIG_11, DATA_11, DATA_ON, HEADER, SEND_HEADER, SOC, TEXT};
 use linked_list_allocator::LocalHeap;
 use pdc_cfg::read_config;
@@ -11,6 +11,7 @@ use pdc_frame::{Framer, Step, StreamId, read_frame};
 use pdc_session::{Serving, Session};
 use std::io;
 use std::io::{Read, Write};
+use std::process::Abort;
 use std::test::*;
 
 /// The stream that sessions and clients are of.
@@ -123,19 +124,23 @@ fn client_on_the_smallest_heap(rt: HostRuntime) -> Result<(), Fail> {
     Ok(())
 }
 
+/// A client on a heap of this size answers this, or nothing for want of memory.
+fn is_answered(
+    rt: &(impl Abort + AllocGlobal),
+    size: usize,
+    wanted: Option<&[u8]>,
+) -> Result<(), Fail> {
+    let heap = LocalHeap::new(rt.alloc(), size)?;
+    let mut client = Pdc::new(&heap, STREAM, Line::default())?;
+    match client.get(&heap) {
+        Ok(data) => same(rt, &Some(data.as_slice()), &wanted, size),
+        Err(_) => same(rt, &None, &wanted, size),
+    }
+    Ok(())
+}
+
 #[test]
 fn client_without_memory_for_an_answer(rt: HostRuntime) -> Result<(), Fail> {
-    let heap = LocalHeap::new(rt.alloc(), CLIENT)?;
-    let mut client = Pdc::new(&heap, STREAM, Line::default())?;
-    same(&rt, &client.get(&heap).is_err(), &true, CLIENT);
-    let heap = LocalHeap::new(rt.alloc(), CLIENT + 2 * BLOCK)?;
-    let mut client = Pdc::new(&heap, STREAM, Line::default())?;
-    let data = client.get(&heap)?;
-    same(
-        &rt,
-        &data.as_slice(),
-        &DATA_11.as_slice(),
-        CLIENT + 2 * BLOCK,
-    );
-    Ok(())
+    is_answered(&rt, CLIENT, None)?;
+    is_answered(&rt, CLIENT + 2 * BLOCK, Some(DATA_11.as_slice()))
 }

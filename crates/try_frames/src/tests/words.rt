@@ -1,5 +1,6 @@
 //! What the words of the command line ask for.
 
+use super::same::{is, same};
 use pdc_command_line::parse;
 use std::alloc::{AllocError, Global};
 use std::process::Abort;
@@ -108,7 +109,7 @@ fn asked(alloc: Global, words: &[String]) -> Result<String, AllocError> {
 /// The words ask for this.
 fn is_asked(rt: &(impl Abort + AllocGlobal), words: &[String], wanted: &str, line: &str) {
     let found = asked(rt.alloc(), words).expect(rt, "memory");
-    assert_eq!(rt; found.as_str(), wanted, "{line}");
+    same(rt, &found.as_str(), &wanted, line);
 }
 
 #[test]
@@ -122,6 +123,6 @@ fn what_words_ask_for(rt: HostRuntime) {
         is_asked(&rt, &words, wanted, line);
         rows = rows.saturating_add(1);
     }
-    assert!(rt; rows == ROWS, "each line is a row");
+    is!(&rt; rows, ROWS);
     is_asked(&rt, &[], "status 2", "no words");
 }

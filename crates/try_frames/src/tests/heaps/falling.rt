@@ -1,6 +1,6 @@
 //! Heaps of falling size.
 
-use crate::tests::same::same;
+use crate::tests::heaps::same::same;
 use std::process::Abort;
 
 /// A heap gives blocks of multiples of so many bytes: the sizes of heaps that differ.
