@@ -238,17 +238,24 @@ impl<'a, C: Scripted> CorePlayer<'a, C> {
     }
 }
 
-impl<C: Scripted> Player for CorePlayer<'_, C> {
-    fn play(&mut self, alloc: Global, call: &str) -> Result<String, AllocError> {
-        let words: Vec<&str> = call.split_whitespace().collect(alloc)?;
-        if let Some(call) = life_call(self.frames, &words) {
-            return self.answer(alloc, call);
-        }
-        match words.as_slice() {
-            ["node" | "merger" | "widest", ..] => self.begin(alloc, &words),
+impl<C: Scripted> CorePlayer<'_, C> {
+    /// What a call is answered that is none on the life.
+    fn other(&mut self, alloc: Global, words: &[&str]) -> Result<String, AllocError> {
+        match words {
+            ["node" | "merger" | "widest", ..] => self.begin(alloc, words),
             ["lead", lead] => self.lead(alloc, lead),
             [word] => self.told(alloc, word),
             _ => "no such call".to_string(alloc),
+        }
+    }
+}
+
+impl<C: Scripted> Player for CorePlayer<'_, C> {
+    fn play(&mut self, alloc: Global, call: &str) -> Result<String, AllocError> {
+        let words: Vec<&str> = call.split_whitespace().collect(alloc)?;
+        match life_call(self.frames, &words) {
+            Some(call) => self.answer(alloc, call),
+            None => self.other(alloc, &words),
         }
     }
 }

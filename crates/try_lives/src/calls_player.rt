@@ -163,16 +163,18 @@ fn answer(alloc: Global, name: &str, words: &[&str]) -> Result<Option<String>, A
     }
 }
 
+/// The answer to the call of these words.
+fn told(alloc: Global, words: &[&str]) -> Result<String, AllocError> {
+    let (name, words) = words.split_first().unwrap_or((&"", &[]));
+    match answer(alloc, name, words)? {
+        Some(text) => Ok(text),
+        None => "no such call".to_string(alloc),
+    }
+}
+
 impl Player for CallsPlayer {
     fn play(&mut self, alloc: Global, call: &str) -> Result<String, AllocError> {
         let words: Vec<&str> = call.split_whitespace().collect(alloc)?;
-        let answered = match words.as_slice() {
-            [name, words @ ..] => answer(alloc, name, words)?,
-            [] => None,
-        };
-        match answered {
-            Some(text) => Ok(text),
-            None => "no such call".to_string(alloc),
-        }
+        told(alloc, &words)
     }
 }

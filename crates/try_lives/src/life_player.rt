@@ -180,24 +180,24 @@ impl<'a> LifePlayer<'a> {
 
     /// The rows that closed, the first of them first.
     fn rows_text(&self, alloc: Global) -> Result<String, AllocError> {
-        let mut texts = Vec::new(alloc);
-        if let Some(life) = self.live(alloc)? {
-            for row in &life.rows(alloc)? {
-                texts.push(row_text(alloc, row)?)?;
+        match self.live(alloc)? {
+            Some(life) => {
+                let rows = life.rows(alloc)?;
+                texts_of(alloc, &rows)
             }
+            None => Ok(String::new(alloc)),
         }
-        texts.as_slice().join(alloc, " ")
     }
 
     /// The frames that are published, one after the other.
     fn published_text(&self, alloc: Global) -> Result<String, AllocError> {
-        let mut bytes = Vec::new(alloc);
-        if let Some(life) = self.live(alloc)? {
-            for frame in &life.published(alloc)? {
-                bytes.extend_from_slice(frame)?;
+        match self.live(alloc)? {
+            Some(life) => {
+                let frames = life.published(alloc)?;
+                joined(alloc, &frames)
             }
+            None => Ok(String::new(alloc)),
         }
-        hex::encode_upper(alloc, bytes.as_slice())
     }
 
     /// What is told of the layout's frame.
@@ -224,6 +224,24 @@ impl<'a> LifePlayer<'a> {
     }
 }
 
+/// The instants and stamps of rows.
+fn texts_of(alloc: Global, rows: &[DueRow]) -> Result<String, AllocError> {
+    let mut texts = Vec::new(alloc);
+    for row in rows {
+        texts.push(row_text(alloc, row)?)?;
+    }
+    texts.as_slice().join(alloc, " ")
+}
+
+/// Frames, one after the other.
+fn joined(alloc: Global, frames: &[Vec<u8>]) -> Result<String, AllocError> {
+    let mut bytes = Vec::new(alloc);
+    for frame in frames {
+        bytes.extend_from_slice(frame)?;
+    }
+    hex::encode_upper(alloc, bytes.as_slice())
+}
+
 /// How many rows closed, and the columns that were adopted.
 fn tick_text(alloc: Global, closed: usize, adopted: &[usize]) -> Result<String, AllocError> {
     let mut texts = Vec::new(alloc);
@@ -247,17 +265,24 @@ fn answer_text(alloc: Global, answered: &Answered) -> Result<String, AllocError>
     }
 }
 
-impl Player for LifePlayer<'_> {
-    fn play(&mut self, alloc: Global, call: &str) -> Result<String, AllocError> {
-        let words: Vec<&str> = call.split_whitespace().collect(alloc)?;
-        if let Some(call) = life_call(self.frames, &words) {
-            return self.answer(alloc, call);
-        }
-        match words.as_slice() {
+impl LifePlayer<'_> {
+    /// What a call is answered that is none on the life.
+    fn other(&mut self, alloc: Global, words: &[&str]) -> Result<String, AllocError> {
+        match words {
             ["node", words @ ..] => self.begin_node(alloc, words),
             ["merger", words @ ..] => self.begin_merger(alloc, words),
             ["rows"] => self.rows_text(alloc),
             _ => "no such call".to_string(alloc),
+        }
+    }
+}
+
+impl Player for LifePlayer<'_> {
+    fn play(&mut self, alloc: Global, call: &str) -> Result<String, AllocError> {
+        let words: Vec<&str> = call.split_whitespace().collect(alloc)?;
+        match life_call(self.frames, &words) {
+            Some(call) => self.answer(alloc, call),
+            None => self.other(alloc, &words),
         }
     }
 }

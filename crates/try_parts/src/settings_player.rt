@@ -16,6 +16,7 @@ use pdc_settings::{
     Input, MergerSettings, Network, NodeSettings, Service, SettingsFault, is_of_merger,
 };
 use std::alloc::{AllocError, Global};
+use std::fmt::Write;
 use try_script::Player;
 
 /// Who reads settings.
@@ -63,158 +64,167 @@ fn changed(alloc: Global, text: &str, change: &str) -> Result<Option<String>, Al
     Ok(Some(format!(in alloc; "{before}{new}{after}")?))
 }
 
-/// Why the text is no settings.
-fn fault_text(alloc: Global, fault: SettingsFault) -> Result<String, AllocError> {
+/// Tells why the text is no settings.
+fn tell_fault(told: &mut String, fault: SettingsFault) -> Result<(), AllocError> {
     match fault {
-        SettingsFault::Range(wanted) => format!(in alloc; "{fault}, {wanted}"),
-        _ => format!(in alloc; "{fault}"),
+        SettingsFault::Range(wanted) => write!(told, "{fault}, {wanted}"),
+        _ => write!(told, "{fault}"),
     }
 }
 
-/// Whose output it is.
-fn output_text(alloc: Global, output: &Output) -> Result<String, AllocError> {
-    format!(in alloc;
-        "{} {} {:?} {}",
+/// Tells whose output it is.
+fn tell_output(told: &mut String, output: &Output) -> Result<(), AllocError> {
+    write!(
+        told,
+        "{} {} {:?} {}, ",
         output.id.value, output.rate, output.nominal, output.time_base
     )
 }
 
-/// How instants are aligned.
-fn timing_text(alloc: Global, timing: &Timing) -> Result<String, AllocError> {
-    format!(in alloc;
-        "{} {:?} {} {}",
+/// Tells how instants are aligned.
+fn tell_timing(told: &mut String, timing: &Timing) -> Result<(), AllocError> {
+    write!(
+        told,
+        "{} {:?} {} {}, ",
         timing.wait, timing.wait_kind, timing.window, timing.ahead
     )
 }
 
-/// How it runs.
-fn service_text(alloc: Global, service: &Service) -> Result<String, AllocError> {
-    format!(in alloc;
+/// Tells how it runs.
+fn tell_service(told: &mut String, service: &Service) -> Result<(), AllocError> {
+    write!(
+        told,
         "{} {} {} {}",
         service.lead, service.layout_every, service.out_port, service.session_port
     )
 }
 
-/// What a node and the merger are both told.
-fn common_text(
-    alloc: Global,
-    output: &Output,
-    timing: &str,
-    service: &Service,
-) -> Result<String, AllocError> {
-    let output = output_text(alloc, output)?;
-    let service = service_text(alloc, service)?;
-    format!(in alloc; "{output}, {timing}, {service}")
-}
-
-/// One PMU of a node.
-fn pmu_text(alloc: Global, pmu: &Pmu, port: u16) -> Result<String, AllocError> {
-    format!(in alloc;
+/// Tells one PMU of a node.
+fn tell_pmu(told: &mut String, pmu: &Pmu, port: u16) -> Result<(), AllocError> {
+    write!(
+        told,
         ", {} {} {} {port}",
         pmu.stream.value, pmu.source, pmu.time_base
     )
 }
 
-/// What a node is told.
-fn node_text(alloc: Global, settings: &NodeSettings) -> Result<String, AllocError> {
+/// Tells what a node is told.
+fn tell_node(told: &mut String, settings: &NodeSettings) -> Result<(), AllocError> {
     let life = &settings.life;
-    let timing = timing_text(alloc, &life.timing)?;
-    let mut text = common_text(alloc, &life.output, &timing, &settings.service)?;
+    tell_output(told, &life.output)?;
+    tell_timing(told, &life.timing)?;
+    tell_service(told, &settings.service)?;
     for (pmu, port) in life.pmus.iter().zip(settings.ports.iter()) {
-        text.push_str(&pmu_text(alloc, pmu, *port)?)?;
+        tell_pmu(told, pmu, *port)?;
     }
-    Ok(text)
+    Ok(())
 }
 
-/// One node of the merger.
-fn merged_text(alloc: Global, node: &MergedNode, port: u16) -> Result<String, AllocError> {
-    format!(in alloc; ", {} {} {port}", node.id.value, node.time_base)
+/// Tells one node of the merger.
+fn tell_merged(told: &mut String, node: &MergedNode, port: u16) -> Result<(), AllocError> {
+    write!(told, ", {} {} {port}", node.id.value, node.time_base)
 }
 
-/// What the merger is told.
-fn merger_text(alloc: Global, settings: &MergerSettings) -> Result<String, AllocError> {
+/// Tells what the merger is told.
+fn tell_merger(told: &mut String, settings: &MergerSettings) -> Result<(), AllocError> {
     let life = &settings.life;
-    let timing = timing_text(alloc, &life.timing)?;
-    let common = common_text(alloc, &life.output, &timing, &settings.service)?;
-    let first = merged_text(alloc, &life.first, settings.first_port)?;
-    let second = merged_text(alloc, &life.second, settings.second_port)?;
-    let sources = sources_text(alloc, life.sources.as_slice())?;
-    format!(in alloc; "{common}{first}{second}{sources}")
-}
-
-/// The sources of the merger.
-fn sources_text(alloc: Global, sources: &[u16]) -> Result<String, AllocError> {
-    let mut text = String::new(alloc);
-    for source in sources {
-        text.push_str(&format!(in alloc; ", {source}")?)?;
+    tell_output(told, &life.output)?;
+    tell_timing(told, &life.timing)?;
+    tell_service(told, &settings.service)?;
+    tell_merged(told, &life.first, settings.first_port)?;
+    tell_merged(told, &life.second, settings.second_port)?;
+    for source in life.sources.as_slice() {
+        write!(told, ", {source}")?;
     }
-    Ok(text)
+    Ok(())
 }
 
-/// Appends a key that may be left out.
-fn push_key(
-    alloc: Global,
-    key: &str,
-    value: Option<&str>,
-    text: &mut String,
-) -> Result<(), AllocError> {
+/// Tells a key that may be left out.
+fn tell_key(told: &mut String, key: &str, value: Option<&str>) -> Result<(), AllocError> {
     match value {
-        Some(value) => text.push_str(&format!(in alloc; ", {key} {value}")?),
+        Some(value) => write!(told, ", {key} {value}"),
         None => Ok(()),
     }
 }
 
-/// Appends how the frames of a stream come.
-fn push_input(alloc: Global, input: &Input, text: &mut String) -> Result<(), AllocError> {
-    push_key(alloc, "tcp", input.tcp.as_deref(), text)?;
-    push_key(alloc, "commands", input.commands.as_deref(), text)?;
+/// Tells how the frames of a stream come.
+fn tell_input(told: &mut String, input: &Input) -> Result<(), AllocError> {
+    tell_key(told, "tcp", input.tcp.as_deref())?;
+    tell_key(told, "commands", input.commands.as_deref())?;
     match input.from {
-        Some(from) => text.push_str(&format!(in alloc; ", from {from}")?),
+        Some(from) => write!(told, ", from {from}"),
         None => Ok(()),
     }
 }
 
-/// Where a concentrator is on the network.
-fn network_text(alloc: Global, network: &Network) -> Result<String, AllocError> {
-    let (address, ttl, buffer, sessions) = (
-        network.address,
-        network.ttl,
-        network.receive_buffer,
-        network.sessions,
-    );
-    let mut text = format!(in alloc; "{address} {ttl} {buffer} {sessions}")?;
+/// Tells where a concentrator is on the network.
+fn tell_network(told: &mut String, network: &Network) -> Result<(), AllocError> {
+    write!(
+        told,
+        "{} {} {} {}",
+        network.address, network.ttl, network.receive_buffer, network.sessions
+    )?;
     for output in &network.outputs {
-        text.push_str(", ")?;
-        text.push_str(output.as_str())?;
+        write!(told, ", {output}")?;
     }
     for input in &network.inputs {
-        push_input(alloc, input, &mut text)?;
+        tell_input(told, input)?;
     }
-    Ok(text)
+    Ok(())
 }
 
-/// What a text is read as.
-fn read(alloc: Global, reader: &str, text: &str) -> Result<String, AllocError> {
-    match reader {
-        "node" => match NodeSettings::from_toml(alloc, text) {
-            Ok(settings) => node_text(alloc, &settings),
-            Err(fault) => fault_text(alloc, fault),
-        },
-        "merger" => match MergerSettings::from_toml(alloc, text) {
-            Ok(settings) => merger_text(alloc, &settings),
-            Err(fault) => fault_text(alloc, fault),
-        },
-        "network" => match Network::from_toml(alloc, text) {
-            Ok(network) => network_text(alloc, &network),
-            Err(fault) => fault_text(alloc, fault),
-        },
-        "kind" => match is_of_merger(alloc, text) {
-            Ok(true) => "a merger's".to_string(alloc),
-            Ok(false) => "a node's".to_string(alloc),
-            Err(fault) => fault_text(alloc, fault),
-        },
-        _ => "no such call".to_string(alloc),
+/// Tells what a node is told by a text.
+fn read_node(alloc: Global, text: &str, told: &mut String) -> Result<(), AllocError> {
+    match NodeSettings::from_toml(alloc, text) {
+        Ok(settings) => tell_node(told, &settings),
+        Err(fault) => tell_fault(told, fault),
     }
+}
+
+/// Tells what the merger is told by a text.
+fn read_merger(alloc: Global, text: &str, told: &mut String) -> Result<(), AllocError> {
+    match MergerSettings::from_toml(alloc, text) {
+        Ok(settings) => tell_merger(told, &settings),
+        Err(fault) => tell_fault(told, fault),
+    }
+}
+
+/// Tells what a text tells of the network.
+fn read_network(alloc: Global, text: &str, told: &mut String) -> Result<(), AllocError> {
+    match Network::from_toml(alloc, text) {
+        Ok(network) => tell_network(told, &network),
+        Err(fault) => tell_fault(told, fault),
+    }
+}
+
+/// Tells whose a text is.
+fn read_kind(alloc: Global, text: &str, told: &mut String) -> Result<(), AllocError> {
+    match is_of_merger(alloc, text) {
+        Ok(true) => told.push_str("a merger's"),
+        Ok(false) => told.push_str("a node's"),
+        Err(fault) => tell_fault(told, fault),
+    }
+}
+
+/// Tells what a text is read as.
+fn read(alloc: Global, reader: &str, text: &str, told: &mut String) -> Result<(), AllocError> {
+    match reader {
+        "node" => read_node(alloc, text, told),
+        "merger" => read_merger(alloc, text, told),
+        "network" => read_network(alloc, text, told),
+        "kind" => read_kind(alloc, text, told),
+        _ => told.push_str("no such call"),
+    }
+}
+
+/// What the text is read as, with a change.
+fn answer(alloc: Global, text: &str, reader: &str, change: &str) -> Result<String, AllocError> {
+    let mut told = String::new(alloc);
+    match changed(alloc, text, change)? {
+        Some(text) => read(alloc, reader, &text, &mut told)?,
+        None => told.push_str("no such call")?,
+    }
+    Ok(told)
 }
 
 impl Player for SettingsPlayer {
@@ -224,9 +234,6 @@ impl Player for SettingsPlayer {
             self.text = lines_of(alloc, rest)?;
             return "ok".to_string(alloc);
         }
-        match changed(alloc, &self.text, rest)? {
-            Some(text) => read(alloc, word, &text),
-            None => "no such call".to_string(alloc),
-        }
+        answer(alloc, &self.text, word, rest)
     }
 }

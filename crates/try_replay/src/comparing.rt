@@ -50,19 +50,22 @@ fn write_compared(
     writeln!(out, "{verdict:?}")
 }
 
+/// Writes what is told where the records of these names are compared.
+fn write_grouped(kept: &mut Kept<'_>, names: &[&str], out: &mut Vec<u8>) -> io::Result<()> {
+    match group_files(kept.alloc, kept, names)? {
+        Grouped::One => write!(out, "of one concentrator"),
+        Grouped::Misfit(name, cause) => write!(out, "{name}: {cause}"),
+        Grouped::Several(mut comparison) => write_compared(kept, &mut comparison, out),
+    }
+}
+
 /// A line of what is told where these records are compared.
 pub fn compared_line(alloc: Global, records: &[Vec<u8>], line: &str) -> Result<String, AllocError> {
     let mut kept = Kept { alloc, records };
     let names = NAMES.get(..records.len()).unwrap_or(&NAMES);
     let mut out = Vec::new(alloc);
-    match group_files(alloc, &mut kept, names)? {
-        Grouped::One => return "of one concentrator".to_string(alloc),
-        Grouped::Misfit(name, cause) => return format!(in alloc; "{name}: {cause}"),
-        Grouped::Several(mut comparison) => {
-            if write_compared(&mut kept, &mut comparison, &mut out).is_err() {
-                return Err(AllocError);
-            }
-        }
+    match write_grouped(&mut kept, names, &mut out) {
+        Ok(()) => line_of(alloc, &out, line),
+        Err(_) => Err(AllocError),
     }
-    line_of(alloc, &out, line)
 }

@@ -296,14 +296,22 @@ impl<'a, C: Lives> Recorder<'a, C> {
     }
 }
 
-impl<C: Lives> Player for Recorder<'_, C> {
-    fn play(&mut self, alloc: Global, call: &str) -> Result<String, AllocError> {
-        let words: Vec<&str> = call.split_whitespace().collect(alloc)?;
-        if let Some(call) = life_call(self.frames, &words) {
-            return self.answer(alloc, call);
-        }
-        match words.as_slice() {
-            ["node" | "merger", ..] => self.begin(alloc, C::id(), &words),
+/// What a call on a record is answered.
+fn told_of(alloc: Global, record: &[u8], words: &[&str]) -> Result<String, AllocError> {
+    match words {
+        ["replayed"] => replayed_text(alloc, record),
+        ["plain"] => plain_text(alloc, record),
+        ["changed"] => changed_text(alloc, record),
+        ["told", question, line] => told_line(alloc, record, question, line),
+        _ => "no such call".to_string(alloc),
+    }
+}
+
+impl<C: Lives> Recorder<'_, C> {
+    /// What a call is answered that is none on the life.
+    fn other(&mut self, alloc: Global, words: &[&str]) -> Result<String, AllocError> {
+        match words {
+            ["node" | "merger", ..] => self.begin(alloc, C::id(), words),
             ["of", id, words @ ..] => self.begin_of(alloc, id, words),
             ["keep"] => self.keep(alloc, 0),
             ["keep", "cut"] => self.keep(alloc, 1),
@@ -311,11 +319,17 @@ impl<C: Lives> Player for Recorder<'_, C> {
             ["at", millis] => self.set_time(alloc, millis),
             ["unanswered", stream, name] => self.leave(alloc, stream, name),
             ["as", recorded, words @ ..] => self.swap(alloc, recorded, words),
-            ["replayed"] => replayed_text(alloc, &self.record),
-            ["plain"] => plain_text(alloc, &self.record),
-            ["changed"] => changed_text(alloc, &self.record),
-            ["told", question, line] => told_line(alloc, &self.record, question, line),
-            _ => "no such call".to_string(alloc),
+            _ => told_of(alloc, &self.record, words),
+        }
+    }
+}
+
+impl<C: Lives> Player for Recorder<'_, C> {
+    fn play(&mut self, alloc: Global, call: &str) -> Result<String, AllocError> {
+        let words: Vec<&str> = call.split_whitespace().collect(alloc)?;
+        match life_call(self.frames, &words) {
+            Some(call) => self.answer(alloc, call),
+            None => self.other(alloc, &words),
         }
     }
 }

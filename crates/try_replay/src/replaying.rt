@@ -17,9 +17,8 @@ pub enum Replayed {
     Unread,
 }
 
-/// Replays a record.
-pub fn replay(alloc: Global, record: &[u8]) -> Replayed {
-    let mut player = Player::new(alloc);
+/// Replays a record on this player.
+fn replay_on(player: &mut Player, record: &[u8]) -> Replayed {
     let mut at = 0;
     for _ in 0..=record.len() {
         let left = record.get(at..).unwrap_or(&[]);
@@ -39,20 +38,29 @@ pub fn replay(alloc: Global, record: &[u8]) -> Replayed {
     Replayed::AsRecorded(player.steps(), player.frames())
 }
 
-/// The text of how a record was replayed: the first line of it.
+/// Replays a record.
+pub fn replay(alloc: Global, record: &[u8]) -> Replayed {
+    let mut player = Player::new(alloc);
+    replay_on(&mut player, record)
+}
+
+/// The text of where a replay halted: the first line of it.
+fn halted_text(alloc: Global, halt: &Halt) -> Result<String, AllocError> {
+    let mut text = Vec::new(alloc);
+    if write_halt(&mut text, alloc, halt).is_err() {
+        return Err(AllocError);
+    }
+    let text = str::from_utf8(&text).unwrap_or("");
+    text.lines().next().unwrap_or("").to_string(alloc)
+}
+
+/// The text of how a record was replayed.
 pub fn replayed_text(alloc: Global, record: &[u8]) -> Result<String, AllocError> {
     match replay(alloc, record) {
         Replayed::AsRecorded(steps, frames) => {
             format!(in alloc; "{steps} steps, {frames} frames: as recorded")
         }
-        Replayed::Halted(halt) => {
-            let mut text = Vec::new(alloc);
-            if write_halt(&mut text, alloc, &halt).is_err() {
-                return Err(AllocError);
-            }
-            let text = str::from_utf8(&text).unwrap_or("");
-            text.lines().next().unwrap_or("").to_string(alloc)
-        }
+        Replayed::Halted(halt) => halted_text(alloc, &halt),
         Replayed::Unread => "no whole entry".to_string(alloc),
     }
 }

@@ -1,10 +1,11 @@
 //! What is told of a record.
 
 use pdc_explain::{
-    Delays, Follower, Tally, Wanted, tell_absent, tell_delays, tell_story, wanted_of,
+    Delays, Follower, Story, Tally, Wanted, tell_absent, tell_delays, tell_story, wanted_of,
 };
 use pdc_record::{Entry, read_entry};
 use std::alloc::{AllocError, Global};
+use std::io::Write;
 use std::{io, str};
 
 /// What takes the entries of a record.
@@ -44,18 +45,12 @@ fn hand_on<H: Hears>(record: &[u8], to: &mut H) -> bool {
     true
 }
 
-/// Writes what is told of an instant.
-fn write_story(alloc: Global, record: &[u8], wanted: Wanted, out: &mut Vec<u8>) -> io::Result<()> {
-    let mut follower = Follower::new(alloc, wanted);
-    hand_on(record, &mut follower);
-    follower.end()?;
-    let Some(stories) = follower.finished() else {
-        return Ok(());
-    };
+/// Writes what is told of the instants that are wanted.
+fn write_wanted(follower: &Follower, stories: &[Story], out: &mut Vec<u8>) -> io::Result<()> {
     let Some(about) = follower.about() else {
         return Ok(());
     };
-    for story in &stories {
+    for story in stories {
         if follower.is_wanted(story.instant) {
             tell_story(out, about, story, follower.end_time())?;
         }
@@ -63,23 +58,46 @@ fn write_story(alloc: Global, record: &[u8], wanted: Wanted, out: &mut Vec<u8>) 
     Ok(())
 }
 
-/// Writes which instants had an absent block, and how often each cause was.
-fn write_absent(alloc: Global, record: &[u8], out: &mut Vec<u8>) -> io::Result<()> {
-    let mut follower = Follower::new(alloc, Wanted::All);
-    let mut tally = Tally::new(alloc);
-    hand_on(record, &mut follower);
+/// Writes what is told of an instant.
+fn write_story(record: &[u8], follower: &mut Follower, out: &mut Vec<u8>) -> io::Result<()> {
+    hand_on(record, follower);
     follower.end()?;
-    let Some(stories) = follower.finished() else {
-        return Ok(());
-    };
+    match follower.finished() {
+        Some(stories) => write_wanted(follower, &stories, out),
+        None => Ok(()),
+    }
+}
+
+/// Writes which of the instants had an absent block, and adds them.
+fn add_absent(
+    follower: &Follower,
+    stories: &[Story],
+    tally: &mut Tally,
+    out: &mut Vec<u8>,
+) -> io::Result<()> {
     let Some(about) = follower.about() else {
         return Ok(());
     };
-    for story in &stories {
+    for story in stories {
         tell_absent(out, about, story)?;
         tally.add(about, story)?;
     }
     tally.tell(out)
+}
+
+/// Writes which instants had an absent block, and how often each cause was.
+fn write_absent(
+    record: &[u8],
+    follower: &mut Follower,
+    tally: &mut Tally,
+    out: &mut Vec<u8>,
+) -> io::Result<()> {
+    hand_on(record, follower);
+    follower.end()?;
+    match follower.finished() {
+        Some(stories) => add_absent(follower, &stories, tally, out),
+        None => Ok(()),
+    }
 }
 
 /// Writes how late data came.
@@ -101,7 +119,22 @@ pub fn line_of(alloc: Global, out: &[u8], line: &str) -> Result<String, AllocErr
     "no such line".to_string(alloc)
 }
 
-/// A line of what is told: of an instant, of all with an absent block, or of delays.
+/// Writes what is told: of an instant, of all with an absent block, or of delays.
+fn write_told(alloc: Global, record: &[u8], question: &str, out: &mut Vec<u8>) -> io::Result<()> {
+    match (question, wanted_of(question)) {
+        ("absent", _) => write_absent(
+            record,
+            &mut Follower::new(alloc, Wanted::All),
+            &mut Tally::new(alloc),
+            out,
+        ),
+        ("delays", _) => write_delays(alloc, record, out),
+        (_, Some(wanted)) => write_story(record, &mut Follower::new(alloc, wanted), out),
+        _ => write!(out, "no such question"),
+    }
+}
+
+/// A line of it.
 pub fn told_line(
     alloc: Global,
     record: &[u8],
@@ -109,14 +142,8 @@ pub fn told_line(
     line: &str,
 ) -> Result<String, AllocError> {
     let mut out = Vec::new(alloc);
-    let written = match (question, wanted_of(question)) {
-        ("absent", _) => write_absent(alloc, record, &mut out),
-        ("delays", _) => write_delays(alloc, record, &mut out),
-        (_, Some(wanted)) => write_story(alloc, record, wanted, &mut out),
-        _ => return "no such question".to_string(alloc),
-    };
-    if written.is_err() {
-        return Err(AllocError);
+    match write_told(alloc, record, question, &mut out) {
+        Ok(()) => line_of(alloc, &out, line),
+        Err(_) => Err(AllocError),
     }
-    line_of(alloc, &out, line)
 }

@@ -36,6 +36,18 @@ impl Played {
     }
 }
 
+/// Complains of an answer that is not the wanted one.
+fn complain(
+    rt: &impl Eprint,
+    script: &str,
+    number: usize,
+    call: &str,
+    answer: &str,
+    wanted: &str,
+) -> io::Result<()> {
+    eprintln!(rt; "{script}:{number}: {call}: {answer}, not {wanted}")
+}
+
 /// Plays a call and complains where its answer is not the wanted one; tells whether it is.
 fn play_line<P: Player>(
     rt: &impl Eprint,
@@ -47,11 +59,11 @@ fn play_line<P: Player>(
 ) -> io::Result<bool> {
     let (call, wanted) = text.split_once(" -> ").unwrap_or((text, ""));
     let answer = player.play(alloc, call)?;
-    if answer.as_str() == wanted {
-        return Ok(true);
+    let is_wanted = answer.as_str() == wanted;
+    if !is_wanted {
+        complain(rt, script, number, call, &answer, wanted)?;
     }
-    eprintln!(rt; "{script}:{number}: {call}: {answer}, not {wanted}")?;
-    Ok(false)
+    Ok(is_wanted)
 }
 
 /// Plays the calls of the script in this file, the first of them first, and complains of each answer that is not the wanted one.

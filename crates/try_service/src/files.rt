@@ -1,7 +1,9 @@
 //! What ends a node before it runs, in the order in which it is found, and a short run.
 
 use pdc_mark::make_mark;
-use pdc_service::{Files, Host, RunOptions, ThisMachine, serve_merger, serve_node};
+use pdc_service::{
+    Files, Host, RunOptions, ServiceFault, ThisMachine, Totals, serve_merger, serve_node,
+};
 use std::alloc::{AllocError, Global};
 use std::env::Env;
 use std::fs::File;
@@ -30,19 +32,9 @@ fn ticks(count: u32) -> RunOptions {
     }
 }
 
-/// Runs the node with these files for three ticks, and prints what came of it.
-fn play_node<'x, R: Host + Print>(
-    rt: &R,
-    name: &str,
-    settings: &'x PathBuf,
-    mark: &'x PathBuf,
-) -> io::Result<()> {
-    let files = Files {
-        settings: settings.as_str(),
-        mark: mark.as_str(),
-        record: None,
-    };
-    match serve_node(rt, &mut ThisMachine, &files, &ticks(3)) {
+/// Prints what came of a run.
+fn print_run<R: Print>(rt: &R, name: &str, ended: Result<Totals, ServiceFault>) -> io::Result<()> {
+    match ended {
         Ok(totals) => {
             let (taken, refused, published) = (totals.taken, totals.refused, totals.published);
             println!(rt; "  {name}: taken={taken} refused={refused} published={published}")
@@ -54,68 +46,175 @@ fn play_node<'x, R: Host + Print>(
     }
 }
 
-/// The files of the trial.
+/// The files of a run.
 #[derive(Drop)]
 struct Paths {
-    folder: PathBuf,
-    missing: PathBuf,
-    good: PathBuf,
-    no_toml: PathBuf,
-    no_range: PathBuf,
+    settings: PathBuf,
     mark: PathBuf,
-    other: PathBuf,
 }
 
-/// Makes the files in a folder of this process's own.
-fn make_files<R: std::rt::Files<File = File> + AllocGlobal + Env>(
+/// Those of these names in the folder.
+fn paths_of(alloc: Global, folder: &PathBuf, settings: &str, mark: &str) -> io::Result<Paths> {
+    Ok(Paths {
+        settings: folder.join(alloc, settings)?,
+        mark: folder.join(alloc, mark)?,
+    })
+}
+
+/// Runs the node with these files of the folder for three ticks, and prints what came of it.
+fn play_node<R: Host + Print>(
+    rt: &R,
+    alloc: Global,
+    folder: &PathBuf,
+    name: &str,
+    settings: &str,
+    mark: &str,
+) -> io::Result<()> {
+    let paths = paths_of(alloc, folder, settings, mark)?;
+    let files = Files {
+        settings: paths.settings.as_str(),
+        mark: paths.mark.as_str(),
+        record: None,
+    };
+    print_run(
+        rt,
+        name,
+        serve_node(rt, &mut ThisMachine, &files, &ticks(3)),
+    )
+}
+
+/// Hands the node's files to the merger, and prints what came of it.
+fn play_merger<R: Host + Print>(rt: &R, alloc: Global, folder: &PathBuf) -> io::Result<()> {
+    let paths = paths_of(alloc, folder, "a.toml", "a.mark")?;
+    let files = Files {
+        settings: paths.settings.as_str(),
+        mark: paths.mark.as_str(),
+        record: None,
+    };
+    print_run(
+        rt,
+        "a node's settings to the merger",
+        serve_merger(rt, &mut ThisMachine, &files, &ticks(1)),
+    )
+}
+
+/// Makes an empty folder of this process's own.
+fn make_folder<R: std::rt::Files<File = File> + AllocGlobal + Env>(
     rt: &R,
     alloc: Global,
     process: u32,
-    port: u16,
-) -> io::Result<Paths> {
+) -> io::Result<PathBuf> {
     let name = format!(in alloc; "pdc_service_trials_{process}")?;
     let folder = env::temp_dir(rt)?.join(alloc, name)?;
     let _ = fs::remove_dir_all(rt, &folder);
     fs::create_dir(rt, &folder)?;
-    let paths = Paths {
-        missing: folder.join(alloc, "missing")?,
-        good: folder.join(alloc, "a.toml")?,
-        no_toml: folder.join(alloc, "no.toml")?,
-        no_range: folder.join(alloc, "range.toml")?,
-        mark: folder.join(alloc, "a.mark")?,
-        other: folder.join(alloc, "b.mark")?,
-        folder,
-    };
-    fs::write(rt, &paths.good, settings_text(alloc, 2, port)?)?;
-    fs::write(rt, &paths.no_toml, "x")?;
-    fs::write(rt, &paths.no_range, settings_text(alloc, 0, port)?)?;
-    let made = make_mark(rt, paths.mark.as_str(), 201, 50).is_ok()
-        && make_mark(rt, paths.other.as_str(), 202, 50).is_ok();
-    if !made {
-        return Err(io::Error::from(io::ErrorKind::Other));
-    }
-    Ok(paths)
+    Ok(folder)
 }
 
-/// The faults in their order, each with all later causes there too where they can be.
-fn play_faults<R: Host + Print>(rt: &R, paths: &Paths, port: u16) -> io::Result<()> {
-    let taken = UdpSocket::bind(rt, ("127.0.0.1", port))?;
-    play_node(rt, "no settings file", &paths.missing, &paths.missing)?;
-    play_node(rt, "no TOML", &paths.no_toml, &paths.missing)?;
-    play_node(rt, "out of range", &paths.no_range, &paths.missing)?;
-    play_node(rt, "no mark file", &paths.good, &paths.missing)?;
-    play_node(rt, "another's mark", &paths.good, &paths.other)?;
-    play_node(rt, "a PMU's port is taken", &paths.good, &paths.mark)?;
-    drop(taken);
-    let listener = TcpListener::bind(rt, ("127.0.0.1", port.saturating_add(3)))?;
+/// Writes a file of the folder.
+fn write_file<R: std::rt::Files<File = File> + AllocGlobal>(
+    rt: &R,
+    alloc: Global,
+    folder: &PathBuf,
+    name: &str,
+    text: &str,
+) -> io::Result<()> {
+    let path = folder.join(alloc, name)?;
+    fs::write(rt, &path, text)
+}
+
+/// Makes a mark file of the folder, for this id.
+fn make_mark_of<R: std::rt::Files<File = File> + AllocGlobal>(
+    rt: &R,
+    alloc: Global,
+    folder: &PathBuf,
+    name: &str,
+    id: u16,
+) -> io::Result<()> {
+    let path = folder.join(alloc, name)?;
+    make_mark(rt, path.as_str(), id, 50).map_err(|_| io::Error::from(io::ErrorKind::Other))
+}
+
+/// Writes the settings of a node whose ports begin here.
+fn write_settings<R: std::rt::Files<File = File> + AllocGlobal>(
+    rt: &R,
+    alloc: Global,
+    folder: &PathBuf,
+    name: &str,
+    wait: u32,
+    port: u16,
+) -> io::Result<()> {
+    let text = settings_text(alloc, wait, port)?;
+    write_file(rt, alloc, folder, name, &text)
+}
+
+/// Makes the files: settings that are good, no TOML or out of range, the mark of the node and that of another.
+fn make_files<R: std::rt::Files<File = File> + AllocGlobal>(
+    rt: &R,
+    alloc: Global,
+    folder: &PathBuf,
+    port: u16,
+) -> io::Result<()> {
+    write_settings(rt, alloc, folder, "a.toml", 2, port)?;
+    write_file(rt, alloc, folder, "no.toml", "x")?;
+    write_settings(rt, alloc, folder, "range.toml", 0, port)?;
+    make_mark_of(rt, alloc, folder, "a.mark", 201)?;
+    make_mark_of(rt, alloc, folder, "b.mark", 202)
+}
+
+/// The faults of files in their order, and that of a PMU's port, each with all later causes there too where they can be.
+fn play_files<R: Host + Print>(rt: &R, alloc: Global, folder: &PathBuf) -> io::Result<()> {
+    play_node(rt, alloc, folder, "no settings file", "missing", "missing")?;
+    play_node(rt, alloc, folder, "no TOML", "no.toml", "missing")?;
+    play_node(rt, alloc, folder, "out of range", "range.toml", "missing")?;
+    play_node(rt, alloc, folder, "no mark file", "a.toml", "missing")?;
+    play_node(rt, alloc, folder, "another's mark", "a.toml", "b.mark")?;
     play_node(
         rt,
+        alloc,
+        folder,
+        "a PMU's port is taken",
+        "a.toml",
+        "a.mark",
+    )
+}
+
+/// The same, while a PMU's port is taken.
+fn play_taken<R: Host + Print>(
+    rt: &R,
+    alloc: Global,
+    folder: &PathBuf,
+    port: u16,
+) -> io::Result<()> {
+    let _taken = UdpSocket::bind(rt, ("127.0.0.1", port))?;
+    play_files(rt, alloc, folder)
+}
+
+/// The fault of the sessions' port.
+fn play_sessions<R: Host + Print>(
+    rt: &R,
+    alloc: Global,
+    folder: &PathBuf,
+    port: u16,
+) -> io::Result<()> {
+    let _listener = TcpListener::bind(rt, ("127.0.0.1", port.saturating_add(3)))?;
+    play_node(
+        rt,
+        alloc,
+        folder,
         "the port of the sessions is taken",
-        &paths.good,
-        &paths.mark,
-    )?;
-    drop(listener);
-    play_node(rt, "three ticks", &paths.good, &paths.mark)
+        "a.toml",
+        "a.mark",
+    )
+}
+
+/// All faults, a short run, and the merger that is handed the node's files.
+fn play_all<R: Host + Print>(rt: &R, alloc: Global, folder: &PathBuf, port: u16) -> io::Result<()> {
+    make_files(rt, alloc, folder, port)?;
+    play_taken(rt, alloc, folder, port)?;
+    play_sessions(rt, alloc, folder, port)?;
+    play_node(rt, alloc, folder, "three ticks", "a.toml", "a.mark")?;
+    play_merger(rt, alloc, folder)
 }
 
 /// What ends a node before it runs, and a short run.
@@ -126,17 +225,8 @@ pub fn play<R: Host + Env + Print>(
     port: u16,
 ) -> io::Result<()> {
     println!(rt; "files and ports")?;
-    let paths = make_files(rt, alloc, process, port)?;
-    let played = play_faults(rt, &paths, port);
-    let files = Files {
-        settings: paths.good.as_str(),
-        mark: paths.mark.as_str(),
-        record: None,
-    };
-    if let Err(fault) = serve_merger(rt, &mut ThisMachine, &files, &ticks(1)) {
-        let status = fault.status();
-        println!(rt; "  a node's settings to the merger: {fault}, status {status}")?;
-    }
-    fs::remove_dir_all(rt, &paths.folder)?;
+    let folder = make_folder(rt, alloc, process)?;
+    let played = play_all(rt, alloc, &folder, port);
+    fs::remove_dir_all(rt, &folder)?;
     played
 }

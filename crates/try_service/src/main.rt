@@ -2,6 +2,7 @@
 //! prints what came of each.
 #![tactic(auto)]
 
+mod driving;
 mod files;
 mod network;
 mod node;

@@ -2,11 +2,9 @@
 ghost use Rattle.std.specs.Prelude.{◌≡◌};
 ghost use Rattle.pdc_recent.specs.Stream.{stream_of};
 
-use crate::network::{connect, is_ended, listen, next_datagram, send};
+use crate::driving::drive;
+use crate::network::listen;
 use crate::scripted::{Gauges, Paced, Watched};
-use pdc_cfg::read_config;
-use pdc_client::{ClientFault, Pdc};
-use pdc_frame::{StreamId, read_frame};
 use pdc_life::Settings;
 use pdc_mark::ModelMark;
 use pdc_network::{UdpSink, UdpSource};
@@ -15,18 +13,13 @@ use pdc_server::serve;
 use pdc_service::{Begun, Plan, Totals, hand_over, run_node};
 use pdc_settings::NodeSettings;
 use std::alloc::Global;
-use std::io::Write;
 use std::marker::Brand;
 use std::net::{Net, TcpListener, TcpStream, UdpSocket};
 use std::rt::Clock;
 use std::sync::Wait;
 use std::sync::atomic::{AtomicU64, Ordering};
 use std::thread::{Scope, Threads};
-use std::time::Duration;
 use std::{io, thread};
-
-/// The stream of node A.
-const ID: StreamId = StreamId { value: 201 };
 
 /// Node A of the worked scenarios: PMUs 11 and 12, at 50 frames a second. Its ports are not those of the settings.
 const SETTINGS: &str = "id = 201
@@ -49,21 +42,6 @@ time_base = 1000000
 port = 4812
 ";
 
-/// The configurations of PMU 11 and of PMU 12: one phasor, count 1.
-const CONFIG_11: &str =
-    "aa32004a000b448527f000000000000f42400001504d5520313120202020202020202020000b000000010000000056412020202020202020202020202020000df847000100010032c2ce";
-
-const CONFIG_12: &str =
-    "aa32004a000c448527f000000000000f42400001504d5520313220202020202020202020000c000000010000000056412020202020202020202020202020000df847000100010032c29b";
-
-/// Their data for the instant 57478860001.
-const DATA_11: &str = "aa02001a000b448527f000004e200000392b000009c400002623";
-
-const DATA_12: &str = "aa02001a000c448527f000004e2000001388ec78fffe0000ce65";
-
-/// How often the configuration is asked for until it shows both PMUs.
-const TRIES: u32 = 1000;
-
 /// What the node runs on.
 #[derive(Drop)]
 struct Wires {
@@ -78,6 +56,15 @@ struct Trial<'s, N: Naming> {
     settings: &'s Settings,
     recent: &'s Recent<N>,
     gauges: &'s Gauges,
+}
+
+/// A source that counts what it delivered here.
+fn watched(inner: UdpSource, delivered: &AtomicU64) -> Watched<'_, UdpSource> {
+    Watched {
+        inner,
+        delivered,
+        gave: false,
+    }
 }
 
 /// Runs the node, in a life with start 1, until the trial is done.
@@ -99,21 +86,11 @@ fn run_it<N: Naming + Send, R: Threads + Wait + Clock + Sync>(
     let Ok(mark) = Begun::new(ModelMark::new(0, 0)) else {
         return None;
     };
-    let mut sources = Vec::new(alloc);
-    sources
-        .push(Watched {
-            inner: first,
-            delivered: &gauges.first,
-            gave: false,
-        })
-        .ok()?;
-    sources
-        .push(Watched {
-            inner: second,
-            delivered: &gauges.second,
-            gave: false,
-        })
-        .ok()?;
+    let sources = [
+        watched(first, &gauges.first),
+        watched(second, &gauges.second),
+    ];
+    let sources = Vec::from_array(alloc, sources).ok()?;
     if settings.pmus.len() != sources.len() {
         return None;
     }
@@ -133,105 +110,6 @@ fn run_it<N: Naming + Send, R: Threads + Wait + Clock + Sync>(
     run_node(rt, alloc, settings, &plan, handed).outcome.ok()
 }
 
-/// How many sections a configuration frame has; 0 where it is none.
-fn section_count(bytes: &[u8]) -> usize {
-    match read_frame(bytes) {
-        Ok(frame) => match read_config(&frame) {
-            Ok(config) => config.sections.len(),
-            Err(_) => 0,
-        },
-        Err(_) => 0,
-    }
-}
-
-/// Asks for the configuration until it shows both PMUs.
-fn await_config<R: Clock>(
-    rt: &R,
-    alloc: Global,
-    pdc: &mut Pdc<TcpStream>,
-) -> Result<Vec<u8>, ClientFault> {
-    for _ in 0..TRIES {
-        let config = pdc.get_config(alloc)?;
-        if section_count(&config) == 3 {
-            return Ok(config);
-        }
-        thread::sleep(rt, Duration::from_millis(1));
-    }
-    Err(ClientFault::NoAnswer)
-}
-
-/// Prints how a call of the client was answered.
-fn print_answer<R: Print>(
-    rt: &R,
-    alloc: Global,
-    name: &str,
-    answer: Result<Vec<u8>, ClientFault>,
-) -> io::Result<()> {
-    match answer {
-        Ok(bytes) => print_bytes(rt, alloc, name, &bytes),
-        Err(fault) => println!(rt; "  {name}: {fault}"),
-    }
-}
-
-/// Prints few bytes in hexadecimal, and many by their number.
-fn print_bytes<R: Print>(rt: &R, alloc: Global, name: &str, bytes: &[u8]) -> io::Result<()> {
-    let count = bytes.len();
-    if count > 100 {
-        return println!(rt; "  {name}: {count} bytes");
-    }
-    let text = hex::encode_upper(alloc, bytes)?;
-    println!(rt; "  {name}: {text}")
-}
-
-/// Prints whether a call of the client was done.
-fn print_done<R: Print>(rt: &R, name: &str, answer: Result<(), ClientFault>) -> io::Result<()> {
-    match answer {
-        Ok(()) => println!(rt; "  {name}: done"),
-        Err(fault) => println!(rt; "  {name}: {fault}"),
-    }
-}
-
-/// What a consumer asks before the data comes.
-fn ask<R: Clock + Print>(rt: &R, alloc: Global, pdc: &mut Pdc<TcpStream>) -> io::Result<()> {
-    match pdc.get_header(alloc) {
-        Ok(text) => {
-            let text = std::str::from_utf8(&text).unwrap_or("no text");
-            println!(rt; "  header: {text}")?;
-        }
-        Err(fault) => println!(rt; "  header: {fault}")?,
-    }
-    print_answer(rt, alloc, "configuration", await_config(rt, alloc, pdc))
-}
-
-/// What the PMUs send, and what comes of it at the port of the frames and at a consumer.
-fn drive<R: Net<Stream = TcpStream> + Clock + Print>(
-    rt: &R,
-    alloc: Global,
-    port: u16,
-    frames: &UdpSocket,
-) -> io::Result<()> {
-    let pmus = UdpSocket::bind(rt, ("127.0.0.1", 0u16))?;
-    send(alloc, &pmus, CONFIG_11, port)?;
-    send(alloc, &pmus, CONFIG_12, port.saturating_add(1))?;
-    print_bytes(rt, alloc, "layout", &next_datagram(alloc, frames)?)?;
-    let sessions = port.saturating_add(3);
-    let mut pdc = Pdc::new(alloc, ID, connect(rt, sessions)?)?;
-    ask(rt, alloc, &mut pdc)?;
-    send(alloc, &pmus, DATA_11, port)?;
-    send(alloc, &pmus, DATA_12, port.saturating_add(1))?;
-    print_bytes(rt, alloc, "frame", &next_datagram(alloc, frames)?)?;
-    print_done(rt, "start", pdc.start())?;
-    print_answer(rt, alloc, "data", pdc.get(alloc))?;
-    print_done(rt, "stop", pdc.stop())?;
-    let (stream, answer) = pdc.quit();
-    print_done(rt, "quit", answer)?;
-    drop(stream);
-    let mut stranger = connect(rt, sessions)?;
-    stranger.write_all(&[0xAA, 0xAA])?;
-    let ended = is_ended(&mut stranger);
-    println!(rt; "  AA AA ends the session: {ended}")
-}
-
 /// What the node runs on, where its consumers come, and where its frames arrive.
 #[derive(Drop)]
 struct Sockets {
@@ -240,23 +118,38 @@ struct Sockets {
     frames: UdpSocket,
 }
 
+/// What the node runs on.
+fn open_wires<R: Net<Listener = TcpListener, Stream = TcpStream>>(
+    rt: &R,
+    port: u16,
+) -> io::Result<Wires> {
+    Ok(Wires {
+        first: UdpSource::open(rt, port)?,
+        second: UdpSource::open(rt, port.saturating_add(1))?,
+        sink: UdpSink::open(rt, port.saturating_add(2))?,
+    })
+}
+
+/// Where consumers come, without waiting for one.
+fn listen_for_sessions<R: Net<Listener = TcpListener, Stream = TcpStream>>(
+    rt: &R,
+    port: u16,
+) -> io::Result<TcpListener> {
+    let listener = TcpListener::bind(rt, ("127.0.0.1", port.saturating_add(3)))?;
+    listener.set_nonblocking(true)?;
+    Ok(listener)
+}
+
 /// The sockets of the node, and the one that its frames come to.
 fn open_sockets<R: Net<Listener = TcpListener, Stream = TcpStream>>(
     rt: &R,
     port: u16,
 ) -> io::Result<Sockets> {
-    let frames = port.saturating_add(2);
-    let listener = TcpListener::bind(rt, ("127.0.0.1", port.saturating_add(3)))?;
-    listener.set_nonblocking(true)?;
-    let wires = Wires {
-        first: UdpSource::open(rt, port)?,
-        second: UdpSource::open(rt, port.saturating_add(1))?,
-        sink: UdpSink::open(rt, frames)?,
-    };
+    let listener = listen_for_sessions(rt, port)?;
     Ok(Sockets {
-        wires,
+        wires: open_wires(rt, port)?,
         listener,
-        frames: listen(rt, frames)?,
+        frames: listen(rt, port.saturating_add(2))?,
     })
 }
 

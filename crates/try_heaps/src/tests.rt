@@ -1,8 +1,0 @@
-//! Tests by what they are of.
-mod falling;
-mod makers;
-mod recent_frames;
-mod same;
-mod streams;
-mod vectors;
-mod writers;

@@ -1,0 +1,14 @@
+use Rattle.std.proofs.Common.{Some}
+use Rattle.pdc_life.specs.Given.{given_of}
+use Rattle.try_memory.proofs.runs.hubs.play_one.Given as goal
+
+abbrev pub ghosts-play_on-N-Naming : goal.ghosts-play_on-N-Naming
+ghosts-play_on-N-Naming g a = record { given = Some (given_of a.opened.settings.now 1 0 a.opened.counts 0); settings = Some a.opened.settings.now }
+
+abbrev pub ghosts-play_on-N-Ledgers : goal.ghosts-play_on-N-Ledgers
+ghosts-play_on-N-Ledgers g a = record {
+  taken = record { name = a.blanks.taken.name; parts = 1 };
+  refused = record { name = a.blanks.refused.name; parts = 1 };
+  configured = record { name = a.blanks.configured.name; parts = 1 };
+  top = record { name = a.blanks.top.name; parts = 1 };
+}

@@ -1,7 +1,0 @@
--- What calls to a hub need of the caller's shares.
-use Rattle.std.specs.Prelude.{◌≡◌, ℕ, ◌<◌}
-use Rattle.try_memory_runs.specs.declared.hubs.Mine.{Mine}
-
--- each share has a part, and that of the greatest instant popped has all
-abbrev pub IsFit : {N : Type 0} → Mine N → (top : ℕ) → Type 0
-IsFit mine top = (0 < mine.shares.taken.parts) × (0 < mine.shares.refused.parts) × (0 < mine.shares.configured.parts) × (mine.pops.top.parts ≡ top) × (0 < mine.pops.top.parts)

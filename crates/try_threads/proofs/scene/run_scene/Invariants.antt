@@ -1,0 +1,14 @@
+use Rattle.std.proofs.Common.{Some}
+use Rattle.pdc_life.specs.Given.{given_of}
+use Rattle.try_threads.proofs.scene.run_scene.Given as goal
+
+abbrev pub ghosts-opened-N-Naming : goal.ghosts-opened-N-Naming
+ghosts-opened-N-Naming g a = record { given = Some (given_of a.settings.now a.stage.start 0 a.stage.counts 0); settings = Some a.settings.now }
+
+abbrev pub ghosts-opened-N-Ledgers : goal.ghosts-opened-N-Ledgers
+ghosts-opened-N-Ledgers g a = record {
+  taken = record { name = a.blanks.taken.name; parts = 3 };
+  refused = record { name = a.blanks.refused.name; parts = 3 };
+  configured = record { name = a.blanks.configured.name; parts = 3 };
+  top = record { name = a.blanks.top.name; parts = 1 };
+}
