@@ -62,59 +62,6 @@ fn addresses_of(alloc: Global, pair: &Three<Session>) -> Result<Three<String>, A
     })
 }
 
-/// What is known of a pair, and where its sessions are.
-#[derive(Drop)]
-struct Known {
-    watch: Mutex<Watch>,
-    addresses: Three<String>,
-}
-
-/// Nothing is known of the pair yet.
-fn known_of(alloc: Global, pair: &Three<Session>, now: u64) -> Result<Known, AllocError> {
-    let addresses = addresses_of(alloc, pair)?;
-    let watch = Mutex::new(Watch::new(alloc, u32::from(pair.a.rate), now)?);
-    Ok(Known { watch, addresses })
-}
-
-/// A listener for browsers, at this TCP port of the loopback. Its `accept` does not wait.
-fn listen<R: Net<Listener = TcpListener, Stream = TcpStream>>(
-    rt: &R,
-    port: u16,
-) -> io::Result<TcpListener> {
-    let listener = TcpListener::bind(rt, ("127.0.0.1", port))?;
-    listener.set_nonblocking(true)?;
-    Ok(listener)
-}
-
-/// Reads the sessions in threads of their own, and serves the page beside them.
-fn read_and_serve<
-    R: Net<Listener = TcpListener, Stream = TcpStream> + Threads + Wait + Clock + Sync,
->(
-    rt: &R,
-    alloc: Global,
-    keys: RandomState,
-    pair: &Three<Session>,
-    known: &Known,
-    listener: &TcpListener,
-) -> io::Result<()> {
-    let ending = AtomicBool::new(false);
-    thread::scope(thread::scope_env(), rt, |scope| -> io::Result<()> {
-        if !start_readers(scope, rt, alloc, pair, &known.watch, &ending) {
-            ending.store(true, Ordering::SeqCst);
-            return Err(io::ErrorKind::OutOfMemory.into());
-        }
-        let mut site = Site {
-            rt,
-            alloc,
-            watch: &known.watch,
-            addresses: &known.addresses,
-        };
-        let served = serve_many(rt, alloc, keys, &mut site, listener, &ending);
-        ending.store(true, Ordering::SeqCst);
-        served
-    })
-}
-
 /// Reads the sessions and serves the page, and ends only where it cannot.
 pub fn run<
     R: Net<Listener = TcpListener, Stream = TcpStream>
@@ -126,8 +73,25 @@ pub fn run<
         + Sync,
 >(rt: &R, keys: RandomState, pair: &Three<Session>, port: u16) -> io::Result<()> {
     let alloc = rt.alloc();
-    let listener = listen(rt, port)?;
-    let known = known_of(alloc, pair, now_ms(rt))?;
+    let listener = TcpListener::bind(rt, ("127.0.0.1", port))?;
+    listener.set_nonblocking(true)?;
+    let addresses = addresses_of(alloc, pair)?;
+    let watch = Mutex::new(Watch::new(alloc, u32::from(pair.a.rate), now_ms(rt))?);
+    let ending = AtomicBool::new(false);
     println!(rt; "pdc watch: http://127.0.0.1:{port}/")?;
-    read_and_serve(rt, alloc, keys, pair, &known, &listener)
+    thread::scope(thread::scope_env(), rt, |scope| -> io::Result<()> {
+        if !start_readers(scope, rt, alloc, pair, &watch, &ending) {
+            ending.store(true, Ordering::SeqCst);
+            return Err(io::ErrorKind::OutOfMemory.into());
+        }
+        let mut site = Site {
+            rt,
+            alloc,
+            watch: &watch,
+            addresses: &addresses,
+        };
+        let served = serve_many(rt, alloc, keys, &mut site, &listener, &ending);
+        ending.store(true, Ordering::SeqCst);
+        served
+    })
 }
