@@ -98,34 +98,6 @@ fn have_counts(rows: &Three<'_>, source: u16) -> bool {
     false
 }
 
-/// Writes whether one of them, with this name and row, had a block of a source, and under which count where the counts are told.
-fn write_place<W: Write>(
-    writer: &mut W,
-    name: &str,
-    row: Option<&SeenRow<'_>>,
-    source: u16,
-    is_count_told: bool,
-) -> io::Result<()> {
-    let Some(row) = row else {
-        return writer.write_all(b" -");
-    };
-    match row.present(source) {
-        Some((count, _)) if is_count_told => write!(writer, " {name}({count})"),
-        Some(_) => write!(writer, " {name}"),
-        None => writer.write_all(b" ."),
-    }
-}
-
-/// Writes which of them had a block of a source.
-fn write_source<W: Write>(writer: &mut W, rows: &Three<'_>, source: u16) -> io::Result<()> {
-    write!(writer, "  {source}")?;
-    let is_count_told = have_counts(rows, source);
-    for (name, row) in NAMES.iter().zip(rows) {
-        write_place(writer, name, row.as_ref(), source, is_count_told)?;
-    }
-    Ok(())
-}
-
 /// Writes which of them had a block of each source: its name, a point where its row has none, a dash where it has no row, each at its place;
 /// and the counts where they are not the same. So `11 A B M` and `12 A(3) . M(4)`.
 ///
@@ -134,7 +106,17 @@ fn write_source<W: Write>(writer: &mut W, rows: &Three<'_>, source: u16) -> io::
 /// What the writer answers.
 pub fn write_presence<W: Write>(writer: &mut W, rows: &Three<'_>) -> io::Result<()> {
     for source in sources_of(rows).as_slice() {
-        write_source(writer, rows, *source)?;
+        write!(writer, "  {source}")?;
+        let counts = have_counts(rows, *source);
+        for place in 0..3 {
+            let name = NAMES.get(place).copied().unwrap_or("");
+            match (present(rows, place, *source), rows.get(place)) {
+                (Some((count, _)), _) if counts => write!(writer, " {name}({count})")?,
+                (Some(_), _) => write!(writer, " {name}")?,
+                (None, Some(Some(_))) => write!(writer, " .")?,
+                _ => write!(writer, " -")?,
+            }
+        }
     }
     Ok(())
 }

@@ -140,57 +140,6 @@ fn write_both<W: Write>(
     writeln!(writer, "  replayed {replayed}")
 }
 
-/// A tick that did otherwise, with both sides.
-fn write_ticks<W: Write>(
-    writer: &mut W,
-    step: u64,
-    now: u64,
-    recorded: &Ticked,
-    replayed: &Ticked,
-) -> io::Result<()> {
-    write!(writer, "step {step} differs: a tick, now {now}: ")?;
-    write_ticked(writer, "recorded", recorded)?;
-    write_ticked(writer, "; replayed", replayed)?;
-    writeln!(writer)
-}
-
-/// A pop that gave another row, with both sides.
-fn write_rows<W: Write>(
-    writer: &mut W,
-    step: u64,
-    recorded: Option<u64>,
-    replayed: Option<u64>,
-) -> io::Result<()> {
-    write!(writer, "step {step} differs: a pop: ")?;
-    write_row(writer, "recorded", recorded)?;
-    write_row(writer, "; replayed", replayed)?;
-    writeln!(writer)
-}
-
-/// The line before bytes that differ.
-fn write_place<W: Write>(writer: &mut W, step: u64, instant: Option<u64>) -> io::Result<()> {
-    match instant {
-        Some(instant) => writeln!(
-            writer,
-            "step {step} differs: the frame of instant {instant}"
-        ),
-        None => writeln!(writer, "the layout after step {step} differs"),
-    }
-}
-
-/// A frame that was other, that of an instant or that of the layout, with both sides.
-fn write_frames<W: Write>(
-    writer: &mut W,
-    alloc: Global,
-    step: u64,
-    instant: Option<u64>,
-    recorded: &[u8],
-    replayed: &[u8],
-) -> io::Result<()> {
-    write_place(writer, step, instant)?;
-    write_both(writer, alloc, recorded, replayed)
-}
-
 /// The difference, with both sides.
 fn write_difference<W: Write>(
     writer: &mut W,
@@ -219,15 +168,32 @@ fn write_difference<W: Write>(
             now,
             recorded,
             replayed,
-        } => write_ticks(writer, step, *now, recorded, replayed),
-        Difference::Row { recorded, replayed } => write_rows(writer, step, *recorded, *replayed),
+        } => {
+            write!(writer, "step {step} differs: a tick, now {now}: ")?;
+            write_ticked(writer, "recorded", recorded)?;
+            write_ticked(writer, "; replayed", replayed)?;
+            writeln!(writer)
+        }
+        Difference::Row { recorded, replayed } => {
+            write!(writer, "step {step} differs: a pop: ")?;
+            write_row(writer, "recorded", *recorded)?;
+            write_row(writer, "; replayed", *replayed)?;
+            writeln!(writer)
+        }
         Difference::Frame {
             instant,
             recorded,
             replayed,
-        } => write_frames(writer, alloc, step, Some(*instant), recorded, replayed),
+        } => {
+            writeln!(
+                writer,
+                "step {step} differs: the frame of instant {instant}"
+            )?;
+            write_both(writer, alloc, recorded, replayed)
+        }
         Difference::Layout { recorded, replayed } => {
-            write_frames(writer, alloc, step, None, recorded, replayed)
+            writeln!(writer, "the layout after step {step} differs")?;
+            write_both(writer, alloc, recorded, replayed)
         }
     }
 }
