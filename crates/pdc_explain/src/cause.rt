@@ -95,34 +95,27 @@ pub fn fate_of(story: &Story, stream: usize, column: usize) -> Fate {
     }
 }
 
-/// How long after the first, and after the row had closed, it came.
-fn print_behind<W: Write>(
-    writer: &mut W,
-    about: &About,
-    opened: u64,
-    closed: u64,
-    time: u64,
-) -> io::Result<()> {
-    write!(writer, "its data came ")?;
-    write_span(writer, opened, time)?;
-    write!(writer, " after the first, ")?;
-    write_span(writer, closed, time)?;
-    write!(writer, " after the row had closed (")?;
-    print_wait(writer, about)?;
-    write!(writer, "): {}", Refusal::Late.text())
-}
-
 /// That it came too late.
 fn print_late<W: Write>(writer: &mut W, about: &About, story: &Story, time: u64) -> io::Result<()> {
-    if let (Some(opened), Some(closed)) = (story.opened, story.closed) {
-        return print_behind(writer, about, opened.time, closed.time, time);
+    match (story.opened, story.closed) {
+        (Some(opened), Some(closed)) => {
+            write!(writer, "its data came ")?;
+            write_span(writer, opened.time, time)?;
+            write!(writer, " after the first, ")?;
+            write_span(writer, closed.time, time)?;
+            write!(writer, " after the row had closed (")?;
+            print_wait(writer, about)?;
+            write!(writer, "): {}", Refusal::Late.text())
+        }
+        _ => {
+            print_at(writer, "its data came at ", time)?;
+            write!(
+                writer,
+                ", when a later instant had closed: {}",
+                Refusal::Late.text()
+            )
+        }
     }
-    print_at(writer, "its data came at ", time)?;
-    write!(
-        writer,
-        ", when a later instant had closed: {}",
-        Refusal::Late.text()
-    )
 }
 
 /// That nothing came.

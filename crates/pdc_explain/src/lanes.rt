@@ -42,34 +42,6 @@ fn print_other<W: Write>(
     }
 }
 
-/// Why neither node's block is there.
-fn print_neither<W: Write>(
-    writer: &mut W,
-    about: &About,
-    story: &Story,
-    column: usize,
-) -> io::Result<()> {
-    write!(writer, "absent: ")?;
-    print_other(writer, about, story, 0, column)?;
-    write!(writer, "; ")?;
-    print_other(writer, about, story, 1, column)
-}
-
-/// Whose block is shown, and when it came.
-fn print_chosen<W: Write>(
-    writer: &mut W,
-    about: &About,
-    story: &Story,
-    stream: usize,
-) -> io::Result<()> {
-    write!(writer, "shown: of ")?;
-    print_node(writer, about, stream)?;
-    match story.of_stream(stream).and_then(|came| came.taken) {
-        Some(taken) => print_at(writer, ", whose data came at ", taken.time),
-        None => Ok(()),
-    }
-}
-
 /// Writes which node's block a column shows, and why; or of both why it is not there.
 ///
 /// # Errors
@@ -82,9 +54,18 @@ pub fn print_lanes<W: Write>(
     column: usize,
 ) -> io::Result<()> {
     let Some(stream) = chosen(story, column) else {
-        return print_neither(writer, about, story, column);
+        write!(writer, "absent: ")?;
+        print_other(writer, about, story, 0, column)?;
+        write!(writer, "; ")?;
+        return print_other(writer, about, story, 1, column);
     };
-    print_chosen(writer, about, story, stream)?;
+    write!(writer, "shown: of ")?;
+    print_node(writer, about, stream)?;
+    if let Some(came) = story.of_stream(stream) {
+        if let Some(taken) = came.taken {
+            print_at(writer, ", whose data came at ", taken.time)?;
+        }
+    }
     let other = if stream == 0 { 1 } else { 0 };
     if stream == 0 && fate_of(story, other, column) == Fate::Present {
         write!(writer, " and goes before node B's")?;

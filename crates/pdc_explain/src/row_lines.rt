@@ -103,13 +103,6 @@ fn print_waited<W: Write>(
     print_at(writer, ", which came last, at ", last)
 }
 
-/// At which tick after it opened a row closed.
-fn print_tick<W: Write>(writer: &mut W, opened: Opened, closed: Closed) -> io::Result<()> {
-    write!(writer, ", at the ")?;
-    print_ordinal(writer, closed.ticks.saturating_sub(opened.ticks))?;
-    write!(writer, " tick after it opened")
-}
-
 /// At which tick a row closed.
 fn print_closed<W: Write>(
     writer: &mut W,
@@ -119,51 +112,13 @@ fn print_closed<W: Write>(
 ) -> io::Result<()> {
     print_at(writer, "; it closed at ", closed.time)?;
     if let Some(opened) = opened {
-        print_tick(writer, opened, closed)?;
+        write!(writer, ", at the ")?;
+        print_ordinal(writer, closed.ticks.saturating_sub(opened.ticks))?;
+        write!(writer, " tick after it opened")?;
     }
     write!(writer, " (now {}, ", closed.now)?;
     print_wait(writer, about)?;
     write!(writer, ")")
-}
-
-/// When a row opened, and with which stream.
-fn print_opened<W: Write>(writer: &mut W, about: &About, opened: Option<Opened>) -> io::Result<()> {
-    let Some(opened) = opened else {
-        return write!(writer, "the row opened before the record begins");
-    };
-    print_at(writer, "the row opened at ", opened.time)?;
-    write!(writer, " with ")?;
-    print_stream(writer, about, opened.stream)
-}
-
-/// What a row waited for, where that is known, and at which tick it closed.
-fn print_closing<W: Write>(
-    writer: &mut W,
-    about: &About,
-    story: &Story,
-    closed: Closed,
-) -> io::Result<()> {
-    if let Some(opened) = story.opened {
-        print_waited(writer, about, story, opened, closed)?;
-    }
-    print_closed(writer, about, story.opened, closed)
-}
-
-/// How a row closed, and when it was popped, with its frame or without.
-fn print_popped<W: Write>(
-    writer: &mut W,
-    about: &About,
-    story: &Story,
-    popped: u64,
-) -> io::Result<()> {
-    if let Some(closed) = story.closed {
-        print_closing(writer, about, story, closed)?;
-    }
-    let text = match story.payload {
-        Some(_) => "; its frame went out at ",
-        None => "; no frame of it was published, it was popped at ",
-    };
-    print_at(writer, text, popped)
 }
 
 /// Tells when the row opened, what it waited for, at which tick it closed and when its frame went out.
@@ -177,16 +132,33 @@ pub fn tell_row<W: Write>(
     story: &Story,
     end: u64,
 ) -> io::Result<()> {
-    if story.opened.is_none() && story.popped.is_none() {
-        return writeln!(
-            writer,
-            "the row did not open: nothing was taken for this instant"
-        );
+    write!(writer, "the row ")?;
+    match (story.opened, story.popped) {
+        (Some(opened), _) => {
+            print_at(writer, "opened at ", opened.time)?;
+            write!(writer, " with ")?;
+            print_stream(writer, about, opened.stream)?;
+        }
+        (None, Some(_)) => write!(writer, "opened before the record begins")?,
+        (None, None) => return writeln!(writer, "did not open: nothing was taken for this instant"),
     }
-    print_opened(writer, about, story.opened)?;
-    match story.popped {
-        Some(popped) => print_popped(writer, about, story, popped)?,
-        None => print_at(writer, "; it had not closed when the record ends, at ", end)?,
+    let Some(popped) = story.popped else {
+        print_at(writer, "; it had not closed when the record ends, at ", end)?;
+        return writeln!(writer);
+    };
+    if let Some(closed) = story.closed {
+        if let Some(opened) = story.opened {
+            print_waited(writer, about, story, opened, closed)?;
+        }
+        print_closed(writer, about, story.opened, closed)?;
+    }
+    match story.payload {
+        Some(_) => print_at(writer, "; its frame went out at ", popped)?,
+        None => print_at(
+            writer,
+            "; no frame of it was published, it was popped at ",
+            popped,
+        )?,
     }
     writeln!(writer)
 }

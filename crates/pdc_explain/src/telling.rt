@@ -52,44 +52,26 @@ fn outcome_words(outcome: Option<Outcome>) -> (&'static str, &'static str) {
     }
 }
 
-/// The place of an arrival.
-fn print_nth<W: Write>(writer: &mut W, place: u64) -> io::Result<()> {
-    write!(writer, ", the ")?;
-    print_ordinal(writer, place)
-}
-
-/// The place of the arrival that was taken among so many.
-fn print_taken<W: Write>(writer: &mut W, place: u64, count: u32) -> io::Result<()> {
-    print_nth(writer, place)?;
-    write!(writer, " of ")?;
-    print_number(writer, u64::from(count))
-}
-
-/// The place of an arrival that was not taken, and what became of it.
-fn print_not_taken<W: Write>(
-    writer: &mut W,
-    place: u64,
-    outcome: Option<Outcome>,
-) -> io::Result<()> {
-    let (word, text) = outcome_words(outcome);
-    print_nth(writer, place)?;
-    write!(writer, " {word} ({text})")
-}
-
 /// The place of the arrival that was taken among all of its stream, and what became of the others.
 fn print_place<W: Write>(writer: &mut W, came: &Came) -> io::Result<()> {
     let mut place: u64 = 0;
     for arrived in came.arrivals.as_slice() {
         place = place.saturating_add(1);
         if arrived.outcome == Some(Outcome::Taken) {
-            print_taken(writer, place, came.count)?;
+            write!(writer, ", the ")?;
+            print_ordinal(writer, place)?;
+            write!(writer, " of ")?;
+            print_number(writer, u64::from(came.count))?;
         }
     }
     place = 0;
     for arrived in came.arrivals.as_slice() {
         place = place.saturating_add(1);
         if arrived.outcome != Some(Outcome::Taken) {
-            print_not_taken(writer, place, arrived.outcome)?;
+            let (word, text) = outcome_words(arrived.outcome);
+            write!(writer, ", the ")?;
+            print_ordinal(writer, place)?;
+            write!(writer, " {word} ({text})")?;
         }
     }
     Ok(())
