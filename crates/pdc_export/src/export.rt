@@ -96,19 +96,6 @@ impl Export {
         Ok(())
     }
 
-    /// Writes the line that was read, and with it all that is not written yet, once that is enough.
-    fn end_full_line<R: Eprint, W: Write>(
-        &mut self,
-        rt: &R,
-        writer: &mut W,
-    ) -> Result<(), ExportFault> {
-        self.end_line(rt)?;
-        if self.out.len() >= BATCH_LEN {
-            self.write_out(writer)?;
-        }
-        Ok(())
-    }
-
     /// Takes what was read, and writes each line that it ends.
     fn feed<R: Eprint, W: Write>(
         &mut self,
@@ -119,7 +106,10 @@ impl Export {
         let mut is_first = true;
         for part in piece.split(|byte| *byte == b'\n') {
             if !is_first {
-                self.end_full_line(rt, writer)?;
+                self.end_line(rt)?;
+                if self.out.len() >= BATCH_LEN {
+                    self.write_out(writer)?;
+                }
             }
             is_first = false;
             self.line.take(part)?;
@@ -138,28 +128,6 @@ impl Export {
     }
 }
 
-/// Reads pieces into the one that is lent, and writes what they say.
-fn export_all<E: Eprint, R: Read, W: Write>(
-    rt: &E,
-    export: &mut Export,
-    piece: &mut [u8],
-    reader: &mut R,
-    writer: &mut W,
-) -> Result<Shown, ExportFault> {
-    for _ in 0..MAX_READS {
-        let len = match reader.read(piece) {
-            Ok(len) => len,
-            Err(error) if error.kind() == ErrorKind::Interrupted => continue,
-            Err(error) => return Err(ExportFault::Read(error)),
-        };
-        if len == 0 {
-            return export.end(rt, writer);
-        }
-        export.feed(rt, &piece[..len], writer)?;
-    }
-    Err(ExportFault::TooLong)
-}
-
 /// Reads lines of hexadecimal, one frame a line, and writes what each frame says as JSON or CSV. It holds one line at a time, and goes on after a
 /// line that is refused. What was written is flushed before each read, so that it can stand behind a live source. Of a line that gives no
 /// row it tells on standard error.
@@ -176,5 +144,16 @@ pub fn run_export<E: Eprint, R: Read, W: Write>(
 ) -> Result<Shown, ExportFault> {
     let mut export = Export::new(alloc, format)?;
     let mut piece = vec![in alloc; 0u8; PIECE_LEN].map_err(|_| ExportFault::Memory)?;
-    export_all(rt, &mut export, piece.as_mut_slice(), reader, writer)
+    for _ in 0..MAX_READS {
+        let len = match reader.read(piece.as_mut_slice()) {
+            Ok(len) => len,
+            Err(error) if error.kind() == ErrorKind::Interrupted => continue,
+            Err(error) => return Err(ExportFault::Read(error)),
+        };
+        if len == 0 {
+            return export.end(rt, writer);
+        }
+        export.feed(rt, &piece[..len], writer)?;
+    }
+    Err(ExportFault::TooLong)
 }

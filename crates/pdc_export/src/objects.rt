@@ -30,17 +30,6 @@ pub fn quoted(alloc: Global, text: &str) -> Result<Vec<u8>, AllocError>
     Ok(writer.into_inner())
 }
 
-/// Adds a text as JSON.
-fn add_quoted(alloc: Global, template: &mut Template, text: &str) -> Result<(), AllocError> {
-    template.text(quoted(alloc, text)?.as_slice())
-}
-
-/// Appends a text as JSON.
-fn append_quoted(alloc: Global, text: &str, out: &mut Vec<u8>) -> Result<(), AllocError> {
-    out.extend_from_slice(quoted(alloc, text)?.as_slice())?;
-    Ok(())
-}
-
 /// Adds a member's name, behind a comma where it is not the first.
 fn add_name(
     alloc: Global,
@@ -51,7 +40,7 @@ fn add_name(
     if !is_first {
         template.text(b",")?;
     }
-    add_quoted(alloc, template, name)?;
+    template.text(quoted(alloc, name)?.as_slice())?;
     template.text(b":")
 }
 
@@ -97,24 +86,16 @@ fn add_members(
     template.text(b"}")
 }
 
-/// Adds the PMU's name.
-fn add_station(
-    alloc: Global,
-    template: &mut Template,
-    section: &SectionView,
-) -> Result<(), AllocError> {
-    add_quoted(alloc, template, station_name(alloc, section)?.as_str())
-}
-
 /// Adds the PMU's name and id, STAT, the frequency and its rate of change.
 fn add_head(
     alloc: Global,
     template: &mut Template,
     section: &SectionView,
 ) -> Result<(), AllocError> {
+    let name = station_name(alloc, section)?;
     let fixed = fixed_of(section);
     template.text(b"{\"pmu\":")?;
-    add_station(alloc, template, section)?;
+    template.text(quoted(alloc, name.as_str())?.as_slice())?;
     template.text(b",\"id\":")?;
     template.count(u64::from(section.source))?;
     template.places(&[
@@ -125,32 +106,6 @@ fn add_head(
     ])
 }
 
-/// Adds the channels of all kinds, each kind in an object of its own, and the end of the object of a block.
-fn add_channels(
-    alloc: Global,
-    template: &mut Template,
-    channels: &[Channel],
-) -> Result<(), AllocError> {
-    template.text(b",\"phasors\":")?;
-    add_members(alloc, template, channels, &[Kind::Voltage, Kind::Current])?;
-    template.text(b",\"analogs\":")?;
-    add_members(alloc, template, channels, &[Kind::Analog])?;
-    template.text(b",\"digitals\":")?;
-    add_members(alloc, template, channels, &[Kind::Digital])?;
-    template.text(b"}")
-}
-
-/// Adds all of the object of a block of this section, which has these channels.
-fn add_block(
-    alloc: Global,
-    template: &mut Template,
-    section: &SectionView,
-    channels: &[Channel],
-) -> Result<(), AllocError> {
-    add_head(alloc, template, section)?;
-    add_channels(alloc, template, channels)
-}
-
 /// The object of a block of this section.
 ///
 /// # Errors
@@ -159,7 +114,19 @@ fn add_block(
 pub fn block_template(alloc: Global, section: &SectionView) -> Result<Template, AllocError> {
     let channels = channels_of(alloc, section)?;
     let mut template = Template::new(alloc, ABSENT);
-    add_block(alloc, &mut template, section, channels.as_slice())?;
+    add_head(alloc, &mut template, section)?;
+    template.text(b",\"phasors\":")?;
+    add_members(
+        alloc,
+        &mut template,
+        channels.as_slice(),
+        &[Kind::Voltage, Kind::Current],
+    )?;
+    template.text(b",\"analogs\":")?;
+    add_members(alloc, &mut template, channels.as_slice(), &[Kind::Analog])?;
+    template.text(b",\"digitals\":")?;
+    add_members(alloc, &mut template, channels.as_slice(), &[Kind::Digital])?;
+    template.text(b"}")?;
     Ok(template)
 }
 
@@ -167,16 +134,6 @@ pub fn block_template(alloc: Global, section: &SectionView) -> Result<Template, 
 fn append_member(name: &[u8], value: i64, out: &mut Vec<u8>) -> Result<(), AllocError> {
     out.extend_from_slice(name)?;
     append_whole(value, out)
-}
-
-/// Appends a time in UTC, with its quotes, or null where there is none.
-fn append_time(time: Option<&[u8]>, out: &mut Vec<u8>) -> Result<(), AllocError> {
-    let Some(time) = time else {
-        return out.extend_from_slice(b"null");
-    };
-    out.extend_from_slice(b"\"")?;
-    out.extend_from_slice(time)?;
-    out.extend_from_slice(b"\"")
 }
 
 /// Appends the beginning of the object of a frame: its kind, its time in UTC, or null where it has none, its stream, and the fields that the time
@@ -194,7 +151,14 @@ pub fn append_frame(
     out.extend_from_slice(b"{\"kind\":\"")?;
     out.extend_from_slice(kind)?;
     out.extend_from_slice(b"\",\"time\":")?;
-    append_time(time, out)?;
+    match time {
+        Some(time) => {
+            out.extend_from_slice(b"\"")?;
+            out.extend_from_slice(time)?;
+            out.extend_from_slice(b"\"")?;
+        }
+        None => out.extend_from_slice(b"null")?,
+    }
     append_member(b",\"stream\":", i64::from(frame.id.value), out)?;
     append_member(b",\"soc\":", i64::from(frame.soc), out)?;
     append_member(b",\"frac\":", i64::from(frame.frac), out)?;
@@ -230,7 +194,7 @@ fn append_channel(
 ) -> Result<(), AllocError> {
     out.extend_from_slice(separator)?;
     out.extend_from_slice(b"{\"name\":")?;
-    append_quoted(alloc, channel.label.as_str(), out)?;
+    out.extend_from_slice(quoted(alloc, channel.label.as_str())?.as_slice())?;
     let kind: &[u8] = match channel.quantity.kind() {
         Kind::Voltage => b",\"kind\":\"voltage\"}",
         Kind::Current => b",\"kind\":\"current\"}",
@@ -240,45 +204,28 @@ fn append_channel(
     out.extend_from_slice(kind)
 }
 
-/// Appends the PMU's name.
-fn append_station(
-    alloc: Global,
-    section: &SectionView,
-    out: &mut Vec<u8>,
-) -> Result<(), AllocError> {
-    append_quoted(alloc, station_name(alloc, section)?.as_str(), out)
-}
-
-/// Appends the objects of channels, in a list.
-fn append_channels(
-    alloc: Global,
-    channels: &[Channel],
-    out: &mut Vec<u8>,
-) -> Result<(), AllocError> {
-    let mut separator: &[u8] = b",\"channels\":[";
-    if channels.is_empty() {
-        out.extend_from_slice(separator)?;
-    }
-    for channel in channels {
-        append_channel(alloc, channel, separator, out)?;
-        separator = b",";
-    }
-    out.extend_from_slice(b"]")
-}
-
 /// Appends the object of a section.
 fn append_section(
     alloc: Global,
     section: &SectionView,
     out: &mut Vec<u8>,
 ) -> Result<(), AllocError> {
+    let name = station_name(alloc, section)?;
+    let channels = channels_of(alloc, section)?;
     out.extend_from_slice(b"{\"pmu\":")?;
-    append_station(alloc, section, out)?;
+    out.extend_from_slice(quoted(alloc, name.as_str())?.as_slice())?;
     append_member(b",\"id\":", i64::from(section.source), out)?;
     append_member(b",\"count\":", i64::from(section.count), out)?;
     append_member(b",\"nominal\":", i64::from(nominal_frequency(section)), out)?;
-    append_channels(alloc, channels_of(alloc, section)?.as_slice(), out)?;
-    out.extend_from_slice(b"}")
+    let mut separator: &[u8] = b",\"channels\":[";
+    if channels.is_empty() {
+        out.extend_from_slice(separator)?;
+    }
+    for channel in channels.iter() {
+        append_channel(alloc, channel, separator, out)?;
+        separator = b",";
+    }
+    out.extend_from_slice(b"]}")
 }
 
 /// Appends the rest of the object of a configuration, whose beginning is there.

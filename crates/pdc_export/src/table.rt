@@ -88,25 +88,16 @@ fn add_empty(template: &mut Template, kind: Kind) -> Result<(), AllocError> {
     }
 }
 
-/// Adds the PMU's name.
-fn add_station(
-    alloc: Global,
-    template: &mut Template,
-    section: &SectionView,
-) -> Result<(), AllocError> {
-    let name = station_name(alloc, section)?;
-    template.text(field_text(alloc, name.as_str())?.as_slice())
-}
-
 /// Adds the PMU's name and id, STAT, the frequency and its rate of change, each behind a comma.
 fn add_head(
     alloc: Global,
     template: &mut Template,
     section: &SectionView,
 ) -> Result<(), AllocError> {
+    let name = station_name(alloc, section)?;
     let fixed = fixed_of(section);
     template.text(b",")?;
-    add_station(alloc, template, section)?;
+    template.text(field_text(alloc, name.as_str())?.as_slice())?;
     template.text(b",")?;
     template.count(u64::from(section.source))?;
     template.places(&[
@@ -173,33 +164,6 @@ impl Columns {
         out.extend_from_slice(b"\n")
     }
 
-    /// Adds what the columns have of these channels.
-    fn add_channels(
-        &self,
-        template: &mut Template,
-        channels: &[Channel],
-    ) -> Result<(), AllocError> {
-        for column in self.columns.iter() {
-            match channels.iter().find(|channel| column.is_of(channel)) {
-                Some(channel) => add_channel(template, channel.quantity)?,
-                None => add_empty(template, column.kind)?,
-            }
-        }
-        Ok(())
-    }
-
-    /// Adds all of the row of a block of this section, which has these channels.
-    fn add_row(
-        &self,
-        template: &mut Template,
-        section: &SectionView,
-        channels: &[Channel],
-    ) -> Result<(), AllocError> {
-        add_head(self.alloc, template, section)?;
-        self.add_channels(template, channels)?;
-        template.text(b"\n")
-    }
-
     /// The row of a block of this section, behind time and stream, and whether each channel of it has columns.
     ///
     /// # Errors
@@ -208,7 +172,14 @@ impl Columns {
     pub fn row(&self, section: &SectionView) -> Result<(Template, bool), AllocError> {
         let channels = channels_of(self.alloc, section)?;
         let mut template = Template::new(self.alloc, ABSENT);
-        self.add_row(&mut template, section, channels.as_slice())?;
+        add_head(self.alloc, &mut template, section)?;
+        for column in self.columns.iter() {
+            match channels.iter().find(|channel| column.is_of(channel)) {
+                Some(channel) => add_channel(&mut template, channel.quantity)?,
+                None => add_empty(&mut template, column.kind)?,
+            }
+        }
+        template.text(b"\n")?;
         let whole = channels.iter().all(|channel| self.has(channel));
         Ok((template, whole))
     }

@@ -2,7 +2,7 @@
 
 use crate::about::{About, Unexplained};
 use crate::moments::instant_near;
-use crate::sections::{Held, InForce, Sections};
+use crate::sections::{Held, Sections};
 use crate::stories::Stories;
 use crate::story::{Arrived, Cell, Closed, Opened, Story, cells_of};
 use crate::wanted::Wanted;
@@ -46,13 +46,6 @@ pub(crate) struct Heard<'a> {
     pub stream: usize,
     pub outcome: Option<Outcome>,
     pub datagram: &'a [u8],
-}
-
-impl Heard<'_> {
-    /// It was taken.
-    fn is_taken(&self) -> bool {
-        self.outcome == Some(Outcome::Taken)
-    }
 }
 
 impl Followed {
@@ -105,25 +98,6 @@ impl Followed {
         Some(cells)
     }
 
-    /// The count of the configuration that waits for a tick in a node's column, if one does.
-    fn waiting(&self, stream: usize) -> Option<u16> {
-        if self.about.is_merger() {
-            return None;
-        }
-        self.sections.waiting(stream).map(|held| held.count)
-    }
-
-    /// Data that came now.
-    fn arrived(&self, heard: &Heard<'_>) -> Arrived {
-        Arrived {
-            time: heard.time,
-            outcome: heard.outcome,
-            ticks: self.ticks,
-            waiting: self.waiting(heard.stream),
-            adopted: None,
-        }
-    }
-
     /// Data came for a stream.
     fn hear_data(
         &mut self,
@@ -131,18 +105,45 @@ impl Followed {
         instant: u64,
         payload: &[u8],
     ) -> Result<(), AllocError> {
-        let cells = if heard.is_taken() {
+        let is_taken = heard.outcome == Some(Outcome::Taken);
+        let cells = if is_taken {
             self.cells(heard.stream, payload)
         } else {
             None
         };
-        let arrived = self.arrived(heard);
-        let now = self.now(heard.time);
+        let waiting = if self.about.is_merger() {
+            None
+        } else {
+            self.sections.waiting(heard.stream)
+        };
+        let (now, ticks) = (self.now(heard.time), self.ticks);
+        let arrived = Arrived {
+            time: heard.time,
+            outcome: heard.outcome,
+            ticks,
+            waiting: waiting.map(|held| held.count),
+            adopted: None,
+        };
         let Some(story) = self.stories.at(instant, now)? else {
             self.stories.pass(heard.stream, instant, heard.time);
             return Ok(());
         };
-        note_data(story, heard, arrived, payload, cells)
+        if is_taken && story.opened.is_none() {
+            story.opened = Some(Opened {
+                time: heard.time,
+                ticks,
+                stream: heard.stream,
+            });
+        }
+        let Some(came) = story.came.as_mut_slice().get_mut(heard.stream) else {
+            return Ok(());
+        };
+        came.note(arrived);
+        if is_taken {
+            came.take(arrived, payload)?;
+            came.cells = cells.unwrap_or([Cell::Missing; MAX_PMUS]);
+        }
+        Ok(())
     }
 
     /// A configuration came for a stream, and is new.
@@ -252,45 +253,6 @@ impl Followed {
     }
 }
 
-/// Notes that data came of an instant.
-fn note_data(
-    story: &mut Story,
-    heard: &Heard<'_>,
-    arrived: Arrived,
-    payload: &[u8],
-    cells: Option<[Cell; MAX_PMUS]>,
-) -> Result<(), AllocError> {
-    if heard.is_taken() && story.opened.is_none() {
-        story.opened = Some(Opened {
-            time: heard.time,
-            ticks: arrived.ticks,
-            stream: heard.stream,
-        });
-    }
-    let Some(came) = story.came.as_mut_slice().get_mut(heard.stream) else {
-        return Ok(());
-    };
-    came.note(arrived);
-    if heard.is_taken() {
-        came.take(arrived, payload)?;
-        came.cells = cells.unwrap_or([Cell::Missing; MAX_PMUS]);
-    }
-    Ok(())
-}
-
-/// The sections that are in force, in their order.
-fn layout_of(in_force: &InForce) -> Layout {
-    let mut sections = Layout::new();
-    for held in in_force {
-        if let Some(held) = held {
-            if !sections.is_full() {
-                sections.push(*held);
-            }
-        }
-    }
-    sections
-}
-
 /// Notes the frame that was published of an instant.
 fn show_in(
     alloc: Global,
@@ -311,7 +273,14 @@ fn show_in(
         },
     ) = closed
     {
-        let sections = layout_of(&in_force);
+        let mut sections = Layout::new();
+        for held in in_force {
+            if let Some(held) = held {
+                if !sections.is_full() {
+                    sections.push(held);
+                }
+            }
+        }
         story.shown = cells_of(frame.payload, OWN_BLOCK_LEN, sections.as_slice());
     }
     Ok(())

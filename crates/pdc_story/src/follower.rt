@@ -90,7 +90,8 @@ impl Follower {
     ///
     /// The record does not begin as one does, or there is no memory.
     pub fn take(&mut self, entry: &Entry<'_>) -> Result<(), Unexplained> {
-        self.end = entry.time;
+        let (alloc, time) = (self.alloc, entry.time);
+        self.end = time;
         if let What::Begun(begun) = &entry.what {
             if self.life.is_some() && !self.is_other_life(entry) {
                 return Ok(());
@@ -100,7 +101,42 @@ impl Follower {
         let Some(life) = &mut self.life else {
             return Err(Unexplained::NoBeginning);
         };
-        follow(self.alloc, life, &mut self.gaps, entry)?;
+        match &entry.what {
+            What::Begun(_) | What::FoundNone => {}
+            What::Arrived {
+                stream,
+                outcome,
+                datagram,
+            } => life.hear(&Heard {
+                time,
+                stream: usize::from(*stream),
+                outcome: Some(*outcome),
+                datagram,
+            })?,
+            What::Unanswered { stream, datagram } => life.hear(&Heard {
+                time,
+                stream: usize::from(*stream),
+                outcome: None,
+                datagram,
+            })?,
+            What::Ticked {
+                now,
+                counts,
+                closed,
+                change,
+                ..
+            } => life.tick(time, *now, counts, *closed, change.is_some())?,
+            What::Popped { instant, frame } => life.pop(alloc, time, *instant, *frame)?,
+            What::Laid { frame } => life.lay(frame),
+            What::Missing { until } => {
+                life.closings.clear();
+                self.gaps.push(Gap {
+                    from: entry.step,
+                    until: *until,
+                    time,
+                })?;
+            }
+        }
         Ok(())
     }
 
@@ -121,56 +157,6 @@ impl Follower {
         match &mut self.life {
             Some(life) => life.stories.end(),
             None => Ok(()),
-        }
-    }
-}
-
-/// Follows what an entry tells of a life that has begun; steps that are missing are a gap.
-fn follow(
-    alloc: Global,
-    life: &mut Followed,
-    gaps: &mut Vec<Gap>,
-    entry: &Entry<'_>,
-) -> Result<(), AllocError> {
-    let time = entry.time;
-    match &entry.what {
-        What::Begun(_) | What::FoundNone => Ok(()),
-        What::Arrived {
-            stream,
-            outcome,
-            datagram,
-        } => life.hear(&Heard {
-            time,
-            stream: usize::from(*stream),
-            outcome: Some(*outcome),
-            datagram,
-        }),
-        What::Unanswered { stream, datagram } => life.hear(&Heard {
-            time,
-            stream: usize::from(*stream),
-            outcome: None,
-            datagram,
-        }),
-        What::Ticked {
-            now,
-            counts,
-            closed,
-            change,
-            ..
-        } => life.tick(time, *now, counts, *closed, change.is_some()),
-        What::Popped { instant, frame } => life.pop(alloc, time, *instant, *frame),
-        What::Laid { frame } => {
-            life.lay(frame);
-            Ok(())
-        }
-        What::Missing { until } => {
-            life.closings.clear();
-            gaps.push(Gap {
-                from: entry.step,
-                until: *until,
-                time,
-            })?;
-            Ok(())
         }
     }
 }

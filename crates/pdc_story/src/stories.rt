@@ -81,7 +81,17 @@ impl Stories {
             return Ok(());
         };
         let mut story = story;
-        note_before(&mut story, &mut self.last);
+        for (came, last) in story
+            .came
+            .as_mut_slice()
+            .iter_mut()
+            .zip(self.last.as_mut_slice())
+        {
+            came.before = *last;
+            if let Some(arrived) = came.arrivals.as_slice().first() {
+                *last = Some((story.instant, arrived.time));
+            }
+        }
         self.finished.push(story)?;
         Ok(())
     }
@@ -98,18 +108,6 @@ impl Stories {
         Ok(())
     }
 
-    /// The lowest instant that has a place; where none has yet, it is one below this instant.
-    fn low_for(&mut self, instant: u64) -> u64 {
-        match self.low {
-            Some(low) => low,
-            None => {
-                let low = instant.saturating_sub(SPAN / 2);
-                self.low = Some(low);
-                low
-            }
-        }
-    }
-
     /// The story of an instant, where it is to be followed and `now` is about the time.
     ///
     /// # Errors
@@ -119,7 +117,14 @@ impl Stories {
         if !self.is_followed(instant, now) {
             return Ok(None);
         }
-        let low = self.low_for(instant);
+        let low = match self.low {
+            Some(low) => low,
+            None => {
+                let low = instant.saturating_sub(SPAN / 2);
+                self.low = Some(low);
+                low
+            }
+        };
         if instant < low {
             return Ok(None);
         }
@@ -160,22 +165,6 @@ impl Stories {
         }
         self.low = None;
         Ok(())
-    }
-}
-
-/// Notes in a story of each stream when data came before, and beside it when its own came.
-fn note_before(story: &mut Story, before: &mut [Option<(u64, u64)>; MAX_PMUS]) {
-    let instant = story.instant;
-    for (came, last) in story
-        .came
-        .as_mut_slice()
-        .iter_mut()
-        .zip(before.as_mut_slice())
-    {
-        came.before = *last;
-        if let Some(arrived) = came.arrivals.as_slice().first() {
-            *last = Some((instant, arrived.time));
-        }
     }
 }
 
