@@ -67,21 +67,23 @@ fn run_show(rt: &HostRuntime, form: ShowForm) -> io::Result<u8> {
 fn main(rt: HostRuntime) -> io::Result<ExitCode> {
     let alloc = rt.alloc();
     let words: Vec<String> = std::env::args(&rt)?.collect(alloc)?;
-    let arguments = words.as_slice().get(1..).unwrap_or(&[]);
-    let status = match parse(alloc, arguments) {
-        Ok(Some(Request::Show(form))) => run_show(&rt, form)?,
-        Ok(Some(Request::Play(request))) => run_play_command(&rt, &request)?,
-        Ok(Some(Request::MarkInit(request))) => run_mark_init_command(&rt, &request)?,
-        Ok(Some(Request::MarkConvert(request))) => run_mark_convert_command(&rt, &request)?,
-        Ok(Some(Request::Node(request))) => run_node_command(&rt, &request)?,
-        Ok(Some(Request::Merge(request))) => run_merge_command(&rt, &request)?,
-        Ok(Some(Request::Pmu(request))) => run_pmu_command(&rt, &request)?,
-        Ok(Some(Request::Listen(request))) => run_listen_command(&rt, &request)?,
-        Ok(None) => WRONG_ARGUMENTS,
-        Err(error) => {
-            error.print(&rt)?;
-            error.exit_code() as u8
-        }
+    // one exit for all commands: each `?` here would drop the words and the request
+    let status = match parse(alloc, words.as_slice().get(1..).unwrap_or(&[])) {
+        Ok(Some(request)) => match &request {
+            Request::Show(form) => run_show(&rt, *form),
+            Request::Play(request) => run_play_command(&rt, request),
+            Request::MarkInit(request) => run_mark_init_command(&rt, request),
+            Request::MarkConvert(request) => run_mark_convert_command(&rt, request),
+            Request::Node(request) => run_node_command(&rt, request),
+            Request::Merge(request) => run_merge_command(&rt, request),
+            Request::Pmu(request) => run_pmu_command(&rt, request),
+            Request::Listen(request) => run_listen_command(&rt, request),
+        },
+        Ok(None) => Ok(WRONG_ARGUMENTS),
+        Err(error) => match error.print(&rt) {
+            Ok(()) => Ok(error.exit_code() as u8),
+            Err(fault) => Err(fault),
+        },
     };
-    Ok(ExitCode::from(status))
+    Ok(ExitCode::from(status?))
 }

@@ -22,19 +22,11 @@ fn load(
     read_settings(rt.alloc(), &text).map_err(LoadFault::Refused)
 }
 
-/// The settings in this file; where there are none the reason is printed, and the exit status answered that it gives.
-fn loaded(
-    rt: &(impl Files<File = File> + AllocGlobal + Eprint),
-    file: &str,
-) -> io::Result<Result<AnySettings, u8>> {
-    match load(rt, file) {
-        Ok(settings) => Ok(Ok(settings)),
-        Err(fault) => {
-            print_fault(rt, &fault)?;
-            report_load(rt, "play", file, &fault)?;
-            Ok(Err(fault.status()))
-        }
-    }
+/// Tells why there are no settings in this file, and answers the exit status that it gives.
+fn refuse(rt: &impl Eprint, file: &str, fault: &LoadFault) -> io::Result<u8> {
+    print_fault(rt, fault)?;
+    report_load(rt, "play", file, fault)?;
+    Ok(fault.status())
 }
 
 /// Plays the script on standard input on a world of these settings.
@@ -50,25 +42,43 @@ fn play_streams(
     play_settings(alloc, a, b, m, &mut reader, &mut writer)
 }
 
-/// Runs the command, and answers its exit status. The settings are read from left to right, and the script behind them.
-pub fn run_play_command(rt: &HostRuntime, request: &Play) -> io::Result<u8> {
-    let a = match loaded(rt, request.a)? {
-        Ok(settings) => settings,
-        Err(status) => return Ok(status),
-    };
-    let b = match loaded(rt, request.b)? {
-        Ok(settings) => settings,
-        Err(status) => return Ok(status),
-    };
-    let m = match loaded(rt, request.m)? {
-        Ok(settings) => settings,
-        Err(status) => return Ok(status),
-    };
+/// Plays the script on a world of these settings, and answers the exit status.
+fn play(rt: &HostRuntime, a: AnySettings, b: AnySettings, m: AnySettings) -> io::Result<u8> {
     match play_streams(rt.alloc(), rt, a, b, m) {
         Ok(ending) => Ok(ending.status()),
         Err(fault) => {
             eprintln!(rt; "pdc play: {fault}")?;
             Ok(FAILED)
         }
+    }
+}
+
+/// Reads the settings of the merger, and plays.
+fn play_with_nodes(
+    rt: &HostRuntime,
+    request: &Play,
+    a: AnySettings,
+    b: AnySettings,
+) -> io::Result<u8> {
+    match load(rt, request.m) {
+        Ok(m) => play(rt, a, b, m),
+        Err(fault) => refuse(rt, request.m, &fault),
+    }
+}
+
+/// Reads the settings of node B and of the merger, and plays.
+fn play_with_a(rt: &HostRuntime, request: &Play, a: AnySettings) -> io::Result<u8> {
+    match load(rt, request.b) {
+        Ok(b) => play_with_nodes(rt, request, a, b),
+        Err(fault) => refuse(rt, request.b, &fault),
+    }
+}
+
+/// Runs the command, and answers its exit status. The settings are read from left to right, and the script behind them. A function for each
+/// file: to own three settings across all their exits is dear to prove.
+pub fn run_play_command(rt: &HostRuntime, request: &Play) -> io::Result<u8> {
+    match load(rt, request.a) {
+        Ok(a) => play_with_a(rt, request, a),
+        Err(fault) => refuse(rt, request.a, &fault),
     }
 }

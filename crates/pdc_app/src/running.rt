@@ -17,6 +17,65 @@ fn report_totals(rt: &impl Print, totals: &Totals) -> io::Result<u8> {
     Ok(DONE)
 }
 
+/// Tells that a further destination was not opened.
+fn complain_of_output(
+    rt: &impl Eprint,
+    command: &str,
+    settings: &str,
+    number: usize,
+    error: &io::Error,
+) -> io::Result<()> {
+    eprintln!(rt; "pdc {command}: {settings}: outputs, number {number}: {error}")
+}
+
+/// Tells that a stream is not asked for.
+fn complain_of_input(
+    rt: &impl Eprint,
+    command: &str,
+    settings: &str,
+    id: u16,
+    error: &io::Error,
+) -> io::Result<()> {
+    eprintln!(rt; "pdc {command}: {settings}: where stream {id} is asked for: {error}")
+}
+
+/// Tells that the record was not begun.
+fn complain_of_record(
+    rt: &impl Eprint,
+    command: &str,
+    request: &Running,
+    error: &io::Error,
+) -> io::Result<()> {
+    let name = request.record.map_or("", |record| record.name);
+    eprintln!(rt; "pdc {command}: the first file of the record {name}: {error}")
+}
+
+/// Tells what a fault is about, and the reason.
+fn tell_fault(
+    rt: &impl Eprint,
+    command: &str,
+    fault: &ServiceFault,
+    request: &Running,
+) -> io::Result<()> {
+    let (settings, mark) = (request.settings, request.mark);
+    match fault {
+        ServiceFault::Settings(fault) => report_load(rt, command, settings, fault),
+        ServiceFault::MarkUnopened(error) => complain_of(rt, command, mark, error),
+        ServiceFault::MarkInUse => complain_of(rt, command, mark, &"in use by another process"),
+        ServiceFault::Mark(_) => complain_of(rt, command, mark, &"the mark is not begun"),
+        ServiceFault::Port(at, error) => {
+            complain_at(rt, command, &NamedPort { kind: "", at: *at }, error)
+        }
+        ServiceFault::Output(number, error) => {
+            complain_of_output(rt, command, settings, *number, error)
+        }
+        ServiceFault::Input(id, error) => complain_of_input(rt, command, settings, *id, error),
+        ServiceFault::Record(error) => complain_of_record(rt, command, request, error),
+        ServiceFault::Run(_) => complain(rt, command, "the run ended early"),
+        ServiceFault::Clock => complain(rt, command, "the clock cannot be read"),
+    }
+}
+
 /// Prints the fault to standard error, and on a second line the file or the port with the reason. Answers the exit status.
 fn report_fault(
     rt: &impl Eprint,
@@ -24,32 +83,8 @@ fn report_fault(
     fault: &ServiceFault,
     request: &Running,
 ) -> io::Result<u8> {
-    let mark = request.mark;
     print_fault(rt, fault)?;
-    match fault {
-        ServiceFault::Settings(fault) => report_load(rt, command, request.settings, fault)?,
-        ServiceFault::MarkUnopened(error) => complain_of(rt, command, mark, error)?,
-        ServiceFault::MarkInUse => { complain_of(rt, command, mark, &"in use by another process")? }
-        ServiceFault::Mark(_) => complain_of(rt, command, mark, &"the mark is not begun")?,
-        ServiceFault::Port(at, error) => {
-            let port = NamedPort { kind: "", at: *at };
-            complain_at(rt, command, &port, error)?
-        }
-        ServiceFault::Output(number, error) => {
-            let settings = request.settings;
-            eprintln!(rt; "pdc {command}: {settings}: outputs, number {number}: {error}")?
-        }
-        ServiceFault::Input(id, error) => {
-            let settings = request.settings;
-            eprintln!(rt; "pdc {command}: {settings}: where stream {id} is asked for: {error}")?
-        }
-        ServiceFault::Record(error) => {
-            let name = request.record.map_or("", |record| record.name);
-            eprintln!(rt; "pdc {command}: the first file of the record {name}: {error}")?
-        }
-        ServiceFault::Run(_) => complain(rt, command, "the run ended early")?,
-        ServiceFault::Clock => complain(rt, command, "the clock cannot be read")?,
-    }
+    tell_fault(rt, command, fault, request)?;
     Ok(fault.status())
 }
 
