@@ -32,17 +32,23 @@ fn ticks(count: u32) -> RunOptions {
     }
 }
 
+/// Prints what a run counted.
+fn print_totals<R: Print>(rt: &R, name: &str, totals: &Totals) -> io::Result<()> {
+    let (taken, refused, published) = (totals.taken, totals.refused, totals.published);
+    println!(rt; "  {name}: taken={taken} refused={refused} published={published}")
+}
+
+/// Prints what ended a run, or kept it from its start.
+fn print_fault<R: Print>(rt: &R, name: &str, fault: &ServiceFault) -> io::Result<()> {
+    let status = fault.status();
+    println!(rt; "  {name}: {fault}, status {status}")
+}
+
 /// Prints what came of a run.
-fn print_run<R: Print>(rt: &R, name: &str, ended: Result<Totals, ServiceFault>) -> io::Result<()> {
+fn print_run<R: Print>(rt: &R, name: &str, ended: &Result<Totals, ServiceFault>) -> io::Result<()> {
     match ended {
-        Ok(totals) => {
-            let (taken, refused, published) = (totals.taken, totals.refused, totals.published);
-            println!(rt; "  {name}: taken={taken} refused={refused} published={published}")
-        }
-        Err(fault) => {
-            let status = fault.status();
-            println!(rt; "  {name}: {fault}, status {status}")
-        }
+        Ok(totals) => print_totals(rt, name, totals),
+        Err(fault) => print_fault(rt, name, fault),
     }
 }
 
@@ -76,11 +82,8 @@ fn play_node<R: Host + Print>(
         mark: paths.mark.as_str(),
         record: None,
     };
-    print_run(
-        rt,
-        name,
-        serve_node(rt, &mut ThisMachine, &files, &ticks(3)),
-    )
+    let ended = serve_node(rt, &mut ThisMachine, &files, &ticks(3));
+    print_run(rt, name, &ended)
 }
 
 /// Hands the node's files to the merger, and prints what came of it.
@@ -91,11 +94,8 @@ fn play_merger<R: Host + Print>(rt: &R, alloc: Global, folder: &PathBuf) -> io::
         mark: paths.mark.as_str(),
         record: None,
     };
-    print_run(
-        rt,
-        "a node's settings to the merger",
-        serve_merger(rt, &mut ThisMachine, &files, &ticks(1)),
-    )
+    let ended = serve_merger(rt, &mut ThisMachine, &files, &ticks(1));
+    print_run(rt, "a node's settings to the merger", &ended)
 }
 
 /// Makes an empty folder of this process's own.

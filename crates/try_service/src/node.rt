@@ -154,7 +154,7 @@ fn open_sockets<R: Net<Listener = TcpListener, Stream = TcpStream>>(
 }
 
 /// Prints how the run of the node ended.
-fn print_end<R: Print>(rt: &R, ended: Option<Totals>) -> io::Result<()> {
+fn print_end<R: Print>(rt: &R, ended: &Option<Totals>) -> io::Result<()> {
     match ended {
         Some(totals) => {
             let (taken, refused, published) = (totals.taken, totals.refused, totals.published);
@@ -205,7 +205,7 @@ fn conduct<
         println!(rt; "  no thread for the sessions")?;
     }
     match node {
-        Ok(node) => print_end(rt, node.join(rt))?,
+        Ok(node) => print_end(rt, &node.join(rt))?,
         Err(_refused) => println!(rt; "  no thread for the node")?,
     }
     driven
