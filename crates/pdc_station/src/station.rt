@@ -40,7 +40,7 @@ pub struct Station<C: Opens, M: Store> {
 
 impl<C: Opens, M: Store> Station<C, M> {
     /// A station of a core in its first life, over this mark: all that the core has popped lies at or above the stored floor.
-    pub fn new(core: C, mark: M, lead: u16) -> Station<C, M>
+    pub(crate) fn new(core: C, mark: M, lead: u16) -> Station<C, M>
         requires some { IsOfSomeLife (C.stands_for core) }
         requires floor { (M.stored mark).floor ≤ C.popped_of core }
         ensures core { result.core ≡ core }
