@@ -3,8 +3,8 @@
 use crate::files::{Fault, Files, Opens};
 use crate::record::Record;
 use crate::verdict::Verdict;
-use pdc_replay::{Disagreement, NAMES, SeenRow, Three, disagreement_of, write_presence};
-use pdc_story::{time_of, write_time};
+use pdc_replay::{Disagreement, NAMES, SeenRow, Three, disagreement_of, print_presence};
+use pdc_story::{print_time, time_of};
 use std::alloc::Global;
 use std::io;
 use std::io::Write;
@@ -73,7 +73,7 @@ fn write_words(out: &mut Vec<u8>, name: &str, words: &[u16]) -> io::Result<()> {
 }
 
 /// Writes two blocks that differ.
-fn write_difference(out: &mut Vec<u8>, instant: u64, found: &Disagreement<'_>) -> io::Result<()> {
+fn print_difference(out: &mut Vec<u8>, instant: u64, found: &Disagreement<'_>) -> io::Result<()> {
     let (source, count) = (found.source, found.count);
     writeln!(
         out,
@@ -88,8 +88,8 @@ fn write_difference(out: &mut Vec<u8>, instant: u64, found: &Disagreement<'_>) -
 /// Writes which of them had which block of an instant.
 fn write_instant(out: &mut Vec<u8>, instant: u64, rate: u64, rows: &Three<'_>) -> io::Result<()> {
     write!(out, "{instant} ")?;
-    write_time(out, time_of(instant, rate.clamp(1, MAX_RATE)))?;
-    write_presence(out, rows)?;
+    print_time(out, time_of(instant, rate.clamp(1, MAX_RATE)))?;
+    print_presence(out, rows)?;
     writeln!(out)
 }
 
@@ -118,7 +118,7 @@ fn compare(
     write_instant(out, instant, rate, &rows)?;
     if difference.is_empty() {
         if let Some(found) = disagreement_of(&rows) {
-            write_difference(difference, instant, &found)?;
+            print_difference(difference, instant, &found)?;
         }
     }
     Ok(())

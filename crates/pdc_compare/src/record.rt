@@ -3,7 +3,7 @@
 use crate::files::{Files, Opens, Takes, Walked, Wrong};
 use crate::verdict::Verdict;
 use pdc_record::{Entry, What};
-use pdc_replay::{Halt, Player, SeenRow, write_halt};
+use pdc_replay::{Halt, Player, SeenRow, print_halt};
 use std::alloc::Global;
 use std::io;
 use std::io::Write;
@@ -43,7 +43,7 @@ impl Takes for Rows {
 /// There is no memory.
 pub fn halt_text(alloc: Global, halt: &Halt) -> io::Result<String> {
     let mut text = Vec::new(alloc);
-    write_halt(&mut text, alloc, halt)?;
+    print_halt(&mut text, alloc, halt)?;
     text.pop();
     String::from_utf8(text).map_err(|_| io::ErrorKind::InvalidData.into())
 }

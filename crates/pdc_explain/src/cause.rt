@@ -2,7 +2,7 @@
 
 use crate::texts::{print_at, print_ordinal, print_wait};
 use pdc_life::{Outcome, Refusal};
-use pdc_story::{About, Arrived, Came, Cell, Story, time_of, write_span};
+use pdc_story::{About, Arrived, Came, Cell, Story, print_span, time_of};
 use std::io;
 use std::io::Write;
 
@@ -100,9 +100,9 @@ fn print_late<W: Write>(writer: &mut W, about: &About, story: &Story, time: u64)
     match (story.opened, story.closed) {
         (Some(opened), Some(closed)) => {
             write!(writer, "its data came ")?;
-            write_span(writer, opened.time, time)?;
+            print_span(writer, opened.time, time)?;
             write!(writer, " after the first, ")?;
-            write_span(writer, closed.time, time)?;
+            print_span(writer, closed.time, time)?;
             write!(writer, " after the row had closed (")?;
             print_wait(writer, about)?;
             write!(writer, "): {}", Refusal::Late.text())

@@ -18,7 +18,7 @@ mod texts;
 
 pub use delays::{Delays, tell_delays};
 pub use pdc_story::{
-    About, Follower, Gap, Story, Unexplained, Wanted, time_of, wanted_of, write_time,
+    About, Follower, Gap, Story, Unexplained, Wanted, print_time, time_of, wanted_of,
 };
 pub use tally::Tally;
 pub use telling::{tell_absent, tell_story};

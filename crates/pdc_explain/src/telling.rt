@@ -5,7 +5,7 @@ use crate::lanes::{chosen, print_lanes};
 use crate::row_lines::tell_row;
 use crate::texts::{print_at, print_number, print_ordinal};
 use pdc_life::{Outcome, Refusal};
-use pdc_story::{About, Came, Cell, Story, time_of, write_time};
+use pdc_story::{About, Came, Cell, Story, print_time, time_of};
 use std::io;
 use std::io::Write;
 
@@ -137,7 +137,7 @@ fn print_story_of<W: Write>(
 /// The instant with its time.
 fn print_instant<W: Write>(writer: &mut W, about: &About, story: &Story) -> io::Result<()> {
     write!(writer, "{} ", story.instant)?;
-    write_time(writer, time_of(story.instant, about.rate()))
+    print_time(writer, time_of(story.instant, about.rate()))
 }
 
 /// Tells what became of an instant: a line for each PMU, and what became of the row. `end` is the time of the last entry of the record.

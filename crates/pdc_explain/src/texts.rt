@@ -1,6 +1,6 @@
 //! Words of what is told.
 
-use pdc_story::{About, write_time};
+use pdc_story::{About, print_time};
 use std::io;
 use std::io::Write;
 
@@ -71,5 +71,5 @@ pub(crate) fn node_letter(stream: usize) -> &'static str {
 /// A text and a time.
 pub(crate) fn print_at<W: Write>(writer: &mut W, text: &str, time: u64) -> io::Result<()> {
     write!(writer, "{text}")?;
-    write_time(writer, time)
+    print_time(writer, time)
 }

@@ -104,7 +104,7 @@ fn have_counts(rows: &Three<'_>, source: u16) -> bool {
 /// # Errors
 ///
 /// What the writer answers.
-pub fn write_presence<W: Write>(writer: &mut W, rows: &Three<'_>) -> io::Result<()> {
+pub fn print_presence<W: Write>(writer: &mut W, rows: &Three<'_>) -> io::Result<()> {
     for source in sources_of(rows).as_slice() {
         write!(writer, "  {source}")?;
         let counts = have_counts(rows, *source);

@@ -108,7 +108,7 @@ impl From<Unbegun> for Halt {
 }
 
 /// What a tick did.
-fn write_ticked<W: Write>(writer: &mut W, side: &str, ticked: &Ticked) -> io::Result<()> {
+fn print_ticked<W: Write>(writer: &mut W, side: &str, ticked: &Ticked) -> io::Result<()> {
     write!(writer, "{side} {} closed", ticked.closed)?;
     if let Some(change) = ticked.change {
         write!(writer, ", change {change}")?;
@@ -120,7 +120,7 @@ fn write_ticked<W: Write>(writer: &mut W, side: &str, ticked: &Ticked) -> io::Re
 }
 
 /// A row that was popped, or none.
-fn write_row<W: Write>(writer: &mut W, side: &str, instant: Option<u64>) -> io::Result<()> {
+fn print_row<W: Write>(writer: &mut W, side: &str, instant: Option<u64>) -> io::Result<()> {
     match instant {
         Some(instant) => write!(writer, "{side} the row of instant {instant}"),
         None => write!(writer, "{side} no row"),
@@ -128,7 +128,7 @@ fn write_row<W: Write>(writer: &mut W, side: &str, instant: Option<u64>) -> io::
 }
 
 /// Bytes of both sides, in hexadecimal, a line each.
-fn write_both<W: Write>(
+fn print_both<W: Write>(
     writer: &mut W,
     alloc: Global,
     recorded: &[u8],
@@ -141,7 +141,7 @@ fn write_both<W: Write>(
 }
 
 /// The difference, with both sides.
-fn write_difference<W: Write>(
+fn print_difference<W: Write>(
     writer: &mut W,
     alloc: Global,
     step: u64,
@@ -170,14 +170,14 @@ fn write_difference<W: Write>(
             replayed,
         } => {
             write!(writer, "step {step} differs: a tick, now {now}: ")?;
-            write_ticked(writer, "recorded", recorded)?;
-            write_ticked(writer, "; replayed", replayed)?;
+            print_ticked(writer, "recorded", recorded)?;
+            print_ticked(writer, "; replayed", replayed)?;
             writeln!(writer)
         }
         Difference::Row { recorded, replayed } => {
             write!(writer, "step {step} differs: a pop: ")?;
-            write_row(writer, "recorded", *recorded)?;
-            write_row(writer, "; replayed", *replayed)?;
+            print_row(writer, "recorded", *recorded)?;
+            print_row(writer, "; replayed", *replayed)?;
             writeln!(writer)
         }
         Difference::Frame {
@@ -189,11 +189,11 @@ fn write_difference<W: Write>(
                 writer,
                 "step {step} differs: the frame of instant {instant}"
             )?;
-            write_both(writer, alloc, recorded, replayed)
+            print_both(writer, alloc, recorded, replayed)
         }
         Difference::Layout { recorded, replayed } => {
             writeln!(writer, "the layout after step {step} differs")?;
-            write_both(writer, alloc, recorded, replayed)
+            print_both(writer, alloc, recorded, replayed)
         }
     }
 }
@@ -203,9 +203,9 @@ fn write_difference<W: Write>(
 /// # Errors
 ///
 /// What the writer answers, or want of memory.
-pub fn write_halt<W: Write>(writer: &mut W, alloc: Global, halt: &Halt) -> io::Result<()> {
+pub fn print_halt<W: Write>(writer: &mut W, alloc: Global, halt: &Halt) -> io::Result<()> {
     match halt {
-        Halt::Differs { step, what } => write_difference(writer, alloc, *step, what),
+        Halt::Differs { step, what } => print_difference(writer, alloc, *step, what),
         Halt::Missing { from, until } => {
             let last = until.saturating_sub(1);
             writeln!(

@@ -14,9 +14,9 @@ mod player;
 mod replay;
 mod seen;
 
-pub use agreement::{Disagreement, NAMES, Three, disagreement_of, write_presence};
+pub use agreement::{Disagreement, NAMES, Three, disagreement_of, print_presence};
 pub use begins::{Begins, Unbegun};
-pub use halt::{Difference, Halt, write_halt};
+pub use halt::{Difference, Halt, print_halt};
 pub use player::Player;
 pub use replay::Replay;
 pub use seen::{Section, SeenRow};

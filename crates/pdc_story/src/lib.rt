@@ -18,7 +18,7 @@ mod wanted;
 
 pub use about::{About, Unexplained};
 pub use follower::{Follower, Gap};
-pub use moments::{instant_near, time_of, write_span, write_time};
+pub use moments::{instant_near, print_span, print_time, time_of};
 pub use sections::{Held, InForce};
 pub use story::{Adopted, Arrived, Came, Cell, Cells, Closed, Opened, Story};
 pub use wanted::{Wanted, wanted_of};

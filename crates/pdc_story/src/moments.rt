@@ -37,7 +37,7 @@ pub fn instant_near(time: u64, rate: u64) -> u64
 /// # Errors
 ///
 /// What the writer answers.
-pub fn write_time<W: Write>(writer: &mut W, time: u64) -> io::Result<()> {
+pub fn print_time<W: Write>(writer: &mut W, time: u64) -> io::Result<()> {
     match i64::try_from(time / MILLI) {
         Ok(millis) => match Timestamp::from_millisecond(millis) {
             Ok(moment) => write!(writer, "{moment:.3}"),
@@ -52,7 +52,7 @@ pub fn write_time<W: Write>(writer: &mut W, time: u64) -> io::Result<()> {
 /// # Errors
 ///
 /// What the writer answers.
-pub fn write_span<W: Write>(writer: &mut W, from: u64, to: u64) -> io::Result<()> {
+pub fn print_span<W: Write>(writer: &mut W, from: u64, to: u64) -> io::Result<()> {
     let span = to.saturating_sub(from);
     if span < 10 * MILLI {
         let (whole, tenth) = (span / MILLI, span % MILLI / 100_000);

@@ -10,7 +10,7 @@ use pdc_life::{MAX_PMUS, Settings};
 use pdc_node::{Node, copy_of};
 use pdc_record::{Begun, Role, read_entry};
 use pdc_recording::{Limits, Recording, Series, Shelf, write_record};
-use pdc_replay::{Player, write_halt};
+use pdc_replay::{Player, print_halt};
 use pdc_settings::NodeSettings;
 use pdc_table::RingTable;
 use std::alloc::Global;
@@ -120,7 +120,7 @@ fn play_entries(
         };
         at = at.saturating_add(len);
         if let Err(halt) = player.play(&entry) {
-            write_halt(out, alloc, &halt)?;
+            print_halt(out, alloc, &halt)?;
             return Ok(false);
         }
     }

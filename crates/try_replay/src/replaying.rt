@@ -1,7 +1,7 @@
 //! What is tried on a record.
 
 use pdc_record::{Entry, read_entry};
-use pdc_replay::{Halt, Player, write_halt};
+use pdc_replay::{Halt, Player, print_halt};
 use pdc_replay_plain::play_plain;
 use std::alloc::{AllocError, Global};
 use std::str;
@@ -47,7 +47,7 @@ pub fn replay(alloc: Global, record: &[u8]) -> Replayed {
 /// The text of where a replay halted: the first line of it.
 fn halted_text(alloc: Global, halt: &Halt) -> Result<String, AllocError> {
     let mut text = Vec::new(alloc);
-    if write_halt(&mut text, alloc, halt).is_err() {
+    if print_halt(&mut text, alloc, halt).is_err() {
         return Err(AllocError);
     }
     let text = str::from_utf8(&text).unwrap_or("");
