@@ -29,7 +29,7 @@ impl From<AllocError> for ListenFault {
 }
 
 /// Prints the bytes as a line of hexadecimal in capitals, and flushes it.
-fn write_line<W: Write>(alloc: Global, bytes: &[u8], writer: &mut W) -> Result<(), ListenFault> {
+fn print_line<W: Write>(alloc: Global, bytes: &[u8], writer: &mut W) -> Result<(), ListenFault> {
     let digits = hex::encode_upper(alloc, bytes)?;
     writeln!(writer, "{digits}").map_err(ListenFault::Write)?;
     writer.flush().map_err(ListenFault::Write)
@@ -61,7 +61,7 @@ pub fn listen<S: Source, W: Write, R: Wait>(
         }
         match source.next(buffer.as_mut_slice()) {
             Next::Datagram(len) => {
-                write_line(alloc, &buffer[..len], writer)?;
+                print_line(alloc, &buffer[..len], writer)?;
                 if let Some(more) = left {
                     left = Some(more.saturating_sub(1));
                 }
