@@ -1,16 +1,7 @@
 -- A tick adopts what is ready.
-use Rattle.std.proofs.Common.{◌≡◌, ℕ, zero, suc, ◌+◌, ◌<◌, ◌≤◌, Bool, true, false, List, [], ◌∷◌, cond, eqb, leb, ltb, max, filter, refl, sym, ap, ◌∙◌, arith, rules, Option, Some, None}
-use Rattle.std.specs.Prelude.{◌&&◌, ◌||◌, ◌==◌}
-use Rattle.std.specs.List.{list_any, range_with_len}
-use Rattle.std.proofs.lemmas.Bool.{false≢true}
-use Rattle.pdc_output.specs.pdc_cfg.Section.{SectionFields}
+use Rattle.pdc_life.proofs.Names.{[], ◌&&◌, ◌+◌, ◌<◌, ◌==◌, ◌||◌, ◌∙◌, ◌∷◌, ◌≡◌, ◌≤◌, ap, arith, Bool, changes, cleared_count, columns_of, cond, count_for, eqb, false, false≢true, filter, has_change, held_section, is_newer, is_ready, leb, List, list_any, ltb, max, None, Option, range_with_len, ready_columns, refl, rules, section_in_force, SectionFields, Some, suc, sym, TickAnswer, true, zero, ℕ}
 use Rattle.pdc_life.specs.Adoption.{IsNewer, ReadyIsAdopted}
-use Rattle.pdc_life.specs.Answer.{has_change, is_newer, is_ready, ready_columns}
-use Rattle.pdc_life.specs.Given.{columns_of, count_for}
-use Rattle.pdc_life.specs.Life.{TickAnswer, changes, cleared_count, held_section, section_in_force}
-
-same_number : (m n : ℕ) → eqb m n ≡ true → m ≡ n
-same_number m n h = search rules
+use Rattle.pdc_life.proofs.Lists.{same_number}
 
 is_above : (m n : ℕ) → m ≤ n → eqb m n ≡ false → m + 1 ≤ n
 is_above m n h e = search rules

@@ -1,8 +1,6 @@
 -- Where an item stands in a filtered list, and how long that list is.
-use Rattle.std.proofs.Common.{◌≡◌, ℕ, suc, zero, ◌+◌, ◌<◌, Bool, true, false, List, [], ◌∷◌, cond, filter, length, refl, sym, ap, ◌∙◌, arith, Option, Some, None, is_some}
-use Rattle.std.specs.List.{cons_option, filter_map, range_with_len, slice_get}
-use Rattle.std.proofs.lemmas.Bool.{false≢true}
-use Rattle.std.proofs.lemmas.Option.{none-some}
+use Rattle.pdc_life.proofs.Names.{[], ◌+◌, ◌<◌, ◌∙◌, ◌∷◌, ◌≡◌, ap, arith, Bool, cond, cons_option, Contains, false, false≢true, filter, filter_map, is_some, length, List, None, none-some, Option, range_with_len, refl, slice_get, Some, suc, sym, true, zero, ℕ}
+use Rattle.pdc_life.proofs.Lists.{contains_at}
 
 first_place : {X : Type 0} (o : Option X) (x : X) (rest : List X) → o ≡ Some x → slice_get (cons_option o rest) 0 ≡ Some x
 first_place None x rest e = absurd (none-some x e)
@@ -31,3 +29,9 @@ one_more (Some y) false xs d ds e h = absurd (false≢true (sym e))
 pub as_many : {X : Type 0} (h : ℕ → Option X) (t : ℕ → Bool) → ((d : ℕ) → is_some (h d) ≡ t d) → (ds : List ℕ) → length (filter_map h ds) ≡ length (filter t ds)
 as_many h t same [] = refl
 as_many h t same (d ∷ ds) = one_more (h d) (t d) (filter_map h ds) d (filter t ds) (same d) (as_many h t same ds)
+
+-- what one of the numbers gives is listed
+pub listed_in : {X : Type 0} (h : ℕ → Option X) (n c : ℕ) (x : X) → c < n → h c ≡ Some x → Contains (filter_map h (range_with_len 0 n)) x
+listed_in h n c x l k =
+    let on : 0 + c ≡ c = omega arith in
+    contains_at (filter_map h (range_with_len 0 n)) _ x (at_place h (λ d. is_some (h d)) (λ d. refl) 0 n c x l (ap h on ∙ k))

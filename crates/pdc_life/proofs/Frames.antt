@@ -1,34 +1,13 @@
 -- The frames of a life.
-use Rattle.std.proofs.Common.{◌≡◌, ℕ, suc, zero, ◌+◌, ◌-◌, ◌*◌, ◌^◌, ◌<◌, ◌≤◌, Bool, true, false, List, [], ◌∷◌, ◌++◌, length, map, cond, ltb, max, replicate, refl, sym, ap, ◌∙◌, subst, arith, rules, Option, Some, None, length-append}
-use Rattle.std.specs.List.{AllByRecursion, cons_option, filter_map}
-use Rattle.std.proofs.lemmas.List.{length-replicate}
-use Rattle.std.proofs.lemmas.List.FromFn.{length-range_with_len}
-use Rattle.std.proofs.lemmas.Option.{same_Some}
-use Rattle.pdc_output.specs.pdc_frame.Frame.{Fields, IsFrame}
-use Rattle.pdc_output.specs.pdc_cfg.Config.{ConfigFields, IsConfig}
-use Rattle.pdc_output.specs.pdc_cfg.Shape.{word_count_of}
-use Rattle.pdc_output.specs.pdc_cfg.declared.shape.Shape.{Shape}
-use Rattle.pdc_output.specs.pdc_cfg.Section.{SectionFields, IsSection}
-use Rattle.pdc_output.specs.pdc_block.Block.{AreOfShapes, AreWords, IsCut}
-use Rattle.pdc_output.specs.pdc_row.CellView.{BlockView, CellView, absent_of}
-use Rattle.pdc_output.specs.pdc_row.Chosen.{block_or_absent}
-use Rattle.pdc_output.specs.pdc_row.Quality.{greatest, quality_of}
-use Rattle.pdc_output.specs.pdc_row.RowView.{RowView, row_instants}
-use Rattle.pdc_output.specs.Layout.{layout_fields_of, layout_payload_of, own_block, own_bytes, row_payload}
-use Rattle.pdc_output.specs.Laws.{LayoutsAreFrames, OwnSectionsTellStamps, RowsAreCut, RowsAreFrames, words_of_row}
-use Rattle.pdc_life.specs.Answer.{has_change, ready_columns}
+use Rattle.pdc_life.proofs.Names.{[], ◌*◌, ◌++◌, ◌+◌, ◌-◌, ◌<◌, ◌^◌, ◌∙◌, ◌∷◌, ◌≡◌, ◌≤◌, absent_of, AllByRecursion, ap, AreOfShapes, AreSound, AreWords, arith, Arrive, block_in, block_or_absent, BlockView, Bool, CellView, changes, chosen_of, closed, columns_of, cond, ConfigFields, cons_option, Entry, false, Fields, filter_map, Given, greatest, has_change, IsConfig, IsCut, IsFrame, IsOfSectionInForce, IsRowOfTick, IsRun, IsSection, layout_fields_of, layout_payload_of, layout_wire, LayoutsAreFrames, length, length-append, length-range_with_len, length-replicate, List, ltb, map, max, None, Option, own_block, own_bytes, OwnSectionsTellStamps, Pop, quality_in, quality_of, ready_columns, refl, replicate, row_instants, row_of, row_payload, RowsAreCut, RowsAreFrames, RowView, rules, same_Some, section_in_force, SectionFields, sections_in_force, Shape, Some, subst, suc, sym, Tick, TickAnswer, true, word_count_of, words_of_row, zero, ℕ}
 use Rattle.pdc_life.specs.Frames.{ChangesFit, ClosedRowsAreFrames, IsFramedRow, LayoutsOfLivesAreFrames, LayoutsTellStamps, shapes_in_force}
-use Rattle.pdc_life.specs.Given.{Given, columns_of}
-use Rattle.pdc_life.specs.Laws.{IsRowOfTick}
-use Rattle.pdc_life.specs.Life.{Entry, Arrive, Tick, TickAnswer, Pop, changes, closed, section_in_force}
-use Rattle.pdc_life.specs.Published.{layout_wire, sections_in_force}
-use Rattle.pdc_life.specs.Row.{block_in, chosen_of, quality_in, row_of}
-use Rattle.pdc_life.specs.Run.{AreSound, IsOfSectionInForce, IsRun, IsTicked}
 use Rattle.pdc_life.proofs.Closing.{rows_are_of_their_ticks}
-use Rattle.pdc_life.proofs.Come.{May, in_force_whole}
+use Rattle.pdc_life.proofs.Come.{in_force_whole}
 use Rattle.pdc_life.proofs.Genuine.{chosen_is_given}
 use Rattle.pdc_life.proofs.InForce.{cells_are_of_sections}
 use Rattle.pdc_life.proofs.LifeLaws.{changes_rise_by_one}
+use Rattle.pdc_life.proofs.Lists.{heads, May}
+use Rattle.pdc_life.proofs.Steps.{run_of_tick}
 use Rattle.pdc_life.proofs.Tagged.{closed_low}
 
 -- ---- change numbers
@@ -164,25 +143,7 @@ length-shapes : (sections : List SectionFields) → length (map (λ (s : Section
 length-shapes [] = refl
 length-shapes (s ∷ sections) = ap suc (length-shapes sections)
 
--- ---- runs before
-
-rest_is_ticked : (g : Given) (later E : List Entry) → IsTicked g (later ++ E) → IsTicked g E
-rest_is_ticked g [] E run = run
-rest_is_ticked g (Arrive s bytes arrival answer ∷ later) E run = rest_is_ticked g later E run
-rest_is_ticked g (Tick now counts answer ∷ later) E run = rest_is_ticked g later E run.1
-rest_is_ticked g (Pop row ∷ later) E run = rest_is_ticked g later E run.1
-
-rest_is_sound : (g : Given) (later E : List Entry) → AreSound g (later ++ E) → AreSound g E
-rest_is_sound g [] E run = run
-rest_is_sound g (Arrive s bytes arrival answer ∷ later) E run = rest_is_sound g later E run.1
-rest_is_sound g (Tick now counts answer ∷ later) E run = rest_is_sound g later E run
-rest_is_sound g (Pop row ∷ later) E run = rest_is_sound g later E run
-
-run_of_tick : (g : Given) (E : List Entry) (row : RowView) (t : IsRowOfTick g E row) → IsRun g E → IsRun g t.before
-run_of_tick g E row t run = record {
-  ticked = (rest_is_ticked g t.later (Tick t.now t.counts t.answer ∷ t.before) (subst (IsTicked g) t.stands run.ticked)).1;
-  sound = rest_is_sound g t.later (Tick t.now t.counts t.answer ∷ t.before) (subst (AreSound g) t.stands run.sound);
-}
+-- ---- rows
 
 module _ (frames : RowsAreFrames) (cut : RowsAreCut) where
   framed : (g : Given) (E : List Entry) (row : RowView) → IsRun g E → g.columns ≤ 16 → g.start < 2 ^ 32 → IsRowOfTick g E row → row.instant < 4294967296 * g.output.rate → IsFramedRow g E row
@@ -222,22 +183,16 @@ all_whole g E [] run = tt
 all_whole g E (c ∷ cs) run = with_section (section_in_force g E c) (filter_map (section_in_force g E) cs) (in_force_whole g E c run) (all_whole g E cs run)
 
 -- what the laws of frames and of configurations say
-pub record ReadOnce : Type 0 where
+pub record LayoutLaws : Type 0 where
   pub layouts : LayoutsAreFrames
   pub stamps : OwnSectionsTellStamps
   pub same_frame : (bytes : List ℕ) (f k : Fields) → IsFrame bytes f → IsFrame bytes k → f ≡ k
   pub same_config : (payload : List ℕ) (a b : ConfigFields) → IsConfig payload a → IsConfig payload b → a ≡ b
 
-module _ (laws : ReadOnce) where
+module _ (laws : LayoutLaws) where
   pub layouts_of_lives_are_frames : LayoutsOfLivesAreFrames
   layouts_of_lives_are_frames g E soc run few fits =
       laws.layouts g.output g.start (changes E) soc (sections_in_force g E) (few_in_force g E few) (all_whole g E (columns_of g) run.sound) fits
-
-  first_same : (a b : SectionFields) (more others : List SectionFields) → a ∷ more ≡ b ∷ others → (a ≡ b) × (more ≡ others)
-  first_same a b more others e =
-      let one : a ≡ b = cc in
-      let rest : more ≡ others = cc in
-      (one, rest)
 
   pub layouts_tell_stamps : LayoutsTellStamps
   layouts_tell_stamps g h E F soc other run also few fewer soc_fits other_fits start start' same =
@@ -250,7 +205,7 @@ module _ (laws : ReadOnce) where
       laws.same_config (layout_payload_of h.output h.start (changes F) (sections_in_force h F)) one.1.config two.1.config
       (subst (λ (bytes : List ℕ). IsConfig bytes one.1.config) payload one.1.spelled) two.1.spelled in
       let sections : one.1.own ∷ sections_in_force g E ≡ two.1.own ∷ sections_in_force h F = sym one.1.sections ∙ ap (λ (k : ConfigFields). k.sections) config ∙ two.1.sections in
-      let parts = first_same one.1.own two.1.own (sections_in_force g E) (sections_in_force h F) sections in
+      let parts = heads one.1.own two.1.own (sections_in_force g E) (sections_in_force h F) sections in
       let bytes : own_bytes g.output.id.value g.output.nominal g.start (changes E) ≡ own_bytes h.output.id.value h.output.nominal h.start (changes F) =
       sym one.1.itself ∙ ap (λ (s : SectionFields). s.bytes) parts.0 ∙ two.1.itself in
       let stamp = laws.stamps g.output.id.value h.output.id.value g.output.nominal h.output.nominal g.start (changes E) h.start (changes F) start (changes_fit g E run.ticked) start' (changes_fit h F also.ticked) bytes in

@@ -1,17 +1,6 @@
 -- Held is the greatest count that came, with the first section of it.
-use Rattle.std.proofs.Common.{◌≡◌, ℕ, ◌<◌, ◌≤◌, Bool, true, false, List, [], ◌∷◌, ◌++◌, cond, ltb, leb, eqb, filter, map, refl, sym, ap, subst, ◌∙◌, arith, rules, Option, Some, None, inl, inr}
-use Rattle.std.specs.List.{AllByRecursion, flat_map}
-use Rattle.std.proofs.lemmas.Bool.{cases_lt, false≢true}
-use Rattle.pdc_output.specs.pdc_cfg.Section.{SectionFields}
-use Rattle.pdc_life.specs.declared.given.Settings.{Settings}
-use Rattle.pdc_life.specs.declared.outcome.Outcome.TheVariants.{Refused}
-use Rattle.pdc_life.specs.declared.outcome.Refusal.TheVariants.{StaleCount}
-use Rattle.pdc_life.specs.Answer.{IsLife}
-use Rattle.pdc_life.specs.Arrival.{BytesRefused, Data, Layout}
-use Rattle.pdc_life.specs.Given.{Given, count_for}
-use Rattle.pdc_life.specs.Life.{Answer, Entry, Arrive, Tick, Pop, first_greatest, greater, held_section, is_candidate, sections_at}
-use Rattle.pdc_life.specs.Node.{ReadsFor, node_answer, section_after, section_answer}
-use Rattle.pdc_life.specs.Sections.{HeldIsGreatest, IsFirstGreatest, IsHeld, NodeHoldsGreatest, came_at, came_for}
+use Rattle.pdc_life.proofs.Names.{[], ◌++◌, ◌<◌, ◌∙◌, ◌∷◌, ◌≡◌, ◌≤◌, AllByRecursion, Answer, ap, arith, Arrive, Bool, BytesRefused, came_at, came_for, cases_lt, cond, count_for, Data, Entry, eqb, false, false≢true, filter, first_greatest, flat_map, Given, greater, held_section, HeldIsGreatest, inl, inr, is_candidate, IsFirstGreatest, IsHeld, IsLife, Layout, leb, List, ltb, map, node_answer, NodeHoldsGreatest, None, Option, Pop, ReadsFor, refl, Refused, rules, section_after, section_answer, SectionFields, sections_at, Settings, Some, StaleCount, subst, sym, Tick, true, ℕ}
+use Rattle.pdc_life.proofs.Lists.{same_number}
 
 all_lower : (s t : SectionFields) (newer older : List SectionFields) → s.count < t.count → AllByRecursion (λ (u : SectionFields). u.count ≤ s.count) newer → AllByRecursion (λ (u : SectionFields). u.count < s.count) older → AllByRecursion (λ (u : SectionFields). u.count < t.count) (newer ++ s ∷ older)
 all_lower s t [] [] h a b = (h, tt)
@@ -50,9 +39,6 @@ pub held_is_greatest : HeldIsGreatest
 held_is_greatest g E c = first_is_greatest (filter (λ (s : SectionFields). leb (count_for c g.counts) s.count) (flat_map (sections_at c) E))
 
 -- ---- a node
-
-same_number : (m n : ℕ) → eqb m n ≡ true → m ≡ n
-same_number m n h = search rules
 
 not_above : (held s : SectionFields) → is_candidate (section_after (Some held) s) ≡ false → s.count ≤ held.count
 not_above held s h = elim (cases_lt held.count s.count) [

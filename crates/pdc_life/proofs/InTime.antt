@@ -1,30 +1,8 @@
 -- What is taken came in time.
-use Rattle.std.proofs.Common.{◌≡◌, ℕ, ◌+◌, ◌*◌, ◌<◌, ◌≤◌, Bool, true, false, List, [], ◌∷◌, length, cond, ltb, eqb, not, refl, sym, ap, ◌∙◌, arith, rules, Option, Some, None, nat_lt, inl, inr}
-use Rattle.std.specs.Prelude.{nat_le, nat_eq, drop}
-use Rattle.std.specs.List.{list_all, list_any}
-use Rattle.std.specs.Cmp.Lexicographic.{other_text, pointwise, same_text}
-use Rattle.std.proofs.lemmas.Bool.{false≢true}
-use Rattle.pdc_output.specs.pdc_block.Block.{words_in}
-use Rattle.pdc_output.specs.pdc_cfg.Shape.{word_count_of}
-use Rattle.pdc_output.specs.pdc_cfg.Section.{SectionFields}
-use Rattle.pdc_output.specs.Layout.{stamp_words}
-use Rattle.pdc_output.specs.pdc_row.CellView.{CellView}
-use Rattle.pdc_output.specs.pdc_row.Quality.{greatest}
-use Rattle.pdc_output.specs.pdc_row.Rising.{AreBelow, is_near}
-use Rattle.pdc_output.specs.pdc_row.RisingLaws.{RisingLaws}
-use Rattle.pdc_output.specs.pdc_row.RowView.{row_instants}
-use Rattle.pdc_life.specs.declared.outcome.Outcome.{Outcome}
-use Rattle.pdc_life.specs.declared.outcome.Outcome.TheVariants.{Taken, Refused}
-use Rattle.pdc_life.specs.declared.outcome.Refusal.{Refusal}
-use Rattle.pdc_life.specs.declared.outcome.Refusal.TheVariants.{WrongLength, OtherStamp, Late, Ahead, OutOfWindow, Duplicate, Conflict}
-use Rattle.pdc_life.specs.Answer.{again_answer, answer_in_time, bare, first_cause, is_other, outcome_in_time}
-use Rattle.pdc_life.specs.Arrival.{Data}
-use Rattle.pdc_life.specs.Given.{Given}
+use Rattle.pdc_life.proofs.Names.{[], ◌*◌, ◌+◌, ◌<◌, ◌∙◌, ◌∷◌, ◌≡◌, ◌≤◌, again_answer, Ahead, Answer, answer_in_time, ap, AreBelow, arith, bare, Bool, cell_of, cell_under, CellView, closed, cond, cond-false, cond_both, Conflict, Data, data_answer, drop, Duplicate, Entry, eqb, false, false≢true, first_cause, Given, greatest, held_instants, held_layout, HeldLayout, inl, inr, is_near, is_other, is_taken, last_of, Late, length, List, list_all, list_any, ltb, merged_answer, merged_cells, merged_data_answer, nat_eq, nat_le, nat_lt, node_answer, None, not, now_of, Option, other_text, OtherStamp, Outcome, outcome_in_time, OutOfWindow, own_words, payload_len, pointwise, refl, Refusal, Refused, RisingLaws, row_instants, rules, same_text, section_in_force, SectionFields, Some, stamp_words, sym, Take, take_of, Taken, true, word_count_of, words_in, WrongLength, ℕ}
 use Rattle.pdc_life.specs.InTime.{ClosedStayClosed, ComesInTime, MergerTakes, MergerTakesInTime, NodeTakes, NodeTakesInTime, TakenIsInTime}
-use Rattle.pdc_life.specs.Life.{Answer, Entry, Take, cell_of, closed, held_instants, is_taken, last_of, now_of, section_in_force, take_of}
-use Rattle.pdc_life.specs.Merger.{HeldLayout, held_layout, merged_answer, merged_cells, merged_data_answer, own_words, payload_len}
-use Rattle.pdc_life.specs.Node.{cell_under, data_answer, node_answer}
 use Rattle.pdc_life.proofs.LifeLaws.{last_is}
+use Rattle.pdc_life.proofs.Lists.{same_length}
 
 peel : (b : Bool) (r : Refusal) (rest : Outcome) → cond b (Refused r) rest ≡ Taken → (b ≡ false) × (rest ≡ Taken)
 peel true r rest h = absurd (false≢true (ap is_taken h))
@@ -54,9 +32,6 @@ facts late ahead far other h =
 not_false : (b : Bool) → not b ≡ false → b ≡ true
 not_false true h = refl
 not_false false h = absurd (false≢true (sym h))
-
-same_size : (m n : ℕ) → eqb m n ≡ true → m ≡ n
-same_size m n h = search rules
 
 is_later : (i last : ℕ) → nat_le i last ≡ false → last < i
 is_later i last h = search rules
@@ -93,26 +68,46 @@ taken_in_time g E s i cells t =
 pub taken_is_in_time : TakenIsInTime
 taken_is_in_time g E s i cells = (in_time g E s i cells, taken_in_time g E s i cells)
 
--- ---- a node
+-- ---- what data gives that is taken
 
-peel_answer : (b : Bool) (r : Refusal) (rest : Answer) → (cond b (bare (Refused r)) rest).outcome ≡ Taken → (b ≡ false) × (rest.outcome ≡ Taken)
-peel_answer true r rest h = absurd (false≢true (ap is_taken h))
-peel_answer false r rest h = (refl, h)
+pub taken_cells : (g : Given) (E : List Entry) (s i : ℕ) (cells : List (ℕ × CellView)) (answer : Answer) → answer ≡ answer_in_time g E s i cells
+    → answer.outcome ≡ Taken → answer.cells ≡ cells
+taken_cells g E s i cells answer is h =
+    ap (λ (a : Answer). a.cells) is ∙ ap (λ (o : Outcome). cond (is_taken o) cells []) (sym (ap (λ (a : Answer). a.outcome) is) ∙ h)
 
 put_on : (b : Bool) (r : Refusal) (rest : Answer) → b ≡ false → rest.outcome ≡ Taken → (cond b (bare (Refused r)) rest).outcome ≡ Taken
-put_on true r rest e h = absurd (false≢true (sym e))
-put_on false r rest e h = h
+put_on b r rest e h = ap (λ (a : Answer). a.outcome) (cond-false b (bare (Refused r)) rest e) ∙ h
 
-node_takes : (g : Given) (E : List Entry) (p i quality : ℕ) (payload : List ℕ) (f : Option SectionFields) → section_in_force g E p ≡ f → (data_answer g E p i quality payload f).outcome ≡ Taken → NodeTakes g E p i payload
-node_takes g E p i quality payload None k h = absurd (false≢true (ap is_taken h))
-node_takes g E p i quality payload (Some s) k h =
-    let cells : List (ℕ × CellView) = (p, cell_under s quality (words_in payload)) ∷ [] in
-    let a = peel_answer (not (eqb (length payload) (2 * word_count_of s.shape))) WrongLength (answer_in_time g E p i cells) h in
+-- ---- a node
+
+abbrev pub node_cells : (p quality : ℕ) (payload : List ℕ) → SectionFields → List (ℕ × CellView)
+node_cells p quality payload s = (p, cell_under s quality (words_in payload)) ∷ []
+
+pub record NodeGives (g : Given) (E : List Entry) (p i quality : ℕ) (payload : List ℕ) (answer : Answer) : Type 0 where
+  pub section : SectionFields
+  pub in_force : section_in_force g E p ≡ Some section
+  pub size : length payload ≡ 2 * word_count_of section.shape
+  pub is : answer ≡ answer_in_time g E p i (node_cells p quality payload section)
+
+pub node_gives : (g : Given) (E : List Entry) (p i quality : ℕ) (payload : List ℕ) (f : Option SectionFields) → section_in_force g E p ≡ f
+    → (data_answer g E p i quality payload f).outcome ≡ Taken
+    → NodeGives g E p i quality payload (data_answer g E p i quality payload f)
+node_gives g E p i quality payload None k h = absurd (false≢true (ap is_taken h))
+node_gives g E p i quality payload (Some s) k h =
+    cond_both (not (eqb (length payload) (2 * word_count_of s.shape))) (bare (Refused WrongLength)) (answer_in_time g E p i (node_cells p quality payload s))
+    (λ (a : Answer). a.outcome ≡ Taken → NodeGives g E p i quality payload a) (λ e taken. absurd (false≢true (ap is_taken taken)))
+    (λ e taken. record { section = s; in_force = k; size = same_length (length payload) (2 * word_count_of s.shape) e; is = refl }) h
+
+node_takes : (g : Given) (E : List Entry) (p i quality : ℕ) (payload : List ℕ) → (node_answer g E p (Data i quality payload)).outcome ≡ Taken
+    → NodeTakes g E p i payload
+node_takes g E p i quality payload h =
+    let k = node_gives g E p i quality payload (section_in_force g E p) refl h in
     record {
-      section = s;
-      in_force = k;
-      size = same_size (length payload) (2 * word_count_of s.shape) (not_false (eqb (length payload) (2 * word_count_of s.shape)) a.0);
-      in_time = in_time g E p i cells a.1;
+      section = k.section;
+      in_force = k.in_force;
+      size = k.size;
+      in_time = in_time g E p i (node_cells p quality payload k.section)
+          (sym (ap (λ (a : Answer). a.outcome) k.is) ∙ h);
     }
 
 size_same : (m n : ℕ) → m ≡ n → not (eqb m n) ≡ false
@@ -120,14 +115,13 @@ size_same m n h = search rules
 
 taken_by_node : (g : Given) (E : List Entry) (p i quality : ℕ) (payload : List ℕ) → NodeTakes g E p i payload → (node_answer g E p (Data i quality payload)).outcome ≡ Taken
 taken_by_node g E p i quality payload t =
-    let cells : List (ℕ × CellView) = (p, cell_under t.section quality (words_in payload)) ∷ [] in
+    let cells : List (ℕ × CellView) = node_cells p quality payload t.section in
     ap (λ (f : Option SectionFields). (data_answer g E p i quality payload f).outcome) t.in_force
     ∙ put_on (not (eqb (length payload) (2 * word_count_of t.section.shape))) WrongLength (answer_in_time g E p i cells)
     (size_same (length payload) (2 * word_count_of t.section.shape) t.size) (taken_in_time g E p i cells t.in_time)
 
 pub node_takes_in_time : NodeTakesInTime
-node_takes_in_time g E p i quality payload =
-    (λ h. node_takes g E p i quality payload (section_in_force g E p) refl h, taken_by_node g E p i quality payload)
+node_takes_in_time g E p i quality payload = (node_takes g E p i quality payload, taken_by_node g E p i quality payload)
 
 -- ---- the merger
 
@@ -142,28 +136,49 @@ text_is_same xs ys false e h = absurd (other_text xs ys e h)
 long_enough : (n more : ℕ) → n ≡ 14 + more → ltb n 14 ≡ false
 long_enough n more h = search rules
 
-merger_takes : (g : Given) (E : List Entry) (s i quality : ℕ) (payload : List ℕ) (held : Option HeldLayout) → held_layout E s ≡ held → (merged_data_answer g E s i quality payload held).outcome ≡ Taken → MergerTakes g E s i payload
-merger_takes g E s i quality payload None k h = absurd (false≢true (ap is_taken h))
-merger_takes g E s i quality payload (Some layout) k h =
-    let cells : List (ℕ × CellView) = merged_cells g E quality layout.sections (drop 7 (words_in payload)) in
+abbrev pub node_words : List ℕ → List ℕ
+node_words payload = drop 7 (words_in payload)
+
+pub record MergerGives (g : Given) (E : List Entry) (s i quality : ℕ) (payload : List ℕ) (answer : Answer) : Type 0 where
+  pub layout : HeldLayout
+  pub held : held_layout E s ≡ Some layout
+  pub stamp : own_words payload ≡ stamp_words layout.stamp.start layout.stamp.change
+  pub size : length payload ≡ payload_len layout.sections
+  pub is : answer ≡ answer_in_time g E s i (merged_cells g E quality layout.sections (node_words payload))
+
+pub merger_gives : (g : Given) (E : List Entry) (s i quality : ℕ) (payload : List ℕ) (held : Option HeldLayout) → held_layout E s ≡ held
+    → (merged_data_answer g E s i quality payload held).outcome ≡ Taken
+    → MergerGives g E s i quality payload (merged_data_answer g E s i quality payload held)
+merger_gives g E s i quality payload None k h = absurd (false≢true (ap is_taken h))
+merger_gives g E s i quality payload (Some layout) k h =
     let stamp : List ℕ = stamp_words layout.stamp.start layout.stamp.change in
-    let last : Answer = answer_in_time g E s i cells in
+    let last : Answer = answer_in_time g E s i (merged_cells g E quality layout.sections (node_words payload)) in
     let sized : Answer = cond (not (eqb (length payload) (payload_len layout.sections))) (bare (Refused WrongLength)) last in
     let stamped : Answer = cond (not (pointwise nat_eq (own_words payload) stamp)) (bare (Refused OtherStamp)) sized in
-    let a = peel_answer (ltb (length payload) 14) WrongLength stamped h in
-    let b = peel_answer (not (pointwise nat_eq (own_words payload) stamp)) OtherStamp sized a.1 in
-    let c = peel_answer (not (eqb (length payload) (payload_len layout.sections))) WrongLength last b.1 in
-    record {
+    let Goal : Answer → Type 0 = λ (a : Answer). a.outcome ≡ Taken → MergerGives g E s i quality payload a in
+    cond_both (ltb (length payload) 14) (bare (Refused WrongLength)) stamped Goal (λ a taken. absurd (false≢true (ap is_taken taken)))
+    (λ a. cond_both (not (pointwise nat_eq (own_words payload) stamp)) (bare (Refused OtherStamp)) sized Goal
+    (λ b taken. absurd (false≢true (ap is_taken taken)))
+    (λ b. cond_both (not (eqb (length payload) (payload_len layout.sections))) (bare (Refused WrongLength)) last Goal
+    (λ c taken. absurd (false≢true (ap is_taken taken)))
+    (λ c taken. record {
       layout = layout;
       held = k;
-      stamp = is_same_text (own_words payload) stamp (pointwise nat_eq (own_words payload) stamp) refl b.0;
-      size = same_size (length payload) (payload_len layout.sections) (not_false (eqb (length payload) (payload_len layout.sections)) c.0);
-      in_time = in_time g E s i cells c.1;
-    }
+      stamp = is_same_text (own_words payload) stamp (pointwise nat_eq (own_words payload) stamp) refl b;
+      size = same_length (length payload) (payload_len layout.sections) c;
+      is = refl;
+    }))) h
+
+merger_takes : (g : Given) (E : List Entry) (s i quality : ℕ) (payload : List ℕ) → (merged_answer g E s (Data i quality payload)).outcome ≡ Taken
+    → MergerTakes g E s i payload
+merger_takes g E s i quality payload h =
+    let k = merger_gives g E s i quality payload (held_layout E s) refl h in
+    let cells : List (ℕ × CellView) = merged_cells g E quality k.layout.sections (node_words payload) in
+    record { layout = k.layout; held = k.held; stamp = k.stamp; size = k.size; in_time = in_time g E s i cells (sym (ap (λ (a : Answer). a.outcome) k.is) ∙ h) }
 
 taken_by_merger : (g : Given) (E : List Entry) (s i quality : ℕ) (payload : List ℕ) → MergerTakes g E s i payload → (merged_answer g E s (Data i quality payload)).outcome ≡ Taken
 taken_by_merger g E s i quality payload t =
-    let cells : List (ℕ × CellView) = merged_cells g E quality t.layout.sections (drop 7 (words_in payload)) in
+    let cells : List (ℕ × CellView) = merged_cells g E quality t.layout.sections (node_words payload) in
     let stamp : List ℕ = stamp_words t.layout.stamp.start t.layout.stamp.change in
     let last : Answer = answer_in_time g E s i cells in
     let sized : Answer = cond (not (eqb (length payload) (payload_len t.layout.sections))) (bare (Refused WrongLength)) last in
@@ -175,8 +190,7 @@ taken_by_merger g E s i quality payload t =
     (taken_in_time g E s i cells t.in_time)))
 
 pub merger_takes_in_time : MergerTakesInTime
-merger_takes_in_time g E s i quality payload =
-    (λ h. merger_takes g E s i quality payload (held_layout E s) refl h, taken_by_merger g E s i quality payload)
+merger_takes_in_time g E s i quality payload = (merger_takes g E s i quality payload, taken_by_merger g E s i quality payload)
 
 -- ---- what closed stays closed
 
@@ -189,7 +203,5 @@ module _ (R : RisingLaws) where
       (omega (arith, k, l), R.below_higher (greatest g.floor (row_instants (closed E)) + 1) i (row_instants (closed E)) (omega (arith, l)) (R.below_greatest g.floor (row_instants (closed E))))
 
   pub closed_stay_closed : ClosedStayClosed
-  closed_stay_closed g E s i quality payload (inl h) =
-      above_all g E s i (node_takes g E s i quality payload (section_in_force g E s) refl h).in_time
-  closed_stay_closed g E s i quality payload (inr h) =
-      above_all g E s i (merger_takes g E s i quality payload (held_layout E s) refl h).in_time
+  closed_stay_closed g E s i quality payload (inl h) = above_all g E s i (node_takes g E s i quality payload h).in_time
+  closed_stay_closed g E s i quality payload (inr h) = above_all g E s i (merger_takes g E s i quality payload h).in_time

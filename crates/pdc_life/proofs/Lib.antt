@@ -4,22 +4,26 @@ pub mod Come
 pub mod Exact
 pub mod ExactRows
 mod Filtered
-mod Found
 pub mod Frames
+pub mod Gave
 pub mod Genuine
 pub mod Held
 pub mod InForce
 pub mod InTime
 pub mod LifeLaws
+mod Lists
 pub mod MergerData
 pub mod MergerReads
 pub mod MergerRuns
+mod Names
 pub mod NextRow
 pub mod NodeData
 pub mod NodeRuns
 pub mod OneLife
 pub mod OneReading
 pub mod SameCount
+mod Stages
+mod Steps
 pub mod Tagged
 pub mod TakenIsGiven
 pub mod Vectors

@@ -1,23 +1,6 @@
 -- Laws of all lives: steps make lives, rows come out once and rise, change numbers never fall; and wait rules agree.
-use Rattle.std.proofs.Common.{◌≡◌, ℕ, ◌+◌, ◌≤◌, ◌==◌, Bool, true, false, List, [], ◌∷◌, ◌++◌, map, length, filter, cond, drop, ltb, refl, sym, ap, ◌∙◌, subst, arith, rules, Option}
-use Rattle.std.proofs.lemmas.List.{append_assoc}
-use Rattle.std.specs.List.{AllByRecursion, list_any, slice_get}
+use Rattle.pdc_life.proofs.Names.{[], ◌++◌, ◌+◌, ◌==◌, ◌∙◌, ◌∷◌, ◌≡◌, ◌≤◌, AllByRecursion, answered, ap, append_assoc, arith, Arrival, Arrive, Bool, changes, ChangesNeverFall, ChangesRiseByOne, closed, closing, cond, drop, Entry, false, filter, Given, greatest, is_adoption, is_adoption_of, IsLife, IsReadStep, IsTicked, last_of, length, life_from, List, list_any, ltb, map, merged_answer, MergerLivesAreTicked, node_answer, OneStepMore, open_instants, Option, Pop, popped, ReadsFor, ReadsForMerger, ReadStep, refl, Rises, RisingLaws, row_instants, row_of, RowsComeOutOnce, RowsRise, RowView, Rules, rules, SameChangeSameSections, slice_get, StepsMakeMergerLives, StepsMakeNodeLives, subst, sym, Take, takes, Tick, TickAnswer, ToArrive, ToPop, ToTick, true, waiting, ℕ}
 use Rattle.std.specs.Option.{option_to_list}
-use Rattle.pdc_output.specs.pdc_row.Quality.{greatest}
-use Rattle.pdc_output.specs.pdc_row.Rising.{Rises}
-use Rattle.pdc_output.specs.pdc_row.RisingLaws.{RisingLaws}
-use Rattle.pdc_output.specs.pdc_row.RowView.{RowView, row_instants}
-use Rattle.pdc_life.specs.Given.{Given}
-use Rattle.pdc_life.specs.Life.{Entry, Arrive, Tick, TickAnswer, Pop, Take, changes, closed, is_adoption, is_adoption_of, last_of, open_instants, popped, takes, waiting}
-use Rattle.pdc_life.specs.Merger.{merged_answer}
-use Rattle.pdc_life.specs.MergerReading.{ReadsForMerger}
-use Rattle.pdc_life.specs.Node.{ReadsFor, node_answer}
-use Rattle.pdc_life.specs.Run.{IsTicked}
-use Rattle.pdc_life.specs.Arrival.{Arrival}
-use Rattle.pdc_life.specs.Answer.{IsLife, IsReadStep, ReadStep, ToArrive, ToTick, ToPop, Rules, answered, life_from}
-use Rattle.pdc_life.specs.Row.{closing, row_of}
-use Rattle.pdc_life.specs.Laws.{ChangesNeverFall, ChangesRiseByOne, MergerLivesAreTicked, RowsComeOutOnce, RowsRise, SameChangeSameSections}
-use Rattle.pdc_life.specs.OneLife.{OneStepMore, StepsMakeMergerLives, StepsMakeNodeLives}
 
 -- the premise of all laws of rows and counts, for every kind of core
 pub lives_are_ticked : (rules : Rules) (Says : ℕ → List ℕ → Arrival → Type 0) (g : Given) (E : List Entry) → IsLife rules Says g E → IsTicked g E

@@ -1,43 +1,17 @@
 -- Lives of the merger are runs.
-use Rattle.std.proofs.Common.{◌≡◌, ℕ, zero, suc, ◌+◌, ◌*◌, ◌<◌, ◌≤◌, Bool, true, false, ◌&&◌, List, [], ◌∷◌, ◌++◌, cond, ltb, eqb, not, drop, take, length, map, refl, sym, ap, ◌∙◌, subst, arith, rules, Option, Some, None}
-use Rattle.std.specs.Prelude.{nat_eq, sum, if◌then◌else◌, ◌==◌}
-use Rattle.std.specs.Cmp.Lexicographic.{pointwise}
-use Rattle.std.specs.Int.{w16, w32, to_be_bytes, cast_signed, cast_unsigned}
-use Rattle.std.specs.List.{AllByRecursion, Contains, range_with_len, slice_get}
-use Rattle.std.proofs.lemmas.Bool.{false≢true}
+use Rattle.pdc_life.proofs.Names.{[], if◌then◌else◌, ◌*◌, ◌++◌, ◌+◌, ◌<◌, ◌==◌, ◌∙◌, ◌∷◌, ◌≡◌, ◌≤◌, AllByRecursion, Answer, ap, AreBytes, AreSound, AreWords, arith, Arrival, Bool, BytesRefused, Candidate, cast_signed, cast_unsigned, cell_under, CellView, cond, ConfigFields, CountConflict, Data, drop, Entry, false, false≢true, Given, given_of_merger, has_count_conflict, HaveColumns, held_layout, HeldLayout, is_in_force, is_older, is_taken, IsConfig, IsInTime, IsLayoutOf, IsLife, IsMergerLife, IsOfSectionInForce, IsSection, IsSound, Known, Layout, layout_answer, length, List, map, merged_answer, merged_cells, MergedNode, MergerLivesAreRuns, MergerSettings, nodes_of, None, not, OldStamp, Option, payload_of, range_with_len, ReadsForMerger, refl, Refused, Rises, rules, section_in_force, SectionFields, slice_get, slice_get_within, Some, Stamp, Stream, stream_from, streams_of, subst, suc, sum, sym, take, Taken, to_be_bytes, true, w16, w32, word_count_of, words_in, WordsOfBytes, zero, ℕ}
 use Rattle.std.proofs.lemmas.List.Sums.{sum_by-cons}
-use Rattle.std.proofs.lemmas.Option.{slice_get_within}
-use Rattle.pdc_output.specs.pdc_frame.Bytes.{AreBytes}
-use Rattle.pdc_output.specs.pdc_block.Block.{AreWords, words_in}
-use Rattle.pdc_output.specs.pdc_block.Laws.{WordsOfBytes}
-use Rattle.pdc_output.specs.pdc_cfg.Config.{ConfigFields, IsConfig, payload_of}
-use Rattle.pdc_output.specs.pdc_cfg.Shape.{word_count_of}
-use Rattle.pdc_output.specs.pdc_cfg.Section.{SectionFields, IsSection}
-use Rattle.pdc_output.specs.pdc_row.CellView.{CellView}
-use Rattle.pdc_output.specs.pdc_row.Rising.{Rises}
-use Rattle.pdc_output.specs.Layout.{stamp_words}
-use Rattle.pdc_life.specs.declared.merging.MergedNode.{MergedNode}
-use Rattle.pdc_life.specs.declared.merging.MergerSettings.{MergerSettings}
-use Rattle.pdc_life.specs.declared.outcome.Outcome.TheVariants.{Taken, Candidate, Known, Refused}
-use Rattle.pdc_life.specs.declared.outcome.Refusal.TheVariants.{CountConflict, OldStamp, OtherStamp, WrongLength}
-use Rattle.pdc_life.specs.Answer.{IsLife, answer_in_time, bare, outcome_in_time}
-use Rattle.pdc_life.specs.Arrival.{Arrival, BytesRefused, Data, Layout, Stamp}
-use Rattle.pdc_life.specs.Given.{Given, streams_of}
-use Rattle.pdc_life.specs.Life.{Answer, Entry, Arrive, Tick, Pop, is_candidate, is_taken, section_in_force}
-use Rattle.pdc_life.specs.Merger.{HeldLayout, has_count_conflict, held_layout, is_in_force, is_older, layout_answer, merged_answer, merged_cells, merged_data_answer, own_words, payload_len}
-use Rattle.pdc_life.specs.MergerLaws.{MergerLivesAreRuns}
-use Rattle.pdc_life.specs.MergerReading.{IsLayoutOf, IsMergerLife, ReadsForMerger, given_of_merger, nodes_of}
-use Rattle.pdc_life.specs.Node.{cell_under}
-use Rattle.pdc_life.specs.Run.{AreSound, HaveColumns, IsInTime, IsOfSectionInForce, IsSound}
-use Rattle.pdc_life.proofs.Come.{May, in_force_whole}
+use Rattle.pdc_life.proofs.Come.{in_force_whole}
 use Rattle.pdc_life.proofs.Frames.{words_cons, words_none}
+use Rattle.pdc_life.proofs.InTime.{merger_gives, MergerGives, node_words}
 use Rattle.pdc_life.proofs.LifeLaws.{lives_are_ticked}
-use Rattle.pdc_life.proofs.NodeRuns.{instant_below, taken_cells}
-use Rattle.pdc_life.proofs.SameCount.{of_each, same_count_same_section}
+use Rattle.pdc_life.proofs.Lists.{by_each, heads, May, of_each, same_number}
+use Rattle.pdc_life.proofs.NodeRuns.{data_has_tag, data_is_bytes, in_time_of, lives_are_sound}
+use Rattle.pdc_life.proofs.SameCount.{of_held_layout, same_count_same_section}
 
 -- what the law of configurations says
-abbrev pub ReadOnce : Type 0
-ReadOnce = (payload : List ℕ) (a b : ConfigFields) → IsConfig payload a → IsConfig payload b → a ≡ b
+abbrev pub OneConfig : Type 0
+OneConfig = (payload : List ℕ) (a b : ConfigFields) → IsConfig payload a → IsConfig payload b → a ≡ b
 
 -- ---- lists of words
 
@@ -86,10 +60,6 @@ pub record Facts (g : Given) (parts : Parts) : Type 0 where
   pub columns : HaveColumns g parts
   pub whole : AllByRecursion (λ (part : ℕ × SectionFields). IsSection part.1) parts
 
-abbrev MayFacts : Given → Option HeldLayout → Type 0
-MayFacts g None = Unit {0}
-MayFacts g (Some layout) = Facts g layout.sections
-
 each_whole : (parts : Parts) → AllByRecursion IsSection (map (λ (part : ℕ × SectionFields). part.1) parts) → AllByRecursion (λ (part : ℕ × SectionFields). IsSection part.1) parts
 each_whole [] a = tt
 each_whole (part ∷ parts) a = (a.0, each_whole parts a.1)
@@ -108,20 +78,12 @@ of_layout settings g node bytes stamp parts n h =
       whole = each_whole parts (subst (λ (ss : List SectionFields). AllByRecursion IsSection ss) (sym h.of_table.same) whole.1);
     }
 
-either_layout : (g : Given) (b : Bool) (new : HeldLayout) (o : Option HeldLayout) → Facts g new.sections → MayFacts g o → MayFacts g (cond b (Some new) o)
-either_layout g true new o h k = h
-either_layout g false new o h k = k
-
-held_facts : (settings : MergerSettings) (g : Given) (E : List Entry) (s : ℕ) → g.columns ≡ length settings.sources.items → IsLife merged_answer (ReadsForMerger settings) g E → MayFacts g (held_layout E s)
-held_facts settings g [] s n life = tt
-held_facts settings g (Arrive r bytes (Layout (Some stamp) parts) answer ∷ E) s n life =
-    either_layout g (eqb r s && is_candidate answer.outcome) (record { stamp = stamp; sections = parts }) (held_layout E s)
-    (of_layout settings g life.0.node bytes stamp parts n life.0.reads) (held_facts settings g E s n life.2)
-held_facts settings g (Arrive r bytes (Layout None parts) answer ∷ E) s n life = absurd life.0.reads
-held_facts settings g (Arrive r bytes (BytesRefused refusal) answer ∷ E) s n life = held_facts settings g E s n life.2
-held_facts settings g (Arrive r bytes (Data i quality payload) answer ∷ E) s n life = held_facts settings g E s n life.2
-held_facts settings g (Tick now counts answer ∷ E) s n life = held_facts settings g E s n life.1
-held_facts settings g (Pop row ∷ E) s n life = held_facts settings g E s n life.1
+held_facts : (settings : MergerSettings) (g : Given) (E : List Entry) (s : ℕ) → g.columns ≡ length settings.sources.items
+    → IsLife merged_answer (ReadsForMerger settings) g E
+    → May (λ (h : HeldLayout). Facts g h.sections) (held_layout E s)
+held_facts settings g E s n life =
+    of_held_layout settings g (λ F h. Facts g h.sections) (λ F e h k. k)
+    (λ F r bytes stamp parts answer reads is accepted. of_layout settings g reads.node bytes stamp parts n reads.reads) E s life
 
 -- ---- the cells of data
 
@@ -158,9 +120,6 @@ cells_exist g E quality (part ∷ parts) words a =
 -- a section with the count in force is the one in force
 abbrev pub IsSame : Given → List Entry → ℕ × SectionFields → Type 0
 IsSame g E part = (u : SectionFields) → section_in_force g E part.0 ≡ Some u → part.1.count ≡ u.count → part.1 ≡ u
-
-same_number : (m n : ℕ) → eqb m n ≡ true → m ≡ n
-same_number m n h = search rules
 
 of_section : (g : Given) (E : List Entry) (quality : ℕ) (part : ℕ × SectionFields) (words : List ℕ) (o : Option SectionFields) → section_in_force g E part.0 ≡ o → is_in_force part.1 o ≡ true → IsSame g E part
     → word_count_of part.1.shape ≤ length words → AreWords words → IsOfSectionInForce g E (part.0, cell_under part.1 quality (take (word_count_of part.1.shape) words))
@@ -200,34 +159,12 @@ is_config s t h e = record {
   spelled = ap (λ (bytes : List ℕ). to_be_bytes w32 0 ++ to_be_bytes w16 1 ++ (bytes ++ []) ++ to_be_bytes w16 (cast_unsigned w16 (cast_signed w16 1))) e;
 }
 
-first_same : (s t : SectionFields) → s ∷ [] ≡ t ∷ [] → s ≡ t
-first_same s t e = cc
-
-same_section : ReadOnce → (s t : SectionFields) → IsSection s → IsSection t → s.bytes ≡ t.bytes → s ≡ t
+same_section : OneConfig → (s t : SectionFields) → IsSection s → IsSection t → s.bytes ≡ t.bytes → s ≡ t
 same_section once s t h k e =
-    first_same s t (ap (λ (c : ConfigFields). c.sections) (once (payload_of (of_one s)) (of_one s) (of_one t) (is_config s s h refl) (is_config s t k e)))
-
-all_same : (g : Given) (E : List Entry) (all parts : Parts) → ((part : ℕ × SectionFields) → Contains all part → IsSame g E part) → ((part : ℕ × SectionFields) → Contains parts part → Contains all part) → AllByRecursion (IsSame g E) parts
-all_same g E all [] h among = tt
-all_same g E all (part ∷ parts) h among =
-    (h part (among part (0, omega arith, refl)), all_same g E all parts h (λ p k. among p (suc k.0, omega (arith, k.1), k.2)))
-
-whole_in_force : (o : Option SectionFields) (u : SectionFields) → May IsSection o → o ≡ Some u → IsSection u
-whole_in_force o u h e = subst (May IsSection) e h
-
-same_length : (m n : ℕ) → not (eqb m n) ≡ false → m ≡ n
-same_length m n h = search rules
+    (heads s t [] [] (ap (λ (c : ConfigFields). c.sections) (once (payload_of (of_one s)) (of_one s) (of_one t) (is_config s s h refl) (is_config s t k e)))).0
 
 two_not_one : (n : ℕ) → n ≡ 2 → n ≡ 1 → ⊥
 two_not_one n h k = absurd (omega (arith, h, k))
-
--- what is common to all data of a node
-pub record OfData (g : Given) (E : List Entry) (s i : ℕ) (payload : List ℕ) (layout : HeldLayout) : Type 0 where
-  pub facts : Facts g layout.sections
-  pub same : AllByRecursion (IsSame g E) layout.sections
-  pub lanes : g.lanes ≡ 2
-  pub tag : i < 4294967296 * g.output.rate
-  pub bytes : AreBytes payload
 
 none_taken : (old same conflicts : Bool) → is_taken (cond old (Refused OldStamp) (cond same Known (cond conflicts (Refused CountConflict) Candidate))) ≡ false
 none_taken true same conflicts = refl
@@ -248,70 +185,33 @@ of_two settings g E s bytes arrival given r =
     let size : length (streams_of g) ≡ 2 = ap (λ n. length (range_with_len 0 (if n == 1 then g.columns else 2))) lanes in
     omega (arith, below, size)
 
-module _ (once : ReadOnce) where
-  pub known : (settings : MergerSettings) (g : Given) (E : List Entry) (s i : ℕ) (payload : List ℕ) (layout : HeldLayout) → IsMergerLife settings g E → AreSound g E → held_layout E s ≡ Some layout
-      → i < 4294967296 * g.output.rate → AreBytes payload → OfData g E s i payload layout
-  known settings g E s i payload layout life sound held tag bytes =
-      let number : g.columns ≡ length settings.sources.items = ap (λ (k : Given). k.columns) life.given in
-      let facts : Facts g layout.sections = subst (MayFacts g) held (held_facts settings g E s number life.life) in
-      record {
-        facts = facts;
-        same = all_same g E layout.sections layout.sections
-            (λ part among u f e. same_section once part.1 u (of_each (λ (p : ℕ × SectionFields). IsSection p.1) layout.sections part facts.whole among)
-            (whole_in_force (section_in_force g E part.0) u (in_force_whole g E part.0 sound) f)
-            (same_count_same_section settings g E s part.0 layout part.1 u life held among f e))
-            (λ part k. k);
-        lanes = ap (λ (k : Given). k.lanes) life.given;
-        tag = tag;
-        bytes = bytes;
-      }
+module _ (once : OneConfig) where
+  pub all_same : (settings : MergerSettings) (g : Given) (E : List Entry) (s : ℕ) (layout : HeldLayout) → IsMergerLife settings g E → AreSound g E
+      → held_layout E s ≡ Some layout → AllByRecursion (IsSame g E) layout.sections
+  all_same settings g E s layout life sound held =
+      let facts : Facts g layout.sections =
+      subst (May (λ (h : HeldLayout). Facts g h.sections)) held (held_facts settings g E s (ap (λ (k : Given). k.columns) life.given) life.life) in
+      by_each (IsSame g E) layout.sections (λ part among u f e. same_section once part.1 u
+      (of_each (λ (p : ℕ × SectionFields). IsSection p.1) layout.sections part facts.whole among)
+      (subst (May IsSection) f (in_force_whole g E part.0 sound)) (same_count_same_section settings g E s part.0 layout part.1 u life held among f e))
 
--- ---- what follows from the law of words
-
-module _ (W : WordsOfBytes) where
-  in_time_at : (g : Given) (E : List Entry) (s i quality : ℕ) (payload : List ℕ) (layout : HeldLayout) → Facts g layout.sections → AllByRecursion (IsSame g E) layout.sections → g.lanes ≡ 2 → i < 4294967296 * g.output.rate
-      → AreBytes payload → length payload ≡ payload_len layout.sections
-      → (answer_in_time g E s i (merged_cells g E quality layout.sections (drop 7 (words_in payload)))).outcome ≡ Taken
-      → IsInTime g E s (Data i quality payload) (answer_in_time g E s i (merged_cells g E quality layout.sections (drop 7 (words_in payload))))
-  in_time_at g E s i quality payload layout facts same lanes tag bytes size h =
-      let words : List ℕ = drop 7 (words_in payload) in
-      let count : length (words_in payload) ≡ 7 + total layout.sections = W.count payload (7 + total layout.sections) (omega (arith, size, twice_total layout.sections)) in
-      let left : length words ≡ total layout.sections = drop_count 7 (total layout.sections) (words_in payload) count in
+module _ (once : OneConfig) (W : WordsOfBytes) where
+  in_time_at : (settings : MergerSettings) (g : Given) (E : List Entry) (s i quality : ℕ) (payload : List ℕ) (answer : Answer) → IsMergerLife settings g E
+      → AreSound g E → i < 4294967296 * g.output.rate → AreBytes payload
+      → MergerGives g E s i quality payload answer → answer.outcome ≡ Taken → IsInTime g E s (Data i quality payload) answer
+  in_time_at settings g E s i quality payload answer life sound tag bytes k h =
+      let sections : Parts = k.layout.sections in
+      let words : List ℕ = node_words payload in
+      let facts : Facts g sections =
+      subst (May (λ (l : HeldLayout). Facts g l.sections)) k.held (held_facts settings g E s (ap (λ (q : Given). q.columns) life.given) life.life) in
+      let count : length (words_in payload) ≡ 7 + total sections = W.count payload (7 + total sections) (omega (arith, k.size, twice_total sections)) in
+      let left : length words ≡ total sections = drop_count 7 (total sections) (words_in payload) count in
       let fits : AreWords words = drop_words 7 (words_in payload) (W.fit payload bytes) in
-      let cells : List (ℕ × CellView) = merged_cells g E quality layout.sections words in
-      let e = taken_cells (outcome_in_time g E s i cells) cells h in
-      record {
-        instant = i;
-        quality = quality;
-        payload = payload;
-        said = refl;
-        in_time = ap (λ (cs : List (ℕ × CellView)). answer_in_time g E s i cs) (sym e);
-        tag = tag;
-        columns = subst (λ (cs : List (ℕ × CellView)). HaveColumns g cs) (sym e) (record {
-          rise = cells_rise g E quality 0 layout.sections words facts.columns.rise;
-          exist = cells_exist g E quality layout.sections words facts.columns.exist;
-        });
-        sections = subst (λ (cs : List (ℕ × CellView)). AllByRecursion (IsOfSectionInForce g E) cs) (sym e) (cells_of_sections g E quality layout.sections words same left fits);
-        own = λ lane. absurd (two_not_one g.lanes lanes lane);
-      }
+      in_time_of g E s i quality payload (merged_cells g E quality sections words) answer k.is h tag
+      (record { rise = cells_rise g E quality 0 sections words facts.columns.rise; exist = cells_exist g E quality sections words facts.columns.exist })
+      (cells_of_sections g E quality sections words (all_same once settings g E s k.layout life sound k.held) left fits)
+      (λ lane. absurd (two_not_one g.lanes (ap (λ (q : Given). q.lanes) life.given) lane))
 
-  through : (g : Given) (E : List Entry) (s i quality : ℕ) (payload : List ℕ) (layout : HeldLayout) (short other long : Bool) → not (eqb (length payload) (payload_len layout.sections)) ≡ long → OfData g E s i payload layout
-      → (cond short (bare (Refused WrongLength)) (cond other (bare (Refused OtherStamp)) (cond long (bare (Refused WrongLength)) (answer_in_time g E s i (merged_cells g E quality layout.sections (drop 7 (words_in payload))))))).outcome ≡ Taken
-      → IsInTime g E s (Data i quality payload) (cond short (bare (Refused WrongLength)) (cond other (bare (Refused OtherStamp)) (cond long (bare (Refused WrongLength)) (answer_in_time g E s i (merged_cells g E quality layout.sections (drop 7 (words_in payload)))))))
-  through g E s i quality payload layout true other long e k h = absurd (false≢true (ap is_taken h))
-  through g E s i quality payload layout false true long e k h = absurd (false≢true (ap is_taken h))
-  through g E s i quality payload layout false false true e k h = absurd (false≢true (ap is_taken h))
-  through g E s i quality payload layout false false false e k h =
-      in_time_at g E s i quality payload layout k.facts k.same k.lanes k.tag k.bytes (same_length (length payload) (payload_len layout.sections) e) h
-
-  of_data : (g : Given) (E : List Entry) (s i quality : ℕ) (payload : List ℕ) (o : Option HeldLayout) → ((layout : HeldLayout) → o ≡ Some layout → OfData g E s i payload layout)
-      → (merged_data_answer g E s i quality payload o).outcome ≡ Taken → IsInTime g E s (Data i quality payload) (merged_data_answer g E s i quality payload o)
-  of_data g E s i quality payload None k h = absurd (false≢true (ap is_taken h))
-  of_data g E s i quality payload (Some layout) k h =
-      through g E s i quality payload layout (ltb (length payload) 14) (not (pointwise nat_eq (own_words payload) (stamp_words layout.stamp.start layout.stamp.change)))
-      (not (eqb (length payload) (payload_len layout.sections))) refl (k layout refl) h
-
-module _ (once : ReadOnce) (W : WordsOfBytes) where
   sound_at : (settings : MergerSettings) (g : Given) (E : List Entry) (s : ℕ) (bytes : List ℕ) (arrival : Arrival) → IsMergerLife settings g E → AreSound g E → s < length (streams_of g) → ReadsForMerger settings s bytes arrival
       → IsSound g E s arrival (merged_answer g E s arrival)
   sound_at settings g E s bytes (BytesRefused refusal) life sound here r = record {
@@ -321,12 +221,13 @@ module _ (once : ReadOnce) (W : WordsOfBytes) where
     sections = tt;
   }
   sound_at settings g E s bytes (Data i quality payload) life sound here r =
-      let rate : g.output.rate ≡ settings.output.rate = ap (λ (k : Given). k.output.rate) life.given in
-      let tag : i < 4294967296 * settings.output.rate = instant_below r.reads.fields.soc r.reads.fields.frac r.node.time_base settings.output.rate i (omega (arith, r.reads.of_stream.frame.fits.soc)) r.reads.tag in
+      let rate : settings.output.rate ≡ g.output.rate = sym (ap (λ (k : Given). k.output.rate) life.given) in
+      let stream : Stream = stream_from settings r.node in
       record {
         stream = here;
-        taken = of_data W g E s i quality payload (held_layout E s)
-            (λ layout held. known once settings g E s i payload layout life sound held (subst (λ n. i < 4294967296 * n) (sym rate) tag) (subst AreBytes r.reads.same_payload r.reads.of_stream.frame.fits.bytes));
+        taken = λ h. in_time_at settings g E s i quality payload (merged_answer g E s (Data i quality payload)) life sound
+            (subst (λ n. i < 4294967296 * n) rate (data_has_tag stream bytes i quality payload r.reads)) (data_is_bytes stream bytes i quality payload r.reads)
+            (merger_gives g E s i quality payload (held_layout E s) refl h) h;
         columns = record { rise = tt; exist = tt };
         sections = tt;
       }
@@ -340,19 +241,10 @@ module _ (once : ReadOnce) (W : WordsOfBytes) where
       }
   sound_at settings g E s bytes (Layout None parts) life sound here r = absurd r.reads
 
-  are_sound : (settings : MergerSettings) (g : Given) (E : List Entry) → g ≡ given_of_merger settings g.start g.floor g.counts g.opening → IsLife merged_answer (ReadsForMerger settings) g E → AreSound g E
-  are_sound settings g [] given life = tt
-  are_sound settings g (Arrive s bytes arrival answer ∷ E) given life =
-      let before : AreSound g E = are_sound settings g E given life.2 in (
-        subst (λ (a : Answer). IsSound g E s arrival a) (sym life.1)
-            (sound_at settings g E s bytes arrival (record { given = given; life = life.2 }) before (of_two settings g E s bytes arrival given life.0) life.0),
-        before,
-      )
-  are_sound settings g (Tick now counts answer ∷ E) given life = are_sound settings g E given life.1
-  are_sound settings g (Pop row ∷ E) given life = are_sound settings g E given life.1
-
   pub merger_lives_are_runs : MergerLivesAreRuns
   merger_lives_are_runs settings g E life = record {
     ticked = lives_are_ticked merged_answer (ReadsForMerger settings) g E life.life;
-    sound = are_sound settings g E life.given life.life;
+    sound = lives_are_sound merged_answer (ReadsForMerger settings) g
+        (λ F s bytes arrival before known r. sound_at settings g F s bytes arrival (record { given = life.given; life = before }) known
+        (of_two settings g F s bytes arrival life.given r) r) E life.life;
   }

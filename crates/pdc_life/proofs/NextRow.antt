@@ -1,12 +1,5 @@
 -- The next row to be popped is above all before it.
-use Rattle.std.proofs.Common.{ℕ, ◌+◌, ◌*◌, ◌<◌, List, [], ◌∷◌, ◌++◌, ap, ◌∙◌, subst, arith, Some}
-use Rattle.std.specs.List.{AllByRecursion}
-use Rattle.pdc_output.specs.pdc_row.Quality.{greatest}
-use Rattle.pdc_output.specs.pdc_row.Rising.{Rises}
-use Rattle.pdc_output.specs.pdc_row.RisingLaws.{RisingLaws}
-use Rattle.pdc_output.specs.pdc_row.RowView.{RowView, row_instants}
-use Rattle.pdc_life.specs.Life.{Pop, popped, waiting}
-use Rattle.pdc_life.specs.Tagged.{NextIsAbove}
+use Rattle.pdc_life.proofs.Names.{[], ◌*◌, ◌++◌, ◌+◌, ◌<◌, ◌∙◌, ◌∷◌, AllByRecursion, ap, arith, greatest, List, NextIsAbove, Pop, popped, Rises, RisingLaws, row_instants, RowView, Some, subst, waiting, ℕ}
 use Rattle.pdc_life.proofs.LifeLaws.{instants_append, rows_come_out_once, rows_rise}
 use Rattle.pdc_life.proofs.Tagged.{popped_low}
 

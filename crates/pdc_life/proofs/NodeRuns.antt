@@ -1,34 +1,8 @@
 -- Lives of a node are runs.
-use Rattle.std.proofs.Common.{◌≡◌, ℕ, ◌+◌, ◌*◌, ◌<◌, ◌≤◌, Bool, true, false, List, [], ◌∷◌, length, cond, ltb, eqb, not, refl, sym, ap, ◌∙◌, subst, arith, rules, Option, Some, None, inl, inr}
-use Rattle.std.specs.Prelude.{if◌then◌else◌, ◌==◌, nat_eq}
-use Rattle.std.specs.List.{AllByRecursion, range_with_len}
-use Rattle.std.specs.Cmp.Lexicographic.{pointwise}
+use Rattle.pdc_life.proofs.Names.{[], if◌then◌else◌, ◌*◌, ◌+◌, ◌<◌, ◌==◌, ◌∙◌, ◌∷◌, ◌≡◌, ◌≤◌, AllByRecursion, Answer, answer_in_time, ap, AreBytes, AreSound, AreWords, arith, Arrival, Arrive, Bool, BytesRefused, Candidate, cases_lt, cell_under, CellView, cond, count_for, CountConflict, Data, Entry, false, false≢true, Given, HaveColumns, held_section, inl, inr, is_taken, IsData, IsGivenBy, IsInstant, IsInTime, IsLife, IsOfSectionInForce, IsSection, IsSound, IsValid, Known, Layout, length, length-range_with_len, List, ltb, nat_eq, node_answer, NodeLivesAreRuns, None, Option, Outcome, Pmu, pointwise, Pop, range_with_len, ReadsFor, refl, Refusal, Refused, Rules, section_after, section_answer, section_in_force, SectionFields, Settings, slice_get_within, Some, StaleCount, Stream, stream_of, streams_of, subst, sym, Taken, Tick, true, word_count_of, words_in, WordsOfBytes, ℕ}
 use Rattle.std.proofs.Math.Nat.{mul-le-mul_right}
-use Rattle.std.proofs.lemmas.Bool.{cases_lt, false≢true}
-use Rattle.std.proofs.lemmas.List.FromFn.{length-range_with_len}
-use Rattle.std.proofs.lemmas.Option.{slice_get_within}
-use Rattle.pdc_output.specs.pdc_frame.Bytes.{AreBytes}
-use Rattle.pdc_output.specs.pdc_block.Block.{words_in}
-use Rattle.pdc_output.specs.pdc_block.Laws.{WordsOfBytes}
-use Rattle.pdc_output.specs.pdc_cfg.Shape.{word_count_of}
-use Rattle.pdc_output.specs.pdc_cfg.Section.{SectionFields, IsSection}
-use Rattle.pdc_output.specs.pdc_row.CellView.{CellView}
 use Rattle.pdc_output.specs.pdc_tag.Slot.{IsSlot}
-use Rattle.pdc_output.specs.pdc_tag.Instant.{IsInstant}
-use Rattle.pdc_life.specs.declared.given.Settings.{Settings}
-use Rattle.pdc_life.specs.declared.pmu.Pmu.{Pmu}
-use Rattle.pdc_life.specs.declared.outcome.Outcome.{Outcome}
-use Rattle.pdc_life.specs.declared.outcome.Outcome.TheVariants.{Taken, Candidate, Known, Refused}
-use Rattle.pdc_life.specs.declared.outcome.Refusal.{Refusal}
-use Rattle.pdc_life.specs.declared.outcome.Refusal.TheVariants.{CountConflict, StaleCount, WrongLength}
-use Rattle.pdc_life.specs.Arrival.{Arrival, BytesRefused, Data, Layout}
-use Rattle.pdc_life.specs.Given.{Given, IsGivenBy, count_for, streams_of}
-use Rattle.pdc_life.specs.Life.{Answer, Entry, Arrive, Tick, Pop, held_section, is_taken, section_in_force}
-use Rattle.pdc_life.specs.Answer.{IsLife, answer_in_time, bare, outcome_in_time}
-use Rattle.pdc_life.specs.Node.{ReadsFor, cell_under, data_answer, node_answer, section_after, section_answer}
-use Rattle.pdc_life.specs.NodeReading.{IsValid}
-use Rattle.pdc_life.specs.Run.{IsOfSectionInForce, HaveColumns, AreSound, IsInTime, IsSound}
-use Rattle.pdc_life.specs.Laws.{NodeLivesAreRuns}
+use Rattle.pdc_life.proofs.InTime.{node_cells, node_gives, taken_cells}
 use Rattle.pdc_life.proofs.LifeLaws.{lives_are_ticked}
 
 not_taken : (b : Bool) (r : Refusal) (o : Outcome) → is_taken o ≡ false → is_taken (cond b (Refused r) o) ≡ false
@@ -49,10 +23,6 @@ after_not (Some held) s =
 section_not : (opening : ℕ) (held : Option SectionFields) (s : SectionFields) → is_taken (section_answer opening held s) ≡ false
 section_not opening held s = not_taken (ltb s.count opening) StaleCount (section_after held s) (after_not held s)
 
--- the cells of what was taken are those that were given
-pub taken_cells : (o : Outcome) (cells : List (ℕ × CellView)) → o ≡ Taken → cond (is_taken o) cells [] ≡ cells
-taken_cells o cells h = ap (λ (q : Outcome). cond (is_taken q) cells []) h
-
 -- a slot lies in its second, and the instant of a tag in a second that SOC can name
 slot_below : (frac time_base rate k : ℕ) → IsSlot frac time_base rate k → k < rate
 slot_below frac time_base rate k h = elim (cases_lt k rate) [
@@ -63,11 +33,50 @@ slot_below frac time_base rate k h = elim (cases_lt k rate) [
       absurd (omega (arith, h.within_count, far, room))
 ]
 
-pub instant_below : (soc frac time_base rate i : ℕ) → soc < 4294967296 → IsInstant soc frac time_base rate i → i < 4294967296 * rate
+instant_below : (soc frac time_base rate i : ℕ) → soc < 4294967296 → IsInstant soc frac time_base rate i → i < 4294967296 * rate
 instant_below soc frac time_base rate i h t =
     let slot : t.slot < rate = slot_below frac time_base rate t.slot t.is_slot in
     let seconds : (soc + 1) * rate ≤ 4294967296 * rate = mul-le-mul_right {m = soc + 1} {n = 4294967296} rate (omega (arith, h)) in
     omega (arith, t.is_instant, slot, seconds)
+
+pub data_has_tag : (stream : Stream) (bytes : List ℕ) (i quality : ℕ) (payload : List ℕ) → IsData stream bytes i quality payload → i < 4294967296 * stream.rate
+data_has_tag stream bytes i quality payload h =
+    instant_below h.fields.soc h.fields.frac stream.time_base stream.rate i (omega (arith, h.of_stream.frame.fits.soc)) h.tag
+
+pub data_is_bytes : (stream : Stream) (bytes : List ℕ) (i quality : ℕ) (payload : List ℕ) → IsData stream bytes i quality payload → AreBytes payload
+data_is_bytes stream bytes i quality payload h = subst AreBytes h.same_payload h.of_stream.frame.fits.bytes
+
+-- data that is taken is in time, where its cells are of the sections in force
+pub in_time_of : (g : Given) (E : List Entry) (s i quality : ℕ) (payload : List ℕ) (cells : List (ℕ × CellView)) (answer : Answer)
+    → answer ≡ answer_in_time g E s i cells → answer.outcome ≡ Taken
+    → i < 4294967296 * g.output.rate → HaveColumns g cells → AllByRecursion (IsOfSectionInForce g E) cells
+    → (g.lanes ≡ 1 → AllByRecursion (λ (part : ℕ × CellView). part.0 ≡ s) cells)
+    → IsInTime g E s (Data i quality payload) answer
+in_time_of g E s i quality payload cells answer is taken tag columns sections own =
+    let e : cells ≡ answer.cells = sym (taken_cells g E s i cells answer is taken) in
+    record {
+      instant = i;
+      quality = quality;
+      payload = payload;
+      said = refl;
+      in_time = is ∙ ap (λ (cs : List (ℕ × CellView)). answer_in_time g E s i cs) e;
+      tag = tag;
+      columns = subst (λ (cs : List (ℕ × CellView)). HaveColumns g cs) e columns;
+      sections = subst (λ (cs : List (ℕ × CellView)). AllByRecursion (IsOfSectionInForce g E) cs) e sections;
+      own = λ lane. subst (λ (cs : List (ℕ × CellView)). AllByRecursion (λ (part : ℕ × CellView). part.0 ≡ s) cs) e (own lane);
+    }
+
+-- what each step is answered is sound, so a life is
+pub lives_are_sound : (rules : Rules) (Says : ℕ → List ℕ → Arrival → Type 0) (g : Given)
+    → ((E : List Entry) (s : ℕ) (bytes : List ℕ) (arrival : Arrival) → IsLife rules Says g E → AreSound g E → Says s bytes arrival
+    → IsSound g E s arrival (rules g E s arrival))
+    → (E : List Entry) → IsLife rules Says g E → AreSound g E
+lives_are_sound rules Says g sound [] life = tt
+lives_are_sound rules Says g sound (Arrive s bytes arrival answer ∷ E) life =
+    let before : AreSound g E = lives_are_sound rules Says g sound E life.2 in
+    (subst (λ (a : Answer). IsSound g E s arrival a) (sym life.1) (sound E s bytes arrival life.2 before life.0), before)
+lives_are_sound rules Says g sound (Tick now counts answer ∷ E) life = lives_are_sound rules Says g sound E life.1
+lives_are_sound rules Says g sound (Pop row ∷ E) life = lives_are_sound rules Says g sound E life.1
 
 of_valid : (settings : Settings) (pmu : Pmu) (bytes : List ℕ) (s : SectionFields) → IsValid settings pmu bytes s → IsSection s
 of_valid settings pmu bytes s h =
@@ -78,9 +87,6 @@ of_valid settings pmu bytes s h =
 record Facts (g : Given) (p : ℕ) : Type 0 where
   here : p < g.columns
   stream : p < length (streams_of g)
-
-same_length : (m n : ℕ) → not (eqb m n) ≡ false → m ≡ n
-same_length m n h = search rules
 
 own_column : {A : Type 0} (g : Given) (p : ℕ) (a : A) → p < g.columns → HaveColumns g ((p, a) ∷ [])
 own_column g p a h = record { rise = (omega arith, tt); exist = (h, tt) }
@@ -97,36 +103,6 @@ facts_of settings g p bytes arrival given r =
 -- ---- what follows from the law of words
 
 module _ (W : WordsOfBytes) where
-  in_time_at : (g : Given) (E : List Entry) (p i quality : ℕ) (payload : List ℕ) (s : SectionFields) → p < g.columns → i < 4294967296 * g.output.rate → AreBytes payload → length payload ≡ 2 * word_count_of s.shape → section_in_force g E p ≡ Some s
-      → (answer_in_time g E p i ((p, cell_under s quality (words_in payload)) ∷ [])).outcome ≡ Taken
-      → IsInTime g E p (Data i quality payload) (answer_in_time g E p i ((p, cell_under s quality (words_in payload)) ∷ []))
-  in_time_at g E p i quality payload s here tag bytes size f h =
-      let e = taken_cells (outcome_in_time g E p i ((p, cell_under s quality (words_in payload)) ∷ [])) ((p, cell_under s quality (words_in payload)) ∷ []) h in
-      record {
-        instant = i;
-        quality = quality;
-        payload = payload;
-        said = refl;
-        in_time = ap (λ (cs : List (ℕ × CellView)). answer_in_time g E p i cs) (sym e);
-        tag = tag;
-        columns = subst (λ (cs : List (ℕ × CellView)). HaveColumns g cs) (sym e) (own_column g p (cell_under s quality (words_in payload)) here);
-        sections = subst (λ (cs : List (ℕ × CellView)). AllByRecursion (IsOfSectionInForce g E) cs) (sym e) (record { section = s; in_force = f; shape = refl; count = W.count payload (word_count_of s.shape) size; fits = W.fit payload bytes }, tt);
-        own = λ lane. subst (λ (cs : List (ℕ × CellView)). AllByRecursion (λ (part : ℕ × CellView). part.0 ≡ p) cs) (sym e) (refl, tt);
-      }
-
-  long_enough : (g : Given) (E : List Entry) (p i quality : ℕ) (payload : List ℕ) (s : SectionFields) (b : Bool) → not (eqb (length payload) (2 * word_count_of s.shape)) ≡ b → p < g.columns → i < 4294967296 * g.output.rate → AreBytes payload → section_in_force g E p ≡ Some s
-      → (cond b (bare (Refused WrongLength)) (answer_in_time g E p i ((p, cell_under s quality (words_in payload)) ∷ []))).outcome ≡ Taken
-      → IsInTime g E p (Data i quality payload) (cond b (bare (Refused WrongLength)) (answer_in_time g E p i ((p, cell_under s quality (words_in payload)) ∷ [])))
-  long_enough g E p i quality payload s true size here tag bytes f h = absurd (false≢true (ap is_taken h))
-  long_enough g E p i quality payload s false size here tag bytes f h =
-      in_time_at g E p i quality payload s here tag bytes (same_length (length payload) (2 * word_count_of s.shape) size) f h
-
-  of_section : (g : Given) (E : List Entry) (p i quality : ℕ) (payload : List ℕ) (s : Option SectionFields) → p < g.columns → i < 4294967296 * g.output.rate → AreBytes payload → section_in_force g E p ≡ s
-      → (data_answer g E p i quality payload s).outcome ≡ Taken → IsInTime g E p (Data i quality payload) (data_answer g E p i quality payload s)
-  of_section g E p i quality payload None here tag bytes f h = absurd (false≢true (ap is_taken h))
-  of_section g E p i quality payload (Some s) here tag bytes f h =
-      long_enough g E p i quality payload s (not (eqb (length payload) (2 * word_count_of s.shape))) refl here tag bytes f h
-
   sound : (settings : Settings) (g : Given) (E : List Entry) (p : ℕ) (bytes : List ℕ) (arrival : Arrival) → g.output.rate ≡ settings.output.rate → Facts g p → ReadsFor settings p bytes arrival → IsSound g E p arrival (node_answer g E p arrival)
   sound settings g E p bytes (BytesRefused refusal) rate facts r = record {
     stream = facts.stream;
@@ -135,11 +111,25 @@ module _ (W : WordsOfBytes) where
     sections = tt;
   }
   sound settings g E p bytes (Data i quality payload) rate facts r =
-      let tag : i < 4294967296 * settings.output.rate = instant_below r.reads.fields.soc r.reads.fields.frac r.pmu.time_base settings.output.rate i (omega (arith, r.reads.of_stream.frame.fits.soc)) r.reads.tag in
+      let tag : i < 4294967296 * settings.output.rate = data_has_tag (stream_of settings r.pmu) bytes i quality payload r.reads in
       record {
         stream = facts.stream;
-        taken = of_section g E p i quality payload (section_in_force g E p) facts.here (subst (λ n. i < 4294967296 * n) (sym rate) tag)
-            (subst AreBytes r.reads.same_payload r.reads.of_stream.frame.fits.bytes) refl;
+        taken = λ h.
+            let k = node_gives g E p i quality payload (section_in_force g E p) refl h in
+            let fits : AreWords (words_in payload) = W.fit payload (data_is_bytes (stream_of settings r.pmu) bytes i quality payload r.reads) in
+            in_time_of g E p i quality payload (node_cells p quality payload k.section) (node_answer g E p (Data i quality payload)) k.is h
+            (subst (λ n. i < 4294967296 * n) (sym rate) tag) (own_column g p (cell_under k.section quality (words_in payload)) facts.here) (
+              record {
+                section = k.section;
+                in_force = k.in_force;
+                shape = refl;
+                count = W.count payload
+                    (word_count_of k.section.shape) k.size;
+                fits = fits;
+              },
+              tt,
+            )
+            (λ lane. (refl, tt));
         columns = record { rise = tt; exist = tt };
         sections = tt;
       }
@@ -153,17 +143,10 @@ module _ (W : WordsOfBytes) where
   sound settings g E p bytes (Layout None (a ∷ b ∷ more)) rate facts r = absurd r.reads
   sound settings g E p bytes (Layout (Some stamp) sections) rate facts r = absurd r.reads
 
-  are_sound : (settings : Settings) (g : Given) (E : List Entry) → IsGivenBy settings g → IsLife node_answer (ReadsFor settings) g E → AreSound g E
-  are_sound settings g [] given life = tt
-  are_sound settings g (Arrive p bytes arrival answer ∷ E) given life = (
-    subst (λ (a : Answer). IsSound g E p arrival a) (sym life.1) (sound settings g E p bytes arrival (ap (λ (h : Given). h.output.rate) given) (facts_of settings g p bytes arrival given life.0) life.0),
-    are_sound settings g E given life.2,
-  )
-  are_sound settings g (Tick now counts answer ∷ E) given life = are_sound settings g E given life.1
-  are_sound settings g (Pop row ∷ E) given life = are_sound settings g E given life.1
-
   pub node_lives_are_runs : NodeLivesAreRuns
   node_lives_are_runs settings g E life = record {
     ticked = lives_are_ticked node_answer (ReadsFor settings) g E life.life;
-    sound = are_sound settings g E life.given life.life;
+    sound = lives_are_sound node_answer (ReadsFor settings) g
+        (λ F p bytes arrival before known r. sound settings g F p bytes arrival (ap (λ (h : Given). h.output.rate) life.given)
+        (facts_of settings g p bytes arrival life.given r) r) E life.life;
   }

@@ -1,15 +1,6 @@
 -- Two answers to one step cannot both hold, so steps have one life.
-use Rattle.std.proofs.Common.{◌≡◌, ℕ, List, [], ◌∷◌, ◌++◌, length, refl, sym, ap, subst, ◌∙◌, arith, length-append}
-use Rattle.std.proofs.lemmas.Option.{same_Some}
-use Rattle.pdc_life.specs.declared.given.Settings.{Settings}
-use Rattle.pdc_life.specs.declared.pmu.Pmu.{Pmu}
-use Rattle.pdc_life.specs.Answer.{IsLife, Rules, Step, step_of, steps_of, tick_answer}
-use Rattle.pdc_life.specs.Arrival.{Arrival}
-use Rattle.pdc_life.specs.Given.{Given}
-use Rattle.pdc_life.specs.Life.{Answer, Entry, Arrive, Tick, Pop}
-use Rattle.pdc_life.specs.Node.{ReadsFor}
-use Rattle.pdc_life.specs.NodeReading.{Reads}
-use Rattle.pdc_life.specs.OneLife.{NodeReadsOnce}
+use Rattle.pdc_life.proofs.Names.{[], ◌++◌, ◌∙◌, ◌∷◌, ◌≡◌, Answer, ap, arith, Arrival, Arrive, Entry, Given, IsLife, length, length-append, List, NodeReadsOnce, Pmu, Pop, Reads, ReadsFor, refl, Rules, same_Some, Settings, Step, step_of, steps_of, subst, sym, Tick, tick_answer, ℕ}
+use Rattle.pdc_life.proofs.Steps.{life_before}
 
 -- what arrives for a stream of the settings says one thing
 pub for_streams : NodeReadsOnce → (settings : Settings) (p : ℕ) (bytes : List ℕ) (a b : Arrival) → ReadsFor settings p bytes a → ReadsFor settings p bytes b → a ≡ b
@@ -29,12 +20,6 @@ module _ (rules : Rules) (Says : ℕ → List ℕ → Arrival → Type 0) (once 
       subst (λ (n : ℕ). IsLife rules Says g (Arrive n others r a ∷ E)) number (subst (λ (t : List ℕ). IsLife rules Says g (Arrive p t r a ∷ E)) same h) in
       let one : (r ≡ s) × (a ≡ b) = answers_are_one g E q others r s a b moved k in
       λ i. Arrive (number i) (same i) (one.0 i) (one.1 i)
-
-  -- a life without its last step is a life
-  before : (g : Given) (E : List Entry) (e : Entry) → IsLife rules Says g (e ∷ E) → IsLife rules Says g E
-  before g E (Arrive p bytes arrival answer) h = h.2
-  before g E (Tick now counts answer) h = h.1
-  before g E (Pop row) h = h.1
 
   same_entry : (g : Given) (E : List Entry) (d e : Entry) → step_of d ≡ step_of e → IsLife rules Says g (d ∷ E) → IsLife rules Says g (e ∷ E) → d ≡ e
   same_entry g E (Arrive p bytes r a) (Arrive q others s b) same h k =
@@ -71,6 +56,6 @@ module _ (rules : Rules) (Says : ℕ → List ℕ → Arrival → Type 0) (once 
   same_lives g (d ∷ E) [] same h k = absurd (omega (arith, ap length same, length-append (steps_of E) (step_of d ∷ [])))
   same_lives g (d ∷ E) (e ∷ F) same h k =
       let parts = same_last (steps_of E) (steps_of F) (step_of d) (step_of e) same in
-      let earlier : E ≡ F = same_lives g E F parts.0 (before g E d h) (before g F e k) in
+      let earlier : E ≡ F = same_lives g E F parts.0 (life_before rules Says g d E h) (life_before rules Says g e F k) in
       let last : d ≡ e = same_entry g F d e parts.1 (subst (λ (D : List Entry). IsLife rules Says g (d ∷ D)) earlier h) k in
       λ i. last i ∷ earlier i

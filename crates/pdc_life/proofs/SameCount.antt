@@ -1,23 +1,8 @@
 -- At the merger a section of a held layout with the count in force is the one in force.
-use Rattle.std.proofs.Common.{◌≡◌, ℕ, zero, suc, ◌+◌, ◌<◌, ◌≤◌, Bool, true, false, ◌&&◌, ◌||◌, List, [], ◌∷◌, ◌++◌, cond, ltb, leb, eqb, not, filter, length, map, refl, sym, ap, ◌∙◌, subst, arith, rules, Option, Some, None, inl, inr}
-use Rattle.std.specs.Prelude.{nat_eq, slice_index_or}
-use Rattle.std.specs.Cmp.Lexicographic.{pointwise, same_text}
-use Rattle.std.specs.List.{AllByRecursion, Contains, flat_map}
-use Rattle.std.proofs.lemmas.Bool.{cases_lt, false≢true, or_parts}
-use Rattle.pdc_output.specs.pdc_cfg.Section.{SectionFields}
-use Rattle.pdc_output.specs.pdc_row.Rising.{Rises}
-use Rattle.pdc_life.specs.declared.merging.MergerSettings.{MergerSettings}
-use Rattle.pdc_life.specs.declared.outcome.Outcome.TheVariants.{Candidate, Known, Refused}
-use Rattle.pdc_life.specs.declared.outcome.Refusal.TheVariants.{CountConflict, OldStamp}
-use Rattle.pdc_life.specs.Answer.{IsLife}
-use Rattle.pdc_life.specs.Arrival.{BytesRefused, Data, Layout, Stamp}
-use Rattle.pdc_life.specs.Given.{Given, count_for}
-use Rattle.pdc_life.specs.Life.{Answer, Entry, Arrive, Tick, Pop, first_greatest, greater, held_section, is_adoption_of, is_candidate, is_of_column, section_in_force, sections_at}
-use Rattle.pdc_life.specs.Merger.{HeldLayout, differs_from, has_count_conflict, held_layout, is_older, layout_answer, merged_answer}
-use Rattle.pdc_life.specs.MergerReading.{ReadsForMerger}
-use Rattle.pdc_life.specs.MergerLaws.{SameCountSameSection}
+use Rattle.pdc_life.proofs.Names.{[], ◌&&◌, ◌++◌, ◌+◌, ◌<◌, ◌||◌, ◌∙◌, ◌∷◌, ◌≡◌, ◌≤◌, AllByRecursion, Answer, ap, arith, Arrive, Bool, BytesRefused, Candidate, cases_lt, cond, cond_both, count_for, CountConflict, Data, differs_from, Entry, eqb, false, false≢true, filter, first_greatest, flat_map, Given, greater, has_count_conflict, held_layout, held_section, HeldLayout, inl, inr, is_adoption_of, is_candidate, is_of_column, is_older, IsLife, Known, Layout, layout_answer, leb, List, ltb, map, merged_answer, MergerSettings, nat_eq, None, not, OldStamp, Option, or_parts, pointwise, Pop, ReadsForMerger, refl, Refused, Rises, rules, same_text, SameCountSameSection, section_in_force, SectionFields, sections_at, Some, Stamp, subst, sym, Tick, true, ℕ}
 use Rattle.pdc_life.proofs.InForce.{in_force_is_cleared}
 use Rattle.pdc_life.proofs.LifeLaws.{lives_are_ticked}
+use Rattle.pdc_life.proofs.Lists.{both, each, May, may_each, not_same, of_each, same_self}
 
 -- a section is not above what is held, and one of the same count has the same bytes
 abbrev Below : Option SectionFields → SectionFields → Type 0
@@ -56,10 +41,6 @@ Good g E part = count_for part.0 g.counts ≤ part.1.count → Keeps (held_secti
 abbrev pub AreGood : Given → List Entry → List (ℕ × SectionFields) → Type 0
 AreGood g E parts = AllByRecursion (Good g E) parts
 
-abbrev MayGood : Given → List Entry → Option HeldLayout → Type 0
-MayGood g E None = Unit {0}
-MayGood g E (Some layout) = AreGood g E layout.sections
-
 either_same : (b : Bool) (held f : Option SectionFields) (t : SectionFields) → SameAs held t → SameAs f t → SameAs (cond b held f) t
 either_same true held f t h k = h
 either_same false held f t h k = k
@@ -72,24 +53,13 @@ good_after g E e part h low =
       either_same (is_adoption_of part.0 e) (held_section g E part.0) (section_in_force g E part.0) part.1 k.0.1 k.1,
     )
 
-all_after : (g : Given) (E : List Entry) (e : Entry) (parts : List (ℕ × SectionFields)) → AreGood g E parts → AreGood g (e ∷ E) parts
-all_after g E e [] a = tt
-all_after g E e (part ∷ parts) a = (good_after g E e part a.0, all_after g E e parts a.1)
-
-may_after : (g : Given) (E : List Entry) (e : Entry) (o : Option HeldLayout) → MayGood g E o → MayGood g (e ∷ E) o
-may_after g E e None h = tt
-may_after g E e (Some layout) h = all_after g E e layout.sections h
-
 -- ---- a new layout
 
 abbrev of_column : ℕ → List (ℕ × SectionFields) → List SectionFields
 of_column c parts = map (λ (part : ℕ × SectionFields). part.1) (filter (is_of_column c) parts)
 
-not_same : (m n : ℕ) → n < m → eqb m n ≡ false
-not_same m n h = search rules
-
-same_self : (n : ℕ) → eqb n n ≡ true
-same_self n = search rules
+not_below : (m n : ℕ) → n < m → eqb m n ≡ false
+not_below m n h = search rules
 
 abbrev columns_above : List (ℕ × SectionFields) → List ℕ
 columns_above parts = map (λ (part : ℕ × SectionFields). part.0 + 1) parts
@@ -98,7 +68,7 @@ columns_above parts = map (λ (part : ℕ × SectionFields). part.0 + 1) parts
 none_of : (c n : ℕ) (parts : List (ℕ × SectionFields)) → c + 1 ≤ n → Rises n (columns_above parts) → filter (is_of_column c) parts ≡ []
 none_of c n [] h r = refl
 none_of c n (part ∷ parts) h r =
-    let e : eqb part.0 c ≡ false = not_same part.0 c (omega (arith, h, r.0)) in
+    let e : eqb part.0 c ≡ false = not_below part.0 c (omega (arith, h, r.0)) in
     rw e (none_of c (part.0 + 1) parts (omega (arith, h, r.0)) r.1)
 
 -- each stands alone in its column
@@ -112,13 +82,10 @@ are_higher : (low n : ℕ) (parts : List (ℕ × SectionFields)) → low ≤ n �
 are_higher low n [] h r = tt
 are_higher low n (part ∷ parts) h r = (omega (arith, h, r.0), are_higher low (part.0 + 1) parts (omega (arith, h, r.0)) r.1)
 
-not_at : (m n : ℕ) → m < n → eqb m n ≡ false
-not_at m n h = search rules
-
 alone_behind : (first : ℕ × SectionFields) (all parts : List (ℕ × SectionFields)) → higher (first.0 + 1) parts → AllByRecursion (Alone all) parts → AllByRecursion (Alone (first ∷ all)) parts
 alone_behind first all [] h a = tt
 alone_behind first all (part ∷ parts) h a = (
-  (let e : eqb first.0 part.0 ≡ false = not_at first.0 part.0 (omega (arith, h.0)) in rw e a.0),
+  (let e : eqb first.0 part.0 ≡ false = not_same first.0 part.0 (omega (arith, h.0)) in rw e a.0),
   alone_behind first all parts h.1 a.1,
 )
 
@@ -182,40 +149,43 @@ new_good g E r bytes stamp all (part ∷ parts) answer accepted alone none =
 
 -- ---- every life
 
-after_layout : (g : Given) (E : List Entry) (e : Entry) (mine accepted : Bool) (new : HeldLayout) (o : Option HeldLayout) → (accepted ≡ true → AreGood g (e ∷ E) new.sections) → MayGood g (e ∷ E) o
-    → MayGood g (e ∷ E) (cond (mine && accepted) (Some new) o)
-after_layout g E e true true new o h k = h refl
-after_layout g E e true false new o h k = k
-after_layout g E e false accepted new o h k = k
+-- what a new layout has, and each step keeps, a held layout has
+pub of_held_layout : (settings : MergerSettings) (g : Given) (P : List Entry → HeldLayout → Type 0)
+    → ((E : List Entry) (e : Entry) (h : HeldLayout) → P E h → P (e ∷ E) h)
+    → ((E : List Entry) (r : ℕ) (bytes : List ℕ) (stamp : Stamp) (parts : List (ℕ × SectionFields)) (answer : Answer)
+    → ReadsForMerger settings r bytes (Layout (Some stamp) parts)
+    → answer ≡ merged_answer g E r (Layout (Some stamp) parts) → is_candidate answer.outcome ≡ true
+    → P (Arrive r bytes (Layout (Some stamp) parts) answer ∷ E) (record { stamp = stamp; sections = parts }))
+    → (E : List Entry) (s : ℕ) → IsLife merged_answer (ReadsForMerger settings) g E → May (P E) (held_layout E s)
+of_held_layout settings g P keeps new [] s life = tt
+of_held_layout settings g P keeps new (Arrive r bytes (Layout (Some stamp) parts) answer ∷ E) s life =
+    let e : Entry = Arrive r bytes (Layout (Some stamp) parts) answer in
+    cond_both ((eqb r s) && is_candidate answer.outcome) (Some (record { stamp = stamp; sections = parts })) (held_layout E s) (May (P (e ∷ E)))
+    (λ here. new E r bytes stamp parts answer life.0 life.1 (both (eqb r s) (is_candidate answer.outcome) here).1)
+    (λ other. may_each (P E) (P (e ∷ E)) (held_layout E s) (keeps E e) (of_held_layout settings g P keeps new E s life.2))
+of_held_layout settings g P keeps new (Arrive r bytes (Layout None parts) answer ∷ E) s life = absurd life.0.reads
+of_held_layout settings g P keeps new (Arrive r bytes (BytesRefused refusal) answer ∷ E) s life =
+    may_each (P E) (P (Arrive r bytes (BytesRefused refusal) answer ∷ E)) (held_layout E s) (keeps E (Arrive r bytes (BytesRefused refusal) answer))
+    (of_held_layout settings g P keeps new E s life.2)
+of_held_layout settings g P keeps new (Arrive r bytes (Data i quality payload) answer ∷ E) s life =
+    may_each (P E) (P (Arrive r bytes (Data i quality payload) answer ∷ E)) (held_layout E s) (keeps E (Arrive r bytes (Data i quality payload) answer))
+    (of_held_layout settings g P keeps new E s life.2)
+of_held_layout settings g P keeps new (Tick now counts answer ∷ E) s life =
+    may_each (P E) (P (Tick now counts answer ∷ E)) (held_layout E s) (keeps E (Tick now counts answer)) (of_held_layout settings g P keeps new E s life.1)
+of_held_layout settings g P keeps new (Pop row ∷ E) s life =
+    may_each (P E) (P (Pop row ∷ E)) (held_layout E s) (keeps E (Pop row)) (of_held_layout settings g P keeps new E s life.1)
 
-pub held_are_good : (settings : MergerSettings) (g : Given) (E : List Entry) (s : ℕ) → IsLife merged_answer (ReadsForMerger settings) g E → MayGood g E (held_layout E s)
-held_are_good settings g [] s life = tt
-held_are_good settings g (Arrive r bytes (Layout (Some stamp) sections) answer ∷ E) s life =
-    after_layout g E (Arrive r bytes (Layout (Some stamp) sections) answer) (eqb r s) (is_candidate answer.outcome) (record { stamp = stamp; sections = sections }) (held_layout E s)
-    (λ accepted. new_good g E r bytes stamp sections sections answer accepted (each_alone 0 sections life.0.reads.of_table.rise)
-    (accepted_has_none (held_layout E r) stamp (has_count_conflict g E sections) (sym (ap (λ (a : Answer). is_candidate a.outcome) life.1) ∙ accepted)))
-    (may_after g E (Arrive r bytes (Layout (Some stamp) sections) answer) (held_layout E s) (held_are_good settings g E s life.2))
-held_are_good settings g (Arrive r bytes (Layout None sections) answer ∷ E) s life = absurd life.0.reads
-held_are_good settings g (Arrive r bytes (BytesRefused refusal) answer ∷ E) s life =
-    may_after g E (Arrive r bytes (BytesRefused refusal) answer) (held_layout E s) (held_are_good settings g E s life.2)
-held_are_good settings g (Arrive r bytes (Data i quality payload) answer ∷ E) s life =
-    may_after g E (Arrive r bytes (Data i quality payload) answer) (held_layout E s) (held_are_good settings g E s life.2)
-held_are_good settings g (Tick now counts answer ∷ E) s life =
-    may_after g E (Tick now counts answer) (held_layout E s) (held_are_good settings g E s life.1)
-held_are_good settings g (Pop row ∷ E) s life = may_after g E (Pop row) (held_layout E s) (held_are_good settings g E s life.1)
-
--- what holds of all holds of each
-at_place : {A : Type 0} (P : A → Type 0) (xs : List A) (x : A) (k : ℕ) → k < length xs → slice_index_or xs k x ≡ x → AllByRecursion P xs → P x
-at_place P [] x k l e a = absurd (omega (arith, l))
-at_place P (y ∷ xs) x zero l e a = subst P e a.0
-at_place P (y ∷ xs) x (suc k) l e a = at_place P xs x k (omega (arith, l)) e a.1
-
-pub of_each : {A : Type 0} (P : A → Type 0) (xs : List A) (x : A) → AllByRecursion P xs → Contains xs x → P x
-of_each P xs x a k = at_place P xs x k.0 k.1 k.2 a
+-- each section of a held layout is good
+held_are_good : (settings : MergerSettings) (g : Given) (E : List Entry) (s : ℕ) → IsLife merged_answer (ReadsForMerger settings) g E
+    → May (λ (h : HeldLayout). AreGood g E h.sections) (held_layout E s)
+held_are_good settings g E s life =
+    of_held_layout settings g (λ F h. AreGood g F h.sections) (λ F e h k. each (Good g F) (Good g (e ∷ F)) h.sections (good_after g F e) k)
+    (λ F r bytes stamp parts answer reads is accepted. new_good g F r bytes stamp parts parts answer accepted (each_alone 0 parts reads.reads.of_table.rise)
+    (accepted_has_none (held_layout F r) stamp (has_count_conflict g F parts) (sym (ap (λ (a : Answer). is_candidate a.outcome) is) ∙ accepted))) E s life
 
 pub same_count_same_section : SameCountSameSection
 same_count_same_section settings g E s c layout t u life held among in_force same =
-    let good : AreGood g E layout.sections = subst (MayGood g E) held (held_are_good settings g E s life.life) in
+    let good : AreGood g E layout.sections = subst (May (λ (h : HeldLayout). AreGood g E h.sections)) held (held_are_good settings g E s life.life) in
     let one : Good g E (c, t) = of_each (Good g E) layout.sections (c, t) good among in
     let cleared = in_force_is_cleared g E c u (lives_are_ticked merged_answer (ReadsForMerger settings) g E life.life) in_force in
     let k = one (omega (arith, cleared.0, same)) in

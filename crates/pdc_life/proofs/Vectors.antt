@@ -1,11 +1,6 @@
 -- The PMUs, sections and outputs of the worked lives, whose frames stand in the definitions.
-use Rattle.std.specs.Prelude.{ℕ, ◌<◌, ◌≤◌, List, false}
-use Rattle.std.proofs.Common.{arith}
-use Rattle.pdc_output.specs.pdc_cfg.declared.shape.Shape.{Shape}
-use Rattle.pdc_output.specs.pdc_cfg.Section.{SectionFields}
+use Rattle.pdc_life.proofs.Names.{◌<◌, ◌≤◌, arith, false, Hz50, List, Pmu, SectionFields, Shape, ℕ}
 use Rattle.pdc_output.specs.declared.output.Output.{Output}
-use Rattle.pdc_output.specs.declared.output.Nominal.TheVariants.{Hz50}
-use Rattle.pdc_life.specs.declared.pmu.Pmu.{Pmu}
 use Rattle.pdc_life.specs.Vectors.{section_12, section_13}
 
 abbrev pub one_phasor : Shape

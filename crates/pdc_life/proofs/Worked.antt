@@ -1,22 +1,6 @@
 -- Lives of a node worked out by computing the definitions. What arrives is given as read; where only the answer matters, the
 -- bytes beside it stand for any that say so.
-use Rattle.std.specs.Prelude.{◌≡◌, ℕ, ◌+◌, List, [], ◌∷◌, length, map, replicate, None, refl}
-use Rattle.std.proofs.Common.{arith}
-use Rattle.pdc_output.specs.pdc_frame.CheckWord.{check_word_of}
-use Rattle.pdc_output.specs.pdc_tag.Nearest.{nearest_of}
-use Rattle.pdc_output.specs.pdc_tag.Tag.{tag_of}
-use Rattle.pdc_output.specs.pdc_row.RowView.{RowView}
-use Rattle.pdc_life.specs.declared.timing.WaitKind.{WaitKind}
-use Rattle.pdc_life.specs.declared.timing.WaitKind.TheVariants.{Relative, Absolute}
-use Rattle.pdc_life.specs.declared.outcome.Outcome.{Outcome}
-use Rattle.pdc_life.specs.declared.outcome.Outcome.TheVariants.{Taken, Candidate, Known, Refused}
-use Rattle.pdc_life.specs.declared.outcome.Refusal.TheVariants.{StaleCount, CountConflict, Ahead, OutOfWindow, Duplicate, Conflict}
-use Rattle.pdc_life.specs.Given.{Given}
-use Rattle.pdc_life.specs.Arrival.{Data, Layout}
-use Rattle.pdc_life.specs.Life.{Entry, Arrive, Tick, changes, open_instants, popped}
-use Rattle.pdc_life.specs.Answer.{ReadStep, ToArrive, ToTick, ToPop, life_from, waiting_counts}
-use Rattle.pdc_life.specs.Published.{layout_wire, published}
-use Rattle.pdc_life.specs.Node.{node_answer}
+use Rattle.pdc_life.proofs.Names.{[], ◌+◌, ◌∷◌, ◌≡◌, Absolute, Ahead, arith, Arrive, Candidate, changes, check_word_of, Conflict, CountConflict, Data, Duplicate, Entry, Given, Known, Layout, layout_wire, length, life_from, List, map, nearest_of, node_answer, None, open_instants, Outcome, OutOfWindow, popped, published, ReadStep, refl, Refused, Relative, replicate, RowView, StaleCount, tag_of, Taken, Tick, ToArrive, ToPop, ToTick, waiting_counts, WaitKind, ℕ}
 use Rattle.pdc_life.specs.Vectors.{body_3, body_4, body_absent, body_other, e1, e2, e3, e4, o1, o2, section_11, section_11_other, section_11_two}
 use Rattle.pdc_life.proofs.Vectors.{fields_11, fields_12, output}
 

@@ -1,25 +1,6 @@
 -- Lives of the merger worked out by computing the definitions. What arrives is given as read; the bytes beside it stand for any
 -- that say so.
-use Rattle.std.specs.Prelude.{◌≡◌, ℕ, ◌+◌, List, [], ◌∷◌, ◌++◌, length, map, replicate, Some, refl}
-use Rattle.std.proofs.Common.{arith}
-use Rattle.pdc_output.specs.pdc_block.Block.{bytes_of_words, words_in}
-use Rattle.pdc_output.specs.pdc_cfg.Section.{SectionFields}
-use Rattle.pdc_output.specs.pdc_frame.CheckWord.{check_word_of}
-use Rattle.pdc_output.specs.pdc_tag.Nearest.{nearest_of}
-use Rattle.pdc_output.specs.pdc_tag.Tag.{tag_of}
-use Rattle.pdc_output.specs.pdc_row.CellView.{BlockView}
-use Rattle.pdc_output.specs.pdc_row.RowView.{RowView}
-use Rattle.pdc_life.specs.declared.timing.WaitKind.{WaitKind}
-use Rattle.pdc_life.specs.declared.timing.WaitKind.TheVariants.{Relative, Absolute}
-use Rattle.pdc_life.specs.declared.outcome.Outcome.TheVariants.{Taken, Candidate, Known, Refused}
-use Rattle.pdc_life.specs.declared.outcome.Refusal.TheVariants.{CountConflict, NoConfig, OldStamp, OtherStamp, WrongLength, Duplicate, Conflict}
-use Rattle.pdc_life.specs.Given.{Given}
-use Rattle.pdc_life.specs.Arrival.{Data, Layout}
-use Rattle.pdc_life.specs.Life.{Entry, popped}
-use Rattle.pdc_life.specs.Answer.{ReadStep, ToArrive, ToPop, ToTick, life_from, waiting_counts}
-use Rattle.pdc_output.specs.Layout.{own_block}
-use Rattle.pdc_life.specs.Published.{published}
-use Rattle.pdc_life.specs.Merger.{merged_answer}
+use Rattle.pdc_life.proofs.Names.{[], ◌++◌, ◌+◌, ◌∷◌, ◌≡◌, Absolute, arith, BlockView, bytes_of_words, Candidate, check_word_of, Conflict, CountConflict, Data, Duplicate, Entry, Given, Known, Layout, length, life_from, List, map, merged_answer, nearest_of, NoConfig, OldStamp, OtherStamp, own_block, popped, published, ReadStep, refl, Refused, Relative, replicate, RowView, SectionFields, Some, tag_of, Taken, ToArrive, ToPop, ToTick, waiting_counts, WaitKind, words_in, WrongLength, ℕ}
 use Rattle.pdc_life.specs.Vectors.{body_3, body_4, body_absent, body_other, e1, e3, o3, section_11, section_11_two}
 use Rattle.pdc_life.proofs.Vectors.{fields_11, fields_12, output}
 use Rattle.pdc_life.proofs.Worked.{adoptions, answers, tick_at, zeros}

@@ -1,16 +1,5 @@
 -- More lives of a node worked out by computing the definitions: rows in their order, and a PMU that comes later.
-use Rattle.std.specs.Prelude.{◌≡◌, ℕ, List, [], ◌∷◌, map, None, refl}
-use Rattle.pdc_output.specs.pdc_block.Block.{words_in}
-use Rattle.pdc_output.specs.pdc_row.CellView.{BlockView}
-use Rattle.pdc_output.specs.pdc_row.RowView.{RowView}
-use Rattle.std.proofs.Common.{arith}
-use Rattle.pdc_life.specs.declared.timing.WaitKind.TheVariants.{Relative}
-use Rattle.pdc_life.specs.declared.outcome.Outcome.TheVariants.{Taken, Candidate, Refused}
-use Rattle.pdc_life.specs.declared.outcome.Refusal.TheVariants.{Late, NoConfig}
-use Rattle.pdc_life.specs.Given.{Given}
-use Rattle.pdc_life.specs.Arrival.{Layout}
-use Rattle.pdc_life.specs.Life.{Entry, popped}
-use Rattle.pdc_life.specs.Answer.{ReadStep, ToArrive, ToPop}
+use Rattle.pdc_life.proofs.Names.{[], ◌∷◌, ◌≡◌, arith, BlockView, Candidate, Entry, Given, Late, Layout, List, map, NoConfig, None, popped, ReadStep, refl, Refused, Relative, RowView, Taken, ToArrive, ToPop, words_in, ℕ}
 use Rattle.pdc_life.specs.Vectors.{body_3, body_4, body_absent, e13, section_11}
 use Rattle.pdc_life.proofs.Vectors.{fields_13, output}
 use Rattle.pdc_life.proofs.Worked.{after, answers, begun, data_of, instants, layout_11, layout_12, tick_at, wide, zeros}

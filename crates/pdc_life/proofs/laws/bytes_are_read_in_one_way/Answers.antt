@@ -1,4 +1,5 @@
-use Rattle.pdc_life.proofs.OneReading.{ReadOnce, one_reading}
+use Rattle.pdc_life.proofs.OneReading.{one_reading}
+use Rattle.pdc_life.proofs.Stages.{ReadOnce}
 use Rattle.pdc_life.proofs.laws.bytes_are_read_in_one_way.Goals as goal
 
 pub returns : goal.returns
@@ -12,4 +13,4 @@ returns c settings p pmu bytes a b h k =
       no_payload_fault = c.configurations_are_read_in_one_way.ensures.apart;
       instants = c.instant_is_nearest.ensures.computed;
     } in
-    one_reading laws p settings pmu bytes a b h k
+    one_reading laws settings p pmu bytes a b h k

@@ -1,13 +1,11 @@
-use Rattle.std.proofs.Common.{sym, ◌∙◌}
-use Rattle.pdc_life.specs.Merger.{merged_answer}
-use Rattle.pdc_life.specs.MergerReading.{ReadsForMerger}
+use Rattle.pdc_life.proofs.Names.{merged_answer, ReadsForMerger, sym, ◌∙◌}
 use Rattle.pdc_life.proofs.MergerReads.{for_nodes, merger_reads_once}
 use Rattle.pdc_life.proofs.OneLife.{answers_are_one, same_lives}
-use Rattle.pdc_life.proofs.OneReading.{ReadOnce}
+use Rattle.pdc_life.proofs.Stages.{ReadOnce}
 use Rattle.pdc_life.proofs.laws.merger_steps_have_one_life.Goals as goal
 
-pub returns-clause-bytes : goal.returns-clause-bytes
-returns-clause-bytes c settings node bytes a b h k =
+pub returns : goal.returns
+returns c =
     let laws : ReadOnce = record {
       same_frame = c.frames_are_read_in_one_way.ensures.same;
       one_fault = c.frames_are_read_in_one_way.ensures.fault;
@@ -17,30 +15,12 @@ returns-clause-bytes c settings node bytes a b h k =
       no_payload_fault = c.configurations_are_read_in_one_way.ensures.apart;
       instants = c.instant_is_nearest.ensures.computed;
     } in
-    merger_reads_once laws c.own_sections_tell_stamps.ensures settings node bytes a b h k
-
-pub returns-clause-answers : goal.returns-clause-answers
-returns-clause-answers c settings g E s bytes r t a b h k =
-    let laws : ReadOnce = record {
-      same_frame = c.frames_are_read_in_one_way.ensures.same;
-      one_fault = c.frames_are_read_in_one_way.ensures.fault;
-      no_frame_fault = c.frames_are_read_in_one_way.ensures.apart;
-      same_config = c.configurations_are_read_in_one_way.ensures.same;
-      one_payload_fault = c.configurations_are_read_in_one_way.ensures.fault;
-      no_payload_fault = c.configurations_are_read_in_one_way.ensures.apart;
-      instants = c.instant_is_nearest.ensures.computed;
-    } in
-    answers_are_one merged_answer (ReadsForMerger settings) (for_nodes laws c.own_sections_tell_stamps.ensures settings) g E s bytes r t a b h.life k.life
-
-pub returns-clause-lives : goal.returns-clause-lives
-returns-clause-lives c settings g steps E F h k =
-    let laws : ReadOnce = record {
-      same_frame = c.frames_are_read_in_one_way.ensures.same;
-      one_fault = c.frames_are_read_in_one_way.ensures.fault;
-      no_frame_fault = c.frames_are_read_in_one_way.ensures.apart;
-      same_config = c.configurations_are_read_in_one_way.ensures.same;
-      one_payload_fault = c.configurations_are_read_in_one_way.ensures.fault;
-      no_payload_fault = c.configurations_are_read_in_one_way.ensures.apart;
-      instants = c.instant_is_nearest.ensures.computed;
-    } in
-    same_lives merged_answer (ReadsForMerger settings) (for_nodes laws c.own_sections_tell_stamps.ensures settings) g E F (h.same_steps ∙ sym k.same_steps) h.life k.life
+    record {
+      bytes = λ settings node bytes a b h k. merger_reads_once laws c.own_sections_tell_stamps.ensures settings node bytes a b h k;
+      answers =
+          λ settings g E s bytes r t a b h k. answers_are_one merged_answer (ReadsForMerger settings)
+          (for_nodes laws c.own_sections_tell_stamps.ensures settings) g E s bytes r t a b h.life k.life;
+      lives =
+          λ settings g steps E F h k. same_lives merged_answer (ReadsForMerger settings) (for_nodes laws c.own_sections_tell_stamps.ensures settings) g E F
+          (h.same_steps ∙ sym k.same_steps) h.life k.life;
+    }
