@@ -1,6 +1,7 @@
 -- What closes at a tick.
-use Rattle.pdc_life.proofs.Names.{[], ◌||◌, ◌∷◌, ◌≡◌, ◌≤◌, AllByRecursion, ap, arith, Arrive, Bool, closed, closing, Contains, Entry, false, false≢true, Given, is_due, IsRowOfTick, List, list_all, map, nat_le, NoneOvertakes, not, open_instants, Pop, refl, row_of, RowsAreOfTheirTicks, RowView, rules, subst, suc, sym, Tick, TickAnswer, true, ℕ}
+use Rattle.pdc_life.proofs.Names.{[], ◌||◌, ◌∷◌, ◌≡◌, ◌≤◌, AllByRecursion, ap, arith, Bool, closed, closing, Contains, Entry, false, false≢true, Given, is_due, IsRowOfTick, List, list_all, map, nat_le, NoneOvertakes, not, open_instants, refl, row_of, RowsAreOfTheirTicks, RowView, rules, subst, suc, sym, Tick, TickAnswer, true, ℕ}
 use Rattle.pdc_life.proofs.Lists.{appended, both, by_each, each, filtered}
+use Rattle.pdc_life.proofs.Steps.{ticked_before}
 
 or_second : (a b : Bool) → (not a || b) ≡ true → a ≡ true → b ≡ true
 or_second true b h k = h
@@ -67,5 +68,4 @@ rows_are_of_their_ticks g (Tick now counts answer ∷ E) run =
     (let e : answer.rows ≡ map (row_of g E) (closing g E now) = ap (λ (a : TickAnswer). a.rows) run.0 in
     subst (λ (rows : List RowView). AllByRecursion (IsRowOfTick g (Tick now counts answer ∷ E)) rows) (sym e)
     (at_tick g E now counts answer (closing g E now) (λ r c. subst (λ (rows : List RowView). Contains rows r) (sym e) c) (λ i c. c)))
-rows_are_of_their_ticks g (Arrive s bytes arrival answer ∷ E) run = rows_before g E (Arrive s bytes arrival answer) (closed E) (rows_are_of_their_ticks g E run)
-rows_are_of_their_ticks g (Pop row ∷ E) run = rows_before g E (Pop row) (closed E) (rows_are_of_their_ticks g E run.1)
+rows_are_of_their_ticks g (e ∷ E) run = rows_before g E e (closed E) (rows_are_of_their_ticks g E (ticked_before g e E run))

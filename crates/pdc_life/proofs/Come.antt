@@ -1,8 +1,8 @@
 -- Sections that are held or in force came, and are whole sections; counts in force never fall.
-use Rattle.pdc_life.proofs.Names.{[], ◌++◌, ◌<◌, ◌∷◌, ◌≡◌, ◌≤◌, AllByRecursion, ap, AreSound, arith, Arrive, cleared_count, cond_both, Contains, count_for, CountsNeverFall, Entry, false≢true, flat_map, Given, HasCome, held_section, HeldHasCome, HeldIsSection, InForceHasCome, InForceIsSection, is_adoption_of, is_ready, IsSection, IsSound, IsTicked, KeepsCount, Layout, leb, List, ltb, max, None, Option, Pop, refl, rules, section_in_force, SectionFields, sections_at, Some, subst, sym, Tick, true, ℕ}
+use Rattle.pdc_life.proofs.Names.{[], ◌++◌, ◌<◌, ◌∷◌, ◌≡◌, ◌≤◌, AllByRecursion, ap, AreSound, arith, cleared_count, cond_both, Contains, count_for, CountsNeverFall, Entry, false≢true, flat_map, Given, HasCome, held_section, HeldHasCome, HeldIsSection, InForceHasCome, InForceIsSection, is_adoption_of, is_ready, IsSection, IsSound, IsTicked, KeepsCount, Layout, leb, List, ltb, max, None, Option, refl, rules, section_in_force, SectionFields, sections_at, Some, subst, sym, Tick, true, ℕ}
 use Rattle.pdc_life.proofs.InForce.{adopted_is_ready, of_held}
 use Rattle.pdc_life.proofs.Lists.{appended, both, each, May, may_each, of_each}
-use Rattle.pdc_life.proofs.Steps.{at_layout, run_before}
+use Rattle.pdc_life.proofs.Steps.{at_layout, run_before, ticked_before}
 
 -- ---- where they came from
 
@@ -103,13 +103,12 @@ ready_above count cleared (Some s) (Some t) h k =
 
 stays_at_least : (g : Given) (E F : List Entry) (c count : ℕ) → IsTicked g (F ++ E) → AtLeast count (section_in_force g E c) → AtLeast count (section_in_force g (F ++ E) c)
 stays_at_least g E [] c count run k = k
-stays_at_least g E (Arrive s bytes arrival answer ∷ F) c count run k = stays_at_least g E F c count run k
-stays_at_least g E (Pop row ∷ F) c count run k = stays_at_least g E F c count run.1 k
 stays_at_least g E (Tick now counts answer ∷ F) c count run k =
     cond_both (is_adoption_of c (Tick now counts answer)) (held_section g (F ++ E) c) (section_in_force g (F ++ E) c) (AtLeast count)
     (λ e. ready_above count (max (cleared_count g (F ++ E) c) (count_for c counts)) (held_section g (F ++ E) c) (section_in_force g (F ++ E) c)
     (adopted_is_ready g (F ++ E) now counts answer c run.0 e) (stays_at_least g E F c count run.1 k))
     (λ e. stays_at_least g E F c count run.1 k)
+stays_at_least g E (e ∷ F) c count run k = stays_at_least g E F c count (ticked_before g e (F ++ E) run) k
 
 keeps : (g : Given) (E : List Entry) (c count : ℕ) (o : Option SectionFields) → section_in_force g E c ≡ o → AtLeast count o → KeepsCount g E c count
 keeps g E c count None e h = absurd h

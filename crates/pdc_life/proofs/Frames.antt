@@ -1,5 +1,5 @@
 -- The frames of a life.
-use Rattle.pdc_life.proofs.Names.{[], ◌*◌, ◌++◌, ◌+◌, ◌-◌, ◌<◌, ◌^◌, ◌∙◌, ◌∷◌, ◌≡◌, ◌≤◌, absent_of, AllByRecursion, ap, AreOfShapes, AreSound, AreWords, arith, Arrive, block_in, block_or_absent, BlockView, Bool, CellView, changes, chosen_of, closed, columns_of, cond, ConfigFields, cons_option, Entry, false, Fields, filter_map, Given, greatest, has_change, IsConfig, IsCut, IsFrame, IsOfSectionInForce, IsRowOfTick, IsRun, IsSection, layout_fields_of, layout_payload_of, layout_wire, LayoutsAreFrames, length, length-append, length-range_with_len, length-replicate, List, ltb, map, max, None, Option, own_block, own_bytes, OwnSectionsTellStamps, Pop, quality_in, quality_of, ready_columns, refl, replicate, row_instants, row_of, row_payload, RowsAreCut, RowsAreFrames, RowView, rules, same_Some, section_in_force, SectionFields, sections_in_force, Shape, Some, subst, suc, sym, Tick, TickAnswer, true, word_count_of, words_of_row, zero, ℕ}
+use Rattle.pdc_life.proofs.Names.{[], ◌*◌, ◌++◌, ◌+◌, ◌-◌, ◌<◌, ◌^◌, ◌∙◌, ◌∷◌, ◌≡◌, ◌≤◌, absent_of, AllByRecursion, ap, AreOfShapes, AreSound, AreWords, arith, block_in, block_or_absent, BlockView, Bool, CellView, changes, chosen_of, closed, columns_of, cond, ConfigFields, cons_option, Entry, false, Fields, filter_map, Given, greatest, has_change, IsConfig, IsCut, IsFrame, IsOfSectionInForce, IsRowOfTick, IsRun, IsSection, layout_fields_of, layout_payload_of, layout_wire, LayoutsAreFrames, length, length-append, length-range_with_len, length-replicate, List, ltb, map, max, None, Option, own_block, own_bytes, OwnSectionsTellStamps, quality_in, quality_of, ready_columns, refl, replicate, row_instants, row_of, row_payload, RowsAreCut, RowsAreFrames, RowView, rules, same_Some, section_in_force, SectionFields, sections_in_force, Shape, Some, subst, suc, sym, Tick, TickAnswer, true, word_count_of, words_of_row, zero, ℕ}
 use Rattle.pdc_life.specs.Frames.{ChangesFit, ClosedRowsAreFrames, IsFramedRow, LayoutsOfLivesAreFrames, LayoutsTellStamps, shapes_in_force}
 use Rattle.pdc_life.proofs.Closing.{rows_are_of_their_ticks}
 use Rattle.pdc_life.proofs.Come.{in_force_whole}
@@ -7,7 +7,7 @@ use Rattle.pdc_life.proofs.Genuine.{chosen_is_given}
 use Rattle.pdc_life.proofs.InForce.{cells_are_of_sections}
 use Rattle.pdc_life.proofs.LifeLaws.{changes_rise_by_one}
 use Rattle.pdc_life.proofs.Lists.{heads, May}
-use Rattle.pdc_life.proofs.Steps.{run_of_tick}
+use Rattle.pdc_life.proofs.Steps.{run_of_tick, ticked_before}
 use Rattle.pdc_life.proofs.Tagged.{closed_low}
 
 -- ---- change numbers
@@ -30,8 +30,7 @@ changes_fit g [] run = omega arith
 changes_fit g (Tick now counts answer ∷ E) run =
     let h = after_tick (changes E) (has_change E) (ready_columns g E counts) answer.adopted refl (ap (λ (a : TickAnswer). a.adopted) run.0) (changes_fit g E run.1) in
     subst (λ n. n < 2 ^ 32) (sym (changes_rise_by_one E (Tick now counts answer))) h
-changes_fit g (Arrive s bytes arrival answer ∷ E) run = changes_fit g E run
-changes_fit g (Pop row ∷ E) run = changes_fit g E run.1
+changes_fit g (e ∷ E) run = changes_fit g E (ticked_before g e E run)
 
 -- ---- words of blocks
 

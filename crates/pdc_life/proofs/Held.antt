@@ -1,6 +1,7 @@
 -- Held is the greatest count that came, with the first section of it.
-use Rattle.pdc_life.proofs.Names.{[], ◌++◌, ◌<◌, ◌∙◌, ◌∷◌, ◌≡◌, ◌≤◌, AllByRecursion, Answer, ap, arith, Arrive, Bool, BytesRefused, came_at, came_for, cases_lt, cond, count_for, Data, Entry, eqb, false, false≢true, filter, first_greatest, flat_map, Given, greater, held_section, HeldIsGreatest, inl, inr, is_candidate, IsFirstGreatest, IsHeld, IsLife, Layout, leb, List, ltb, map, node_answer, NodeHoldsGreatest, None, Option, Pop, ReadsFor, refl, Refused, rules, section_after, section_answer, SectionFields, sections_at, Settings, Some, StaleCount, subst, sym, Tick, true, ℕ}
+use Rattle.pdc_life.proofs.Names.{[], ◌++◌, ◌<◌, ◌∙◌, ◌∷◌, ◌≡◌, ◌≤◌, AllByRecursion, Answer, ap, arith, Arrive, Bool, came_at, came_for, cases_lt, cond, count_for, Entry, eqb, false, false≢true, filter, first_greatest, flat_map, Given, greater, held_section, HeldIsGreatest, inl, inr, is_candidate, IsFirstGreatest, IsHeld, IsLife, Layout, leb, List, ltb, map, node_answer, NodeHoldsGreatest, None, Option, ReadsFor, refl, Refused, rules, section_after, section_answer, SectionFields, sections_at, Settings, Some, StaleCount, subst, sym, true, ℕ}
 use Rattle.pdc_life.proofs.Lists.{same_number}
+use Rattle.pdc_life.proofs.Steps.{life_before}
 
 all_lower : (s t : SectionFields) (newer older : List SectionFields) → s.count < t.count → AllByRecursion (λ (u : SectionFields). u.count ≤ s.count) newer → AllByRecursion (λ (u : SectionFields). u.count < s.count) older → AllByRecursion (λ (u : SectionFields). u.count < t.count) (newer ++ s ∷ older)
 all_lower s t [] [] h a b = (h, tt)
@@ -85,13 +86,8 @@ holds_greatest settings g (Arrive p bytes (Layout None ((d, s) ∷ [])) answer �
     (λ mine. ap (λ (a : Answer). is_candidate a.outcome) life.1
     ∙ ap (λ q. is_candidate (section_answer (count_for q g.counts) (held_section g E q) s)) (sym life.0.reads.0 ∙ same_number d c mine))
     (holds_greatest settings g E c life.2)
-holds_greatest settings g (Arrive p bytes (Layout None []) answer ∷ E) c life = absurd life.0.reads
-holds_greatest settings g (Arrive p bytes (Layout None (a ∷ b ∷ more)) answer ∷ E) c life = absurd life.0.reads
-holds_greatest settings g (Arrive p bytes (Layout (Some stamp) sections) answer ∷ E) c life = absurd life.0.reads
-holds_greatest settings g (Arrive p bytes (BytesRefused refusal) answer ∷ E) c life = holds_greatest settings g E c life.2
-holds_greatest settings g (Arrive p bytes (Data i quality payload) answer ∷ E) c life = holds_greatest settings g E c life.2
-holds_greatest settings g (Tick now counts answer ∷ E) c life = holds_greatest settings g E c life.1
-holds_greatest settings g (Pop row ∷ E) c life = holds_greatest settings g E c life.1
+holds_greatest settings g (Arrive p bytes (Layout stamp sections) answer ∷ E) c life = absurd life.0.reads
+holds_greatest settings g (e ∷ E) c life = holds_greatest settings g E c (life_before node_answer (ReadsFor settings) g e E life)
 
 pub node_holds_greatest : NodeHoldsGreatest
 node_holds_greatest settings g E c life = holds_greatest settings g E c life.life

@@ -1,8 +1,8 @@
 -- Cells are of the sections in force; what is in force is cleared.
-use Rattle.pdc_life.proofs.Names.{[], ◌++◌, ◌==◌, ◌||◌, ◌∙◌, ◌∷◌, ◌≡◌, ◌≤◌, AllByRecursion, ap, AreSound, AreWords, arith, Arrive, Bool, cell_in, CellView, cleared_count, columns_of, cond, cond_both, count_for, Data, Entry, eqb, false≢true, filter, find, first_greatest, flat_map, Given, greater, has_change, held_section, InForceIsCleared, is_adoption_of, is_newer, is_of_column, is_ready, is_take_of, IsOfSectionInForce, IsSound, IsTicked, leb, length, List, list_any, ltb, max, None, none-some, Option, option_map, Pop, ready_columns, refl, same_Some, section_in_force, SectionFields, sections_at, sections_for, Some, subst, sym, Take, take_at, takes_since_adopted, Tick, tick_answer, TickAnswer, true, word_count_of, ℕ}
+use Rattle.pdc_life.proofs.Names.{[], ◌++◌, ◌==◌, ◌||◌, ◌∙◌, ◌∷◌, ◌≡◌, ◌≤◌, AllByRecursion, ap, AreSound, AreWords, arith, Bool, cell_in, CellView, cleared_count, columns_of, cond, cond_both, count_for, Data, Entry, eqb, false≢true, filter, find, first_greatest, flat_map, Given, greater, has_change, held_section, InForceIsCleared, is_adoption_of, is_newer, is_of_column, is_ready, is_take_of, IsOfSectionInForce, IsSound, IsTicked, leb, length, List, list_any, ltb, max, None, none-some, Option, option_map, ready_columns, refl, same_Some, section_in_force, SectionFields, sections_at, sections_for, Some, subst, sym, Take, take_at, takes_since_adopted, Tick, tick_answer, TickAnswer, true, word_count_of, ℕ}
 use Rattle.pdc_life.specs.Cells.{CellsAreOfSections}
 use Rattle.pdc_life.proofs.Lists.{appended, at_most, both, by_cases, by_each, filtered, found, May, may_each, same_number}
-use Rattle.pdc_life.proofs.Steps.{at_take, run_before}
+use Rattle.pdc_life.proofs.Steps.{at_take, run_before, ticked_before}
 
 -- the section is there, and the cell is of it
 abbrev Shaped : Option SectionFields → CellView → Type 0
@@ -94,8 +94,6 @@ adopted_is_ready g E now counts answer c same e =
 
 in_force_between : (g : Given) (E : List Entry) (c : ℕ) → IsTicked g E → May (Between (count_for c g.counts) (cleared_count g E c)) (section_in_force g E c)
 in_force_between g [] c run = tt
-in_force_between g (Arrive s bytes arrival answer ∷ E) c run = in_force_between g E c run
-in_force_between g (Pop row ∷ E) c run = in_force_between g E c run.1
 in_force_between g (Tick now counts answer ∷ E) c run =
     cond_both (is_adoption_of c (Tick now counts answer)) (held_section g E c) (section_in_force g E c)
     (May (Between (count_for c g.counts) (max (cleared_count g E c) (count_for c counts))))
@@ -106,6 +104,7 @@ in_force_between g (Tick now counts answer ∷ E) c run =
     (λ e. may_each (Between (count_for c g.counts) (cleared_count g E c)) (Between (count_for c g.counts) (max (cleared_count g E c) (count_for c counts)))
     (section_in_force g E c)
     (λ s b. (b.0, omega (arith, b.1))) (in_force_between g E c run.1))
+in_force_between g (e ∷ E) c run = in_force_between g E c (ticked_before g e E run)
 
 pub in_force_is_cleared : InForceIsCleared
 in_force_is_cleared g E c s run h = subst (May (Between (count_for c g.counts) (cleared_count g E c))) h (in_force_between g E c run)

@@ -1,13 +1,13 @@
 -- Laws of all lives: steps make lives, rows come out once and rise, change numbers never fall; and wait rules agree.
-use Rattle.pdc_life.proofs.Names.{[], ◌++◌, ◌+◌, ◌==◌, ◌∙◌, ◌∷◌, ◌≡◌, ◌≤◌, AllByRecursion, answered, ap, append_assoc, arith, Arrival, Arrive, Bool, changes, ChangesNeverFall, ChangesRiseByOne, closed, closing, cond, drop, Entry, false, filter, Given, greatest, is_adoption, is_adoption_of, IsLife, IsReadStep, IsTicked, last_of, length, life_from, List, list_any, ltb, map, merged_answer, MergerLivesAreTicked, node_answer, OneStepMore, open_instants, Option, Pop, popped, ReadsFor, ReadsForMerger, ReadStep, refl, Rises, RisingLaws, row_instants, row_of, RowsComeOutOnce, RowsRise, RowView, Rules, rules, SameChangeSameSections, slice_get, StepsMakeMergerLives, StepsMakeNodeLives, subst, sym, Take, takes, Tick, TickAnswer, ToArrive, ToPop, ToTick, true, waiting, ℕ}
+use Rattle.pdc_life.proofs.Names.{[], ◌++◌, ◌+◌, ◌==◌, ◌∙◌, ◌∷◌, ◌≡◌, ◌≤◌, AllByRecursion, answered, ap, append_assoc, arith, Arrival, Arrive, Bool, changes, ChangesNeverFall, ChangesRiseByOne, closed, closing, cond, drop, Entry, false, filter, Given, greatest, is_adoption, is_adoption_of, IsLife, IsReadStep, IsTicked, last_of, length, life_from, List, list_any, ltb, map, merged_answer, MergerLivesAreTicked, node_answer, OneStepMore, open_instants, Option, Pop, popped, ReadsFor, ReadsForMerger, ReadStep, refl, Rises, RisingLaws, row_instants, row_of, RowsComeOutOnce, RowsRise, RowView, Rules, rules, SameChangeSameSections, slice_get, StepsMakeMergerLives, StepsMakeNodeLives, subst, sym, Take, takes, Tick, TickAnswer, ToArrive, true, waiting, ℕ}
 use Rattle.std.specs.Option.{option_to_list}
+use Rattle.pdc_life.proofs.Steps.{ticked_before}
 
 -- the premise of all laws of rows and counts, for every kind of core
 pub lives_are_ticked : (rules : Rules) (Says : ℕ → List ℕ → Arrival → Type 0) (g : Given) (E : List Entry) → IsLife rules Says g E → IsTicked g E
 lives_are_ticked rules Says g [] life = tt
 lives_are_ticked rules Says g (Arrive s bytes arrival answer ∷ E) life = lives_are_ticked rules Says g E life.2
-lives_are_ticked rules Says g (Tick now counts answer ∷ E) life = (life.0, lives_are_ticked rules Says g E life.1)
-lives_are_ticked rules Says g (Pop row ∷ E) life = (life.0, lives_are_ticked rules Says g E life.1)
+lives_are_ticked rules Says g (e ∷ E) life = (life.0, lives_are_ticked rules Says g E life.1)
 
 pub one_step_more : OneStepMore
 one_step_more rules g E [] step = refl
@@ -56,8 +56,7 @@ none_adopted c (d ∷ ds) h = search rules
 
 none_of : (c : ℕ) (e : Entry) → is_adoption e ≡ false → is_adoption_of c e ≡ false
 none_of c (Tick now counts answer) h = none_adopted c answer.adopted h
-none_of c (Arrive s bytes arrival answer) h = refl
-none_of c (Pop row) h = refl
+none_of c e h = refl
 
 pub same_change_same_sections : SameChangeSameSections
 same_change_same_sections g E [] h c = refl
@@ -79,8 +78,7 @@ merger_lives_are_ticked settings g E life = lives_are_ticked merged_answer (Read
 
 read_step_life : (rules : Rules) (Says : ℕ → List ℕ → Arrival → Type 0) (g : Given) (E : List Entry) (step : ReadStep) → IsLife rules Says g E → IsReadStep Says step → IsLife rules Says g (answered rules g E step ∷ E)
 read_step_life rules Says g E (ToArrive s bytes arrival) life says = (says, refl, life)
-read_step_life rules Says g E (ToTick now counts) life says = (refl, life)
-read_step_life rules Says g E ToPop life says = (refl, life)
+read_step_life rules Says g E step life says = (refl, life)
 
 steps_make_lives : (rules : Rules) (Says : ℕ → List ℕ → Arrival → Type 0) (g : Given) (E : List Entry) (steps : List ReadStep) → IsLife rules Says g E → AllByRecursion (IsReadStep Says) steps → IsLife rules Says g (life_from rules g E steps)
 steps_make_lives rules Says g E [] life says = life
@@ -103,8 +101,7 @@ module _ (R : RisingLaws) where
   last_is g (Tick now counts answer ∷ E) =
       ap (λ n. greatest n (row_instants answer.rows)) (last_is g E)
       ∙ sym (ap (λ ns. greatest g.floor ns) (instants_append (closed E) answer.rows) ∙ R.greatest_append g.floor (row_instants (closed E)) (row_instants answer.rows))
-  last_is g (Arrive s bytes arrival answer ∷ E) = last_is g E
-  last_is g (Pop row ∷ E) = last_is g E
+  last_is g (e ∷ E) = last_is g E
 
   closing_rises : (g : Given) (E : List Entry) (now : ℕ) → Rises (last_of g E) (closing g E now)
   closing_rises g E now =
@@ -119,5 +116,4 @@ module _ (R : RisingLaws) where
       let now_closed : Rises (greatest g.floor (row_instants (closed E))) (row_instants answer.rows) =
       subst (λ n. Rises n (row_instants answer.rows)) (last_is g E) (subst (λ ns. Rises (last_of g E) ns) (sym e) (closing_rises g E now)) in
       subst (λ ns. Rises g.floor ns) (sym (instants_append (closed E) answer.rows)) (R.rises_append g.floor (greatest g.floor (row_instants (closed E))) (row_instants (closed E)) (row_instants answer.rows) (R.greatest_ge g.floor (row_instants (closed E))) before (R.below_greatest g.floor (row_instants (closed E))) now_closed)
-  rows_rise g (Arrive s bytes arrival answer ∷ E) run = rows_rise g E run
-  rows_rise g (Pop row ∷ E) run = rows_rise g E run.1
+  rows_rise g (e ∷ E) run = rows_rise g E (ticked_before g e E run)

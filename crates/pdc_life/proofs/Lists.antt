@@ -1,5 +1,5 @@
 -- What holds of all of a list, of a part of it, and of the first that a test finds; and tests of numbers.
-use Rattle.pdc_life.proofs.Names.{[], ◌&&◌, ◌++◌, ◌<◌, ◌∙◌, ◌∷◌, ◌≡◌, ◌≤◌, AllByRecursion, arith, Bool, Candidate, cond_both, Contains, eqb, false, false≢true, filter, find, is_candidate, is_taken, leb, length, List, None, none-some, not, Option, Outcome, refl, rules, same_Some, slice_get, slice_index_or, Some, subst, suc, sym, Taken, true, zero, ℕ}
+use Rattle.pdc_life.proofs.Names.{[], ◌&&◌, ◌++◌, ◌<◌, ◌∙◌, ◌∷◌, ◌≡◌, ◌≤◌, All-contains, All-from_recursion, AllByRecursion, arith, Bool, Candidate, cond_both, Contains, eqb, false, false≢true, filter, find, is_candidate, is_taken, leb, List, None, none-some, not, Option, Outcome, refl, rules, same_Some, slice_get, Some, subst, suc, sym, Taken, true, zero, ℕ}
 
 -- what holds, where there is one
 abbrev pub May : {A : Type 0} → (A → Type 0) → Option A → Type 0
@@ -34,13 +34,8 @@ filtered f P Q [] k a = tt
 filtered f P Q (x ∷ xs) k a =
     cond_both (f x) (x ∷ filter f xs) (filter f xs) (AllByRecursion Q) (λ e. (k x e a.0, filtered f P Q xs k a.1)) (λ e. filtered f P Q xs k a.1)
 
-at_place : {A : Type 0} (P : A → Type 0) (xs : List A) (x : A) (k : ℕ) → k < length xs → slice_index_or xs k x ≡ x → AllByRecursion P xs → P x
-at_place P [] x k l e a = absurd (omega (arith, l))
-at_place P (y ∷ xs) x zero l e a = subst P e a.0
-at_place P (y ∷ xs) x (suc k) l e a = at_place P xs x k (omega (arith, l)) e a.1
-
 pub of_each : {A : Type 0} (P : A → Type 0) (xs : List A) (x : A) → AllByRecursion P xs → Contains xs x → P x
-of_each P xs x a k = at_place P xs x k.0 k.1 k.2 a
+of_each P xs x a k = All-contains P xs x (All-from_recursion P xs a) k
 
 pub later_in : {A : Type 0} (x : A) (xs : List A) (y : A) → Contains xs y → Contains (x ∷ xs) y
 later_in x xs y k = (suc k.0, omega (arith, k.1), k.2)

@@ -1,5 +1,5 @@
 -- Lives of the merger are runs.
-use Rattle.pdc_life.proofs.Names.{[], if◌then◌else◌, ◌*◌, ◌++◌, ◌+◌, ◌<◌, ◌==◌, ◌∙◌, ◌∷◌, ◌≡◌, ◌≤◌, AllByRecursion, Answer, ap, AreBytes, AreSound, AreWords, arith, Arrival, Bool, BytesRefused, Candidate, cast_signed, cast_unsigned, cell_under, CellView, cond, ConfigFields, CountConflict, Data, drop, Entry, false, false≢true, Given, given_of_merger, has_count_conflict, HaveColumns, held_layout, HeldLayout, is_in_force, is_older, is_taken, IsConfig, IsInTime, IsLayoutOf, IsLife, IsMergerLife, IsOfSectionInForce, IsSection, IsSound, Known, Layout, layout_answer, length, List, map, merged_answer, merged_cells, MergedNode, MergerLivesAreRuns, MergerSettings, nodes_of, None, not, OldStamp, Option, payload_of, range_with_len, ReadsForMerger, refl, Refused, Rises, rules, section_in_force, SectionFields, slice_get, slice_get_within, Some, Stamp, Stream, stream_from, streams_of, subst, suc, sum, sym, take, Taken, to_be_bytes, true, w16, w32, word_count_of, words_in, WordsOfBytes, zero, ℕ}
+use Rattle.pdc_life.proofs.Names.{[], if◌then◌else◌, ◌*◌, ◌++◌, ◌+◌, ◌<◌, ◌==◌, ◌∙◌, ◌∷◌, ◌≡◌, ◌≤◌, AllByRecursion, Answer, ap, AreBytes, AreSound, AreWords, arith, Arrival, Bool, BytesRefused, Candidate, cast_signed, cast_unsigned, cell_under, CellView, cond, ConfigFields, CountConflict, Data, drop, Entry, false, false≢true, get_or-drop, Given, given_of_merger, has_count_conflict, HaveColumns, held_layout, HeldLayout, is_in_force, is_older, is_taken, IsConfig, IsInTime, IsLayoutOf, IsLife, IsMergerLife, IsOfSectionInForce, IsSection, IsSound, Known, Layout, layout_answer, length, length-drop, length-take-le, List, map, merged_answer, merged_cells, MergedNode, MergerLivesAreRuns, MergerSettings, nodes_of, None, not, OldStamp, Option, payload_of, range_with_len, ReadsForMerger, refl, Refused, Rises, rules, section_in_force, SectionFields, slice_get, slice_get_within, Some, Stamp, Stream, stream_from, streams_of, subst, suc, sum, sym, take, Taken, to_be_bytes, true, w16, w32, word_count_of, words_in, WordsOfBytes, zero, ℕ}
 use Rattle.std.proofs.lemmas.List.Sums.{sum_by-cons}
 use Rattle.pdc_life.proofs.Come.{in_force_whole}
 use Rattle.pdc_life.proofs.Frames.{words_cons, words_none}
@@ -21,19 +21,13 @@ take_words (suc n) [] h = words_none
 take_words (suc n) (w ∷ ws) h = words_cons w (take n ws) (h 0) (take_words n ws (λ i. h (suc i)))
 
 pub drop_words : (n : ℕ) (ws : List ℕ) → AreWords ws → AreWords (drop n ws)
-drop_words zero ws h = h
-drop_words (suc n) [] h = words_none
-drop_words (suc n) (w ∷ ws) h = drop_words n ws (λ i. h (suc i))
+drop_words n ws h i = rw (get_or-drop n ws i 0) (h (n + i))
 
 pub take_count : (n : ℕ) (ws : List ℕ) → n ≤ length ws → length (take n ws) ≡ n
-take_count zero ws h = refl
-take_count (suc n) [] h = absurd (omega (arith, h))
-take_count (suc n) (w ∷ ws) h = ap suc (take_count n ws (omega (arith, h)))
+take_count n ws h = length-take-le n ws h
 
 pub drop_count : (n more : ℕ) (ws : List ℕ) → length ws ≡ n + more → length (drop n ws) ≡ more
-drop_count zero more ws h = omega (arith, h)
-drop_count (suc n) more [] h = absurd (omega (arith, h))
-drop_count (suc n) more (w ∷ ws) h = drop_count n more ws (omega (arith, h))
+drop_count n more ws h = omega (arith, h, length-drop n ws)
 
 -- ---- sections of a layout
 

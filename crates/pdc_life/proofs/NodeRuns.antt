@@ -1,5 +1,5 @@
 -- Lives of a node are runs.
-use Rattle.pdc_life.proofs.Names.{[], if◌then◌else◌, ◌*◌, ◌+◌, ◌<◌, ◌==◌, ◌∙◌, ◌∷◌, ◌≡◌, ◌≤◌, AllByRecursion, Answer, answer_in_time, ap, AreBytes, AreSound, AreWords, arith, Arrival, Arrive, Bool, BytesRefused, Candidate, cases_lt, cell_under, CellView, cond, count_for, CountConflict, Data, Entry, false, false≢true, Given, HaveColumns, held_section, inl, inr, is_taken, IsData, IsGivenBy, IsInstant, IsInTime, IsLife, IsOfSectionInForce, IsSection, IsSound, IsValid, Known, Layout, length, length-range_with_len, List, ltb, nat_eq, node_answer, NodeLivesAreRuns, None, Option, Outcome, Pmu, pointwise, Pop, range_with_len, ReadsFor, refl, Refusal, Refused, Rules, section_after, section_answer, section_in_force, SectionFields, Settings, slice_get_within, Some, StaleCount, Stream, stream_of, streams_of, subst, sym, Taken, Tick, true, word_count_of, words_in, WordsOfBytes, ℕ}
+use Rattle.pdc_life.proofs.Names.{[], if◌then◌else◌, ◌*◌, ◌+◌, ◌<◌, ◌==◌, ◌∙◌, ◌∷◌, ◌≡◌, ◌≤◌, AllByRecursion, Answer, answer_in_time, ap, AreBytes, AreSound, AreWords, arith, Arrival, Arrive, Bool, BytesRefused, Candidate, cases_lt, cell_under, CellView, cond, count_for, CountConflict, Data, Entry, false, false≢true, Given, HaveColumns, held_section, inl, inr, is_taken, IsData, IsGivenBy, IsInstant, IsInTime, IsLife, IsOfSectionInForce, IsSection, IsSound, IsValid, Known, Layout, length, length-range_with_len, List, ltb, nat_eq, node_answer, NodeLivesAreRuns, None, Option, Outcome, Pmu, pointwise, range_with_len, ReadsFor, refl, Refusal, Refused, Rules, section_after, section_answer, section_in_force, SectionFields, Settings, slice_get_within, Some, StaleCount, Stream, stream_of, streams_of, subst, sym, Taken, true, word_count_of, words_in, WordsOfBytes, ℕ}
 use Rattle.std.proofs.Math.Nat.{mul-le-mul_right}
 use Rattle.pdc_output.specs.pdc_tag.Slot.{IsSlot}
 use Rattle.pdc_life.proofs.InTime.{node_cells, node_gives, taken_cells}
@@ -75,8 +75,7 @@ lives_are_sound rules Says g sound [] life = tt
 lives_are_sound rules Says g sound (Arrive s bytes arrival answer ∷ E) life =
     let before : AreSound g E = lives_are_sound rules Says g sound E life.2 in
     (subst (λ (a : Answer). IsSound g E s arrival a) (sym life.1) (sound E s bytes arrival life.2 before life.0), before)
-lives_are_sound rules Says g sound (Tick now counts answer ∷ E) life = lives_are_sound rules Says g sound E life.1
-lives_are_sound rules Says g sound (Pop row ∷ E) life = lives_are_sound rules Says g sound E life.1
+lives_are_sound rules Says g sound (e ∷ E) life = lives_are_sound rules Says g sound E life.1
 
 of_valid : (settings : Settings) (pmu : Pmu) (bytes : List ℕ) (s : SectionFields) → IsValid settings pmu bytes s → IsSection s
 of_valid settings pmu bytes s h =
@@ -139,9 +138,7 @@ module _ (W : WordsOfBytes) where
     columns = own_column g c s (subst (λ n. n < g.columns) (sym r.reads.0) facts.here);
     sections = (of_valid settings r.pmu bytes s r.reads.1, tt);
   }
-  sound settings g E p bytes (Layout None []) rate facts r = absurd r.reads
-  sound settings g E p bytes (Layout None (a ∷ b ∷ more)) rate facts r = absurd r.reads
-  sound settings g E p bytes (Layout (Some stamp) sections) rate facts r = absurd r.reads
+  sound settings g E p bytes (Layout stamp sections) rate facts r = absurd r.reads
 
   pub node_lives_are_runs : NodeLivesAreRuns
   node_lives_are_runs settings g E life = record {

@@ -26,18 +26,13 @@ module _ (rules : Rules) (Says : ℕ → List ℕ → Arrival → Type 0) (once 
       let number : p ≡ q = cc in
       let text : bytes ≡ others = cc in
       same_arrive g E p q bytes others r s a b number text h k
-  same_entry g E (Arrive p bytes r a) (Tick now counts answer) same h k = cc
-  same_entry g E (Arrive p bytes r a) (Pop row) same h k = cc
-  same_entry g E (Tick now counts answer) (Arrive p bytes r a) same h k = cc
   same_entry g E (Tick now counts answer) (Tick later others other) same h k =
       let moment : now ≡ later = cc in
       let cleared : counts ≡ others = cc in
       let one : answer ≡ other = h.0 ∙ (λ i. tick_answer g E (moment i) (cleared i)) ∙ sym k.0 in
       λ i. Tick (moment i) (cleared i) (one i)
-  same_entry g E (Tick now counts answer) (Pop row) same h k = cc
-  same_entry g E (Pop row) (Arrive p bytes r a) same h k = cc
-  same_entry g E (Pop row) (Tick now counts answer) same h k = cc
   same_entry g E (Pop row) (Pop other) same h k = ap Pop (h.0 ∙ sym k.0)
+  same_entry g E d e same h k = cc
 
   -- two lists that are the same have the same last element, and the same before it
   same_last : (ss ts : List Step) (s t : Step) → ss ++ s ∷ [] ≡ ts ++ t ∷ [] → (ss ≡ ts) × (s ≡ t)

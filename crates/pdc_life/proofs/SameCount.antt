@@ -1,8 +1,9 @@
 -- At the merger a section of a held layout with the count in force is the one in force.
-use Rattle.pdc_life.proofs.Names.{[], ◌&&◌, ◌++◌, ◌+◌, ◌<◌, ◌||◌, ◌∙◌, ◌∷◌, ◌≡◌, ◌≤◌, AllByRecursion, Answer, ap, arith, Arrive, Bool, BytesRefused, Candidate, cases_lt, cond, cond_both, count_for, CountConflict, Data, differs_from, Entry, eqb, false, false≢true, filter, first_greatest, flat_map, Given, greater, has_count_conflict, held_layout, held_section, HeldLayout, inl, inr, is_adoption_of, is_candidate, is_of_column, is_older, IsLife, Known, Layout, layout_answer, leb, List, ltb, map, merged_answer, MergerSettings, nat_eq, None, not, OldStamp, Option, or_parts, pointwise, Pop, ReadsForMerger, refl, Refused, Rises, rules, same_text, SameCountSameSection, section_in_force, SectionFields, sections_at, Some, Stamp, subst, sym, Tick, true, ℕ}
+use Rattle.pdc_life.proofs.Names.{[], ◌&&◌, ◌++◌, ◌+◌, ◌<◌, ◌||◌, ◌∙◌, ◌∷◌, ◌≡◌, ◌≤◌, AllByRecursion, Answer, ap, arith, Arrive, Bool, Candidate, cases_lt, cond, cond_both, count_for, CountConflict, differs_from, Entry, eqb, false, false≢true, filter, first_greatest, flat_map, Given, greater, has_count_conflict, held_layout, held_section, HeldLayout, inl, inr, is_adoption_of, is_candidate, is_of_column, is_older, IsLife, Known, Layout, layout_answer, leb, List, ltb, map, merged_answer, MergerSettings, nat_eq, None, not, OldStamp, Option, or_parts, pointwise, ReadsForMerger, refl, Refused, Rises, rules, same_text, SameCountSameSection, section_in_force, SectionFields, sections_at, Some, Stamp, subst, sym, true, ℕ}
 use Rattle.pdc_life.proofs.InForce.{in_force_is_cleared}
 use Rattle.pdc_life.proofs.LifeLaws.{lives_are_ticked}
 use Rattle.pdc_life.proofs.Lists.{both, each, May, may_each, not_same, of_each, same_self}
+use Rattle.pdc_life.proofs.Steps.{life_before}
 
 -- a section is not above what is held, and one of the same count has the same bytes
 abbrev Below : Option SectionFields → SectionFields → Type 0
@@ -163,17 +164,9 @@ of_held_layout settings g P keeps new (Arrive r bytes (Layout (Some stamp) parts
     cond_both ((eqb r s) && is_candidate answer.outcome) (Some (record { stamp = stamp; sections = parts })) (held_layout E s) (May (P (e ∷ E)))
     (λ here. new E r bytes stamp parts answer life.0 life.1 (both (eqb r s) (is_candidate answer.outcome) here).1)
     (λ other. may_each (P E) (P (e ∷ E)) (held_layout E s) (keeps E e) (of_held_layout settings g P keeps new E s life.2))
-of_held_layout settings g P keeps new (Arrive r bytes (Layout None parts) answer ∷ E) s life = absurd life.0.reads
-of_held_layout settings g P keeps new (Arrive r bytes (BytesRefused refusal) answer ∷ E) s life =
-    may_each (P E) (P (Arrive r bytes (BytesRefused refusal) answer ∷ E)) (held_layout E s) (keeps E (Arrive r bytes (BytesRefused refusal) answer))
-    (of_held_layout settings g P keeps new E s life.2)
-of_held_layout settings g P keeps new (Arrive r bytes (Data i quality payload) answer ∷ E) s life =
-    may_each (P E) (P (Arrive r bytes (Data i quality payload) answer ∷ E)) (held_layout E s) (keeps E (Arrive r bytes (Data i quality payload) answer))
-    (of_held_layout settings g P keeps new E s life.2)
-of_held_layout settings g P keeps new (Tick now counts answer ∷ E) s life =
-    may_each (P E) (P (Tick now counts answer ∷ E)) (held_layout E s) (keeps E (Tick now counts answer)) (of_held_layout settings g P keeps new E s life.1)
-of_held_layout settings g P keeps new (Pop row ∷ E) s life =
-    may_each (P E) (P (Pop row ∷ E)) (held_layout E s) (keeps E (Pop row)) (of_held_layout settings g P keeps new E s life.1)
+of_held_layout settings g P keeps new (e ∷ E) s life =
+    may_each (P E) (P (e ∷ E)) (held_layout E s) (keeps E e) (of_held_layout settings g P keeps new E s
+    (life_before merged_answer (ReadsForMerger settings) g e E life))
 
 -- each section of a held layout is good
 held_are_good : (settings : MergerSettings) (g : Given) (E : List Entry) (s : ℕ) → IsLife merged_answer (ReadsForMerger settings) g E

@@ -42,7 +42,7 @@ pub run_before : (g : Given) (e : Entry) (E : List Entry) → AreSound g (e ∷ 
 run_before g (Arrive s bytes arrival answer) E run = run.1
 run_before g e E run = run
 
-ticked_before : (g : Given) (e : Entry) (E : List Entry) → IsTicked g (e ∷ E) → IsTicked g E
+pub ticked_before : (g : Given) (e : Entry) (E : List Entry) → IsTicked g (e ∷ E) → IsTicked g E
 ticked_before g (Arrive s bytes arrival answer) E run = run
 ticked_before g e E run = run.1
 

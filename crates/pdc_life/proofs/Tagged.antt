@@ -2,7 +2,7 @@
 use Rattle.pdc_life.proofs.Names.{[], ◌*◌, ◌++◌, ◌<◌, ◌∷◌, ◌≡◌, AllByRecursion, ap, AreSound, Arrive, closed, closing, cond, cond_both, Data, drop, Entry, eqb, Given, IsInTime, IsSound, IsTicked, List, ltb, map, None, none-some, open_instants, place, Pop, popped, rising, row_instants, row_of, RowsHaveTags, RowView, same_Some, slice_get, Some, subst, sym, Take, take_at, takes, Tick, TickAnswer, waiting, ℕ}
 use Rattle.pdc_life.proofs.LifeLaws.{instants_append}
 use Rattle.pdc_life.proofs.Lists.{appended, filtered}
-use Rattle.pdc_life.proofs.Steps.{at_take, run_before}
+use Rattle.pdc_life.proofs.Steps.{at_take, run_before, ticked_before}
 
 placed : (P : ℕ → Type 0) (i : ℕ) (ns : List ℕ) → P i → AllByRecursion P ns → AllByRecursion P (place i ns)
 placed P i [] h a = (h, tt)
@@ -62,8 +62,7 @@ pub closed_low : (g : Given) (E : List Entry) → IsTicked g E → AreSound g E 
 closed_low g [] ticked run = tt
 closed_low g (Tick now counts answer ∷ E) ticked run =
     more_rows (IsLow g) (closed E) answer.rows (closed_low g E ticked.1 run) (rows_low g E now answer.rows run (ap (λ (a : TickAnswer). a.rows) ticked.0))
-closed_low g (Arrive s bytes arrival answer ∷ E) ticked run = closed_low g E ticked run.1
-closed_low g (Pop row ∷ E) ticked run = closed_low g E ticked.1 run
+closed_low g (e ∷ E) ticked run = closed_low g E (ticked_before g e E ticked) (run_before g e E run)
 
 waiting_low : (g : Given) (E : List Entry) → IsTicked g E → AreSound g E → AllByRecursion (IsLow g) (row_instants (waiting E))
 waiting_low g [] ticked run = tt
@@ -74,11 +73,10 @@ waiting_low g (Pop row ∷ E) ticked run = dropped (IsLow g) (waiting E) (waitin
 
 pub popped_low : (g : Given) (E : List Entry) → IsTicked g E → AreSound g E → AllByRecursion (IsLow g) (row_instants (popped E))
 popped_low g [] ticked run = tt
-popped_low g (Tick now counts answer ∷ E) ticked run = popped_low g E ticked.1 run
-popped_low g (Arrive s bytes arrival answer ∷ E) ticked run = popped_low g E ticked run.1
 popped_low g (Pop None ∷ E) ticked run = more_rows (IsLow g) (popped E) [] (popped_low g E ticked.1 run) tt
 popped_low g (Pop (Some row) ∷ E) ticked run =
     more_rows (IsLow g) (popped E) (row ∷ []) (popped_low g E ticked.1 run) (of_first (IsLow g) (waiting E) row ticked.0 (waiting_low g E ticked.1 run), tt)
+popped_low g (e ∷ E) ticked run = popped_low g E (ticked_before g e E ticked) (run_before g e E run)
 
 pub rows_have_tags : RowsHaveTags
 rows_have_tags g E run = (closed_low g E run.ticked run.sound, waiting_low g E run.ticked run.sound, popped_low g E run.ticked run.sound)

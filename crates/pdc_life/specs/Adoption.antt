@@ -1,9 +1,5 @@
 -- What a tick adopts (this profile).
-use Rattle.std.specs.Prelude.{◌≡◌, ℕ, ◌-◌, ◌^◌, ◌<◌, ◌≤◌, List, ◌∷◌, max, Option, None, Some}
-use Rattle.pdc_output.specs.pdc_cfg.Section.{SectionFields}
-use Rattle.pdc_life.specs.Given.{Given, count_for}
-use Rattle.pdc_life.specs.Life.{Entry, Tick, TickAnswer, changes, cleared_count, held_section, section_in_force}
-use Rattle.pdc_life.specs.Run.{IsTicked}
+use Rattle.pdc_life.specs.Lives.{◌-◌, ◌<◌, ◌^◌, ◌∷◌, ◌≡◌, ◌≤◌, changes, cleared_count, count_for, Entry, Given, held_section, IsTicked, List, max, None, Option, section_in_force, SectionFields, Some, Tick, TickAnswer, ℕ}
 
 -- its count is greater than the one in force, or the first
 abbrev pub IsNewer : SectionFields → Option SectionFields → Type 0

@@ -1,18 +1,12 @@
 -- What a step is answered after a life, and which lives there are (this profile).
-use Rattle.std.specs.Prelude.{◌≡◌, ℕ, ◌+◌, ◌-◌, ◌^◌, Bool, ◌&&◌, true, false, not, List, [], ◌∷◌, ◌++◌, map, max, filter, length, replicate, nat_lt, nat_le, if◌then◌else◌, Option, None, Some}
-use Rattle.std.specs.List.{list_all, list_any, slice_get}
-use Rattle.pdc_output.specs.pdc_cfg.Section.{SectionFields}
-use Rattle.pdc_output.specs.pdc_row.CellView.{CellView, same_block}
-use Rattle.pdc_output.specs.pdc_row.Rising.{is_near}
-use Rattle.pdc_output.specs.pdc_row.RowView.{RowView}
+use Rattle.pdc_life.specs.Names.{[], if◌then◌else◌, ◌&&◌, ◌++◌, ◌+◌, ◌-◌, ◌^◌, ◌∷◌, ◌≡◌, Bool, CellView, false, filter, is_near, length, List, list_all, list_any, map, max, MAX_PMUS, nat_le, nat_lt, None, not, Option, replicate, RowView, same_block, SectionFields, slice_get, Some, true, ℕ}
+use Rattle.pdc_life.specs.Arrival.{Arrival}
+use Rattle.pdc_life.specs.Given.{Given, columns_of, count_for}
+use Rattle.pdc_life.specs.Life.{Answer, TickAnswer, Entry, Arrive, Tick, Pop, Take, changes, cell_of, cleared_count, held_instants, held_section, is_taken, last_of, now_of, section_in_force, take_of, waiting}
+use Rattle.pdc_life.specs.Row.{rows_of}
 use Rattle.pdc_life.specs.declared.outcome.Outcome.{Outcome}
 use Rattle.pdc_life.specs.declared.outcome.Outcome.TheVariants.{Taken, Refused}
 use Rattle.pdc_life.specs.declared.outcome.Refusal.TheVariants.{Late, Ahead, OutOfWindow, Duplicate, Conflict}
-use Rattle.pdc_life.specs.Given.{Given, columns_of, count_for}
-use Rattle.pdc_life.specs.Arrival.{Arrival}
-use Rattle.pdc_life.specs.Life.{Answer, TickAnswer, Entry, Arrive, Tick, Pop, Take, changes, cell_of, cleared_count, held_instants, held_section, is_taken, last_of, now_of, section_in_force, take_of, waiting}
-use Rattle.pdc_life.specs.Row.{rows_of}
-use Rattle.pdc_output.specs.pdc_row.declared.limits.TheConstants.{MAX_PMUS}
 
 -- The common end of every data answer, of a stream and for an instant, with the cells that the data would give.
 

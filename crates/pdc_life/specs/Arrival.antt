@@ -1,6 +1,5 @@
 -- What arrives at a concentrator, as its bytes say it (this profile).
-use Rattle.std.specs.Prelude.{ℕ, List, Option}
-use Rattle.pdc_output.specs.pdc_cfg.Section.{SectionFields}
+use Rattle.pdc_life.specs.Names.{List, Option, SectionFields, ℕ}
 use Rattle.pdc_life.specs.declared.outcome.Refusal.{Refusal}
 
 -- the stamp of a layout: the start number of a life, and the change number in it

@@ -1,9 +1,5 @@
 -- What holds of the cells that are taken (this profile).
-use Rattle.std.specs.Prelude.{◌≡◌, ℕ, List, Some}
-use Rattle.pdc_output.specs.pdc_row.CellView.{CellView}
-use Rattle.pdc_life.specs.Given.{Given}
-use Rattle.pdc_life.specs.Life.{Entry, cell_of}
-use Rattle.pdc_life.specs.Run.{IsOfSectionInForce, IsRun}
+use Rattle.pdc_life.specs.Lives.{◌≡◌, cell_of, CellView, Entry, Given, IsOfSectionInForce, IsRun, List, Some, ℕ}
 
 -- A cell since the adoption of its column is of the section in force: it has its shape, and as many words.
 abbrev pub CellsAreOfSections : Type 0

@@ -1,9 +1,9 @@
 -- The counters of a life, and what a core shows of them (this profile).
-use Rattle.std.specs.Prelude.{ℕ, ◌-◌, ◌^◌, Bool, true, false, List, length, filter, min}
+use Rattle.pdc_life.specs.Names.{◌-◌, ◌^◌, Bool, false, filter, length, List, min, true, ℕ}
+use Rattle.pdc_life.specs.Life.{Entry, Arrive, is_candidate, is_taken}
 use Rattle.pdc_life.specs.declared.outcome.Outcome.{Outcome}
 use Rattle.pdc_life.specs.declared.outcome.Outcome.TheVariants.{Known, Refused}
 use Rattle.pdc_life.specs.declared.outcome.Refusal.{Refusal}
-use Rattle.pdc_life.specs.Life.{Entry, Arrive, is_candidate, is_taken}
 
 abbrev pub is_known : Outcome → Bool
 is_known Known = true

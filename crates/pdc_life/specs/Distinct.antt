@@ -1,6 +1,5 @@
 -- Ids of which no two are the same.
-use Rattle.std.specs.Prelude.{ℕ, ◌==◌, Bool, true, ◌&&◌, not, List, [], ◌∷◌}
-use Rattle.std.specs.List.{list_any}
+use Rattle.pdc_life.specs.Names.{[], ◌&&◌, ◌==◌, ◌∷◌, Bool, List, list_any, not, true, ℕ}
 
 abbrev pub are_distinct : List ℕ → Bool
 are_distinct [] = true

@@ -1,19 +1,8 @@
 -- The frames of a life (this profile).
-use Rattle.std.specs.Prelude.{◌≡◌, ℕ, ◌^◌, ◌<◌, ◌≤◌, List, ◌∷◌, map}
-use Rattle.std.specs.List.{AllByRecursion}
-use Rattle.pdc_output.specs.pdc_frame.Frame.{IsFrame}
-use Rattle.pdc_output.specs.pdc_cfg.Section.{SectionFields}
-use Rattle.pdc_output.specs.pdc_cfg.declared.shape.Shape.{Shape}
-use Rattle.pdc_output.specs.pdc_block.Block.{IsCut}
-use Rattle.pdc_output.specs.pdc_row.RowView.{RowView}
-use Rattle.pdc_output.specs.Layout.{IsLayout, layout_fields_of, layout_payload_of, own_block, row_fields, row_payload, wire_of}
 use Rattle.pdc_output.specs.Laws.{words_of_row}
-use Rattle.pdc_life.specs.Given.{Given}
+use Rattle.pdc_life.specs.Lives.{◌<◌, ◌^◌, ◌∷◌, ◌≡◌, ◌≤◌, AllByRecursion, changes, closed, Entry, Given, IsCut, IsFrame, IsLayout, IsRun, IsTicked, layout_fields_of, layout_payload_of, List, map, MAX_PMUS, own_block, row_fields, row_payload, RowView, SectionFields, Shape, wire_of, ℕ}
 use Rattle.pdc_life.specs.Laws.{IsRowOfTick}
-use Rattle.pdc_life.specs.Life.{Entry, changes, closed}
 use Rattle.pdc_life.specs.Published.{layout_wire, sections_in_force}
-use Rattle.pdc_life.specs.Run.{IsRun, IsTicked}
-use Rattle.pdc_output.specs.pdc_row.declared.limits.TheConstants.{MAX_PMUS}
 
 -- At most 4294967295 ticks of a life adopt.
 abbrev pub ChangesFit : Type 0

@@ -1,19 +1,6 @@
 -- Where the blocks of a row come from, and that what was taken is shown (this profile).
-use Rattle.std.specs.Prelude.{◌≡◌, ◌⊎◌, ℕ, ◌<◌, List, [], ◌∷◌, ◌++◌, Option, Some, true, option_map}
-use Rattle.std.specs.List.{AllByRecursion, Contains, filter_map}
-use Rattle.pdc_output.specs.pdc_cfg.Section.{SectionFields}
-use Rattle.pdc_output.specs.pdc_block.Block.{IsBody}
-use Rattle.pdc_output.specs.pdc_row.CellView.{BlockView, CellView, absent_view, is_present}
-use Rattle.pdc_output.specs.pdc_row.RowView.{RowView}
-use Rattle.pdc_life.specs.declared.outcome.Outcome.TheVariants.{Taken}
-use Rattle.pdc_life.specs.declared.given.Settings.{Settings}
-use Rattle.pdc_life.specs.Arrival.{Data}
-use Rattle.pdc_life.specs.Given.{Given, columns_of}
+use Rattle.pdc_life.specs.Lives.{[], ◌++◌, ◌<◌, ◌∷◌, ◌≡◌, ◌⊎◌, absent_view, AllByRecursion, Answer, Arrive, block_in, BlockView, cell_of, CellView, chosen_of, closed, columns_of, Contains, Data, Entry, filter_map, Given, is_present, IsBody, IsNodeLife, IsRun, IsTicked, List, Option, option_map, popped, ReadsFor, row_of, RowView, section_in_force, SectionFields, Settings, Some, Taken, true, waiting, ℕ}
 use Rattle.pdc_life.specs.Laws.{IsRowOfTick}
-use Rattle.pdc_life.specs.Life.{Answer, Entry, Arrive, cell_of, closed, popped, section_in_force, waiting}
-use Rattle.pdc_life.specs.Node.{IsNodeLife, ReadsFor}
-use Rattle.pdc_life.specs.Row.{block_in, chosen_of, row_of}
-use Rattle.pdc_life.specs.Run.{IsRun, IsTicked}
 
 -- Data of the stream for the instant was taken in the life, and gave the cell for the column. What was in force of the column then
 -- is in force still.

@@ -1,19 +1,5 @@
 -- Data in time (this profile).
-use Rattle.std.specs.Prelude.{◌≡◌, ◌↔◌, ◌⊎◌, ℕ, ◌+◌, ◌*◌, ◌<◌, ◌≤◌, List, length, true, None, Some}
-use Rattle.std.specs.List.{list_all}
-use Rattle.pdc_output.specs.pdc_cfg.Shape.{word_count_of}
-use Rattle.pdc_output.specs.pdc_cfg.Section.{SectionFields}
-use Rattle.pdc_output.specs.pdc_row.CellView.{CellView}
-use Rattle.pdc_output.specs.pdc_row.Rising.{AreBelow, is_near}
-use Rattle.pdc_output.specs.pdc_row.RowView.{row_instants}
-use Rattle.pdc_output.specs.Layout.{stamp_words}
-use Rattle.pdc_life.specs.declared.outcome.Outcome.TheVariants.{Taken}
-use Rattle.pdc_life.specs.Answer.{outcome_in_time}
-use Rattle.pdc_life.specs.Arrival.{Data}
-use Rattle.pdc_life.specs.Given.{Given}
-use Rattle.pdc_life.specs.Life.{Entry, closed, held_instants, last_of, now_of, section_in_force, take_of}
-use Rattle.pdc_life.specs.Merger.{HeldLayout, held_layout, merged_answer, own_words, payload_len}
-use Rattle.pdc_life.specs.Node.{node_answer}
+use Rattle.pdc_life.specs.Lives.{◌*◌, ◌+◌, ◌<◌, ◌↔◌, ◌≡◌, ◌≤◌, ◌⊎◌, AreBelow, CellView, closed, Data, Entry, Given, held_instants, held_layout, HeldLayout, is_near, last_of, length, List, list_all, merged_answer, node_answer, None, now_of, outcome_in_time, own_words, payload_len, row_instants, section_in_force, SectionFields, Some, stamp_words, take_of, Taken, true, word_count_of, ℕ}
 
 -- The instant is in time for the stream: above the last one closed, at most ahead above now, and near every instant held, and
 -- nothing was taken of the stream for it.

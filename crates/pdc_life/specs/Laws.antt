@@ -1,18 +1,5 @@
 -- What holds of every life: rows, change numbers and counts (this profile).
-use Rattle.std.specs.Prelude.{◌≡◌, ℕ, ◌≤◌, List, ◌∷◌, ◌++◌, Some, if◌then◌else◌, ◌+◌, true}
-use Rattle.std.specs.List.{AllByRecursion, Contains}
-use Rattle.pdc_output.specs.pdc_cfg.Section.{SectionFields}
-use Rattle.pdc_output.specs.pdc_row.Rising.{Rises}
-use Rattle.pdc_output.specs.pdc_row.RowView.{RowView, row_instants}
-use Rattle.pdc_life.specs.declared.given.Settings.{Settings}
-use Rattle.pdc_life.specs.declared.merging.MergerSettings.{MergerSettings}
-use Rattle.pdc_life.specs.Given.{Given, count_for}
-use Rattle.pdc_life.specs.Life.{Entry, Tick, TickAnswer, changes, cleared_count, closed, is_adoption, popped, section_in_force, waiting}
-use Rattle.pdc_life.specs.MergerReading.{IsMergerLife}
-use Rattle.pdc_life.specs.Node.{IsNodeLife}
-use Rattle.pdc_life.specs.Row.{closing, is_due, row_of}
-use Rattle.pdc_life.specs.Life.{open_instants}
-use Rattle.pdc_life.specs.Run.{IsRun, IsTicked}
+use Rattle.pdc_life.specs.Lives.{if◌then◌else◌, ◌++◌, ◌+◌, ◌∷◌, ◌≡◌, ◌≤◌, AllByRecursion, changes, cleared_count, closed, closing, Contains, count_for, Entry, Given, is_adoption, is_due, IsMergerLife, IsNodeLife, IsRun, IsTicked, List, MergerSettings, open_instants, popped, Rises, row_instants, row_of, RowView, section_in_force, SectionFields, Settings, Some, Tick, TickAnswer, true, waiting, ℕ}
 
 -- The premises of what node and merger have in common: ticks and pops are answered as in every life; and what was taken is sound.
 abbrev pub NodeLivesAreRuns : Type 0

@@ -11,10 +11,12 @@ pub mod Given
 pub mod InTime
 pub mod Laws
 pub mod Life
+mod Lives
 pub mod Merger
 pub mod MergerData
 pub mod MergerLaws
 pub mod MergerReading
+mod Names
 pub mod Node
 pub mod NodeReading
 pub mod OneLife

@@ -1,21 +1,14 @@
 -- The rules of the merger: two lanes, and a stream for each node, whose layouts say what its data means (this profile).
-use Rattle.std.specs.Prelude.{ℕ, ◌+◌, ◌*◌, ◌==◌, Bool, ◌&&◌, ◌||◌, false, not, List, [], ◌∷◌, ◌++◌, drop, length, map, nat_eq, nat_lt, sum, take, if◌then◌else◌, Option, None, Some}
-use Rattle.std.specs.List.{list_any}
-use Rattle.std.specs.Cmp.Lexicographic.{pointwise}
-use Rattle.pdc_output.specs.pdc_block.Block.{words_in}
-use Rattle.pdc_output.specs.pdc_cfg.Shape.{word_count_of}
-use Rattle.pdc_output.specs.pdc_cfg.Section.{SectionFields}
-use Rattle.pdc_output.specs.pdc_row.CellView.{CellView}
+use Rattle.pdc_life.specs.Names.{[], if◌then◌else◌, ◌&&◌, ◌*◌, ◌++◌, ◌+◌, ◌==◌, ◌||◌, ◌∷◌, Bool, CellView, drop, false, length, List, list_any, map, nat_eq, nat_lt, None, not, Option, pointwise, SectionFields, Some, stamp_words, sum, take, word_count_of, words_in, ℕ}
+use Rattle.pdc_output.specs.declared.row_frame.TheConstants.{OWN_BLOCK_LEN}
+use Rattle.pdc_life.specs.Answer.{answer_in_time, bare}
+use Rattle.pdc_life.specs.Arrival.{Arrival, Stamp, BytesRefused, Data, Layout}
+use Rattle.pdc_life.specs.Given.{Given}
+use Rattle.pdc_life.specs.Life.{Answer, Entry, Arrive, held_section, is_candidate, section_in_force}
+use Rattle.pdc_life.specs.Node.{cell_under}
 use Rattle.pdc_life.specs.declared.outcome.Outcome.{Outcome}
 use Rattle.pdc_life.specs.declared.outcome.Outcome.TheVariants.{Candidate, Known, Refused}
 use Rattle.pdc_life.specs.declared.outcome.Refusal.TheVariants.{CountConflict, NoConfig, OldStamp, OtherStamp, BadOwnBlock, WrongLength}
-use Rattle.pdc_life.specs.Given.{Given}
-use Rattle.pdc_life.specs.Arrival.{Arrival, Stamp, BytesRefused, Data, Layout}
-use Rattle.pdc_life.specs.Life.{Answer, Entry, Arrive, held_section, is_candidate, section_in_force}
-use Rattle.pdc_life.specs.Answer.{answer_in_time, bare}
-use Rattle.pdc_output.specs.Layout.{stamp_words}
-use Rattle.pdc_life.specs.Node.{cell_under}
-use Rattle.pdc_output.specs.declared.row_frame.TheConstants.{OWN_BLOCK_LEN}
 
 -- the layout of a node that was accepted last: its stamp, and its sections of PMUs, each with its column
 pub record HeldLayout : Type 0 where

@@ -1,19 +1,6 @@
 -- What a cell of the merger is in the data of its node (this profile).
-use Rattle.std.specs.Prelude.{◌≡◌, ℕ, List, ◌∷◌, ◌++◌, Some, drop, map}
-use Rattle.std.specs.List.{slice_get}
-use Rattle.pdc_output.specs.pdc_block.Block.{IsCut}
-use Rattle.pdc_output.specs.pdc_cfg.Section.{SectionFields}
-use Rattle.pdc_output.specs.pdc_cfg.declared.shape.Shape.{Shape}
-use Rattle.pdc_output.specs.Layout.{stamp_words}
-use Rattle.pdc_output.specs.pdc_row.CellView.{CellView}
-use Rattle.pdc_life.specs.declared.merging.MergerSettings.{MergerSettings}
-use Rattle.pdc_life.specs.declared.outcome.Outcome.TheVariants.{Taken}
-use Rattle.pdc_life.specs.Arrival.{Data}
+use Rattle.pdc_life.specs.Lives.{◌++◌, ◌∷◌, ◌≡◌, Answer, Arrive, CellView, Data, drop, Entry, Given, held_layout, HeldLayout, IsCut, IsMergerLife, List, map, MergerSettings, ReadsForMerger, section_in_force, SectionFields, Shape, slice_get, Some, stamp_words, Taken, ℕ}
 use Rattle.pdc_life.specs.Genuine.{HasGiven}
-use Rattle.pdc_life.specs.Given.{Given}
-use Rattle.pdc_life.specs.Life.{Answer, Arrive, Entry, section_in_force}
-use Rattle.pdc_life.specs.Merger.{HeldLayout, held_layout}
-use Rattle.pdc_life.specs.MergerReading.{IsMergerLife, ReadsForMerger}
 
 -- the shapes of the sections of a layout, in their order
 abbrev pub shapes_of : HeldLayout → List Shape

@@ -1,16 +1,6 @@
 -- What holds of every life of the merger (this profile).
-use Rattle.std.specs.Prelude.{◌≡◌, ℕ, List, ◌∷◌, Some}
-use Rattle.std.specs.List.{Contains}
-use Rattle.pdc_output.specs.pdc_cfg.Section.{SectionFields}
+use Rattle.pdc_life.specs.Lives.{◌∷◌, ◌≡◌, Answer, Arrival, Arrive, Contains, Entry, Given, held_layout, HeldLayout, IsLifeOf, IsMergerLife, IsRun, List, merged_answer, MergerSettings, ReadsForMerger, ReadsFrom, section_in_force, SectionFields, Some, Step, ℕ}
 use Rattle.pdc_life.specs.declared.merging.MergedNode.{MergedNode}
-use Rattle.pdc_life.specs.declared.merging.MergerSettings.{MergerSettings}
-use Rattle.pdc_life.specs.Answer.{IsLifeOf, Step}
-use Rattle.pdc_life.specs.Arrival.{Arrival}
-use Rattle.pdc_life.specs.Given.{Given}
-use Rattle.pdc_life.specs.Life.{Answer, Arrive, Entry, section_in_force}
-use Rattle.pdc_life.specs.Merger.{HeldLayout, held_layout, merged_answer}
-use Rattle.pdc_life.specs.MergerReading.{IsMergerLife, ReadsForMerger, ReadsFrom}
-use Rattle.pdc_life.specs.Run.{IsRun}
 
 -- A section of a held layout with the count in force of its column is the one in force.
 abbrev pub SameCountSameSection : Type 0

@@ -1,23 +1,17 @@
 -- What the bytes say that arrive from a node at the merger: all that needs no memory of what came before (this profile).
-use Rattle.std.specs.Prelude.{◌≡◌, ◌⊎◌, ℕ, ◌+◌, ◌^◌, ◌<◌, List, [], ◌∷◌, length, map, None, Some}
-use Rattle.std.specs.List.{AllByRecursion, slice_get}
-use Rattle.pdc_output.specs.pdc_frame.Frame as frame
-use Rattle.pdc_output.specs.pdc_cfg.Section.{SectionFields}
-use Rattle.pdc_output.specs.pdc_cfg.Config.{ConfigFields}
-use Rattle.pdc_output.specs.pdc_cfg.declared.fault.CfgFault.TheVariants.{WrongKind}
-use Rattle.pdc_output.specs.pdc_row.Rising.{Rises}
+use Rattle.pdc_life.specs.Names.{[], ◌+◌, ◌<◌, ◌^◌, ◌∷◌, ◌≡◌, ◌⊎◌, AllByRecursion, ConfigFields, length, List, map, None, own_bytes, Rises, SectionFields, slice_get, Some, WrongKind, ℕ}
 use Rattle.pdc_output.specs.declared.output.Nominal.TheVariants.{Hz50, Hz60}
+use Rattle.pdc_output.specs.pdc_frame.Frame as frame
+use Rattle.pdc_life.specs.Answer.{IsLife}
+use Rattle.pdc_life.specs.Arrival.{Arrival, Stamp, BytesRefused, Data, Layout}
+use Rattle.pdc_life.specs.Given.{Given, given_under}
+use Rattle.pdc_life.specs.Life.{Entry}
+use Rattle.pdc_life.specs.Merger.{merged_answer}
+use Rattle.pdc_life.specs.Reading.{Stream, HasBase, HasNoInstant, HasOtherRate, HasOtherTimeBase, IsBroken, IsData, IsForeign, IsOtherKind}
 use Rattle.pdc_life.specs.declared.merging.MergedNode.{MergedNode}
 use Rattle.pdc_life.specs.declared.merging.MergerSettings.{MergerSettings}
 use Rattle.pdc_life.specs.declared.outcome.Refusal.{Refusal}
 use Rattle.pdc_life.specs.declared.outcome.Refusal.TheVariants.{NoFrame, WrongId, NoConfiguration, WrongTimeBase, WrongRate, BadOwnBlock, UnknownSource, BadTag}
-use Rattle.pdc_life.specs.Answer.{IsLife}
-use Rattle.pdc_life.specs.Arrival.{Arrival, Stamp, BytesRefused, Data, Layout}
-use Rattle.pdc_life.specs.Given.{Given}
-use Rattle.pdc_output.specs.Layout.{own_bytes}
-use Rattle.pdc_life.specs.Life.{Entry}
-use Rattle.pdc_life.specs.Merger.{merged_answer}
-use Rattle.pdc_life.specs.Reading.{Stream, HasBase, HasNoInstant, HasOtherRate, HasOtherTimeBase, IsBroken, IsData, IsForeign, IsOtherKind}
 
 -- the node of a stream: 0 is A, 1 is B
 abbrev pub nodes_of : MergerSettings → List MergedNode
@@ -25,19 +19,7 @@ nodes_of settings = settings.first ∷ settings.second ∷ []
 
 -- What is given to a life of the merger.
 abbrev pub given_of_merger : MergerSettings → (start floor : ℕ) → (counts : List ℕ) → (opening : ℕ) → Given
-given_of_merger settings start floor counts opening = record {
-  output = settings.output;
-  wait = settings.timing.wait;
-  wait_kind = settings.timing.wait_kind;
-  window = settings.timing.window;
-  ahead = settings.timing.ahead;
-  columns = length settings.sources.items;
-  lanes = 2;
-  start = start;
-  floor = floor;
-  counts = counts;
-  opening = opening;
-}
+given_of_merger settings start floor counts opening = given_under settings.output settings.timing (length settings.sources.items) 2 start floor counts opening
 
 -- the stream of a node
 abbrev pub stream_from : MergerSettings → MergedNode → Stream

@@ -1,22 +1,15 @@
 -- The rules of a node: one lane, and a stream for each PMU (this profile).
-use Rattle.std.specs.Prelude.{◌≡◌, ℕ, ◌*◌, ◌==◌, not, List, [], ◌∷◌, length, nat_eq, nat_lt, if◌then◌else◌, Option, None, Some}
-use Rattle.std.specs.List.{slice_get}
-use Rattle.std.specs.Cmp.Lexicographic.{pointwise}
-use Rattle.pdc_output.specs.pdc_block.Block.{words_in}
-use Rattle.pdc_output.specs.pdc_cfg.Shape.{word_count_of}
-use Rattle.pdc_output.specs.pdc_cfg.Section.{SectionFields}
-use Rattle.pdc_output.specs.pdc_row.CellView.{CellView}
+use Rattle.pdc_life.specs.Names.{[], if◌then◌else◌, ◌*◌, ◌==◌, ◌∷◌, ◌≡◌, CellView, length, List, nat_eq, nat_lt, None, not, Option, pointwise, SectionFields, slice_get, Some, TooMany, word_count_of, words_in, ℕ}
+use Rattle.pdc_life.specs.Answer.{answer_in_time, bare, IsLife}
+use Rattle.pdc_life.specs.Arrival.{Arrival, BytesRefused, Data, Layout}
+use Rattle.pdc_life.specs.Given.{Given, IsGivenBy, count_for}
+use Rattle.pdc_life.specs.Life.{Answer, Entry, held_section, section_in_force}
+use Rattle.pdc_life.specs.NodeReading.{Reads}
 use Rattle.pdc_life.specs.declared.given.Settings.{Settings}
-use Rattle.pdc_life.specs.declared.pmu.Pmu.{Pmu}
 use Rattle.pdc_life.specs.declared.outcome.Outcome.{Outcome}
 use Rattle.pdc_life.specs.declared.outcome.Outcome.TheVariants.{Candidate, Known, Refused}
 use Rattle.pdc_life.specs.declared.outcome.Refusal.TheVariants.{CountConflict, NoConfig, NoConfiguration, StaleCount, WrongLength}
-use Rattle.pdc_output.specs.pdc_cfg.declared.fault.CfgFault.TheVariants.{TooMany}
-use Rattle.pdc_life.specs.Given.{Given, IsGivenBy, count_for}
-use Rattle.pdc_life.specs.Arrival.{Arrival, BytesRefused, Data, Layout}
-use Rattle.pdc_life.specs.Life.{Answer, Entry, held_section, section_in_force}
-use Rattle.pdc_life.specs.Answer.{answer_in_time, bare, IsLife}
-use Rattle.pdc_life.specs.NodeReading.{Reads}
+use Rattle.pdc_life.specs.declared.pmu.Pmu.{Pmu}
 
 -- the cell that words give under a section
 abbrev pub cell_under : SectionFields → (quality : ℕ) → (words : List ℕ) → CellView

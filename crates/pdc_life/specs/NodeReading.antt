@@ -1,15 +1,12 @@
 -- What the bytes say that arrive for a PMU: all that needs no memory of what came before (this profile).
-use Rattle.std.specs.Prelude.{◌≡◌, ◌≢◌, ◌⊎◌, ℕ, List, [], ◌∷◌, length, None}
+use Rattle.pdc_life.specs.Names.{[], ◌∷◌, ◌≡◌, ◌≢◌, ◌⊎◌, ConfigFields, Cut, FloatFormat, length, List, None, SectionFields, TooMany, WrongKind, ℕ}
 use Rattle.pdc_output.specs.pdc_frame.Frame as frame
-use Rattle.pdc_output.specs.pdc_cfg.Section.{SectionFields}
-use Rattle.pdc_output.specs.pdc_cfg.Config.{ConfigFields}
-use Rattle.pdc_output.specs.pdc_cfg.declared.fault.CfgFault.TheVariants.{WrongKind, Cut, TooMany, FloatFormat}
-use Rattle.pdc_life.specs.declared.given.Settings.{Settings}
-use Rattle.pdc_life.specs.declared.pmu.Pmu.{Pmu}
-use Rattle.pdc_life.specs.declared.outcome.Refusal.{Refusal}
-use Rattle.pdc_life.specs.declared.outcome.Refusal.TheVariants.{NoFrame, WrongId, NoConfiguration, WrongTimeBase, WrongRate, WrongSource, BadTag}
 use Rattle.pdc_life.specs.Arrival.{Arrival, BytesRefused, Data, Layout}
 use Rattle.pdc_life.specs.Reading.{Stream, HasBase, HasConfig, HasNoInstant, HasOtherRate, HasOtherTimeBase, IsBroken, IsData, IsForeign, IsOtherKind}
+use Rattle.pdc_life.specs.declared.given.Settings.{Settings}
+use Rattle.pdc_life.specs.declared.outcome.Refusal.{Refusal}
+use Rattle.pdc_life.specs.declared.outcome.Refusal.TheVariants.{NoFrame, WrongId, NoConfiguration, WrongTimeBase, WrongRate, WrongSource, BadTag}
+use Rattle.pdc_life.specs.declared.pmu.Pmu.{Pmu}
 
 -- the stream of a PMU
 abbrev pub stream_of : Settings → Pmu → Stream

@@ -1,17 +1,7 @@
 -- Steps make one life (this profile).
-use Rattle.std.specs.Prelude.{◌≡◌, ℕ, List, ◌∷◌, ◌++◌, []}
-use Rattle.std.specs.List.{AllByRecursion}
-use Rattle.pdc_life.specs.declared.given.Settings.{Settings}
-use Rattle.pdc_life.specs.declared.merging.MergerSettings.{MergerSettings}
-use Rattle.pdc_life.specs.declared.pmu.Pmu.{Pmu}
-use Rattle.pdc_life.specs.Arrival.{Arrival}
-use Rattle.pdc_life.specs.Answer.{IsLifeOf, IsReadStep, ReadStep, Rules, Step, answered, life_from}
-use Rattle.pdc_life.specs.Given.{Given}
-use Rattle.pdc_life.specs.Life.{Answer, Arrive, Entry}
-use Rattle.pdc_life.specs.Merger.{merged_answer}
-use Rattle.pdc_life.specs.MergerReading.{IsMergerLife, ReadsForMerger}
-use Rattle.pdc_life.specs.Node.{IsNodeLife, ReadsFor, node_answer}
+use Rattle.pdc_life.specs.Lives.{[], ◌++◌, ◌∷◌, ◌≡◌, AllByRecursion, Answer, answered, Arrival, Arrive, Entry, Given, IsLifeOf, IsMergerLife, IsNodeLife, IsReadStep, life_from, List, merged_answer, MergerSettings, node_answer, ReadsFor, ReadsForMerger, ReadStep, Rules, Settings, Step, ℕ}
 use Rattle.pdc_life.specs.NodeReading.{Reads}
+use Rattle.pdc_life.specs.declared.pmu.Pmu.{Pmu}
 
 -- Steps that are read and answered one after the other make a life: of a node, and of the merger.
 abbrev pub StepsMakeNodeLives : Type 0

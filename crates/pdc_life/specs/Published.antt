@@ -1,8 +1,5 @@
 -- What a life publishes (this profile).
-use Rattle.std.specs.Prelude.{ℕ, List, map}
-use Rattle.std.specs.List.{filter_map}
-use Rattle.pdc_output.specs.pdc_cfg.Section.{SectionFields}
-use Rattle.pdc_output.specs.Layout.{layout_wire_of, wire_of}
+use Rattle.pdc_life.specs.Names.{filter_map, layout_wire_of, List, map, SectionFields, wire_of, ℕ}
 use Rattle.pdc_life.specs.Given.{Given, columns_of}
 use Rattle.pdc_life.specs.Life.{Entry, changes, section_in_force, popped}
 

@@ -1,15 +1,10 @@
 -- When an open instant closes, and the row that it closes to (this profile).
-use Rattle.std.specs.Prelude.{ℕ, ◌+◌, ◌==◌, Bool, true, ◌||◌, not, List, map, filter, nat_le, if◌then◌else◌, Option, None, Some, is_some, option_map}
-use Rattle.std.specs.List.{list_all, filter_map}
-use Rattle.pdc_output.specs.pdc_cfg.Section.{SectionFields}
-use Rattle.pdc_output.specs.pdc_row.CellView.{BlockView, CellView}
+use Rattle.pdc_life.specs.Names.{if◌then◌else◌, ◌+◌, ◌==◌, ◌||◌, BlockView, Bool, CellView, filter, filter_map, is_some, List, list_all, map, nat_le, None, not, Option, option_map, quality_of, RowView, SectionFields, Some, time_quality_of, true, ℕ}
 use Rattle.pdc_output.specs.pdc_row.Chosen.{block_or_absent, first_of, present_of}
-use Rattle.pdc_output.specs.pdc_row.Quality.{quality_of, time_quality_of}
-use Rattle.pdc_output.specs.pdc_row.RowView.{RowView}
-use Rattle.pdc_life.specs.declared.timing.WaitKind.{WaitKind}
-use Rattle.pdc_life.specs.declared.timing.WaitKind.TheVariants.{Relative, Absolute}
 use Rattle.pdc_life.specs.Given.{Given, columns_of, streams_of}
 use Rattle.pdc_life.specs.Life.{Entry, age_of, cell_of, changes, open_instants, section_in_force, take_of}
+use Rattle.pdc_life.specs.declared.timing.WaitKind.{WaitKind}
+use Rattle.pdc_life.specs.declared.timing.WaitKind.TheVariants.{Relative, Absolute}
 
 -- An instant waits for a stream: with one lane where its column has a section in force, with two always.
 abbrev pub is_required : Given → List Entry → ℕ → Bool

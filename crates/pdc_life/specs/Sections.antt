@@ -1,14 +1,5 @@
 -- Where sections come from, and which are held (this profile).
-use Rattle.std.specs.Prelude.{◌≡◌, ℕ, ◌<◌, ◌≤◌, List, [], ◌∷◌, ◌++◌, Option, None, Some, filter, map, nat_le}
-use Rattle.std.specs.List.{AllByRecursion, Contains, flat_map}
-use Rattle.pdc_output.specs.pdc_cfg.Section.{SectionFields, IsSection}
-use Rattle.pdc_life.specs.declared.outcome.Outcome.TheVariants.{Candidate}
-use Rattle.pdc_life.specs.declared.given.Settings.{Settings}
-use Rattle.pdc_life.specs.Arrival.{Layout, Stamp}
-use Rattle.pdc_life.specs.Given.{Given, count_for}
-use Rattle.pdc_life.specs.Life.{Answer, Entry, Arrive, held_section, is_of_column, section_in_force, sections_for}
-use Rattle.pdc_life.specs.Node.{IsNodeLife}
-use Rattle.pdc_life.specs.Run.{IsRun, IsTicked}
+use Rattle.pdc_life.specs.Lives.{[], ◌++◌, ◌<◌, ◌∷◌, ◌≡◌, ◌≤◌, AllByRecursion, Answer, Arrive, Candidate, Contains, count_for, Entry, filter, flat_map, Given, held_section, is_of_column, IsNodeLife, IsRun, IsSection, IsTicked, Layout, List, map, nat_le, None, Option, section_in_force, SectionFields, sections_for, Settings, Some, Stamp, ℕ}
 
 -- What is held of a column is a section as a configuration spells it, and so is what is in force.
 abbrev pub HeldIsSection : Type 0

@@ -1,9 +1,8 @@
 -- What contracts see of what bytes say, wherever they lie in memory.
-use Rattle.std.specs.Prelude.{ℕ, [], ◌∷◌, None}
-use Rattle.pdc_output.specs.pdc_cfg.Section.{fields_of_view}
+use Rattle.pdc_life.specs.Names.{[], ◌∷◌, fields_of_view, None, ℕ}
+use Rattle.pdc_life.specs.Arrival.{Arrival, BytesRefused, Data, Layout}
 use Rattle.pdc_life.specs.declared.reading.Reading.{Reading}
 use Rattle.pdc_life.specs.declared.reading.Reading.TheVariants as reading
-use Rattle.pdc_life.specs.Arrival.{Arrival, BytesRefused, Data, Layout}
 
 -- for the stream with this number, whose column it is too
 abbrev pub arrival_view : (p : ℕ) → Reading → Arrival
