@@ -1,5 +1,5 @@
 -- A tick adopts what is ready.
-use Rattle.pdc_life.proofs.Names.{[], ◌&&◌, ◌+◌, ◌<◌, ◌==◌, ◌||◌, ◌∙◌, ◌∷◌, ◌≡◌, ◌≤◌, ap, arith, Bool, changes, cleared_count, columns_of, cond, count_for, eqb, false, false≢true, filter, has_change, held_section, is_newer, is_ready, leb, List, list_any, ltb, max, None, Option, range_with_len, ready_columns, refl, rules, section_in_force, SectionFields, Some, suc, sym, TickAnswer, true, zero, ℕ}
+use Rattle.pdc_life.proofs.Names.{[], ◌&&◌, ◌+◌, ◌<◌, ◌==◌, ◌||◌, ◌∙◌, ◌≡◌, ◌≤◌, any-filter_same, ap, arith, Bool, changes, cleared_count, columns_of, cond, count_for, eqb, false, false≢true, filter, has_change, held_section, is_newer, is_ready, leb, List, list_any, ltb, max, None, Option, range_with_len, ready_columns, refl, rules, section_in_force, SectionFields, Some, suc, TickAnswer, true, zero, ℕ}
 use Rattle.pdc_life.specs.Adoption.{IsNewer, ReadyIsAdopted}
 use Rattle.pdc_life.proofs.Lists.{same_number}
 
@@ -28,16 +28,8 @@ in_range c (suc n) a h k =
     either_way a n c (eqb a c) (list_any (λ d. d == c) (range_with_len (a + 1) n)) refl h (λ l. in_range c n (a + 1) l (omega (arith, k)))
 
 -- what passes the test and is listed is there behind the filter
-kept : (f : ℕ → Bool) (c d : ℕ) (ds : List ℕ) (x y : Bool) → eqb d c ≡ x → f d ≡ y → f c ≡ true → (list_any (λ z. z == c) ds ≡ true → list_any (λ z. z == c) (filter f ds) ≡ true)
-    → (x || list_any (λ z. z == c) ds) ≡ true → list_any (λ z. z == c) (cond y (d ∷ filter f ds) (filter f ds)) ≡ true
-kept f c d ds true true e k h ih l = here (eqb d c) _ e
-kept f c d ds false true e k h ih l = there (eqb d c) _ (ih l)
-kept f c d ds true false e k h ih l = absurd (false≢true (sym k ∙ ap f (same_number d c e) ∙ h))
-kept f c d ds false false e k h ih l = ih l
-
 still_there : (f : ℕ → Bool) (c : ℕ) (ds : List ℕ) → f c ≡ true → list_any (λ z. z == c) ds ≡ true → list_any (λ z. z == c) (filter f ds) ≡ true
-still_there f c [] h l = absurd (false≢true l)
-still_there f c (d ∷ ds) h l = kept f c d ds (eqb d c) (f d) refl refl h (still_there f c ds h) l
+still_there f c ds h l = any-filter_same (λ z. z == c) f true (λ d e. ap f (same_number d c e) ∙ h) ds ∙ l
 
 less : (m n : ℕ) → m < n → ltb m n ≡ true
 less m n h = search rules

@@ -1,5 +1,5 @@
 -- The frames of a life.
-use Rattle.pdc_life.proofs.Names.{[], ◌*◌, ◌++◌, ◌+◌, ◌-◌, ◌<◌, ◌^◌, ◌∙◌, ◌∷◌, ◌≡◌, ◌≤◌, absent_of, AllByRecursion, ap, AreOfShapes, AreSound, AreWords, arith, block_in, block_or_absent, BlockView, Bool, CellView, changes, chosen_of, closed, columns_of, cond, ConfigFields, cons_option, Entry, false, Fields, filter_map, Given, greatest, has_change, IsConfig, IsCut, IsFrame, IsOfSectionInForce, IsRowOfTick, IsRun, IsSection, layout_fields_of, layout_payload_of, layout_wire, LayoutsAreFrames, length, length-append, length-range_with_len, length-replicate, List, ltb, map, max, None, Option, own_block, own_bytes, OwnSectionsTellStamps, quality_in, quality_of, ready_columns, refl, replicate, row_instants, row_of, row_payload, RowsAreCut, RowsAreFrames, RowView, rules, same_Some, section_in_force, SectionFields, sections_in_force, Shape, Some, subst, suc, sym, Tick, TickAnswer, true, word_count_of, words_of_row, zero, ℕ}
+use Rattle.pdc_life.proofs.Names.{[], ◌*◌, ◌++◌, ◌+◌, ◌-◌, ◌<◌, ◌^◌, ◌∙◌, ◌∷◌, ◌≡◌, ◌≤◌, absent_of, AllByRecursion, ap, AreOfShapes, AreSound, AreWords, arith, block_in, block_or_absent, BlockView, Bool, CellView, changes, chosen_of, closed, columns_of, cond, ConfigFields, cons_option, Entry, false, Fields, filter_map, Given, greatest, has_change, IsConfig, IsCut, IsFrame, IsOfSectionInForce, IsRowOfTick, IsRun, IsSection, layout_fields_of, layout_payload_of, layout_wire, LayoutsAreFrames, length, length-append, length-map, length-range_with_len, length-replicate, List, ltb, map, max, None, Option, own_block, own_bytes, OwnSectionsTellStamps, quality_in, quality_of, ready_columns, refl, replicate, row_instants, row_of, row_payload, RowsAreCut, RowsAreFrames, RowView, rules, same_Some, section_in_force, SectionFields, sections_in_force, Shape, Some, subst, suc, sym, Tick, TickAnswer, true, word_count_of, words_of_row, zero, ℕ}
 use Rattle.pdc_life.specs.Frames.{ChangesFit, ClosedRowsAreFrames, IsFramedRow, LayoutsOfLivesAreFrames, LayoutsTellStamps, shapes_in_force}
 use Rattle.pdc_life.proofs.Closing.{rows_are_of_their_ticks}
 use Rattle.pdc_life.proofs.Come.{in_force_whole}
@@ -138,10 +138,6 @@ few_sections g E (c ∷ cs) = omega (arith, few_sections g E cs, no_more (sectio
 few_in_force : (g : Given) (E : List Entry) → g.columns ≤ 16 → length (sections_in_force g E) ≤ 16
 few_in_force g E h = omega (arith, h, few_sections g E (columns_of g), length-range_with_len 0 g.columns)
 
-length-shapes : (sections : List SectionFields) → length (map (λ (s : SectionFields). s.shape) sections) ≡ length sections
-length-shapes [] = refl
-length-shapes (s ∷ sections) = ap suc (length-shapes sections)
-
 -- ---- rows
 
 module _ (frames : RowsAreFrames) (cut : RowsAreCut) where
@@ -151,7 +147,8 @@ module _ (frames : RowsAreFrames) (cut : RowsAreCut) where
       let shaped : AreOfShapes (shapes_in_force g t.before) (words_of_row row) =
       subst (λ (r : RowView). AreOfShapes (shapes_in_force g t.before) (words_of_row r)) (sym t.same) (blocks_shaped g t.before row.instant (columns_of g) before) in
       let quality : row.quality < 2 ^ 8 = subst (λ (r : RowView). r.quality < 2 ^ 8) (sym t.same) (row_quality g t.before row.instant) in
-      let number : length (shapes_in_force g t.before) ≤ 16 = omega (arith, few_in_force g t.before few, length-shapes (sections_in_force g t.before)) in
+      let number : length (shapes_in_force g t.before) ≤ 16 =
+      omega (arith, few_in_force g t.before few, length-map (sections_in_force g t.before) (λ (s : SectionFields). s.shape)) in
       let from : row.start ≡ g.start = ap (λ (r : RowView). r.start) t.same in
       let change : row.change ≡ changes t.before = ap (λ (r : RowView). r.change) t.same in
       record {

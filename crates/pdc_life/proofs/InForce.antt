@@ -1,5 +1,5 @@
 -- Cells are of the sections in force; what is in force is cleared.
-use Rattle.pdc_life.proofs.Names.{[], ◌++◌, ◌==◌, ◌||◌, ◌∙◌, ◌∷◌, ◌≡◌, ◌≤◌, AllByRecursion, ap, AreSound, AreWords, arith, Bool, cell_in, CellView, cleared_count, columns_of, cond, cond_both, count_for, Data, Entry, eqb, false≢true, filter, find, first_greatest, flat_map, Given, greater, has_change, held_section, InForceIsCleared, is_adoption_of, is_newer, is_of_column, is_ready, is_take_of, IsOfSectionInForce, IsSound, IsTicked, leb, length, List, list_any, ltb, max, None, none-some, Option, option_map, ready_columns, refl, same_Some, section_in_force, SectionFields, sections_at, sections_for, Some, subst, sym, Take, take_at, takes_since_adopted, Tick, tick_answer, TickAnswer, true, word_count_of, ℕ}
+use Rattle.pdc_life.proofs.Names.{[], ◌++◌, ◌==◌, ◌∙◌, ◌∷◌, ◌≡◌, ◌≤◌, AllByRecursion, any-filter_same, ap, AreSound, AreWords, arith, Bool, cell_in, CellView, cleared_count, columns_of, cond, cond_both, count_for, Data, Entry, eqb, false≢true, filter, find, first_greatest, flat_map, Given, greater, has_change, held_section, InForceIsCleared, is_adoption_of, is_newer, is_of_column, is_ready, is_take_of, IsOfSectionInForce, IsSound, IsTicked, leb, length, List, list_any, ltb, max, None, none-some, Option, option_map, ready_columns, refl, same_Some, section_in_force, SectionFields, sections_at, sections_for, Some, subst, sym, Take, take_at, takes_since_adopted, Tick, tick_answer, TickAnswer, true, word_count_of, ℕ}
 use Rattle.pdc_life.specs.Cells.{CellsAreOfSections}
 use Rattle.pdc_life.proofs.Lists.{appended, at_most, both, by_cases, by_each, filtered, found, May, may_each, same_number}
 use Rattle.pdc_life.proofs.Steps.{at_take, run_before, ticked_before}
@@ -75,12 +75,7 @@ ready_between (Some s) in_force low cleared n h = (n, at_most s.count cleared (b
 
 -- what is listed after a filter passed its test
 listed_passes : (f : ℕ → Bool) (c : ℕ) (ds : List ℕ) → list_any (λ x. x == c) (filter f ds) ≡ true → f c ≡ true
-listed_passes f c [] h = absurd (false≢true h)
-listed_passes f c (d ∷ ds) h =
-    cond_both (f d) (d ∷ filter f ds) (filter f ds) (λ (xs : List ℕ). list_any (λ x. x == c) xs ≡ true → f c ≡ true)
-    (λ e k. by_cases (λ (b : Bool). (b || list_any (λ x. x == c) (filter f ds)) ≡ true → f c ≡ true) (eqb d c)
-    (λ l m. ap f (sym (same_number d c l)) ∙ e) (λ l m. listed_passes f c ds m) k)
-    (λ e k. listed_passes f c ds k) h
+listed_passes f c ds h = (both (f c) (list_any (λ x. x == c) ds) (sym (any-filter_same (λ x. x == c) f (f c) (λ d e. ap f (same_number d c e)) ds) ∙ h)).0
 
 -- what a tick adopts was ready
 pub adopted_is_ready : (g : Given) (E : List Entry) (now : ℕ) (counts : List ℕ) (answer : TickAnswer) (c : ℕ) → answer ≡ tick_answer g E now counts

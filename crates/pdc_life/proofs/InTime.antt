@@ -1,12 +1,9 @@
 -- What is taken came in time.
-use Rattle.pdc_life.proofs.Names.{[], ◌*◌, ◌+◌, ◌<◌, ◌∙◌, ◌∷◌, ◌≡◌, ◌≤◌, again_answer, Ahead, Answer, answer_in_time, ap, AreBelow, arith, bare, Bool, cell_of, cell_under, CellView, closed, cond, cond-false, cond_both, Conflict, Data, data_answer, drop, Duplicate, Entry, eqb, false, false≢true, first_cause, Given, greatest, held_instants, held_layout, HeldLayout, inl, inr, is_near, is_other, is_taken, last_of, Late, length, List, list_all, list_any, ltb, merged_answer, merged_cells, merged_data_answer, nat_eq, nat_le, nat_lt, node_answer, None, not, now_of, Option, other_text, OtherStamp, Outcome, outcome_in_time, OutOfWindow, own_words, payload_len, pointwise, refl, Refusal, Refused, RisingLaws, row_instants, rules, same_text, section_in_force, SectionFields, Some, stamp_words, sym, Take, take_of, Taken, true, word_count_of, words_in, WrongLength, ℕ}
+use Rattle.pdc_life.proofs.Names.{[], ◌*◌, ◌+◌, ◌<◌, ◌∙◌, ◌∷◌, ◌≡◌, ◌≤◌, again_answer, Ahead, Answer, answer_in_time, ap, AreBelow, arith, bare, Bool, cell_of, cell_under, CellView, closed, cond, cond-false, cond_both, Conflict, Data, data_answer, drop, Duplicate, Entry, eqb, false, false≢true, first_cause, Given, greatest, held_instants, held_layout, HeldLayout, inl, inr, is_near, is_other, is_taken, last_of, Late, length, List, list_all, list_any, ltb, merged_answer, merged_cells, merged_data_answer, nat_eq, nat_le, nat_lt, node_answer, None, not, now_of, Option, other_text, OtherStamp, Outcome, outcome_in_time, OutOfWindow, own_words, payload_len, pointwise, refl, Refused, RisingLaws, row_instants, rules, same_text, section_in_force, SectionFields, Some, stamp_words, sym, Take, take_of, Taken, true, word_count_of, words_in, WrongLength, ℕ}
 use Rattle.pdc_life.specs.InTime.{ClosedStayClosed, ComesInTime, MergerTakes, MergerTakesInTime, NodeTakes, NodeTakesInTime, TakenIsInTime}
+use Rattle.pdc_life.specs.declared.outcome.Refusal.{Refusal}
 use Rattle.pdc_life.proofs.LifeLaws.{last_is}
 use Rattle.pdc_life.proofs.Lists.{same_length}
-
-peel : (b : Bool) (r : Refusal) (rest : Outcome) → cond b (Refused r) rest ≡ Taken → (b ≡ false) × (rest ≡ Taken)
-peel true r rest h = absurd (false≢true (ap is_taken h))
-peel false r rest h = (refl, h)
 
 two_refusals : (b : Bool) (r s : Refusal) → is_taken (cond b (Refused r) (Refused s)) ≡ false
 two_refusals true r s = refl
@@ -15,19 +12,6 @@ two_refusals false r s = refl
 none_taken : (t : Option Take) (conflicts : Bool) → again_answer t conflicts ≡ Taken → t ≡ None
 none_taken None conflicts h = refl
 none_taken (Some t) conflicts h = absurd (false≢true (sym (two_refusals conflicts Conflict Duplicate) ∙ ap is_taken h))
-
-record Facts (late ahead far : Bool) (other : Outcome) : Type 0 where
-  not_late : late ≡ false
-  not_ahead : ahead ≡ false
-  not_far : far ≡ false
-  taken : other ≡ Taken
-
-facts : (late ahead far : Bool) (other : Outcome) → first_cause late ahead far other ≡ Taken → Facts late ahead far other
-facts late ahead far other h =
-    let b = peel late Late (cond ahead (Refused Ahead) (cond far (Refused OutOfWindow) other)) h in
-    let c = peel ahead Ahead (cond far (Refused OutOfWindow) other) b.1 in
-    let d = peel far OutOfWindow other c.1 in
-    record { not_late = b.0; not_ahead = c.0; not_far = d.0; taken = d.1 }
 
 not_false : (b : Bool) → not b ≡ false → b ≡ true
 not_false true h = refl
@@ -41,14 +25,20 @@ is_not_ahead top i h = search rules
 
 in_time : (g : Given) (E : List Entry) (s i : ℕ) (cells : List (ℕ × CellView)) → outcome_in_time g E s i cells ≡ Taken → ComesInTime g E s i
 in_time g E s i cells h =
-    let f = facts (nat_le i (last_of g E)) (nat_lt (now_of g E + g.ahead) i) (not (list_all (is_near g.window i) (held_instants g E)))
-    (again_answer (take_of g E s i) (list_any (λ (part : ℕ × CellView). is_other (cell_of E s part.0 i) part.1) cells)) h in
-    record {
-      later = is_later i (last_of g E) f.not_late;
-      not_ahead = is_not_ahead (now_of g E + g.ahead) i f.not_ahead;
-      near = not_false (list_all (is_near g.window i) (held_instants g E)) f.not_far;
-      first = none_taken (take_of g E s i) _ f.taken;
-    }
+    let other : Outcome = again_answer (take_of g E s i) (list_any (λ (part : ℕ × CellView). is_other (cell_of E s part.0 i) part.1) cells) in
+    let far : Bool = not (list_all (is_near g.window i) (held_instants g E)) in
+    let Goal : Outcome → Type 0 = λ (o : Outcome). o ≡ Taken → ComesInTime g E s i in
+    cond_both (nat_le i (last_of g E)) (Refused Late) (first_cause false (nat_lt (now_of g E + g.ahead) i) far other) Goal
+    (λ a taken. absurd (false≢true (ap is_taken taken)))
+    (λ a. cond_both (nat_lt (now_of g E + g.ahead) i) (Refused Ahead) (cond far (Refused OutOfWindow) other) Goal
+    (λ b taken. absurd (false≢true (ap is_taken taken)))
+    (λ b. cond_both far (Refused OutOfWindow) other Goal (λ c taken. absurd (false≢true (ap is_taken taken)))
+    (λ c taken. record {
+      later = is_later i (last_of g E) a;
+      not_ahead = is_not_ahead (now_of g E + g.ahead) i b;
+      near = not_false (list_all (is_near g.window i) (held_instants g E)) c;
+      first = none_taken (take_of g E s i) _ taken;
+    }))) h
 
 later_is : (i last : ℕ) → last < i → nat_le i last ≡ false
 later_is i last h = search rules

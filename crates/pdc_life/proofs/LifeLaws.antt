@@ -1,6 +1,7 @@
 -- Laws of all lives: steps make lives, rows come out once and rise, change numbers never fall; and wait rules agree.
 use Rattle.pdc_life.proofs.Names.{[], ◌++◌, ◌+◌, ◌==◌, ◌∙◌, ◌∷◌, ◌≡◌, ◌≤◌, AllByRecursion, answered, ap, append_assoc, arith, Arrival, Arrive, Bool, changes, ChangesNeverFall, ChangesRiseByOne, closed, closing, cond, drop, Entry, false, filter, Given, greatest, is_adoption, is_adoption_of, IsLife, IsReadStep, IsTicked, last_of, length, life_from, List, list_any, ltb, map, merged_answer, MergerLivesAreTicked, node_answer, OneStepMore, open_instants, Option, Pop, popped, ReadsFor, ReadsForMerger, ReadStep, refl, Rises, RisingLaws, row_instants, row_of, RowsComeOutOnce, RowsRise, RowView, Rules, rules, SameChangeSameSections, slice_get, StepsMakeMergerLives, StepsMakeNodeLives, subst, sym, Take, takes, Tick, TickAnswer, ToArrive, true, waiting, ℕ}
 use Rattle.std.specs.Option.{option_to_list}
+use Rattle.pdc_life.proofs.Lists.{by_cases}
 use Rattle.pdc_life.proofs.Steps.{ticked_before}
 
 -- the premise of all laws of rows and counts, for every kind of core
@@ -66,12 +67,10 @@ same_change_same_sections g E (e ∷ F) h c =
     let same : changes (F ++ E) ≡ changes E = omega (arith, h, up, no_fewer (is_adoption e) e (filter is_adoption (F ++ E))) in
     rw (none_of c e quiet) (same_change_same_sections g E F same c)
 
-one_by_one : (b : Bool) (e : Entry) (es : List Entry) → length (cond b (e ∷ es) es) ≡ cond b (length es + 1) (length es)
-one_by_one true e es = omega arith
-one_by_one false e es = refl
-
 pub changes_rise_by_one : ChangesRiseByOne
-changes_rise_by_one E e = one_by_one (is_adoption e) e (filter is_adoption E)
+changes_rise_by_one E e =
+    by_cases (λ (b : Bool). length (cond b (e ∷ filter is_adoption E) (filter is_adoption E)) ≡ cond b (changes E + 1) (changes E)) (is_adoption e)
+    (λ h. omega arith) (λ h. refl)
 
 pub merger_lives_are_ticked : MergerLivesAreTicked
 merger_lives_are_ticked settings g E life = lives_are_ticked merged_answer (ReadsForMerger settings) g E life.life

@@ -1,5 +1,6 @@
 -- Bytes that arrive from a node say one thing at the merger.
-use Rattle.pdc_life.proofs.Names.{[], ◌==◌, ◌||◌, ◌∙◌, ◌∷◌, ◌≡◌, ◌⊎◌, AllByRecursion, ap, AreOfTable, Arrival, BadOwnBlock, BadTag, Bool, BytesRefused, cast_unsigned, ConfigFields, Data, eqb, false, false≢true, HasSections, Hz50, Hz60, inl, inr, IsOwn, Layout, List, list_any, map, MergedNode, MergerReadsOnce, MergerSettings, NoConfiguration, NoFrame, None, none-some, not, own_bytes, OwnSectionsTellStamps, ReadsForMerger, ReadsFrom, refl, rules, same_Some, SectionFields, slice_get, Some, Stamp, stream_from, subst, suc, sym, true, UnknownSource, w16, WrongId, WrongKind, WrongRate, WrongTimeBase, zero, ℕ}
+use Rattle.pdc_life.proofs.Names.{[], ◌==◌, ◌||◌, ◌∙◌, ◌∷◌, ◌≡◌, AllByRecursion, ap, AreOfTable, Arrival, BadOwnBlock, BadTag, Bool, BytesRefused, cast_unsigned, ConfigFields, Data, eqb, false, false≢true, HasSections, Hz50, Hz60, inl, inr, IsOwn, Layout, List, list_any, map, MergedNode, MergerReadsOnce, MergerSettings, NoConfiguration, NoFrame, None, none-some, not, own_bytes, OwnSectionsTellStamps, ReadsForMerger, ReadsFrom, refl, rules, same_Some, SectionFields, slice_get, Some, Stamp, stream_from, subst, suc, sym, true, UnknownSource, w16, WrongId, WrongKind, WrongRate, WrongTimeBase, zero, ℕ}
+use Rattle.pdc_output.specs.declared.output.Nominal.{Nominal}
 use Rattle.pdc_life.specs.Distinct.{are_distinct}
 use Rattle.pdc_life.proofs.Lists.{both, heads}
 use Rattle.pdc_life.proofs.Stages.{Just, of_broken, of_config, of_data, of_foreign, of_no_instant, of_other_kind, ReadOnce, same_just, same_staged, same_unless, SayOne, Staged, Unless}
@@ -74,15 +75,17 @@ module _ (laws : ReadOnce) (tell : OwnSectionsTellStamps) where
   one_stamp : (a b : Stamp) → (a.start ≡ b.start) × (a.change ≡ b.change) → a ≡ b
   one_stamp a b h = λ i. record { start = h.0 i; change = h.1 i }
 
-  of_spelled : (id : ℕ) (bytes : List ℕ) (a b : Stamp) → IsOwn id bytes a → IsOwn id bytes b → (bytes ≡ own_bytes id Hz50 a.start a.change) ⊎ (bytes ≡ own_bytes id Hz60 a.start a.change)
-      → (bytes ≡ own_bytes id Hz50 b.start b.change) ⊎ (bytes ≡ own_bytes id Hz60 b.start b.change) → a ≡ b
-  of_spelled id bytes a b h k (inl e) (inl f) = one_stamp a b (tell id id Hz50 Hz50 a.start a.change b.start b.change h.start_fits h.change_fits k.start_fits k.change_fits (sym e ∙ f))
-  of_spelled id bytes a b h k (inl e) (inr f) = one_stamp a b (tell id id Hz50 Hz60 a.start a.change b.start b.change h.start_fits h.change_fits k.start_fits k.change_fits (sym e ∙ f))
-  of_spelled id bytes a b h k (inr e) (inl f) = one_stamp a b (tell id id Hz60 Hz50 a.start a.change b.start b.change h.start_fits h.change_fits k.start_fits k.change_fits (sym e ∙ f))
-  of_spelled id bytes a b h k (inr e) (inr f) = one_stamp a b (tell id id Hz60 Hz60 a.start a.change b.start b.change h.start_fits h.change_fits k.start_fits k.change_fits (sym e ∙ f))
+  spelled_by : (id : ℕ) (bytes : List ℕ) (a : Stamp) → IsOwn id bytes a → (n : Nominal) × (bytes ≡ own_bytes id n a.start a.change)
+  spelled_by id bytes a h = elim h.spelled [
+    | inl e ↦ (Hz50, e)
+    | inr e ↦ (Hz60, e)
+  ]
 
   same_stamp : (id : ℕ) (bytes : List ℕ) (a b : Stamp) → IsOwn id bytes a → IsOwn id bytes b → a ≡ b
-  same_stamp id bytes a b h k = of_spelled id bytes a b h k h.spelled k.spelled
+  same_stamp id bytes a b h k =
+      let one = spelled_by id bytes a h in
+      let two = spelled_by id bytes b k in
+      one_stamp a b (tell id id one.0 two.0 a.start a.change b.start b.change h.start_fits h.change_fits k.start_fits k.change_fits (sym one.1 ∙ two.1))
 
   same_in_own : (settings : MergerSettings) (node : MergedNode) → SayOne (InOwn settings node)
   same_in_own settings node [] a b h k = absurd h

@@ -1,12 +1,12 @@
 -- Lives of the merger are runs.
-use Rattle.pdc_life.proofs.Names.{[], if◌then◌else◌, ◌*◌, ◌++◌, ◌+◌, ◌<◌, ◌==◌, ◌∙◌, ◌∷◌, ◌≡◌, ◌≤◌, AllByRecursion, Answer, ap, AreBytes, AreSound, AreWords, arith, Arrival, Bool, BytesRefused, Candidate, cast_signed, cast_unsigned, cell_under, CellView, cond, ConfigFields, CountConflict, Data, drop, Entry, false, false≢true, get_or-drop, Given, given_of_merger, has_count_conflict, HaveColumns, held_layout, HeldLayout, is_in_force, is_older, is_taken, IsConfig, IsInTime, IsLayoutOf, IsLife, IsMergerLife, IsOfSectionInForce, IsSection, IsSound, Known, Layout, layout_answer, length, length-drop, length-take-le, List, map, merged_answer, merged_cells, MergedNode, MergerLivesAreRuns, MergerSettings, nodes_of, None, not, OldStamp, Option, payload_of, range_with_len, ReadsForMerger, refl, Refused, Rises, rules, section_in_force, SectionFields, slice_get, slice_get_within, Some, Stamp, Stream, stream_from, streams_of, subst, suc, sum, sym, take, Taken, to_be_bytes, true, w16, w32, word_count_of, words_in, WordsOfBytes, zero, ℕ}
+use Rattle.pdc_life.proofs.Names.{[], if◌then◌else◌, ◌*◌, ◌++◌, ◌+◌, ◌<◌, ◌==◌, ◌∙◌, ◌∷◌, ◌≡◌, ◌≤◌, AllByRecursion, Answer, ap, AreBytes, AreSound, AreWords, arith, Arrival, Bool, BytesRefused, Candidate, cast_signed, cast_unsigned, cell_under, CellView, cond, cond_both, ConfigFields, CountConflict, Data, drop, Entry, false, false≢true, get_or-drop, Given, given_of_merger, has_count_conflict, HaveColumns, held_layout, HeldLayout, is_in_force, is_older, is_taken, IsConfig, IsInTime, IsLayoutOf, IsLife, IsMergerLife, IsOfSectionInForce, IsSection, IsSound, Known, Layout, layout_answer, length, length-drop, length-take-le, List, map, merged_answer, merged_cells, MergedNode, MergerLivesAreRuns, MergerSettings, nodes_of, None, not, OldStamp, Option, payload_of, range_with_len, ReadsForMerger, refl, Refused, Rises, rules, section_in_force, SectionFields, slice_get, slice_get_within, Some, Stamp, Stream, stream_from, streams_of, subst, suc, sum, sym, take, Taken, to_be_bytes, true, w16, w32, word_count_of, words_in, WordsOfBytes, zero, ℕ}
 use Rattle.std.proofs.lemmas.List.Sums.{sum_by-cons}
 use Rattle.pdc_life.proofs.Come.{in_force_whole}
 use Rattle.pdc_life.proofs.Frames.{words_cons, words_none}
 use Rattle.pdc_life.proofs.InTime.{merger_gives, MergerGives, node_words}
 use Rattle.pdc_life.proofs.LifeLaws.{lives_are_ticked}
 use Rattle.pdc_life.proofs.Lists.{by_each, heads, May, of_each, same_number}
-use Rattle.pdc_life.proofs.NodeRuns.{data_has_tag, data_is_bytes, in_time_of, lives_are_sound}
+use Rattle.pdc_life.proofs.NodeRuns.{data_has_tag, data_is_bytes, in_time_of, lives_are_sound, not_either}
 use Rattle.pdc_life.proofs.SameCount.{of_held_layout, same_count_same_section}
 
 -- what the law of configurations says
@@ -88,16 +88,14 @@ rises_lower : (m n : ℕ) (ns : List ℕ) → m ≤ n → Rises n ns → Rises m
 rises_lower m n [] h r = tt
 rises_lower m n (k ∷ ns) h r = (omega (arith, h, r.0), r.1)
 
-with_cell : (b : Bool) (n c : ℕ) (cell : CellView) (rest : List (ℕ × CellView)) → n < c + 1 → Rises (c + 1) (cells_above rest) → Rises n (cells_above (cond b ((c, cell) ∷ []) [] ++ rest))
-with_cell true n c cell rest h r = (h, r)
-with_cell false n c cell rest h r = rises_lower n (c + 1) (cells_above rest) (omega (arith, h)) r
-
 cells_rise : (g : Given) (E : List Entry) (quality n : ℕ) (parts : Parts) (words : List ℕ) → Rises n (columns_above parts) → Rises n (cells_above (merged_cells g E quality parts words))
 cells_rise g E quality n [] words r = tt
 cells_rise g E quality n (part ∷ parts) words r =
-    with_cell (is_in_force part.1 (section_in_force g E part.0)) n part.0 (cell_under part.1 quality (take (word_count_of part.1.shape) words))
-    (merged_cells g E quality parts (drop (word_count_of part.1.shape) words)) r.0
-    (cells_rise g E quality (part.0 + 1) parts (drop (word_count_of part.1.shape) words) r.1)
+    let cells : List (ℕ × CellView) = merged_cells g E quality parts (drop (word_count_of part.1.shape) words) in
+    let rest : Rises (part.0 + 1) (cells_above cells) = cells_rise g E quality (part.0 + 1) parts (drop (word_count_of part.1.shape) words) r.1 in
+    cond_both (is_in_force part.1 (section_in_force g E part.0)) ((part.0, cell_under part.1 quality (take (word_count_of part.1.shape) words)) ∷ []) []
+    (λ (front : List (ℕ × CellView)). Rises n (cells_above (front ++ cells))) (λ e. (r.0, rest))
+    (λ e. rises_lower n (part.0 + 1) (cells_above cells) (omega (arith, r.0)) rest)
 
 pub one_or_none : (P : ℕ × CellView → Type 0) (b : Bool) (part : ℕ × CellView) (rest : List (ℕ × CellView)) → (b ≡ true → P part) → AllByRecursion P rest → AllByRecursion P (cond b (part ∷ []) [] ++ rest)
 one_or_none P true part rest h a = (h refl, a)
@@ -160,17 +158,12 @@ same_section once s t h k e =
 two_not_one : (n : ℕ) → n ≡ 2 → n ≡ 1 → ⊥
 two_not_one n h k = absurd (omega (arith, h, k))
 
-none_taken : (old same conflicts : Bool) → is_taken (cond old (Refused OldStamp) (cond same Known (cond conflicts (Refused CountConflict) Candidate))) ≡ false
-none_taken true same conflicts = refl
-none_taken false true conflicts = refl
-none_taken false false true = refl
-none_taken false false false = refl
-
 -- no layout is taken
 layout_not : (held : Option HeldLayout) (stamp : Stamp) (conflicts : Bool) → is_taken (layout_answer held stamp conflicts) ≡ false
-layout_not None stamp true = refl
-layout_not None stamp false = refl
-layout_not (Some held) stamp conflicts = none_taken (is_older stamp held.stamp) (not (is_older held.stamp stamp)) conflicts
+layout_not None stamp conflicts = not_either conflicts (Refused CountConflict) Candidate refl refl
+layout_not (Some held) stamp conflicts =
+    not_either (is_older stamp held.stamp) (Refused OldStamp) _ refl
+    (not_either (not (is_older held.stamp stamp)) Known _ refl (not_either conflicts (Refused CountConflict) Candidate refl refl))
 
 of_two : (settings : MergerSettings) (g : Given) (E : List Entry) (s : ℕ) (bytes : List ℕ) (arrival : Arrival) → g ≡ given_of_merger settings g.start g.floor g.counts g.opening → ReadsForMerger settings s bytes arrival → s < length (streams_of g)
 of_two settings g E s bytes arrival given r =

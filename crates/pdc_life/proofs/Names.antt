@@ -1,9 +1,10 @@
 -- The names that most proofs of this crate cite, passed on from one place. Declares nothing.
 pub use Rattle.std.proofs.Common.{[], ◌&&◌, ◌*◌, ◌++◌, ◌+◌, ◌-◌, ◌<◌, ◌==◌, ◌^◌, ◌||◌, ◌↔◌, ◌∙◌, ◌∷◌, ◌≡◌, ◌≢◌, ◌≤◌, ◌⊎◌, ap, arith, Bool, cond, drop, eqb, false, filter, inl, inr, is_some, leb, length, length-append, List, ltb, map, max, nat_lt, None, not, Option, option_map, refl, replicate, rules, slice_index_or, Some, subst, suc, sym, take, true, zero, ℕ}
 pub use Rattle.std.proofs.lemmas.Bool.{cases_lt, cond-false, cond_both, false≢true, or_parts}
-pub use Rattle.std.proofs.lemmas.List.{append_assoc, get_or-drop, length-drop, length-replicate, length-take-le, take-append-drop}
+pub use Rattle.std.proofs.lemmas.List.{append_assoc, get_or-drop, length-drop, length-map, length-replicate, length-take-le, take-append-drop}
 pub use Rattle.std.proofs.lemmas.List.Elements.{All-contains, All-from_recursion, Contains-append_left, Contains-append_right}
 pub use Rattle.std.proofs.lemmas.List.FromFn.{length-range_with_len}
+pub use Rattle.std.proofs.lemmas.Map.Views.{any-filter_same}
 pub use Rattle.std.proofs.lemmas.Option.{cond_some, none-some, same_Some, slice_get_within}
 pub use Rattle.std.specs.Cmp.Lexicographic.{other_text, pointwise, same_text}
 pub use Rattle.std.specs.Int.{cast_signed, cast_unsigned, to_be_bytes, w16, w32}
@@ -55,7 +56,6 @@ pub use Rattle.pdc_life.specs.declared.merging.MergedNode.{MergedNode}
 pub use Rattle.pdc_life.specs.declared.merging.MergerSettings.{MergerSettings}
 pub use Rattle.pdc_life.specs.declared.outcome.Outcome.{Outcome}
 pub use Rattle.pdc_life.specs.declared.outcome.Outcome.TheVariants.{Candidate, Known, Refused, Taken}
-pub use Rattle.pdc_life.specs.declared.outcome.Refusal.{Refusal}
 pub use Rattle.pdc_life.specs.declared.outcome.Refusal.TheVariants.{Ahead, BadOwnBlock, BadTag, Conflict, CountConflict, Duplicate, Late, NoConfig, NoConfiguration, NoFrame, OldStamp, OtherStamp, OutOfWindow, StaleCount, UnknownSource, WrongId, WrongLength, WrongRate, WrongSource, WrongTimeBase}
 pub use Rattle.pdc_life.specs.declared.pmu.Pmu.{Pmu}
 pub use Rattle.pdc_life.specs.declared.timing.WaitKind.{WaitKind}

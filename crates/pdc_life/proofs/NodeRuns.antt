@@ -1,15 +1,11 @@
 -- Lives of a node are runs.
-use Rattle.pdc_life.proofs.Names.{[], if◌then◌else◌, ◌*◌, ◌+◌, ◌<◌, ◌==◌, ◌∙◌, ◌∷◌, ◌≡◌, ◌≤◌, AllByRecursion, Answer, answer_in_time, ap, AreBytes, AreSound, AreWords, arith, Arrival, Arrive, Bool, BytesRefused, Candidate, cases_lt, cell_under, CellView, cond, count_for, CountConflict, Data, Entry, false, false≢true, Given, HaveColumns, held_section, inl, inr, is_taken, IsData, IsGivenBy, IsInstant, IsInTime, IsLife, IsOfSectionInForce, IsSection, IsSound, IsValid, Known, Layout, length, length-range_with_len, List, ltb, nat_eq, node_answer, NodeLivesAreRuns, None, Option, Outcome, Pmu, pointwise, range_with_len, ReadsFor, refl, Refusal, Refused, Rules, section_after, section_answer, section_in_force, SectionFields, Settings, slice_get_within, Some, StaleCount, Stream, stream_of, streams_of, subst, sym, Taken, true, word_count_of, words_in, WordsOfBytes, ℕ}
+use Rattle.pdc_life.proofs.Names.{[], if◌then◌else◌, ◌*◌, ◌+◌, ◌<◌, ◌==◌, ◌∙◌, ◌∷◌, ◌≡◌, ◌≤◌, AllByRecursion, Answer, answer_in_time, ap, AreBytes, AreSound, AreWords, arith, Arrival, Arrive, Bool, BytesRefused, Candidate, cases_lt, cell_under, CellView, cond, count_for, CountConflict, Data, Entry, false, false≢true, Given, HaveColumns, held_section, inl, inr, is_taken, IsData, IsGivenBy, IsInstant, IsInTime, IsLife, IsOfSectionInForce, IsSection, IsSound, IsValid, Known, Layout, length, length-range_with_len, List, ltb, nat_eq, node_answer, NodeLivesAreRuns, None, Option, Outcome, Pmu, pointwise, range_with_len, ReadsFor, refl, Refused, Rules, section_after, section_answer, section_in_force, SectionFields, Settings, slice_get_within, Some, StaleCount, Stream, stream_of, streams_of, subst, sym, Taken, true, word_count_of, words_in, WordsOfBytes, ℕ}
 use Rattle.std.proofs.Math.Nat.{mul-le-mul_right}
 use Rattle.pdc_output.specs.pdc_tag.Slot.{IsSlot}
 use Rattle.pdc_life.proofs.InTime.{node_cells, node_gives, taken_cells}
 use Rattle.pdc_life.proofs.LifeLaws.{lives_are_ticked}
 
-not_taken : (b : Bool) (r : Refusal) (o : Outcome) → is_taken o ≡ false → is_taken (cond b (Refused r) o) ≡ false
-not_taken true r o h = refl
-not_taken false r o h = h
-
-not_either : (b : Bool) (o q : Outcome) → is_taken o ≡ false → is_taken q ≡ false → is_taken (cond b o q) ≡ false
+pub not_either : (b : Bool) (o q : Outcome) → is_taken o ≡ false → is_taken q ≡ false → is_taken (cond b o q) ≡ false
 not_either true o q h k = h
 not_either false o q h k = k
 
@@ -17,11 +13,11 @@ not_either false o q h k = k
 after_not : (held : Option SectionFields) (s : SectionFields) → is_taken (section_after held s) ≡ false
 after_not None s = refl
 after_not (Some held) s =
-    not_taken (ltb s.count held.count) StaleCount _
+    not_either (ltb s.count held.count) (Refused StaleCount) _ refl
     (not_either (ltb held.count s.count) Candidate _ refl (not_either (pointwise nat_eq held.bytes s.bytes) Known (Refused CountConflict) refl refl))
 
 section_not : (opening : ℕ) (held : Option SectionFields) (s : SectionFields) → is_taken (section_answer opening held s) ≡ false
-section_not opening held s = not_taken (ltb s.count opening) StaleCount (section_after held s) (after_not held s)
+section_not opening held s = not_either (ltb s.count opening) (Refused StaleCount) (section_after held s) refl (after_not held s)
 
 -- a slot lies in its second, and the instant of a tag in a second that SOC can name
 slot_below : (frac time_base rate k : ℕ) → IsSlot frac time_base rate k → k < rate
