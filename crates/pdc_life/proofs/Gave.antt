@@ -1,7 +1,7 @@
 -- A cell that is there was given, and what was given is there until its column is adopted.
 use Rattle.pdc_life.proofs.Names.{[], ◌&&◌, ◌++◌, ◌+◌, ◌<◌, ◌∙◌, ◌∷◌, ◌≡◌, ◌⊎◌, AllByRecursion, Answer, ap, AreSound, arith, Arrive, Bool, cell_in, cell_of, CellView, chosen_of, cond, cond-false, cond_both, cond_some, Contains, Data, Entry, eqb, false, false≢true, find, first_of, Gave, GaveShown, GaveUnderSection, Given, inl, inr, is_adoption_of, is_of_column, is_present, is_take_of, is_taken, IsInTime, IsSound, length, List, map, None, none-some, Option, option_map, present_of, refl, Rises, same_Some, section_in_force, ShallShowCell, slice_index_or, Some, subst, suc, sym, Take, take_at, take_of, Taken, takes, takes_since_adopted, true, zero, ℕ}
 use Rattle.pdc_life.proofs.InTime.{taken_is_in_time}
-use Rattle.pdc_life.proofs.Lists.{appended, both, by_cases, each, first_in, found, later_in, none_found, not_same, same_number, same_self}
+use Rattle.pdc_life.proofs.Lists.{above_first, appended, both, by_cases, each, first_in, found, later_in, none_found, not_same, same_number, same_self}
 use Rattle.pdc_life.proofs.Steps.{at_take, run_before}
 
 -- ---- a cell that is there was given
@@ -90,12 +90,6 @@ gave_under_section g E s c i cell k =
 -- ---- what was given is there
 
 -- the columns of cells rise, so the first that is found in a column is the one that is there
-above_first : (n c : ℕ) (cell : CellView) (parts : List (ℕ × CellView)) (k : ℕ) → Rises n (map (λ (part : ℕ × CellView). part.0 + 1) parts) → k < length parts → slice_index_or parts k (c, cell) ≡ (c, cell) → n < c + 1
-above_first n c cell [] k r l e = absurd (omega (arith, l))
-above_first n c cell (part ∷ parts) zero r l e = let same : part.0 ≡ c = ap (λ (x : ℕ × CellView). x.0) e in omega (arith, r.0, same)
-above_first n c cell (part ∷ parts) (suc k) r l e =
-    let m : part.0 + 1 < c + 1 = above_first (part.0 + 1) c cell parts k r.1 (omega (arith, l)) e in omega (arith, r.0, m)
-
 only_one : (n c : ℕ) (cell : CellView) (parts : List (ℕ × CellView)) (k : ℕ) → Rises n (map (λ (part : ℕ × CellView). part.0 + 1) parts) → k < length parts → slice_index_or parts k (c, cell) ≡ (c, cell)
     → cell_at (find (is_of_column c) parts) ≡ Some cell
 only_one n c cell [] k r l e = absurd (omega (arith, l))

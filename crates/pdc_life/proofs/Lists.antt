@@ -1,5 +1,5 @@
 -- What holds of all of a list, of a part of it, and of the first that a test finds; and tests of numbers.
-use Rattle.pdc_life.proofs.Names.{[], ◌&&◌, ◌++◌, ◌<◌, ◌∙◌, ◌∷◌, ◌≡◌, ◌≤◌, All-contains, All-from_recursion, AllByRecursion, arith, Bool, Candidate, cond_both, Contains, eqb, false, false≢true, filter, find, is_candidate, is_taken, leb, List, None, none-some, not, Option, Outcome, refl, rules, same_Some, slice_get, Some, subst, suc, sym, Taken, true, zero, ℕ}
+use Rattle.pdc_life.proofs.Names.{[], ◌&&◌, ◌++◌, ◌+◌, ◌<◌, ◌∙◌, ◌∷◌, ◌≡◌, ◌≤◌, All-contains, All-from_recursion, AllByRecursion, ap, arith, Bool, Candidate, cond_both, Contains, eqb, false, false≢true, filter, find, is_candidate, is_taken, leb, length, List, list_any, map, None, none-some, not, Option, or_parts, Outcome, refl, Rises, rules, same_Some, slice_get, slice_index_or, Some, subst, suc, sym, Taken, true, zero, ℕ}
 
 -- what holds, where there is one
 abbrev pub May : {A : Type 0} → (A → Type 0) → Option A → Type 0
@@ -51,6 +51,18 @@ contains_at (y ∷ xs) (suc k) x h = later_in y xs x (contains_at xs k x h)
 pub by_each : {A : Type 0} (P : A → Type 0) (xs : List A) → ((x : A) → Contains xs x → P x) → AllByRecursion P xs
 by_each P [] h = tt
 by_each P (x ∷ xs) h = (h x (first_in x xs), by_each P xs (λ y k. h y (later_in x xs y k)))
+
+-- where columns rise, one that is listed behind lies above
+pub above_first : {A : Type 0} (n c : ℕ) (x : A) (parts : List (ℕ × A)) (k : ℕ) → Rises n (map (λ (part : ℕ × A). part.0 + 1) parts) → k < length parts
+    → slice_index_or parts k (c, x) ≡ (c, x) → n < c + 1
+above_first n c x [] k r l e = absurd (omega (arith, l))
+above_first {A = A} n c x (part ∷ parts) zero r l e = let same : part.0 ≡ c = ap (λ (p : ℕ × A). p.0) e in omega (arith, r.0, same)
+above_first n c x (part ∷ parts) (suc k) r l e =
+    let m : part.0 + 1 < c + 1 = above_first (part.0 + 1) c x parts k r.1 (omega (arith, l)) e in omega (arith, r.0, m)
+
+pub none_passes : {A : Type 0} (f : A → Bool) (xs : List A) → list_any f xs ≡ false → AllByRecursion (λ (x : A). f x ≡ false) xs
+none_passes f [] h = tt
+none_passes f (x ∷ xs) h = let apart = or_parts (f x) (list_any f xs) h in (apart.0, none_passes f xs apart.1)
 
 pub found : {A : Type 0} (f : A → Bool) (P : A → Type 0) (xs : List A) (x : A) → AllByRecursion P xs → find f xs ≡ Some x → (f x ≡ true) × P x
 found f P [] x a h = absurd (none-some x h)

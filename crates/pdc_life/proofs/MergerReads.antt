@@ -1,36 +1,23 @@
 -- Bytes that arrive from a node say one thing at the merger.
-use Rattle.pdc_life.proofs.Names.{[], ◌==◌, ◌||◌, ◌∙◌, ◌∷◌, ◌≡◌, AllByRecursion, ap, AreOfTable, Arrival, BadOwnBlock, BadTag, Bool, BytesRefused, cast_unsigned, ConfigFields, Data, eqb, false, false≢true, HasSections, Hz50, Hz60, inl, inr, IsOwn, Layout, List, list_any, map, MergedNode, MergerReadsOnce, MergerSettings, NoConfiguration, NoFrame, None, none-some, not, own_bytes, OwnSectionsTellStamps, ReadsForMerger, ReadsFrom, refl, rules, same_Some, SectionFields, slice_get, Some, Stamp, stream_from, subst, suc, sym, true, UnknownSource, w16, WrongId, WrongKind, WrongRate, WrongTimeBase, zero, ℕ}
+use Rattle.pdc_life.proofs.Names.{[], ◌==◌, ◌||◌, ◌∙◌, ◌∷◌, ◌≡◌, AllByRecursion, ap, AreOfTable, Arrival, BadOwnBlock, BadTag, Bool, BytesRefused, cast_unsigned, ConfigFields, Data, eqb, false≢true, HasSections, Hz50, Hz60, inl, inr, IsOwn, Layout, List, list_any, map, MergedNode, MergerReadsOnce, MergerSettings, NoConfiguration, NoFrame, None, none-some, not, own_bytes, OwnSectionsTellStamps, ReadsForMerger, ReadsFrom, refl, rules, same_Some, SectionFields, slice_get, Some, Stamp, stream_from, subst, suc, sym, true, UnknownSource, w16, WrongId, WrongKind, WrongRate, WrongTimeBase, zero, ℕ}
 use Rattle.pdc_output.specs.declared.output.Nominal.{Nominal}
 use Rattle.pdc_life.specs.Distinct.{are_distinct}
-use Rattle.pdc_life.proofs.Lists.{both, heads}
+use Rattle.pdc_life.proofs.Lists.{both, by_cases, heads}
 use Rattle.pdc_life.proofs.Stages.{Just, of_broken, of_config, of_data, of_foreign, of_no_instant, of_other_kind, ReadOnce, same_just, same_staged, same_unless, SayOne, Staged, Unless}
 
 -- ---- the table tells the column of a source
 
-later_there : (a b : Bool) → b ≡ true → (a || b) ≡ true
-later_there true b h = refl
-later_there false b h = h
-
-first_there : (id x : ℕ) (b : Bool) → id ≡ x → (eqb id x || b) ≡ true
-first_there id x b h = search rules
-
 there : (ids : List ℕ) (n x : ℕ) → slice_get ids n ≡ Some x → list_any (λ other. other == x) ids ≡ true
 there [] n x h = absurd (none-some x h)
-there (id ∷ ids) zero x h = first_there id x (list_any (λ other. other == x) ids) (same_Some id x h)
-there (id ∷ ids) (suc n) x h = later_there (eqb id x) (list_any (λ other. other == x) ids) (there ids n x h)
-
-not_there : (b : Bool) → not b ≡ true → b ≡ true → ⊥
-not_there true h k = absurd (false≢true h)
-not_there false h k = absurd (false≢true k)
+there (id ∷ ids) zero x h = let same : id ≡ x = same_Some id x h in search rules
+there (id ∷ ids) (suc n) x h = by_cases (λ (b : Bool). (b || list_any (λ other. other == x) ids) ≡ true) (eqb id x) (λ e. refl) (λ e. there ids n x h)
 
 same_place : (ids : List ℕ) (m n x : ℕ) → are_distinct ids ≡ true → slice_get ids m ≡ Some x → slice_get ids n ≡ Some x → m ≡ n
 same_place [] m n x d h k = absurd (none-some x h)
 same_place (id ∷ ids) zero zero x d h k = refl
-same_place (id ∷ ids) zero (suc n) x d h k =
-    absurd (not_there (list_any (λ other. other == id) ids) (both (not (list_any (λ other. other == id) ids)) (are_distinct ids) d).0 (there ids n id (k ∙ sym h)))
-same_place (id ∷ ids) (suc m) zero x d h k =
-    absurd (not_there (list_any (λ other. other == id) ids) (both (not (list_any (λ other. other == id) ids)) (are_distinct ids) d).0 (there ids m id (h ∙ sym k)))
-same_place (id ∷ ids) (suc m) (suc n) x d h k = ap suc (same_place ids m n x (both (not (list_any (λ other. other == id) ids)) (are_distinct ids) d).1 h k)
+same_place (id ∷ ids) zero (suc n) x d h k = absurd (false≢true (sym (ap not (there ids n id (k ∙ sym h))) ∙ (both _ (are_distinct ids) d).0))
+same_place (id ∷ ids) (suc m) zero x d h k = absurd (false≢true (sym (ap not (there ids m id (h ∙ sym k))) ∙ (both _ (are_distinct ids) d).0))
+same_place (id ∷ ids) (suc m) (suc n) x d h k = ap suc (same_place ids m n x (both _ (are_distinct ids) d).1 h k)
 
 abbrev Parts : Type 0
 Parts = List (ℕ × SectionFields)

@@ -1,8 +1,8 @@
 -- At the merger a section of a held layout with the count in force is the one in force.
-use Rattle.pdc_life.proofs.Names.{[], ◌&&◌, ◌++◌, ◌+◌, ◌<◌, ◌||◌, ◌∙◌, ◌∷◌, ◌≡◌, ◌≤◌, AllByRecursion, Answer, ap, arith, Arrive, Bool, Candidate, cases_lt, cond, cond_both, count_for, CountConflict, differs_from, Entry, eqb, false, false≢true, filter, first_greatest, flat_map, Given, greater, has_count_conflict, held_layout, held_section, HeldLayout, inl, inr, is_adoption_of, is_candidate, is_of_column, is_older, IsLife, Known, Layout, layout_answer, leb, List, ltb, map, merged_answer, MergerSettings, nat_eq, None, not, OldStamp, Option, or_parts, pointwise, ReadsForMerger, refl, Refused, Rises, rules, same_text, SameCountSameSection, section_in_force, SectionFields, sections_at, Some, Stamp, subst, sym, true, ℕ}
+use Rattle.pdc_life.proofs.Names.{[], ◌&&◌, ◌++◌, ◌+◌, ◌<◌, ◌||◌, ◌∙◌, ◌∷◌, ◌≡◌, ◌≤◌, AllByRecursion, Answer, ap, arith, Arrive, Bool, Candidate, cases_lt, cond, cond_both, count_for, CountConflict, differs_from, Entry, eqb, false, false≢true, filter, first_greatest, flat_map, Given, greater, has_count_conflict, held_layout, held_section, HeldLayout, inl, inr, is_adoption_of, is_candidate, is_of_column, is_older, IsLife, Known, Layout, layout_answer, leb, length, List, ltb, map, merged_answer, MergerSettings, nat_eq, None, not, OldStamp, Option, or_parts, pointwise, ReadsForMerger, refl, Refused, Rises, rules, same_text, SameCountSameSection, section_in_force, SectionFields, sections_at, slice_index_or, Some, Stamp, subst, suc, sym, true, zero, ℕ}
 use Rattle.pdc_life.proofs.InForce.{in_force_is_cleared}
 use Rattle.pdc_life.proofs.LifeLaws.{lives_are_ticked}
-use Rattle.pdc_life.proofs.Lists.{both, each, May, may_each, not_same, of_each, same_self}
+use Rattle.pdc_life.proofs.Lists.{above_first, both, by_each, each, May, may_each, none_passes, not_same, of_each}
 use Rattle.pdc_life.proofs.Steps.{life_before}
 
 -- a section is not above what is held, and one of the same count has the same bytes
@@ -72,32 +72,20 @@ none_of c n (part ∷ parts) h r =
     let e : eqb part.0 c ≡ false = not_below part.0 c (omega (arith, h, r.0)) in
     rw e (none_of c (part.0 + 1) parts (omega (arith, h, r.0)) r.1)
 
--- each stands alone in its column
-abbrev Alone : List (ℕ × SectionFields) → ℕ × SectionFields → Type 0
-Alone parts part = of_column part.0 parts ≡ part.1 ∷ []
-
-abbrev higher : ℕ → List (ℕ × SectionFields) → Type 0
-higher n parts = AllByRecursion (λ (part : ℕ × SectionFields). n < part.0 + 1) parts
-
-are_higher : (low n : ℕ) (parts : List (ℕ × SectionFields)) → low ≤ n → Rises n (columns_above parts) → higher low parts
-are_higher low n [] h r = tt
-are_higher low n (part ∷ parts) h r = (omega (arith, h, r.0), are_higher low (part.0 + 1) parts (omega (arith, h, r.0)) r.1)
-
-alone_behind : (first : ℕ × SectionFields) (all parts : List (ℕ × SectionFields)) → higher (first.0 + 1) parts → AllByRecursion (Alone all) parts → AllByRecursion (Alone (first ∷ all)) parts
-alone_behind first all [] h a = tt
-alone_behind first all (part ∷ parts) h a = (
-  (let e : eqb first.0 part.0 ≡ false = not_same first.0 part.0 (omega (arith, h.0)) in rw e a.0),
-  alone_behind first all parts h.1 a.1,
-)
-
-each_alone : (n : ℕ) (parts : List (ℕ × SectionFields)) → Rises n (columns_above parts) → AllByRecursion (Alone parts) parts
-each_alone n [] r = tt
-each_alone n (part ∷ parts) r =
-    let none : filter (is_of_column part.0) parts ≡ [] = none_of part.0 (part.0 + 1) parts (omega arith) r.1 in
-    let here : eqb part.0 part.0 ≡ true = same_self part.0 in (
-      (rw (here, none) refl),
-      alone_behind part parts parts (are_higher (part.0 + 1) (part.0 + 1) parts (omega arith) r.1) (each_alone (part.0 + 1) parts r.1),
-    )
+-- so each stands alone in its column
+alone : (n c : ℕ) (s : SectionFields) (parts : List (ℕ × SectionFields)) (k : ℕ) → Rises n (columns_above parts) → k < length parts
+    → slice_index_or parts k (c, s) ≡ (c, s)
+    → of_column c parts ≡ s ∷ []
+alone n c s [] k r l e = absurd (omega (arith, l))
+alone n c s (part ∷ parts) zero r l e =
+    let column : part.0 ≡ c = ap (λ (p : ℕ × SectionFields). p.0) e in
+    let here : eqb part.0 c ≡ true = search rules in
+    let none : filter (is_of_column c) parts ≡ [] = none_of c (part.0 + 1) parts (omega (arith, column)) r.1 in
+    rw (here, none) (ap (λ (p : ℕ × SectionFields). p.1 ∷ []) e)
+alone n c s (part ∷ parts) (suc k) r l e =
+    let above : part.0 + 1 < c + 1 = above_first (part.0 + 1) c s parts k r.1 (omega (arith, l)) e in
+    let other : eqb part.0 c ≡ false = not_same part.0 c (omega (arith, above)) in
+    rw other (alone (part.0 + 1) c s parts k r.1 (omega (arith, l)) e)
 
 equal_text : (xs ys : List ℕ) (b : Bool) → b ≡ pointwise nat_eq xs ys → not b ≡ false → xs ≡ ys
 equal_text xs ys true e h = same_text xs ys e
@@ -134,19 +122,21 @@ new_one : (low : ℕ) (old : List SectionFields) (t : SectionFields) (b : Bool) 
 new_one low old t true e h same = new_greater (first_greatest old) t same
 new_one low old t false e h same = let up : leb low t.count ≡ true = search rules in absurd (false≢true (sym e ∙ up))
 
-new_good : (g : Given) (E : List Entry) (r : ℕ) (bytes : List ℕ) (stamp : Stamp) (all parts : List (ℕ × SectionFields)) (answer : Answer) → is_candidate answer.outcome ≡ true
-    → AllByRecursion (Alone all) parts → has_count_conflict g E parts ≡ false → AreGood g (Arrive r bytes (Layout (Some stamp) all) answer ∷ E) parts
-new_good g E r bytes stamp all [] answer accepted alone none = tt
-new_good g E r bytes stamp all (part ∷ parts) answer accepted alone none =
-    let apart = or_parts (differs_from (held_section g E part.0) part.1 || differs_from (section_in_force g E part.0) part.1) (has_count_conflict g E parts) none in
-    let both = or_parts (differs_from (held_section g E part.0) part.1) (differs_from (section_in_force g E part.0) part.1) apart.0 in (
-      (λ low. (
-        rw (accepted, alone.0) (new_one (count_for part.0 g.counts) (filter (passes (count_for part.0 g.counts)) (flat_map (sections_at part.0) E)) part.1 (leb (count_for part.0 g.counts) part.1.count) refl low
-            (no_conflict_with (held_section g E part.0) part.1 both.0)),
-        no_conflict_with (section_in_force g E part.0) part.1 both.1,
-      )),
-      new_good g E r bytes stamp all parts answer accepted alone.1 apart.1,
-    )
+new_good : (g : Given) (E : List Entry) (r : ℕ) (bytes : List ℕ) (stamp : Stamp) (parts : List (ℕ × SectionFields)) (answer : Answer)
+    → is_candidate answer.outcome ≡ true
+    → Rises 0 (columns_above parts) → has_count_conflict g E parts ≡ false → AreGood g (Arrive r bytes (Layout (Some stamp) parts) answer ∷ E) parts
+new_good g E r bytes stamp parts answer accepted rise none =
+    let apart =
+    none_passes (λ (part : ℕ × SectionFields). differs_from (held_section g E part.0) part.1 || differs_from (section_in_force g E part.0) part.1) parts none in
+    by_each (Good g (Arrive r bytes (Layout (Some stamp) parts) answer ∷ E)) parts (λ part among low.
+    let either = or_parts (differs_from (held_section g E part.0) part.1) (differs_from (section_in_force g E part.0) part.1)
+    (of_each (λ (p : ℕ × SectionFields). (differs_from (held_section g E p.0) p.1 || differs_from
+    (section_in_force g E p.0) p.1) ≡ false) parts part apart among) in (
+      rw (accepted, alone 0 part.0 part.1 parts among.0 rise among.1 among.2) (new_one (count_for part.0 g.counts)
+          (filter (passes (count_for part.0 g.counts)) (flat_map (sections_at part.0) E)) part.1 (leb (count_for part.0 g.counts) part.1.count) refl low
+          (no_conflict_with (held_section g E part.0) part.1 either.0)),
+      no_conflict_with (section_in_force g E part.0) part.1 either.1,
+    ))
 
 -- ---- every life
 
@@ -173,7 +163,7 @@ held_are_good : (settings : MergerSettings) (g : Given) (E : List Entry) (s : �
     → May (λ (h : HeldLayout). AreGood g E h.sections) (held_layout E s)
 held_are_good settings g E s life =
     of_held_layout settings g (λ F h. AreGood g F h.sections) (λ F e h k. each (Good g F) (Good g (e ∷ F)) h.sections (good_after g F e) k)
-    (λ F r bytes stamp parts answer reads is accepted. new_good g F r bytes stamp parts parts answer accepted (each_alone 0 parts reads.reads.of_table.rise)
+    (λ F r bytes stamp parts answer reads is accepted. new_good g F r bytes stamp parts answer accepted reads.reads.of_table.rise
     (accepted_has_none (held_layout F r) stamp (has_count_conflict g F parts) (sym (ap (λ (a : Answer). is_candidate a.outcome) is) ∙ accepted))) E s life
 
 pub same_count_same_section : SameCountSameSection

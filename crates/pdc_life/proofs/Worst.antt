@@ -56,17 +56,12 @@ where_one h a (suc n) x k = one_at h a n x (h a) refl (where_one h (a + 1) n x) 
 
 -- ---- the quality of the row
 
-record Chosen (f : Option SectionFields) (chosen : Option CellView) (x : ℕ) : Type 0 where
-  section : SectionFields
-  in_force : f ≡ Some section
-  cell : CellView
-  is : chosen ≡ Some cell
-  same : time_quality_of cell ≡ x
-
-chosen_with : (f : Option SectionFields) (chosen : Option CellView) (x : ℕ) → quality_in f chosen ≡ Some x → Chosen f chosen x
+-- the section in force and the cell that a column's quality is of
+chosen_with : (f : Option SectionFields) (chosen : Option CellView) (x : ℕ) → quality_in f chosen ≡ Some x
+    → (section : SectionFields) × (f ≡ Some section) × (cell : CellView) × (chosen ≡ Some cell) × (time_quality_of cell ≡ x)
 chosen_with None chosen x h = absurd (none-some x h)
 chosen_with (Some f) None x h = absurd (none-some x h)
-chosen_with (Some f) (Some cell) x h = record { section = f; in_force = refl; cell = cell; is = refl; same = same_Some (time_quality_of cell) x h }
+chosen_with (Some f) (Some cell) x h = (f, refl, cell, refl, same_Some (time_quality_of cell) x h)
 
 given_quality : (f : Option SectionFields) (chosen : Option CellView) (section : SectionFields) (cell : CellView) → f ≡ Some section → chosen ≡ Some cell → quality_in f chosen ≡ Some (time_quality_of cell)
 given_quality f chosen section cell e k = ap (λ (s : Option SectionFields). quality_in s chosen) e ∙ ap (λ (o : Option CellView). quality_in (Some section) o) k
@@ -78,15 +73,15 @@ quality_is_worst_shown g E i run =
     let shown_one : OneOf (quality_of all) all → (cell : CellView) × ShallShowSome g E i cell × (time_quality_of cell ≡ quality_of all) = λ k.
     let at = where_one h 0 g.columns (quality_of all) k in
     let chosen = chosen_with (section_in_force g E at.place) (chosen_of g E at.place i) (quality_of all) at.gives in (
-      chosen.cell,
+      chosen.2,
       record {
         column = at.place;
         here = omega (arith, at.high);
-        section = chosen.section;
-        in_force = chosen.in_force;
-        shown = chosen_cell g E at.place i run.sound (eqb g.lanes 1) refl chosen.cell chosen.is;
+        section = chosen.0;
+        in_force = chosen.1;
+        shown = chosen_cell g E at.place i run.sound (eqb g.lanes 1) refl chosen.2 chosen.3;
       },
-      chosen.same,
+      chosen.4,
     ) in
     record {
       none_worse = λ cell k.
