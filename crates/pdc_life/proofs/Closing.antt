@@ -7,15 +7,12 @@ or_second : (a b : Bool) → (not a || b) ≡ true → a ≡ true → b ≡ true
 or_second true b h k = h
 or_second false b h k = absurd (false≢true k)
 
-le_true : (j i : ℕ) → j ≤ i → nat_le j i ≡ true
-le_true j i h = search rules
-
 all_due : (g : Given) (E : List Entry) (now i : ℕ) (js : List ℕ) → list_all (λ j. not (nat_le j i) || is_due g E now j) js ≡ true → AllByRecursion (λ j. j ≤ i → is_due g E now j ≡ true) js
 all_due g E now i [] h = tt
 all_due g E now i (j ∷ js) h =
     let b : ((not (nat_le j i) || is_due g E now j) ≡ true) × (list_all (λ k. not (nat_le k i) || is_due g E now k) js ≡ true) =
     both (not (nat_le j i) || is_due g E now j) (list_all (λ k. not (nat_le k i) || is_due g E now k) js) h in
-    ((λ l. or_second (nat_le j i) (is_due g E now j) b.0 (le_true j i l)), all_due g E now i js b.1)
+    ((λ l. or_second (nat_le j i) (is_due g E now j) b.0 (search rules)), all_due g E now i js b.1)
 
 pub none_overtakes : NoneOvertakes
 none_overtakes g E now =

@@ -12,15 +12,12 @@ use Rattle.pdc_life.proofs.Tagged.{closed_low}
 
 -- ---- change numbers
 
-below_greatest : (n : ℕ) → ltb n (2 ^ 32 - 1) ≡ true → n + 1 < 2 ^ 32
-below_greatest n h = search rules
-
 one_more_fits : (b : Bool) (n : ℕ) → n + 1 < 2 ^ 32 → cond b (n + 1) n < 2 ^ 32
 one_more_fits true n h = h
 one_more_fits false n h = omega (arith, h)
 
 after_tick : (n : ℕ) (left : Bool) (ready adopted : List ℕ) → ltb n (2 ^ 32 - 1) ≡ left → adopted ≡ cond left ready [] → n < 2 ^ 32 → cond (ltb 0 (length adopted)) (n + 1) n < 2 ^ 32
-after_tick n true ready adopted e h k = one_more_fits (ltb 0 (length adopted)) n (below_greatest n e)
+after_tick n true ready adopted e h k = one_more_fits (ltb 0 (length adopted)) n (search rules)
 after_tick n false ready adopted e h k =
     let none : ltb 0 (length adopted) ≡ false = ap (λ (ds : List ℕ). ltb 0 (length ds)) h in
     subst (λ (b : Bool). cond b (n + 1) n < 2 ^ 32) (sym none) k

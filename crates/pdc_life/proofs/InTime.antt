@@ -17,12 +17,6 @@ not_false : (b : Bool) → not b ≡ false → b ≡ true
 not_false true h = refl
 not_false false h = absurd (false≢true (sym h))
 
-is_later : (i last : ℕ) → nat_le i last ≡ false → last < i
-is_later i last h = search rules
-
-is_not_ahead : (top i : ℕ) → ltb top i ≡ false → i ≤ top
-is_not_ahead top i h = search rules
-
 in_time : (g : Given) (E : List Entry) (s i : ℕ) (cells : List (ℕ × CellView)) → outcome_in_time g E s i cells ≡ Taken → ComesInTime g E s i
 in_time g E s i cells h =
     let other : Outcome = again_answer (take_of g E s i) (list_any (λ (part : ℕ × CellView). is_other (cell_of E s part.0 i) part.1) cells) in
@@ -34,26 +28,21 @@ in_time g E s i cells h =
     (λ b taken. absurd (false≢true (ap is_taken taken)))
     (λ b. cond_both far (Refused OutOfWindow) other Goal (λ c taken. absurd (false≢true (ap is_taken taken)))
     (λ c taken. record {
-      later = is_later i (last_of g E) a;
-      not_ahead = is_not_ahead (now_of g E + g.ahead) i b;
+      later = search rules;
+      not_ahead = search rules;
       near = not_false (list_all (is_near g.window i) (held_instants g E)) c;
       first = none_taken (take_of g E s i) _ taken;
     }))) h
-
-later_is : (i last : ℕ) → last < i → nat_le i last ≡ false
-later_is i last h = search rules
-
-not_ahead_is : (top i : ℕ) → i ≤ top → ltb top i ≡ false
-not_ahead_is top i h = search rules
 
 is_first : (late ahead far : Bool) (t : Option Take) (conflicts : Bool) → late ≡ false → ahead ≡ false → far ≡ true → t ≡ None → first_cause late ahead (not far) (again_answer t conflicts) ≡ Taken
 is_first late ahead far t conflicts a b c d = rw (a, b, c, d) refl
 
 taken_in_time : (g : Given) (E : List Entry) (s i : ℕ) (cells : List (ℕ × CellView)) → ComesInTime g E s i → outcome_in_time g E s i cells ≡ Taken
 taken_in_time g E s i cells t =
+    let late : nat_le i (last_of g E) ≡ false = search (rules, t.later) in
+    let ahead : nat_lt (now_of g E + g.ahead) i ≡ false = search (rules, t.not_ahead) in
     is_first (nat_le i (last_of g E)) (nat_lt (now_of g E + g.ahead) i) (list_all (is_near g.window i) (held_instants g E)) (take_of g E s i)
-    (list_any (λ (part : ℕ × CellView). is_other (cell_of E s part.0 i) part.1) cells)
-    (later_is i (last_of g E) t.later) (not_ahead_is (now_of g E + g.ahead) i t.not_ahead) t.near t.first
+    (list_any (λ (part : ℕ × CellView). is_other (cell_of E s part.0 i) part.1) cells) late ahead t.near t.first
 
 pub taken_is_in_time : TakenIsInTime
 taken_is_in_time g E s i cells = (in_time g E s i cells, taken_in_time g E s i cells)
