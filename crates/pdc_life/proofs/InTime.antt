@@ -1,21 +1,14 @@
 -- What is taken came in time.
-use Rattle.pdc_life.proofs.Names.{[], ◌*◌, ◌+◌, ◌<◌, ◌∙◌, ◌∷◌, ◌≡◌, ◌≤◌, again_answer, Ahead, Answer, answer_in_time, ap, AreBelow, arith, bare, Bool, cell_of, cell_under, CellView, closed, cond, cond-false, cond_both, Conflict, Data, data_answer, drop, Duplicate, Entry, eqb, false, false≢true, first_cause, Given, greatest, held_instants, held_layout, HeldLayout, inl, inr, is_near, is_other, is_taken, last_of, Late, length, List, list_all, list_any, ltb, merged_answer, merged_cells, merged_data_answer, nat_eq, nat_le, nat_lt, node_answer, None, not, now_of, Option, other_text, OtherStamp, Outcome, outcome_in_time, OutOfWindow, own_words, payload_len, pointwise, refl, Refused, RisingLaws, row_instants, rules, same_text, section_in_force, SectionFields, Some, stamp_words, sym, Take, take_of, Taken, true, word_count_of, words_in, WrongLength, ℕ}
+use Rattle.pdc_life.proofs.Names.{[], ◌*◌, ◌+◌, ◌<◌, ◌∙◌, ◌∷◌, ◌≡◌, ◌≤◌, again_answer, Ahead, Answer, answer_in_time, ap, AreBelow, arith, bare, Bool, cell_of, cell_under, CellView, closed, cond, cond-false, cond_both, Data, data_answer, drop, Entry, eqb, false, false≢true, first_cause, Given, greatest, held_instants, held_layout, HeldLayout, inl, inr, is_near, is_other, is_taken, last_of, Late, length, List, list_all, list_any, ltb, merged_answer, merged_cells, merged_data_answer, nat_eq, nat_le, nat_lt, node_answer, None, not, now_of, Option, OtherStamp, Outcome, outcome_in_time, OutOfWindow, own_words, payload_len, pointwise, refl, Refused, RisingLaws, row_instants, rules, section_in_force, SectionFields, Some, stamp_words, sym, Take, take_of, Taken, true, word_count_of, words_in, WrongLength, ℕ}
 use Rattle.pdc_life.specs.InTime.{ClosedStayClosed, ComesInTime, MergerTakes, MergerTakesInTime, NodeTakes, NodeTakesInTime, TakenIsInTime}
 use Rattle.pdc_life.specs.declared.outcome.Refusal.{Refusal}
 use Rattle.pdc_life.proofs.LifeLaws.{last_is}
-use Rattle.pdc_life.proofs.Lists.{same_length}
-
-two_refusals : (b : Bool) (r s : Refusal) → is_taken (cond b (Refused r) (Refused s)) ≡ false
-two_refusals true r s = refl
-two_refusals false r s = refl
+use Rattle.pdc_life.proofs.Lists.{is_same_text, same_length, text_is_same}
 
 none_taken : (t : Option Take) (conflicts : Bool) → again_answer t conflicts ≡ Taken → t ≡ None
 none_taken None conflicts h = refl
-none_taken (Some t) conflicts h = absurd (false≢true (sym (two_refusals conflicts Conflict Duplicate) ∙ ap is_taken h))
-
-not_false : (b : Bool) → not b ≡ false → b ≡ true
-not_false true h = refl
-not_false false h = absurd (false≢true (sym h))
+none_taken (Some t) true h = absurd (false≢true (ap is_taken h))
+none_taken (Some t) false h = absurd (false≢true (ap is_taken h))
 
 in_time : (g : Given) (E : List Entry) (s i : ℕ) (cells : List (ℕ × CellView)) → outcome_in_time g E s i cells ≡ Taken → ComesInTime g E s i
 in_time g E s i cells h =
@@ -30,7 +23,7 @@ in_time g E s i cells h =
     (λ c taken. record {
       later = search rules;
       not_ahead = search rules;
-      near = not_false (list_all (is_near g.window i) (held_instants g E)) c;
+      near = search rules;
       first = none_taken (take_of g E s i) _ taken;
     }))) h
 
@@ -89,31 +82,17 @@ node_takes g E p i quality payload h =
           (sym (ap (λ (a : Answer). a.outcome) k.is) ∙ h);
     }
 
-size_same : (m n : ℕ) → m ≡ n → not (eqb m n) ≡ false
-size_same m n h = search rules
-
 taken_by_node : (g : Given) (E : List Entry) (p i quality : ℕ) (payload : List ℕ) → NodeTakes g E p i payload → (node_answer g E p (Data i quality payload)).outcome ≡ Taken
 taken_by_node g E p i quality payload t =
     let cells : List (ℕ × CellView) = node_cells p quality payload t.section in
     ap (λ (f : Option SectionFields). (data_answer g E p i quality payload f).outcome) t.in_force
     ∙ put_on (not (eqb (length payload) (2 * word_count_of t.section.shape))) WrongLength (answer_in_time g E p i cells)
-    (size_same (length payload) (2 * word_count_of t.section.shape) t.size) (taken_in_time g E p i cells t.in_time)
+    (search (rules, t.size)) (taken_in_time g E p i cells t.in_time)
 
 pub node_takes_in_time : NodeTakesInTime
 node_takes_in_time g E p i quality payload = (node_takes g E p i quality payload, taken_by_node g E p i quality payload)
 
 -- ---- the merger
-
-is_same_text : (xs ys : List ℕ) (b : Bool) → b ≡ pointwise nat_eq xs ys → not b ≡ false → xs ≡ ys
-is_same_text xs ys true e h = same_text xs ys e
-is_same_text xs ys false e h = absurd (false≢true (sym h))
-
-text_is_same : (xs ys : List ℕ) (b : Bool) → b ≡ pointwise nat_eq xs ys → xs ≡ ys → not b ≡ false
-text_is_same xs ys true e h = refl
-text_is_same xs ys false e h = absurd (other_text xs ys e h)
-
-long_enough : (n more : ℕ) → n ≡ 14 + more → ltb n 14 ≡ false
-long_enough n more h = search rules
 
 abbrev pub node_words : List ℕ → List ℕ
 node_words payload = drop 7 (words_in payload)
@@ -163,9 +142,9 @@ taken_by_merger g E s i quality payload t =
     let sized : Answer = cond (not (eqb (length payload) (payload_len t.layout.sections))) (bare (Refused WrongLength)) last in
     let stamped : Answer = cond (not (pointwise nat_eq (own_words payload) stamp)) (bare (Refused OtherStamp)) sized in
     ap (λ (held : Option HeldLayout). (merged_data_answer g E s i quality payload held).outcome) t.held
-    ∙ put_on (ltb (length payload) 14) WrongLength stamped (long_enough (length payload) _ t.size)
+    ∙ put_on (ltb (length payload) 14) WrongLength stamped (search (rules, t.size))
     (put_on (not (pointwise nat_eq (own_words payload) stamp)) OtherStamp sized (text_is_same (own_words payload) stamp (pointwise nat_eq (own_words payload) stamp) refl t.stamp)
-    (put_on (not (eqb (length payload) (payload_len t.layout.sections))) WrongLength last (size_same (length payload) (payload_len t.layout.sections) t.size)
+    (put_on (not (eqb (length payload) (payload_len t.layout.sections))) WrongLength last (search (rules, t.size))
     (taken_in_time g E s i cells t.in_time)))
 
 pub merger_takes_in_time : MergerTakesInTime

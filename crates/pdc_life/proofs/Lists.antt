@@ -1,5 +1,5 @@
 -- What holds of all of a list, of a part of it, and of the first that a test finds; and tests of numbers.
-use Rattle.pdc_life.proofs.Names.{[], ◌&&◌, ◌++◌, ◌+◌, ◌<◌, ◌∙◌, ◌∷◌, ◌≡◌, ◌≤◌, All-contains, All-from_recursion, AllByRecursion, ap, arith, Bool, Candidate, cond_both, Contains, eqb, false, false≢true, filter, find, is_candidate, is_taken, leb, length, List, list_any, map, None, none-some, not, Option, or_parts, Outcome, refl, Rises, rules, same_Some, slice_get, slice_index_or, Some, subst, suc, sym, Taken, true, zero, ℕ}
+use Rattle.pdc_life.proofs.Names.{[], ◌&&◌, ◌++◌, ◌+◌, ◌<◌, ◌∙◌, ◌∷◌, ◌≡◌, ◌≤◌, All-contains, All-from_recursion, AllByRecursion, ap, arith, Bool, Candidate, cond_both, Contains, eqb, false, false≢true, filter, find, is_candidate, is_taken, leb, length, List, list_any, map, nat_eq, None, none-some, not, Option, or_parts, other_text, Outcome, pointwise, refl, Rises, rules, same_Some, same_text, slice_get, slice_index_or, Some, subst, suc, sym, Taken, true, zero, ℕ}
 
 -- what holds, where there is one
 abbrev pub May : {A : Type 0} → (A → Type 0) → Option A → Type 0
@@ -96,6 +96,14 @@ not_same m n h = search rules
 
 pub at_most : (m n : ℕ) → leb m n ≡ true → m ≤ n
 at_most m n h = search rules
+
+pub is_same_text : (xs ys : List ℕ) (b : Bool) → b ≡ pointwise nat_eq xs ys → not b ≡ false → xs ≡ ys
+is_same_text xs ys true e h = same_text xs ys e
+is_same_text xs ys false e h = absurd (false≢true (sym h))
+
+pub text_is_same : (xs ys : List ℕ) (b : Bool) → b ≡ pointwise nat_eq xs ys → xs ≡ ys → not b ≡ false
+text_is_same xs ys true e h = refl
+text_is_same xs ys false e h = absurd (other_text xs ys e h)
 
 pub taken_is : (o : Outcome) → is_taken o ≡ true → o ≡ Taken
 taken_is Taken h = refl

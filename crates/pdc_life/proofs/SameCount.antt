@@ -1,8 +1,8 @@
 -- At the merger a section of a held layout with the count in force is the one in force.
-use Rattle.pdc_life.proofs.Names.{[], ◌&&◌, ◌++◌, ◌+◌, ◌<◌, ◌||◌, ◌∙◌, ◌∷◌, ◌≡◌, ◌≤◌, AllByRecursion, Answer, ap, arith, Arrive, Bool, Candidate, cases_lt, cond, cond_both, count_for, CountConflict, differs_from, Entry, eqb, false, false≢true, filter, first_greatest, flat_map, Given, greater, has_count_conflict, held_layout, held_section, HeldLayout, inl, inr, is_adoption_of, is_candidate, is_of_column, is_older, IsLife, Known, Layout, layout_answer, leb, length, List, ltb, map, merged_answer, MergerSettings, nat_eq, None, not, OldStamp, Option, or_parts, pointwise, ReadsForMerger, refl, Refused, Rises, rules, same_text, SameCountSameSection, section_in_force, SectionFields, sections_at, slice_index_or, Some, Stamp, subst, suc, sym, true, zero, ℕ}
+use Rattle.pdc_life.proofs.Names.{[], ◌&&◌, ◌++◌, ◌+◌, ◌<◌, ◌||◌, ◌∙◌, ◌∷◌, ◌≡◌, ◌≤◌, AllByRecursion, Answer, ap, arith, Arrive, Bool, Candidate, cases_lt, cond, cond_both, count_for, CountConflict, differs_from, Entry, eqb, false, false≢true, filter, first_greatest, flat_map, Given, greater, has_count_conflict, held_layout, held_section, HeldLayout, inl, inr, is_adoption_of, is_candidate, is_of_column, is_older, IsLife, Known, Layout, layout_answer, leb, length, List, ltb, map, merged_answer, MergerSettings, nat_eq, None, not, OldStamp, Option, or_parts, pointwise, ReadsForMerger, refl, Refused, Rises, rules, SameCountSameSection, section_in_force, SectionFields, sections_at, slice_index_or, Some, Stamp, subst, suc, sym, true, zero, ℕ}
 use Rattle.pdc_life.proofs.InForce.{in_force_is_cleared}
 use Rattle.pdc_life.proofs.LifeLaws.{lives_are_ticked}
-use Rattle.pdc_life.proofs.Lists.{above_first, both, by_each, each, May, may_each, none_passes, not_same, of_each}
+use Rattle.pdc_life.proofs.Lists.{above_first, both, by_each, each, is_same_text, May, may_each, none_passes, not_same, of_each}
 use Rattle.pdc_life.proofs.Steps.{life_before}
 
 -- a section is not above what is held, and one of the same count has the same bytes
@@ -87,17 +87,13 @@ alone n c s (part ∷ parts) (suc k) r l e =
     let other : eqb part.0 c ≡ false = not_same part.0 c (omega (arith, above)) in
     rw other (alone (part.0 + 1) c s parts k r.1 (omega (arith, l)) e)
 
-equal_text : (xs ys : List ℕ) (b : Bool) → b ≡ pointwise nat_eq xs ys → not b ≡ false → xs ≡ ys
-equal_text xs ys true e h = same_text xs ys e
-equal_text xs ys false e h = absurd (false≢true (sym h))
-
 -- no conflict: at the same count the bytes are the same
 no_conflict_with : (o : Option SectionFields) (t : SectionFields) → differs_from o t ≡ false → SameAs o t
 no_conflict_with None t h = tt
 no_conflict_with (Some s) t h = λ same.
     let e : eqb s.count t.count ≡ true = search rules in
     let k : not (pointwise nat_eq s.bytes t.bytes) ≡ false = sym (ap (λ (b : Bool). b && not (pointwise nat_eq s.bytes t.bytes)) e) ∙ h in
-    sym (equal_text s.bytes t.bytes (pointwise nat_eq s.bytes t.bytes) refl k)
+    sym (is_same_text s.bytes t.bytes (pointwise nat_eq s.bytes t.bytes) refl k)
 
 in_order : (old same conflicts : Bool) → is_candidate (cond old (Refused OldStamp) (cond same Known (cond conflicts (Refused CountConflict) Candidate))) ≡ true → conflicts ≡ false
 in_order true same conflicts h = absurd (false≢true h)
