@@ -1,5 +1,5 @@
 -- The frames of a life.
-use Rattle.pdc_life.proofs.Names.{[], ◌*◌, ◌++◌, ◌+◌, ◌-◌, ◌<◌, ◌^◌, ◌∙◌, ◌∷◌, ◌≡◌, ◌≤◌, absent_of, AllByRecursion, ap, AreOfShapes, AreSound, AreWords, arith, block_in, block_or_absent, BlockView, Bool, CellView, changes, chosen_of, closed, columns_of, cond, ConfigFields, cons_option, Entry, false, Fields, filter_map, Given, greatest, has_change, IsConfig, IsCut, IsFrame, IsOfSectionInForce, IsRowOfTick, IsRun, IsSection, layout_fields_of, layout_payload_of, layout_wire, LayoutsAreFrames, length, length-append, length-map, length-range_with_len, length-replicate, List, ltb, map, max, None, Option, own_block, own_bytes, OwnSectionsTellStamps, quality_in, quality_of, ready_columns, refl, replicate, row_instants, row_of, row_payload, RowsAreCut, RowsAreFrames, RowView, rules, same_Some, section_in_force, SectionFields, sections_in_force, Shape, Some, subst, suc, sym, Tick, TickAnswer, true, word_count_of, words_of_row, zero, ℕ}
+use Rattle.pdc_life.proofs.Names.{[], ◌*◌, ◌++◌, ◌+◌, ◌<◌, ◌^◌, ◌∙◌, ◌∷◌, ◌≡◌, ◌≤◌, absent_of, AllByRecursion, ap, AreOfShapes, AreSound, AreWords, arith, block_in, block_or_absent, BlockView, CellView, changes, chosen_of, closed, columns_of, cond_both, ConfigFields, cons_option, Entry, false≢true, Fields, filter_map, Given, greatest, has_change, is_adoption, IsConfig, IsCut, IsFrame, IsOfSectionInForce, IsRowOfTick, IsRun, IsSection, layout_fields_of, layout_payload_of, layout_wire, LayoutsAreFrames, length, length-append, length-map, length-range_with_len, length-replicate, List, ltb, map, max, None, Option, own_block, own_bytes, OwnSectionsTellStamps, quality_in, quality_of, ready_columns, refl, replicate, row_instants, row_of, row_payload, RowsAreCut, RowsAreFrames, RowView, rules, same_Some, section_in_force, SectionFields, sections_in_force, Shape, Some, subst, suc, sym, Tick, TickAnswer, true, word_count_of, words_of_row, zero, ℕ}
 use Rattle.pdc_life.specs.Frames.{ChangesFit, ClosedRowsAreFrames, IsFramedRow, LayoutsOfLivesAreFrames, LayoutsTellStamps, shapes_in_force}
 use Rattle.pdc_life.proofs.Closing.{rows_are_of_their_ticks}
 use Rattle.pdc_life.proofs.Come.{in_force_whole}
@@ -12,21 +12,14 @@ use Rattle.pdc_life.proofs.Tagged.{closed_low}
 
 -- ---- change numbers
 
-one_more_fits : (b : Bool) (n : ℕ) → n + 1 < 2 ^ 32 → cond b (n + 1) n < 2 ^ 32
-one_more_fits true n h = h
-one_more_fits false n h = omega (arith, h)
-
-after_tick : (n : ℕ) (left : Bool) (ready adopted : List ℕ) → ltb n (2 ^ 32 - 1) ≡ left → adopted ≡ cond left ready [] → n < 2 ^ 32 → cond (ltb 0 (length adopted)) (n + 1) n < 2 ^ 32
-after_tick n true ready adopted e h k = one_more_fits (ltb 0 (length adopted)) n (search rules)
-after_tick n false ready adopted e h k =
-    let none : ltb 0 (length adopted) ≡ false = ap (λ (ds : List ℕ). ltb 0 (length ds)) h in
-    subst (λ (b : Bool). cond b (n + 1) n < 2 ^ 32) (sym none) k
-
 pub changes_fit : ChangesFit
 changes_fit g [] run = omega arith
 changes_fit g (Tick now counts answer ∷ E) run =
-    let h = after_tick (changes E) (has_change E) (ready_columns g E counts) answer.adopted refl (ap (λ (a : TickAnswer). a.adopted) run.0) (changes_fit g E run.1) in
-    subst (λ n. n < 2 ^ 32) (sym (changes_rise_by_one E (Tick now counts answer))) h
+    subst (λ n. n < 2 ^ 32) (sym (changes_rise_by_one E (Tick now counts answer)))
+    (cond_both (is_adoption (Tick now counts answer)) (changes E + 1) (changes E) (λ n. n < 2 ^ 32)
+    (λ adopted. cond_both (has_change E) (ready_columns g E counts) [] (λ (ds : List ℕ). ltb 0 (length ds) ≡ true → changes E + 1 < 2 ^ 32)
+    (λ left k. search (rules, left)) (λ none k. absurd (false≢true k)) (ap (λ (a : TickAnswer). ltb 0 (length a.adopted)) (sym run.0) ∙ adopted))
+    (λ quiet. changes_fit g E run.1))
 changes_fit g (e ∷ E) run = changes_fit g E (ticked_before g e E run)
 
 -- ---- words of blocks
@@ -47,20 +40,7 @@ words_replicate zero w h = words_none
 words_replicate (suc n) w h = words_cons w (replicate n w) h (words_replicate n w h)
 
 length-absent : (shape : Shape) → length (absent_of shape) ≡ word_count_of shape
-length-absent shape =
-    let word : ℕ = 0x8000 in
-    let none : ℕ = 0 in
-    let phasors : List ℕ = replicate (2 * shape.phasors) word in
-    let between : List ℕ = word ∷ word ∷ replicate shape.analogs word in
-    let digitals : List ℕ = replicate shape.digitals none in
-    omega (
-      arith,
-      length-append (phasors ++ between) digitals,
-      length-append phasors between,
-      length-replicate (2 * shape.phasors) word,
-      length-replicate shape.analogs word,
-      length-replicate shape.digitals none,
-    )
+length-absent shape = simp (length-append, length-replicate) (omega arith)
 
 words_absent : (shape : Shape) → AreWords (absent_of shape)
 words_absent shape =
