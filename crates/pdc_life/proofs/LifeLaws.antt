@@ -1,5 +1,5 @@
 -- Laws of all lives: steps make lives, rows come out once and rise, change numbers never fall; and wait rules agree.
-use Rattle.pdc_life.proofs.Names.{[], ◌++◌, ◌+◌, ◌==◌, ◌∙◌, ◌∷◌, ◌≡◌, ◌≤◌, AllByRecursion, answered, ap, append_assoc, arith, Arrival, Arrive, Bool, changes, ChangesNeverFall, ChangesRiseByOne, closed, closing, cond, drop, Entry, false, filter, Given, greatest, is_adoption, is_adoption_of, IsLife, IsReadStep, IsTicked, last_of, length, life_from, List, list_any, ltb, map, merged_answer, MergerLivesAreTicked, node_answer, OneStepMore, open_instants, Option, Pop, popped, ReadsFor, ReadsForMerger, ReadStep, refl, Rises, RisingLaws, row_instants, row_of, RowsComeOutOnce, RowsRise, RowView, Rules, rules, SameChangeSameSections, slice_get, StepsMakeMergerLives, StepsMakeNodeLives, subst, sym, Take, takes, Tick, TickAnswer, ToArrive, true, waiting, ℕ}
+use Rattle.pdc_life.proofs.Names.{[], ◌++◌, ◌+◌, ◌==◌, ◌∙◌, ◌∷◌, ◌≡◌, ◌≤◌, AllByRecursion, answered, ap, append_assoc, arith, Arrival, Arrive, Bool, changes, ChangesNeverFall, ChangesRiseByOne, closed, closing, cond, drop, Entry, false, filter, Given, greatest, is_adoption, is_adoption_of, IsLife, IsReadStep, IsTicked, last_of, length, life_from, List, list_any, ltb, map, map-append, merged_answer, MergerLivesAreTicked, node_answer, OneStepMore, open_instants, Option, Pop, popped, ReadsFor, ReadsForMerger, ReadStep, refl, Rises, RisingLaws, row_instants, row_of, RowsComeOutOnce, RowsRise, RowView, Rules, rules, SameChangeSameSections, slice_get, StepsMakeMergerLives, StepsMakeNodeLives, subst, sym, Take, takes, Tick, TickAnswer, ToArrive, true, waiting, ℕ}
 use Rattle.std.specs.Option.{option_to_list}
 use Rattle.pdc_life.proofs.Lists.{by_cases}
 use Rattle.pdc_life.proofs.Steps.{ticked_before}
@@ -31,10 +31,9 @@ rows_come_out_once g (Pop row ∷ E) run =
 
 -- rows rise
 pub instants_append : (rows more : List RowView) → row_instants (rows ++ more) ≡ row_instants rows ++ row_instants more
-instants_append [] more = refl
-instants_append (r ∷ rows) more = ap (λ ns. r.instant ∷ ns) (instants_append rows more)
+instants_append rows more = map-append (λ (r : RowView). r.instant) rows more
 
-instants_rows : (g : Given) (E : List Entry) (is : List ℕ) → row_instants (map (row_of g E) is) ≡ is
+pub instants_rows : (g : Given) (E : List Entry) (is : List ℕ) → row_instants (map (row_of g E) is) ≡ is
 instants_rows g E [] = refl
 instants_rows g E (i ∷ is) = ap (λ ns. i ∷ ns) (instants_rows g E is)
 

@@ -1,7 +1,7 @@
 -- The names that most proofs of this crate cite, passed on from one place. Declares nothing.
 pub use Rattle.std.proofs.Common.{[], ◌&&◌, ◌*◌, ◌++◌, ◌+◌, ◌<◌, ◌==◌, ◌^◌, ◌||◌, ◌↔◌, ◌∙◌, ◌∷◌, ◌≡◌, ◌≢◌, ◌≤◌, ◌⊎◌, ap, arith, Bool, cond, drop, eqb, false, filter, inl, inr, is_some, leb, length, length-append, List, ltb, map, max, nat_lt, None, not, Option, option_map, refl, replicate, rules, slice_index_or, Some, subst, suc, sym, take, true, zero, ℕ}
 pub use Rattle.std.proofs.lemmas.Bool.{cases_lt, cond-false, cond_both, false≢true, or_parts}
-pub use Rattle.std.proofs.lemmas.List.{append_assoc, get_or-drop, length-drop, length-map, length-replicate, length-take-le, take-append-drop}
+pub use Rattle.std.proofs.lemmas.List.{append_assoc, get_or-drop, length-drop, length-map, length-replicate, length-take-le, map-append, take-append-drop}
 pub use Rattle.std.proofs.lemmas.List.Elements.{All-contains, All-from_recursion, Contains-append_left, Contains-append_right}
 pub use Rattle.std.proofs.lemmas.List.FromFn.{length-range_with_len}
 pub use Rattle.std.proofs.lemmas.Map.Views.{any-filter_same}

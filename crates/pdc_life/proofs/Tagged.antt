@@ -1,6 +1,6 @@
 -- The instants of a life's rows can be tagged.
 use Rattle.pdc_life.proofs.Names.{[], ◌*◌, ◌++◌, ◌<◌, ◌∷◌, ◌≡◌, AllByRecursion, ap, AreSound, Arrive, closed, closing, cond, cond_both, Data, drop, Entry, eqb, Given, IsInTime, IsSound, IsTicked, List, ltb, map, None, none-some, open_instants, place, Pop, popped, rising, row_instants, row_of, RowsHaveTags, RowView, same_Some, slice_get, Some, subst, sym, Take, take_at, takes, Tick, TickAnswer, waiting, ℕ}
-use Rattle.pdc_life.proofs.LifeLaws.{instants_append}
+use Rattle.pdc_life.proofs.LifeLaws.{instants_append, instants_rows}
 use Rattle.pdc_life.proofs.Lists.{appended, filtered}
 use Rattle.pdc_life.proofs.Steps.{at_take, run_before, ticked_before}
 
@@ -16,8 +16,7 @@ in_order P (n ∷ ns) a = placed P n (rising ns) a.0 (in_order P ns a.1)
 
 -- What holds of the instants of rows.
 of_rows : (P : ℕ → Type 0) (g : Given) (E : List Entry) (is : List ℕ) → AllByRecursion P is → AllByRecursion P (row_instants (map (row_of g E) is))
-of_rows P g E [] a = tt
-of_rows P g E (i ∷ is) a = (a.0, of_rows P g E is a.1)
+of_rows P g E is a = subst (AllByRecursion P) (sym (instants_rows g E is)) a
 
 more_rows : (P : ℕ → Type 0) (rows more : List RowView) → AllByRecursion P (row_instants rows) → AllByRecursion P (row_instants more)
     → AllByRecursion P (row_instants (rows ++ more))
