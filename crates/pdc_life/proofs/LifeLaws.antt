@@ -1,5 +1,5 @@
 -- Laws of all lives: steps make lives, rows come out once and rise, change numbers never fall; and wait rules agree.
-use Rattle.pdc_life.proofs.Names.{[], ◌++◌, ◌+◌, ◌==◌, ◌∙◌, ◌∷◌, ◌≡◌, ◌≤◌, AllByRecursion, answered, ap, append_assoc, arith, Arrival, Arrive, Bool, changes, ChangesNeverFall, ChangesRiseByOne, closed, closing, cond, drop, Entry, false, filter, Given, greatest, is_adoption, is_adoption_of, IsLife, IsReadStep, IsTicked, last_of, length, life_from, List, list_any, ltb, map, map-append, merged_answer, MergerLivesAreTicked, node_answer, OneStepMore, open_instants, Option, Pop, popped, ReadsFor, ReadsForMerger, ReadStep, refl, Rises, RisingLaws, row_instants, row_of, RowsComeOutOnce, RowsRise, RowView, Rules, rules, SameChangeSameSections, slice_get, StepsMakeMergerLives, StepsMakeNodeLives, subst, sym, Take, takes, Tick, TickAnswer, ToArrive, true, waiting, ℕ}
+use Rattle.pdc_life.proofs.Names.{[], ◌++◌, ◌+◌, ◌==◌, ◌∙◌, ◌∷◌, ◌≡◌, ◌≤◌, AllByRecursion, answered, ap, append_assoc, arith, Arrival, Arrive, Bool, changes, ChangesNeverFall, ChangesRiseByOne, closed, closing, cond, drop, Entry, false, filter, Given, greatest, is_adoption, is_adoption_of, IsLife, IsReadStep, IsTicked, last_of, length, life_from, List, list_any, ltb, map, map-append, merged_answer, MergerLivesAreTicked, node_answer, OneStepMore, open_instants, Option, Pop, popped, ReadsFor, ReadsForMerger, ReadStep, refl, Rises, RisingLaws, row_instants, row_of, RowsComeOutOnce, RowsRise, RowView, Rules, rules, SameChangeSameSections, section_in_force, slice_get, StepsMakeMergerLives, StepsMakeNodeLives, subst, sym, Take, takes, Tick, TickAnswer, ToArrive, waiting, ℕ}
 use Rattle.std.specs.Option.{option_to_list}
 use Rattle.pdc_life.proofs.Lists.{by_cases}
 use Rattle.pdc_life.proofs.Steps.{ticked_before}
@@ -38,17 +38,11 @@ instants_rows g E [] = refl
 instants_rows g E (i ∷ is) = ap (λ ns. i ∷ ns) (instants_rows g E is)
 
 -- changes
-no_fewer : (b : Bool) (e : Entry) (es : List Entry) → length es ≤ length (cond b (e ∷ es) es)
-no_fewer true e es = omega arith
-no_fewer false e es = omega arith
-
-one_more : (b : Bool) (e : Entry) (es : List Entry) → length (cond b (e ∷ es) es) ≤ length es → b ≡ false
-one_more true e es h = absurd (omega (arith, h))
-one_more false e es h = refl
-
 pub changes_never_fall : ChangesNeverFall
 changes_never_fall E [] = omega arith
-changes_never_fall E (e ∷ F) = omega (arith, changes_never_fall E F, no_fewer (is_adoption e) e (filter is_adoption (F ++ E)))
+changes_never_fall E (e ∷ F) =
+    by_cases (λ (b : Bool). changes E ≤ length (cond b (e ∷ filter is_adoption (F ++ E)) (filter is_adoption (F ++ E)))) (is_adoption e)
+    (λ up. omega (arith, changes_never_fall E F)) (λ quiet. changes_never_fall E F)
 
 none_adopted : (c : ℕ) (ds : List ℕ) → ltb 0 (length ds) ≡ false → list_any (λ d. d == c) ds ≡ false
 none_adopted c [] h = refl
@@ -61,10 +55,9 @@ none_of c e h = refl
 pub same_change_same_sections : SameChangeSameSections
 same_change_same_sections g E [] h c = refl
 same_change_same_sections g E (e ∷ F) h c =
-    let up : changes E ≤ changes (F ++ E) = changes_never_fall E F in
-    let quiet : is_adoption e ≡ false = one_more (is_adoption e) e (filter is_adoption (F ++ E)) (omega (arith, h, up)) in
-    let same : changes (F ++ E) ≡ changes E = omega (arith, h, up, no_fewer (is_adoption e) e (filter is_adoption (F ++ E))) in
-    rw (none_of c e quiet) (same_change_same_sections g E F same c)
+    by_cases (λ (b : Bool). length (cond b (e ∷ filter is_adoption (F ++ E)) (filter is_adoption (F ++ E))) ≡ changes E
+    → section_in_force g (e ∷ F ++ E) c ≡ section_in_force g E c) (is_adoption e) (λ up k. absurd (omega (arith, k, changes_never_fall E F)))
+    (λ quiet k. rw (none_of c e quiet) (same_change_same_sections g E F k c)) h
 
 pub changes_rise_by_one : ChangesRiseByOne
 changes_rise_by_one E e =
