@@ -1,5 +1,5 @@
 -- The frames of a life.
-use Rattle.pdc_life.proofs.Names.{[], ◌*◌, ◌++◌, ◌+◌, ◌<◌, ◌^◌, ◌∙◌, ◌∷◌, ◌≡◌, ◌≤◌, absent_of, AllByRecursion, ap, AreOfShapes, AreSound, AreWords, arith, block_in, block_or_absent, BlockView, CellView, changes, chosen_of, closed, columns_of, cond_both, ConfigFields, cons_option, Entry, false≢true, Fields, filter_map, Given, greatest, has_change, is_adoption, IsConfig, IsCut, IsFrame, IsOfSectionInForce, IsRowOfTick, IsRun, IsSection, layout_fields_of, layout_payload_of, layout_wire, LayoutsAreFrames, length, length-append, length-map, length-range_with_len, length-replicate, List, ltb, map, max, None, Option, own_block, own_bytes, OwnSectionsTellStamps, quality_in, quality_of, ready_columns, refl, replicate, row_instants, row_of, row_payload, RowsAreCut, RowsAreFrames, RowView, rules, same_Some, section_in_force, SectionFields, sections_in_force, Shape, Some, subst, suc, sym, Tick, TickAnswer, true, word_count_of, words_of_row, zero, ℕ}
+use Rattle.pdc_life.proofs.Names.{[], ◌*◌, ◌++◌, ◌+◌, ◌<◌, ◌^◌, ◌∙◌, ◌∷◌, ◌≡◌, ◌≤◌, absent_of, AllByRecursion, ap, AreOfShapes, AreSound, AreWords, arith, block_in, block_or_absent, BlockView, CellView, changes, chosen_of, closed, columns_of, cond_both, ConfigFields, cons_option, Entry, false≢true, Fields, filter_map, Given, has_change, inl, inr, is_adoption, IsConfig, IsCut, IsFrame, IsOfSectionInForce, IsRowOfTick, IsRun, IsSection, layout_fields_of, layout_payload_of, layout_wire, LayoutsAreFrames, length, length-append, length-map, length-range_with_len, length-replicate, List, ltb, map, None, Option, own_block, own_bytes, OwnSectionsTellStamps, ready_columns, refl, replicate, row_instants, row_of, row_payload, RowsAreCut, RowsAreFrames, RowView, rules, same_Some, section_in_force, SectionFields, sections_in_force, Shape, Some, subst, suc, sym, Tick, TickAnswer, true, word_count_of, words_of_row, zero, ℕ}
 use Rattle.pdc_life.specs.Frames.{ChangesFit, ClosedRowsAreFrames, IsFramedRow, LayoutsOfLivesAreFrames, LayoutsTellStamps, shapes_in_force}
 use Rattle.pdc_life.proofs.Closing.{rows_are_of_their_ticks}
 use Rattle.pdc_life.proofs.Come.{in_force_whole}
@@ -9,6 +9,7 @@ use Rattle.pdc_life.proofs.LifeLaws.{changes_rise_by_one}
 use Rattle.pdc_life.proofs.Lists.{heads, May}
 use Rattle.pdc_life.proofs.Steps.{run_of_tick, ticked_before}
 use Rattle.pdc_life.proofs.Tagged.{closed_low}
+use Rattle.pdc_life.proofs.Worst.{quality_is_worst_shown}
 
 -- ---- change numbers
 
@@ -82,25 +83,11 @@ blocks_shaped g E i (c ∷ cs) run =
 
 -- ---- qualities
 
-low_greatest : (n : ℕ) (ns : List ℕ) → n < 16 → AllByRecursion (λ m. m < 16) ns → greatest n ns < 16
-low_greatest n [] h a = h
-low_greatest n (m ∷ ns) h a = low_greatest (max n m) ns (omega (arith, h, a.0)) a.1
-
-low_quality : (ns : List ℕ) → AllByRecursion (λ m. m < 16) ns → quality_of ns < 16
-low_quality [] a = omega arith
-low_quality (n ∷ ns) a = low_greatest n ns a.0 a.1
-
-one_quality : (s : Option SectionFields) (chosen : Option CellView) (ns : List ℕ) → AllByRecursion (λ m. m < 16) ns → AllByRecursion (λ m. m < 16) (cons_option (quality_in s chosen) ns)
-one_quality None chosen ns a = a
-one_quality (Some s) None ns a = a
-one_quality (Some s) (Some cell) ns a = (omega arith, a)
-
-qualities : (g : Given) (E : List Entry) (i : ℕ) (cs : List ℕ) → AllByRecursion (λ m. m < 16) (filter_map (λ c. quality_in (section_in_force g E c) (chosen_of g E c i)) cs)
-qualities g E i [] = tt
-qualities g E i (c ∷ cs) = one_quality (section_in_force g E c) (chosen_of g E c i) (filter_map (λ d. quality_in (section_in_force g E d) (chosen_of g E d i)) cs) (qualities g E i cs)
-
-row_quality : (g : Given) (E : List Entry) (i : ℕ) → (row_of g E i).quality < 2 ^ 8
-row_quality g E i = let low = low_quality _ (qualities g E i (columns_of g)) in omega (arith, low)
+row_quality : (g : Given) (E : List Entry) (i : ℕ) → IsRun g E → (row_of g E i).quality < 2 ^ 8
+row_quality g E i run = elim (quality_is_worst_shown g E i run).of_one [
+  | inl k ↦ omega (arith, k.2)
+  | inr k ↦ omega (arith, k)
+]
 
 -- ---- how many there are
 
@@ -123,7 +110,7 @@ module _ (frames : RowsAreFrames) (cut : RowsAreCut) where
       let before : IsRun g t.before = run_of_tick g E row t run in
       let shaped : AreOfShapes (shapes_in_force g t.before) (words_of_row row) =
       subst (λ (r : RowView). AreOfShapes (shapes_in_force g t.before) (words_of_row r)) (sym t.same) (blocks_shaped g t.before row.instant (columns_of g) before) in
-      let quality : row.quality < 2 ^ 8 = subst (λ (r : RowView). r.quality < 2 ^ 8) (sym t.same) (row_quality g t.before row.instant) in
+      let quality : row.quality < 2 ^ 8 = subst (λ (r : RowView). r.quality < 2 ^ 8) (sym t.same) (row_quality g t.before row.instant before) in
       let number : length (shapes_in_force g t.before) ≤ 16 =
       omega (arith, few_in_force g t.before few, length-map (sections_in_force g t.before) (λ (s : SectionFields). s.shape)) in
       let from : row.start ≡ g.start = ap (λ (r : RowView). r.start) t.same in

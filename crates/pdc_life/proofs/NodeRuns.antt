@@ -75,32 +75,28 @@ lives_are_sound rules Says g sound (e ∷ E) life = lives_are_sound rules Says g
 
 of_valid : (settings : Settings) (pmu : Pmu) (bytes : List ℕ) (s : SectionFields) → IsValid settings pmu bytes s → IsSection s
 of_valid settings pmu bytes s h =
-    let whole : AllByRecursion IsSection (s ∷ []) = subst (λ (ss : List SectionFields). AllByRecursion IsSection ss) h.one h.base.has.config.sections in
-    whole.0
-
--- what is common to the parts of sound
-record Facts (g : Given) (p : ℕ) : Type 0 where
-  here : p < g.columns
-  stream : p < length (streams_of g)
+    (subst (λ (ss : List SectionFields). AllByRecursion IsSection ss) h.one h.base.has.config.sections).0
 
 own_column : {A : Type 0} (g : Given) (p : ℕ) (a : A) → p < g.columns → HaveColumns g ((p, a) ∷ [])
 own_column g p a h = record { rise = (omega arith, tt); exist = (h, tt) }
 
-facts_of : (settings : Settings) (g : Given) (p : ℕ) (bytes : List ℕ) (arrival : Arrival) → IsGivenBy settings g → ReadsFor settings p bytes arrival → Facts g p
+facts_of : (settings : Settings) (g : Given) (p : ℕ) (bytes : List ℕ) (arrival : Arrival) → IsGivenBy settings g → ReadsFor settings p bytes arrival
+    → (p < g.columns) × (p < length (streams_of g))
 facts_of settings g p bytes arrival given r =
     let number : g.columns ≡ length settings.pmus.items = ap (λ (h : Given). h.columns) given in
     let here : p < g.columns = omega (arith, number, slice_get_within settings.pmus.items p r.pmu r.listed) in
     let one : g.lanes ≡ 1 = ap (λ (h : Given). h.lanes) given in
     let size : length (streams_of g) ≡ g.columns =
     ap (λ n. length (range_with_len 0 (if n == 1 then g.columns else 2))) one ∙ length-range_with_len 0 g.columns in
-    record { here = here; stream = omega (arith, here, size) }
+    (here, omega (arith, here, size))
 
 -- ---- what follows from the law of words
 
 module _ (W : WordsOfBytes) where
-  sound : (settings : Settings) (g : Given) (E : List Entry) (p : ℕ) (bytes : List ℕ) (arrival : Arrival) → g.output.rate ≡ settings.output.rate → Facts g p → ReadsFor settings p bytes arrival → IsSound g E p arrival (node_answer g E p arrival)
+  sound : (settings : Settings) (g : Given) (E : List Entry) (p : ℕ) (bytes : List ℕ) (arrival : Arrival) → g.output.rate ≡ settings.output.rate
+      → (p < g.columns) × (p < length (streams_of g)) → ReadsFor settings p bytes arrival → IsSound g E p arrival (node_answer g E p arrival)
   sound settings g E p bytes (BytesRefused refusal) rate facts r = record {
-    stream = facts.stream;
+    stream = facts.1;
     taken = λ h. absurd (false≢true (ap is_taken h));
     columns = record { rise = tt; exist = tt };
     sections = tt;
@@ -108,30 +104,21 @@ module _ (W : WordsOfBytes) where
   sound settings g E p bytes (Data i quality payload) rate facts r =
       let tag : i < 4294967296 * settings.output.rate = data_has_tag (stream_of settings r.pmu) bytes i quality payload r.reads in
       record {
-        stream = facts.stream;
+        stream = facts.1;
         taken = λ h.
             let k = node_gives g E p i quality payload (section_in_force g E p) refl h in
             let fits : AreWords (words_in payload) = W.fit payload (data_is_bytes (stream_of settings r.pmu) bytes i quality payload r.reads) in
+            let count : length (words_in payload) ≡ word_count_of k.section.shape = W.count payload (word_count_of k.section.shape) k.size in
             in_time_of g E p i quality payload (node_cells p quality payload k.section) (node_answer g E p (Data i quality payload)) k.is h
-            (subst (λ n. i < 4294967296 * n) (sym rate) tag) (own_column g p (cell_under k.section quality (words_in payload)) facts.here) (
-              record {
-                section = k.section;
-                in_force = k.in_force;
-                shape = refl;
-                count = W.count payload
-                    (word_count_of k.section.shape) k.size;
-                fits = fits;
-              },
-              tt,
-            )
-            (λ lane. (refl, tt));
+            (subst (λ n. i < 4294967296 * n) (sym rate) tag) (own_column g p (cell_under k.section quality (words_in payload)) facts.0)
+            (record { section = k.section; in_force = k.in_force; shape = refl; count = count; fits = fits }, tt) (λ lane. (refl, tt));
         columns = record { rise = tt; exist = tt };
         sections = tt;
       }
   sound settings g E p bytes (Layout None ((c, s) ∷ [])) rate facts r = record {
-    stream = facts.stream;
+    stream = facts.1;
     taken = λ h. absurd (false≢true (sym (section_not (count_for p g.counts) (held_section g E p) s) ∙ ap is_taken h));
-    columns = own_column g c s (subst (λ n. n < g.columns) (sym r.reads.0) facts.here);
+    columns = own_column g c s (subst (λ n. n < g.columns) (sym r.reads.0) facts.0);
     sections = (of_valid settings r.pmu bytes s r.reads.1, tt);
   }
   sound settings g E p bytes (Layout stamp sections) rate facts r = absurd r.reads
