@@ -15,12 +15,12 @@ pub mod Nodes
 pub mod One
 pub mod Order
 pub mod Play
-pub mod Raised
 pub mod Rows
 pub mod RowsAt
 pub mod Sent
 pub mod Stored
 pub mod Vectors
+pub mod Waiting
 pub mod Worked
 pub mod WorkedFaults
 pub mod WorkedHistory

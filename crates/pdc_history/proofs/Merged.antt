@@ -9,7 +9,7 @@ use Rattle.pdc_life.specs.declared.merging.MergedNode.{MergedNode}
 use Rattle.pdc_life.specs.Arrival.{BytesRefused, Data, Layout, Stamp}
 use Rattle.pdc_life.specs.Life.{Answer, Entry, Arrive, Tick, Pop, is_candidate, section_in_force}
 use Rattle.pdc_life.specs.Merger.{HeldLayout, held_layout}
-use Rattle.pdc_life.specs.MergerReading.{IsLayoutOf, IsOwn, ReadsForMerger, ReadsFrom, nodes_of}
+use Rattle.pdc_life.specs.MergerReading.{IsLayoutOf, IsOwn, ReadsForMerger, nodes_of}
 use Rattle.pdc_life.specs.MergerReading as reading
 use Rattle.pdc_life.specs.Reading.{HasConfig, Stream}
 use Rattle.pdc_history.specs.Agree.{SettingsAgree}

@@ -5,8 +5,9 @@ use Rattle.pdc_frame.specs.Frame.{Fields, IsFrame, spelling_of}
 use Rattle.pdc_frame.specs.declared.frame.Kind.TheVariants.{DataFrame}
 use Rattle.pdc_mark.specs.declared.stored.Stored.{Stored}
 use Rattle.pdc_life.specs.declared.timing.WaitKind.TheVariants.{Relative}
-use Rattle.pdc_history.specs.Asked.{Foreign, IsFault, NoSuchFrame, OtherBody, Send, StartsUsedUp, Stop, StopAtStart, To}
+use Rattle.pdc_history.specs.Asked.{Do, Foreign, IsFault, NoSuchFrame, OtherBody, Send, StartsUsedUp, To}
 use Rattle.pdc_history.specs.Event as events
+use Rattle.pdc_history.specs.Event.{OfStart, Stop, StopDuring}
 use Rattle.pdc_history.specs.History.{MayHappen}
 use Rattle.pdc_history.specs.World.{A, Sends, World}
 use Rattle.pdc_history.specs.Known.{FrameLaws}
@@ -30,17 +31,17 @@ late = record {
   m = record { settings = merger; lead = 0; mark = new_mark };
 }
 
-a_stop_is_left : MayHappen late [] (events.Stop A)
+a_stop_is_left : MayHappen late [] (events.Do A Stop)
 a_stop_is_left = omega arith
 
-lost_is_left : MayHappen late [] (events.StopAtStart A false)
+lost_is_left : MayHappen late [] (events.Do A (StopDuring OfStart false))
 lost_is_left = omega arith
 
-landed_is_used_up : IsFault late [] (StopAtStart A true) StartsUsedUp
+landed_is_used_up : IsFault late [] (Do A (StopDuring OfStart true)) StartsUsedUp
 landed_is_used_up = omega arith
 
 -- after one stop the last start number is used
-after_one_stop : IsFault late (events.happens late [] (events.Stop A) ∷ []) (Stop A) StartsUsedUp
+after_one_stop : IsFault late (events.happens late [] (events.Do A Stop) ∷ []) (Do A Stop) StartsUsedUp
 after_one_stop = omega arith
 
 -- no bytes are no frame

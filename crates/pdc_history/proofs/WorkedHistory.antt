@@ -19,7 +19,7 @@ use Rattle.pdc_life.specs.Arrival.{Data, Layout}
 use Rattle.pdc_life.specs.NodeReading.{IsValid, stream_of}
 use Rattle.pdc_life.specs.Reading.{IsData, Stream}
 use Rattle.pdc_history.specs.Agree.{MayBegin}
-use Rattle.pdc_history.specs.Event.{Event, Publish, Stop, history_from}
+use Rattle.pdc_history.specs.Event.{Event, Do, Publish, Stop, history_from}
 use Rattle.pdc_history.specs.History.{EventsMakeHistories, IsHistory, MayAllHappen, MayCome, MaySend}
 use Rattle.pdc_history.specs.Known.{FrameLaws}
 use Rattle.pdc_history.specs.World.{A, B, M, Who, Happened, Sends, first_mark, is_same, output_of}
@@ -264,8 +264,8 @@ come_4 : FrameLaws → MayCome W (after (sends ++ to_11 A 1 section_11 ∷ to_12
 come_4 F = record { says = record { pmu = pmu_12; listed = refl; reads = data_4 F }; was_sent = λ k. (3, omega arith, refl) }
 
 -- The script may happen, up to the stop after its publish.
-the_script_may_happen : FrameLaws → MayAllHappen W [] (to_the_tick ++ Publish A ∷ Publish A ∷ Stop A ∷ [])
+the_script_may_happen : FrameLaws → MayAllHappen W [] (to_the_tick ++ Do A Publish ∷ Do A Publish ∷ Do A Stop ∷ [])
 the_script_may_happen F = (send_1 F, (send_2 F, (send_3 F, (send_4 F, (come_1, (come_2, (tt, (come_3 F, (come_4 F, (tt, (tt, (tt, (omega arith, tt)))))))))))))
 
-pub the_script_is_a_history : FrameLaws → EventsMakeHistories → IsHistory W (after (to_the_tick ++ Publish A ∷ Publish A ∷ Stop A ∷ []))
-the_script_is_a_history F made = made W [] (to_the_tick ++ Publish A ∷ Publish A ∷ Stop A ∷ []) begins (the_script_may_happen F)
+pub the_script_is_a_history : FrameLaws → EventsMakeHistories → IsHistory W (after (to_the_tick ++ Do A Publish ∷ Do A Publish ∷ Do A Stop ∷ []))
+the_script_is_a_history F made = made W [] (to_the_tick ++ Do A Publish ∷ Do A Publish ∷ Do A Stop ∷ []) begins (the_script_may_happen F)

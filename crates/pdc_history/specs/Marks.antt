@@ -4,7 +4,6 @@ use Rattle.std.specs.List.{AllByRecursion}
 use Rattle.pdc_cfg.specs.Section.{SectionFields}
 use Rattle.pdc_row.specs.Rising.{Rises}
 use Rattle.pdc_row.specs.RowView.{RowView, row_instants}
-use Rattle.pdc_mark.specs.Counts.{IsGreater, raised_to}
 use Rattle.pdc_mark.specs.declared.layout.TheConstants.{COUNTS}
 use Rattle.pdc_life.specs.Answer.{waiting_counts}
 use Rattle.pdc_life.specs.Given.{count_for}
@@ -42,11 +41,6 @@ AdoptedCountsNeverFall =
     section_in_force (given_in W H who) (life_of H who) c ≡ Some s →
     section_in_force (given_in W (later ++ H) who) (life_of (later ++ H) who) c ≡ Some t → s.count ≤ t.count
 
--- The greater of a mark's 16 counts and of 16 others are those that the mark is raised to.
-abbrev pub GreaterIsRaised : Type 0
-GreaterIsRaised =
-    (counts others greater : List ℕ) → length counts ≡ COUNTS → length others ≡ COUNTS → IsGreater counts others greater → greater ≡ raised_to counts others
-
--- So many counts wait always.
+-- As many counts wait as a mark has.
 abbrev pub WaitingIsWhole : Type 0
 WaitingIsWhole = (W : World) (H : List Happened) (who : Who) → length (waiting_counts (given_in W H who) (life_of H who)) ≡ COUNTS

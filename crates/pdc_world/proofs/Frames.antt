@@ -65,7 +65,7 @@ row_of_none known W H v row history =
     cc
 
 row_history : (W : World) (H : List Happened) (v : Who) (row : RowView) → IsHistory W H → Some row ≡ pop_answer (life_of H v) → IsHistory W (Publishes v (Some row) ∷ H)
-row_history W H v row history gave = (record { event = event.Publish v; may = tt; made = ap (Publishes v) gave }, history)
+row_history W H v row history gave = (record { event = event.Do v event.Publish; may = tt; made = ap (Publishes v) gave }, history)
 
 -- what is known of a row's frame, wherever the row came from
 row_wire : (W : World) (H : List Happened) (v : Who) (row : RowView) (out : List ℕ) → Some row ≡ pop_answer (life_of H v)
@@ -143,7 +143,7 @@ layout_some known v old After new l table now ticked same some marks tells stand
     let after : After g (e ∷ E) = subst (λ (x : Stored). After g (Tick now x.counts (tick_answer g E now x.counts) ∷ E)) is (stands g E part.come.stands) in
     let told : ticked ≡ ticked_of (changes E) (tick_answer g E now r.counts) =
     tells g E part.come.stands ∙ ap (λ (x : Stored). ticked_of (changes E) (tick_answer g E now x.counts)) is in
-    let history : IsHistory W (Ticks v e ∷ H) = (record { event = event.TickAt v now; may = tt; made = refl }, part.history) in
+    let history : IsHistory W (Ticks v e ∷ H) = (record { event = event.Do v (event.TickAt now); may = tt; made = refl }, part.history) in
     let adopted : nat_lt 0 (length (tick_answer g E now r.counts).adopted) ≡ true =
     adopts (changes E) (tick_answer g E now r.counts).adopted (subst (λ (t : Ticked). IsSome t.change) told change) in
     none g (e ∷ E) after (layout_fits_in known W H v e history)

@@ -11,12 +11,7 @@ same_who : (v w : Who) → is_same v w ≡ true → v ≡ w
 same_who A A e = refl
 same_who B B e = refl
 same_who M M e = refl
-same_who A B e = cc
-same_who A M e = cc
-same_who B A e = cc
-same_who B M e = cc
-same_who M A e = cc
-same_who M B e = cc
+same_who v w e = cc
 
 another : (v who w : Who) → is_same v who ≡ true → is_same who w ≡ false → is_same v w ≡ false
 another v who w own other = subst (λ (x : Who). is_same x w ≡ false) (sym (same_who v who own)) other

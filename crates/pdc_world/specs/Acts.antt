@@ -25,9 +25,6 @@ use Rattle.pdc_sent.specs.declared.fault.SendFault.{SendFault}
 use Rattle.pdc_sent.specs.declared.fault.SendFault.TheVariants as send
 use Rattle.pdc_station.specs.declared.fault.StopFault.{StopFault}
 use Rattle.pdc_station.specs.declared.fault.StopFault.TheVariants as stop
-use Rattle.pdc_station.specs.declared.stop_at.StopAt.{StopAt}
-use Rattle.pdc_station.specs.declared.stop_at.StopAt.TheVariants as at
-use Rattle.pdc_station.specs.declared.stop_at.Storing.TheVariants as storing
 use Rattle.pdc_world.specs.Replies.{listed, published_as, reply_of, whose_is}
 use Rattle.pdc_world.specs.Seats.{Seat}
 use Rattle.pdc_world.specs.Views.{LedgerView}
@@ -138,10 +135,3 @@ fault_of_stop stop.StartsUsedUp = fault.StartsUsedUp
 abbrev pub frames_if : (bytes : List ℕ) → Option RowView → List (List ℕ)
 frames_if bytes None = []
 frames_if bytes (Some row) = bytes ∷ []
-
--- what a stop is asked as
-abbrev pub asked_to_stop : Who → StopAt → Asked
-asked_to_stop who at.Between = asked.Stop who
-asked_to_stop who (at.In storing.Publish landed) = asked.StopIn who landed
-asked_to_stop who (at.In storing.Tick landed) = asked.StopInTick who landed
-asked_to_stop who (at.In storing.Start landed) = asked.StopAtStart who landed

@@ -9,9 +9,4 @@ abbrev pub core_in : Event → Who
 core_in (event.Send bytes) = A
 core_in (event.To who number) = who_of who
 core_in (event.Junk who bytes) = who_of who
-core_in (event.Tick who now) = who_of who
-core_in (event.Publish who) = who_of who
-core_in (event.Stop who) = who_of who
-core_in (event.StopIn who landed) = who_of who
-core_in (event.StopInTick who landed) = who_of who
-core_in (event.StopAtStart who landed) = who_of who
+core_in (event.Do who act) = who_of who
