@@ -1,29 +1,9 @@
 -- What is asked reads as one event, or is a fault, for one cause.
-use Rattle.std.proofs.Common.{◌≡◌, ℕ, Bool, true, false, ◌&&◌, not, List, [], ◌∷◌, map, refl, sym, ap, subst, ◌∙◌, arith, Some, inl, inr}
-use Rattle.std.specs.Prelude.{◌⊎◌, ◌==◌, ◌||◌}
-use Rattle.std.specs.List.{list_any, slice_get}
-use Rattle.std.proofs.lemmas.Bool.{false≢true}
-use Rattle.std.proofs.lemmas.Option.{same_Some, slice_get_within}
-use Rattle.pdc_frame.specs.Frame.{Fields}
-use Rattle.pdc_frame.specs.declared.frame.Kind.TheVariants.{DataFrame, Cfg2}
-use Rattle.pdc_life.specs.declared.given.Settings.{Settings}
-use Rattle.pdc_life.specs.declared.merging.MergedNode.{MergedNode}
-use Rattle.pdc_life.specs.declared.pmu.Pmu.{Pmu}
-use Rattle.pdc_life.specs.Arrival.{Arrival}
-use Rattle.pdc_life.specs.Distinct.{are_distinct}
-use Rattle.pdc_life.specs.MergerLaws.{MergerReadsOnce}
-use Rattle.pdc_life.specs.MergerReading.{ReadsFrom}
-use Rattle.pdc_life.specs.Node.{ReadsFor}
-use Rattle.pdc_life.specs.NodeReading.{Reads}
-use Rattle.pdc_life.specs.OneLife.{NodeReadsOnce}
-use Rattle.pdc_history.specs.Asked.{AskedIsReadOnce, Brings, BringsToNamed, Cause, CausesAreOne, Do, FaultsMayNotHappen, Foreign, HasOtherBody, HasOtherSection, IsFault, Junk, Names, NamesNone, NoSuchFrame, OtherBody, OtherSection, Send, SentMayCome, StartsUsedUp, To}
+use Rattle.std.proofs.Common.{[], ◌&&◌, ◌∙◌, ◌∷◌, ◌≡◌, ap, arith, Bool, false, inl, inr, List, map, not, refl, Some, subst, sym, true, ℕ}
+use Rattle.pdc_history.specs.Asked.{Do}
+use Rattle.pdc_history.proofs.Names.{◌==◌, ◌||◌, ◌⊎◌, A, Act, are_distinct, Arrival, AskedIsReadOnce, B, Bring, Brings, BringsToNamed, Cause, CausesAreOne, Cfg2, DataFrame, Event, false≢true, FaultsMayNotHappen, Fields, Foreign, FrameLaws, Happened, HasOtherBody, HasOtherSection, IsFault, IsOfPmu, IsOneBody, IsOneSection, Junk, list_any, M, MayCome, MayHappen, MaySend, MergedNode, MergerReadsOnce, Miss, Names, NamesNone, NodeReadsOnce, NoSuchFrame, OtherBody, OtherSection, Pmu, Publish, Reads, ReadsFor, ReadsFrom, same_Some, Says, Send, sent, SentMayCome, Settings, slice_get, slice_get_within, StartsUsedUp, stream_ids, TickAt, To, Who, World}
+use Rattle.pdc_history.proofs.{Lists.{place_there}, One.{distinct_rest, not_and, one_place, pmu_of_stream}}
 use Rattle.pdc_history.specs.Event as events
-use Rattle.pdc_history.specs.Event.{Act, Event, Bring, Miss, Publish, TickAt}
-use Rattle.pdc_history.specs.History.{IsOfPmu, IsOneBody, IsOneSection, MayCome, MayHappen, MaySend, Says, stream_ids}
-use Rattle.pdc_history.specs.Known.{FrameLaws}
-use Rattle.pdc_history.specs.World.{A, B, M, Who, World, Happened, sent}
-use Rattle.pdc_history.proofs.One.{distinct_rest, not_and, one_place, pmu_of_stream}
-use Rattle.pdc_history.proofs.Sent.{place_there}
 
 -- ---- one event
 

@@ -10,6 +10,7 @@ pub mod Marks
 pub mod Merged
 pub mod MergedBlocks
 pub mod Moments
+pub mod Names
 pub mod NodeFrames
 pub mod Nodes
 pub mod One

@@ -1,13 +1,7 @@
 -- What each kind of thing that happened was made from.
-use Rattle.std.proofs.Common.{◌≡◌, ℕ, Bool, true, false, List, cond, refl, sym, subst, ◌∙◌, Option, Some, None}
-use Rattle.std.proofs.lemmas.Option.{none-some, same_Some}
-use Rattle.pdc_row.specs.RowView.{RowView}
-use Rattle.pdc_life.specs.Answer.{ToTick, answered, pop_answer}
-use Rattle.pdc_life.specs.Arrival.{Arrival}
-use Rattle.pdc_life.specs.Life.{Answer, Entry, Arrive, Tick, TickAnswer, Pop}
-use Rattle.pdc_history.specs.Event.{Event, Send, Bring, TickAt, Publish, Stop, Do, happens}
-use Rattle.pdc_history.specs.History.{IsMade, MayCome, MayHappen, MaySend}
-use Rattle.pdc_history.specs.World.{Who, World, Happened, Sends, Comes, Ticks, Publishes, entry_at, given_in, is_same, life_of, raised, rules_of}
+use Rattle.std.proofs.Common.{◌∙◌, ◌≡◌, Bool, cond, false, List, None, Option, refl, Some, subst, sym, true, ℕ}
+use Rattle.pdc_history.specs.Event.{Send}
+use Rattle.pdc_history.proofs.Names.{Answer, answered, Arrival, Arrive, Bring, Comes, Do, Entry, entry_at, Event, given_in, Happened, happens, is_same, IsMade, life_of, MayCome, MayHappen, MaySend, none-some, Pop, pop_answer, Publish, Publishes, raised, RowView, rules_of, same_Some, Sends, Stop, Tick, TickAnswer, TickAt, Ticks, ToTick, Who, World}
 use Rattle.pdc_history.proofs.Moments.{same_who}
 
 -- ---- a send

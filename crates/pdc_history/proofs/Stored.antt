@@ -1,14 +1,6 @@
 -- What marks store never falls.
-use Rattle.std.proofs.Common.{◌≡◌, ℕ, zero, suc, ◌+◌, ◌<◌, ◌≤◌, ◌^◌, Bool, true, false, List, [], ◌∷◌, cond, ltb, refl, sym, subst, arith, rules, Option, Some, None}
-use Rattle.pdc_row.specs.RowView.{RowView}
-use Rattle.pdc_mark.specs.declared.stored.Stored.{Stored}
-use Rattle.pdc_mark.specs.Counts.{raised_to}
-use Rattle.pdc_mark.specs.Stored.{with_next_start}
-use Rattle.pdc_life.specs.Answer.{pop_answer, waiting_counts}
-use Rattle.pdc_life.specs.Given.{count_for}
-use Rattle.pdc_history.specs.Event.{Event, Do, Stop, StopDuring, Store, OfPublish, OfTick, OfStart, happens, left_in}
-use Rattle.pdc_history.specs.History.{IsMade, MayHappen}
-use Rattle.pdc_history.specs.World.{Who, World, Happened, Ends, given_in, lead_of, life_of, mark_of, raised, reserved}
+use Rattle.std.proofs.Common.{[], ◌+◌, ◌<◌, ◌^◌, ◌∷◌, ◌≡◌, ◌≤◌, arith, Bool, cond, false, List, ltb, None, Option, refl, rules, Some, subst, suc, sym, true, zero, ℕ}
+use Rattle.pdc_history.proofs.Names.{count_for, Do, Ends, Event, given_in, Happened, happens, IsMade, lead_of, left_in, life_of, mark_of, MayHappen, OfPublish, OfStart, OfTick, pop_answer, raised, raised_to, reserved, RowView, Stop, StopDuring, Store, Stored, waiting_counts, Who, with_next_start, World}
 
 -- the same start, and nothing lower
 pub record AtLeast (m n : Stored) : Type 0 where

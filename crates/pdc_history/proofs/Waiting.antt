@@ -1,13 +1,6 @@
 -- As many counts wait as a mark has.
-use Rattle.std.proofs.Common.{◌≡◌, ℕ, ◌-◌, ◌≤◌, List, ◌++◌, length, map, replicate, ◌∙◌, arith, length-append}
-use Rattle.std.specs.List.{range_with_len}
-use Rattle.std.proofs.lemmas.List.{length-map, length-replicate}
-use Rattle.std.proofs.lemmas.List.FromFn.{length-range_with_len}
-use Rattle.pdc_life.specs.Answer.{greatest_count}
-use Rattle.pdc_life.specs.Given.{Given}
-use Rattle.pdc_life.specs.Life.{Entry, cleared_count, held_section}
-use Rattle.pdc_history.specs.Marks.{WaitingIsWhole}
-use Rattle.pdc_history.specs.World.{given_in, life_of, opened_with}
+use Rattle.std.proofs.Common.{◌++◌, ◌-◌, ◌∙◌, ◌≡◌, ◌≤◌, arith, length, length-append, List, map, replicate, ℕ}
+use Rattle.pdc_history.proofs.Names.{cleared_count, Entry, Given, given_in, greatest_count, held_section, length-map, length-range_with_len, length-replicate, life_of, opened_with, range_with_len, WaitingIsWhole}
 use Rattle.pdc_history.proofs.Sent.{few_columns}
 
 whole : (n : ℕ) (f : ℕ → ℕ) → n ≤ 16 → length (map f (range_with_len 0 n) ++ replicate (16 - n) 0) ≡ 16

@@ -1,27 +1,10 @@
 -- Worlds worked out by computing the definitions: the script of both nodes and the merger, stops in each store, marks reserved ahead,
 -- and an absolute wait beside a relative one. What arrives is given as read.
-use Rattle.std.specs.Prelude.{◌≡◌, ℕ, ◌+◌, Bool, List, [], ◌∷◌, ◌++◌, length, map, replicate, true, false, None, Some, refl}
 use Rattle.std.proofs.Common.{arith}
-use Rattle.std.specs.List.{slice_get}
 use Rattle.pdc_frame.specs.CheckWord.{check_word_of}
-use Rattle.pdc_tag.specs.Nearest.{nearest_of}
-use Rattle.pdc_tag.specs.Tag.{tag_of}
-use Rattle.pdc_row.specs.RowView.{RowView}
-use Rattle.pdc_mark.specs.declared.stored.Stored.{Stored}
-use Rattle.pdc_life.specs.declared.timing.WaitKind.{WaitKind}
-use Rattle.pdc_life.specs.declared.timing.WaitKind.TheVariants.{Relative, Absolute}
-use Rattle.pdc_life.specs.declared.outcome.Outcome.{Outcome}
-use Rattle.pdc_life.specs.declared.outcome.Outcome.TheVariants.{Taken, Candidate, Refused}
-use Rattle.pdc_life.specs.declared.outcome.Refusal.TheVariants.{StaleCount, Late}
-use Rattle.pdc_life.specs.Arrival.{Data, Layout}
-use Rattle.pdc_life.specs.Life.{Entry, Arrive}
-use Rattle.pdc_output.specs.Layout.{own_block}
-use Rattle.pdc_block.specs.Block.{bytes_of_words, words_in}
-use Rattle.pdc_cfg.specs.Section.{SectionFields}
-use Rattle.pdc_history.specs.Event.{Event, Send, Bring, Do, TickAt, Publish, Stop, StopDuring, Store, OfPublish, OfTick, OfStart, history_from}
-use Rattle.pdc_history.specs.Play.{Answered, Began, Closed, Gave, SentAs, Told, told_of}
-use Rattle.pdc_history.specs.World.{A, B, M, Who, World, Happened, life_of, mark_of, past_lives, published, sent, Sends}
-use Rattle.pdc_life.specs.Vectors.{body_3, body_4, e1, e2, e3, e4, o1, o3, section_11, section_11_two}
+use Rattle.pdc_tag.specs.{Nearest.{nearest_of}, Tag.{tag_of}}
+use Rattle.pdc_history.specs.Event.{Send}
+use Rattle.pdc_history.proofs.Names.{[], ◌++◌, ◌+◌, ◌∷◌, ◌≡◌, A, Absolute, Answered, Arrive, B, Began, body_3, body_4, Bool, Bring, bytes_of_words, Candidate, Closed, Data, Do, e1, e2, e3, e4, Entry, Event, false, Gave, Happened, history_from, Late, Layout, length, life_of, List, M, map, mark_of, None, o1, o3, OfPublish, OfStart, OfTick, Outcome, own_block, past_lives, Publish, published, refl, Refused, Relative, replicate, RowView, section_11, section_11_two, SectionFields, Sends, sent, SentAs, slice_get, Some, StaleCount, Stop, StopDuring, Store, Stored, Taken, TickAt, Told, told_of, true, WaitKind, Who, words_in, World, ℕ}
 use Rattle.pdc_history.proofs.Vectors.{fields_11, fields_12, merger, node, one_phasor}
 
 abbrev pub zeros : List ℕ

@@ -1,16 +1,10 @@
 -- What a world is asked to do, before its bytes are read: the event that it reads as, and why it is a fault (this profile).
-use Rattle.std.specs.Prelude.{◌≡◌, ◌≢◌, ◌⊎◌, ℕ, ◌^◌, ◌≤◌, List, length, Some}
-use Rattle.std.specs.List.{Contains, slice_get}
+use Rattle.std.specs.{List.{Contains, slice_get}, Prelude.{◌^◌, ◌≡◌, ◌≢◌, ◌≤◌, ◌⊎◌, length, List, Some, ℕ}}
 use Rattle.pdc_frame.specs.Frame.{Fields, IsFrame}
 use Rattle.pdc_cfg.specs.Section.{SectionFields}
-use Rattle.pdc_life.specs.declared.pmu.Pmu.{Pmu}
-use Rattle.pdc_life.specs.Arrival.{Arrival}
-use Rattle.pdc_life.specs.NodeReading.{IsValid, stream_of}
-use Rattle.pdc_life.specs.Reading.{IsData}
+use Rattle.pdc_life.specs.{Arrival.{Arrival}, declared.pmu.Pmu.{Pmu}, NodeReading.{IsValid, stream_of}, Reading.{IsData}}
+use Rattle.pdc_history.specs.{Event.{Act, Bring, Event, happens, Miss}, History.{IsForOne, IsOfPmu, MayHappen, Says, stream_ids}, World.{Ends, Happened, sent, Who, World}}
 use Rattle.pdc_history.specs.Event as events
-use Rattle.pdc_history.specs.Event.{Act, Event, Bring, Miss, happens}
-use Rattle.pdc_history.specs.History.{IsForOne, IsOfPmu, MayHappen, Says, stream_ids}
-use Rattle.pdc_history.specs.World.{Who, World, Happened, Ends, sent}
 
 pub data Asked : Type 0 where
   -- a PMU sends this

@@ -1,12 +1,9 @@
 -- Events, with their bytes read, and what they make happen (this profile).
-use Rattle.std.specs.Prelude.{ℕ, Bool, List, [], ◌∷◌, if◌then◌else◌, Option, option_map}
-use Rattle.pdc_mark.specs.declared.stored.Stored.{Stored}
-use Rattle.pdc_mark.specs.Stored.{with_due, with_next_start, with_waiting}
+use Rattle.std.specs.Prelude.{[], ◌∷◌, Bool, if◌then◌else◌, List, Option, option_map, ℕ}
 use Rattle.pdc_row.specs.RowView.{RowView}
-use Rattle.pdc_life.specs.Answer.{ToArrive, ToTick, answered, pop_answer, waiting_counts}
-use Rattle.pdc_life.specs.Arrival.{Arrival}
-use Rattle.pdc_life.specs.Life.{Entry}
-use Rattle.pdc_history.specs.World.{Who, World, Happened, Sends, Comes, PassesBy, Ticks, Publishes, Ends, given_in, lead_of, life_of, mark_of, raised, rules_of}
+use Rattle.pdc_mark.specs.{declared.stored.Stored.{Stored}, Stored.{with_due, with_next_start, with_waiting}}
+use Rattle.pdc_life.specs.{Answer.{answered, pop_answer, ToArrive, ToTick, waiting_counts}, Arrival.{Arrival}, Life.{Entry}}
+use Rattle.pdc_history.specs.World.{Comes, Ends, given_in, Happened, lead_of, life_of, mark_of, PassesBy, Publishes, raised, rules_of, Sends, Ticks, Who, World}
 
 -- what stores
 pub data Store : Type 0 where

@@ -1,25 +1,12 @@
 -- A stop, as the event that it is and the life that begins behind it.
-use Rattle.std.proofs.Common.{◌≡◌, ℕ, ◌+◌, ◌^◌, ◌≤◌, ◌<◌, Bool, true, false, List, nat_lt, Option, Some, None, cond, ◌↔◌, Err, IsErrOf, refl, sym, ap, subst, arith}
-use Rattle.std.proofs.lemmas.Bool.{ltb-false, ltb-true}
-use Rattle.pdc_event.specs.Event.{act_of, store_of}
+use Rattle.std.proofs.Common.{◌+◌, ◌<◌, ◌^◌, ◌↔◌, ◌≡◌, ◌≤◌, ap, arith, Bool, cond, Err, false, IsErrOf, List, nat_lt, None, Option, refl, Some, subst, sym, true, ℕ}
+use Rattle.pdc_world.proofs.Names.{act_of, Asked, due_in, Ends, Fault, fault_of_stop, FaultsMayNotHappen, given_in, Happened, IsFault, IsStepOf, IsWhy, lead_of, left_by, life_of, ltb-false, ltb-true, mark_of, start_left, StartsUsedUp, StopAt, StopFault, store_of, Stored, waiting_counts, Who, with_due, with_next_start, World}
 use Rattle.pdc_event.specs.declared.act.Act.TheVariants as act
-use Rattle.pdc_event.specs.declared.act.StopAt.{StopAt}
 use Rattle.pdc_event.specs.declared.act.StopAt.TheVariants as at
 use Rattle.pdc_event.specs.declared.act.Storing.TheVariants as storing
-use Rattle.pdc_event.specs.declared.fault.Fault.{Fault}
 use Rattle.pdc_history.specs.Asked as asked
-use Rattle.pdc_history.specs.Asked.{Asked, FaultsMayNotHappen, IsFault, StartsUsedUp}
 use Rattle.pdc_history.specs.Event as event
-use Rattle.pdc_history.specs.Event.{due_in}
-use Rattle.pdc_history.specs.Play.{IsStepOf}
-use Rattle.pdc_history.specs.World.{Who, World, Happened, Ends, given_in, lead_of, life_of, mark_of}
-use Rattle.pdc_life.specs.Answer.{waiting_counts}
-use Rattle.pdc_mark.specs.Stored.{with_due, with_next_start}
-use Rattle.pdc_mark.specs.declared.stored.Stored.{Stored}
-use Rattle.pdc_station.specs.Station.{left_by, start_left}
-use Rattle.pdc_station.specs.declared.fault.StopFault.{StopFault}
 use Rattle.pdc_station.specs.declared.fault.StopFault.TheVariants as stop
-use Rattle.pdc_world.specs.Acts.{IsWhy, fault_of_stop}
 
 -- the mark of the life that begins behind the stop
 abbrev pub begun_by : World → List Happened → Who → StopAt → Stored

@@ -1,42 +1,11 @@
 -- Acts of one core, as what they make happen.
-use Rattle.std.proofs.Common.{◌≡◌, ℕ, ◌+◌, ◌^◌, ◌<◌, Bool, List, [], ◌∷◌, ◌++◌, length, nat_lt, Option, Some, None, Result, Ok, Err, IfOk, option_map, refl, sym, ap, subst, cond, ◌∙◌, arith}
-use Rattle.std.proofs.lemmas.Bool.{lt-ltb}
-use Rattle.std.proofs.lemmas.List.{append-nil}
-use Rattle.pdc_align.specs.Align.{new_change, ticked_of}
-use Rattle.pdc_align.specs.declared.ticked.Ticked.{Ticked}
-use Rattle.pdc_core.specs.Core.{Hears}
-use Rattle.pdc_event.specs.Event.{who_of}
-use Rattle.pdc_event.specs.declared.reply.Published.{Published}
-use Rattle.pdc_event.specs.declared.reply.Reply.{Reply}
-use Rattle.pdc_event.specs.declared.reply.Reply.TheVariants as reply
+use Rattle.std.proofs.Common.{[], ◌++◌, ◌+◌, ◌<◌, ◌^◌, ◌∙◌, ◌∷◌, ◌≡◌, ap, arith, Bool, cond, Err, IfOk, length, List, nat_lt, None, Ok, Option, option_map, refl, Result, Some, subst, sym, ℕ}
 use Rattle.pdc_event.specs.declared.who.Who.{Who as WhoData}
-use Rattle.pdc_history.specs.Asked.{Asked, IsReadOf}
+use Rattle.pdc_world.proofs.Names.{answered, append-nil, Asked, Bring, changes, Comes, Ends, Entry, Fault, frames_with, Given, given_by, given_in, Happened, HasStopped, Hears, IsAct, IsPart, IsReadOf, IsSend, IsStepOf, Keeps, layout_wire, layouts_of, lead_of, LedgerView, left_by, life_of, listed_at, listed_with, lt-ltb, mark_of, MayCome, Miss, new_change, opened_with, Outcome, Output, output_of, PassesBy, pop_answer, Published, published_as, Publishes, raised, Reply, reserved, RowView, Rules, rules_of, Seat, Sends, sent, sent_at, Stop, StopAt, Stored, Tick, tick_answer, Ticked, ticked_of, Ticks, ToArrive, ToPop, ToTick, waiting_counts, Who, who_of, with_next_start, with_waiting, World}
+use Rattle.pdc_world.proofs.{Ended.{asked_to_stop, begun_by, stop_step}, Own.{come_comes, come_ends, come_passes, come_publishes, come_ticks, name_back, same_itself, same_output}}
+use Rattle.pdc_event.specs.declared.reply.Reply.TheVariants as reply
 use Rattle.pdc_history.specs.Asked as asked
-use Rattle.pdc_history.specs.Event.{Bring, Miss}
 use Rattle.pdc_history.specs.Event as event
-use Rattle.pdc_history.specs.History.{MayCome}
-use Rattle.pdc_event.specs.declared.fault.Fault.{Fault}
-use Rattle.pdc_history.specs.Play.{IsStepOf}
-use Rattle.pdc_history.specs.World.{Who, World, Happened, Sends, Comes, PassesBy, Ticks, Publishes, Ends, given_by, given_in, lead_of, life_of, mark_of, opened_with, output_of, raised, reserved, rules_of, sent, sent_at}
-use Rattle.pdc_life.specs.Answer.{Rules, ToArrive, ToPop, ToTick, answered, pop_answer, tick_answer, waiting_counts}
-use Rattle.pdc_life.specs.Given.{Given}
-use Rattle.pdc_life.specs.Life.{Entry, Tick, changes}
-use Rattle.pdc_life.specs.Published.{layout_wire}
-use Rattle.pdc_life.specs.declared.outcome.Outcome.{Outcome}
-use Rattle.pdc_mark.specs.declared.stored.Stored.{Stored}
-use Rattle.pdc_output.specs.declared.output.Output.{Output}
-use Rattle.pdc_row.specs.RowView.{RowView}
-use Rattle.pdc_mark.specs.Stops.{Stop}
-use Rattle.pdc_mark.specs.Stored.{with_next_start}
-use Rattle.pdc_mark.specs.Stored.{with_waiting}
-use Rattle.pdc_station.specs.Station.{HasStopped, left_by}
-use Rattle.pdc_event.specs.declared.act.StopAt.{StopAt}
-use Rattle.pdc_world.specs.Acts.{IsAct, IsSend, IsPart, Keeps, frames_with, layouts_of, listed_with}
-use Rattle.pdc_world.specs.Replies.{listed_at, published_as}
-use Rattle.pdc_world.specs.Seats.{Seat}
-use Rattle.pdc_world.specs.Views.{LedgerView}
-use Rattle.pdc_world.proofs.Ended.{asked_to_stop, begun_by, stop_step}
-use Rattle.pdc_world.proofs.Own.{come_comes, come_ends, come_passes, come_publishes, come_ticks, name_back, same_itself, same_output}
 
 -- ---- the ledger
 

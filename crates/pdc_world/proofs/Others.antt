@@ -1,11 +1,6 @@
 -- What happens to one core leaves the others where they have come to.
-use Rattle.std.proofs.Common.{◌≡◌, Bool, true, false, List, ◌∷◌, Some, None, refl, sym, subst, cond}
-use Rattle.pdc_history.specs.World.{Who, A, B, M, World, Happened, Sends, Comes, PassesBy, Ticks, Publishes, Ends, begun_with, given_by, given_in, is_same, lead_of, life_of, mark_of, opened_with, reserved, since, with_counts_of, with_entry}
-use Rattle.pdc_life.specs.Given.{Given}
-use Rattle.pdc_life.specs.Life.{Entry, Pop}
-use Rattle.pdc_mark.specs.declared.stored.Stored.{Stored}
-use Rattle.pdc_world.specs.Acts.{HasCome, is_own}
-use Rattle.pdc_world.specs.Seats.{Seat}
+use Rattle.std.proofs.Common.{◌∷◌, ◌≡◌, Bool, cond, false, List, None, refl, Some, subst, sym, true}
+use Rattle.pdc_world.proofs.Names.{A, B, begun_with, Comes, Ends, Entry, Given, given_by, given_in, Happened, HasCome, is_own, is_same, lead_of, life_of, M, mark_of, opened_with, PassesBy, Pop, Publishes, reserved, Seat, Sends, since, Stored, Ticks, Who, with_counts_of, with_entry, World}
 
 same_who : (v w : Who) → is_same v w ≡ true → v ≡ w
 same_who A A e = refl

@@ -1,7 +1,6 @@
 -- Which events need no memory (this profile).
 use Rattle.std.specs.Prelude.{Bool, IsTrue}
-use Rattle.pdc_history.specs.Asked.{Asked, Send, To, Junk, Do}
-use Rattle.pdc_history.specs.Event.{TickAt, Publish}
+use Rattle.pdc_history.specs.{Asked.{Asked, Do, Junk, Send, To}, Event.{Publish, TickAt}}
 
 -- Bytes that come to a core need none. A send, a tick and a publish need room for one frame and one row more. A stop opens a core, for
 -- which nothing is reserved.

@@ -1,9 +1,7 @@
-use Rattle.std.proofs.Common.{ap, ◌∙◌}
-use Rattle.pdc_event.specs.Event.{asked_of}
+use Rattle.std.proofs.Common.{◌∙◌, ap}
+use Rattle.pdc_world.proofs.Names.{asked_of, core_in}
+use Rattle.pdc_world.proofs.{Made.{sent_made}, Same.{made_of, refused_of}}
 use Rattle.pdc_event.specs.declared.event.Event.TheVariants as event
-use Rattle.pdc_world.specs.Receiver.{core_in}
-use Rattle.pdc_world.proofs.Made.{sent_made}
-use Rattle.pdc_world.proofs.Same.{made_of, refused_of}
 use Rattle.pdc_world.proofs.act.act.Goals as goal
 
 pub returns-in-Send-clause-made : goal.returns-in-Send-clause-made
