@@ -2,7 +2,13 @@
 use Rattle.std.specs.Prelude.{Option, None, Some}
 use Rattle.pdc_history.specs.Asked.{Asked, Cause, OtherBody, OtherSection, Foreign}
 use Rattle.pdc_history.specs.Asked as asked
+use Rattle.pdc_history.specs.Event.{Act, Store, OfPublish, OfStart, OfTick, Publish, Stop, StopDuring, TickAt}
 use Rattle.pdc_history.specs.World.{Who, A, B, M}
+use Rattle.pdc_event.specs.declared.act.Act.{Act as ActData}
+use Rattle.pdc_event.specs.declared.act.Act.TheVariants as act
+use Rattle.pdc_event.specs.declared.act.StopAt.TheVariants as at
+use Rattle.pdc_event.specs.declared.act.Storing.{Storing}
+use Rattle.pdc_event.specs.declared.act.Storing.TheVariants as storing
 use Rattle.pdc_event.specs.declared.event.Event.{Event}
 use Rattle.pdc_event.specs.declared.event.Event.TheVariants as event
 use Rattle.pdc_event.specs.declared.fault.Fault.{Fault}
@@ -17,17 +23,25 @@ who_of who.A = A
 who_of who.B = B
 who_of who.M = M
 
+-- which store a stop falls into
+abbrev pub store_of : Storing → Store
+store_of storing.Publish = OfPublish
+store_of storing.Tick = OfTick
+store_of storing.Start = OfStart
+
+-- what a core does
+abbrev pub act_of : ActData → Act
+act_of (act.Tick now) = TickAt now
+act_of act.Publish = Publish
+act_of (act.Stop at.Between) = Stop
+act_of (act.Stop (at.In storing landed)) = StopDuring (store_of storing) landed
+
 -- what is asked
 abbrev pub asked_of : Event → Asked
 asked_of (event.Send bytes) = asked.Send bytes.now
 asked_of (event.To whom number) = asked.To (who_of whom) number
 asked_of (event.Junk whom bytes) = asked.Junk (who_of whom) bytes.now
-asked_of (event.Tick whom now) = asked.TickAt (who_of whom) now
-asked_of (event.Publish whom) = asked.Publish (who_of whom)
-asked_of (event.Stop whom) = asked.Stop (who_of whom)
-asked_of (event.StopIn whom landed) = asked.StopIn (who_of whom) landed
-asked_of (event.StopInTick whom landed) = asked.StopInTick (who_of whom) landed
-asked_of (event.StopAtStart whom landed) = asked.StopAtStart (who_of whom) landed
+asked_of (event.Do whom act) = asked.Do (who_of whom) (act_of act)
 
 -- the fault that tells a cause
 abbrev pub fault_of : Cause → Fault

@@ -1,4 +1,5 @@
 //! Events.
+use crate::act::Act;
 use crate::who::Who;
 
 /// What a world is asked.
@@ -23,42 +24,11 @@ pub enum Event<'a> {
         /// Any bytes, but no frame of a stream of the receiver that was never sent.
         bytes: &'a [u8],
     },
-    /// A core ticks.
-    Tick {
+    /// A core acts.
+    Do {
         /// Which one.
         who: Who,
-        /// The instant that is now.
-        now: u64,
-    },
-    /// A core publishes the next row, if one waits.
-    Publish {
-        /// Which one.
-        who: Who,
-    },
-    /// A core stops between stores, and its next life begins.
-    Stop {
-        /// Which one.
-        who: Who,
-    },
-    /// A core stops in the store of a publish.
-    StopIn {
-        /// Which one.
-        who: Who,
-        /// Whether the store is done.
-        landed: bool,
-    },
-    /// A core stops in the store with which a tick begins.
-    StopInTick {
-        /// Which one.
-        who: Who,
-        /// Whether the store is done.
-        landed: bool,
-    },
-    /// A core stops, and again in the store of its next start.
-    StopAtStart {
-        /// Which one.
-        who: Who,
-        /// Whether the store is done.
-        landed: bool,
+        /// What it does.
+        act: Act,
     },
 }

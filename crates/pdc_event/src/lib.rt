@@ -8,11 +8,13 @@
 //! defined in `specs/Event.antt`.
 #![tactic(auto)]
 
+mod act;
 mod event;
 mod fault;
 mod reply;
 mod who;
 
+pub use act::{Act, StopAt, Storing};
 pub use event::Event;
 pub use fault::{Fault, Premise, WorldFault};
 pub use reply::{Published, Reply};

@@ -1,26 +1,7 @@
 -- Whether a data frame can be cut under a layout that was sent can be told.
-use Rattle.std.proofs.Common.{◌≡◌, ℕ, ◌+◌, ◌*◌, ◌^◌, ◌<◌, List, [], ◌∷◌, length, map, refl, sym, ap, subst, ◌∙◌, arith, inl, inr}
-use Rattle.std.specs.Prelude.{◌⊎◌}
-use Rattle.std.specs.List.{sum_by}
-use Rattle.pdc_block.specs.Block.{IsCut, body_len_of, bytes_of_blocks}
-use Rattle.pdc_cfg.specs.Config.{ConfigFields, IsConfig}
-use Rattle.pdc_cfg.specs.Section.{SectionFields}
-use Rattle.pdc_cfg.specs.declared.shape.Shape.{Shape}
-use Rattle.pdc_frame.specs.Bytes.{AreBytes, word_at}
-use Rattle.pdc_frame.specs.Frame.{Fields, IsFrame}
-use Rattle.pdc_frame.specs.Parts.{PartsKeepTheirWords}
-use Rattle.pdc_frame.specs.declared.frame.Kind.TheVariants.{Cfg2}
-use Rattle.pdc_output.specs.Layout.{own_block, own_bytes}
-use Rattle.pdc_output.specs.declared.output.Nominal.TheVariants.{Hz50, Hz60}
-use Rattle.pdc_life.specs.Arrival.{Stamp}
-use Rattle.pdc_life.specs.MergerReading.{IsOwn}
-use Rattle.pdc_life.specs.Reading.{HasConfig}
-use Rattle.pdc_history.specs.Frames.{IsCutOf, IsCutUnder, IsLayoutUnder}
-use Rattle.pdc_history.specs.Seen.{Seen, output_in, stream_in}
-use Rattle.pdc_history.specs.World.{Who}
-use Rattle.pdc_headline.proofs.Layouts.{HasSomeConfig, has_some_config}
-use Rattle.pdc_headline.proofs.Reading.{config_in, frame_stands_there, is_frame}
-use Rattle.pdc_headline.proofs.Told.{HasOne, IsTold, among, both, either, has_one, is_below, is_list, is_number, likewise, there}
+use Rattle.std.proofs.Common.{[], ◌*◌, ◌+◌, ◌<◌, ◌^◌, ◌∙◌, ◌∷◌, ◌≡◌, ap, arith, inl, inr, length, List, map, refl, subst, sym, ℕ}
+use Rattle.pdc_headline.proofs.Names.{◌⊎◌, AreBytes, body_len_of, bytes_of_blocks, Cfg2, ConfigFields, Fields, HasConfig, Hz50, Hz60, IsConfig, IsCut, IsCutOf, IsCutUnder, IsFrame, IsLayoutUnder, IsOwn, output_in, own_block, own_bytes, PartsKeepTheirWords, SectionFields, Seen, Shape, Stamp, stream_in, sum_by, Who, word_at}
+use Rattle.pdc_headline.proofs.{Layouts.{has_some_config, HasSomeConfig}, Reading.{config_in, frame_stands_there, is_frame}, Told.{among, both, either, has_one, HasOne, is_below, is_list, is_number, IsTold, likewise, there}}
 
 -- what is known of configurations and of cuts
 pub record CutLaws : Type 0 where

@@ -1,17 +1,8 @@
 -- What PMUs, layouts and frames show: in a history, and of whatever is seen.
-use Rattle.std.proofs.Common.{ℕ, List, sym, ap, subst}
-use Rattle.std.proofs.lemmas.Option.{get_or_from_slice_get, slice_get_within}
-use Rattle.pdc_cfg.specs.Section.{SectionFields}
-use Rattle.pdc_event.specs.Event.{who_of}
-use Rattle.pdc_event.specs.declared.reply.Published.{Published}
+use Rattle.std.proofs.Common.{ap, List, subst, sym, ℕ}
+use Rattle.pdc_headline.proofs.Names.{A, B, bytes_of, FramesAgree, get_or_from_slice_get, HasGenuineFrames, LayoutsAreOne, M, OfHistories, PmusSendOneBody, PmusSendOneSection, Published, PublishedAgree, SectionFields, Seen, Shows, ShowsPublished, slice_get_within, who_of}
+use Rattle.pdc_headline.proofs.Told.{are_lists, CannotFail, holds, is_list, so_does}
 use Rattle.pdc_history.specs.Genuine as genuine
-use Rattle.pdc_history.specs.Genuine.{FramesAgree, HasGenuineFrames, Shows}
-use Rattle.pdc_history.specs.Pmus.{PmusSendOneBody, PmusSendOneSection}
-use Rattle.pdc_history.specs.Seen.{OfHistories, Seen}
-use Rattle.pdc_history.specs.World.{A, B, M}
-use Rattle.pdc_headline.specs.Agree.{PublishedAgree, ShowsPublished}
-use Rattle.pdc_headline.specs.Frames.{LayoutsAreOne, bytes_of}
-use Rattle.pdc_headline.proofs.Told.{CannotFail, are_lists, holds, is_list, so_does}
 
 -- ---- in a history
 

@@ -1,19 +1,7 @@
 -- Whether bytes have a configuration can be told: its sections are cut one after the other.
-use Rattle.std.proofs.Common.{◌≡◌, ℕ, zero, suc, ◌+◌, ◌-◌, ◌*◌, ◌/◌, ◌%◌, ◌^◌, ◌<◌, ◌≤◌, List, [], ◌∷◌, ◌++◌, drop, length, take, refl, sym, ap, subst, ◌∙◌, arith, if◌then◌else◌, inl, inr, length-append, nat_eq}
-use Rattle.std.specs.Int.{w16, w32, cast_signed, cast_unsigned, to_be_bytes}
-use Rattle.std.specs.List.{AllByRecursion}
-use Rattle.std.proofs.Math.Seq.{take-append_seam}
-use Rattle.std.proofs.lemmas.Int.{of_z-to_z}
-use mir.ValLaws.{of_z_fits}
-use Rattle.std.proofs.lemmas.List.{take-append-drop}
-use borrow.Author.Gap.{read_sfits}
-use Rattle.pdc_cfg.specs.Config.{ConfigFields, IsConfig, bytes_of_sections, payload_of}
-use Rattle.pdc_cfg.specs.Section.{AreFew, HasIntegers, IsSection, SectionFields, analogs_in, count_in, digitals_in, format_in, len_in, phasors_in, source_in}
-use Rattle.pdc_cfg.specs.Shape.{section_len}
-use Rattle.pdc_frame.specs.Bytes.{AreBytes, long_at, word_at}
-use Rattle.pdc_frame.specs.Parts.{PartsKeepTheirWords}
-use Rattle.pdc_headline.proofs.Told.{IsTold, both, is_below, is_list, likewise}
-use Rattle.pdc_headline.proofs.Valid.{is_section}
+use Rattle.std.proofs.Common.{[], ◌%◌, ◌*◌, ◌++◌, ◌+◌, ◌-◌, ◌/◌, ◌<◌, ◌^◌, ◌∙◌, ◌∷◌, ◌≡◌, ◌≤◌, ap, arith, drop, if◌then◌else◌, inl, inr, length, length-append, List, nat_eq, refl, subst, suc, sym, take, zero, ℕ}
+use Rattle.pdc_headline.proofs.Names.{AllByRecursion, analogs_in, AreBytes, AreFew, bytes_of_sections, cast_signed, cast_unsigned, ConfigFields, count_in, digitals_in, format_in, HasIntegers, IsConfig, IsSection, len_in, long_at, of_z-to_z, of_z_fits, PartsKeepTheirWords, payload_of, phasors_in, read_sfits, section_len, SectionFields, source_in, take-append-drop, take-append_seam, to_be_bytes, w16, w32, word_at}
+use Rattle.pdc_headline.proofs.{Told.{both, is_below, is_list, IsTold, likewise}, Valid.{is_section}}
 
 -- ---- one section
 

@@ -1,16 +1,7 @@
 -- Whether bytes are a data frame can be told: its fields are what stands in their places.
-use Rattle.std.proofs.Common.{◌≡◌, ℕ, ◌+◌, ◌-◌, ◌*◌, ◌/◌, ◌%◌, ◌^◌, ◌<◌, List, ◌++◌, length, take, drop, refl, sym, ap, subst, ◌∙◌, arith, length-append, Some, inl, inr}
-use Rattle.std.specs.Prelude.{◌⊎◌, ◌↔◌, slice_index}
-use Rattle.std.specs.Int.{w16, to_be_bytes}
-use Rattle.std.proofs.Math.Seq.{take-append_seam}
-use Rattle.pdc_frame.specs.Bytes.{AreBytes, long_at, word_at}
-use Rattle.pdc_frame.specs.CheckWord.{check_word_of}
-use Rattle.pdc_frame.specs.Frame.{Fields, Fits, IsFrame, before_check, fields_in, number_of, spelling_of}
-use Rattle.pdc_frame.specs.declared.frame.Kind.{Kind}
-use Rattle.pdc_frame.specs.declared.frame.Kind.TheVariants.{Cfg2, DataFrame}
-use Rattle.pdc_life.specs.Reading.{IsData, Stream}
-use Rattle.pdc_tag.specs.Instant.{IsInstant, instant_of}
-use Rattle.pdc_headline.proofs.Told.{IsTold, are_below, likewise, both, either, is_below, is_list, is_number, is_some_number}
+use Rattle.std.proofs.Common.{◌%◌, ◌*◌, ◌++◌, ◌+◌, ◌-◌, ◌/◌, ◌<◌, ◌^◌, ◌∙◌, ◌≡◌, ap, arith, drop, inl, inr, length, length-append, List, refl, Some, subst, sym, take, ℕ}
+use Rattle.pdc_headline.proofs.Names.{◌↔◌, ◌⊎◌, AreBytes, before_check, Cfg2, check_word_of, DataFrame, Fields, fields_in, Fits, instant_of, IsData, IsFrame, IsInstant, Kind, long_at, number_of, slice_index, spelling_of, Stream, take-append_seam, to_be_bytes, w16, word_at}
+use Rattle.pdc_headline.proofs.Told.{are_below, both, either, is_below, is_list, is_number, is_some_number, IsTold, likewise}
 
 word_again : (n : ℕ) → n < 2 ^ 16 → n ≡ 256 * (n / 256 % 256) + n % 256
 word_again n h = omega (arith, h)

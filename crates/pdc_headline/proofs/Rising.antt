@@ -1,18 +1,8 @@
 -- The instants that are listed of an owner are those of the rows that it published.
-use Rattle.std.proofs.Common.{◌≡◌, ℕ, Bool, true, false, List, [], ◌∷◌, ◌++◌, cond, filter, map, refl, sym, ap, subst, ◌∙◌, Some, None}
-use Rattle.pdc_event.specs.Event.{who_of}
-use Rattle.pdc_event.specs.declared.reply.Published.{Published}
-use Rattle.pdc_history.specs.Lives.{rows_of_one}
+use Rattle.std.proofs.Common.{[], ◌++◌, ◌∙◌, ◌∷◌, ◌≡◌, ap, Bool, cond, false, filter, List, map, None, refl, Some, subst, sym, true, ℕ}
+use Rattle.pdc_headline.proofs.Names.{A, AreRising, B, Comes, Ends, first_mark, Happened, instants_of, InstantsRise, is_same, IsHistory, listed, listed_at, M, name_of, PassesBy, Published, published, published_at, Publishes, Rises, row_instants, rows_of_one, RowView, Sends, Ticks, Who, who_of, World}
+use Rattle.pdc_headline.proofs.{Stable.{all_rising}, Told.{CannotFail, so_does}}
 use Rattle.pdc_history.specs.Marks as marks
-use Rattle.pdc_history.specs.History.{IsHistory}
-use Rattle.pdc_history.specs.World.{A, B, M, Who, World, Happened, Sends, Comes, PassesBy, Ticks, Publishes, Ends, first_mark, is_same, published, published_at}
-use Rattle.pdc_row.specs.Rising.{Rises}
-use Rattle.pdc_row.specs.RowView.{RowView, row_instants}
-use Rattle.pdc_world.specs.Replies.{listed, listed_at, name_of}
-use Rattle.pdc_headline.specs.Published.{InstantsRise}
-use Rattle.pdc_headline.specs.Seen.{AreRising, instants_of}
-use Rattle.pdc_headline.proofs.Stable.{all_rising}
-use Rattle.pdc_headline.proofs.Told.{CannotFail, so_does}
 
 pub same_who : (who : Who) → who_of (name_of who) ≡ who
 same_who A = refl

@@ -1,22 +1,7 @@
 -- The frame of each listed row is there, and it is data of the row's instant.
-use Rattle.std.proofs.Common.{◌≡◌, ℕ, zero, suc, List, [], ◌∷◌, ◌++◌, length, refl, sym, subst, ◌∙◌, Option, Some, None}
-use Rattle.std.specs.List.{AllByRecursion, slice_get}
-use Rattle.std.proofs.lemmas.Option.{none-some, same_Some}
-use Rattle.pdc_event.specs.Event.{who_of}
-use Rattle.pdc_event.specs.declared.reply.Published.{Published}
-use Rattle.pdc_history.specs.Genuine.{IsPublishedData, PublishedWereSent}
-use Rattle.pdc_history.specs.History.{IsHistory}
-use Rattle.pdc_history.specs.Seen.{Seen, seen_in, stream_in}
-use Rattle.pdc_history.specs.World.{Who, World, Happened, Sends, Comes, PassesBy, Ticks, Publishes, Ends, output_of, published, sent, sent_at}
-use Rattle.pdc_life.specs.Reading.{IsData, Stream}
-use Rattle.pdc_output.specs.Layout.{row_payload, wire_of}
-use Rattle.pdc_row.specs.RowView.{RowView}
-use Rattle.pdc_world.specs.Replies.{listed, listed_at, published_as}
-use Rattle.pdc_headline.specs.Published.{IsSentData, RowsAreSentData}
-use Rattle.pdc_headline.proofs.Reading.{IsDataThere, TagsAreComputed, data_in, data_there, is_data_there, there_of_data}
-use Rattle.pdc_headline.proofs.Rising.{same_who}
-use Rattle.pdc_headline.proofs.Stable.{each}
-use Rattle.pdc_headline.proofs.Told.{CannotFail, holds, so_does}
+use Rattle.std.proofs.Common.{[], ◌++◌, ◌∙◌, ◌∷◌, ◌≡◌, length, List, None, Option, refl, Some, subst, suc, sym, zero, ℕ}
+use Rattle.pdc_headline.proofs.Names.{AllByRecursion, Comes, Ends, Happened, IsData, IsHistory, IsPublishedData, IsSentData, listed, listed_at, none-some, output_of, PassesBy, Published, published, published_as, PublishedWereSent, Publishes, row_payload, RowsAreSentData, RowView, same_Some, Seen, seen_in, Sends, sent, sent_at, slice_get, stream_in, Ticks, Who, who_of, wire_of, World}
+use Rattle.pdc_headline.proofs.{Reading.{data_in, data_there, is_data_there, IsDataThere, TagsAreComputed, there_of_data}, Rising.{same_who}, Stable.{each}, Told.{CannotFail, holds, so_does}}
 
 -- ---- in a history
 

@@ -1,26 +1,7 @@
 -- Whether a section or a block was sent can be told: PMUs and frames are so many.
-use Rattle.std.proofs.Common.{◌≡◌, ℕ, ◌^◌, List, [], ◌∷◌, length, sym, ap, subst, ◌∙◌, arith}
-use Rattle.std.specs.List.{Contains}
-use Rattle.pdc_block.specs.Block.{AreWords, IsBody, bytes_of_words}
-use Rattle.pdc_cfg.specs.Section.{SectionFields}
-use Rattle.pdc_cfg.specs.Shape.{word_count_of}
-use Rattle.pdc_cfg.specs.declared.shape.Shape.{Shape}
-use Rattle.pdc_frame.specs.Bytes.{AreBytes}
-use Rattle.pdc_frame.specs.Frame.{Fields}
-use Rattle.pdc_block.specs.AbsentBlock.{absent_of}
-use Rattle.pdc_life.specs.Arrival.{Stamp}
-use Rattle.pdc_life.specs.NodeReading.{IsValid, stream_of}
-use Rattle.pdc_life.specs.declared.pmu.Pmu.{Pmu}
-use Rattle.pdc_history.specs.Frames.{AreGenuineBlocks, IsCutOf, SectionWasSent, WasSent}
-use Rattle.pdc_history.specs.Genuine.{HasGenuineFrames, IsGenuineData}
-use Rattle.pdc_history.specs.Seen.{Seen, stream_in}
-use Rattle.pdc_history.specs.World.{Who}
-use Rattle.pdc_life.specs.Reading.{IsData}
-use Rattle.pdc_headline.proofs.Cuts.{CutLaws, IsSomehowCut, is_somehow_cut}
-use Rattle.pdc_headline.proofs.Reading.{IsDataThere, TagsAreComputed, data_in, data_there, is_data_there, same_data, there_of_data}
-use Rattle.pdc_headline.proofs.Stable.{each}
-use Rattle.pdc_headline.proofs.Told.{CannotFail, HasOne, IsTold, among, are_below, both, either, has_one, holds, is_list, is_number, likewise, so_does, there}
-use Rattle.pdc_headline.proofs.Valid.{is_valid}
+use Rattle.std.proofs.Common.{[], ◌^◌, ◌∙◌, ◌∷◌, ◌≡◌, ap, arith, length, List, subst, sym, ℕ}
+use Rattle.pdc_headline.proofs.Names.{absent_of, AreBytes, AreGenuineBlocks, AreWords, bytes_of_words, Contains, Fields, HasGenuineFrames, IsBody, IsCutOf, IsData, IsGenuineData, IsValid, Pmu, SectionFields, SectionWasSent, Seen, Shape, Stamp, stream_in, stream_of, WasSent, Who, word_count_of}
+use Rattle.pdc_headline.proofs.{Cuts.{CutLaws, is_somehow_cut, IsSomehowCut}, Reading.{data_in, data_there, is_data_there, IsDataThere, same_data, TagsAreComputed, there_of_data}, Stable.{each}, Told.{among, are_below, both, CannotFail, either, has_one, HasOne, holds, is_list, is_number, IsTold, likewise, so_does, there}, Valid.{is_valid}}
 
 -- ---- sections
 

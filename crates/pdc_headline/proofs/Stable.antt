@@ -1,8 +1,6 @@
 -- What cannot fail to hold of numbers that rise, and of each element of a list, holds.
-use Rattle.std.proofs.Common.{ℕ, List, [], ◌∷◌}
-use Rattle.std.specs.List.{AllByRecursion}
-use Rattle.pdc_row.specs.Rising.{Rises}
-use Rattle.pdc_headline.specs.Seen.{AreRising}
+use Rattle.std.proofs.Common.{[], ◌∷◌, List, ℕ}
+use Rattle.pdc_headline.proofs.Names.{AllByRecursion, AreRising, Rises}
 use Rattle.pdc_headline.proofs.Told.{CannotFail, holds, is_below, so_does}
 
 pub rising : (low : ℕ) (ns : List ℕ) → CannotFail (Rises low ns) → Rises low ns

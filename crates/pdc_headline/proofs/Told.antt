@@ -1,9 +1,6 @@
 -- What can be told by looking.
-use Rattle.std.proofs.Common.{◌≡◌, ℕ, zero, suc, ◌<◌, List, [], ◌∷◌, refl, ap, arith, Option, Some, None, inl, inr, sym, subst, ◌∙◌}
-use Rattle.std.specs.Prelude.{◌⊎◌, slice_index}
-use Rattle.std.specs.List.{Contains, slice_get}
-use Rattle.std.proofs.lemmas.Bool.{cases_eq, cases_lt}
-use Rattle.std.proofs.lemmas.Option.{get_or_from_slice_get, none-some, same_Some, slice_get-get_or, slice_get_within}
+use Rattle.std.proofs.Common.{[], ◌<◌, ◌∙◌, ◌∷◌, ◌≡◌, ap, arith, inl, inr, List, None, Option, refl, Some, subst, suc, sym, zero, ℕ}
+use Rattle.pdc_headline.proofs.Names.{◌⊎◌, cases_eq, cases_lt, Contains, get_or_from_slice_get, none-some, same_Some, slice_get, slice_get-get_or, slice_get_within, slice_index}
 
 -- That it did not hold is absurd: so much is had of a world, which keeps no history. What can be told by looking holds then.
 abbrev pub CannotFail : Type 0 → Type 0

@@ -1,19 +1,7 @@
 -- Whether bytes are a valid configuration with a section can be told.
-use Rattle.std.proofs.Common.{◌≡◌, ℕ, ◌+◌, ◌*◌, ◌/◌, ◌%◌, ◌^◌, ◌<◌, List, [], ◌∷◌, length, refl, sym, ap, subst, ◌∙◌, arith, if◌then◌else◌}
-use Rattle.std.specs.Int.{w16, cast_signed, cast_unsigned}
-use Rattle.std.proofs.lemmas.Int.{to_z-of_z}
-use borrow.Author.Gap.{read_sfits}
-use Rattle.pdc_cfg.specs.Config.{ConfigFields, IsConfig, payload_of}
-use Rattle.pdc_cfg.specs.Section.{SectionFields, IsSection, HasIntegers, analogs_in, count_in, digitals_in, format_in, phasors_in, source_in}
-use Rattle.pdc_cfg.specs.Shape.{section_len_of}
-use Rattle.pdc_frame.specs.Bytes.{AreBytes, long_at, word_at}
-use Rattle.pdc_frame.specs.Frame.{Fields, IsFrame}
-use Rattle.pdc_frame.specs.declared.frame.Kind.TheVariants.{Cfg2}
-use Rattle.pdc_life.specs.NodeReading.{IsValid}
-use Rattle.pdc_life.specs.declared.given.Settings.{Settings}
-use Rattle.pdc_life.specs.declared.pmu.Pmu.{Pmu}
-use Rattle.pdc_headline.proofs.Reading.{config_in, frame_stands_there, is_frame}
-use Rattle.pdc_headline.proofs.Told.{IsTold, are_below, both, is_below, is_list, is_number, likewise}
+use Rattle.std.proofs.Common.{[], ◌%◌, ◌*◌, ◌+◌, ◌/◌, ◌<◌, ◌^◌, ◌∙◌, ◌∷◌, ◌≡◌, ap, arith, if◌then◌else◌, length, List, refl, subst, sym, ℕ}
+use Rattle.pdc_headline.proofs.Names.{analogs_in, AreBytes, cast_signed, cast_unsigned, Cfg2, ConfigFields, count_in, digitals_in, Fields, format_in, HasIntegers, IsConfig, IsFrame, IsSection, IsValid, long_at, payload_of, phasors_in, Pmu, read_sfits, section_len_of, SectionFields, Settings, source_in, to_z-of_z, w16, word_at}
+use Rattle.pdc_headline.proofs.{Reading.{config_in, frame_stands_there, is_frame}, Told.{are_below, both, is_below, is_list, is_number, IsTold, likewise}}
 
 -- ---- sections
 

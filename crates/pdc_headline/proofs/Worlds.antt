@@ -1,13 +1,6 @@
 -- What holds of every history cannot fail to hold of what is seen of a world.
-use Rattle.std.proofs.Common.{◌≡◌, List, sym, subst}
-use Rattle.pdc_event.specs.declared.reply.Published.{Published}
-use Rattle.pdc_history.specs.History.{IsHistory}
-use Rattle.pdc_history.specs.Seen.{OfHistories, Seen, seen_in}
-use Rattle.pdc_history.specs.World.{A, B, M, World, Happened}
-use Rattle.pdc_world.specs.Holds.{Holds, HoldsSome}
-use Rattle.pdc_world.specs.Replies.{listed}
-use Rattle.pdc_world.specs.Views.{WorldView}
-use Rattle.pdc_headline.specs.Seen.{rows_of, seen_of}
+use Rattle.std.proofs.Common.{◌≡◌, List, subst, sym}
+use Rattle.pdc_headline.proofs.Names.{A, B, Happened, Holds, HoldsSome, IsHistory, listed, M, OfHistories, Published, rows_of, Seen, seen_in, seen_of, World, WorldView}
 use Rattle.pdc_headline.proofs.Told.{CannotFail}
 
 of_history : (C : Seen → List Published → Type 0) (v : WorldView) (W : World) (H : List Happened) → ((X : World) (Y : List Happened) → IsHistory X Y → C (seen_in X Y) (listed X Y))

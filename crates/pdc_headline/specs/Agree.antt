@@ -1,15 +1,8 @@
 -- Frames agree, as a reader of the streams sees them (this profile).
-use Rattle.std.specs.Prelude.{◌≡◌, ◌≢◌, ℕ, List, Some}
-use Rattle.std.specs.List.{Contains, slice_get}
+use Rattle.std.specs.{List.{Contains, slice_get}, Prelude.{◌≡◌, List, Some, ℕ}}
 use Rattle.pdc_cfg.specs.Section.{SectionFields}
-use Rattle.pdc_event.specs.Event.{who_of}
-use Rattle.pdc_event.specs.declared.reply.Published.{Published}
-use Rattle.pdc_block.specs.AbsentBlock.{absent_of}
-use Rattle.pdc_life.specs.Arrival.{Stamp}
-use Rattle.pdc_life.specs.Reading.{IsData}
-use Rattle.pdc_history.specs.World.{Who}
-use Rattle.pdc_history.specs.Genuine.{AreShown}
-use Rattle.pdc_history.specs.Seen.{Seen, stream_in}
+use Rattle.pdc_history.specs.{Genuine.{AreShown}, Seen.{Seen}}
+use Rattle.pdc_event.specs.{declared.reply.Published.{Published}, Event.{who_of}}
 
 -- A row that was published shows these words at this section, by its frame, and they are present.
 pub record ShowsPublished (seen : Seen) (rows : List Published) (row : Published) (s : SectionFields) (words : List ℕ) : Type 0 where

@@ -1,18 +1,8 @@
 -- The layout under a stamp, among the frames that were sent alone (this profile).
-use Rattle.std.specs.Prelude.{◌≡◌, ◌⊎◌, ℕ, List, [], ◌∷◌, map, Some}
-use Rattle.std.specs.List.{AllByRecursion, Contains, slice_get}
-use Rattle.pdc_block.specs.Block.{IsBody}
-use Rattle.pdc_cfg.specs.Config.{ConfigFields}
+use Rattle.std.specs.Prelude.{◌≡◌, List, map, ℕ}
 use Rattle.pdc_cfg.specs.Section.{SectionFields}
-use Rattle.pdc_block.specs.AbsentBlock.{absent_of}
-use Rattle.pdc_life.specs.declared.pmu.Pmu.{Pmu}
 use Rattle.pdc_life.specs.Arrival.{Stamp}
-use Rattle.pdc_life.specs.MergerReading.{IsOwn}
-use Rattle.pdc_life.specs.NodeReading.{IsValid, stream_of}
-use Rattle.pdc_life.specs.Reading.{HasConfig, IsData}
-use Rattle.pdc_history.specs.Frames.{IsLayoutUnder}
-use Rattle.pdc_history.specs.Seen.{Seen}
-use Rattle.pdc_history.specs.World.{Who}
+use Rattle.pdc_history.specs.{Frames.{IsLayoutUnder}, Seen.{Seen}, World.{Who}}
 
 -- the bytes of sections: what a section says is what its bytes say
 abbrev pub bytes_of : List SectionFields → List (List ℕ)

@@ -1,13 +1,8 @@
 -- All that a reader of the streams may rest on (this profile).
 use Rattle.std.specs.Prelude.{List}
+use Rattle.pdc_history.specs.{Genuine.{FramesAgree, HasGenuineFrames}, Pmus.{PmusSendOneBody, PmusSendOneSection}, Seen.{Seen}, World.{A, B, M}}
 use Rattle.pdc_event.specs.declared.reply.Published.{Published}
-use Rattle.pdc_history.specs.Genuine.{FramesAgree, HasGenuineFrames}
-use Rattle.pdc_history.specs.Pmus.{PmusSendOneBody, PmusSendOneSection}
-use Rattle.pdc_history.specs.Seen.{Seen}
-use Rattle.pdc_history.specs.World.{A, B, M}
-use Rattle.pdc_headline.specs.Agree.{PublishedAgree}
-use Rattle.pdc_headline.specs.Frames.{LayoutsAreOne}
-use Rattle.pdc_headline.specs.Published.{InstantsRise, RowsAreSentData}
+use Rattle.pdc_headline.specs.{Agree.{PublishedAgree}, Frames.{LayoutsAreOne}, Published.{InstantsRise, RowsAreSentData}}
 
 pub record Headline (seen : Seen) (rows : List Published) : Type 0 where
   pub rise : InstantsRise rows

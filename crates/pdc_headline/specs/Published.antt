@@ -1,11 +1,8 @@
 -- What is seen of rows that were published (this profile).
-use Rattle.std.specs.Prelude.{◌≡◌, ℕ, List, Some}
-use Rattle.std.specs.List.{AllByRecursion, slice_get}
-use Rattle.pdc_event.specs.Event.{who_of}
-use Rattle.pdc_event.specs.declared.reply.Published.{Published}
-use Rattle.pdc_history.specs.World.{Who}
+use Rattle.std.specs.{List.{AllByRecursion, slice_get}, Prelude.{◌≡◌, List, Some, ℕ}}
 use Rattle.pdc_life.specs.Reading.{IsData}
-use Rattle.pdc_history.specs.Seen.{Seen, stream_in}
+use Rattle.pdc_history.specs.{Seen.{Seen, stream_in}, World.{Who}}
+use Rattle.pdc_event.specs.{declared.reply.Published.{Published}, Event.{who_of}}
 use Rattle.pdc_headline.specs.Seen.{AreRising, instants_of}
 
 -- Over all lives of an owner the instants that it published strictly rise.

@@ -1,11 +1,9 @@
 -- What a reader of the streams sees of a world: the settings, the frames that were ever sent, and the rows that were published (this
 -- profile).
-use Rattle.std.specs.Prelude.{ℕ, List, [], ◌∷◌, filter, map}
-use Rattle.pdc_event.specs.Event.{who_of}
-use Rattle.pdc_event.specs.declared.reply.Published.{Published}
-use Rattle.pdc_history.specs.Seen.{Seen}
-use Rattle.pdc_history.specs.World.{Who, is_same}
+use Rattle.std.specs.Prelude.{[], ◌∷◌, filter, List, map, ℕ}
 use Rattle.pdc_row.specs.Rising.{Rises}
+use Rattle.pdc_history.specs.{Seen.{Seen}, World.{is_same, Who}}
+use Rattle.pdc_event.specs.{declared.reply.Published.{Published}, Event.{who_of}}
 use Rattle.pdc_world.specs.Views.{WorldView}
 
 -- what its calls `sent` and `frame` answer, and what it was opened with

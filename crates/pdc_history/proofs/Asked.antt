@@ -1,40 +1,22 @@
 -- What is asked reads as one event, or is a fault, for one cause.
-use Rattle.std.proofs.Common.{◌≡◌, ℕ, ◌<◌, ◌≤◌, ◌^◌, Bool, true, false, ◌&&◌, not, List, [], ◌∷◌, map, refl, sym, ap, subst, ◌∙◌, arith, Some, inl, inr}
-use Rattle.std.specs.Prelude.{◌⊎◌, ◌==◌, ◌||◌}
-use Rattle.std.specs.List.{list_any, slice_get}
-use Rattle.std.proofs.lemmas.Bool.{false≢true}
-use Rattle.std.proofs.lemmas.Option.{same_Some, slice_get_within}
-use Rattle.pdc_frame.specs.Frame.{Fields}
-use Rattle.pdc_frame.specs.declared.frame.Kind.TheVariants.{DataFrame, Cfg2}
-use Rattle.pdc_mark.specs.declared.stored.Stored.{Stored}
-use Rattle.pdc_life.specs.declared.merging.MergedNode.{MergedNode}
-use Rattle.pdc_life.specs.declared.pmu.Pmu.{Pmu}
-use Rattle.pdc_life.specs.Arrival.{Arrival}
-use Rattle.pdc_life.specs.Distinct.{are_distinct}
-use Rattle.pdc_life.specs.MergerLaws.{MergerReadsOnce}
-use Rattle.pdc_life.specs.MergerReading.{ReadsFrom}
-use Rattle.pdc_life.specs.NodeReading.{Reads}
-use Rattle.pdc_life.specs.OneLife.{NodeReadsOnce}
-use Rattle.pdc_history.specs.Asked.{Asked, AskedIsReadOnce, Brings, BringsSent, BringsToNamed, Cause, CausesAreOne, FaultsMayNotHappen, Foreign, HasOtherBody, HasOtherSection, IsFault, IsReadOf, Junk, Names, NamesNone, NoSuchFrame, OtherBody, OtherSection, Publish, Send, SentMayCome, StartsUsedUp, Stop, StopAtStart, StopIn, StopInTick, TickAt, To}
+use Rattle.std.proofs.Common.{[], ◌&&◌, ◌∙◌, ◌∷◌, ◌≡◌, ap, arith, Bool, false, inl, inr, List, map, not, refl, Some, subst, sym, true, ℕ}
+use Rattle.pdc_history.specs.Asked.{Do}
+use Rattle.pdc_history.proofs.Names.{◌==◌, ◌||◌, ◌⊎◌, A, Act, are_distinct, Arrival, AskedIsReadOnce, B, Bring, Brings, BringsToNamed, Cause, CausesAreOne, Cfg2, DataFrame, Event, false≢true, FaultsMayNotHappen, Fields, Foreign, FrameLaws, Happened, HasOtherBody, HasOtherSection, IsFault, IsOfPmu, IsOneBody, IsOneSection, Junk, list_any, M, MayCome, MayHappen, MaySend, MergedNode, MergerReadsOnce, Miss, Names, NamesNone, NodeReadsOnce, NoSuchFrame, OtherBody, OtherSection, Pmu, Publish, Reads, ReadsFor, ReadsFrom, same_Some, Says, Send, sent, SentMayCome, Settings, slice_get, slice_get_within, StartsUsedUp, stream_ids, TickAt, To, Who, World}
+use Rattle.pdc_history.proofs.{Lists.{place_there}, One.{distinct_rest, not_and, one_place, pmu_of_stream}}
 use Rattle.pdc_history.specs.Event as events
-use Rattle.pdc_history.specs.Event.{Event, Bring, Miss, happens}
-use Rattle.pdc_history.specs.History.{IsOfPmu, IsOneBody, IsOneSection, MayCome, MayHappen, MaySend, Says, stream_ids}
-use Rattle.pdc_history.specs.Known.{FrameLaws}
-use Rattle.pdc_history.specs.World.{A, B, M, Who, World, Happened, sent}
-use Rattle.pdc_history.proofs.One.{distinct_rest, not_and, one_place, pmu_of_stream}
-use Rattle.pdc_history.proofs.Sent.{place_there}
 
 -- ---- one event
 
 -- bytes say one thing to a stream
+node_arrival : NodeReadsOnce → (settings : Settings) (s : ℕ) (bytes : List ℕ) (x y : Arrival) → ReadsFor settings s bytes x → ReadsFor settings s bytes y → x ≡ y
+node_arrival N settings s bytes x y a b =
+    let same : a.pmu ≡ b.pmu = same_Some a.pmu b.pmu (sym a.listed ∙ b.listed) in
+    N settings s b.pmu bytes x y (subst (λ (p : Pmu). Reads settings s p bytes x) same a.reads) b.reads
+
 one_arrival : NodeReadsOnce → MergerReadsOnce → (W : World) (who : Who) (s : ℕ) (bytes : List ℕ) (x y : Arrival) → Says W who s bytes x → Says W who s bytes y → x ≡ y
-one_arrival N R W A s bytes x y a b =
-    let same : a.pmu ≡ b.pmu = same_Some a.pmu b.pmu (sym a.listed ∙ b.listed) in
-    N W.a.settings s b.pmu bytes x y (subst (λ (p : Pmu). Reads W.a.settings s p bytes x) same a.reads) b.reads
-one_arrival N R W B s bytes x y a b =
-    let same : a.pmu ≡ b.pmu = same_Some a.pmu b.pmu (sym a.listed ∙ b.listed) in
-    N W.b.settings s b.pmu bytes x y (subst (λ (p : Pmu). Reads W.b.settings s p bytes x) same a.reads) b.reads
-one_arrival N R W M s bytes x y a b =
+one_arrival N R W A = node_arrival N W.a.settings
+one_arrival N R W B = node_arrival N W.b.settings
+one_arrival N R W M = λ s bytes x y a b.
     let same : a.node ≡ b.node = same_Some a.node b.node (sym a.listed ∙ b.listed) in
     R W.m.settings b.node bytes x y (subst (λ (n : MergedNode). ReadsFrom W.m.settings n bytes x) same a.reads) b.reads
 
@@ -65,32 +47,21 @@ one_named F N R W who bytes a b x y =
     let stream : x.stream ≡ y.stream = one_stream F W who bytes x.stream y.stream x.names y.names in
     one_brings N R W who y.stream bytes a b (subst (λ (s : ℕ). Brings W who s bytes a) stream x.brings) y.brings
 
-one_sent : FrameLaws → NodeReadsOnce → MergerReadsOnce → (W : World) (who : Who) (bytes : List ℕ) (a b : Event) → BringsToNamed W who bytes a ⊎ (NamesNone W who bytes × (a ≡ Miss who))
-    → BringsToNamed W who bytes b ⊎ (NamesNone W who bytes × (b ≡ Miss who)) → a ≡ b
-one_sent F N R W who bytes a b (inl x) (inl y) = one_named F N R W who bytes a b x y
-one_sent F N R W who bytes a b (inl x) (inr y) = absurd (y.0 x.stream x.names)
-one_sent F N R W who bytes a b (inr x) (inl y) = absurd (x.0 y.stream y.names)
-one_sent F N R W who bytes a b (inr x) (inr y) = x.1 ∙ sym y.1
-
-one_junk : FrameLaws → NodeReadsOnce → MergerReadsOnce → (W : World) (who : Who) (bytes : List ℕ) (a b : Event) → BringsToNamed W who bytes a ⊎ (NamesNone W who bytes × Brings W who 0 bytes a)
-    → BringsToNamed W who bytes b ⊎ (NamesNone W who bytes × Brings W who 0 bytes b) → a ≡ b
-one_junk F N R W who bytes a b (inl x) (inl y) = one_named F N R W who bytes a b x y
-one_junk F N R W who bytes a b (inl x) (inr y) = absurd (y.0 x.stream x.names)
-one_junk F N R W who bytes a b (inr x) (inl y) = absurd (x.0 y.stream y.names)
-one_junk F N R W who bytes a b (inr x) (inr y) = one_brings N R W who 0 bytes a b x.1 y.1
+-- named or not, where what is not named reads as one event
+one_read : FrameLaws → NodeReadsOnce → MergerReadsOnce → (W : World) (who : Who) (bytes : List ℕ) (Else : Event → Type 0) (a b : Event) → (Else a → Else b → a ≡ b)
+    → BringsToNamed W who bytes a ⊎ (NamesNone W who bytes × Else a) → BringsToNamed W who bytes b ⊎ (NamesNone W who bytes × Else b) → a ≡ b
+one_read F N R W who bytes Else a b one (inl x) (inl y) = one_named F N R W who bytes a b x y
+one_read F N R W who bytes Else a b one (inl x) (inr y) = absurd (y.0 x.stream x.names)
+one_read F N R W who bytes Else a b one (inr x) (inl y) = absurd (x.0 y.stream y.names)
+one_read F N R W who bytes Else a b one (inr x) (inr y) = one x.1 y.1
 
 pub asked_is_read_once : FrameLaws → NodeReadsOnce → MergerReadsOnce → AskedIsReadOnce
-asked_is_read_once F N R W H (Send bytes) a b x y = x ∙ sym y
 asked_is_read_once F N R W H (To who number) a b x y =
     let same : x.bytes ≡ y.bytes = same_Some x.bytes y.bytes (sym x.there ∙ y.there) in
-    one_sent F N R W who y.bytes a b (subst (λ (bs : List ℕ). BringsToNamed W who bs a ⊎ (NamesNone W who bs × (a ≡ Miss who))) same x.read) y.read
-asked_is_read_once F N R W H (Junk who bytes) a b x y = one_junk F N R W who bytes a b x y
-asked_is_read_once F N R W H (TickAt who now) a b x y = x ∙ sym y
-asked_is_read_once F N R W H (Publish who) a b x y = x ∙ sym y
-asked_is_read_once F N R W H (Stop who) a b x y = x ∙ sym y
-asked_is_read_once F N R W H (StopIn who landed) a b x y = x ∙ sym y
-asked_is_read_once F N R W H (StopInTick who landed) a b x y = x ∙ sym y
-asked_is_read_once F N R W H (StopAtStart who landed) a b x y = x ∙ sym y
+    one_read F N R W who y.bytes (λ e. e ≡ Miss who) a b (λ p q. p ∙ sym q)
+    (subst (λ (bs : List ℕ). BringsToNamed W who bs a ⊎ (NamesNone W who bs × (a ≡ Miss who))) same x.read) y.read
+asked_is_read_once F N R W H (Junk who bytes) a b x y = one_read F N R W who bytes (Brings W who 0 bytes) a b (one_brings N R W who 0 bytes a b) x y
+asked_is_read_once F N R W H asked a b x y = x ∙ sym y
 
 -- ---- one cause
 
@@ -113,79 +84,25 @@ send_cause F W H bytes OtherSection Foreign x y = absurd (y x.p x.pmu x.of_pmu)
 send_cause F W H bytes Foreign OtherSection x y = absurd (x y.p y.pmu y.of_pmu)
 send_cause F W H bytes NoSuchFrame b x y = absurd x
 send_cause F W H bytes StartsUsedUp b x y = absurd x
-send_cause F W H bytes a NoSuchFrame x y = absurd y
-send_cause F W H bytes a StartsUsedUp x y = absurd y
+send_cause F W H bytes a b x y = absurd y
 
 to_cause : (W : World) (H : List Happened) (who : Who) (number : ℕ) (a : Cause) → IsFault W H (To who number) a → a ≡ NoSuchFrame
 to_cause W H who number NoSuchFrame x = refl
-to_cause W H who number OtherBody x = absurd x
-to_cause W H who number OtherSection x = absurd x
-to_cause W H who number Foreign x = absurd x
-to_cause W H who number StartsUsedUp x = absurd x
+to_cause W H who number a x = absurd x
 
 junk_cause : (W : World) (H : List Happened) (who : Who) (bytes : List ℕ) (a : Cause) → IsFault W H (Junk who bytes) a → a ≡ Foreign
 junk_cause W H who bytes Foreign x = refl
-junk_cause W H who bytes OtherBody x = absurd x
-junk_cause W H who bytes OtherSection x = absurd x
-junk_cause W H who bytes NoSuchFrame x = absurd x
-junk_cause W H who bytes StartsUsedUp x = absurd x
+junk_cause W H who bytes a x = absurd x
 
--- a tick and a publish are never faults
-data IsCalm : Asked → Type 0 where
-  Ticking : (who : Who) (now : ℕ) → IsCalm (TickAt who now)
-  Publishing : (who : Who) → IsCalm (Publish who)
-
-never : (W : World) (H : List Happened) (asked : Asked) (a : Cause) → IsCalm asked → IsFault W H asked a → ⊥
-never W H asked OtherBody (Ticking who now) x = x
-never W H asked OtherSection (Ticking who now) x = x
-never W H asked Foreign (Ticking who now) x = x
-never W H asked NoSuchFrame (Ticking who now) x = x
-never W H asked StartsUsedUp (Ticking who now) x = x
-never W H asked OtherBody (Publishing who) x = x
-never W H asked OtherSection (Publishing who) x = x
-never W H asked Foreign (Publishing who) x = x
-never W H asked NoSuchFrame (Publishing who) x = x
-never W H asked StartsUsedUp (Publishing who) x = x
-
--- a stop has one cause
-data IsStop : Asked → Type 0 where
-  Plain : (who : Who) → IsStop (Stop who)
-  InPublish : (who : Who) (landed : Bool) → IsStop (StopIn who landed)
-  InTick : (who : Who) (landed : Bool) → IsStop (StopInTick who landed)
-  AtStart : (who : Who) (landed : Bool) → IsStop (StopAtStart who landed)
-
-stop_cause : (W : World) (H : List Happened) (asked : Asked) (a : Cause) → IsStop asked → IsFault W H asked a → a ≡ StartsUsedUp
-stop_cause W H asked StartsUsedUp k x = refl
-stop_cause W H asked OtherBody (Plain who) x = absurd x
-stop_cause W H asked OtherSection (Plain who) x = absurd x
-stop_cause W H asked Foreign (Plain who) x = absurd x
-stop_cause W H asked NoSuchFrame (Plain who) x = absurd x
-stop_cause W H asked OtherBody (InPublish who landed) x = absurd x
-stop_cause W H asked OtherSection (InPublish who landed) x = absurd x
-stop_cause W H asked Foreign (InPublish who landed) x = absurd x
-stop_cause W H asked NoSuchFrame (InPublish who landed) x = absurd x
-stop_cause W H asked OtherBody (InTick who landed) x = absurd x
-stop_cause W H asked OtherSection (InTick who landed) x = absurd x
-stop_cause W H asked Foreign (InTick who landed) x = absurd x
-stop_cause W H asked NoSuchFrame (InTick who landed) x = absurd x
-stop_cause W H asked OtherBody (AtStart who landed) x = absurd x
-stop_cause W H asked OtherSection (AtStart who landed) x = absurd x
-stop_cause W H asked Foreign (AtStart who landed) x = absurd x
-stop_cause W H asked NoSuchFrame (AtStart who landed) x = absurd x
-
-both_stops : (W : World) (H : List Happened) (asked : Asked) (a b : Cause) → IsStop asked → IsFault W H asked a → IsFault W H asked b → a ≡ b
-both_stops W H asked a b k x y = stop_cause W H asked a k x ∙ sym (stop_cause W H asked b k y)
+act_cause : (W : World) (H : List Happened) (who : Who) (act : Act) (a : Cause) → IsFault W H (Do who act) a → a ≡ StartsUsedUp
+act_cause W H who act StartsUsedUp x = refl
+act_cause W H who act a x = absurd x
 
 pub causes_are_one : FrameLaws → CausesAreOne
 causes_are_one F W H (Send bytes) a b x y = send_cause F W H bytes a b x y
 causes_are_one F W H (To who number) a b x y = to_cause W H who number a x ∙ sym (to_cause W H who number b y)
 causes_are_one F W H (Junk who bytes) a b x y = junk_cause W H who bytes a x ∙ sym (junk_cause W H who bytes b y)
-causes_are_one F W H (TickAt who now) a b x y = absurd (never W H (TickAt who now) a (Ticking who now) x)
-causes_are_one F W H (Publish who) a b x y = absurd (never W H (Publish who) a (Publishing who) x)
-causes_are_one F W H (Stop who) a b x y = both_stops W H (Stop who) a b (Plain who) x y
-causes_are_one F W H (StopIn who landed) a b x y = both_stops W H (StopIn who landed) a b (InPublish who landed) x y
-causes_are_one F W H (StopInTick who landed) a b x y = both_stops W H (StopInTick who landed) a b (InTick who landed) x y
-causes_are_one F W H (StopAtStart who landed) a b x y = both_stops W H (StopAtStart who landed) a b (AtStart who landed) x y
+causes_are_one F W H (Do who act) a b x y = act_cause W H who act a x ∙ sym (act_cause W H who act b y)
 
 -- ---- a fault may not happen
 
@@ -203,67 +120,23 @@ no_send F W H bytes OtherSection x may =
     let same : may.pmu ≡ x.pmu = same_sender F W may.p x.p may.pmu x.pmu bytes may.of_pmu x.of_pmu in
     x.differs (subst (λ (pmu : Pmu). IsOneSection W H pmu bytes) same may.one_section x.other x.section x.its_section x.among x.valid x.was x.count)
 no_send F W H bytes Foreign x may = x may.p may.pmu may.of_pmu
-no_send F W H bytes NoSuchFrame x may = x
-no_send F W H bytes StartsUsedUp x may = x
-
-no_frame : (W : World) (H : List Happened) (who : Who) (number : ℕ) (cause : Cause) (event : Event) → IsFault W H (To who number) cause → BringsSent W H who number event → ⊥
-no_frame W H who number NoSuchFrame event x k = omega (arith, x, slice_get_within (sent W H) number k.bytes k.there)
-no_frame W H who number OtherBody event x k = x
-no_frame W H who number OtherSection event x k = x
-no_frame W H who number Foreign event x k = x
-no_frame W H who number StartsUsedUp event x k = x
+no_send F W H bytes cause x may = x
 
 brought : (W : World) (H : List Happened) (who : Who) (s : ℕ) (bytes : List ℕ) (event : Event) → (k : Brings W who s bytes event) → MayHappen W H event → MayCome W H who s bytes k.arrival
 brought W H who s bytes event k may = subst (MayHappen W H) k.is may
 
-no_junk : (W : World) (H : List Happened) (who : Who) (bytes : List ℕ) (cause : Cause) (event : Event) → IsFault W H (Junk who bytes) cause
-    → BringsToNamed W who bytes event ⊎ (NamesNone W who bytes × Brings W who 0 bytes event) → MayHappen W H event → ⊥
-no_junk W H who bytes Foreign event x (inl k) may = x.1 ((brought W H who k.stream bytes event k.brings may).was_sent x.0)
-no_junk W H who bytes Foreign event x (inr k) may = x.1 ((brought W H who 0 bytes event k.1 may).was_sent x.0)
-no_junk W H who bytes OtherBody event x k may = x
-no_junk W H who bytes OtherSection event x k may = x
-no_junk W H who bytes NoSuchFrame event x k may = x
-no_junk W H who bytes StartsUsedUp event x k may = x
-
-no_start : (mark : Stored) → 2 ^ 32 ≤ mark.start → mark.start < 2 ^ 32 → ⊥
-no_start mark a b = omega (arith, a, b)
-
-stop_may_not : (W : World) (H : List Happened) (asked : Asked) (cause : Cause) (event : Event) → IsStop asked → IsFault W H asked cause → IsReadOf W H asked event → MayHappen W H event → ⊥
-stop_may_not W H asked StartsUsedUp event (Plain who) x read may =
-    let has : MayHappen W H (events.Stop who) = subst (MayHappen W H) read may in omega (arith, x, has)
-stop_may_not W H asked StartsUsedUp event (InPublish who landed) x read may =
-    let has : MayHappen W H (events.StopIn who landed) = subst (MayHappen W H) read may in omega (arith, x, has)
-stop_may_not W H asked StartsUsedUp event (InTick who landed) x read may =
-    let has : MayHappen W H (events.StopInTick who landed) = subst (MayHappen W H) read may in omega (arith, x, has)
-stop_may_not W H asked StartsUsedUp event (AtStart who landed) x read may =
-    let has : MayHappen W H (events.StopAtStart who landed) = subst (MayHappen W H) read may in omega (arith, x, has)
-stop_may_not W H asked OtherBody event k x read may = other (stop_cause W H asked OtherBody k x)
-  where
-    other : OtherBody ≡ StartsUsedUp → ⊥
-    other q = cc
-stop_may_not W H asked OtherSection event k x read may = other (stop_cause W H asked OtherSection k x)
-  where
-    other : OtherSection ≡ StartsUsedUp → ⊥
-    other q = cc
-stop_may_not W H asked Foreign event k x read may = other (stop_cause W H asked Foreign k x)
-  where
-    other : Foreign ≡ StartsUsedUp → ⊥
-    other q = cc
-stop_may_not W H asked NoSuchFrame event k x read may = other (stop_cause W H asked NoSuchFrame k x)
-  where
-    other : NoSuchFrame ≡ StartsUsedUp → ⊥
-    other q = cc
+no_start : (W : World) (H : List Happened) (who : Who) (act : Act) → IsFault W H (Do who act) StartsUsedUp → MayHappen W H (events.Do who act) → ⊥
+no_start W H who (TickAt now) x may = x
+no_start W H who Publish x may = x
+no_start W H who act x may = omega (arith, x, may)
 
 pub faults_may_not_happen : FrameLaws → FaultsMayNotHappen
 faults_may_not_happen F W H (Send bytes) cause event x read may = no_send F W H bytes cause x (subst (MayHappen W H) read may)
-faults_may_not_happen F W H (To who number) cause event x read may = no_frame W H who number cause event x read
-faults_may_not_happen F W H (Junk who bytes) cause event x read may = no_junk W H who bytes cause event x read may
-faults_may_not_happen F W H (TickAt who now) cause event x read may = never W H (TickAt who now) cause (Ticking who now) x
-faults_may_not_happen F W H (Publish who) cause event x read may = never W H (Publish who) cause (Publishing who) x
-faults_may_not_happen F W H (Stop who) cause event x read may = stop_may_not W H (Stop who) cause event (Plain who) x read may
-faults_may_not_happen F W H (StopIn who landed) cause event x read may = stop_may_not W H (StopIn who landed) cause event (InPublish who landed) x read may
-faults_may_not_happen F W H (StopInTick who landed) cause event x read may = stop_may_not W H (StopInTick who landed) cause event (InTick who landed) x read may
-faults_may_not_happen F W H (StopAtStart who landed) cause event x read may = stop_may_not W H (StopAtStart who landed) cause event (AtStart who landed) x read may
+faults_may_not_happen F W H (To who number) NoSuchFrame event x k may = omega (arith, x, slice_get_within (sent W H) number k.bytes k.there)
+faults_may_not_happen F W H (Junk who bytes) Foreign event x (inl k) may = x.1 ((brought W H who k.stream bytes event k.brings may).was_sent x.0)
+faults_may_not_happen F W H (Junk who bytes) Foreign event x (inr k) may = x.1 ((brought W H who 0 bytes event k.1 may).was_sent x.0)
+faults_may_not_happen F W H (Do who act) StartsUsedUp event x read may = no_start W H who act x (subst (MayHappen W H) read may)
+faults_may_not_happen F W H asked cause event x read may = x
 
 -- ---- a frame that was sent may come
 

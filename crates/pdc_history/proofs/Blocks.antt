@@ -1,28 +1,7 @@
 -- The blocks of frames that were sent are genuine, where the sections and blocks of the owner's lives are.
-use Rattle.std.proofs.Common.{◌≡◌, ℕ, ◌<◌, ◌^◌, List, [], ◌∷◌, ◌++◌, map, refl, sym, ap, subst, ◌∙◌, Option, Some, None, option_map, inl, inr}
-use Rattle.std.specs.List.{AllByRecursion, cons_option, filter_map}
-use Rattle.std.proofs.lemmas.List.{append_assoc}
-use Rattle.pdc_block.specs.Block.{IsCut}
-use Rattle.pdc_cfg.specs.Section.{SectionFields}
-use Rattle.pdc_row.specs.CellView.{BlockView}
-use Rattle.pdc_row.specs.RowView.{RowView}
-use Rattle.pdc_output.specs.Laws.{words_of_row}
-use Rattle.pdc_output.specs.Layout.{own_block, row_payload}
-use Rattle.pdc_life.specs.Arrival.{Stamp}
-use Rattle.pdc_life.specs.Frames.{IsFramedRow, shapes_in_force}
-use Rattle.pdc_life.specs.Genuine.{AreGenuine, HasBrought, IsGenuine, IsGenuineRow, columns_in_force}
-use Rattle.pdc_life.specs.Given.{Given, columns_of}
-use Rattle.pdc_life.specs.Laws.{IsRowOfTick}
-use Rattle.pdc_life.specs.Life.{Entry, Tick, changes, section_in_force}
-use Rattle.pdc_history.specs.Frames.{AreGenuineBlocks, IsCutUnder, IsGenuineBlock, IsLayoutUnder, SectionWasSent, WasSent}
-use Rattle.pdc_history.specs.History.{IsHistory}
-use Rattle.pdc_history.specs.Known.{FrameLaws, LifeLaws}
-use Rattle.pdc_history.specs.Seen.{seen_in}
-use Rattle.pdc_history.specs.World.{Who, World, Happened, Ticks, given_in, life_of}
-use Rattle.pdc_history.proofs.Layouts.{IsOfTick, at_sections, layout_is_of_tick, sections_at, stamp_at}
-use Rattle.pdc_history.proofs.Lists.{mapped}
-use Rattle.pdc_history.proofs.Lives.{run_in}
-use Rattle.pdc_history.proofs.Moments.{Moment, before, given_then, moment, stays_sent}
+use Rattle.std.proofs.Common.{[], ◌++◌, ◌<◌, ◌^◌, ◌∙◌, ◌∷◌, ◌≡◌, ap, inl, inr, List, map, None, Option, option_map, refl, Some, subst, sym, ℕ}
+use Rattle.pdc_history.proofs.Names.{AllByRecursion, append_assoc, AreGenuine, AreGenuineBlocks, BlockView, changes, columns_in_force, columns_of, cons_option, Entry, filter_map, FrameLaws, Given, given_in, Happened, HasBrought, IsCut, IsCutUnder, IsFramedRow, IsGenuine, IsGenuineBlock, IsGenuineRow, IsHistory, IsLayoutUnder, IsRowOfTick, life_of, LifeLaws, own_block, row_payload, RowView, section_in_force, SectionFields, SectionWasSent, seen_in, shapes_in_force, Stamp, Tick, Ticks, WasSent, Who, words_of_row, World}
+use Rattle.pdc_history.proofs.{Layouts.{at_sections, IsOfTick, layout_is_of_tick, sections_at, stamp_at}, Lists.{mapped}, Lives.{run_in}, Moments.{before, given_then, Moment, moment, stays_sent}}
 
 -- ---- what was sent stays sent
 
@@ -57,8 +36,7 @@ block_stays W later H i s words (inr k) = inr (words_stay W later H i s words k)
 pub blocks_stay : (W : World) (later H : List Happened) (i : ℕ) (sections : List SectionFields) (blocks : List (List ℕ)) → AreGenuineBlocks (seen_in W H) i sections blocks → AreGenuineBlocks (seen_in W (later ++ H)) i sections blocks
 blocks_stay W later H i [] [] k = tt
 blocks_stay W later H i (s ∷ sections) (words ∷ blocks) k = (block_stays W later H i s words k.0, blocks_stay W later H i sections blocks k.1)
-blocks_stay W later H i [] (words ∷ blocks) k = k
-blocks_stay W later H i (s ∷ sections) [] k = k
+blocks_stay W later H i sections blocks k = k
 
 -- ---- where the sections and blocks of an owner's lives come from
 
@@ -134,8 +112,7 @@ all_genuine : (W : World) (H : List Happened) (who : Who) (i : ℕ) (parts : Lis
     → AreGenuineBlocks (seen_in W H) i (map (λ (p : ℕ × SectionFields). p.1) parts) (map (λ (b : BlockView). b.words) blocks)
 all_genuine W H who i [] [] S is k = tt
 all_genuine W H who i (p ∷ parts) (b ∷ blocks) S is k = (one_genuine W H who p.0 i p.1 b S is k.0, all_genuine W H who i parts blocks S is k.1)
-all_genuine W H who i [] (b ∷ blocks) S is k = absurd k
-all_genuine W H who i (p ∷ parts) [] S is k = absurd k
+all_genuine W H who i parts blocks S is k = absurd k
 
 -- a row that was published at the end of this history, cut under the sections of one earlier moment
 pub record IsGenuineAt (W : World) (H : List Happened) (who : Who) (row : RowView) : Type 0 where

@@ -1,35 +1,7 @@
 -- Data of an owner that was sent is cut under the layout of its stamp into genuine blocks, and in no other way.
-use Rattle.std.proofs.Common.{◌≡◌, ℕ, suc, ◌+◌, ◌*◌, ◌/◌, ◌%◌, ◌<◌, ◌^◌, List, [], ◌∷◌, ◌++◌, length, get_or, map, refl, sym, ap, subst, ◌∙◌, arith, Some, None}
-use Rattle.std.specs.Int.{w16, to_be_bytes}
-use Rattle.std.specs.List.{AllByRecursion, Contains}
-use Rattle.std.proofs.lemmas.List.{append_assoc}
-use Rattle.pdc_frame.specs.Frame.{Fields, IsFrame}
-use Rattle.pdc_frame.specs.declared.frame.Kind.TheVariants.{DataFrame, Cfg2}
-use Rattle.pdc_block.specs.Block.{AreWords, IsCut, bytes_of_blocks, bytes_of_words, words_in}
-use Rattle.pdc_cfg.specs.Section.{SectionFields}
-use Rattle.pdc_cfg.specs.declared.shape.Shape.{Shape}
-use Rattle.pdc_row.specs.RowView.{RowView}
-use Rattle.pdc_tag.specs.Instant.{IsInstant}
-use Rattle.pdc_output.specs.Laws.{words_of_row}
-use Rattle.pdc_output.specs.Layout.{own_block, row_fields, row_payload, wire_of}
-use Rattle.pdc_life.specs.Arrival.{Stamp}
-use Rattle.pdc_life.specs.Frames.{IsFramedRow}
-use Rattle.pdc_life.specs.Genuine.{IsGenuineRow}
-use Rattle.pdc_life.specs.Given.{Given}
-use Rattle.pdc_life.specs.Life.{Entry, closed}
-use Rattle.pdc_life.specs.Reading.{IsData}
-use Rattle.pdc_history.specs.Frames.{AreGenuineBlocks, IsCutOf, IsCutUnder, IsLayoutUnder, stream_from}
-use Rattle.pdc_history.specs.Genuine.{HasGenuineFrames, IsGenuineData, IsPublishedData, PublishedWereSent}
-use Rattle.pdc_history.specs.History.{IsHistory, IsMade}
-use Rattle.pdc_history.specs.Known.{BlockLaws, FrameLaws, LifeLaws}
-use Rattle.pdc_history.specs.Seen.{seen_in}
-use Rattle.pdc_history.specs.World.{Who, World, Happened, Sends, Comes, PassesBy, Ticks, Publishes, Ends, given_in, life_of, output_of, published, published_at, sent}
-use Rattle.pdc_history.proofs.Blocks.{ClosedAt, IsGenuineAt, IsSourced, blocks_stay, change_of, closed_at, cut_then, genuine_then, under_were_sent}
-use Rattle.pdc_history.proofs.Layouts.{layout_at, layouts_are_one, same_stamp, sections_at, stamp_at}
-use Rattle.pdc_history.proofs.Lists.{appended, element, mapped}
-use Rattle.pdc_history.proofs.Lives.{run_in}
-use Rattle.pdc_history.proofs.Moments.{before, sent_now, stays_sent}
-use Rattle.pdc_history.proofs.Sent.{AsLayout, AsRow, framed_row, layout_fields, owned, published_closed, row_frame, start_fits}
+use Rattle.std.proofs.Common.{[], ◌%◌, ◌*◌, ◌++◌, ◌+◌, ◌/◌, ◌<◌, ◌^◌, ◌∙◌, ◌∷◌, ◌≡◌, ap, arith, get_or, length, List, map, refl, Some, subst, suc, sym, ℕ}
+use Rattle.pdc_history.proofs.Names.{AllByRecursion, append_assoc, AreGenuineBlocks, AreWords, BlockLaws, bytes_of_blocks, bytes_of_words, Cfg2, closed, Contains, DataFrame, Entry, Fields, FrameLaws, Given, given_in, Happened, HasGenuineFrames, IsCut, IsCutOf, IsCutUnder, IsData, IsFrame, IsFramedRow, IsGenuineData, IsGenuineRow, IsHistory, IsInstant, IsLayoutUnder, IsMade, IsPublishedData, life_of, LifeLaws, output_of, own_block, published, published_at, PublishedWereSent, Publishes, row_fields, row_payload, RowView, SectionFields, seen_in, sent, Shape, Stamp, stream_from, to_be_bytes, w16, Who, wire_of, words_in, words_of_row, World}
+use Rattle.pdc_history.proofs.{Blocks.{blocks_stay, change_of, closed_at, ClosedAt, cut_then, genuine_then, IsGenuineAt, IsSourced, under_were_sent}, Layouts.{layout_at, layouts_are_one, same_stamp, sections_at, stamp_at}, Lists.{appended, element, head_of, mapped, tail_of}, Lives.{run_in}, Moments.{before, sent_now, stays_sent}, Sent.{AsLayout, AsRow, framed_row, layout_fields, owned, published_closed, row_frame, start_fits}}
 
 -- ---- the own block tells the stamp
 
@@ -43,19 +15,13 @@ words_come_back (w ∷ ws) rest fits =
     let one : words_in (to_be_bytes w16 w ++ (bytes_of_words ws ++ rest)) ≡ w ∷ words_in (bytes_of_words ws ++ rest) = ap (λ (x : ℕ). x ∷ words_in (bytes_of_words ws ++ rest)) (omega (arith, fits 0)) in
     ap words_in (append_assoc (to_be_bytes w16 w) (bytes_of_words ws) rest) ∙ one ∙ ap (λ (xs : List ℕ). w ∷ xs) (words_come_back ws rest (λ i. fits (suc i)))
 
-heads : (x y : ℕ) (xs ys : List ℕ) → x ∷ xs ≡ y ∷ ys → x ≡ y
-heads x y xs ys h = cc
-
-rests : (x y : ℕ) (xs ys : List ℕ) → x ∷ xs ≡ y ∷ ys → xs ≡ ys
-rests x y xs ys h = cc
-
 same_front : (xs ys more others : List ℕ) → length xs ≡ length ys → xs ++ more ≡ ys ++ others → xs ≡ ys
 same_front [] [] more others l q = refl
 same_front [] (y ∷ ys) more others l q = absurd (omega (arith, l))
 same_front (x ∷ xs) [] more others l q = absurd (omega (arith, l))
 same_front (x ∷ xs) (y ∷ ys) more others l q =
-    let h : x ≡ y = heads x y (xs ++ more) (ys ++ others) q in
-    let t : xs ≡ ys = same_front xs ys more others (omega (arith, l)) (rests x y (xs ++ more) (ys ++ others) q) in
+    let h : x ≡ y = head_of q in
+    let t : xs ≡ ys = same_front xs ys more others (omega (arith, l)) (tail_of q) in
     λ i. h i ∷ t i
 
 abbrev pub own_shape : Shape
@@ -161,9 +127,6 @@ every_frame L F B W H who bytes i quality payload S is k d = elim (owned L F W H
 
 -- ---- there is no other cut
 
-pub block_rests : (x y : List ℕ) (xs ys : List (List ℕ)) → x ∷ xs ≡ y ∷ ys → xs ≡ ys
-block_rests x y xs ys h = cc
-
 -- two cuts of one payload, under layouts of its stamps, are one
 pub record IsOneCut (s t : Stamp) (sections others : List SectionFields) (blocks more : List (List ℕ)) : Type 0 where
   pub one_stamp : s ≡ t
@@ -180,8 +143,7 @@ one_cut L F W H who payload s t sections others blocks more is a b =
     record {
       one_stamp = stamp;
       one_layout = layout;
-      one_split = block_rests (own_block s.start s.change) (own_block t.start t.change) blocks more
-          (F.one_cut (own_shape ∷ map (λ (x : SectionFields). x.shape) others) payload (own_block s.start s.change ∷ blocks) (own_block t.start t.change ∷ more) first (b.cut.cut own_shape refl refl refl));
+      one_split = tail_of (F.one_cut (own_shape ∷ map (λ (x : SectionFields). x.shape) others) payload (own_block s.start s.change ∷ blocks) (own_block t.start t.change ∷ more) first (b.cut.cut own_shape refl refl refl));
     }
 
 pub of_one_cut : LifeLaws → FrameLaws → (W : World) (H : List Happened) (who : Who) (i : ℕ) (payload : List ℕ) (t : Stamp) (others : List SectionFields) (more : List (List ℕ)) → IsHistory W H
@@ -217,13 +179,8 @@ published_now L F W H v row is = record {
 }
 
 all_published : LifeLaws → FrameLaws → (W : World) (H : List Happened) (h : Happened) → IsHistory W (h ∷ H) → AllByRecursion (IsPublishedData W (h ∷ H)) (published_at h)
-all_published L F W H (Sends bytes) is = tt
-all_published L F W H (Comes v e) is = tt
-all_published L F W H (PassesBy v) is = tt
-all_published L F W H (Ticks v e) is = tt
-all_published L F W H (Publishes v None) is = tt
 all_published L F W H (Publishes v (Some row)) is = (published_now L F W H v row is, tt)
-all_published L F W H (Ends v mark) is = tt
+all_published L F W H h is = tt
 
 pub published_were_sent : LifeLaws → FrameLaws → PublishedWereSent
 published_were_sent L F W [] is = tt

@@ -1,28 +1,7 @@
 -- Any two frames for one instant agree.
-use Rattle.std.proofs.Common.{◌≡◌, ℕ, List, sym, ap, subst, ◌∙◌, inl, inr}
-use Rattle.std.specs.Prelude.{◌≢◌}
-use Rattle.pdc_frame.specs.Bytes.{AreBytes}
-use Rattle.pdc_block.specs.Block.{words_in}
-use Rattle.pdc_cfg.specs.Section.{SectionFields}
-use Rattle.pdc_row.specs.RowView.{RowView}
-use Rattle.pdc_output.specs.Layout.{row_payload, wire_of}
-use Rattle.pdc_block.specs.AbsentBlock.{absent_of}
-use Rattle.pdc_life.specs.declared.pmu.Pmu.{Pmu}
-use Rattle.pdc_life.specs.NodeReading.{IsValid, stream_of}
-use Rattle.pdc_life.specs.Reading.{IsData}
-use Rattle.pdc_history.specs.Frames.{AreGenuineBlocks, IsGenuineBlock, SectionWasSent, WasSent}
-use Rattle.pdc_history.specs.Genuine.{FramesAgree, HasGenuineFrames, IsPublishedData, PublishedAgree, Shows, ShowsPublished}
-use Rattle.pdc_history.specs.History.{IsHistory}
-use Rattle.pdc_history.specs.Known.{BlockLaws, FrameLaws, LifeLaws}
-use Rattle.pdc_history.specs.Seen.{OfHistories, seen_in}
-use Rattle.pdc_history.specs.World.{A, B, M, Who, World, Happened, output_of, published}
-use Rattle.pdc_history.proofs.Cuts.{published_were_sent}
-use Rattle.pdc_history.proofs.Lists.{element}
-use Rattle.pdc_history.proofs.Merged.{genuine_place}
-use Rattle.pdc_history.proofs.MergedBlocks.{merged_blocks_are_genuine}
-use Rattle.pdc_history.proofs.NodeFrames.{frames_of_a, frames_of_b}
-use Rattle.pdc_history.proofs.One.{one_body, one_section, pmu_of_source}
-use Rattle.pdc_history.proofs.Sent.{place_there}
+use Rattle.std.proofs.Common.{◌∙◌, ◌≡◌, ap, inl, inr, List, subst, sym, ℕ}
+use Rattle.pdc_history.proofs.Names.{◌≢◌, A, absent_of, AreBytes, AreGenuineBlocks, B, BlockLaws, FrameLaws, FramesAgree, Happened, HasGenuineFrames, IsData, IsGenuineBlock, IsHistory, IsPublishedData, IsValid, LifeLaws, M, OfHistories, output_of, Pmu, published, PublishedAgree, row_payload, RowView, SectionFields, SectionWasSent, seen_in, Shows, ShowsPublished, stream_of, WasSent, Who, wire_of, words_in, World}
+use Rattle.pdc_history.proofs.{Cuts.{published_were_sent}, Lists.{element, place_there}, Merged.{genuine_place}, MergedBlocks.{merged_blocks_are_genuine}, NodeFrames.{frames_of_a, frames_of_b}, One.{one_body, one_section, pmu_of_source}}
 
 frames_of : LifeLaws → FrameLaws → BlockLaws → (W : World) (H : List Happened) (who : Who) → IsHistory W H → HasGenuineFrames (seen_in W H) who
 frames_of L F K W H A is = frames_of_a L F K W H is

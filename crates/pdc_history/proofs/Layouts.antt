@@ -1,36 +1,7 @@
 -- Under a stamp there is one layout, that of each life and moment with this stamp.
-use Rattle.std.proofs.Common.{◌≡◌, ℕ, ◌<◌, ◌^◌, Bool, true, false, List, [], ◌∷◌, ◌++◌, cond, length, filter, refl, sym, ap, subst, ◌∙◌, arith, Option, Some, None, inl, inr}
-use Rattle.std.specs.Prelude.{◌⊎◌}
-use Rattle.std.specs.List.{Contains, filter_map}
-use Rattle.std.proofs.lemmas.Bool.{false≢true}
-use Rattle.std.proofs.lemmas.List.{append_assoc, append-nil}
-use Rattle.pdc_frame.specs.Frame.{Fields, IsFrame}
-use Rattle.pdc_frame.specs.declared.frame.Kind.TheVariants.{DataFrame, Cfg2}
-use Rattle.pdc_cfg.specs.Config.{ConfigFields, IsConfig}
-use Rattle.pdc_cfg.specs.Section.{SectionFields}
-use Rattle.pdc_row.specs.RowView.{RowView}
-use Rattle.pdc_output.specs.declared.output.Nominal.{Nominal}
-use Rattle.pdc_output.specs.declared.output.Nominal.TheVariants.{Hz50, Hz60}
-use Rattle.pdc_output.specs.declared.output.Output.{Output}
-use Rattle.pdc_output.specs.Layout.{layout_payload_of, own_bytes, row_fields}
-use Rattle.pdc_mark.specs.declared.stored.Stored.{Stored}
-use Rattle.pdc_life.specs.Arrival.{Stamp}
-use Rattle.pdc_life.specs.Given.{Given, columns_of}
-use Rattle.pdc_life.specs.Life.{Entry, Arrive, Tick, Pop, changes, is_adoption}
-use Rattle.pdc_life.specs.MergerReading.{IsOwn}
-use Rattle.pdc_life.specs.Published.{layout_wire, sections_in_force}
-use Rattle.pdc_life.specs.Run.{IsRun}
-use Rattle.pdc_history.specs.Frames.{IsLayoutSent, IsLayoutUnder}
-use Rattle.pdc_history.specs.Genuine.{LayoutsAreOne}
-use Rattle.pdc_history.specs.History.{IsHistory, IsMade}
-use Rattle.pdc_history.specs.Known.{FrameLaws, LifeLaws}
-use Rattle.pdc_history.specs.Seen.{seen_in}
-use Rattle.pdc_history.specs.World.{Who, World, Happened, Ticks, entry_at, given_by, given_in, life_of, opened_with, output_of, with_entry}
-use Rattle.pdc_history.proofs.Made.{tick_ticks}
-use Rattle.pdc_history.proofs.Marks.{given_start}
-use Rattle.pdc_history.proofs.Moments.{Moment, before, given_then, is_itself, moment, sent_now, stays_sent, then}
-use Rattle.pdc_history.proofs.Order.{after, same_given}
-use Rattle.pdc_history.proofs.Sent.{AsLayout, AsRow, few_columns, given_output, layout_fields, owned, start_fits, tick_run}
+use Rattle.std.proofs.Common.{[], ◌++◌, ◌<◌, ◌^◌, ◌∙◌, ◌∷◌, ◌≡◌, ap, arith, Bool, cond, false, filter, inl, inr, length, List, None, Option, refl, Some, subst, sym, true, ℕ}
+use Rattle.pdc_history.proofs.Names.{◌⊎◌, append-nil, append_assoc, Cfg2, changes, columns_of, ConfigFields, Contains, DataFrame, Entry, entry_at, false≢true, Fields, filter_map, FrameLaws, Given, given_by, given_in, Happened, Hz50, Hz60, is_adoption, IsConfig, IsFrame, IsHistory, IsLayoutSent, IsLayoutUnder, IsMade, IsOwn, IsRun, layout_payload_of, layout_wire, LayoutsAreOne, life_of, LifeLaws, Nominal, opened_with, Output, output_of, own_bytes, row_fields, RowView, SectionFields, sections_in_force, seen_in, Stamp, Stored, Tick, Ticks, Who, with_entry, World}
+use Rattle.pdc_history.proofs.{Lists.{head_of, tail_of}, Made.{tick_ticks}, Marks.{given_start}, Moments.{before, given_then, is_itself, Moment, moment, sent_now, stays_sent, then}, Order.{after, same_given}, Sent.{AsLayout, AsRow, few_columns, given_output, layout_fields, owned, start_fits, tick_run}}
 
 -- ---- two moments of a history
 
@@ -38,13 +9,10 @@ pub data Earlier (X Y : List Happened) : Type 0 where
   Second : (more : List Happened) → X ≡ more ++ Y → Earlier X Y
   First : (more : List Happened) → Y ≡ more ++ X → Earlier X Y
 
-tails : (x y : Happened) (xs ys : List Happened) → x ∷ xs ≡ y ∷ ys → xs ≡ ys
-tails x y xs ys h = cc
-
 pub compared : (a b X Y : List Happened) → a ++ X ≡ b ++ Y → Earlier X Y
 compared [] b X Y q = Second b q
 compared (x ∷ a) [] X Y q = First (x ∷ a) (sym q)
-compared (x ∷ a) (y ∷ b) X Y q = compared a b X Y (tails x y (a ++ X) (b ++ Y) q)
+compared (x ∷ a) (y ∷ b) X Y q = compared a b X Y (tail_of q)
 
 -- ---- while a stamp stands, the sections do
 
@@ -95,12 +63,6 @@ pub record IsOfTick (W : World) (H : List Happened) (who : Who) (stamp : Stamp) 
   pub change : stamp.change ≡ changes (e ∷ life_of earlier who)
   pub same : sections ≡ sections_in_force (given_in W earlier who) (e ∷ life_of earlier who)
 
-heads : (x y : SectionFields) (xs ys : List SectionFields) → x ∷ xs ≡ y ∷ ys → x ≡ y
-heads x y xs ys h = cc
-
-rests : (x y : SectionFields) (xs ys : List SectionFields) → x ∷ xs ≡ y ∷ ys → xs ≡ ys
-rests x y xs ys h = cc
-
 own_stamp : FrameLaws → (id : ℕ) (output : Output) (bytes : List ℕ) (stamp : Stamp) (start change : ℕ) → start < 2 ^ 32 → change < 2 ^ 32 → IsOwn id bytes stamp
     → bytes ≡ own_bytes output.id.value output.nominal start change → (stamp.start ≡ start) × (stamp.change ≡ change)
 own_stamp F id output bytes stamp start change s c own q = elim own.spelled [
@@ -120,7 +82,7 @@ from_layout L F W H later earlier who e stamp sections is k stands adopts frame 
     let config : k.config ≡ layout.config =
     F.one_config (layout_payload_of g.output g.start (changes E) (sections_in_force g E)) k.config layout.config (subst (λ (p : List ℕ). IsConfig p k.config) (ap (λ (f : Fields). f.payload) one) k.has.config) layout.spelled in
     let parts : k.own ∷ sections ≡ layout.own ∷ sections_in_force g E = sym k.all ∙ ap (λ (c : ConfigFields). c.sections) config ∙ layout.sections in
-    let own : k.own ≡ layout.own = heads k.own layout.own sections (sections_in_force g E) parts in
+    let own : k.own ≡ layout.own = head_of parts in
     let stamps = own_stamp F (output_of W who).id.value g.output k.own.bytes stamp g.start (changes E) (start_fits L W earlier who then.1) (L.changes_fit g E run.ticked) k.itself
     (ap (λ (s : SectionFields). s.bytes) own ∙ layout.itself) in
     record {
@@ -131,7 +93,7 @@ from_layout L F W H later earlier who e stamp sections is k stands adopts frame 
       adopts = adopts;
       start = stamps.0;
       change = stamps.1;
-      same = rests k.own layout.own sections (sections_in_force g E) parts;
+      same = tail_of parts;
     }
 
 -- data is no layout
@@ -222,8 +184,7 @@ none_in_force L g E q =
 -- an adoption is a tick
 adoption_ticks : (W : World) (H : List Happened) (h : Happened) (who : Who) (e : Entry) → IsMade W H h → entry_at who h ≡ Some e → is_adoption e ≡ true → h ≡ Ticks who e
 adoption_ticks W H h who (Tick now counts answer) made q a = (tick_ticks W H h who now counts answer made q).is
-adoption_ticks W H h who (Arrive s bytes arrival answer) made q a = absurd (false≢true a)
-adoption_ticks W H h who (Pop row) made q a = absurd (false≢true a)
+adoption_ticks W H h who e made q a = absurd (false≢true a)
 
 own_of : (W : World) (who : Who) (mark : Stored) (bytes : List ℕ) (start change : ℕ) → start < 2 ^ 32 → change < 2 ^ 32
     → bytes ≡ own_bytes (given_by W who mark).output.id.value (given_by W who mark).output.nominal start change → IsOwn (output_of W who).id.value bytes (record { start = start; change = change })

@@ -1,6 +1,19 @@
 -- Lists that other pages speak of: their elements, and their ends.
-use Rattle.std.proofs.Common.{◌≡◌, ℕ, zero, suc, ◌<◌, List, [], ◌∷◌, ◌++◌, length, get_or, refl, subst, arith}
-use Rattle.std.specs.List.{AllByRecursion, Contains}
+use Rattle.std.proofs.Common.{[], ◌++◌, ◌<◌, ◌∷◌, ◌≡◌, arith, get_or, length, List, refl, Some, subst, suc, zero, ℕ}
+use Rattle.pdc_history.proofs.Names.{AllByRecursion, Contains, get_or_from_slice_get, slice_get, slice_get_within}
+
+pub head_of : {A : Type 0} {x y : A} {xs ys : List A} → x ∷ xs ≡ y ∷ ys → x ≡ y
+head_of h = cc
+
+pub tail_of : {A : Type 0} {x y : A} {xs ys : List A} → x ∷ xs ≡ y ∷ ys → xs ≡ ys
+tail_of h = cc
+
+-- what stands at a place is in the list
+pub place_there : {A : Type 0} (xs : List A) (p : ℕ) (x : A) → slice_get xs p ≡ Some x → Contains xs x
+place_there xs p x q = (p, slice_get_within xs p x q, get_or_from_slice_get xs p x x q)
+
+pub none_there : {A : Type 0} {B : Type 0} (p : ℕ) (x : A) → slice_get {X = A} [] p ≡ Some x → B
+none_there {A = A} p x q = absurd (omega (arith, slice_get_within [] p x q))
 
 pub appended : {A : Type 0} (P : A → Type 0) (xs more : List A) → AllByRecursion P xs → AllByRecursion P more → AllByRecursion P (xs ++ more)
 appended P [] more a b = b

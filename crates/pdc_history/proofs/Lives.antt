@@ -1,42 +1,25 @@
 -- Lives are lives, and what is published are their rows.
-use Rattle.std.proofs.Common.{◌≡◌, ℕ, Bool, true, false, List, [], ◌∷◌, ◌++◌, cond, map, filter, refl, sym, ap, subst, Option, Some, None}
-use Rattle.std.specs.List.{AllByRecursion}
-use Rattle.pdc_row.specs.RowView.{RowView}
-use Rattle.pdc_mark.specs.declared.stored.Stored.{Stored}
-use Rattle.pdc_life.specs.Answer.{pop_answer, tick_answer}
-use Rattle.pdc_life.specs.Arrival.{Arrival}
-use Rattle.pdc_life.specs.Given.{Given}
-use Rattle.pdc_life.specs.Life.{Entry, Arrive, Tick, Pop}
-use Rattle.pdc_life.specs.Run.{IsRun}
-use Rattle.pdc_history.specs.History.{IsHistory, IsMade, Says}
-use Rattle.pdc_history.specs.Lives.{IsLifeOf, LivesAreLives, rows_of_one}
-use Rattle.pdc_history.specs.World.{A, B, M, Who, World, Happened, PastLife, Sends, Comes, PassesBy, Ticks, Publishes, Ends, begins_at, begun_with, ended, first_mark, given_by, given_in, is_same, life_of, opened_with, past_lives, raised, rules_of, since, with_entry}
-use Rattle.pdc_history.specs.Known.{LifeLaws}
-use Rattle.pdc_history.proofs.Lists.{appended}
-use Rattle.pdc_history.proofs.Made.{publishes_is, comes_is, ticks_is}
-use Rattle.pdc_history.proofs.Moments.{same_who}
+use Rattle.std.proofs.Common.{[], ◌++◌, ◌∷◌, ◌≡◌, ap, Bool, cond, false, filter, List, map, None, Option, refl, Some, subst, sym, true, ℕ}
+use Rattle.pdc_history.proofs.Names.{A, AllByRecursion, Arrival, Arrive, B, begins_at, begun_with, Comes, ended, Ends, Entry, first_mark, Given, given_by, given_in, Happened, is_same, IsHistory, IsLifeOf, IsMade, IsRun, life_of, LifeLaws, LivesAreLives, M, opened_with, past_lives, PastLife, Pop, pop_answer, Publishes, raised, rows_of_one, RowView, rules_of, Says, since, Stored, Tick, tick_answer, Ticks, Who, with_entry, World}
+use Rattle.pdc_history.proofs.{Lists.{appended}, Made.{comes_is, publishes_is, ticks_is}, Moments.{same_who}}
 
 -- a new life, and one step more
 none_yet : (W : World) (who : Who) (mark : Stored) → IsLifeOf W who (given_by W who mark) []
 none_yet W A mark = record { given = refl; life = tt }
-none_yet W B mark = record { given = refl; life = tt }
-none_yet W M mark = record { given = refl; life = tt }
+none_yet W who mark = record { given = refl; life = tt }
 
 heard : (W : World) (who : Who) (g : Given) (E : List Entry) (s : ℕ) (bytes : List ℕ) (arrival : Arrival) → Says W who s bytes arrival → IsLifeOf W who g E
     → IsLifeOf W who g (Arrive s bytes arrival (rules_of who g E s arrival) ∷ E)
 heard W A g E s bytes arrival says life = record { given = life.given; life = (says, refl, life.life) }
-heard W B g E s bytes arrival says life = record { given = life.given; life = (says, refl, life.life) }
-heard W M g E s bytes arrival says life = record { given = life.given; life = (says, refl, life.life) }
+heard W who g E s bytes arrival says life = record { given = life.given; life = (says, refl, life.life) }
 
 ticked : (W : World) (who : Who) (g : Given) (E : List Entry) (now : ℕ) (counts : List ℕ) → IsLifeOf W who g E → IsLifeOf W who g (Tick now counts (tick_answer g E now counts) ∷ E)
 ticked W A g E now counts life = record { given = life.given; life = (refl, life.life) }
-ticked W B g E now counts life = record { given = life.given; life = (refl, life.life) }
-ticked W M g E now counts life = record { given = life.given; life = (refl, life.life) }
+ticked W who g E now counts life = record { given = life.given; life = (refl, life.life) }
 
 popped_one : (W : World) (who : Who) (g : Given) (E : List Entry) (row : Option RowView) → row ≡ pop_answer E → IsLifeOf W who g E → IsLifeOf W who g (Pop row ∷ E)
 popped_one W A g E row q life = record { given = life.given; life = (q, life.life) }
-popped_one W B g E row q life = record { given = life.given; life = (q, life.life) }
-popped_one W M g E row q life = record { given = life.given; life = (q, life.life) }
+popped_one W who g E row q life = record { given = life.given; life = (q, life.life) }
 
 -- the entry of one core leaves the lives of the others
 entry_of : (W : World) (who : Who) (g : Given) (E : List Entry) (b : Bool) (e : Entry) → (b ≡ true → IsLifeOf W who g (e ∷ E)) → IsLifeOf W who g E → IsLifeOf W who g (with_entry (cond b (Some e) None) E)
@@ -65,15 +48,14 @@ publish_of W H who v row same made life =
     popped_one W who (given_in W H who) (life_of H who) row (publishes_is W H who row (subst (λ (w : Who). IsMade W H (Publishes w row)) same made)) life
 
 one_more : (W : World) (H : List Happened) (who : Who) (h : Happened) → IsMade W H h → IsLifeOf W who (given_in W H who) (life_of H who) → IsLifeOf W who (given_in W (h ∷ H) who) (life_of (h ∷ H) who)
-one_more W H who (Sends bytes) made life = life
 one_more W H who (Comes v e) made life =
     entry_of W who (given_in W H who) (life_of H who) (is_same v who) e (λ same. come_of W H who v e (same_who v who same) made life) life
-one_more W H who (PassesBy v) made life = life
 one_more W H who (Ticks v e) made life =
     entry_of W who (given_in W H who) (life_of H who) (is_same v who) e (λ same. tick_of W H who v e (same_who v who same) made life) life
 one_more W H who (Publishes v row) made life =
     entry_of W who (given_in W H who) (life_of H who) (is_same v who) (Pop row) (λ same. publish_of W H who v row (same_who v who same) made life) life
 one_more W H who (Ends v mark) made life = begin_of W H who (is_same v who) mark life
+one_more W H who h made life = life
 
 pub life_is_life : (W : World) (H : List Happened) (who : Who) → IsHistory W H → IsLifeOf W who (given_in W H who) (life_of H who)
 life_is_life W [] who is = none_yet W who (first_mark W who)

@@ -1,27 +1,15 @@
 -- What each kind of thing that happened was made from.
-use Rattle.std.proofs.Common.{◌≡◌, ℕ, Bool, true, false, List, cond, refl, sym, subst, ◌∙◌, Option, Some, None}
-use Rattle.std.proofs.lemmas.Option.{none-some, same_Some}
-use Rattle.pdc_row.specs.RowView.{RowView}
-use Rattle.pdc_life.specs.Answer.{ToTick, answered, pop_answer}
-use Rattle.pdc_life.specs.Arrival.{Arrival}
-use Rattle.pdc_life.specs.Life.{Answer, Entry, Arrive, Tick, TickAnswer, Pop}
-use Rattle.pdc_history.specs.Event.{Event, Send, Bring, Miss, TickAt, Publish, Stop, StopIn, StopInTick, StopAtStart, happens}
-use Rattle.pdc_history.specs.History.{IsMade, MayCome, MayHappen, MaySend}
-use Rattle.pdc_history.specs.World.{Who, World, Happened, Sends, Comes, PassesBy, Ticks, Publishes, Ends, entry_at, given_in, is_same, life_of, raised, rules_of}
+use Rattle.std.proofs.Common.{◌∙◌, ◌≡◌, Bool, cond, false, List, None, Option, refl, Some, subst, sym, true, ℕ}
+use Rattle.pdc_history.specs.Event.{Send}
+use Rattle.pdc_history.proofs.Names.{Answer, answered, Arrival, Arrive, Bring, Comes, Do, Entry, entry_at, Event, given_in, Happened, happens, is_same, IsMade, life_of, MayCome, MayHappen, MaySend, none-some, Pop, pop_answer, Publish, Publishes, raised, RowView, rules_of, same_Some, Sends, Stop, Tick, TickAnswer, TickAt, Ticks, ToTick, Who, World}
 use Rattle.pdc_history.proofs.Moments.{same_who}
 
 -- ---- a send
 
 sends_of : (W : World) (H : List Happened) (bytes : List ℕ) (event : Event) → MayHappen W H event → Sends bytes ≡ happens W H event → MaySend W H bytes
 sends_of W H bytes (Send other) may q = let same : other ≡ bytes = cc in subst (MaySend W H) same may
-sends_of W H bytes (Bring v s other arrival) may q = cc
-sends_of W H bytes (Miss v) may q = cc
-sends_of W H bytes (TickAt v now) may q = cc
-sends_of W H bytes (Publish v) may q = cc
-sends_of W H bytes (Stop v) may q = cc
-sends_of W H bytes (StopIn v landed) may q = cc
-sends_of W H bytes (StopInTick v landed) may q = cc
-sends_of W H bytes (StopAtStart v landed) may q = cc
+sends_of W H bytes (Do v Stop) may q = cc
+sends_of W H bytes event may q = cc
 
 pub sends_is : (W : World) (H : List Happened) (bytes : List ℕ) → IsMade W H (Sends bytes) → MaySend W H bytes
 sends_is W H bytes made = sends_of W H bytes made.event made.may made.made
@@ -46,18 +34,12 @@ comes_here W H who v e s bytes arrival may same q = record {
 }
 
 comes_of : (W : World) (H : List Happened) (who : Who) (e : Entry) (event : Event) → MayHappen W H event → Comes who e ≡ happens W H event → HasCome W H who e
-comes_of W H who e (Send other) may q = cc
 comes_of W H who e (Bring v s bytes arrival) may q =
     let same : v ≡ who = cc in
     let is : e ≡ Arrive s bytes arrival (rules_of v (given_in W H v) (life_of H v) s arrival) = cc in
     comes_here W H who v e s bytes arrival may same is
-comes_of W H who e (Miss v) may q = cc
-comes_of W H who e (TickAt v now) may q = cc
-comes_of W H who e (Publish v) may q = cc
-comes_of W H who e (Stop v) may q = cc
-comes_of W H who e (StopIn v landed) may q = cc
-comes_of W H who e (StopInTick v landed) may q = cc
-comes_of W H who e (StopAtStart v landed) may q = cc
+comes_of W H who e (Do v Stop) may q = cc
+comes_of W H who e event may q = cc
 
 pub comes_is : (W : World) (H : List Happened) (who : Who) (e : Entry) → IsMade W H (Comes who e) → HasCome W H who e
 comes_is W H who e made = comes_of W H who e made.event made.may made.made
@@ -72,18 +54,11 @@ pub record HasTicked (W : World) (H : List Happened) (who : Who) (e : Entry) : T
   pub is : e ≡ tick_at W H who now
 
 ticks_of : (W : World) (H : List Happened) (who : Who) (e : Entry) (event : Event) → Ticks who e ≡ happens W H event → HasTicked W H who e
-ticks_of W H who e (Send other) q = cc
-ticks_of W H who e (Bring v s bytes arrival) q = cc
-ticks_of W H who e (Miss v) q = cc
-ticks_of W H who e (TickAt v now) q =
+ticks_of W H who e (Do v (TickAt now)) q =
     let same : v ≡ who = cc in
     let is : e ≡ tick_at W H v now = cc in
     record { now = now; is = subst (λ (w : Who). e ≡ tick_at W H w now) same is }
-ticks_of W H who e (Publish v) q = cc
-ticks_of W H who e (Stop v) q = cc
-ticks_of W H who e (StopIn v landed) q = cc
-ticks_of W H who e (StopInTick v landed) q = cc
-ticks_of W H who e (StopAtStart v landed) q = cc
+ticks_of W H who e event q = cc
 
 pub ticks_is : (W : World) (H : List Happened) (who : Who) (e : Entry) → IsMade W H (Ticks who e) → HasTicked W H who e
 ticks_is W H who e made = ticks_of W H who e made.event made.made
@@ -91,18 +66,11 @@ ticks_is W H who e made = ticks_of W H who e made.event made.made
 -- ---- a publish
 
 publishes_of : (W : World) (H : List Happened) (who : Who) (row : Option RowView) (event : Event) → Publishes who row ≡ happens W H event → row ≡ pop_answer (life_of H who)
-publishes_of W H who row (Send other) q = cc
-publishes_of W H who row (Bring v s bytes arrival) q = cc
-publishes_of W H who row (Miss v) q = cc
-publishes_of W H who row (TickAt v now) q = cc
-publishes_of W H who row (Publish v) q =
+publishes_of W H who row (Do v Publish) q =
     let same : v ≡ who = cc in
     let is : row ≡ pop_answer (life_of H v) = cc in
     subst (λ (w : Who). row ≡ pop_answer (life_of H w)) same is
-publishes_of W H who row (Stop v) q = cc
-publishes_of W H who row (StopIn v landed) q = cc
-publishes_of W H who row (StopInTick v landed) q = cc
-publishes_of W H who row (StopAtStart v landed) q = cc
+publishes_of W H who row event q = cc
 
 pub publishes_is : (W : World) (H : List Happened) (who : Who) (row : Option RowView) → IsMade W H (Publishes who row) → row ≡ pop_answer (life_of H who)
 publishes_is W H who row made = publishes_of W H who row made.event made.made
@@ -134,9 +102,7 @@ arrival_comes W H (Ticks v x) who s bytes arrival answer made q =
     let e : Arrive s bytes arrival answer ≡ tick_at W H v t.now = sym r.1 ∙ t.is in
     cc
 arrival_comes W H (Publishes v row) who s bytes arrival answer made q = let r = cond_none (is_same v who) (Pop row) (Arrive s bytes arrival answer) q in let e : Pop row ≡ Arrive s bytes arrival answer = r.1 in cc
-arrival_comes W H (Sends other) who s bytes arrival answer made q = absurd (none-some (Arrive s bytes arrival answer) q)
-arrival_comes W H (PassesBy v) who s bytes arrival answer made q = absurd (none-some (Arrive s bytes arrival answer) q)
-arrival_comes W H (Ends v mark) who s bytes arrival answer made q = absurd (none-some (Arrive s bytes arrival answer) q)
+arrival_comes W H h who s bytes arrival answer made q = absurd (none-some (Arrive s bytes arrival answer) q)
 
 pub tick_ticks : (W : World) (H : List Happened) (h : Happened) (who : Who) (now : ℕ) (counts : List ℕ) (answer : TickAnswer) → IsMade W H h
     → entry_at who h ≡ Some (Tick now counts answer) → TicksHere W H h who (Tick now counts answer)
@@ -151,6 +117,4 @@ tick_ticks W H (Comes v x) who now counts answer made q =
     let e : Tick now counts answer ≡ Arrive t.stream t.bytes t.arrival (rules_of v (given_in W H v) (life_of H v) t.stream t.arrival) = sym r.1 ∙ t.is in
     cc
 tick_ticks W H (Publishes v row) who now counts answer made q = let r = cond_none (is_same v who) (Pop row) (Tick now counts answer) q in let e : Pop row ≡ Tick now counts answer = r.1 in cc
-tick_ticks W H (Sends other) who now counts answer made q = absurd (none-some (Tick now counts answer) q)
-tick_ticks W H (PassesBy v) who now counts answer made q = absurd (none-some (Tick now counts answer) q)
-tick_ticks W H (Ends v mark) who now counts answer made q = absurd (none-some (Tick now counts answer) q)
+tick_ticks W H h who now counts answer made q = absurd (none-some (Tick now counts answer) q)

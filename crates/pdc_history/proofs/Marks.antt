@@ -1,42 +1,21 @@
 -- Marks bound what was published and adopted, so instants rise.
-use Rattle.std.proofs.Common.{◌≡◌, ℕ, ◌<◌, ◌≤◌, ◌^◌, Bool, true, false, List, [], ◌∷◌, ◌++◌, cond, max, map, refl, sym, ap, subst, ◌∙◌, arith, Option, Some, None}
-use Rattle.std.specs.List.{AllByRecursion}
-use Rattle.std.proofs.lemmas.List.{append-nil}
-use Rattle.pdc_cfg.specs.Section.{SectionFields}
-use Rattle.pdc_row.specs.Rising.{AreBelow, Rises}
-use Rattle.pdc_row.specs.RowView.{RowView, row_instants}
-use Rattle.pdc_mark.specs.declared.stored.Stored.{Stored}
-use Rattle.pdc_life.specs.Given.{Given, count_for}
-use Rattle.pdc_life.specs.Life.{Entry, Pop, cleared_count, popped, section_in_force}
-use Rattle.pdc_life.specs.Run.{IsRun}
-use Rattle.pdc_history.specs.History.{IsHistory, IsMade}
-use Rattle.pdc_history.specs.Lives.{rows_of_lives, rows_of_one}
-use Rattle.pdc_history.specs.Marks.{InstantsRise, MarksBound}
-use Rattle.pdc_history.specs.World.{A, B, M, Who, World, Happened, PastLife, Sends, Comes, PassesBy, Ticks, Publishes, Ends, begun_with, ended, first_mark, given_by, given_in, is_same, lead_of, life_of, mark_of, opened_with, past_lives, published, published_at, raised, reserved, since, with_counts_of, with_entry}
-use Rattle.pdc_history.specs.Known.{LifeLaws}
-use Rattle.pdc_history.proofs.Lists.{appended, mapped}
-use Rattle.pdc_history.proofs.Lives.{of_one_append, popped_run, run_in}
-use Rattle.pdc_history.proofs.Made.{comes_is, tick_at, ticks_is}
-use Rattle.pdc_history.proofs.Moments.{same_who}
-use Rattle.pdc_history.proofs.Rows.{rows_are_of_lives}
-use Rattle.pdc_history.proofs.Stored.{AtLeast, IsNext, ends_is, itself, raised_keeps, reserved_covers, reserved_keeps}
+use Rattle.std.proofs.Common.{[], ◌++◌, ◌<◌, ◌^◌, ◌∙◌, ◌∷◌, ◌≡◌, ◌≤◌, ap, arith, Bool, cond, false, List, map, max, None, Option, refl, Some, subst, sym, true, ℕ}
+use Rattle.pdc_history.proofs.Names.{A, AllByRecursion, append-nil, AreBelow, begun_with, cleared_count, Comes, count_for, ended, Ends, Entry, first_mark, Given, given_by, given_in, Happened, InstantsRise, is_same, IsHistory, IsMade, IsRun, lead_of, life_of, LifeLaws, mark_of, MarksBound, opened_with, PassesBy, past_lives, PastLife, Pop, popped, published, published_at, Publishes, raised, reserved, Rises, row_instants, rows_of_lives, rows_of_one, RowView, section_in_force, SectionFields, Sends, since, Stored, Ticks, Who, with_counts_of, with_entry, World}
+use Rattle.pdc_history.proofs.{Lists.{appended, mapped}, Lives.{of_one_append, popped_run, run_in}, Made.{comes_is, tick_at, ticks_is}, Moments.{same_who}, Rows.{rows_are_of_lives}, Stored.{AtLeast, ends_is, IsNext, itself, raised_keeps, reserved_covers, reserved_keeps}}
 
 -- ---- what a mark gives to a life
 
 pub given_start : (W : World) (who : Who) (mark : Stored) → (given_by W who mark).start ≡ mark.start
 given_start W A mark = refl
-given_start W B mark = refl
-given_start W M mark = refl
+given_start W who mark = refl
 
 pub given_floor : (W : World) (who : Who) (mark : Stored) → (given_by W who mark).floor ≡ mark.floor
 given_floor W A mark = refl
-given_floor W B mark = refl
-given_floor W M mark = refl
+given_floor W who mark = refl
 
 pub given_counts : (W : World) (who : Who) (mark : Stored) → (given_by W who mark).counts ≡ mark.counts
 given_counts W A mark = refl
-given_counts W B mark = refl
-given_counts W M mark = refl
+given_counts W who mark = refl
 
 -- ---- the bounds
 
@@ -169,14 +148,13 @@ ends L W H who v mark false same is made b = same_rows (first_mark W who) (mark_
 
 one_more : LifeLaws → (W : World) (H : List Happened) (who : Who) (h : Happened) → IsHistory W H → IsMade W H h → BoundedIn W H who
     → Bounded (first_mark W who) (mark_of W (h ∷ H) who) (opened_with W (h ∷ H) who) (given_in W (h ∷ H) who) (life_of (h ∷ H) who) (past_lives W (h ∷ H) who) (rows_of_one who (published H) ++ rows_of_one who (published_at h))
-one_more L W H who (Sends bytes) is made b = same_rows (first_mark W who) (mark_of W H who) (opened_with W H who) (given_in W H who) (life_of H who) (past_lives W H who) (rows_of_one who (published H)) b
 one_more L W H who (Comes v e) is made b =
     came (first_mark W who) (mark_of W H who) (opened_with W H who) (given_in W H who) (life_of H who) (past_lives W H who) (rows_of_one who (published H)) (is_same v who) e
     (λ c. arrival_clears_none W H v e (given_in W H who) (life_of H who) c made) b
-one_more L W H who (PassesBy v) is made b = same_rows (first_mark W who) (mark_of W H who) (opened_with W H who) (given_in W H who) (life_of H who) (past_lives W H who) (rows_of_one who (published H)) b
 one_more L W H who (Ticks v e) is made b = ticked W H who v e (is_same v who) (same_who v who) made b
 one_more L W H who (Publishes v row) is made b = publishes W H who v row (is_same v who) refl b
 one_more L W H who (Ends v mark) is made b = ends L W H who v mark (is_same v who) (same_who v who) is made b
+one_more L W H who h is made b = same_rows (first_mark W who) (mark_of W H who) (opened_with W H who) (given_in W H who) (life_of H who) (past_lives W H who) (rows_of_one who (published H)) b
 
 bounded : LifeLaws → (W : World) (H : List Happened) (who : Who) → IsHistory W H → BoundedIn W H who
 bounded L W [] who is = at_begin W who (is.starts who)

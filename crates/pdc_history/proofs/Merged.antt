@@ -1,28 +1,8 @@
 -- The sections and blocks of the merger's lives come from the frames of the nodes.
-use Rattle.std.proofs.Common.{◌≡◌, ℕ, zero, suc, Bool, true, false, ◌&&◌, List, [], ◌∷◌, ◌++◌, cond, map, refl, sym, ap, subst, ◌∙◌, arith, rules, Option, Some, None, inr}
-use Rattle.std.specs.Prelude.{◌==◌}
-use Rattle.std.specs.List.{AllByRecursion, Contains, slice_get}
-use Rattle.std.proofs.lemmas.Bool.{false≢true}
-use Rattle.std.proofs.lemmas.Option.{none-some, same_Some}
-use Rattle.pdc_cfg.specs.Section.{SectionFields}
-use Rattle.pdc_life.specs.declared.merging.MergedNode.{MergedNode}
-use Rattle.pdc_life.specs.Arrival.{BytesRefused, Data, Layout, Stamp}
-use Rattle.pdc_life.specs.Life.{Answer, Entry, Arrive, Tick, Pop, is_candidate, section_in_force}
-use Rattle.pdc_life.specs.Merger.{HeldLayout, held_layout}
-use Rattle.pdc_life.specs.MergerReading.{IsLayoutOf, IsOwn, ReadsForMerger, ReadsFrom, nodes_of}
+use Rattle.std.proofs.Common.{[], ◌&&◌, ◌++◌, ◌∙◌, ◌∷◌, ◌≡◌, ap, arith, Bool, cond, false, inr, List, map, None, Option, refl, rules, Some, subst, suc, sym, true, zero, ℕ}
+use Rattle.pdc_history.proofs.Names.{◌==◌, A, AllByRecursion, Answer, AreGenuineBlocks, Arrive, B, BlockLaws, Contains, Entry, false≢true, FrameLaws, given_in, Happened, HasConfig, HasGenuineFrames, held_layout, HeldLayout, is_candidate, IsForOne, IsGenuineBlock, IsHistory, IsLayoutOf, IsLayoutSent, IsOwn, Layout, life_of, LifeLaws, M, MergedNode, nodes_of, none-some, ReadsForMerger, same_Some, section_in_force, SectionFields, SectionWasSent, seen_in, sent, SettingsAgree, slice_get, Stamp, Stream, stream_from, stream_ids, Who, World}
+use Rattle.pdc_history.proofs.{Lists.{element, none_there}, Moments.{began}, NodeFrames.{frames_of_a, frames_of_b}, Nodes.{has_arrived, HasArrived, sent_since}}
 use Rattle.pdc_life.specs.MergerReading as reading
-use Rattle.pdc_life.specs.Reading.{HasConfig, Stream}
-use Rattle.pdc_history.specs.Agree.{SettingsAgree}
-use Rattle.pdc_history.specs.Frames.{AreGenuineBlocks, IsGenuineBlock, IsLayoutSent, SectionWasSent, stream_from}
-use Rattle.pdc_history.specs.Genuine.{HasGenuineFrames}
-use Rattle.pdc_history.specs.History.{IsForOne, IsHistory, stream_ids}
-use Rattle.pdc_history.specs.Known.{BlockLaws, FrameLaws, LifeLaws}
-use Rattle.pdc_history.specs.Seen.{seen_in}
-use Rattle.pdc_history.specs.World.{A, B, M, Who, World, Happened, given_in, life_of, sent}
-use Rattle.pdc_history.proofs.Lists.{element}
-use Rattle.pdc_history.proofs.Moments.{began}
-use Rattle.pdc_history.proofs.NodeFrames.{frames_of_a, frames_of_b}
-use Rattle.pdc_history.proofs.Nodes.{HasArrived, has_arrived, sent_since}
 
 -- ---- the node of a stream
 
@@ -53,11 +33,7 @@ is_second W k = record {
 pub from_node : (W : World) (s : ℕ) (node : MergedNode) → SettingsAgree W → slice_get (nodes_of W.m.settings) s ≡ Some node → FromNode W node
 from_node W zero node k q = let e : W.m.settings.first ≡ node = same_Some W.m.settings.first node q in (A, subst (λ (n : MergedNode). IsFrom W n A) e (is_first W k))
 from_node W (suc zero) node k q = let e : W.m.settings.second ≡ node = same_Some W.m.settings.second node q in (B, subst (λ (n : MergedNode). IsFrom W n B) e (is_second W k))
-from_node W (suc (suc s)) node k q = absurd (none_there s node q)
-  where
-    none_there : (s : ℕ) (node : MergedNode) → slice_get {X = MergedNode} [] s ≡ Some node → ⊥
-    none_there zero node q = none-some node q
-    none_there (suc s) node q = none-some node q
+from_node W (suc (suc s)) node k q = none_there s node q
 
 -- ---- a layout that came was sent
 
@@ -156,11 +132,7 @@ held_came : (E : List Entry) (s : ℕ) (layout : HeldLayout) → held_layout E s
 held_came [] s layout q = absurd (none-some layout q)
 held_came (Arrive r bytes (Layout (Some stamp) sections) answer ∷ E) s layout q =
     held_here r s bytes stamp sections answer E layout ((r == s) && is_candidate answer.outcome) (λ h. same_number r s (both (r == s) (is_candidate answer.outcome) h)) (held_came E s layout) q
-held_came (Arrive r bytes (Layout None sections) answer ∷ E) s layout q = came_before (Arrive r bytes (Layout None sections) answer) E s layout (held_came E s layout q)
-held_came (Arrive r bytes (Data i quality payload) answer ∷ E) s layout q = came_before (Arrive r bytes (Data i quality payload) answer) E s layout (held_came E s layout q)
-held_came (Arrive r bytes (BytesRefused refusal) answer ∷ E) s layout q = came_before (Arrive r bytes (BytesRefused refusal) answer) E s layout (held_came E s layout q)
-held_came (Tick now counts answer ∷ E) s layout q = came_before (Tick now counts answer) E s layout (held_came E s layout q)
-held_came (Pop row ∷ E) s layout q = came_before (Pop row) E s layout (held_came E s layout q)
+held_came (e ∷ E) s layout q = came_before e E s layout (held_came E s layout q)
 
 -- the layout that is held of a stream is the one under its stamp
 pub held_under : (W : World) (H : List Happened) (s : ℕ) (node : MergedNode) (layout : HeldLayout) → IsHistory W H → slice_get (nodes_of W.m.settings) s ≡ Some node → held_layout (life_of H M) s ≡ Some layout
@@ -179,7 +151,5 @@ pub genuine_place : (W : World) (H : List Happened) (i place : ℕ) (sections : 
 genuine_place W H i zero (t ∷ sections) (other ∷ blocks) s words k p q =
     subst (λ (x : SectionFields). IsGenuineBlock (seen_in W H) i x words) (same_Some t s p) (subst (IsGenuineBlock (seen_in W H) i t) (same_Some other words q) k.0)
 genuine_place W H i (suc place) (t ∷ sections) (other ∷ blocks) s words k p q = genuine_place W H i place sections blocks s words k.1 p q
-genuine_place W H i zero [] blocks s words k p q = absurd (none-some s p)
-genuine_place W H i (suc place) [] blocks s words k p q = absurd (none-some s p)
-genuine_place W H i zero (t ∷ sections) [] s words k p q = absurd k
-genuine_place W H i (suc place) (t ∷ sections) [] s words k p q = absurd k
+genuine_place W H i place [] blocks s words k p q = none_there place s p
+genuine_place W H i place (t ∷ sections) [] s words k p q = absurd k

@@ -1,34 +1,8 @@
 -- The blocks of the merger's frames are genuine.
-use Rattle.std.proofs.Common.{◌≡◌, ℕ, List, [], ◌∷◌, drop, map, refl, sym, ap, subst, ◌∙◌, Some, option_map, inr}
-use Rattle.std.specs.List.{Contains, slice_get}
-use Rattle.std.proofs.lemmas.Option.{slice_get-map}
-use Rattle.pdc_block.specs.Block.{IsCut}
-use Rattle.pdc_cfg.specs.Section.{SectionFields}
-use Rattle.pdc_cfg.specs.declared.shape.Shape.{Shape}
-use Rattle.pdc_row.specs.CellView.{BlockView}
-use Rattle.pdc_output.specs.Layout.{own_block, stamp_words}
-use Rattle.pdc_life.specs.declared.merging.MergedNode.{MergedNode}
-use Rattle.pdc_life.specs.Arrival.{Data, Stamp}
-use Rattle.pdc_life.specs.Genuine.{HasBrought}
-use Rattle.pdc_life.specs.Life.{Entry}
-use Rattle.pdc_life.specs.Merger.{HeldLayout, held_layout}
-use Rattle.pdc_life.specs.MergerData.{IsMergedData, shapes_of}
-use Rattle.pdc_life.specs.MergerReading.{nodes_of}
+use Rattle.std.proofs.Common.{[], ◌∙◌, ◌∷◌, ◌≡◌, ap, drop, inr, List, map, option_map, refl, Some, subst, sym, ℕ}
+use Rattle.pdc_history.proofs.Names.{A, AreGenuineBlocks, B, BlockLaws, BlockView, Contains, Data, Entry, FrameLaws, given_in, Happened, HasBrought, held_layout, HeldLayout, HeldLayoutsWereSent, IsCut, IsData, IsForOne, IsGenuineBlock, IsGenuineData, IsHistory, IsLayoutSent, IsLayoutUnder, IsMergedData, life_of, LifeLaws, M, MergedBlocksAreGenuine, MergedNode, nodes_of, own_block, SectionFields, seen_in, sent, Shape, shapes_of, slice_get, slice_get-map, Stamp, stamp_words, Stream, stream_from, stream_ids, Who, World}
+use Rattle.pdc_history.proofs.{Blocks.{block_stays, IsSourced}, Cuts.{genuine_frames, own_shape, same_own, stamps_of_words}, Layouts.{layouts_are_one}, Lists.{tail_of}, Lives.{life_is_life}, Merged.{from_node, FromNode, genuine_place, held_under, is_first, is_second, IsFrom, LayoutCame, merged_column}, Moments.{before, began}, Nodes.{has_arrived, HasArrived}}
 use Rattle.pdc_life.specs.MergerReading as reading
-use Rattle.pdc_life.specs.Reading.{IsData, Stream}
-use Rattle.pdc_history.specs.Frames.{AreGenuineBlocks, IsGenuineBlock, IsLayoutSent, IsLayoutUnder, stream_from}
-use Rattle.pdc_history.specs.Genuine.{HeldLayoutsWereSent, IsGenuineData, MergedBlocksAreGenuine}
-use Rattle.pdc_history.specs.History.{IsForOne, IsHistory, stream_ids}
-use Rattle.pdc_history.specs.Known.{BlockLaws, FrameLaws, LifeLaws}
-use Rattle.pdc_history.specs.Seen.{seen_in}
-use Rattle.pdc_history.specs.World.{A, B, M, Who, World, Happened, given_in, life_of, sent}
-use Rattle.pdc_history.proofs.Blocks.{IsSourced, block_stays}
-use Rattle.pdc_history.proofs.Cuts.{block_rests, genuine_frames, own_shape, same_own, stamps_of_words}
-use Rattle.pdc_history.proofs.Layouts.{layouts_are_one}
-use Rattle.pdc_history.proofs.Lives.{life_is_life}
-use Rattle.pdc_history.proofs.Merged.{FromNode, IsFrom, LayoutCame, from_node, genuine_place, held_under, is_first, is_second, merged_column}
-use Rattle.pdc_history.proofs.Moments.{before, began}
-use Rattle.pdc_history.proofs.Nodes.{HasArrived, has_arrived}
 
 shapes_same : (parts : List (ℕ × SectionFields)) → map (λ (s : SectionFields). s.shape) (map (λ (part : ℕ × SectionFields). part.1) parts) ≡ map (λ (part : ℕ × SectionFields). part.1.shape) parts
 shapes_same [] = refl
@@ -60,8 +34,7 @@ cut_alike L F W X v i payload own layout others blocks is n under same cut stamp
     let sections : n.sections ≡ others = layouts_are_one L F W X v layout.stamp n.sections others is (subst (λ (x : Stamp). IsLayoutUnder (seen_in W X) v x n.sections) one n.is_cut.under) under in
     let same_shapes : shapes ≡ shapes_of layout = ap (map (λ (s : SectionFields). s.shape)) (sections ∙ sym same) ∙ shapes_same layout.sections in
     let split : n.blocks ≡ blocks =
-    block_rests (own_block n.stamp.start n.stamp.change) own n.blocks blocks
-    (F.one_cut (own_shape ∷ shapes_of layout) payload (own_block n.stamp.start n.stamp.change ∷ n.blocks) (own ∷ blocks)
+    tail_of (F.one_cut (own_shape ∷ shapes_of layout) payload (own_block n.stamp.start n.stamp.change ∷ n.blocks) (own ∷ blocks)
     (subst (λ (ss : List Shape). IsCut (own_shape ∷ ss) payload (own_block n.stamp.start n.stamp.change ∷ n.blocks)) same_shapes first) cut) in
     subst (λ (ss : List SectionFields). AreGenuineBlocks (seen_in W X) i ss blocks) sections (subst (AreGenuineBlocks (seen_in W X) i n.sections) split n.genuine)
 

@@ -1,31 +1,17 @@
 -- Moments of a history: where a step of a life, and a frame that was sent, stand in it.
-use Rattle.std.proofs.Common.{◌≡◌, ℕ, true, List, [], ◌∷◌, ◌++◌, refl, sym, ap, subst, ◌∙◌, arith, Option, Some, None, inl, inr}
-use Rattle.std.specs.List.{Contains}
-use Rattle.std.proofs.lemmas.Bool.{false≢true}
-use Rattle.std.proofs.lemmas.List.Elements.{Contains-append_cases, Contains-append_left, Contains-append_right}
-use Rattle.pdc_mark.specs.declared.stored.Stored.{Stored}
-use Rattle.pdc_life.specs.Life.{Entry}
-use Rattle.pdc_history.specs.Agree.{MayBegin}
-use Rattle.pdc_history.specs.Event.{happens}
-use Rattle.pdc_history.specs.History.{EventsMakeHistories, IsHistory}
-use Rattle.pdc_history.specs.World.{A, B, M, Who, World, Happened, begins_at, begun_with, entry_at, given_by, given_in, is_same, life_of, opened_with, sent, sent_at, since, with_entry}
-use Rattle.pdc_history.proofs.Lists.{not_empty}
+use Rattle.std.proofs.Common.{[], ◌++◌, ◌∙◌, ◌∷◌, ◌≡◌, ap, arith, inl, inr, List, None, Option, refl, Some, subst, sym, true, ℕ}
+use Rattle.pdc_history.proofs.Names.{A, B, begins_at, begun_with, Contains, Contains-append_cases, Contains-append_left, Contains-append_right, Entry, entry_at, EventsMakeHistories, false≢true, given_by, given_in, Happened, happens, is_same, IsHistory, life_of, M, MayBegin, opened_with, sent, sent_at, since, Stored, Who, with_entry, World}
+use Rattle.pdc_history.proofs.Lists.{head_of, not_empty, tail_of}
 
 pub same_who : (v w : Who) → is_same v w ≡ true → v ≡ w
 same_who A A h = refl
 same_who B B h = refl
 same_who M M h = refl
-same_who A B h = absurd (false≢true h)
-same_who A M h = absurd (false≢true h)
-same_who B A h = absurd (false≢true h)
-same_who B M h = absurd (false≢true h)
-same_who M A h = absurd (false≢true h)
-same_who M B h = absurd (false≢true h)
+same_who v w h = absurd (false≢true h)
 
 pub is_itself : (w : Who) → is_same w w ≡ true
 is_itself A = refl
-is_itself B = refl
-is_itself M = refl
+is_itself w = refl
 
 -- ---- earlier histories
 
@@ -82,21 +68,15 @@ this_moment W H h who e x E quiet entry same life = record {
   opened = none_begun (begins_at who h) (opened_with W H who) quiet;
 }
 
-same_head : (x y : Entry) (xs ys : List Entry) → x ∷ xs ≡ y ∷ ys → x ≡ y
-same_head x y xs ys h = cc
-
-same_tail : (x y : Entry) (xs ys : List Entry) → x ∷ xs ≡ y ∷ ys → xs ≡ ys
-same_tail x y xs ys h = cc
-
 moment_at : (W : World) (H : List Happened) (h : Happened) (who : Who) (later : List Entry) (e : Entry) (E : List Entry) (b : Option Stored) (o : Option Entry)
     → begins_at who h ≡ b → entry_at who h ≡ o → since b (with_entry o (life_of H who)) ≡ later ++ e ∷ E
     → ((more : List Entry) → life_of H who ≡ more ++ e ∷ E → Moment W H who e E) → Moment W (h ∷ H) who e E
 moment_at W H h who later e E (Some mark) o begins entry q k = absurd (not_empty later E e q)
 moment_at W H h who later e E None None begins entry q k = later_moment W H h who e E begins (k later q)
 moment_at W H h who [] e E None (Some x) begins entry q k =
-    this_moment W H h who e x E begins entry (same_head x e (life_of H who) E q) (same_tail x e (life_of H who) E q)
+    this_moment W H h who e x E begins entry (head_of q) (tail_of q)
 moment_at W H h who (y ∷ later) e E None (Some x) begins entry q k =
-    later_moment W H h who e E begins (k later (same_tail x y (life_of H who) (later ++ e ∷ E) q))
+    later_moment W H h who e E begins (k later (tail_of q))
 
 pub moment : (W : World) (H : List Happened) (who : Who) (later : List Entry) (e : Entry) (E : List Entry) → life_of H who ≡ later ++ e ∷ E → Moment W H who e E
 moment W [] who later e E q = absurd (not_empty later E e q)

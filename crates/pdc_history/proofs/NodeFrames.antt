@@ -1,13 +1,6 @@
 -- The blocks of both nodes' frames are genuine.
-use Rattle.std.specs.Prelude.{List}
-use Rattle.pdc_history.specs.Genuine.{HasGenuineFrames, NodeBlocksAreGenuine}
-use Rattle.pdc_history.specs.History.{IsHistory}
-use Rattle.pdc_history.specs.Known.{BlockLaws, FrameLaws, LifeLaws}
-use Rattle.pdc_history.specs.Seen.{seen_in}
-use Rattle.pdc_history.specs.World.{A, B, World, Happened}
-use Rattle.pdc_history.proofs.Cuts.{genuine_frames}
-use Rattle.pdc_history.proofs.Moments.{began}
-use Rattle.pdc_history.proofs.Nodes.{node_a, node_b, node_is_sourced}
+use Rattle.pdc_history.proofs.Names.{A, B, BlockLaws, FrameLaws, Happened, HasGenuineFrames, IsHistory, LifeLaws, List, NodeBlocksAreGenuine, seen_in, World}
+use Rattle.pdc_history.proofs.{Cuts.{genuine_frames}, Moments.{began}, Nodes.{node_a, node_b, node_is_sourced}}
 
 pub frames_of_a : LifeLaws → FrameLaws → BlockLaws → (W : World) (H : List Happened) → IsHistory W H → HasGenuineFrames (seen_in W H) A
 frames_of_a L F K W H is = genuine_frames L F K W H A (node_is_sourced L K W A W.a.settings (node_a W)) is

@@ -1,32 +1,7 @@
 -- The sections and blocks of a node's lives come from its PMUs.
-use Rattle.std.proofs.Common.{◌≡◌, ℕ, zero, suc, List, [], ◌∷◌, ◌++◌, map, refl, sym, ap, subst, ◌∙◌, arith, Option, Some, None, option_map, inr}
-use Rattle.std.specs.List.{Contains, slice_get}
-use Rattle.std.proofs.lemmas.Option.{none-some, same_Some, slice_get-map}
-use Rattle.pdc_frame.specs.Frame.{Fields}
-use Rattle.pdc_block.specs.Block.{IsBody}
-use Rattle.pdc_cfg.specs.Section.{SectionFields}
-use Rattle.pdc_row.specs.CellView.{BlockView}
-use Rattle.pdc_life.specs.declared.given.Settings.{Settings}
-use Rattle.pdc_life.specs.declared.pmu.Pmu.{Pmu}
-use Rattle.pdc_life.specs.Arrival.{Arrival, Data, Layout, Stamp}
-use Rattle.pdc_life.specs.Genuine.{HasBrought, IsNodeData}
-use Rattle.pdc_life.specs.Given.{Given}
-use Rattle.pdc_life.specs.Life.{Answer, Entry, Arrive, section_in_force}
-use Rattle.pdc_life.specs.Node.{IsNodeLife, ReadsFor}
-use Rattle.pdc_life.specs.NodeReading.{IsValid, Reads, stream_of}
-use Rattle.pdc_life.specs.Reading.{HasBase, IsData, IsOfStream, Stream}
-use Rattle.pdc_history.specs.Agree.{SettingsAgree, ids_of, sources_of, time_bases_of}
-use Rattle.pdc_history.specs.Frames.{WasSent}
-use Rattle.pdc_history.specs.History.{IsForOne, IsHistory, IsMade, MayCome, Says, stream_ids}
-use Rattle.pdc_history.specs.Known.{BlockLaws, LifeLaws}
-use Rattle.pdc_history.specs.Lives.{IsLifeOf}
-use Rattle.pdc_history.specs.Seen.{seen_in}
-use Rattle.pdc_history.specs.World.{A, B, Who, World, Happened, given_in, life_of, rules_of, sent}
-use Rattle.pdc_history.proofs.Blocks.{IsSourced}
-use Rattle.pdc_history.proofs.Lives.{life_is_life}
-use Rattle.pdc_history.proofs.Made.{ComesHere, HasCome, arrival_comes}
-use Rattle.pdc_history.proofs.Moments.{Moment, moment, stays_sent, then}
-use Rattle.pdc_history.proofs.Sent.{place_there}
+use Rattle.std.proofs.Common.{[], ◌++◌, ◌∙◌, ◌∷◌, ◌≡◌, ap, arith, inr, List, map, None, Option, option_map, refl, Some, subst, suc, sym, zero, ℕ}
+use Rattle.pdc_history.proofs.Names.{A, Answer, append_assoc, Arrival, Arrive, B, BlockLaws, BlockView, Contains, Data, Entry, Fields, Given, given_in, Happened, HasBase, HasBrought, ids_of, IsBody, IsData, IsForOne, IsHistory, IsLifeOf, IsMade, IsNodeData, IsNodeLife, IsOfStream, IsValid, Layout, life_of, LifeLaws, MayCome, none-some, Pmu, Reads, ReadsFor, same_Some, Says, section_in_force, SectionFields, seen_in, sent, Settings, SettingsAgree, slice_get, slice_get-map, sources_of, Stamp, Stream, stream_ids, stream_of, time_bases_of, WasSent, Who, World}
+use Rattle.pdc_history.proofs.{Blocks.{IsSourced}, Lists.{place_there}, Lives.{life_is_life}, Made.{arrival_comes, ComesHere, HasCome}, Moments.{Moment, moment, stays_sent, then}}
 
 -- ---- what came, was sent
 
@@ -39,21 +14,12 @@ pub record HasArrived (W : World) (H : List Happened) (who : Who) (s : ℕ) (byt
   pub was_sent : IsForOne W who bytes → Contains (sent W then) bytes
   pub life : life_of then who ≡ E
 
-the_stream : (s t : ℕ) (b c : List ℕ) (x y : Arrival) (p q : Answer) → Arrive s b x p ≡ Arrive t c y q → t ≡ s
-the_stream s t b c x y p q h = cc
-
-the_bytes : (s t : ℕ) (b c : List ℕ) (x y : Arrival) (p q : Answer) → Arrive s b x p ≡ Arrive t c y q → c ≡ b
-the_bytes s t b c x y p q h = cc
-
-the_arrival : (s t : ℕ) (b c : List ℕ) (x y : Arrival) (p q : Answer) → Arrive s b x p ≡ Arrive t c y q → y ≡ x
-the_arrival s t b c x y p q h = cc
-
 same_coming : (W : World) (H : List Happened) (who : Who) (s : ℕ) (bytes : List ℕ) (arrival : Arrival) (answer : Answer) → (c : HasCome W H who (Arrive s bytes arrival answer)) → MayCome W H who s bytes arrival
 same_coming W H who s bytes arrival answer c =
-    let other : Answer = rules_of who (given_in W H who) (life_of H who) c.stream c.arrival in
-    subst (λ (x : Arrival). MayCome W H who s bytes x) (the_arrival s c.stream bytes c.bytes arrival c.arrival answer other c.is)
-    (subst (λ (b : List ℕ). MayCome W H who s b c.arrival) (the_bytes s c.stream bytes c.bytes arrival c.arrival answer other c.is)
-    (subst (λ (n : ℕ). MayCome W H who n c.bytes c.arrival) (the_stream s c.stream bytes c.bytes arrival c.arrival answer other c.is) c.may))
+    let stream : c.stream ≡ s = cc in
+    let same : c.bytes ≡ bytes = cc in
+    let says : c.arrival ≡ arrival = cc in
+    rw (stream, same, says) at c.may
 
 pub has_arrived : (W : World) (H : List Happened) (who : Who) (later : List Entry) (s : ℕ) (bytes : List ℕ) (arrival : Arrival) (answer : Answer) (E : List Entry) → IsHistory W H
     → life_of H who ≡ later ++ Arrive s bytes arrival answer ∷ E → HasArrived W H who s bytes arrival E
@@ -65,15 +31,11 @@ has_arrived W H who later s bytes arrival answer E is stands =
     record {
       later = m.later ++ m.h ∷ [];
       then = m.earlier;
-      stands = m.stands ∙ sym (one_by_one m.later m.h m.earlier);
+      stands = m.stands ∙ sym (append_assoc m.later (m.h ∷ []) m.earlier);
       says = may.says;
       was_sent = may.was_sent;
       life = m.life;
     }
-  where
-    one_by_one : (xs : List Happened) (x : Happened) (ys : List Happened) → (xs ++ x ∷ []) ++ ys ≡ xs ++ x ∷ ys
-    one_by_one [] x ys = refl
-    one_by_one (y ∷ xs) x ys = ap (λ (zs : List Happened). y ∷ zs) (one_by_one xs x ys)
 
 pub sent_since : (W : World) (H later then : List Happened) (bytes : List ℕ) → H ≡ later ++ then → Contains (sent W then) bytes → Contains (sent W H) bytes
 sent_since W H later then bytes q k = subst (λ (X : List Happened). Contains (sent W X) bytes) (sym q) (stays_sent W later then bytes k)
@@ -172,9 +134,7 @@ says_one : (settings : Settings) (p c : ℕ) (pmu : Pmu) (bytes : List ℕ) (sta
 says_one settings p c pmu bytes None ((d, t) ∷ []) s reads k =
     let one = one_part c d s t k in
     record { column = sym one.0 ∙ reads.0; valid = subst (IsValid settings pmu bytes) one.1 reads.1 }
-says_one settings p c pmu bytes None [] s reads k = absurd reads
-says_one settings p c pmu bytes None (x ∷ y ∷ rest) s reads k = absurd reads
-says_one settings p c pmu bytes (Some stamp) sections s reads k = absurd reads
+says_one settings p c pmu bytes stamp sections s reads k = absurd reads
 
 valid_at_a : (W : World) (who : Who) (settings : Settings) (p : ℕ) (pmu : Pmu) (bytes : List ℕ) (s : SectionFields) → IsNode W who settings → (k : SamePmu W p pmu) → IsValid settings pmu bytes s → IsValid W.a.settings k.other bytes s
 valid_at_a W who settings p pmu bytes s n k v = record {

@@ -1,24 +1,7 @@
 -- A PMU sent one body for one instant, and one section under one count; and PMUs are told by their streams and sources.
-use Rattle.std.proofs.Common.{◌≡◌, ℕ, zero, suc, Bool, true, false, ◌&&◌, not, List, [], ◌∷◌, map, refl, sym, ap, subst, ◌∙◌, arith, rules, Some, option_map, inl, inr}
-use Rattle.std.specs.Prelude.{◌⊎◌, ◌==◌, ◌||◌}
-use Rattle.std.specs.List.{Contains, list_any, slice_get}
-use Rattle.std.proofs.lemmas.Bool.{false≢true}
-use Rattle.std.proofs.lemmas.List.Elements.{Contains-append_cases}
-use Rattle.std.proofs.lemmas.Option.{none-some, same_Some, slice_get-map}
-use Rattle.pdc_frame.specs.Frame.{Fields, IsFrame}
-use Rattle.pdc_cfg.specs.Config.{ConfigFields, IsConfig}
-use Rattle.pdc_cfg.specs.Section.{SectionFields}
-use Rattle.pdc_output.specs.declared.output.Output.{Output}
-use Rattle.pdc_output.specs.Layout.{row_fields}
-use Rattle.pdc_life.specs.declared.pmu.Pmu.{Pmu}
-use Rattle.pdc_life.specs.Distinct.{are_distinct}
-use Rattle.pdc_life.specs.NodeReading.{IsValid, stream_of}
-use Rattle.pdc_life.specs.Reading.{IsData}
-use Rattle.pdc_history.specs.History.{IsHistory, IsOneBody, IsOneSection}
-use Rattle.pdc_history.specs.Pmus.{PmusSendTheirOwn}
-use Rattle.pdc_history.specs.Known.{FrameLaws, LifeLaws}
-use Rattle.pdc_history.specs.World.{World, Happened, Sends, given_in, life_of, opened_with, output_of, sent, sent_at}
-use Rattle.pdc_history.proofs.Sent.{BySend, ByTick, ByPublish, SentAs, given_output, layout_fields, no_pmu_is_own, sent_as}
+use Rattle.std.proofs.Common.{[], ◌&&◌, ◌∙◌, ◌∷◌, ◌≡◌, ap, arith, Bool, false, inl, inr, List, map, not, option_map, refl, rules, Some, subst, suc, sym, true, zero, ℕ}
+use Rattle.pdc_history.proofs.Names.{◌==◌, ◌||◌, ◌⊎◌, are_distinct, ConfigFields, Contains, Contains-append_cases, false≢true, Fields, FrameLaws, given_in, Happened, IsConfig, IsData, IsFrame, IsHistory, IsOneBody, IsOneSection, IsValid, life_of, LifeLaws, list_any, opened_with, Output, output_of, Pmu, PmusSendTheirOwn, row_fields, same_Some, SectionFields, Sends, sent, sent_at, slice_get, slice_get-map, stream_of, World}
+use Rattle.pdc_history.proofs.{Lists.{head_of, none_there}, Sent.{ByPublish, BySend, ByTick, given_output, layout_fields, no_pmu_is_own, sent_as, SentAs}}
 
 -- ---- distinct numbers stand at one place each
 
@@ -30,8 +13,7 @@ is_same_number : (n : ℕ) → (n == n) ≡ true
 is_same_number n = search rules
 
 none_same : (x : ℕ) (xs : List ℕ) (q : ℕ) → list_any (λ other. other == x) xs ≡ false → slice_get xs q ≡ Some x → ⊥
-none_same x [] zero h k = none-some x k
-none_same x [] (suc q) h k = none-some x k
+none_same x [] q h k = none_there q x k
 none_same x (y ∷ xs) zero h k =
     let same : (y == x) ≡ true = subst (λ (n : ℕ). (n == x) ≡ true) (sym (same_Some y x k)) (is_same_number x) in
     false≢true (sym (either_false (y == x) (list_any (λ other. other == x) xs) h).0 ∙ same)
@@ -42,8 +24,7 @@ not_and false b h = (refl, h)
 not_and true b h = absurd (false≢true h)
 
 pub one_place : (xs : List ℕ) (p q n : ℕ) → are_distinct xs ≡ true → slice_get xs p ≡ Some n → slice_get xs q ≡ Some n → p ≡ q
-one_place [] zero q n d a b = absurd (none-some n a)
-one_place [] (suc p) q n d a b = absurd (none-some n a)
+one_place [] p q n d a b = none_there p n a
 one_place (x ∷ xs) zero zero n d a b = refl
 one_place (x ∷ xs) zero (suc q) n d a b =
     absurd (none_same x xs q (not_and (list_any (λ other. other == x) xs) (are_distinct xs) d).0 (b ∙ sym a))
@@ -125,15 +106,12 @@ one_body L F W (h ∷ H) p pmu bytes other i q r payload body is listed a b d e 
 
 -- ---- one section
 
-first_part : (s t : SectionFields) → s ∷ [] ≡ t ∷ [] → s ≡ t
-first_part s t h = cc
-
 one_valid : FrameLaws → (W : World) (pmu : Pmu) (bytes : List ℕ) (s t : SectionFields) → IsValid W.a.settings pmu bytes s → IsValid W.a.settings pmu bytes t → s ≡ t
 one_valid F W pmu bytes s t a b =
     let frame : a.base.has.fields ≡ b.base.has.fields = F.one_frame bytes a.base.has.fields b.base.has.fields a.base.has.of_stream.frame b.base.has.of_stream.frame in
     let config : a.config ≡ b.config =
     F.one_config b.base.has.fields.payload a.config b.config (subst (λ (x : Fields). IsConfig x.payload a.config) frame a.base.has.config) b.base.has.config in
-    first_part s t (sym a.one ∙ ap (λ (x : ConfigFields). x.sections) config ∙ b.one)
+    head_of (sym a.one ∙ ap (λ (x : ConfigFields). x.sections) config ∙ b.one)
 
 pub one_section : LifeLaws → FrameLaws → (W : World) (H : List Happened) (p : ℕ) (pmu : Pmu) (bytes other : List ℕ) (s t : SectionFields) → IsHistory W H → slice_get W.a.settings.pmus.items p ≡ Some pmu
     → Contains (sent W H) bytes → Contains (sent W H) other → IsValid W.a.settings pmu bytes s → IsValid W.a.settings pmu other t → s.count ≡ t.count → s.bytes ≡ t.bytes

@@ -1,22 +1,7 @@
 -- Of two moments of one history, the later is in the same life, or in a later one.
-use Rattle.std.proofs.Common.{◌≡◌, ℕ, ◌<◌, ◌≤◌, Bool, true, false, List, [], ◌∷◌, ◌++◌, cond, refl, sym, ap, subst, ◌∙◌, arith, Option, Some, None, inl, inr}
-use Rattle.std.specs.Prelude.{◌⊎◌}
-use Rattle.std.proofs.lemmas.Option.{none-some, same_Some}
-use Rattle.pdc_cfg.specs.Section.{SectionFields}
-use Rattle.pdc_row.specs.RowView.{RowView}
-use Rattle.pdc_mark.specs.declared.stored.Stored.{Stored}
-use Rattle.pdc_life.specs.Given.{Given, count_for}
-use Rattle.pdc_life.specs.Life.{Entry, section_in_force}
-use Rattle.pdc_life.specs.Run.{IsRun}
-use Rattle.pdc_history.specs.History.{IsHistory, IsMade}
-use Rattle.pdc_history.specs.Marks.{AdoptedCountsNeverFall, MarkBounds}
-use Rattle.pdc_history.specs.World.{Who, World, Happened, Sends, Comes, PassesBy, Ticks, Publishes, Ends, begins_at, begun_with, entry_at, given_by, given_in, is_same, lead_of, life_of, mark_of, opened_with, reserved, since, with_counts_of, with_entry}
-use Rattle.pdc_history.specs.Known.{LifeLaws}
-use Rattle.pdc_history.proofs.Lives.{run_in}
-use Rattle.pdc_history.proofs.Made.{cond_none, ticks_is}
-use Rattle.pdc_history.proofs.Marks.{given_counts, marks_bound}
-use Rattle.pdc_history.proofs.Moments.{before, none_begun, same_who}
-use Rattle.pdc_history.proofs.Stored.{IsNext, ends_is, raised_keeps, reserved_keeps}
+use Rattle.std.proofs.Common.{[], ◌++◌, ◌<◌, ◌∙◌, ◌∷◌, ◌≡◌, ◌≤◌, ap, arith, Bool, cond, false, inl, inr, List, None, Option, refl, Some, subst, sym, true, ℕ}
+use Rattle.pdc_history.proofs.Names.{◌⊎◌, AdoptedCountsNeverFall, begins_at, begun_with, count_for, Ends, Entry, entry_at, Given, given_by, given_in, Happened, is_same, IsHistory, IsMade, IsRun, lead_of, life_of, LifeLaws, mark_of, MarkBounds, none-some, opened_with, Publishes, reserved, RowView, same_Some, section_in_force, SectionFields, since, Stored, Ticks, Who, with_counts_of, with_entry, World}
+use Rattle.pdc_history.proofs.{Lives.{run_in}, Made.{cond_none, ticks_is}, Marks.{given_counts, marks_bound}, Moments.{before, none_begun, same_who}, Stored.{ends_is, IsNext, raised_keeps, reserved_keeps}}
 
 -- a life begins with a mark above the stored one
 pub begins_next : (W : World) (H : List Happened) (who : Who) (h : Happened) (mark : Stored) → IsMade W H h → begins_at who h ≡ Some mark → IsNext (mark_of W H who) mark
@@ -24,11 +9,7 @@ begins_next W H who (Ends v m) mark made q =
     let r = cond_none (is_same v who) m mark q in
     let is : Ends v m ≡ Ends who mark = λ i. Ends (same_who v who r.0 i) (r.1 i) in
     ends_is W H who mark (subst (IsMade W H) is made)
-begins_next W H who (Sends bytes) mark made q = absurd (none-some mark q)
-begins_next W H who (Comes v e) mark made q = absurd (none-some mark q)
-begins_next W H who (PassesBy v) mark made q = absurd (none-some mark q)
-begins_next W H who (Ticks v e) mark made q = absurd (none-some mark q)
-begins_next W H who (Publishes v row) mark made q = absurd (none-some mark q)
+begins_next W H who h mark made q = absurd (none-some mark q)
 
 -- counts of marks never fall
 abbrev pub Grows : Stored → Stored → Type 0
@@ -52,12 +33,10 @@ by_end W H who v mark true same made = (ends_is W H who mark (subst (λ (w : Who
 by_end W H who v mark false same made = stays (mark_of W H who)
 
 one_grows : (W : World) (H : List Happened) (who : Who) (h : Happened) → IsMade W H h → Grows (mark_of W H who) (mark_of W (h ∷ H) who)
-one_grows W H who (Sends bytes) made = stays (mark_of W H who)
-one_grows W H who (Comes v e) made = stays (mark_of W H who)
-one_grows W H who (PassesBy v) made = stays (mark_of W H who)
 one_grows W H who (Ticks v e) made = by_tick W H who v e (is_same v who) (same_who v who) made
 one_grows W H who (Publishes v row) made = by_publish W H who row (is_same v who)
 one_grows W H who (Ends v mark) made = by_end W H who v mark (is_same v who) (same_who v who) made
+one_grows W H who h made = stays (mark_of W H who)
 
 pub marks_grow : (W : World) (later H : List Happened) (who : Who) → IsHistory W (later ++ H) → Grows (mark_of W H who) (mark_of W (later ++ H) who)
 marks_grow W [] H who is = stays (mark_of W H who)

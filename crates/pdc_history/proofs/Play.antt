@@ -1,12 +1,6 @@
 -- What is asked of a world determines its history.
-use Rattle.std.proofs.Common.{◌≡◌, [], ◌∷◌, sym, ap, subst, ◌∙◌}
-use Rattle.pdc_life.specs.MergerLaws.{MergerReadsOnce}
-use Rattle.pdc_life.specs.OneLife.{NodeReadsOnce}
-use Rattle.pdc_history.specs.Event.{happens}
-use Rattle.pdc_history.specs.History.{IsHistory}
-use Rattle.pdc_history.specs.Known.{FrameLaws}
-use Rattle.pdc_history.specs.Play.{IsPlayOf, PlaysAreHistories, PlaysAreOne, StepsAreOne}
-use Rattle.pdc_history.specs.World.{Happened}
+use Rattle.std.proofs.Common.{[], ◌∙◌, ◌∷◌, ◌≡◌, ap, subst, sym}
+use Rattle.pdc_history.proofs.Names.{FrameLaws, Happened, happens, IsHistory, IsPlayOf, MergerReadsOnce, NodeReadsOnce, PlaysAreHistories, PlaysAreOne, StepsAreOne}
 use Rattle.pdc_history.proofs.Asked.{asked_is_read_once}
 
 pub steps_are_one : FrameLaws → NodeReadsOnce → MergerReadsOnce → StepsAreOne

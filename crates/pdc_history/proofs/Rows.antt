@@ -1,15 +1,7 @@
 -- What a core published are the rows that its lives gave.
-use Rattle.std.proofs.Common.{◌≡◌, Bool, true, false, List, [], ◌∷◌, ◌++◌, cond, map, refl, sym, ap, ◌∙◌, Option, Some, None}
-use Rattle.std.proofs.lemmas.List.{append_assoc, append-nil}
-use Rattle.pdc_row.specs.RowView.{RowView}
-use Rattle.pdc_mark.specs.declared.stored.Stored.{Stored}
-use Rattle.pdc_life.specs.Given.{Given}
-use Rattle.pdc_life.specs.Life.{Entry, Pop, popped}
-use Rattle.pdc_history.specs.History.{IsMade}
-use Rattle.pdc_history.specs.Lives.{RowsAreOfLives, rows_of_lives, rows_of_one}
-use Rattle.pdc_history.specs.World.{Who, World, Happened, PastLife, Sends, Comes, PassesBy, Ticks, Publishes, Ends, ended, given_in, is_same, life_of, past_lives, published, published_at, since, with_entry}
-use Rattle.pdc_history.proofs.Lives.{of_one_append}
-use Rattle.pdc_history.proofs.Made.{comes_is, ticks_is}
+use Rattle.std.proofs.Common.{[], ◌++◌, ◌∙◌, ◌∷◌, ◌≡◌, ap, Bool, cond, false, List, map, None, Option, refl, Some, sym, true}
+use Rattle.pdc_history.proofs.Names.{append-nil, append_assoc, Comes, ended, Ends, Entry, Given, given_in, Happened, is_same, IsMade, life_of, past_lives, PastLife, Pop, popped, published, published_at, Publishes, rows_of_lives, rows_of_one, RowsAreOfLives, RowView, since, Stored, Ticks, Who, with_entry, World}
+use Rattle.pdc_history.proofs.{Lives.{of_one_append}, Made.{comes_is, ticks_is}}
 
 abbrev Gives : List PastLife → List Entry → List RowView → Type 0
 Gives past E rows = rows ≡ rows_of_lives past ++ popped E
@@ -46,16 +38,15 @@ end_of_one g E mark past rows false k = append-nil rows ∙ k
 
 one_more : (W : World) (H : List Happened) (who : Who) (h : Happened) → IsMade W H h → Gives (past_lives W H who) (life_of H who) (rows_of_one who (published H))
     → Gives (past_lives W (h ∷ H) who) (life_of (h ∷ H) who) (rows_of_one who (published H) ++ rows_of_one who (published_at h))
-one_more W H who (Sends bytes) made k = quiet (past_lives W H who) (life_of H who) (life_of H who) (rows_of_one who (published H)) refl k
 one_more W H who (Comes v e) made k =
     quiet (past_lives W H who) (life_of H who) (life_of (Comes v e ∷ H) who) (rows_of_one who (published H))
     (quiet_entry (is_same v who) e (life_of H who) (arrival_is_quiet W H v e (life_of H who) made)) k
-one_more W H who (PassesBy v) made k = quiet (past_lives W H who) (life_of H who) (life_of H who) (rows_of_one who (published H)) refl k
 one_more W H who (Ticks v e) made k =
     quiet (past_lives W H who) (life_of H who) (life_of (Ticks v e ∷ H) who) (rows_of_one who (published H))
     (quiet_entry (is_same v who) e (life_of H who) (tick_is_quiet W H v e (life_of H who) made)) k
 one_more W H who (Publishes v row) made k = row_of_one who v row (past_lives W H who) (life_of H who) (rows_of_one who (published H)) (is_same v who) refl k
 one_more W H who (Ends v mark) made k = end_of_one (given_in W H who) (life_of H who) mark (past_lives W H who) (rows_of_one who (published H)) (is_same v who) k
+one_more W H who h made k = quiet (past_lives W H who) (life_of H who) (life_of H who) (rows_of_one who (published H)) refl k
 
 pub rows_are_of_lives : RowsAreOfLives
 rows_are_of_lives W [] who is = refl

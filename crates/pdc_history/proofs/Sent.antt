@@ -1,36 +1,13 @@
 -- What was sent, and by whom: by a PMU, or as the layout or a row of one of the three lives.
-use Rattle.std.proofs.Common.{◌≡◌, ℕ, zero, suc, ◌<◌, ◌≤◌, ◌^◌, Bool, true, false, List, [], ◌∷◌, ◌++◌, cond, refl, sym, ap, subst, ◌∙◌, arith, Some, None}
-use Rattle.std.specs.Prelude.{◌≢◌}
-use Rattle.std.specs.List.{Contains, slice_get}
-use Rattle.std.proofs.lemmas.List.Elements.{Contains-append_right}
-use Rattle.std.proofs.lemmas.Option.{none-some, same_Some}
-use Rattle.pdc_frame.specs.Frame.{Fields, IsFrame}
-use Rattle.pdc_row.specs.RowView.{RowView}
-use Rattle.pdc_output.specs.declared.output.Output.{Output}
-use Rattle.pdc_output.specs.Layout.{layout_fields_of, row_fields, wire_of}
-use Rattle.pdc_mark.specs.declared.stored.Stored.{Stored}
-use Rattle.pdc_life.specs.declared.pmu.Pmu.{Pmu}
-use Rattle.pdc_life.specs.Frames.{IsFramedRow}
-use Rattle.pdc_life.specs.Given.{Given}
-use Rattle.pdc_life.specs.Life.{Entry, changes, closed, is_adoption, popped, waiting}
-use Rattle.pdc_life.specs.Published.{layout_wire, sections_in_force}
-use Rattle.pdc_life.specs.Run.{IsRun}
-use Rattle.pdc_history.specs.History.{IsHistory, IsMade, MaySend}
-use Rattle.pdc_history.specs.Known.{FrameLaws, LifeLaws}
-use Rattle.pdc_history.specs.Marks.{MarkBounds}
-use Rattle.pdc_history.specs.World.{A, B, M, Who, World, Happened, Sends, Comes, PassesBy, Ticks, Publishes, Ends, given_by, given_in, life_of, opened_with, output_of, sent, sent_at}
-use Rattle.pdc_history.proofs.Lists.{element, in_one, not_in_none}
-use Rattle.pdc_history.proofs.Lives.{life_is_life, run_in, run_of, tick_of}
-use Rattle.pdc_history.proofs.Made.{publishes_is, sends_is}
-use Rattle.pdc_history.proofs.Marks.{given_start, marks_bound}
-use Rattle.pdc_history.proofs.Moments.{WasSentAt, before, began, same_who, was_sent_at}
+use Rattle.std.proofs.Common.{[], ◌++◌, ◌<◌, ◌^◌, ◌∙◌, ◌∷◌, ◌≡◌, ◌≤◌, ap, arith, Bool, cond, false, List, refl, Some, subst, sym, true, ℕ}
+use Rattle.pdc_history.proofs.Names.{◌≢◌, A, B, changes, closed, Contains, Contains-append_right, Entry, Fields, FrameLaws, Given, given_by, given_in, Happened, is_adoption, IsFrame, IsFramedRow, IsHistory, IsMade, IsRun, layout_fields_of, layout_wire, life_of, LifeLaws, M, MarkBounds, MaySend, opened_with, Output, output_of, Pmu, popped, Publishes, row_fields, RowView, sections_in_force, Sends, sent, sent_at, slice_get, Stored, Ticks, waiting, Who, wire_of, World}
+use Rattle.pdc_history.proofs.{Lists.{element, in_one, not_in_none, place_there}, Lives.{life_is_life, run_in, run_of, tick_of}, Made.{publishes_is, sends_is}, Marks.{given_start, marks_bound}, Moments.{before, began, same_who, was_sent_at, WasSentAt}}
 
 -- ---- what a mark gives
 
 pub given_output : (W : World) (who : Who) (mark : Stored) → (given_by W who mark).output ≡ output_of W who
 given_output W A mark = refl
-given_output W B mark = refl
-given_output W M mark = refl
+given_output W who mark = refl
 
 pub few_columns : (W : World) (who : Who) (mark : Stored) → (given_by W who mark).columns ≤ 16
 few_columns W A mark = W.a.settings.few
@@ -44,13 +21,9 @@ start_fits L W H who is =
 
 -- ---- a row that is published closed
 
-first_is_there : {A : Type 0} (xs : List A) (x : A) → slice_get xs 0 ≡ Some x → Contains xs x
-first_is_there [] x q = absurd (none-some x q)
-first_is_there (y ∷ xs) x q = (0, omega arith, same_Some y x q)
-
 pub published_closed : LifeLaws → (W : World) (H : List Happened) (who : Who) (row : RowView) → IsHistory W H → IsMade W H (Publishes who (Some row)) → Contains (closed (life_of H who)) row
 published_closed L W H who row is made =
-    let w : Contains (waiting (life_of H who)) row = first_is_there (waiting (life_of H who)) row (sym (publishes_is W H who (Some row) made)) in
+    let w : Contains (waiting (life_of H who)) row = place_there (waiting (life_of H who)) 0 row (sym (publishes_is W H who (Some row) made)) in
     subst (λ (rows : List RowView). Contains rows row) (sym (L.out (given_in W H who) (life_of H who) (run_in L W H who is).ticked))
     (Contains-append_right (popped (life_of H who)) (waiting (life_of H who)) row w)
 
@@ -98,27 +71,15 @@ pub sent_as : LifeLaws → FrameLaws → (W : World) (H : List Happened) (h : Ha
 sent_as L F W H (Sends other) bytes is k =
     let same : other ≡ bytes = in_one other bytes k in
     BySend (ap Sends same) (subst (MaySend W H) same (sends_is W H other is.0))
-sent_as L F W H (Comes v e) bytes is k = absurd (not_in_none bytes k)
-sent_as L F W H (PassesBy v) bytes is k = absurd (not_in_none bytes k)
 sent_as L F W H (Ticks v e) bytes is k = by_tick L F W H v e bytes (is_adoption e) refl is.1 is.0 k
-sent_as L F W H (Publishes v None) bytes is k = absurd (not_in_none bytes k)
 sent_as L F W H (Publishes v (Some row)) bytes is k =
     let same : wire_of (output_of W v) row ≡ bytes = in_one (wire_of (output_of W v) row) bytes k in
     ByPublish v row refl (sym same) (subst (λ (b : List ℕ). IsFrame b (row_fields (output_of W v) row)) same (row_frame L F W H v row is.1 is.0))
-sent_as L F W H (Ends v mark) bytes is k = absurd (not_in_none bytes k)
+sent_as L F W H h bytes is k = absurd (not_in_none bytes k)
 
 -- ---- by the id of the frame
 
 -- an own id is no PMU's
-pub place_there : {A : Type 0} (xs : List A) (p : ℕ) (x : A) → slice_get xs p ≡ Some x → Contains xs x
-place_there [] p x q = absurd (none_there p x q)
-  where
-    none_there : {A : Type 0} (p : ℕ) (x : A) → slice_get {X = A} [] p ≡ Some x → ⊥
-    none_there zero x q = none-some x q
-    none_there (suc p) x q = none-some x q
-place_there (y ∷ xs) zero x q = (0, omega arith, same_Some y x q)
-place_there (y ∷ xs) (suc p) x q = let k = place_there xs p x q in (suc k.0, omega (arith, k.1), k.2)
-
 pub no_pmu_is_own : (W : World) (H : List Happened) (who : Who) (p : ℕ) (pmu : Pmu) → IsHistory W H → slice_get W.a.settings.pmus.items p ≡ Some pmu → pmu.stream.value ≡ (output_of W who).id.value → ⊥
 no_pmu_is_own W H who p pmu is listed q =
     element (λ (x : Pmu). x.stream.value ≢ (output_of W who).id.value) W.a.settings.pmus.items pmu ((began W H is).settings.no_pmu who)

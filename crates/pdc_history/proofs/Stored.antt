@@ -1,14 +1,6 @@
 -- What marks store never falls.
-use Rattle.std.proofs.Common.{◌≡◌, ℕ, zero, suc, ◌+◌, ◌<◌, ◌≤◌, ◌^◌, Bool, true, false, List, [], ◌∷◌, cond, ltb, refl, sym, subst, arith, rules, Option, Some, None}
-use Rattle.pdc_row.specs.RowView.{RowView}
-use Rattle.pdc_mark.specs.declared.stored.Stored.{Stored}
-use Rattle.pdc_mark.specs.Counts.{raised_to}
-use Rattle.pdc_mark.specs.Stored.{with_next_start}
-use Rattle.pdc_life.specs.Answer.{pop_answer, waiting_counts}
-use Rattle.pdc_life.specs.Given.{count_for}
-use Rattle.pdc_history.specs.Event.{Event, Send, Bring, Miss, TickAt, Publish, Stop, StopIn, StopInTick, StopAtStart, happens, stored}
-use Rattle.pdc_history.specs.History.{IsMade, MayHappen}
-use Rattle.pdc_history.specs.World.{Who, World, Happened, Ends, given_in, lead_of, life_of, mark_of, raised, reserved}
+use Rattle.std.proofs.Common.{[], ◌+◌, ◌<◌, ◌^◌, ◌∷◌, ◌≡◌, ◌≤◌, arith, Bool, cond, false, List, ltb, None, Option, refl, rules, Some, subst, suc, sym, true, zero, ℕ}
+use Rattle.pdc_history.proofs.Names.{count_for, Do, Ends, Event, given_in, Happened, happens, IsMade, lead_of, left_in, life_of, mark_of, MayHappen, OfPublish, OfStart, OfTick, pop_answer, raised, raised_to, reserved, RowView, Stop, StopDuring, Store, Stored, waiting_counts, Who, with_next_start, World}
 
 -- the same start, and nothing lower
 pub record AtLeast (m n : Stored) : Type 0 where
@@ -65,45 +57,23 @@ raised_keeps W H who = record {
 starts : (m n : Stored) → AtLeast m n → n.start + 1 < 2 ^ 32 → IsNext m (with_next_start n)
 starts m n k fits = record { start = omega (arith, k.start); fits = fits; floor = k.floor; counts = k.counts }
 
-starts_twice : (m : Stored) → m.start + 1 + 1 < 2 ^ 32 → IsNext m (with_next_start (with_next_start m))
-starts_twice m fits = record { start = omega arith; fits = fits; floor = no_less m.floor; counts = λ c. no_less (count_for c m.counts) }
-
-landed_or_lost : (m n : Stored) (landed : Bool) → AtLeast m n → AtLeast m (cond landed n m)
-landed_or_lost m n true k = k
-landed_or_lost m n false k = itself m
-
-once_or_twice : (m : Stored) (landed : Bool) → (cond landed (with_next_start (with_next_start m)) (with_next_start m)).start < 2 ^ 32 → IsNext m (cond landed (with_next_start (with_next_start m)) (with_next_start m))
-once_or_twice m true fits = starts_twice m fits
-once_or_twice m false fits = starts m m (itself m) fits
+-- a stop in a store
+starts_after : (W : World) (H : List Happened) (who : Who) (store : Store) (landed : Bool) → (left_in W H who store landed).start + 1 < 2 ^ 32
+    → IsNext (mark_of W H who) (with_next_start (left_in W H who store landed))
+starts_after W H who OfPublish true fits =
+    starts (mark_of W H who) (left_in W H who OfPublish true) (reserved_keeps (lead_of W who) (pop_answer (life_of H who)) (mark_of W H who)) fits
+starts_after W H who OfTick true fits = starts (mark_of W H who) (raised W H who) (raised_keeps W H who) fits
+starts_after W H who OfStart true fits = record { start = omega arith; fits = fits; floor = no_less (mark_of W H who).floor; counts = λ c. no_less (count_for c (mark_of W H who).counts) }
+starts_after W H who store false fits = starts (mark_of W H who) (mark_of W H who) (itself (mark_of W H who)) fits
 
 next_here : (W : World) (H : List Happened) (who v : Who) (mark n : Stored) → v ≡ who → mark ≡ n → IsNext (mark_of W H v) n → IsNext (mark_of W H who) mark
 next_here W H who v mark n same is k = subst (λ (w : Who). IsNext (mark_of W H w) mark) same (subst (IsNext (mark_of W H v)) (sym is) k)
 
 ends_of : (W : World) (H : List Happened) (who : Who) (mark : Stored) (event : Event) → MayHappen W H event → Ends who mark ≡ happens W H event → IsNext (mark_of W H who) mark
-ends_of W H who mark (Send other) may q = cc
-ends_of W H who mark (Bring v s bytes arrival) may q = cc
-ends_of W H who mark (Miss v) may q = cc
-ends_of W H who mark (TickAt v now) may q = cc
-ends_of W H who mark (Publish v) may q = cc
-ends_of W H who mark (Stop v) may q =
-    let same : v ≡ who = cc in
-    let is : mark ≡ with_next_start (mark_of W H v) = cc in
-    next_here W H who v mark (with_next_start (mark_of W H v)) same is (starts (mark_of W H v) (mark_of W H v) (itself (mark_of W H v)) may)
-ends_of W H who mark (StopIn v landed) may q =
-    let same : v ≡ who = cc in
-    let is : mark ≡ with_next_start (cond landed (stored W H v) (mark_of W H v)) = cc in
-    next_here W H who v mark (with_next_start (cond landed (stored W H v) (mark_of W H v))) same is
-    (starts (mark_of W H v) (cond landed (stored W H v) (mark_of W H v))
-    (landed_or_lost (mark_of W H v) (stored W H v) landed (reserved_keeps (lead_of W v) (pop_answer (life_of H v)) (mark_of W H v))) may)
-ends_of W H who mark (StopInTick v landed) may q =
-    let same : v ≡ who = cc in
-    let is : mark ≡ with_next_start (cond landed (raised W H v) (mark_of W H v)) = cc in
-    next_here W H who v mark (with_next_start (cond landed (raised W H v) (mark_of W H v))) same is
-    (starts (mark_of W H v) (cond landed (raised W H v) (mark_of W H v)) (landed_or_lost (mark_of W H v) (raised W H v) landed (raised_keeps W H v)) may)
-ends_of W H who mark (StopAtStart v landed) may q =
-    let same : v ≡ who = cc in
-    let is : mark ≡ cond landed (with_next_start (with_next_start (mark_of W H v))) (with_next_start (mark_of W H v)) = cc in
-    next_here W H who v mark (cond landed (with_next_start (with_next_start (mark_of W H v))) (with_next_start (mark_of W H v))) same is (once_or_twice (mark_of W H v) landed may)
+ends_of W H who mark (Do v Stop) may q =
+    next_here W H who v mark (with_next_start (mark_of W H v)) (cc) (cc) (starts (mark_of W H v) (mark_of W H v) (itself (mark_of W H v)) may)
+ends_of W H who mark (Do v (StopDuring store landed)) may q = next_here W H who v mark (with_next_start (left_in W H v store landed)) (cc) (cc) (starts_after W H v store landed may)
+ends_of W H who mark event may q = cc
 
 pub ends_is : (W : World) (H : List Happened) (who : Who) (mark : Stored) → IsMade W H (Ends who mark) → IsNext (mark_of W H who) mark
 ends_is W H who mark made = ends_of W H who mark made.event made.may made.made

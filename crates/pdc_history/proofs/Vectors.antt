@@ -1,19 +1,6 @@
 -- The PMUs, sections and settings of the worked world, whose frames are those of the worked lives.
-use Rattle.std.specs.Prelude.{◌≡◌, ℕ, ◌<◌, ◌≤◌, true, List, [], ◌∷◌, false, refl}
 use Rattle.std.proofs.Common.{arith}
-use Rattle.pdc_cfg.specs.declared.shape.Shape.{Shape}
-use Rattle.pdc_cfg.specs.Section.{SectionFields}
-use Rattle.pdc_output.specs.declared.output.Output.{Output}
-use Rattle.pdc_output.specs.declared.output.Nominal.TheVariants.{Hz50}
-use Rattle.pdc_life.specs.declared.given.Settings.{Settings}
-use Rattle.pdc_life.specs.declared.timing.Timing.{Timing}
-use Rattle.pdc_life.specs.declared.timing.WaitKind.{WaitKind}
-use Rattle.pdc_life.specs.declared.timing.WaitKind.TheVariants.{Relative}
-use Rattle.pdc_life.specs.declared.merging.MergedNode.{MergedNode}
-use Rattle.pdc_life.specs.declared.merging.MergerSettings.{MergerSettings}
-use Rattle.pdc_life.specs.declared.pmu.Pmu.{Pmu}
-use Rattle.pdc_life.specs.Distinct.{are_distinct}
-use Rattle.pdc_life.specs.Vectors.{section_12}
+use Rattle.pdc_history.proofs.Names.{[], ◌<◌, ◌∷◌, ◌≡◌, ◌≤◌, are_distinct, false, Hz50, List, MergedNode, MergerSettings, Output, Pmu, refl, Relative, section_12, SectionFields, Settings, Shape, Timing, true, WaitKind, ℕ}
 
 abbrev pub one_phasor : Shape
 one_phasor = record { phasors = 1; analogs = 0; digitals = 0; phasors_fit = omega arith; analogs_fit = omega arith; digitals_fit = omega arith }

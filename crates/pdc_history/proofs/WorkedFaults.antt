@@ -1,19 +1,9 @@
 -- Faults worked out: a frame that was not sent, start numbers used up, bytes that are no frame of a PMU, and another body for an instant.
-use Rattle.std.specs.Prelude.{◌≡◌, ℕ, List, [], ◌∷◌, true, false, refl}
 use Rattle.std.proofs.Common.{ap, arith, get_or, inr}
-use Rattle.pdc_frame.specs.Frame.{Fields, IsFrame, spelling_of}
-use Rattle.pdc_frame.specs.declared.frame.Kind.TheVariants.{DataFrame}
-use Rattle.pdc_mark.specs.declared.stored.Stored.{Stored}
-use Rattle.pdc_life.specs.declared.timing.WaitKind.TheVariants.{Relative}
-use Rattle.pdc_history.specs.Asked.{Foreign, IsFault, NoSuchFrame, OtherBody, Send, StartsUsedUp, Stop, StopAtStart, To}
+use Rattle.pdc_history.specs.Asked.{Do}
+use Rattle.pdc_history.proofs.Names.{[], ◌∷◌, ◌≡◌, A, body_3, DataFrame, e3, false, Fields, Foreign, FrameLaws, IsFault, IsFrame, List, MayHappen, NoSuchFrame, OfStart, OtherBody, refl, Relative, Send, Sends, spelling_of, StartsUsedUp, Stop, StopDuring, Stored, To, true, World, ℕ}
+use Rattle.pdc_history.proofs.{Vectors.{merger, node, pmu_11}, Worked.{new_mark, script, W, zeros}, WorkedHistory.{bytes_by_test, data_3, the_slot}}
 use Rattle.pdc_history.specs.Event as events
-use Rattle.pdc_history.specs.History.{MayHappen}
-use Rattle.pdc_history.specs.World.{A, Sends, World}
-use Rattle.pdc_history.specs.Known.{FrameLaws}
-use Rattle.pdc_life.specs.Vectors.{body_3, e3}
-use Rattle.pdc_history.proofs.Vectors.{merger, node, pmu_11}
-use Rattle.pdc_history.proofs.Worked.{W, new_mark, script, zeros}
-use Rattle.pdc_history.proofs.WorkedHistory.{bytes_by_test, data_3, the_slot}
 
 -- Six frames were sent: there is no number 9.
 no_frame_9 : IsFault W script (To A 9) NoSuchFrame
@@ -30,17 +20,17 @@ late = record {
   m = record { settings = merger; lead = 0; mark = new_mark };
 }
 
-a_stop_is_left : MayHappen late [] (events.Stop A)
+a_stop_is_left : MayHappen late [] (events.Do A Stop)
 a_stop_is_left = omega arith
 
-lost_is_left : MayHappen late [] (events.StopAtStart A false)
+lost_is_left : MayHappen late [] (events.Do A (StopDuring OfStart false))
 lost_is_left = omega arith
 
-landed_is_used_up : IsFault late [] (StopAtStart A true) StartsUsedUp
+landed_is_used_up : IsFault late [] (Do A (StopDuring OfStart true)) StartsUsedUp
 landed_is_used_up = omega arith
 
 -- after one stop the last start number is used
-after_one_stop : IsFault late (events.happens late [] (events.Stop A) ∷ []) (Stop A) StartsUsedUp
+after_one_stop : IsFault late (events.happens late [] (events.Do A Stop) ∷ []) (Do A Stop) StartsUsedUp
 after_one_stop = omega arith
 
 -- no bytes are no frame

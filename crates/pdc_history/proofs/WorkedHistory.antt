@@ -1,60 +1,29 @@
 -- The worked script is a history: its premises hold, so what is proved of all histories is proved of something.
-use Rattle.std.proofs.Common.{◌≡◌, ℕ, zero, suc, ◌+◌, ◌<◌, ◌^◌, Bool, true, false, ◌&&◌, List, [], ◌∷◌, ◌++◌, length, get_or, take, drop, refl, sym, ap, ◌∙◌, arith, rules, Some, None, inr}
-use Rattle.std.specs.Prelude.{◌≢◌, ◌-◌, nat_lt}
-use Rattle.std.specs.Int.{cast_signed, w16}
-use Rattle.std.specs.List.{AllByRecursion, list_all}
-use Rattle.std.proofs.lemmas.Bool.{false≢true}
-use Rattle.pdc_frame.specs.Bytes.{AreBytes}
+use Rattle.std.proofs.Common.{[], ◌&&◌, ◌++◌, ◌+◌, ◌<◌, ◌^◌, ◌∙◌, ◌∷◌, ◌≡◌, ap, arith, Bool, drop, false, get_or, inr, length, List, None, refl, rules, Some, suc, sym, take, true, zero, ℕ}
 use Rattle.pdc_frame.specs.CheckWord.{check_word_of}
-use Rattle.pdc_frame.specs.Frame.{Fields, Fits, IsFrame}
-use Rattle.pdc_frame.specs.declared.frame.Kind.{Kind}
-use Rattle.pdc_frame.specs.declared.frame.Kind.TheVariants.{DataFrame, Cfg2}
-use Rattle.pdc_cfg.specs.Config.{ConfigFields, IsConfig}
-use Rattle.pdc_cfg.specs.Section.{SectionFields, IsSection}
-use Rattle.pdc_tag.specs.Instant.{instant_of}
-use Rattle.pdc_tag.specs.Nearest.{nearest_of}
-use Rattle.pdc_tag.specs.Slot.{slot_of}
-use Rattle.pdc_life.specs.declared.pmu.Pmu.{Pmu}
-use Rattle.pdc_life.specs.Arrival.{Data, Layout}
-use Rattle.pdc_life.specs.NodeReading.{IsValid, stream_of}
-use Rattle.pdc_life.specs.Reading.{IsData, Stream}
-use Rattle.pdc_history.specs.Agree.{MayBegin}
-use Rattle.pdc_history.specs.Event.{Event, Publish, Stop, history_from}
-use Rattle.pdc_history.specs.History.{EventsMakeHistories, IsHistory, MayAllHappen, MayCome, MaySend}
-use Rattle.pdc_history.specs.Known.{FrameLaws}
-use Rattle.pdc_history.specs.World.{A, B, M, Who, Happened, Sends, first_mark, is_same, output_of}
-use Rattle.pdc_history.proofs.Lists.{element, not_in_none}
-use Rattle.pdc_life.specs.Vectors.{body_3, body_4, e1, e2, e3, e4, section_11, section_12}
-use Rattle.pdc_history.proofs.Vectors.{fields_11, fields_12, pmu_11, pmu_12}
-use Rattle.pdc_history.proofs.Worked.{W, data_11, sends, tick, to_11, to_12, to_the_tick}
+use Rattle.pdc_tag.specs.{Instant.{instant_of}, Nearest.{nearest_of}, Slot.{slot_of}}
+use Rattle.pdc_history.proofs.Names.{◌-◌, ◌≢◌, A, AllByRecursion, AreBytes, B, body_3, body_4, cast_signed, Cfg2, ConfigFields, Data, DataFrame, Do, e1, e2, e3, e4, Event, EventsMakeHistories, false≢true, Fields, first_mark, Fits, FrameLaws, Happened, history_from, is_same, IsConfig, IsData, IsFrame, IsHistory, IsSection, IsValid, Kind, Layout, list_all, M, MayAllHappen, MayBegin, MayCome, MaySend, nat_lt, output_of, Pmu, Publish, section_11, section_12, SectionFields, Sends, Stop, Stream, stream_of, w16, Who}
+use Rattle.pdc_history.proofs.{Lists.{element, not_in_none}, Vectors.{fields_11, fields_12, pmu_11, pmu_12}, Worked.{data_11, sends, tick, to_11, to_12, to_the_tick, W}}
 
 -- ---- the settings agree
 
 one_rate : (who : Who) → (output_of W who).rate ≡ 50
 one_rate A = refl
-one_rate B = refl
-one_rate M = refl
+one_rate who = refl
 
 three_ids : (v w : Who) → (output_of W v).id.value ≡ (output_of W w).id.value → is_same v w ≡ true
 three_ids A A q = refl
 three_ids B B q = refl
 three_ids M M q = refl
-three_ids A B q = absurd (omega (arith, q))
-three_ids A M q = absurd (omega (arith, q))
-three_ids B A q = absurd (omega (arith, q))
-three_ids B M q = absurd (omega (arith, q))
-three_ids M A q = absurd (omega (arith, q))
-three_ids M B q = absurd (omega (arith, q))
+three_ids v w q = absurd (omega (arith, q))
 
 none_is_a_pmu : (who : Who) → AllByRecursion (λ (pmu : Pmu). pmu.stream.value ≢ (output_of W who).id.value) (pmu_11 ∷ pmu_12 ∷ [])
 none_is_a_pmu A = (λ q. omega (arith, q), (λ q. omega (arith, q), tt))
-none_is_a_pmu B = (λ q. omega (arith, q), (λ q. omega (arith, q), tt))
-none_is_a_pmu M = (λ q. omega (arith, q), (λ q. omega (arith, q), tt))
+none_is_a_pmu who = (λ q. omega (arith, q), (λ q. omega (arith, q), tt))
 
 one_start : (who : Who) → (first_mark W who).start < 2 ^ 32
 one_start A = omega arith
-one_start B = omega arith
-one_start M = omega arith
+one_start who = omega arith
 
 begins : MayBegin W
 begins = record {
@@ -264,8 +233,8 @@ come_4 : FrameLaws → MayCome W (after (sends ++ to_11 A 1 section_11 ∷ to_12
 come_4 F = record { says = record { pmu = pmu_12; listed = refl; reads = data_4 F }; was_sent = λ k. (3, omega arith, refl) }
 
 -- The script may happen, up to the stop after its publish.
-the_script_may_happen : FrameLaws → MayAllHappen W [] (to_the_tick ++ Publish A ∷ Publish A ∷ Stop A ∷ [])
+the_script_may_happen : FrameLaws → MayAllHappen W [] (to_the_tick ++ Do A Publish ∷ Do A Publish ∷ Do A Stop ∷ [])
 the_script_may_happen F = (send_1 F, (send_2 F, (send_3 F, (send_4 F, (come_1, (come_2, (tt, (come_3 F, (come_4 F, (tt, (tt, (tt, (omega arith, tt)))))))))))))
 
-pub the_script_is_a_history : FrameLaws → EventsMakeHistories → IsHistory W (after (to_the_tick ++ Publish A ∷ Publish A ∷ Stop A ∷ []))
-the_script_is_a_history F made = made W [] (to_the_tick ++ Publish A ∷ Publish A ∷ Stop A ∷ []) begins (the_script_may_happen F)
+pub the_script_is_a_history : FrameLaws → EventsMakeHistories → IsHistory W (after (to_the_tick ++ Do A Publish ∷ Do A Publish ∷ Do A Stop ∷ []))
+the_script_is_a_history F made = made W [] (to_the_tick ++ Do A Publish ∷ Do A Publish ∷ Do A Stop ∷ []) begins (the_script_may_happen F)

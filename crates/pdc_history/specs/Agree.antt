@@ -1,8 +1,7 @@
 -- The settings of two nodes and a merger agree (this profile).
-use Rattle.std.specs.Prelude.{◌≡◌, ◌≢◌, ℕ, ◌^◌, ◌<◌, true, List, map}
-use Rattle.std.specs.List.{AllByRecursion}
+use Rattle.std.specs.{List.{AllByRecursion}, Prelude.{◌<◌, ◌^◌, ◌≡◌, ◌≢◌, List, map, true, ℕ}}
 use Rattle.pdc_life.specs.declared.pmu.Pmu.{Pmu}
-use Rattle.pdc_history.specs.World.{Who, World, first_mark, is_same, output_of}
+use Rattle.pdc_history.specs.World.{first_mark, is_same, output_of, Who, World}
 
 -- the ids of the PMUs' streams, their TIME_BASEs and their sources, in the order of the settings
 abbrev pub ids_of : List Pmu → List ℕ

@@ -1,16 +1,10 @@
 -- What a world is asked to do, before its bytes are read: the event that it reads as, and why it is a fault (this profile).
-use Rattle.std.specs.Prelude.{◌≡◌, ◌≢◌, ◌⊎◌, ℕ, ◌^◌, ◌≤◌, Bool, List, length, Some}
-use Rattle.std.specs.List.{Contains, slice_get}
+use Rattle.std.specs.{List.{Contains, slice_get}, Prelude.{◌^◌, ◌≡◌, ◌≢◌, ◌≤◌, ◌⊎◌, length, List, Some, ℕ}}
 use Rattle.pdc_frame.specs.Frame.{Fields, IsFrame}
 use Rattle.pdc_cfg.specs.Section.{SectionFields}
-use Rattle.pdc_life.specs.declared.pmu.Pmu.{Pmu}
-use Rattle.pdc_life.specs.Arrival.{Arrival}
-use Rattle.pdc_life.specs.NodeReading.{IsValid, stream_of}
-use Rattle.pdc_life.specs.Reading.{IsData}
+use Rattle.pdc_life.specs.{Arrival.{Arrival}, declared.pmu.Pmu.{Pmu}, NodeReading.{IsValid, stream_of}, Reading.{IsData}}
+use Rattle.pdc_history.specs.{Event.{Act, Bring, Event, happens, Miss}, History.{IsForOne, IsOfPmu, MayHappen, Says, stream_ids}, World.{Ends, Happened, sent, Who, World}}
 use Rattle.pdc_history.specs.Event as events
-use Rattle.pdc_history.specs.Event.{Event, Bring, Miss, happens}
-use Rattle.pdc_history.specs.History.{IsForOne, IsOfPmu, MayHappen, Says, stream_ids}
-use Rattle.pdc_history.specs.World.{Who, World, Happened, Ends, sent}
 
 pub data Asked : Type 0 where
   -- a PMU sends this
@@ -19,13 +13,7 @@ pub data Asked : Type 0 where
   To : (who : Who) (number : ℕ) → Asked
   -- bytes come to the stream that they name, else to stream 0
   Junk : (who : Who) (bytes : List ℕ) → Asked
-  TickAt : (who : Who) (now : ℕ) → Asked
-  Publish : (who : Who) → Asked
-  Stop : (who : Who) → Asked
-  -- the stop falls into the store of a publish, of a tick, or of the next start, which landed or not
-  StopIn : (who : Who) (landed : Bool) → Asked
-  StopInTick : (who : Who) (landed : Bool) → Asked
-  StopAtStart : (who : Who) (landed : Bool) → Asked
+  Do : (who : Who) (act : Act) → Asked
 
 -- the bytes are a frame whose id names this stream of the core
 pub record Names (W : World) (who : Who) (bytes : List ℕ) (s : ℕ) : Type 0 where
@@ -59,12 +47,7 @@ abbrev pub IsReadOf : World → List Happened → Asked → Event → Type 0
 IsReadOf W H (Send bytes) event = event ≡ events.Send bytes
 IsReadOf W H (To who number) event = BringsSent W H who number event
 IsReadOf W H (Junk who bytes) event = BringsToNamed W who bytes event ⊎ (NamesNone W who bytes × Brings W who 0 bytes event)
-IsReadOf W H (TickAt who now) event = event ≡ events.TickAt who now
-IsReadOf W H (Publish who) event = event ≡ events.Publish who
-IsReadOf W H (Stop who) event = event ≡ events.Stop who
-IsReadOf W H (StopIn who landed) event = event ≡ events.StopIn who landed
-IsReadOf W H (StopInTick who landed) event = event ≡ events.StopInTick who landed
-IsReadOf W H (StopAtStart who landed) event = event ≡ events.StopAtStart who landed
+IsReadOf W H (Do who act) event = event ≡ events.Do who act
 
 -- ---- faults
 
@@ -121,10 +104,7 @@ IsFault W H (Send bytes) OtherSection = HasOtherSection W H bytes
 IsFault W H (Send bytes) Foreign = (p : ℕ) (pmu : Pmu) → IsOfPmu W p pmu bytes → ⊥
 IsFault W H (To who number) NoSuchFrame = length (sent W H) ≤ number
 IsFault W H (Junk who bytes) Foreign = IsForOne W who bytes × (Contains (sent W H) bytes → ⊥)
-IsFault W H (Stop who) StartsUsedUp = HasNoStart (happens W H (events.Stop who))
-IsFault W H (StopIn who landed) StartsUsedUp = HasNoStart (happens W H (events.StopIn who landed))
-IsFault W H (StopInTick who landed) StartsUsedUp = HasNoStart (happens W H (events.StopInTick who landed))
-IsFault W H (StopAtStart who landed) StartsUsedUp = HasNoStart (happens W H (events.StopAtStart who landed))
+IsFault W H (Do who act) StartsUsedUp = HasNoStart (happens W H (events.Do who act))
 IsFault W H asked cause = ⊥
 
 -- ---- what holds of them

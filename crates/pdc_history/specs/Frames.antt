@@ -1,19 +1,10 @@
 -- What a reader of the streams sees: frames among those that were sent, and the layout under a stamp (this profile).
-use Rattle.std.specs.Prelude.{◌≡◌, ◌⊎◌, ℕ, ◌^◌, ◌<◌, List, [], ◌∷◌, map, Some}
-use Rattle.std.specs.List.{Contains, slice_get}
-use Rattle.pdc_block.specs.Block.{IsBody, IsCut}
-use Rattle.pdc_cfg.specs.Config.{ConfigFields}
-use Rattle.pdc_cfg.specs.Section.{SectionFields}
-use Rattle.pdc_cfg.specs.declared.shape.Shape.{Shape}
-use Rattle.pdc_block.specs.AbsentBlock.{absent_of}
+use Rattle.std.specs.{List.{Contains, slice_get}, Prelude.{[], ◌<◌, ◌^◌, ◌∷◌, ◌≡◌, ◌⊎◌, List, map, Some, ℕ}}
+use Rattle.pdc_cfg.specs.{Config.{ConfigFields}, declared.shape.Shape.{Shape}, Section.{SectionFields}}
+use Rattle.pdc_block.specs.{AbsentBlock.{absent_of}, Block.{IsBody, IsCut}}
 use Rattle.pdc_output.specs.Layout.{own_block}
-use Rattle.pdc_life.specs.declared.pmu.Pmu.{Pmu}
-use Rattle.pdc_life.specs.Arrival.{Stamp}
-use Rattle.pdc_life.specs.MergerReading.{IsOwn}
-use Rattle.pdc_life.specs.NodeReading.{IsValid, stream_of}
-use Rattle.pdc_life.specs.Reading.{HasConfig, IsData, Stream}
-use Rattle.pdc_history.specs.Seen.{Seen, output_in, stream_in}
-use Rattle.pdc_history.specs.World.{Who, World, output_of}
+use Rattle.pdc_life.specs.{Arrival.{Stamp}, declared.pmu.Pmu.{Pmu}, MergerReading.{IsOwn}, NodeReading.{IsValid, stream_of}, Reading.{HasConfig, IsData, Stream}}
+use Rattle.pdc_history.specs.{Seen.{output_in, Seen, stream_in}, World.{output_of, Who, World}}
 
 -- the stream that an owner publishes
 abbrev pub stream_from : World → Who → Stream

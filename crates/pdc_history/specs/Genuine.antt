@@ -1,17 +1,11 @@
 -- The blocks of frames that were sent are genuine, so frames agree (this profile).
-use Rattle.std.specs.Prelude.{◌≡◌, ◌≢◌, ℕ, List, map, Some}
-use Rattle.std.specs.List.{AllByRecursion, Contains, slice_get}
+use Rattle.std.specs.{List.{AllByRecursion, Contains, slice_get}, Prelude.{◌≡◌, ◌≢◌, List, map, Some, ℕ}}
 use Rattle.pdc_cfg.specs.Section.{SectionFields}
+use Rattle.pdc_block.specs.AbsentBlock.{absent_of}
 use Rattle.pdc_row.specs.RowView.{RowView}
 use Rattle.pdc_output.specs.Layout.{row_payload, wire_of}
-use Rattle.pdc_block.specs.AbsentBlock.{absent_of}
-use Rattle.pdc_life.specs.Arrival.{Stamp}
-use Rattle.pdc_life.specs.Merger.{HeldLayout, held_layout}
-use Rattle.pdc_life.specs.Reading.{IsData}
-use Rattle.pdc_history.specs.Frames.{AreGenuineBlocks, IsCutOf, IsLayoutUnder, SectionWasSent, stream_from}
-use Rattle.pdc_history.specs.History.{IsHistory}
-use Rattle.pdc_history.specs.Seen.{OfHistories, Seen, seen_in, stream_in}
-use Rattle.pdc_history.specs.World.{A, B, M, Who, World, Happened, life_of, output_of, published, sent}
+use Rattle.pdc_life.specs.{Arrival.{Stamp}, Merger.{held_layout, HeldLayout}, Reading.{IsData}}
+use Rattle.pdc_history.specs.{Frames.{AreGenuineBlocks, IsCutOf, IsLayoutUnder, SectionWasSent, stream_from}, History.{IsHistory}, Seen.{OfHistories, Seen, seen_in, stream_in}, World.{A, B, Happened, life_of, M, output_of, published, sent, Who, World}}
 
 -- Under a stamp there is one layout.
 abbrev pub LayoutsAreOne : Type 0

@@ -1,18 +1,9 @@
 -- Which histories a world may have: each thing happened as an event that may happen makes it (this profile).
-use Rattle.std.specs.Prelude.{◌≡◌, ℕ, ◌^◌, ◌<◌, List, [], ◌∷◌, map, Some}
-use Rattle.std.specs.List.{Contains, slice_get}
+use Rattle.std.specs.{List.{Contains, slice_get}, Prelude.{[], ◌<◌, ◌^◌, ◌∷◌, ◌≡◌, List, map, Some, ℕ}}
 use Rattle.pdc_frame.specs.Frame.{Fields, IsFrame}
 use Rattle.pdc_cfg.specs.Section.{SectionFields}
-use Rattle.pdc_life.specs.declared.merging.MergedNode.{MergedNode}
-use Rattle.pdc_life.specs.declared.pmu.Pmu.{Pmu}
-use Rattle.pdc_life.specs.Arrival.{Arrival}
-use Rattle.pdc_life.specs.MergerReading.{ReadsForMerger, nodes_of}
-use Rattle.pdc_life.specs.Node.{ReadsFor}
-use Rattle.pdc_life.specs.NodeReading.{IsValid, stream_of}
-use Rattle.pdc_life.specs.Reading.{IsData, IsOfStream}
-use Rattle.pdc_history.specs.Agree.{MayBegin, ids_of}
-use Rattle.pdc_history.specs.Event.{Event, Send, Bring, happens, history_from}
-use Rattle.pdc_history.specs.World.{A, B, M, Who, World, Happened, Ends, sent}
+use Rattle.pdc_life.specs.{Arrival.{Arrival}, declared.merging.MergedNode.{MergedNode}, declared.pmu.Pmu.{Pmu}, MergerReading.{nodes_of, ReadsForMerger}, Node.{ReadsFor}, NodeReading.{IsValid, stream_of}, Reading.{IsData, IsOfStream}}
+use Rattle.pdc_history.specs.{Agree.{ids_of, MayBegin}, Event.{Bring, Event, happens, history_from, Send}, World.{A, B, Ends, Happened, M, sent, Who, World}}
 
 -- The bytes are a frame of this PMU; the PMUs are those of A's settings.
 pub record IsOfPmu (W : World) (p : ℕ) (pmu : Pmu) (bytes : List ℕ) : Type 0 where

@@ -1,17 +1,10 @@
 -- Marks bound what was published and adopted, so instants rise and counts never fall, over all lives (this profile).
-use Rattle.std.specs.Prelude.{◌≡◌, ℕ, ◌^◌, ◌<◌, ◌≤◌, List, ◌++◌, length, Some}
-use Rattle.std.specs.List.{AllByRecursion}
+use Rattle.std.specs.{List.{AllByRecursion}, Prelude.{◌++◌, ◌<◌, ◌^◌, ◌≡◌, ◌≤◌, length, List, Some, ℕ}}
 use Rattle.pdc_cfg.specs.Section.{SectionFields}
-use Rattle.pdc_row.specs.Rising.{Rises}
-use Rattle.pdc_row.specs.RowView.{RowView, row_instants}
-use Rattle.pdc_mark.specs.Counts.{IsGreater, raised_to}
+use Rattle.pdc_row.specs.{Rising.{Rises}, RowView.{row_instants, RowView}}
 use Rattle.pdc_mark.specs.declared.layout.TheConstants.{COUNTS}
-use Rattle.pdc_life.specs.Answer.{waiting_counts}
-use Rattle.pdc_life.specs.Given.{count_for}
-use Rattle.pdc_life.specs.Life.{section_in_force}
-use Rattle.pdc_history.specs.History.{IsHistory}
-use Rattle.pdc_history.specs.Lives.{rows_of_one}
-use Rattle.pdc_history.specs.World.{Who, World, Happened, PastLife, first_mark, given_in, life_of, mark_of, opened_with, past_lives, published}
+use Rattle.pdc_life.specs.{Answer.{waiting_counts}, Given.{count_for}, Life.{section_in_force}}
+use Rattle.pdc_history.specs.{History.{IsHistory}, Lives.{rows_of_one}, World.{first_mark, given_in, Happened, life_of, mark_of, opened_with, past_lives, PastLife, published, Who, World}}
 
 -- The stored start is that of the present life, and those of earlier lives are below it; the stored floor is at or above each
 -- instant published; what an earlier life had in force is at most the count with which the present one began, and what is in force
@@ -42,11 +35,6 @@ AdoptedCountsNeverFall =
     section_in_force (given_in W H who) (life_of H who) c ≡ Some s →
     section_in_force (given_in W (later ++ H) who) (life_of (later ++ H) who) c ≡ Some t → s.count ≤ t.count
 
--- The greater of a mark's 16 counts and of 16 others are those that the mark is raised to.
-abbrev pub GreaterIsRaised : Type 0
-GreaterIsRaised =
-    (counts others greater : List ℕ) → length counts ≡ COUNTS → length others ≡ COUNTS → IsGreater counts others greater → greater ≡ raised_to counts others
-
--- So many counts wait always.
+-- As many counts wait as a mark has.
 abbrev pub WaitingIsWhole : Type 0
 WaitingIsWhole = (W : World) (H : List Happened) (who : Who) → length (waiting_counts (given_in W H who) (life_of H who)) ≡ COUNTS

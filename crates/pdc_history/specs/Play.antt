@@ -1,12 +1,8 @@
 -- What a world that was asked these things, one after the other, is; and what it tells (this profile).
-use Rattle.std.specs.Prelude.{◌≡◌, ℕ, ◌+◌, Bool, List, [], ◌∷◌, length, if◌then◌else◌, Option, None, Some}
+use Rattle.std.specs.Prelude.{[], ◌+◌, ◌∷◌, ◌≡◌, Bool, if◌then◌else◌, length, List, None, Option, Some, ℕ}
 use Rattle.pdc_row.specs.RowView.{RowView}
-use Rattle.pdc_life.specs.declared.outcome.Outcome.{Outcome}
-use Rattle.pdc_life.specs.Life.{Entry, Arrive, Tick, changes, is_adoption}
-use Rattle.pdc_history.specs.Asked.{Asked, IsReadOf}
-use Rattle.pdc_history.specs.Event.{Event, happens}
-use Rattle.pdc_history.specs.History.{IsHistory, MayHappen}
-use Rattle.pdc_history.specs.World.{World, Happened, Sends, Comes, PassesBy, Ticks, Publishes, Ends, life_of, sent}
+use Rattle.pdc_life.specs.{declared.outcome.Outcome.{Outcome}, Life.{Arrive, changes, Entry, is_adoption, Tick}}
+use Rattle.pdc_history.specs.{Asked.{Asked, IsReadOf}, Event.{Event, happens}, History.{IsHistory, MayHappen}, World.{Comes, Ends, Happened, life_of, PassesBy, Publishes, Sends, sent, Ticks, World}}
 
 -- What was asked reads as an event that may happen, and this is what it made happen.
 pub record IsStepOf (W : World) (H : List Happened) (asked : Asked) (h : Happened) : Type 0 where

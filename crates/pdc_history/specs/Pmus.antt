@@ -1,14 +1,9 @@
 -- What PMUs sent, in every history (this profile).
-use Rattle.std.specs.Prelude.{◌≡◌, ℕ, List, ◌∷◌, Some}
-use Rattle.std.specs.List.{Contains, slice_get}
+use Rattle.std.specs.{List.{Contains, slice_get}, Prelude.{◌∷◌, ◌≡◌, List, Some, ℕ}}
 use Rattle.pdc_frame.specs.Frame.{Fields}
 use Rattle.pdc_cfg.specs.Section.{SectionFields}
-use Rattle.pdc_life.specs.declared.pmu.Pmu.{Pmu}
-use Rattle.pdc_life.specs.NodeReading.{IsValid, stream_of}
-use Rattle.pdc_life.specs.Reading.{IsData, IsOfStream}
-use Rattle.pdc_history.specs.History.{IsHistory}
-use Rattle.pdc_history.specs.Seen.{Seen}
-use Rattle.pdc_history.specs.World.{World, Happened, Sends, sent_at}
+use Rattle.pdc_life.specs.{declared.pmu.Pmu.{Pmu}, NodeReading.{IsValid, stream_of}, Reading.{IsData, IsOfStream}}
+use Rattle.pdc_history.specs.{History.{IsHistory}, Seen.{Seen}, World.{Happened, Sends, sent_at, World}}
 
 -- What a node or the merger sends is no frame of a PMU: such a frame is sent by its PMU alone.
 abbrev pub PmusSendTheirOwn : Type 0

@@ -1,11 +1,8 @@
 -- What a reader of the streams sees: the settings, and the frames that were ever sent (this profile).
 use Rattle.std.specs.Prelude.{List, ℕ}
-use Rattle.pdc_life.specs.Reading.{Stream}
-use Rattle.pdc_life.specs.declared.given.Settings.{Settings}
-use Rattle.pdc_life.specs.declared.merging.MergerSettings.{MergerSettings}
 use Rattle.pdc_output.specs.declared.output.Output.{Output}
-use Rattle.pdc_history.specs.History.{IsHistory}
-use Rattle.pdc_history.specs.World.{Happened, Who, World, output_among, sent}
+use Rattle.pdc_life.specs.{declared.given.Settings.{Settings}, declared.merging.MergerSettings.{MergerSettings}, Reading.{Stream}}
+use Rattle.pdc_history.specs.{History.{IsHistory}, World.{Happened, output_among, sent, Who, World}}
 
 pub record Seen : Type 0 where
   pub a : Settings

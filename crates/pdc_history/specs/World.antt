@@ -1,20 +1,10 @@
 -- The world of two nodes, a merger and the network between them, as the list of what happened in it, the newest first, each with
 -- what followed from it (this profile). All else is recursion over that list: each definition speaks of what had happened before.
-use Rattle.std.specs.Prelude.{ℕ, Bool, true, false, List, [], ◌∷◌, ◌++◌, if◌then◌else◌, Option, None, Some, option_map}
-use Rattle.pdc_mark.specs.declared.stored.Stored.{Stored}
-use Rattle.pdc_mark.specs.Stored.{with_counts, with_due, with_waiting}
+use Rattle.std.specs.Prelude.{[], ◌++◌, ◌∷◌, Bool, false, if◌then◌else◌, List, None, Option, option_map, Some, true, ℕ}
 use Rattle.pdc_row.specs.RowView.{RowView}
-use Rattle.pdc_output.specs.declared.output.Output.{Output}
-use Rattle.pdc_output.specs.Layout.{wire_of}
-use Rattle.pdc_life.specs.declared.given.Settings.{Settings}
-use Rattle.pdc_life.specs.declared.merging.MergerSettings.{MergerSettings}
-use Rattle.pdc_life.specs.Answer.{Rules, waiting_counts}
-use Rattle.pdc_life.specs.Given.{Given, given_of}
-use Rattle.pdc_life.specs.Life.{Entry, Tick, Pop, is_adoption}
-use Rattle.pdc_life.specs.Merger.{merged_answer}
-use Rattle.pdc_life.specs.MergerReading.{given_of_merger}
-use Rattle.pdc_life.specs.Node.{node_answer}
-use Rattle.pdc_life.specs.Published.{layout_wire}
+use Rattle.pdc_output.specs.{declared.output.Output.{Output}, Layout.{wire_of}}
+use Rattle.pdc_mark.specs.{declared.stored.Stored.{Stored}, Stored.{with_counts, with_due, with_waiting}}
+use Rattle.pdc_life.specs.{Answer.{Rules, waiting_counts}, declared.given.Settings.{Settings}, declared.merging.MergerSettings.{MergerSettings}, Given.{Given, given_of}, Life.{Entry, is_adoption, Pop, Tick}, Merger.{merged_answer}, MergerReading.{given_of_merger}, Node.{node_answer}, Published.{layout_wire}}
 
 -- node A, node B and the merger
 pub data Who : Type 0 where

@@ -3,7 +3,7 @@ ghost use Rattle.pdc_history.specs.Asked.{AskedIsReadOnce, CausesAreOne, FaultsM
 ghost use Rattle.pdc_history.specs.Genuine.{FramesAgree, HeldLayoutsWereSent, LayoutsAreOne, MergedBlocksAreGenuine, NodeBlocksAreGenuine, PublishedAgree, PublishedWereSent};
 ghost use Rattle.pdc_history.specs.History.{EventsMakeHistories};
 ghost use Rattle.pdc_history.specs.Lives.{LivesAreLives, PublishedRowsAreThose, RowsAreOfLives};
-ghost use Rattle.pdc_history.specs.Marks.{AdoptedCountsNeverFall, GreaterIsRaised, InstantsRise, MarksBound, WaitingIsWhole};
+ghost use Rattle.pdc_history.specs.Marks.{AdoptedCountsNeverFall, InstantsRise, MarksBound, WaitingIsWhole};
 ghost use Rattle.pdc_history.specs.Play.{PlaysAreHistories, PlaysAreOne, StepsAreOne};
 ghost use Rattle.pdc_history.specs.Pmus.{PmusSendOneBody, PmusSendOneSection, PmusSendTheirOwn};
 ghost use Rattle.pdc_history.specs.Seen.{OfHistories};
@@ -55,10 +55,9 @@ pub fn marks_bound_lives()
     lives_are_known();
 }
 
-/// A mark is raised before a tick to the greater of its counts and of those that wait, of which there are 16.
-pub fn greater_is_raised()
-    ensures raised { GreaterIsRaised }
-    ensures waiting { WaitingIsWhole }
+/// As many counts wait as a mark has: 16.
+pub fn waiting_is_whole()
+    ensures { WaitingIsWhole }
 {}
 
 /// Over all lives of one owner the instants published strictly rise.

@@ -16,7 +16,7 @@ mod known;
 mod laws;
 
 pub use laws::{
-    asked_is_event_or_fault, events_make_histories, frames_agree, greater_is_raised, instants_rise,
-    lives_are_lives, marks_bound_lives, merged_blocks_are_genuine, node_blocks_are_genuine,
-    pmus_send_one, stamps_have_one_layout,
+    asked_is_event_or_fault, events_make_histories, frames_agree, instants_rise, lives_are_lives,
+    marks_bound_lives, merged_blocks_are_genuine, node_blocks_are_genuine, pmus_send_one,
+    stamps_have_one_layout, waiting_is_whole,
 };

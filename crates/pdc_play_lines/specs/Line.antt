@@ -4,7 +4,8 @@ use Rattle.std.specs.Option.{option_and_then}
 use Rattle.std.specs.Result.{result_ok}
 use Rattle.std.specs.Str.{bytes_eq}
 use Rattle.hex.specs.Hex.{decode_of, decode_pairs}
-use Rattle.pdc_history.specs.Asked.{Asked, Send, To, Junk, TickAt, Publish, Stop, StopIn, StopInTick, StopAtStart}
+use Rattle.pdc_history.specs.Asked.{Asked, Do, Junk, Send, To}
+use Rattle.pdc_history.specs.Event.{Act, OfPublish, OfStart, OfTick, Publish, Stop, StopDuring, TickAt}
 use Rattle.pdc_history.specs.World.{Who, A, B, M}
 use Rattle.pdc_play_lines.specs.Number.{number_of}
 use Rattle.pdc_play_lines.specs.Word.{cut}
@@ -33,20 +34,24 @@ landing_of word =
 abbrev pub asked_of_two : (verb word : List ℕ) → Option Asked
 asked_of_two verb word =
     if bytes_eq verb (codes "send") then option_map Send (bytes_of word)
-    else if bytes_eq verb (codes "publish") then option_map Publish (core_of word)
-    else if bytes_eq verb (codes "stop") then option_map Stop (core_of word)
+    else if bytes_eq verb (codes "publish") then option_map (λ who. Do who Publish) (core_of word)
+    else if bytes_eq verb (codes "stop") then option_map (λ who. Do who Stop) (core_of word)
     else None
 
--- what a core is asked by a line of three words, without bytes: `to A 0`, `tick A 57478860000`, `stopin A landed`, `stoptick A lost`,
--- `stopstart A landed`
+-- what a core does by a line of three words: `tick A 57478860000`, `stopin A landed`, `stoptick A lost`, `stopstart A landed`
+abbrev pub act_of_core : (verb word : List ℕ) → Option Act
+act_of_core verb word =
+    if bytes_eq verb (codes "tick") then option_map TickAt (number_of word)
+    else if bytes_eq verb (codes "stopin") then option_map (StopDuring OfPublish) (landing_of word)
+    else if bytes_eq verb (codes "stoptick") then option_map (StopDuring OfTick) (landing_of word)
+    else if bytes_eq verb (codes "stopstart") then option_map (StopDuring OfStart) (landing_of word)
+    else None
+
+-- what it is asked by one, without bytes: that, or `to A 0`
 abbrev pub asked_of_core : (verb : List ℕ) → Who → (word : List ℕ) → Option Asked
 asked_of_core verb who word =
     if bytes_eq verb (codes "to") then option_map (To who) (number_of word)
-    else if bytes_eq verb (codes "tick") then option_map (TickAt who) (number_of word)
-    else if bytes_eq verb (codes "stopin") then option_map (StopIn who) (landing_of word)
-    else if bytes_eq verb (codes "stoptick") then option_map (StopInTick who) (landing_of word)
-    else if bytes_eq verb (codes "stopstart") then option_map (StopAtStart who) (landing_of word)
-    else None
+    else option_map (Do who) (act_of_core verb word)
 
 -- the same, or `junk A HEX`
 abbrev pub asked_of_three : (verb : List ℕ) → Who → (word : List ℕ) → Option Asked
@@ -75,22 +80,22 @@ pub brings_junk : asked_of_line (codes "junk M 00") ≡ Some (Junk M (0 ∷ []))
 unfolding decode_pairs
 brings_junk = refl
 
-pub ticks : asked_of_line (codes "tick B 57478860000") ≡ Some (TickAt B 57478860000)
+pub ticks : asked_of_line (codes "tick B 57478860000") ≡ Some (Do B (TickAt 57478860000))
 ticks = refl
 
-pub publishes : asked_of_line (codes "publish A") ≡ Some (Publish A)
+pub publishes : asked_of_line (codes "publish A") ≡ Some (Do A Publish)
 publishes = refl
 
-pub stops : asked_of_line (codes "stop A") ≡ Some (Stop A)
+pub stops : asked_of_line (codes "stop A") ≡ Some (Do A Stop)
 stops = refl
 
-pub stops_in : asked_of_line (codes "stopin A landed") ≡ Some (StopIn A true)
+pub stops_in : asked_of_line (codes "stopin A landed") ≡ Some (Do A (StopDuring OfPublish true))
 stops_in = refl
 
-pub stops_in_tick : asked_of_line (codes "stoptick A lost") ≡ Some (StopInTick A false)
+pub stops_in_tick : asked_of_line (codes "stoptick A lost") ≡ Some (Do A (StopDuring OfTick false))
 stops_in_tick = refl
 
-pub stops_at_start : asked_of_line (codes "stopstart B landed") ≡ Some (StopAtStart B true)
+pub stops_at_start : asked_of_line (codes "stopstart B landed") ≡ Some (Do B (StopDuring OfStart true))
 stops_at_start = refl
 
 -- Worked: two spaces, a space at the end, no byte, half a byte, a word too many, a core that is none.

@@ -1,7 +1,8 @@
 //! A line of a script.
 ghost use Rattle.std.specs.Prelude.{◌≡◌, IfOk, IsErrOf, None, Some, option_map};
-ghost use Rattle.pdc_event.specs.Event.{asked_of, who_of};
-ghost use Rattle.pdc_play_lines.specs.Line.{asked_behind, asked_of_core, asked_of_line, asked_of_three, asked_of_two, core_of, landing_of};
+ghost use Rattle.pdc_event.specs.Event.{act_of, asked_of, store_of, who_of};
+ghost use Rattle.pdc_history.specs.Event.{StopDuring};
+ghost use Rattle.pdc_play_lines.specs.Line.{act_of_core, asked_behind, asked_of_core, asked_of_line, asked_of_three, asked_of_two, core_of, landing_of};
 ghost use Rattle.pdc_play_lines.specs.Word.{cut};
 ghost use Rattle.pdc_play_lines.specs.Written.{asked_in};
 ghost use Rattle.pdc_play_lines.specs.declared.line.NotRead.{NotRead};
@@ -10,7 +11,7 @@ use crate::hexadecimal::bytes;
 use crate::number::number;
 use crate::word::cut_word;
 use crate::written::Written;
-use pdc_event::{Event, Who};
+use pdc_event::{Act, Event, StopAt, Storing, Who};
 use std::alloc::{AllocError, Global};
 use thiserror::Error;
 
@@ -69,13 +70,43 @@ fn read_two(alloc: Global, verb: &[u8], word: &[u8]) -> Result<Option<Written>, 
         return Ok(bytes(alloc, word)?.map(|bytes| Written::Send { bytes }));
     }
     let event = if verb == b"publish".as_slice() {
-        core(word).map(|who| Event::Publish { who })
+        core(word).map(|who| Event::Do {
+            who,
+            act: Act::Publish,
+        })
     } else if verb == b"stop".as_slice() {
-        core(word).map(|who| Event::Stop { who })
+        core(word).map(|who| Event::Do {
+            who,
+            act: Act::Stop(StopAt::Between),
+        })
     } else {
         None
     };
     Ok(event.map(Written::Other))
+}
+
+/// The stop in a store, which landed or not as the word says.
+fn stop_in(storing: Storing, word: &[u8]) -> Option<Act>
+    ensures { option_map act_of result ≡ option_map (StopDuring (store_of storing)) (landing_of word.now) }
+{
+    landing(word).map(|landed| Act::Stop(StopAt::In { storing, landed }))
+}
+
+/// What a core does by a line of three words.
+fn act(verb: &[u8], word: &[u8]) -> Option<Act>
+    ensures { option_map act_of result ≡ act_of_core verb.now word.now }
+{
+    if verb == b"tick".as_slice() {
+        number(word).map(|now| Act::Tick { now })
+    } else if verb == b"stopin".as_slice() {
+        stop_in(Storing::Publish, word)
+    } else if verb == b"stoptick".as_slice() {
+        stop_in(Storing::Tick, word)
+    } else if verb == b"stopstart".as_slice() {
+        stop_in(Storing::Start, word)
+    } else {
+        None
+    }
 }
 
 /// The event that a core is asked by a line of three words, where it brings no bytes.
@@ -87,16 +118,8 @@ fn core_event(verb: &[u8], who: Who, word: &[u8]) -> Option<Event<'static>>
             who,
             number: number as usize,
         })
-    } else if verb == b"tick".as_slice() {
-        number(word).map(|now| Event::Tick { who, now })
-    } else if verb == b"stopin".as_slice() {
-        landing(word).map(|landed| Event::StopIn { who, landed })
-    } else if verb == b"stoptick".as_slice() {
-        landing(word).map(|landed| Event::StopInTick { who, landed })
-    } else if verb == b"stopstart".as_slice() {
-        landing(word).map(|landed| Event::StopAtStart { who, landed })
     } else {
-        None
+        act(verb, word).map(|act| Event::Do { who, act })
     }
 }
 

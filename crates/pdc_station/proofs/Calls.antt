@@ -1,19 +1,6 @@
 -- What calls of a core and of a publisher append.
-use Rattle.std.proofs.Common.{◌≡◌, inl, inr, ℕ, ◌+◌, ◌<◌, ◌≤◌, List, [], ◌∷◌, ◌++◌, Option, Some, None, map, refl, sym, ap, subst, ◌∙◌, arith}
-use Rattle.std.specs.List.{AllByRecursion, Contains, concat}
-use Rattle.std.specs.Option.{option_to_list}
-use Rattle.std.proofs.lemmas.List.{append_assoc, append-nil, map-append}
-use Rattle.std.proofs.lemmas.List.Elements.{Contains-append_cases}
-use Rattle.std.proofs.lemmas.List.Folds.{concat-append}
-use Rattle.pdc_history.proofs.Lists.{element, in_one, not_in_none}
-use Rattle.pdc_life.specs.Answer.{Rules, pop_answer}
-use Rattle.pdc_life.specs.Given.{Given}
-use Rattle.pdc_life.specs.Life.{Entry, Pop, popped}
-use Rattle.pdc_output.specs.Layout.{wire_of}
-use Rattle.pdc_row.specs.Rising.{AreBelow, Rises}
-use Rattle.pdc_row.specs.RowView.{RowView, row_instants}
-use Rattle.pdc_row.proofs.Rising.{below_append, below_higher, rises_append}
-use Rattle.pdc_station.specs.Calls.{AllAreSent, Arrived, Call, Empty, Lost, MakeAll, NoLostRowIsSent, RowsAreOfTheLife, Sent, SentRowsAreAppended, SentRowsRise, Ticked, Told, rows_lost, rows_popped, rows_sent}
+use Rattle.std.proofs.Common.{[], ◌++◌, ◌+◌, ◌<◌, ◌∙◌, ◌∷◌, ◌≡◌, ◌≤◌, ap, arith, inl, inr, List, map, None, Option, refl, Some, subst, sym, ℕ}
+use Rattle.pdc_station.proofs.Names.{AllAreSent, AllByRecursion, append-nil, append_assoc, AreBelow, Arrived, below_append, below_higher, Call, concat, concat-append, Contains, Contains-append_cases, element, Empty, Entry, Given, in_one, Lost, MakeAll, map-append, NoLostRowIsSent, not_in_none, option_to_list, Pop, pop_answer, popped, Rises, rises_append, row_instants, rows_lost, rows_popped, rows_sent, RowsAreOfTheLife, RowView, Rules, Sent, SentRowsAreAppended, SentRowsRise, Ticked, Told, wire_of}
 
 -- one frame more
 frame_more : (g : Given) (rows : List RowView) (row : RowView) (a b c : List ℕ) → b ≡ a ++ concat (map (wire_of g.output) rows) → c ≡ b ++ wire_of g.output row

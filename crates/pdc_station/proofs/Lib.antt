@@ -1,3 +1,4 @@
 mod Calls
 mod Made
+mod Names
 mod Published

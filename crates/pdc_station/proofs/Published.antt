@@ -1,16 +1,6 @@
 -- What a life has published, with one row more.
-use Rattle.std.proofs.Common.{◌≡◌, List, ◌++◌, ℕ, map, Option, None, Some, refl, ap, ◌∙◌}
-use Rattle.std.specs.List.{concat}
-use Rattle.std.specs.Option.{option_to_list}
-use Rattle.std.proofs.lemmas.List.{append-nil, map-append}
-use Rattle.std.proofs.lemmas.List.Folds.{concat-append}
-use Rattle.pdc_life.specs.Given.{Given}
-use Rattle.pdc_life.specs.Life.{popped}
-use Rattle.pdc_life.specs.Published.{published}
-use Rattle.pdc_output.specs.Layout.{wire_of}
-use Rattle.pdc_row.specs.RowView.{RowView}
-use Rattle.pdc_station.specs.Published.{PopsArePublished}
-use Rattle.pdc_station.specs.Station.{wire_of_some}
+use Rattle.std.proofs.Common.{◌++◌, ◌∙◌, ◌≡◌, ap, List, map, None, Option, refl, Some, ℕ}
+use Rattle.pdc_station.proofs.Names.{append-nil, concat, concat-append, Given, map-append, option_to_list, popped, PopsArePublished, published, RowView, wire_of, wire_of_some}
 
 one : (g : Given) (row : Option RowView) → concat (map (wire_of g.output) (option_to_list row)) ≡ wire_of_some g.output row
 one g None = refl

@@ -1,14 +1,8 @@
 -- Calls of a core and of the publisher of its mark, one after the other, and the bytes that the publishes append (this profile).
-use Rattle.std.specs.Prelude.{◌≡◌, ℕ, ◌<◌, List, [], ◌∷◌, ◌++◌, Option, Some, None, map}
-use Rattle.std.specs.List.{Contains, concat}
-use Rattle.pdc_life.specs.Answer.{Rules, ToArrive, ToPop, ToTick, answered, pop_answer}
-use Rattle.pdc_life.specs.Arrival.{Arrival}
-use Rattle.pdc_life.specs.Given.{Given}
-use Rattle.pdc_life.specs.Life.{Entry, popped}
-use Rattle.pdc_life.specs.Published.{published}
+use Rattle.std.specs.{List.{concat, Contains}, Prelude.{[], ◌++◌, ◌<◌, ◌∷◌, ◌≡◌, List, map, None, Option, Some, ℕ}}
+use Rattle.pdc_row.specs.{Rising.{Rises}, RowView.{row_instants, RowView}}
 use Rattle.pdc_output.specs.Layout.{wire_of}
-use Rattle.pdc_row.specs.Rising.{Rises}
-use Rattle.pdc_row.specs.RowView.{RowView, row_instants}
+use Rattle.pdc_life.specs.{Answer.{answered, pop_answer, Rules, ToArrive, ToPop, ToTick}, Arrival.{Arrival}, Given.{Given}, Life.{Entry, popped}, Published.{published}}
 
 -- Something arrived, or ticked; a pop gave no row; a row was popped and its publish answered Ok; a row was popped and its publish
 -- answered an error. The publisher's other calls append nothing.

@@ -1,11 +1,7 @@
 -- What a station's life has published grows by the frames that its publishes append, and by nothing else (this profile).
-use Rattle.std.specs.Prelude.{◌≡◌, ℕ, List, ◌∷◌, ◌++◌, Option}
-use Rattle.std.specs.List.{concat}
-use Rattle.pdc_life.specs.Arrival.{Arrival}
-use Rattle.pdc_life.specs.Given.{Given}
-use Rattle.pdc_life.specs.Life.{Answer, Arrive, Entry, Pop, Tick, TickAnswer}
-use Rattle.pdc_life.specs.Published.{published}
+use Rattle.std.specs.{List.{concat}, Prelude.{◌++◌, ◌∷◌, ◌≡◌, List, Option, ℕ}}
 use Rattle.pdc_row.specs.RowView.{RowView}
+use Rattle.pdc_life.specs.{Arrival.{Arrival}, Given.{Given}, Life.{Answer, Arrive, Entry, Pop, Tick, TickAnswer}, Published.{published}}
 use Rattle.pdc_station.specs.Station.{wire_of_some}
 
 abbrev pub PopsArePublished : Type 0

@@ -1,18 +1,13 @@
 -- What a station keeps, and what stops leave of its mark (this profile).
-use Rattle.std.specs.Prelude.{◌≡◌, ℕ, ◌+◌, Bool, List, [], if◌then◌else◌, Option, None, Some, option_map}
-use Rattle.pdc_mark.specs.Stops.{Between, InBegin, Stop, StopsInRaise, stop_in_reserving}
-use Rattle.pdc_mark.specs.Stored.{with_due, with_next_start, with_waiting}
-use Rattle.pdc_life.specs.Answer.{pop_answer, waiting_counts}
-use Rattle.pdc_life.specs.Given.{Given}
-use Rattle.pdc_life.specs.Life.{Entry}
-use Rattle.pdc_mark.specs.declared.stored.Stored.{Stored}
-use Rattle.pdc_output.specs.declared.output.Output.{Output}
-use Rattle.pdc_output.specs.Layout.{wire_of}
+use Rattle.std.specs.Prelude.{[], ◌+◌, ◌≡◌, Bool, if◌then◌else◌, List, None, Option, Some, ℕ}
 use Rattle.pdc_row.specs.RowView.{RowView}
-use Rattle.pdc_station.specs.declared.stop_at.StopAt.{StopAt}
-use Rattle.pdc_station.specs.declared.stop_at.StopAt.TheVariants as at
-use Rattle.pdc_station.specs.declared.stop_at.Storing.{Storing}
-use Rattle.pdc_station.specs.declared.stop_at.Storing.TheVariants as storing
+use Rattle.pdc_output.specs.{declared.output.Output.{Output}, Layout.{wire_of}}
+use Rattle.pdc_mark.specs.{declared.stored.Stored.{Stored}, Stops.{Between, InBegin, Stop, stop_in_reserving, StopsInRaise}, Stored.{with_next_start}}
+use Rattle.pdc_life.specs.{Answer.{waiting_counts}, Given.{Given}, Life.{Entry}}
+use Rattle.pdc_history.specs.Event.{due_in, stored_by}
+use Rattle.pdc_event.specs.{declared.act.StopAt.{StopAt}, Event.{store_of}}
+use Rattle.pdc_event.specs.declared.act.StopAt.TheVariants as at
+use Rattle.pdc_event.specs.declared.act.Storing.TheVariants as storing
 
 -- the bytes of the row, if there is one
 abbrev pub wire_of_some : Output → Option RowView → List ℕ
@@ -24,16 +19,10 @@ wire_of_some output (Some row) = wire_of output row
 abbrev pub IsOfSomeLife : (Given → List Entry → Type 0) → Type 0
 IsOfSomeLife Stands = ((g : Given) (E : List Entry) → Stands g E → ⊥) → ⊥
 
--- What is stored by a publish, where a row of this instant is the next, by a tick, where these counts wait, and by the next start.
-abbrev pub stored_by : Storing → (lead : ℕ) → (due : Option ℕ) → (waiting : List ℕ) → Stored → Stored
-stored_by storing.Publish lead due waiting stored = with_due lead due stored
-stored_by storing.Tick lead due waiting stored = with_waiting waiting stored
-stored_by storing.Start lead due waiting stored = with_next_start stored
-
 -- What a stop leaves stored: where the store that it fell into landed, that is done.
 abbrev pub left_by : StopAt → (lead : ℕ) → (due : Option ℕ) → (waiting : List ℕ) → Stored → Stored
 left_by at.Between lead due waiting stored = stored
-left_by (at.In storing landed) lead due waiting stored = if landed then stored_by storing lead due waiting stored else stored
+left_by (at.In storing landed) lead due waiting stored = if landed then stored_by (store_of storing) lead due waiting stored else stored
 
 -- the start number that it leaves
 abbrev pub start_left : StopAt → (start : ℕ) → ℕ
@@ -51,10 +40,6 @@ FallsAt StopsAs at.Between lead due waiting stored before after = StopsAs Betwee
 FallsAt StopsAs (at.In storing.Publish landed) lead due waiting stored before after = StopsAs (stop_in_publish landed lead due stored.floor) before after
 FallsAt StopsAs (at.In storing.Tick landed) lead due waiting stored before after = StopsInRaise StopsAs landed waiting stored.counts before after
 FallsAt StopsAs (at.In storing.Start landed) lead due waiting stored before after = StopsAs (InBegin landed) before after
-
--- the instant of the next row of a life
-abbrev pub due_in : List Entry → Option ℕ
-due_in E = option_map (λ (row : RowView). row.instant) (pop_answer E)
 
 -- A stop ended a life of a core, and the next one began. It fell so on the mark, where the next row and the counts that wait are those of
 -- each life that the core stood for; and on the mark as the stop left it, the next start was stored.

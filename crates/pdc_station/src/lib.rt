@@ -14,10 +14,8 @@ mod laws;
 mod next_row;
 mod publishes;
 mod station;
-mod stop_at;
 mod stops;
 
 pub use fault::StopFault;
 pub use laws::{calls_publish_what_was_popped, rows_are_published};
 pub use station::Station;
-pub use stop_at::{StopAt, Storing};

@@ -1,14 +1,6 @@
 -- The test of settings says that they agree.
-use Rattle.std.proofs.Common.{◌≡◌, ◌≢◌, ◌==◌, ℕ, Bool, true, not, ◌&&◌, List, [], ◌∷◌, refl, sym}
-use Rattle.std.specs.List.{AllByRecursion}
-use Rattle.std.proofs.lemmas.Bool.{and_from, and_parts, eq-eqb, eqb-false, eqb-true, ne_eqb, not-true, not_from_false}
-use Rattle.pdc_history.specs.Agree.{SettingsAgree, ids_of, sources_of, time_bases_of}
-use Rattle.pdc_history.specs.World.{A, B, M, Who, World, is_same, output_of}
-use Rattle.pdc_life.specs.declared.given.Settings.{Settings}
-use Rattle.pdc_life.specs.declared.merging.MergerSettings.{MergerSettings}
-use Rattle.pdc_life.specs.declared.pmu.Pmu.{Pmu}
-use Rattle.pdc_output.specs.declared.output.Output.{Output}
-use Rattle.pdc_world.specs.Agreement.{are_alike, are_free, are_sources, are_three, do_agree, is_free, is_taken_for}
+use Rattle.std.proofs.Common.{[], ◌&&◌, ◌==◌, ◌∷◌, ◌≡◌, ◌≢◌, Bool, List, not, refl, sym, true, ℕ}
+use Rattle.pdc_world.proofs.Names.{A, AllByRecursion, and_from, and_parts, are_alike, are_free, are_sources, are_three, B, do_agree, eq-eqb, eqb-false, eqb-true, ids_of, is_free, is_same, is_taken_for, M, MergerSettings, ne_eqb, not-true, not_from_false, Output, output_of, Pmu, Settings, SettingsAgree, sources_of, time_bases_of, Who, World}
 
 -- ---- conjunctions
 

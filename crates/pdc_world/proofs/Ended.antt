@@ -1,41 +1,30 @@
 -- A stop, as the event that it is and the life that begins behind it.
-use Rattle.std.proofs.Common.{◌≡◌, ℕ, ◌+◌, ◌^◌, ◌≤◌, ◌<◌, Bool, true, false, List, nat_lt, Option, Some, None, cond, ◌↔◌, Err, IsErrOf, refl, sym, ap, subst, arith}
-use Rattle.std.proofs.lemmas.Bool.{ltb-false, ltb-true}
-use Rattle.pdc_event.specs.declared.fault.Fault.{Fault}
-use Rattle.pdc_history.specs.Asked.{FaultsMayNotHappen, IsFault, StartsUsedUp}
+use Rattle.std.proofs.Common.{◌+◌, ◌<◌, ◌^◌, ◌↔◌, ◌≡◌, ◌≤◌, ap, arith, Bool, cond, Err, false, IsErrOf, List, nat_lt, None, Option, refl, Some, subst, sym, true, ℕ}
+use Rattle.pdc_world.proofs.Names.{act_of, Asked, due_in, Ends, Fault, fault_of_stop, FaultsMayNotHappen, given_in, Happened, IsFault, IsStepOf, IsWhy, lead_of, left_by, life_of, ltb-false, ltb-true, mark_of, start_left, StartsUsedUp, StopAt, StopFault, store_of, Stored, waiting_counts, Who, with_due, with_next_start, World}
+use Rattle.pdc_event.specs.declared.act.Act.TheVariants as act
+use Rattle.pdc_event.specs.declared.act.StopAt.TheVariants as at
+use Rattle.pdc_event.specs.declared.act.Storing.TheVariants as storing
+use Rattle.pdc_history.specs.Asked as asked
 use Rattle.pdc_history.specs.Event as event
-use Rattle.pdc_history.specs.Play.{IsStepOf}
-use Rattle.pdc_history.specs.World.{Who, World, Happened, Ends, given_in, lead_of, life_of, mark_of}
-use Rattle.pdc_life.specs.Answer.{waiting_counts}
-use Rattle.pdc_mark.specs.Stored.{with_due, with_next_start}
-use Rattle.pdc_mark.specs.declared.stored.Stored.{Stored}
-use Rattle.pdc_station.specs.Station.{due_in, left_by, start_left}
-use Rattle.pdc_station.specs.declared.fault.StopFault.{StopFault}
 use Rattle.pdc_station.specs.declared.fault.StopFault.TheVariants as stop
-use Rattle.pdc_station.specs.declared.stop_at.StopAt.{StopAt}
-use Rattle.pdc_station.specs.declared.stop_at.StopAt.TheVariants as at
-use Rattle.pdc_station.specs.declared.stop_at.Storing.TheVariants as storing
-use Rattle.pdc_world.specs.Acts.{IsWhy, asked_to_stop, fault_of_stop}
 
 -- the mark of the life that begins behind the stop
 abbrev pub begun_by : World → List Happened → Who → StopAt → Stored
 begun_by W H v at = with_next_start (left_by at (lead_of W v) (due_in (life_of H v)) (waiting_counts (given_in W H v) (life_of H v)) (mark_of W H v))
 
+-- what a stop is asked as
+abbrev pub asked_to_stop : Who → StopAt → Asked
+asked_to_stop v at = asked.Do v (act_of (act.Stop at))
+
 pub stop_step : (W : World) (H : List Happened) (v : Who) (at : StopAt) → (begun_by W H v at).start < 2 ^ 32 → IsStepOf W H (asked_to_stop v at) (Ends v (begun_by W H v at))
-stop_step W H v at.Between fits = record { event = event.Stop v; read = refl; may = fits; made = refl }
-stop_step W H v (at.In storing.Publish landed) fits = record { event = event.StopIn v landed; read = refl; may = fits; made = refl }
-stop_step W H v (at.In storing.Tick landed) fits = record { event = event.StopInTick v landed; read = refl; may = fits; made = refl }
-stop_step W H v (at.In storing.Start true) fits = record { event = event.StopAtStart v true; read = refl; may = fits; made = refl }
-stop_step W H v (at.In storing.Start false) fits = record { event = event.StopAtStart v false; read = refl; may = fits; made = refl }
+stop_step W H v at.Between fits = record { event = event.Do v event.Stop; read = refl; may = fits; made = refl }
+stop_step W H v (at.In storing landed) fits = record { event = event.Do v (event.StopDuring (store_of storing) landed); read = refl; may = fits; made = refl }
 
 -- ---- a refused stop
 
 stop_fault : (W : World) (H : List Happened) (v : Who) (at : StopAt) → 2 ^ 32 ≤ (begun_by W H v at).start → IsFault W H (asked_to_stop v at) StartsUsedUp
 stop_fault W H v at.Between past = past
-stop_fault W H v (at.In storing.Publish landed) past = past
-stop_fault W H v (at.In storing.Tick landed) past = past
-stop_fault W H v (at.In storing.Start true) past = past
-stop_fault W H v (at.In storing.Start false) past = past
+stop_fault W H v at past = past
 
 start_by : (b : Bool) (mark other : Stored) → other.start ≡ mark.start → (cond b other mark).start ≡ mark.start
 start_by true mark other same = same
@@ -46,12 +35,10 @@ start_due lead None mark = refl
 start_due lead (Some instant) mark = start_by (nat_lt mark.floor instant) mark (record mark { floor = instant + lead }) refl
 
 start_is : (at : StopAt) (lead : ℕ) (due : Option ℕ) (waiting : List ℕ) (mark : Stored) → (left_by at lead due waiting mark).start ≡ start_left at mark.start
-start_is at.Between lead due waiting mark = refl
 start_is (at.In storing.Publish landed) lead due waiting mark = start_by landed mark (with_due lead due mark) (start_due lead due mark)
 start_is (at.In storing.Tick true) lead due waiting mark = refl
-start_is (at.In storing.Tick false) lead due waiting mark = refl
 start_is (at.In storing.Start true) lead due waiting mark = refl
-start_is (at.In storing.Start false) lead due waiting mark = refl
+start_is at lead due waiting mark = refl
 
 is_left : (n : ℕ) (test : Bool) → nat_lt n 4294967295 ≡ test → (4294967295 ≤ n → ⊥) → n < 4294967295
 is_left n true is none = ltb-true n 4294967295 is

@@ -1,36 +1,8 @@
 -- The frames that cores send fit, and are no PMU's.
-use Rattle.std.proofs.Common.{◌≡◌, ℕ, ◌+◌, ◌≤◌, Bool, true, false, List, [], ◌∷◌, ◌++◌, length, nat_lt, Option, Some, None, IfSome, IsSome, is_some, option_map, Result, Ok, Err, IsOk, refl, sym, ap, subst, cond, ◌∙◌, arith, lit<}
-use Rattle.std.specs.List.{AllByRecursion, Contains}
-use Rattle.std.proofs.lemmas.Bool.{lt-ltb, ltb-false, ltb-true}
-use Rattle.std.proofs.lemmas.List.{append-nil}
-use Rattle.pdc_align.specs.Align.{new_change, ticked_of}
-use Rattle.pdc_align.specs.declared.ticked.Ticked.{Ticked}
-use Rattle.pdc_frame.specs.Frame.{Fields, IsFrame}
-use Rattle.pdc_frame.specs.declared.limits.TheConstants.{MAX_SIZE}
-use Rattle.pdc_history.specs.Event as event
-use Rattle.pdc_history.specs.Genuine.{IsPublishedData}
-use Rattle.pdc_history.specs.History.{IsHistory}
-use Rattle.pdc_history.specs.Lives.{IsLifeOf}
-use Rattle.pdc_history.specs.World.{Who, A, B, M, World, Happened, Ticks, Publishes, given_by, given_in, life_of, opened_with, output_of, published, raised}
-use Rattle.pdc_life.specs.Answer.{ToTick, answered, pop_answer, tick_answer, waiting_counts}
-use Rattle.pdc_life.specs.Given.{Given}
-use Rattle.pdc_life.specs.Life.{Entry, Tick, changes}
-use Rattle.pdc_life.specs.Published.{layout_wire}
-use Rattle.pdc_life.specs.Run.{IsRun}
-use Rattle.pdc_life.specs.declared.given.Settings.{Settings}
-use Rattle.pdc_mark.specs.declared.stored.Stored.{Stored}
-use Rattle.pdc_output.specs.Layout.{wire_of}
-use Rattle.pdc_output.specs.declared.output.Output.{Output}
-use Rattle.pdc_row.specs.RowView.{RowView, row_view}
-use Rattle.pdc_row.specs.declared.due_row.DueRow.{DueRow}
-use Rattle.pdc_sent.specs.Sent.{IsOfNone, IsOfPmu}
-use Rattle.pdc_mark.specs.Stored.{with_waiting}
-use Rattle.pdc_station.specs.Station.{wire_of_some}
-use Rattle.pdc_world.specs.Acts.{IsPart, IsSomeFrame, IsSomePart, Keeps, frames_if, frames_with, layouts_of}
-use Rattle.pdc_world.specs.Known.{FramesAreKnown}
-use Rattle.pdc_world.specs.Seats.{Seat}
-use Rattle.pdc_world.specs.Views.{LedgerView}
+use Rattle.std.proofs.Common.{[], ◌++◌, ◌+◌, ◌∙◌, ◌∷◌, ◌≡◌, ◌≤◌, ap, arith, Bool, cond, Err, false, IfSome, is_some, IsOk, IsSome, length, List, lit<, nat_lt, None, Ok, Option, option_map, refl, Result, Some, subst, sym, true, ℕ}
+use Rattle.pdc_world.proofs.Names.{A, AllByRecursion, answered, append-nil, B, changes, Contains, DueRow, Entry, Fields, frames_if, frames_with, FramesAreKnown, Given, given_by, given_in, Happened, IsFrame, IsHistory, IsLifeOf, IsOfNone, IsOfPmu, IsPart, IsPublishedData, IsRun, IsSomeFrame, IsSomePart, Keeps, layout_wire, layouts_of, LedgerView, life_of, lt-ltb, ltb-false, ltb-true, M, MAX_SIZE, new_change, opened_with, Output, output_of, pop_answer, published, Publishes, raised, row_view, RowView, Seat, Settings, Stored, Tick, tick_answer, Ticked, ticked_of, Ticks, ToTick, waiting_counts, Who, wire_of, wire_of_some, with_waiting, World}
 use Rattle.pdc_world.proofs.Own.{same_output}
+use Rattle.pdc_history.specs.Event as event
 
 -- a bound that is not absurd
 by_test : (a b : ℕ) (over : Bool) → nat_lt b a ≡ over → ((a ≤ b → ⊥) → ⊥) → a ≤ b
@@ -65,7 +37,7 @@ row_of_none known W H v row history =
     cc
 
 row_history : (W : World) (H : List Happened) (v : Who) (row : RowView) → IsHistory W H → Some row ≡ pop_answer (life_of H v) → IsHistory W (Publishes v (Some row) ∷ H)
-row_history W H v row history gave = (record { event = event.Publish v; may = tt; made = ap (Publishes v) gave }, history)
+row_history W H v row history gave = (record { event = event.Do v event.Publish; may = tt; made = ap (Publishes v) gave }, history)
 
 -- what is known of a row's frame, wherever the row came from
 row_wire : (W : World) (H : List Happened) (v : Who) (row : RowView) (out : List ℕ) → Some row ≡ pop_answer (life_of H v)
@@ -143,7 +115,7 @@ layout_some known v old After new l table now ticked same some marks tells stand
     let after : After g (e ∷ E) = subst (λ (x : Stored). After g (Tick now x.counts (tick_answer g E now x.counts) ∷ E)) is (stands g E part.come.stands) in
     let told : ticked ≡ ticked_of (changes E) (tick_answer g E now r.counts) =
     tells g E part.come.stands ∙ ap (λ (x : Stored). ticked_of (changes E) (tick_answer g E now x.counts)) is in
-    let history : IsHistory W (Ticks v e ∷ H) = (record { event = event.TickAt v now; may = tt; made = refl }, part.history) in
+    let history : IsHistory W (Ticks v e ∷ H) = (record { event = event.Do v (event.TickAt now); may = tt; made = refl }, part.history) in
     let adopted : nat_lt 0 (length (tick_answer g E now r.counts).adopted) ≡ true =
     adopts (changes E) (tick_answer g E now r.counts).adopted (subst (λ (t : Ticked). IsSome t.change) told change) in
     none g (e ∷ E) after (layout_fits_in known W H v e history)

@@ -1,13 +1,6 @@
 -- Bytes that come to the stream that they name.
-use Rattle.std.proofs.Common.{◌≡◌, Bool, true, false, not, IsTrue, inl, inr, ℕ, List, length, Some, refl, sym, ap, subst, ◌∙◌}
-use Rattle.std.specs.List.{Contains, slice_get}
-use Rattle.std.proofs.lemmas.Option.{get_or_from_slice_get, slice_get_read, slice_get_within}
-use Rattle.pdc_history.specs.Asked.{IsReadOf, NamesNone, Names, To, Junk}
-use Rattle.pdc_history.specs.Event.{Bring, Miss}
-use Rattle.pdc_history.specs.History.{IsForOne, MayCome, Says, stream_ids}
-use Rattle.pdc_history.specs.World.{Who, World, Happened, sent}
-use Rattle.pdc_life.specs.Arrival.{Arrival}
-use Rattle.pdc_world.specs.Named.{IsNamed, IsUnnamed}
+use Rattle.std.proofs.Common.{◌∙◌, ◌≡◌, ap, Bool, false, inl, inr, IsTrue, length, List, not, refl, Some, subst, sym, true, ℕ}
+use Rattle.pdc_world.proofs.Names.{Arrival, Bring, Contains, get_or_from_slice_get, Happened, IsForOne, IsNamed, IsReadOf, IsUnnamed, Junk, MayCome, Miss, Names, NamesNone, Says, sent, slice_get, slice_get_read, slice_get_within, stream_ids, To, Who, World}
 
 pub names : (W : World) (v : Who) (ids bytes : List ℕ) (s : ℕ) → ids ≡ stream_ids W v → IsNamed ids bytes s → Names W v bytes s
 names W v ids bytes s same named = record { fields = named.fields; frame = named.frame; named = ap (λ (xs : List ℕ). slice_get xs s) (sym same) ∙ named.id }

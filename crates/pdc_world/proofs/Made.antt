@@ -1,42 +1,11 @@
 -- Acts of one core, as what they make happen.
-use Rattle.std.proofs.Common.{◌≡◌, ℕ, ◌+◌, ◌^◌, ◌<◌, Bool, List, [], ◌∷◌, ◌++◌, length, nat_lt, Option, Some, None, Result, Ok, Err, IfOk, option_map, refl, sym, ap, subst, cond, ◌∙◌, arith}
-use Rattle.std.proofs.lemmas.Bool.{lt-ltb}
-use Rattle.std.proofs.lemmas.List.{append-nil}
-use Rattle.pdc_align.specs.Align.{new_change, ticked_of}
-use Rattle.pdc_align.specs.declared.ticked.Ticked.{Ticked}
-use Rattle.pdc_core.specs.Core.{Hears}
-use Rattle.pdc_event.specs.Event.{who_of}
-use Rattle.pdc_event.specs.declared.reply.Published.{Published}
-use Rattle.pdc_event.specs.declared.reply.Reply.{Reply}
-use Rattle.pdc_event.specs.declared.reply.Reply.TheVariants as reply
+use Rattle.std.proofs.Common.{[], ◌++◌, ◌+◌, ◌<◌, ◌^◌, ◌∙◌, ◌∷◌, ◌≡◌, ap, arith, Bool, cond, Err, IfOk, length, List, nat_lt, None, Ok, Option, option_map, refl, Result, Some, subst, sym, ℕ}
 use Rattle.pdc_event.specs.declared.who.Who.{Who as WhoData}
-use Rattle.pdc_history.specs.Asked.{Asked, IsReadOf}
+use Rattle.pdc_world.proofs.Names.{answered, append-nil, Asked, Bring, changes, Comes, Ends, Entry, Fault, frames_with, Given, given_by, given_in, Happened, HasStopped, Hears, IsAct, IsPart, IsReadOf, IsSend, IsStepOf, Keeps, layout_wire, layouts_of, lead_of, LedgerView, left_by, life_of, listed_at, listed_with, lt-ltb, mark_of, MayCome, Miss, new_change, opened_with, Outcome, Output, output_of, PassesBy, pop_answer, Published, published_as, Publishes, raised, Reply, reserved, RowView, Rules, rules_of, Seat, Sends, sent, sent_at, Stop, StopAt, Stored, Tick, tick_answer, Ticked, ticked_of, Ticks, ToArrive, ToPop, ToTick, waiting_counts, Who, who_of, with_next_start, with_waiting, World}
+use Rattle.pdc_world.proofs.{Ended.{asked_to_stop, begun_by, stop_step}, Own.{come_comes, come_ends, come_passes, come_publishes, come_ticks, name_back, same_itself, same_output}}
+use Rattle.pdc_event.specs.declared.reply.Reply.TheVariants as reply
 use Rattle.pdc_history.specs.Asked as asked
-use Rattle.pdc_history.specs.Event.{Bring, Miss}
 use Rattle.pdc_history.specs.Event as event
-use Rattle.pdc_history.specs.History.{MayCome}
-use Rattle.pdc_event.specs.declared.fault.Fault.{Fault}
-use Rattle.pdc_history.specs.Play.{IsStepOf}
-use Rattle.pdc_history.specs.World.{Who, World, Happened, Sends, Comes, PassesBy, Ticks, Publishes, Ends, given_by, given_in, lead_of, life_of, mark_of, opened_with, output_of, raised, reserved, rules_of, sent, sent_at}
-use Rattle.pdc_life.specs.Answer.{Rules, ToArrive, ToPop, ToTick, answered, pop_answer, tick_answer, waiting_counts}
-use Rattle.pdc_life.specs.Given.{Given}
-use Rattle.pdc_life.specs.Life.{Entry, Tick, changes}
-use Rattle.pdc_life.specs.Published.{layout_wire}
-use Rattle.pdc_life.specs.declared.outcome.Outcome.{Outcome}
-use Rattle.pdc_mark.specs.declared.stored.Stored.{Stored}
-use Rattle.pdc_output.specs.declared.output.Output.{Output}
-use Rattle.pdc_row.specs.RowView.{RowView}
-use Rattle.pdc_mark.specs.Stops.{Stop}
-use Rattle.pdc_mark.specs.Stored.{with_next_start}
-use Rattle.pdc_mark.specs.Stored.{with_waiting}
-use Rattle.pdc_station.specs.Station.{HasStopped, left_by}
-use Rattle.pdc_station.specs.declared.stop_at.StopAt.{StopAt}
-use Rattle.pdc_world.specs.Acts.{IsAct, IsSend, IsPart, Keeps, asked_to_stop, frames_with, layouts_of, listed_with}
-use Rattle.pdc_world.specs.Replies.{listed_at, published_as}
-use Rattle.pdc_world.specs.Seats.{Seat}
-use Rattle.pdc_world.specs.Views.{LedgerView}
-use Rattle.pdc_world.proofs.Ended.{begun_by, stop_step}
-use Rattle.pdc_world.proofs.Own.{come_comes, come_ends, come_passes, come_publishes, come_ticks, name_back, same_itself, same_output}
 
 -- ---- the ledger
 
@@ -106,7 +75,7 @@ pub ticked_made : (W : World) (H : List Happened) (w : WhoData) (old new : Seat)
     → ((g : Given) (E : List Entry) → old.stands g E → ticked ≡ ticked_of (changes E) (tick_answer g E now new.mark.counts))
     → ((g : Given) (E : List Entry) → old.stands g E → new.stands g (answered old.rules g E (ToTick now new.mark.counts) ∷ E))
     → m.table ≡ l.table → ((g : Given) (E : List Entry) → new.stands g E → m.frames ≡ l.frames ++ layouts_of ticked.change g E) → m.published ≡ l.published
-    → IsAct W H (who_of w) (asked.TickAt (who_of w) now) new m (reply.Ticked w ticked)
+    → IsAct W H (who_of w) (asked.Do (who_of w) (event.TickAt now)) new m (reply.Ticked w ticked)
 ticked_made W H w old new l m now ticked part marks tells stands table frames published =
     let v : Who = who_of w in
     let g : Given = given_in W H v in
@@ -119,7 +88,7 @@ ticked_made W H w old new l m now ticked part marks tells stands table frames pu
     tells g E part.come.stands ∙ ap (λ (x : Stored). ticked_of (changes E) (tick_answer g E now x.counts)) same in
     record {
       happened = Ticks v e;
-      step = record { event = event.TickAt v now; read = refl; may = tt; made = refl };
+      step = record { event = event.Do v (event.TickAt now); read = refl; may = tt; made = refl };
       own = same_itself v;
       come = come_ticks W H v e new after same;
       keeps =
@@ -155,7 +124,7 @@ pub published_made : (W : World) (H : List Happened) (w : WhoData) (old new : Se
     → ((g : Given) (E : List Entry) → old.stands g E → new.stands g (answered old.rules g E ToPop ∷ E))
     → m.table ≡ l.table → ((g : Given) (E : List Entry) → old.stands g E → m.frames ≡ l.frames ++ frames_with g.output row)
     → m.published ≡ l.published ++ listed_with (who_of w) (length l.frames) row → out ≡ option_map (published_as (who_of w) (length l.frames)) row
-    → IsAct W H (who_of w) (asked.Publish (who_of w)) new m (reply.Published w out)
+    → IsAct W H (who_of w) (asked.Do (who_of w) event.Publish) new m (reply.Published w out)
 published_made W H w old new l m row out part gives marks stands table frames published listing =
     let v : Who = who_of w in
     let g : Given = given_in W H v in
@@ -165,7 +134,7 @@ published_made W H w old new l m row out part gives marks stands table frames pu
     marks g E part.come.stands ∙ ap (λ (n : ℕ). reserved n (pop_answer E) old.mark) part.one.lead ∙ ap (reserved (lead_of W v) (pop_answer E)) part.come.mark in
     record {
       happened = Publishes v (pop_answer E);
-      step = record { event = event.Publish v; read = refl; may = tt; made = refl };
+      step = record { event = event.Do v event.Publish; read = refl; may = tt; made = refl };
       own = same_itself v;
       come = come_publishes W H v (pop_answer E) new (stands g E part.come.stands) same;
       keeps =

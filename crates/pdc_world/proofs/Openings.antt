@@ -1,24 +1,9 @@
 -- A world whose first lives begin.
-use Rattle.std.proofs.Common.{◌≡◌, ◌^◌, ◌<◌, Bool, true, false, ◌&&◌, nat_lt, ◌⊎◌, inl, inr, [], sym, ap, subst, ◌∙◌, arith}
-use Rattle.std.proofs.lemmas.Bool.{and_cases, and_parts, both_ways, ltb-false, ltb-true}
-use Rattle.pdc_history.specs.Agree.{MayBegin, SettingsAgree}
-use Rattle.pdc_history.specs.World.{A, B, M, Who, World, first_mark, given_by}
-use Rattle.pdc_life.specs.Given.{given_of}
-use Rattle.pdc_life.specs.MergerReading.{given_of_merger}
-use Rattle.pdc_life.specs.declared.given.Settings.{Settings}
-use Rattle.pdc_life.specs.declared.merging.MergerSettings.{MergerSettings}
-use Rattle.pdc_mark.specs.Stored.{with_next_start}
-use Rattle.pdc_mark.specs.declared.stored.Stored.{Stored}
+use Rattle.std.proofs.Common.{[], ◌&&◌, ◌<◌, ◌^◌, ◌∙◌, ◌≡◌, ◌⊎◌, ap, arith, Bool, false, inl, inr, nat_lt, subst, sym, true}
+use Rattle.pdc_world.proofs.Names.{A, and_cases, and_parts, are_left, B, both_ways, do_agree, first_mark, given_by, given_of, given_of_merger, HasCome, HasNoStart, Holds, Leads, LedgerView, ltb-false, ltb-true, M, MayBegin, merger_seat, MergerSettings, node_seat, Seat, Settings, SettingsAgree, Stored, Who, with_next_start, World, world_of, WorldView}
+use Rattle.pdc_world.proofs.Agreements.{agree_from, agree_to}
 use Rattle.pdc_merge.specs.Merger as merger
 use Rattle.pdc_node.specs.Node as node
-use Rattle.pdc_world.specs.Acts.{HasCome}
-use Rattle.pdc_world.specs.Agreement.{do_agree}
-use Rattle.pdc_world.specs.Holds.{Holds}
-use Rattle.pdc_world.specs.Opening.{HasNoStart, are_left, world_of}
-use Rattle.pdc_world.specs.Seats.{Seat, merger_seat, node_seat}
-use Rattle.pdc_world.specs.Views.{LedgerView, WorldView}
-use Rattle.pdc_world.specs.declared.opening.Leads.{Leads}
-use Rattle.pdc_world.proofs.Agreements.{agree_from, agree_to}
 
 either : {P Q R : Type 0} → P ⊎ Q → (P → R) → (Q → R) → R
 either (inl p) f g = f p

@@ -1,22 +1,12 @@
 -- What happens to one core leaves the others where they have come to.
-use Rattle.std.proofs.Common.{◌≡◌, Bool, true, false, List, ◌∷◌, Some, None, refl, sym, subst, cond}
-use Rattle.pdc_history.specs.World.{Who, A, B, M, World, Happened, Sends, Comes, PassesBy, Ticks, Publishes, Ends, begun_with, given_by, given_in, is_same, lead_of, life_of, mark_of, opened_with, reserved, since, with_counts_of, with_entry}
-use Rattle.pdc_life.specs.Given.{Given}
-use Rattle.pdc_life.specs.Life.{Entry, Pop}
-use Rattle.pdc_mark.specs.declared.stored.Stored.{Stored}
-use Rattle.pdc_world.specs.Acts.{HasCome, is_own}
-use Rattle.pdc_world.specs.Seats.{Seat}
+use Rattle.std.proofs.Common.{◌∷◌, ◌≡◌, Bool, cond, false, List, None, refl, Some, subst, sym, true}
+use Rattle.pdc_world.proofs.Names.{A, B, begun_with, Comes, Ends, Entry, Given, given_by, given_in, Happened, HasCome, is_own, is_same, lead_of, life_of, M, mark_of, opened_with, PassesBy, Pop, Publishes, reserved, Seat, Sends, since, Stored, Ticks, Who, with_counts_of, with_entry, World}
 
 same_who : (v w : Who) → is_same v w ≡ true → v ≡ w
 same_who A A e = refl
 same_who B B e = refl
 same_who M M e = refl
-same_who A B e = cc
-same_who A M e = cc
-same_who B A e = cc
-same_who B M e = cc
-same_who M A e = cc
-same_who M B e = cc
+same_who v w e = cc
 
 another : (v who w : Who) → is_same v who ≡ true → is_same who w ≡ false → is_same v w ≡ false
 another v who w own other = subst (λ (x : Who). is_same x w ≡ false) (sym (same_who v who own)) other

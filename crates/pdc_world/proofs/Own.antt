@@ -1,15 +1,8 @@
 -- What a core has come to, with one thing more that happened to it.
-use Rattle.std.proofs.Common.{◌≡◌, true, List, [], ◌∷◌, Option, refl}
-use Rattle.pdc_event.specs.Event.{who_of}
+use Rattle.std.proofs.Common.{[], ◌∷◌, ◌≡◌, List, Option, refl, true}
 use Rattle.pdc_event.specs.declared.who.Who.{Who as WhoData}
+use Rattle.pdc_world.proofs.Names.{A, B, Comes, Ends, Entry, given_by, given_in, Happened, HasCome, is_same, lead_of, life_of, M, mark_of, name_of, output_of, PassesBy, Pop, Publishes, reserved, RowView, Seat, Stored, Ticks, Who, who_of, with_counts_of, World}
 use Rattle.pdc_event.specs.declared.who.Who.TheVariants as who
-use Rattle.pdc_history.specs.World.{Who, A, B, M, World, Happened, Comes, PassesBy, Ticks, Publishes, Ends, given_by, given_in, is_same, lead_of, life_of, mark_of, output_of, reserved, with_counts_of}
-use Rattle.pdc_life.specs.Life.{Entry, Pop}
-use Rattle.pdc_mark.specs.declared.stored.Stored.{Stored}
-use Rattle.pdc_row.specs.RowView.{RowView}
-use Rattle.pdc_world.specs.Acts.{HasCome}
-use Rattle.pdc_world.specs.Replies.{name_of}
-use Rattle.pdc_world.specs.Seats.{Seat}
 
 pub same_itself : (v : Who) → is_same v v ≡ true
 same_itself A = refl

@@ -1,20 +1,6 @@
 -- The seats of a world, and a world in which something happened to one of them.
-use Rattle.std.proofs.Common.{◌≡◌, Bool, true, false, List, ◌∷◌, Result, Ok, Err, IfErr, IfOk, OnErr, refl, sym, ap, subst, ◌∙◌}
-use Rattle.pdc_event.specs.declared.fault.Fault.{Fault}
-use Rattle.pdc_event.specs.declared.reply.Reply.{Reply}
-use Rattle.pdc_history.specs.Agree.{ids_of}
-use Rattle.pdc_history.specs.Asked.{Asked}
-use Rattle.pdc_history.specs.World.{A, B, M, Who, World, Happened, is_same}
-use Rattle.pdc_life.specs.Given.{given_of}
-use Rattle.pdc_life.specs.MergerReading.{ReadsForMerger, given_of_merger}
-use Rattle.pdc_life.specs.Node.{ReadsFor}
-use Rattle.pdc_life.specs.declared.given.Settings.{Settings}
-use Rattle.pdc_life.specs.declared.merging.MergerSettings.{MergerSettings}
-use Rattle.pdc_world.specs.Acts.{IsAct, IsMade, IsPart, IsRefused, IsSeat, IsSomePart, IsWhy, Keeps, is_own}
-use Rattle.pdc_world.specs.Holds.{Holds, HoldsSome, IsAnswered, IsSeated}
-use Rattle.pdc_world.specs.Named.{node_ids}
-use Rattle.pdc_world.specs.Seats.{CoreOf, seat_of, settings_in, station_of}
-use Rattle.pdc_world.specs.Views.{LedgerView, StationView, WorldView}
+use Rattle.std.proofs.Common.{◌∙◌, ◌∷◌, ◌≡◌, ap, Bool, Err, false, IfErr, IfOk, List, Ok, OnErr, refl, Result, subst, sym, true}
+use Rattle.pdc_world.proofs.Names.{A, Asked, B, CoreOf, Fault, given_of, given_of_merger, Happened, Holds, HoldsSome, ids_of, is_own, is_same, IsAct, IsAnswered, IsMade, IsPart, IsRefused, IsSeat, IsSeated, IsSomePart, IsWhy, Keeps, LedgerView, M, MergerSettings, node_ids, ReadsFor, ReadsForMerger, Reply, seat_of, Settings, settings_in, station_of, StationView, Who, World, WorldView}
 use Rattle.pdc_world.proofs.Others.{others_stay}
 
 -- ---- one seat

@@ -1,9 +1,6 @@
 -- No PMU has this stream id.
-use Rattle.std.proofs.Common.{◌≡◌, ◌≢◌, ℕ, List, Option, Some, None, IfNone, option_map, refl, sym, ap, ◌∙◌}
-use Rattle.std.specs.List.{All, slice_get}
-use Rattle.std.proofs.lemmas.Option.{get_or_from_slice_get, slice_get-map, slice_get_within}
-use Rattle.pdc_history.specs.Agree.{ids_of}
-use Rattle.pdc_life.specs.declared.pmu.Pmu.{Pmu}
+use Rattle.std.proofs.Common.{◌∙◌, ◌≡◌, ◌≢◌, ap, IfNone, List, None, Option, option_map, refl, Some, sym, ℕ}
+use Rattle.pdc_world.proofs.Names.{All, get_or_from_slice_get, ids_of, Pmu, slice_get, slice_get-map, slice_get_within}
 
 at_place : (xs : List Pmu) (id s : ℕ) (o : Option Pmu) → All (λ (pmu : Pmu). pmu.stream.value ≢ id) xs → slice_get xs s ≡ o → option_map (λ (pmu : Pmu). pmu.stream.value) o ≡ Some id → ⊥
 at_place xs id s None all is same = cc

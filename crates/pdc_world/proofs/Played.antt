@@ -1,16 +1,6 @@
 -- Events that were played, and one more.
-use Rattle.std.proofs.Common.{◌≡◌, ℕ, suc, ◌+◌, ◌<◌, ◌≤◌, List, [], ◌∷◌, ◌++◌, drop, get_or, length, map, take, refl, sym, ap, subst, ◌∙◌, arith, drop-cons, Result, Ok, Err, IfOk, OnErr}
-use Rattle.std.proofs.lemmas.List.{length-map, length-take-le, map-append, take-append-drop, take_all, take_more}
-use Rattle.pdc_event.specs.Event.{asked_of}
-use Rattle.pdc_event.specs.declared.event.Event.{Event}
-use Rattle.pdc_event.specs.declared.fault.Fault.{Fault}
-use Rattle.pdc_event.specs.declared.reply.Reply.{Reply}
-use Rattle.pdc_history.specs.Asked.{Asked}
-use Rattle.pdc_history.specs.Play.{IsPlayOf, IsStepOf}
-use Rattle.pdc_history.specs.World.{World, Happened}
-use Rattle.pdc_world.specs.Acts.{IsWhy}
-use Rattle.pdc_world.specs.Holds.{Holds, IsAnswered, IsCutShort, IsPlayed}
-use Rattle.pdc_world.specs.Views.{WorldView}
+use Rattle.std.proofs.Common.{[], ◌++◌, ◌+◌, ◌<◌, ◌∙◌, ◌∷◌, ◌≡◌, ◌≤◌, ap, arith, drop, drop-cons, Err, get_or, IfOk, length, List, map, Ok, OnErr, refl, Result, subst, suc, sym, take, ℕ}
+use Rattle.pdc_world.proofs.Names.{Asked, asked_of, Event, Fault, Happened, Holds, IsAnswered, IsCutShort, IsPlayed, IsPlayOf, IsStepOf, IsWhy, length-map, length-take-le, map-append, Reply, take-append-drop, take_all, take_more, World, WorldView}
 
 play_more : (W : World) (H after : List Happened) (asked : List Asked) (it : Asked) (h : Happened) → IsPlayOf W H asked after → IsStepOf W after it h
     → IsPlayOf W H (asked ++ it ∷ []) (h ∷ after)

@@ -1,17 +1,9 @@
 -- A refused send, as a fault of the world.
-use Rattle.std.proofs.Common.{◌≡◌, ℕ, Bool, true, List, nat_le, nat_lt, ◌&&◌, refl}
-use Rattle.std.proofs.lemmas.Bool.{and_parts, both_ways}
-use Rattle.pdc_event.specs.declared.fault.Fault.{Fault}
+use Rattle.std.proofs.Common.{◌&&◌, ◌≡◌, Bool, List, nat_le, nat_lt, refl, true, ℕ}
+use Rattle.pdc_world.proofs.Names.{and_parts, both_ways, Fault, fault_of_send, FaultsMayNotHappen, Foreign, Happened, HasCause, IsSentIn, IsWhy, MayBeSent, NoMemory, OtherBody, OtherSection, SendFault, SentView, World}
 use Rattle.pdc_event.specs.declared.fault.Fault.TheVariants as fault
 use Rattle.pdc_history.specs.Asked as asked
-use Rattle.pdc_history.specs.Asked.{FaultsMayNotHappen}
 use Rattle.pdc_history.specs.Event as events
-use Rattle.pdc_history.specs.World.{World, Happened}
-use Rattle.pdc_sent.specs.Histories.{HasCause, IsSentIn, MayBeSent}
-use Rattle.pdc_sent.specs.Sent.{SentView}
-use Rattle.pdc_sent.specs.declared.fault.SendFault.{SendFault}
-use Rattle.pdc_sent.specs.declared.fault.SendFault.TheVariants.{Foreign, NoMemory, OtherBody, OtherSection}
-use Rattle.pdc_world.specs.Acts.{IsWhy, fault_of_send}
 
 pub why_send : FaultsMayNotHappen → (W : World) (H : List Happened) (v : SentView) (bytes : List ℕ) (refusal : SendFault) → IsSentIn W H v → HasCause v bytes refusal
     → (refusal ≡ NoMemory → MayBeSent v bytes) → IsWhy W H (asked.Send bytes) (fault_of_send refusal)

@@ -1,13 +1,6 @@
 -- The contract of an act, of an event that is another one.
-use Rattle.std.proofs.Common.{◌≡◌, Result, sym, subst}
-use Rattle.pdc_event.specs.Event.{asked_of}
-use Rattle.pdc_event.specs.declared.event.Event.{Event}
-use Rattle.pdc_event.specs.declared.fault.Fault.{Fault}
-use Rattle.pdc_event.specs.declared.reply.Reply.{Reply}
-use Rattle.pdc_world.specs.Acts.{IsMade, IsRefused}
-use Rattle.pdc_world.specs.Receiver.{core_in}
-use Rattle.pdc_world.specs.Seats.{Seat}
-use Rattle.pdc_world.specs.Views.{LedgerView}
+use Rattle.std.proofs.Common.{◌≡◌, Result, subst, sym}
+use Rattle.pdc_world.proofs.Names.{asked_of, core_in, Event, Fault, IsMade, IsRefused, LedgerView, Reply, Seat}
 
 pub made_of : (e f : Event) (before after : Seat) (old new : LedgerView) (result : Result Reply Fault) → e ≡ f → IsMade (core_in f) (asked_of f) before after old new result
     → IsMade (core_in e) (asked_of e) before after old new result

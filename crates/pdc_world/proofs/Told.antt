@@ -1,16 +1,9 @@
 -- Where there is a cause, its fault is told.
-use Rattle.std.proofs.Common.{◌≡◌, List, Result, Ok, Err, IfOk, IfErr, IsErrOf, ap}
-use Rattle.pdc_event.specs.Event.{fault_of}
-use Rattle.pdc_event.specs.declared.fault.Fault.{Fault}
+use Rattle.std.proofs.Common.{◌≡◌, ap, Err, IfErr, IfOk, IsErrOf, List, Ok, Result}
+use Rattle.pdc_history.specs.Asked.{Foreign, OtherBody, OtherSection}
+use Rattle.pdc_world.proofs.Names.{Asked, Cause, CausesAreOne, Fault, fault_of, FaultsMayNotHappen, Genuine, Happened, IsAnswered, IsFault, IsWhy, OneBody, OneSection, OneTable, Reply, World, WorldView}
 use Rattle.pdc_event.specs.declared.fault.Fault.TheVariants as fault
-use Rattle.pdc_event.specs.declared.fault.Premise.TheVariants.{OneBody, OneSection, Genuine, OneTable}
-use Rattle.pdc_event.specs.declared.reply.Reply.{Reply}
-use Rattle.pdc_history.specs.Asked.{Asked, Cause, CausesAreOne, FaultsMayNotHappen, IsFault, OtherBody, OtherSection, Foreign}
 use Rattle.pdc_history.specs.Asked as asked
-use Rattle.pdc_history.specs.World.{World, Happened}
-use Rattle.pdc_world.specs.Acts.{IsWhy}
-use Rattle.pdc_world.specs.Holds.{IsAnswered}
-use Rattle.pdc_world.specs.Views.{WorldView}
 
 told_fault : CausesAreOne → (W : World) (H : List Happened) (what : Asked) (cause : Cause) (f : Fault) → IsWhy W H what f → IsFault W H what cause → f ≡ fault_of cause
 told_fault one W H what cause (fault.PremiseBroken OneBody) why it = ap fault_of (one W H what OtherBody cause why it)

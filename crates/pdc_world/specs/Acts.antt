@@ -1,36 +1,19 @@
 -- What an act of one core makes of a world: of the core and its mark, and of what was sent and published (this profile).
-use Rattle.std.specs.Prelude.{◌≡◌, ◌≤◌, ℕ, Bool, true, List, [], ◌∷◌, length, Option, None, Some, Result, IfErr, IfOk}
-use Rattle.pdc_event.specs.declared.fault.Fault.{Fault}
-use Rattle.pdc_event.specs.declared.fault.Fault.TheVariants as fault
-use Rattle.pdc_event.specs.declared.fault.Premise.TheVariants.{OneBody, OneSection, Genuine, OneTable}
-use Rattle.pdc_event.specs.declared.reply.Published.{Published}
-use Rattle.pdc_event.specs.declared.reply.Reply.{Reply}
-use Rattle.pdc_history.specs.Asked.{Asked, Cause, IsFault, OtherBody, OtherSection, Foreign}
-use Rattle.pdc_history.specs.Asked as asked
-use Rattle.pdc_history.specs.History.{IsHistory, Says, stream_ids}
-use Rattle.pdc_history.specs.Play.{IsStepOf}
-use Rattle.pdc_history.specs.World.{Who, World, Happened, Sends, given_by, given_in, is_same, lead_of, life_of, mark_of, rules_of, sent}
-use Rattle.pdc_life.specs.Arrival.{Arrival}
-use Rattle.pdc_life.specs.Given.{Given}
-use Rattle.pdc_life.specs.Life.{Entry}
-use Rattle.pdc_life.specs.Published.{layout_wire}
-use Rattle.pdc_mark.specs.declared.stored.Stored.{Stored}
-use Rattle.pdc_output.specs.declared.output.Output.{Output}
-use Rattle.pdc_output.specs.Layout.{wire_of}
-use Rattle.pdc_row.specs.RowView.{RowView}
+use Rattle.std.specs.Prelude.{[], ◌∷◌, ◌≡◌, ◌≤◌, Bool, IfErr, IfOk, length, List, None, Option, Result, Some, true, ℕ}
 use Rattle.pdc_frame.specs.declared.limits.TheConstants.{MAX_SIZE}
-use Rattle.pdc_life.specs.declared.given.Settings.{Settings}
-use Rattle.pdc_sent.specs.Sent.{IsOfNone}
-use Rattle.pdc_sent.specs.declared.fault.SendFault.{SendFault}
-use Rattle.pdc_sent.specs.declared.fault.SendFault.TheVariants as send
+use Rattle.pdc_row.specs.RowView.{RowView}
+use Rattle.pdc_output.specs.{declared.output.Output.{Output}, Layout.{wire_of}}
+use Rattle.pdc_mark.specs.declared.stored.Stored.{Stored}
+use Rattle.pdc_life.specs.{Arrival.{Arrival}, declared.given.Settings.{Settings}, Given.{Given}, Life.{Entry}, Published.{layout_wire}}
+use Rattle.pdc_history.specs.{Asked.{Asked, Cause, Foreign, IsFault, OtherBody, OtherSection}, History.{IsHistory, Says, stream_ids}, Play.{IsStepOf}, World.{given_by, given_in, Happened, is_same, lead_of, life_of, mark_of, rules_of, Sends, sent, Who, World}}
+use Rattle.pdc_sent.specs.{declared.fault.SendFault.{SendFault}, Sent.{IsOfNone}}
+use Rattle.pdc_event.specs.{declared.fault.Fault.{Fault}, declared.fault.Premise.TheVariants.{Genuine, OneBody, OneSection, OneTable}, declared.reply.Published.{Published}, declared.reply.Reply.{Reply}}
 use Rattle.pdc_station.specs.declared.fault.StopFault.{StopFault}
+use Rattle.pdc_world.specs.{Replies.{listed, published_as, reply_of, whose_is}, Seats.{Seat}, Views.{LedgerView}}
+use Rattle.pdc_event.specs.declared.fault.Fault.TheVariants as fault
+use Rattle.pdc_history.specs.Asked as asked
+use Rattle.pdc_sent.specs.declared.fault.SendFault.TheVariants as send
 use Rattle.pdc_station.specs.declared.fault.StopFault.TheVariants as stop
-use Rattle.pdc_station.specs.declared.stop_at.StopAt.{StopAt}
-use Rattle.pdc_station.specs.declared.stop_at.StopAt.TheVariants as at
-use Rattle.pdc_station.specs.declared.stop_at.Storing.TheVariants as storing
-use Rattle.pdc_world.specs.Replies.{listed, published_as, reply_of, whose_is}
-use Rattle.pdc_world.specs.Seats.{Seat}
-use Rattle.pdc_world.specs.Views.{LedgerView}
 
 -- What is fixed of the seat is that of this core of the world.
 pub record IsSeat (W : World) (who : Who) (seat : Seat) : Type 0 where
@@ -138,10 +121,3 @@ fault_of_stop stop.StartsUsedUp = fault.StartsUsedUp
 abbrev pub frames_if : (bytes : List ℕ) → Option RowView → List (List ℕ)
 frames_if bytes None = []
 frames_if bytes (Some row) = bytes ∷ []
-
--- what a stop is asked as
-abbrev pub asked_to_stop : Who → StopAt → Asked
-asked_to_stop who at.Between = asked.Stop who
-asked_to_stop who (at.In storing.Publish landed) = asked.StopIn who landed
-asked_to_stop who (at.In storing.Tick landed) = asked.StopInTick who landed
-asked_to_stop who (at.In storing.Start landed) = asked.StopAtStart who landed

@@ -1,10 +1,7 @@
 -- Whether the settings of two nodes and a merger agree, as a test (this profile).
-use Rattle.std.specs.Prelude.{ℕ, ◌==◌, ◌&&◌, Bool, true, false, not, List, [], ◌∷◌}
-use Rattle.pdc_life.specs.declared.given.Settings.{Settings}
-use Rattle.pdc_life.specs.declared.merging.MergedNode.{MergedNode}
-use Rattle.pdc_life.specs.declared.merging.MergerSettings.{MergerSettings}
-use Rattle.pdc_life.specs.declared.pmu.Pmu.{Pmu}
+use Rattle.std.specs.Prelude.{[], ◌&&◌, ◌==◌, ◌∷◌, Bool, false, List, not, true, ℕ}
 use Rattle.pdc_output.specs.declared.output.Output.{Output}
+use Rattle.pdc_life.specs.{declared.given.Settings.{Settings}, declared.merging.MergedNode.{MergedNode}, declared.merging.MergerSettings.{MergerSettings}, declared.pmu.Pmu.{Pmu}}
 
 -- the same streams with the same TIME_BASEs and sources, in the same order
 abbrev pub are_alike : List Pmu → List Pmu → Bool

@@ -1,15 +1,8 @@
 -- The histories that a world holds, and what its steps make of them (this profile).
-use Rattle.std.specs.Prelude.{◌≡◌, ◌+◌, List, ◌∷◌, ◌++◌, length}
-use Rattle.pdc_event.specs.declared.fault.WorldFault.{WorldFault}
-use Rattle.pdc_event.specs.declared.reply.Reply.{Reply}
-use Rattle.pdc_history.specs.Asked.{Asked}
-use Rattle.pdc_history.specs.History.{IsHistory}
-use Rattle.pdc_history.specs.Play.{IsPlayOf, IsStepOf}
-use Rattle.pdc_history.specs.World.{Who, World, Happened, lead_of}
-use Rattle.pdc_world.specs.Acts.{HasCome, IsWhy, Keeps}
-use Rattle.pdc_world.specs.Replies.{reply_of}
-use Rattle.pdc_world.specs.Seats.{CoreOf, seat_of, settings_in, settings_of, station_of}
-use Rattle.pdc_world.specs.Views.{StationView, WorldView}
+use Rattle.std.specs.Prelude.{◌++◌, ◌+◌, ◌∷◌, ◌≡◌, length, List}
+use Rattle.pdc_history.specs.{Asked.{Asked}, History.{IsHistory}, Play.{IsPlayOf, IsStepOf}, World.{Happened, lead_of, Who, World}}
+use Rattle.pdc_event.specs.{declared.fault.WorldFault.{WorldFault}, declared.reply.Reply.{Reply}}
+use Rattle.pdc_world.specs.{Acts.{HasCome, IsWhy, Keeps}, Replies.{reply_of}, Seats.{CoreOf, seat_of, settings_in, settings_of, station_of}, Views.{StationView, WorldView}}
 
 -- The station of a seat has the settings and the lead of this core of the world, and has come to where the history left it.
 pub record IsSeated (W : World) (H : List Happened) (who : Who) (station : StationView (CoreOf who)) : Type 0 where

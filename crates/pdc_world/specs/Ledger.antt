@@ -1,13 +1,11 @@
 -- What contracts see of the ledger (this profile).
-use Rattle.std.specs.Prelude.{◌≡◌, ◌<◌, ◌≤◌, ◌&&◌, Bool, [], IsTrue, nat_le, nat_lt, vec_capacity, vec_len}
+use Rattle.std.specs.Prelude.{[], ◌&&◌, ◌<◌, ◌≡◌, ◌≤◌, Bool, IsTrue, nat_le, nat_lt, vec_capacity, vec_len}
 use Rattle.pdc_frame.specs.declared.limits.TheConstants.{MAX_SIZE}
 use Rattle.pdc_mark.specs.declared.stored.Stored.{Stored}
-use Rattle.pdc_merge.specs.Merger.{MergerView}
 use Rattle.pdc_node.specs.Node.{NodeView}
-use Rattle.pdc_station.specs.pdc_publisher.Publisher.{lead_in, mark_in}
-use Rattle.pdc_station.specs.declared.station.Station.{Station}
-use Rattle.pdc_world.specs.declared.ledger.Ledger.{Ledger}
-use Rattle.pdc_world.specs.Views.{LedgerView, StationView, WorldView}
+use Rattle.pdc_merge.specs.Merger.{MergerView}
+use Rattle.pdc_station.specs.{declared.station.Station.{Station}, pdc_publisher.Publisher.{lead_in, mark_in}}
+use Rattle.pdc_world.specs.{declared.ledger.Ledger.{Ledger}, Views.{LedgerView, StationView, WorldView}}
 
 abbrev pub ledger_view : Ledger → LedgerView
 ledger_view ledger = record { table = ledger.sent.settings; frames = ledger.sent.frames; published = ledger.published.items }

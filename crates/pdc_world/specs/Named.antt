@@ -1,10 +1,7 @@
 -- The stream that bytes name (this profile).
-use Rattle.std.specs.Prelude.{◌≡◌, ℕ, List, map, Some}
-use Rattle.std.specs.List.{slice_get}
+use Rattle.std.specs.{List.{slice_get}, Prelude.{◌≡◌, List, map, Some, ℕ}}
 use Rattle.pdc_frame.specs.Frame.{Fields, IsFrame}
-use Rattle.pdc_life.specs.declared.merging.MergedNode.{MergedNode}
-use Rattle.pdc_life.specs.declared.merging.MergerSettings.{MergerSettings}
-use Rattle.pdc_life.specs.MergerReading.{nodes_of}
+use Rattle.pdc_life.specs.{declared.merging.MergedNode.{MergedNode}, declared.merging.MergerSettings.{MergerSettings}, MergerReading.{nodes_of}}
 
 -- The bytes are a frame, and its id is that of this stream.
 pub record IsNamed (ids : List ℕ) (bytes : List ℕ) (s : ℕ) : Type 0 where

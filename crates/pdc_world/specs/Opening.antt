@@ -1,16 +1,11 @@
 -- How a world begins, and why it does not (this profile).
-use Rattle.std.specs.Prelude.{◌≡◌, ◌-◌, ◌^◌, ◌≤◌, ◌&&◌, Bool, nat_lt}
-use Rattle.pdc_event.specs.declared.fault.Fault.{Fault}
-use Rattle.pdc_event.specs.declared.fault.Fault.TheVariants as fault
-use Rattle.pdc_event.specs.declared.fault.Premise.TheVariants.{OneTable}
-use Rattle.pdc_event.specs.declared.fault.WorldFault.{WorldFault}
-use Rattle.pdc_history.specs.Agree.{MayBegin, SettingsAgree}
-use Rattle.pdc_history.specs.World.{Who, World, first_mark}
-use Rattle.pdc_life.specs.declared.given.Settings.{Settings}
-use Rattle.pdc_life.specs.declared.merging.MergerSettings.{MergerSettings}
-use Rattle.pdc_mark.specs.Stored.{with_next_start}
-use Rattle.pdc_mark.specs.declared.stored.Stored.{Stored}
+use Rattle.std.specs.Prelude.{◌&&◌, ◌-◌, ◌^◌, ◌≡◌, ◌≤◌, Bool, nat_lt}
+use Rattle.pdc_mark.specs.{declared.stored.Stored.{Stored}, Stored.{with_next_start}}
+use Rattle.pdc_life.specs.{declared.given.Settings.{Settings}, declared.merging.MergerSettings.{MergerSettings}}
+use Rattle.pdc_history.specs.{Agree.{MayBegin, SettingsAgree}, World.{first_mark, Who, World}}
+use Rattle.pdc_event.specs.{declared.fault.Fault.{Fault}, declared.fault.Premise.TheVariants.{OneTable}, declared.fault.WorldFault.{WorldFault}}
 use Rattle.pdc_world.specs.declared.opening.Leads.{Leads}
+use Rattle.pdc_event.specs.declared.fault.Fault.TheVariants as fault
 
 -- The world of these settings and leads, over marks that store this. Each first life begins with the next start, which is then stored.
 abbrev pub world_of : (a b : Settings) → MergerSettings → Leads → (of_a of_b of_m : Stored) → World

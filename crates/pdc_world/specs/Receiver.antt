@@ -1,17 +1,11 @@
 -- Which core an event is for (this profile).
-use Rattle.pdc_event.specs.Event.{who_of}
-use Rattle.pdc_event.specs.declared.event.Event.{Event}
+use Rattle.pdc_history.specs.World.{A, Who}
+use Rattle.pdc_event.specs.{declared.event.Event.{Event}, Event.{who_of}}
 use Rattle.pdc_event.specs.declared.event.Event.TheVariants as event
-use Rattle.pdc_history.specs.World.{Who, A}
 
 -- the core that the event is for; that a PMU sends is for none, and concerns none more than A
 abbrev pub core_in : Event → Who
 core_in (event.Send bytes) = A
 core_in (event.To who number) = who_of who
 core_in (event.Junk who bytes) = who_of who
-core_in (event.Tick who now) = who_of who
-core_in (event.Publish who) = who_of who
-core_in (event.Stop who) = who_of who
-core_in (event.StopIn who landed) = who_of who
-core_in (event.StopInTick who landed) = who_of who
-core_in (event.StopAtStart who landed) = who_of who
+core_in (event.Do who act) = who_of who

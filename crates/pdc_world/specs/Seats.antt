@@ -1,23 +1,13 @@
 -- The seats of a world: what a core with its mark is to it (this profile).
-use Rattle.std.specs.Prelude.{ℕ, List}
-use Rattle.pdc_history.specs.Agree.{ids_of}
-use Rattle.pdc_history.specs.World.{Who, A, B, M, World}
-use Rattle.pdc_life.specs.Answer.{Rules}
-use Rattle.pdc_life.specs.Arrival.{Arrival}
-use Rattle.pdc_life.specs.Given.{Given, given_of}
-use Rattle.pdc_life.specs.Life.{Entry}
-use Rattle.pdc_life.specs.Merger.{merged_answer}
-use Rattle.pdc_life.specs.MergerReading.{ReadsForMerger, given_of_merger}
-use Rattle.pdc_life.specs.Node.{ReadsFor, node_answer}
-use Rattle.pdc_life.specs.declared.given.Settings.{Settings}
-use Rattle.pdc_life.specs.declared.merging.MergerSettings.{MergerSettings}
+use Rattle.std.specs.Prelude.{List, ℕ}
 use Rattle.pdc_mark.specs.declared.stored.Stored.{Stored}
-use Rattle.pdc_merge.specs.Merger as merger
-use Rattle.pdc_merge.specs.Merger.{MergerView}
-use Rattle.pdc_node.specs.Node as node
+use Rattle.pdc_life.specs.{Answer.{Rules}, Arrival.{Arrival}, declared.given.Settings.{Settings}, declared.merging.MergerSettings.{MergerSettings}, Given.{Given, given_of}, Life.{Entry}, Merger.{merged_answer}, MergerReading.{given_of_merger, ReadsForMerger}, Node.{node_answer, ReadsFor}}
 use Rattle.pdc_node.specs.Node.{NodeView}
-use Rattle.pdc_world.specs.Named.{node_ids}
-use Rattle.pdc_world.specs.Views.{StationView, WorldView}
+use Rattle.pdc_merge.specs.Merger.{MergerView}
+use Rattle.pdc_history.specs.{Agree.{ids_of}, World.{A, B, M, Who, World}}
+use Rattle.pdc_world.specs.{Named.{node_ids}, Views.{StationView, WorldView}}
+use Rattle.pdc_merge.specs.Merger as merger
+use Rattle.pdc_node.specs.Node as node
 
 -- What is fixed of it: by which rules it answers arrivals, what a life that begins with a mark is given, what bytes say to it, the ids of
 -- its streams, and how far ahead its mark is reserved. And what it has come to: the lives that the core stands for, and the mark.

@@ -1,10 +1,10 @@
 -- What contracts see of a world (this profile).
-use Rattle.std.specs.Prelude.{ℕ, Bool, List}
-use Rattle.pdc_event.specs.declared.reply.Published.{Published}
-use Rattle.pdc_life.specs.declared.given.Settings.{Settings}
+use Rattle.std.specs.Prelude.{Bool, List, ℕ}
 use Rattle.pdc_mark.specs.declared.stored.Stored.{Stored}
-use Rattle.pdc_merge.specs.Merger.{MergerView}
+use Rattle.pdc_life.specs.declared.given.Settings.{Settings}
 use Rattle.pdc_node.specs.Node.{NodeView}
+use Rattle.pdc_merge.specs.Merger.{MergerView}
+use Rattle.pdc_event.specs.declared.reply.Published.{Published}
 
 -- what was sent and published, and the settings by which frames of PMUs are read
 pub record LedgerView : Type 0 where

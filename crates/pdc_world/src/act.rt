@@ -15,9 +15,9 @@ use crate::publishes::publish;
 use crate::sends::send;
 use crate::stops::stop;
 use crate::ticks::tick;
-use pdc_event::{Event, Fault, Reply};
+use pdc_event::{Act, Event, Fault, Reply};
 use pdc_mark::Store;
-use pdc_station::{Station, StopAt, Storing};
+use pdc_station::Station;
 use std::alloc::Global;
 
 /// Makes what a core is asked, if it may happen.
@@ -41,29 +41,10 @@ pub(crate) fn act<C: Plays, S: Store>(
         Event::Send { bytes } => send(ledger, bytes),
         Event::To { who, number } => bring(station, ledger, *who, *number),
         Event::Junk { who, bytes } => bring_junk(station, ledger, *who, bytes),
-        Event::Tick { who, now } => tick(station, ledger, *who, *now),
-        Event::Publish { who } => publish(station, ledger, *who),
-        Event::Stop { who } => stop(station, ledger, alloc, *who, StopAt::Between),
-        Event::StopIn { who, landed } => {
-            let at = StopAt::In {
-                storing: Storing::Publish,
-                landed: *landed,
-            };
-            stop(station, ledger, alloc, *who, at)
-        }
-        Event::StopInTick { who, landed } => {
-            let at = StopAt::In {
-                storing: Storing::Tick,
-                landed: *landed,
-            };
-            stop(station, ledger, alloc, *who, at)
-        }
-        Event::StopAtStart { who, landed } => {
-            let at = StopAt::In {
-                storing: Storing::Start,
-                landed: *landed,
-            };
-            stop(station, ledger, alloc, *who, at)
-        }
+        Event::Do { who, act } => match act {
+            Act::Tick { now } => tick(station, ledger, *who, *now),
+            Act::Publish => publish(station, ledger, *who),
+            Act::Stop(at) => stop(station, ledger, alloc, *who, *at),
+        },
     }
 }

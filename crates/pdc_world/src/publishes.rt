@@ -3,6 +3,7 @@ ghost use Rattle.std.specs.Prelude.{◌≡◌, ◌≤◌, ◌<◌, ◌++◌, IfE
 ghost use Rattle.pdc_event.specs.declared.fault.Fault.TheVariants.{NoMemory};
 ghost use Rattle.pdc_event.specs.Event.{who_of};
 ghost use Rattle.pdc_history.specs.Asked as asked;
+ghost use Rattle.pdc_history.specs.Event.{Publish};
 ghost use Rattle.pdc_station.specs.pdc_publisher.Publisher.{lead_in};
 ghost use Rattle.pdc_world.specs.Acts.{IsMade, IsSomePart, frames_if, listed_with};
 ghost use Rattle.pdc_frame.specs.declared.limits.TheConstants.{MAX_SIZE};
@@ -51,7 +52,7 @@ pub(crate) fn publish<C: Plays, S: Store>(
     who: Who,
 ) -> Result<Reply, Fault>
     requires some { IsSomePart (who_of who) (⟦<Station<C, S> as Sits>⟧.seat station.old) (ledger_view ledger.old) }
-    ensures made { IsMade (who_of who) (asked.Publish (who_of who)) (⟦<Station<C, S> as Sits>⟧.seat station.old)
+    ensures made { IsMade (who_of who) (asked.Do (who_of who) Publish) (⟦<Station<C, S> as Sits>⟧.seat station.old)
         (⟦<Station<C, S> as Sits>⟧.seat station.new) (ledger_view ledger.old) (ledger_view ledger.new) result }
     ensures memory { IfErr result (λ fault. fault ≡ NoMemory) }
     ensures err { OnErr result ((station.new ≡ station.old) × (ledger_view ledger.new ≡ ledger_view ledger.old)

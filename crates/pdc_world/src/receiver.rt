@@ -13,11 +13,6 @@ pub(crate) fn receiver(event: &Event<'_>) -> Who
         Event::Send { .. } => Who::A,
         Event::To { who, .. } => *who,
         Event::Junk { who, .. } => *who,
-        Event::Tick { who, .. } => *who,
-        Event::Publish { who } => *who,
-        Event::Stop { who } => *who,
-        Event::StopIn { who, .. } => *who,
-        Event::StopInTick { who, .. } => *who,
-        Event::StopAtStart { who, .. } => *who,
+        Event::Do { who, .. } => *who,
     }
 }

@@ -1,17 +1,19 @@
 //! Stops.
 ghost use Rattle.std.specs.Prelude.{◌≡◌, ◌^◌, ◌<◌, OnErr};
 ghost use Rattle.pdc_event.specs.declared.reply.Reply.TheVariants.{Stopped};
-ghost use Rattle.pdc_event.specs.Event.{who_of};
+ghost use Rattle.pdc_event.specs.declared.act.Act.TheVariants.{Stop};
+ghost use Rattle.pdc_event.specs.Event.{act_of, who_of};
+ghost use Rattle.pdc_history.specs.Asked as asked;
 ghost use Rattle.pdc_station.specs.pdc_publisher.Publisher.{lead_in, mark_in};
-ghost use Rattle.pdc_world.specs.Acts.{IsMade, IsRefused, asked_to_stop, fault_of_stop};
+ghost use Rattle.pdc_world.specs.Acts.{IsMade, IsRefused, fault_of_stop};
 ghost use Rattle.pdc_world.specs.Ledger.{ledger_view};
 
 use crate::ledger::Ledger;
 use crate::plays::{Plays, Sits};
-use pdc_event::{Fault, Reply, Who};
+use pdc_event::{Fault, Reply, StopAt, Who};
 use pdc_history::asked_is_event_or_fault;
 use pdc_mark::Store;
-use pdc_station::{Station, StopAt, StopFault};
+use pdc_station::{Station, StopFault};
 use std::alloc::Global;
 
 /// The fault of a world that this stop is.
@@ -41,9 +43,9 @@ pub(crate) fn stop<C: Plays, S: Store>(
     who: Who,
     at: StopAt,
 ) -> Result<Reply, Fault>
-    ensures made { IsMade (who_of who) (asked_to_stop (who_of who) at) (⟦<Station<C, S> as Sits>⟧.seat station.old)
+    ensures made { IsMade (who_of who) (asked.Do (who_of who) (act_of (Stop at))) (⟦<Station<C, S> as Sits>⟧.seat station.old)
         (⟦<Station<C, S> as Sits>⟧.seat station.new) (ledger_view ledger.now) (ledger_view ledger.now) result }
-    ensures why { IsRefused (who_of who) (asked_to_stop (who_of who) at) (⟦<Station<C, S> as Sits>⟧.seat station.old) (ledger_view ledger.now) result }
+    ensures why { IsRefused (who_of who) (asked.Do (who_of who) (act_of (Stop at))) (⟦<Station<C, S> as Sits>⟧.seat station.old) (ledger_view ledger.now) result }
     ensures err { OnErr result (station.new ≡ station.old) }
     ensures settings { C.settings_of station.new.core ≡ C.settings_of station.old.core }
     ensures lead { lead_in station.new.publisher ≡ lead_in station.old.publisher }

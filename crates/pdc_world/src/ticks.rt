@@ -6,6 +6,7 @@ ghost use Rattle.pdc_life.specs.Published.{layout_wire};
 ghost use Rattle.pdc_event.specs.declared.fault.Fault.TheVariants.{NoMemory};
 ghost use Rattle.pdc_event.specs.Event.{who_of};
 ghost use Rattle.pdc_history.specs.Asked as asked;
+ghost use Rattle.pdc_history.specs.Event.{TickAt};
 ghost use Rattle.pdc_station.specs.pdc_publisher.Publisher.{lead_in};
 ghost use Rattle.pdc_world.specs.Acts.{IsMade, IsSomePart, IsSomeFrame};
 ghost use Rattle.pdc_world.specs.Ledger.{IsReady, ledger_has_room, ledger_view};
@@ -38,7 +39,7 @@ pub(crate) fn tick<C: Plays, S: Store>(
     now: u64,
 ) -> Result<Reply, Fault>
     requires some { IsSomePart (who_of who) (⟦<Station<C, S> as Sits>⟧.seat station.old) (ledger_view ledger.old) }
-    ensures made { IsMade (who_of who) (asked.TickAt (who_of who) now) (⟦<Station<C, S> as Sits>⟧.seat station.old)
+    ensures made { IsMade (who_of who) (asked.Do (who_of who) (TickAt now)) (⟦<Station<C, S> as Sits>⟧.seat station.old)
         (⟦<Station<C, S> as Sits>⟧.seat station.new) (ledger_view ledger.old) (ledger_view ledger.new) result }
     ensures memory { IfErr result (λ fault. fault ≡ NoMemory) }
     ensures err { OnErr result ((station.new ≡ station.old) × (ledger_view ledger.new ≡ ledger_view ledger.old)

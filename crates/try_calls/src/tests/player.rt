@@ -2,7 +2,7 @@
 ghost use Rattle.std.specs.Prelude.{◌∷◌, [], Some, ⊤};
 
 use pdc_align::Ticked;
-use pdc_event::{Event, Fault, Premise, Published, Reply, Who};
+use pdc_event::{Act, Event, Fault, Premise, Published, Reply, StopAt, Storing, Who};
 use pdc_life::{Outcome, Refusal};
 use pdc_play::Plays;
 
@@ -43,6 +43,18 @@ fn published(who: Who) -> Option<Published> {
     }
 }
 
+/// Why a stop in this store is refused.
+fn fault_in(storing: Storing, landed: bool) -> Fault {
+    match (storing, landed) {
+        (Storing::Publish, true) => Fault::PremiseBroken(Premise::OneBody),
+        (Storing::Publish, false) => Fault::PremiseBroken(Premise::OneSection),
+        (Storing::Tick, true) => Fault::PremiseBroken(Premise::Genuine),
+        (Storing::Tick, false) => Fault::PremiseBroken(Premise::OneTable),
+        (Storing::Start, true) => Fault::NoMemory,
+        (Storing::Start, false) => Fault::StartsUsedUp,
+    }
+}
+
 impl Plays for Answers {
     ghost replies = { λ _ _ _ _. ⊤ };
 
@@ -62,25 +74,22 @@ impl Plays for Answers {
                 who,
                 outcome: Some(Outcome::Known),
             }),
-            Event::Tick { who, now } => Ok(Reply::Ticked {
-                who,
-                ticked: ticked(now),
-            }),
-            Event::Publish { who } => Ok(Reply::Published {
-                who,
-                published: published(who),
-            }),
-            Event::Stop { who } => Ok(Reply::Stopped {
-                who,
-                start: 2,
-                floor: 57_478_860_001,
-            }),
-            Event::StopIn { landed: true, .. } => Err(Fault::PremiseBroken(Premise::OneBody)),
-            Event::StopIn { .. } => Err(Fault::PremiseBroken(Premise::OneSection)),
-            Event::StopInTick { landed: true, .. } => Err(Fault::PremiseBroken(Premise::Genuine)),
-            Event::StopInTick { .. } => Err(Fault::PremiseBroken(Premise::OneTable)),
-            Event::StopAtStart { landed: true, .. } => Err(Fault::NoMemory),
-            Event::StopAtStart { .. } => Err(Fault::StartsUsedUp),
+            Event::Do { who, act } => match act {
+                Act::Tick { now } => Ok(Reply::Ticked {
+                    who,
+                    ticked: ticked(now),
+                }),
+                Act::Publish => Ok(Reply::Published {
+                    who,
+                    published: published(who),
+                }),
+                Act::Stop(StopAt::Between) => Ok(Reply::Stopped {
+                    who,
+                    start: 2,
+                    floor: 57_478_860_001,
+                }),
+                Act::Stop(StopAt::In { storing, landed }) => Err(fault_in(storing, landed)),
+            },
         }
     }
 

@@ -3,7 +3,7 @@
 use crate::runs::settings::{Given, told};
 use crate::trial::{DONE, State, Trial, make, state_of};
 use crate::vectors::{CONFIG_11, DATA_11, FIRST};
-use pdc_event::{Event, Who};
+use pdc_event::{Act, Event, StopAt, Storing, Who};
 use pdc_mark::ModelMark;
 use pdc_world::World;
 use std::alloc::{AllocError, Global};
@@ -50,29 +50,37 @@ struct StepTrial {
     world: World<ModelMark>,
 }
 
+/// A stop in a store that landed.
+fn stop_in(storing: Storing) -> Act {
+    Act::Stop(StopAt::In {
+        storing,
+        landed: true,
+    })
+}
+
 /// The event.
 fn event_of(step: Step) -> Event<'static> {
     let who = Who::A;
-    match step {
-        Step::Config => Event::Send { bytes: &CONFIG_11 },
-        Step::ConfigComes => Event::To { who, number: 0 },
-        Step::Adopts => Event::Tick { who, now: FIRST },
-        Step::Data => Event::Send { bytes: &DATA_11 },
-        Step::DataComes => Event::To { who, number: 2 },
-        Step::Closes => Event::Tick {
-            who,
-            now: FIRST + 1,
-        },
-        Step::Publishes => Event::Publish { who },
-        Step::Junk => Event::Junk {
-            who,
-            bytes: &[0xAA],
-        },
-        Step::StopsInTick => Event::StopInTick { who, landed: true },
-        Step::StopsIn => Event::StopIn { who, landed: true },
-        Step::StopsAtStart => Event::StopAtStart { who, landed: true },
-        Step::Stops => Event::Stop { who },
-    }
+    let act = match step {
+        Step::Config => return Event::Send { bytes: &CONFIG_11 },
+        Step::ConfigComes => return Event::To { who, number: 0 },
+        Step::Adopts => Act::Tick { now: FIRST },
+        Step::Data => return Event::Send { bytes: &DATA_11 },
+        Step::DataComes => return Event::To { who, number: 2 },
+        Step::Closes => Act::Tick { now: FIRST + 1 },
+        Step::Publishes => Act::Publish,
+        Step::Junk => {
+            return Event::Junk {
+                who,
+                bytes: &[0xAA],
+            };
+        }
+        Step::StopsInTick => stop_in(Storing::Tick),
+        Step::StopsIn => stop_in(Storing::Publish),
+        Step::StopsAtStart => stop_in(Storing::Start),
+        Step::Stops => Act::Stop(StopAt::Between),
+    };
+    Event::Do { who, act }
 }
 
 impl Trial for StepTrial {
@@ -86,9 +94,9 @@ impl Trial for StepTrial {
             Step::Closes => "World::step, Tick that closes",
             Step::Publishes => "World::step, Publish",
             Step::Junk => "World::step, Junk",
-            Step::StopsInTick => "World::step, StopInTick",
-            Step::StopsIn => "World::step, StopIn",
-            Step::StopsAtStart => "World::step, StopAtStart",
+            Step::StopsInTick => "World::step, Stop in a tick",
+            Step::StopsIn => "World::step, Stop in a publish",
+            Step::StopsAtStart => "World::step, Stop in a start",
             Step::Stops => "World::step, Stop",
         }
     }

@@ -1,7 +1,5 @@
-use Rattle.pdc_history.specs.Genuine.{FramesAgree}
-use Rattle.pdc_headline.specs.Seen.{rows_of, seen_of}
-use Rattle.pdc_headline.proofs.Genuine.{agree, published_agree}
-use Rattle.pdc_headline.proofs.Worlds.{of_frames}
+use Rattle.pdc_headline.proofs.Names.{FramesAgree, rows_of, seen_of}
+use Rattle.pdc_headline.proofs.{Genuine.{agree, published_agree}, Worlds.{of_frames}}
 use Rattle.pdc_headline.proofs.laws.frames_agree.Goals as goal
 
 pub returns-clause-sent : goal.returns-clause-sent

@@ -1,8 +1,5 @@
-use Rattle.pdc_headline.specs.Published.{InstantsRise, RowsAreSentData}
-use Rattle.pdc_headline.specs.Seen.{rows_of, seen_of}
-use Rattle.pdc_headline.proofs.Rising.{instants_rise_in, rise}
-use Rattle.pdc_headline.proofs.Rows.{rows_are_sent_in, sent_data}
-use Rattle.pdc_headline.proofs.Worlds.{of_world}
+use Rattle.pdc_headline.proofs.Names.{InstantsRise, rows_of, RowsAreSentData, seen_of}
+use Rattle.pdc_headline.proofs.{Rising.{instants_rise_in, rise}, Rows.{rows_are_sent_in, sent_data}, Worlds.{of_world}}
 use Rattle.pdc_headline.proofs.laws.instants_rise.Goals as goal
 
 pub returns-clause-rise : goal.returns-clause-rise

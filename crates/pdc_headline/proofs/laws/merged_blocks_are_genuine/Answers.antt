@@ -1,9 +1,5 @@
-use Rattle.pdc_history.specs.World.{M}
-use Rattle.pdc_headline.specs.Seen.{seen_of}
-use Rattle.pdc_headline.proofs.Cuts.{CutLaws}
-use Rattle.pdc_headline.proofs.Genuine.{MergerIsGenuine}
-use Rattle.pdc_headline.proofs.Sources.{genuine_frames_hold}
-use Rattle.pdc_headline.proofs.Worlds.{of_frames}
+use Rattle.pdc_headline.proofs.Names.{M, seen_of}
+use Rattle.pdc_headline.proofs.{Cuts.{CutLaws}, Genuine.{MergerIsGenuine}, Sources.{genuine_frames_hold}, Worlds.{of_frames}}
 use Rattle.pdc_headline.proofs.laws.merged_blocks_are_genuine.Goals as goal
 
 pub returns : goal.returns

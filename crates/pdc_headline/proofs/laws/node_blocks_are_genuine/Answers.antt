@@ -1,10 +1,5 @@
-use Rattle.pdc_history.specs.World.{A, B}
-use Rattle.pdc_headline.specs.Seen.{seen_of}
-use Rattle.pdc_headline.proofs.Cuts.{CutLaws}
-use Rattle.pdc_headline.proofs.Genuine.{NodesAreGenuine}
-use Rattle.pdc_headline.proofs.Sources.{genuine_frames_hold}
-use Rattle.pdc_headline.proofs.Told.{so_does}
-use Rattle.pdc_headline.proofs.Worlds.{of_frames}
+use Rattle.pdc_headline.proofs.Names.{A, B, seen_of}
+use Rattle.pdc_headline.proofs.{Cuts.{CutLaws}, Genuine.{NodesAreGenuine}, Sources.{genuine_frames_hold}, Told.{so_does}, Worlds.{of_frames}}
 use Rattle.pdc_headline.proofs.laws.node_blocks_are_genuine.Goals as goal
 
 pub returns : goal.returns

@@ -1,7 +1,5 @@
-use Rattle.pdc_history.specs.Pmus.{PmusSendOneBody, PmusSendOneSection}
-use Rattle.pdc_headline.specs.Seen.{seen_of}
-use Rattle.pdc_headline.proofs.Genuine.{one_body, one_section}
-use Rattle.pdc_headline.proofs.Worlds.{of_frames}
+use Rattle.pdc_headline.proofs.Names.{PmusSendOneBody, PmusSendOneSection, seen_of}
+use Rattle.pdc_headline.proofs.{Genuine.{one_body, one_section}, Worlds.{of_frames}}
 use Rattle.pdc_headline.proofs.laws.pmus_send_one.Goals as goal
 
 pub returns-clause-body : goal.returns-clause-body

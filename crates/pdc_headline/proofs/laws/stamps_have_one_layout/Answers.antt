@@ -1,7 +1,5 @@
-use Rattle.pdc_headline.specs.Frames.{LayoutsAreOne}
-use Rattle.pdc_headline.specs.Seen.{seen_of}
-use Rattle.pdc_headline.proofs.Genuine.{layouts_are_one_in, one_layout}
-use Rattle.pdc_headline.proofs.Worlds.{of_frames}
+use Rattle.pdc_headline.proofs.Names.{LayoutsAreOne, seen_of}
+use Rattle.pdc_headline.proofs.{Genuine.{layouts_are_one_in, one_layout}, Worlds.{of_frames}}
 use Rattle.pdc_headline.proofs.laws.stamps_have_one_layout.Goals as goal
 
 pub returns : goal.returns

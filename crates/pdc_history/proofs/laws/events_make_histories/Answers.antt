@@ -1,5 +1,4 @@
-use Rattle.pdc_history.proofs.Moments.{events_make_histories}
-use Rattle.pdc_history.proofs.Play.{plays_are_histories, plays_are_one, steps_are_one}
+use Rattle.pdc_history.proofs.{Moments.{events_make_histories}, Play.{plays_are_histories, plays_are_one, steps_are_one}}
 use Rattle.pdc_history.proofs.laws.events_make_histories.Goals as goal
 
 pub returns-clause-events : goal.returns-clause-events

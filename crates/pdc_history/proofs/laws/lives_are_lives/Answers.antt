@@ -1,6 +1,4 @@
-use Rattle.pdc_history.proofs.Lives.{lives_are_lives}
-use Rattle.pdc_history.proofs.Rows.{rows_are_of_lives}
-use Rattle.pdc_history.proofs.RowsAt.{published_rows_are_those}
+use Rattle.pdc_history.proofs.{Lives.{lives_are_lives}, Rows.{rows_are_of_lives}, RowsAt.{published_rows_are_those}}
 use Rattle.pdc_history.proofs.laws.lives_are_lives.Goals as goal
 
 pub returns-clause-lives : goal.returns-clause-lives

@@ -1,5 +1,4 @@
-use Rattle.pdc_history.proofs.Marks.{marks_bound}
-use Rattle.pdc_history.proofs.Order.{adopted_counts_never_fall}
+use Rattle.pdc_history.proofs.{Marks.{marks_bound}, Order.{adopted_counts_never_fall}}
 use Rattle.pdc_history.proofs.laws.marks_bound_lives.Goals as goal
 
 pub returns-clause-bound : goal.returns-clause-bound

@@ -1,5 +1,4 @@
-use Rattle.pdc_history.proofs.Cuts.{published_were_sent}
-use Rattle.pdc_history.proofs.Layouts.{layouts_are_one}
+use Rattle.pdc_history.proofs.{Cuts.{published_were_sent}, Layouts.{layouts_are_one}}
 use Rattle.pdc_history.proofs.laws.stamps_have_one_layout.Goals as goal
 
 pub returns-clause-published : goal.returns-clause-published

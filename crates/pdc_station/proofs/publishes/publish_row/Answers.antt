@@ -1,7 +1,5 @@
-use Rattle.std.proofs.Common.{ℕ, List, ◌++◌, ap, sym, ◌∙◌}
-use Rattle.pdc_output.specs.declared.output.Output.{Output}
-use Rattle.pdc_output.specs.Layout.{wire_of}
-use Rattle.pdc_row.specs.RowView.{row_view}
+use Rattle.std.proofs.Common.{◌++◌, ◌∙◌, ap, List, sym, ℕ}
+use Rattle.pdc_station.proofs.Names.{Output, row_view, wire_of}
 use Rattle.pdc_station.proofs.publishes.publish_row.Goals as goal
 
 pub returns-clause-bytes : goal.returns-clause-bytes

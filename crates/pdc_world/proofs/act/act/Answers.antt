@@ -1,8 +1,7 @@
-use Rattle.std.proofs.Common.{ap}
-use Rattle.pdc_event.specs.Event.{asked_of}
-use Rattle.pdc_world.specs.Receiver.{core_in}
-use Rattle.pdc_world.proofs.Made.{sent_made}
-use Rattle.pdc_world.proofs.Same.{made_of, refused_of}
+use Rattle.std.proofs.Common.{◌∙◌, ap}
+use Rattle.pdc_world.proofs.Names.{asked_of, core_in}
+use Rattle.pdc_world.proofs.{Made.{sent_made}, Same.{made_of, refused_of}}
+use Rattle.pdc_event.specs.declared.event.Event.TheVariants as event
 use Rattle.pdc_world.proofs.act.act.Goals as goal
 
 pub returns-in-Send-clause-made : goal.returns-in-Send-clause-made
@@ -24,31 +23,13 @@ pub returns-in-Junk-clause-why : goal.returns-in-Junk-clause-why
 returns-in-Junk-clause-why g c = refused_of _ _ _ _ c.bring_junk.result c.in-Junk.is c.bring_junk.ensures.why
 
 pub returns-in-Tick-clause-made : goal.returns-in-Tick-clause-made
-returns-in-Tick-clause-made g c = made_of _ _ _ _ _ _ c.tick.result c.in-Tick.is c.tick.ensures.made
+returns-in-Tick-clause-made g c = made_of _ _ _ _ _ _ c.tick.result (c.in-Do.is ∙ ap (event.Do c.in-Do.who) c.in-Tick.is) c.tick.ensures.made
 
 pub returns-in-Publish-clause-made : goal.returns-in-Publish-clause-made
-returns-in-Publish-clause-made g c = made_of _ _ _ _ _ _ c.publish.result c.in-Publish.is c.publish.ensures.made
+returns-in-Publish-clause-made g c = made_of _ _ _ _ _ _ c.publish.result (c.in-Do.is ∙ ap (event.Do c.in-Do.who) c.in-Publish.is) c.publish.ensures.made
 
 pub returns-in-Stop-clause-made : goal.returns-in-Stop-clause-made
-returns-in-Stop-clause-made g c = made_of _ _ _ _ _ _ c.stop.result c.in-Stop.is c.stop.ensures.made
+returns-in-Stop-clause-made g c = made_of _ _ _ _ _ _ c.stop.result (c.in-Do.is ∙ ap (event.Do c.in-Do.who) c.in-Stop.is) c.stop.ensures.made
 
 pub returns-in-Stop-clause-why : goal.returns-in-Stop-clause-why
-returns-in-Stop-clause-why g c = refused_of _ _ _ _ c.stop.result c.in-Stop.is c.stop.ensures.why
-
-pub returns-in-StopIn-clause-made : goal.returns-in-StopIn-clause-made
-returns-in-StopIn-clause-made g c = made_of _ _ _ _ _ _ c.stop-in-StopIn.result c.in-StopIn.is c.stop-in-StopIn.ensures.made
-
-pub returns-in-StopIn-clause-why : goal.returns-in-StopIn-clause-why
-returns-in-StopIn-clause-why g c = refused_of _ _ _ _ c.stop-in-StopIn.result c.in-StopIn.is c.stop-in-StopIn.ensures.why
-
-pub returns-in-StopInTick-clause-made : goal.returns-in-StopInTick-clause-made
-returns-in-StopInTick-clause-made g c = made_of _ _ _ _ _ _ c.stop-in-StopInTick.result c.in-StopInTick.is c.stop-in-StopInTick.ensures.made
-
-pub returns-in-StopInTick-clause-why : goal.returns-in-StopInTick-clause-why
-returns-in-StopInTick-clause-why g c = refused_of _ _ _ _ c.stop-in-StopInTick.result c.in-StopInTick.is c.stop-in-StopInTick.ensures.why
-
-pub returns-in-StopAtStart-clause-made : goal.returns-in-StopAtStart-clause-made
-returns-in-StopAtStart-clause-made g c = made_of _ _ _ _ _ _ c.stop-in-StopAtStart.result c.in-StopAtStart.is c.stop-in-StopAtStart.ensures.made
-
-pub returns-in-StopAtStart-clause-why : goal.returns-in-StopAtStart-clause-why
-returns-in-StopAtStart-clause-why g c = refused_of _ _ _ _ c.stop-in-StopAtStart.result c.in-StopAtStart.is c.stop-in-StopAtStart.ensures.why
+returns-in-Stop-clause-why g c = refused_of _ _ _ _ c.stop.result (c.in-Do.is ∙ ap (event.Do c.in-Do.who) c.in-Stop.is) c.stop.ensures.why

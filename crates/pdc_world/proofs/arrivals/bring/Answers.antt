@@ -1,9 +1,7 @@
-use Rattle.std.proofs.Common.{◌≡◌, Some, ap, sym, option_map, ◌∙◌}
-use Rattle.std.specs.List.{slice_get}
-use Rattle.pdc_event.specs.Event.{who_of}
+use Rattle.std.proofs.Common.{◌∙◌, ◌≡◌, ap, option_map, Some, sym}
+use Rattle.pdc_world.proofs.Names.{slice_get, who_of}
+use Rattle.pdc_world.proofs.{Heard.{may_to, read_past, read_to}, Made.{heard_made, passed_made}}
 use Rattle.pdc_history.specs.Asked as asked
-use Rattle.pdc_world.proofs.Heard.{may_to, read_past, read_to}
-use Rattle.pdc_world.proofs.Made.{heard_made, passed_made}
 use Rattle.pdc_world.proofs.arrivals.bring.Goals as goal
 
 pub returns-in-Some-named-clause-made : goal.returns-in-Some-named-clause-made

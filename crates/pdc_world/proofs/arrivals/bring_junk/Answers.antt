@@ -1,11 +1,8 @@
-use Rattle.std.proofs.Common.{ℕ, List, ap, sym, subst}
-use Rattle.pdc_event.specs.Event.{who_of}
+use Rattle.std.proofs.Common.{ap, List, subst, sym, ℕ}
+use Rattle.pdc_world.proofs.Names.{IsNamed, who_of}
+use Rattle.pdc_world.proofs.{arrivals.bring_junk.Goals.{in-None, in-Some+else-not-has}, Heard.{may_named, may_unnamed, read_named, read_unnamed}, Made.{heard_made}}
 use Rattle.pdc_history.specs.Asked as asked
-use Rattle.pdc_world.specs.Named.{IsNamed}
-use Rattle.pdc_world.proofs.Heard.{may_named, may_unnamed, read_named, read_unnamed}
-use Rattle.pdc_world.proofs.Made.{heard_made}
 use Rattle.pdc_world.proofs.arrivals.bring_junk.Goals as goal
-use Rattle.pdc_world.proofs.arrivals.bring_junk.Goals.{in-Some+else-not-has, in-None}
 
 pub returns-clause-made : goal.returns-clause-made
 returns-clause-made g c =

@@ -1,11 +1,6 @@
-use Rattle.std.proofs.Common.{ℕ, List, ◌++◌, option_map, ap, sym, ◌∙◌}
-use Rattle.pdc_event.specs.Event.{who_of}
-use Rattle.pdc_life.specs.Answer.{pop_answer}
-use Rattle.pdc_row.specs.RowView.{row_view}
-use Rattle.pdc_station.specs.Station.{wire_of_some}
-use Rattle.pdc_world.specs.Ledger.{ledger_view}
-use Rattle.pdc_world.proofs.Frames.{frames_written, row_most, row_none, same_part}
-use Rattle.pdc_world.proofs.Made.{published_made}
+use Rattle.std.proofs.Common.{◌++◌, ◌∙◌, ap, List, option_map, sym, ℕ}
+use Rattle.pdc_world.proofs.Names.{ledger_view, pop_answer, row_view, who_of, wire_of_some}
+use Rattle.pdc_world.proofs.{Frames.{frames_written, row_most, row_none, same_part}, Made.{published_made}}
 use Rattle.pdc_world.proofs.publishes.publish.Goals as goal
 
 pub join-published-requires-clause-most : goal.join-published-requires-clause-most

@@ -1,9 +1,8 @@
-use Rattle.std.proofs.Common.{◌≡◌, Err, ap, sym, subst}
-use Rattle.pdc_event.specs.declared.fault.Fault.{Fault}
+use Rattle.std.proofs.Common.{◌≡◌, ap, Err, subst, sym}
 use Rattle.pdc_event.specs.declared.fault.Fault.TheVariants.{NoMemory}
-use Rattle.pdc_history.specs.Asked as asked
-use Rattle.pdc_world.specs.Acts.{IsWhy}
+use Rattle.pdc_world.proofs.Names.{Fault, IsWhy}
 use Rattle.pdc_world.proofs.Refused.{room_send, room_sent, why_send}
+use Rattle.pdc_history.specs.Asked as asked
 use Rattle.pdc_world.proofs.sends.send.Goals as goal
 
 pub returns-in-Err-clause-why : goal.returns-in-Err-clause-why

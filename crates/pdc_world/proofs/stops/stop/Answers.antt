@@ -1,8 +1,6 @@
 use Rattle.std.proofs.Common.{refl}
-use Rattle.pdc_event.specs.Event.{who_of}
-use Rattle.pdc_station.specs.pdc_publisher.Publisher.{mark_in}
-use Rattle.pdc_world.proofs.Ended.{why_stopped}
-use Rattle.pdc_world.proofs.Made.{ended_made}
+use Rattle.pdc_world.proofs.Names.{mark_in, who_of}
+use Rattle.pdc_world.proofs.{Ended.{why_stopped}, Made.{ended_made}}
 use Rattle.pdc_world.proofs.stops.stop.Goals as goal
 
 pub returns-in-Ok-clause-made : goal.returns-in-Ok-clause-made

@@ -1,6 +1,5 @@
-use Rattle.std.proofs.Common.{ℕ, List, [], ◌∷◌, ◌++◌, ap, subst, ◌∙◌}
-use Rattle.pdc_life.specs.Published.{layout_wire}
-use Rattle.pdc_sent.specs.Sent.{IsOfPmu}
+use Rattle.std.proofs.Common.{[], ◌++◌, ◌∙◌, ◌∷◌, ap, List, subst, ℕ}
+use Rattle.pdc_world.proofs.Names.{IsOfPmu, layout_wire}
 use Rattle.pdc_world.proofs.Frames.{ok_stable, room_for}
 use Rattle.pdc_world.proofs.ticks.send_layout.Goals as goal
 

@@ -1,8 +1,6 @@
-use Rattle.std.proofs.Common.{refl, ap, sym, ◌∙◌}
-use Rattle.pdc_event.specs.Event.{who_of}
-use Rattle.pdc_world.specs.Ledger.{ledger_view}
-use Rattle.pdc_world.proofs.Frames.{layout_some, layouts_told, layouts_untold, same_part}
-use Rattle.pdc_world.proofs.Made.{ticked_made}
+use Rattle.std.proofs.Common.{◌∙◌, ap, refl, sym}
+use Rattle.pdc_world.proofs.Names.{ledger_view, who_of}
+use Rattle.pdc_world.proofs.{Frames.{layout_some, layouts_told, layouts_untold, same_part}, Made.{ticked_made}}
 use Rattle.pdc_world.proofs.ticks.tick.Goals as goal
 
 pub send_layout-requires-clause-frame : goal.send_layout-requires-clause-frame

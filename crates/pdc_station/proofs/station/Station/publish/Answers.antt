@@ -1,5 +1,5 @@
 use Rattle.std.proofs.Common.{◌++◌, ◌∙◌}
-use Rattle.pdc_station.specs.Station.{wire_of_some}
+use Rattle.pdc_station.proofs.Names.{wire_of_some}
 use Rattle.pdc_station.proofs.Made.{publish_makes}
 use Rattle.pdc_station.proofs.station.Station.publish.Goals as goal
 

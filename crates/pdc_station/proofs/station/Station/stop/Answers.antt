@@ -1,6 +1,5 @@
-use Rattle.std.proofs.Common.{ap, ◌∙◌}
-use Rattle.pdc_mark.specs.Stored.{with_next_start}
-use Rattle.pdc_publisher.specs.Publisher.{mark_in}
+use Rattle.std.proofs.Common.{◌∙◌, ap}
+use Rattle.pdc_station.proofs.Names.{mark_in, with_next_start}
 use Rattle.pdc_station.proofs.station.Station.stop.Goals as goal
 
 pub returns-clause-stops : goal.returns-clause-stops

@@ -1,5 +1,5 @@
-use Rattle.std.proofs.Common.{ℕ, List, subst}
-use Rattle.pdc_sent.specs.Sent.{IsOfPmu}
+use Rattle.std.proofs.Common.{List, subst, ℕ}
+use Rattle.pdc_world.proofs.Names.{IsOfPmu}
 use Rattle.pdc_world.proofs.ledger.Ledger.send_written.Goals as goal
 
 pub push_reserved-requires-clause-of_none : goal.push_reserved-requires-clause-of_none

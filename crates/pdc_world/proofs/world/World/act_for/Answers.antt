@@ -1,12 +1,5 @@
-use Rattle.std.proofs.Common.{ap, sym, subst, ◌∙◌}
-use Rattle.pdc_event.specs.Event.{asked_of, who_of}
-use Rattle.pdc_history.specs.World.{A, B, M}
-use Rattle.pdc_merge.specs.Merger.{MergerView}
-use Rattle.pdc_node.specs.Node.{NodeView}
-use Rattle.pdc_world.specs.Holds.{Holds}
-use Rattle.pdc_world.specs.Ledger.{ledger_has_room, ledger_view, station_view, world_view}
-use Rattle.pdc_world.specs.Receiver.{core_in}
-use Rattle.pdc_world.specs.Views.{StationView, WorldView}
+use Rattle.std.proofs.Common.{◌∙◌, ap, subst, sym}
+use Rattle.pdc_world.proofs.Names.{A, asked_of, B, core_in, Holds, ledger_has_room, ledger_view, M, MergerView, NodeView, station_view, StationView, who_of, world_view, WorldView}
 use Rattle.pdc_world.proofs.Parts.{made_at, on_err_map, some_again, some_at, why_at, with_station}
 use Rattle.pdc_world.proofs.world.World.act_for.Goals as goal
 

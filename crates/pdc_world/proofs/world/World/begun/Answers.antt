@@ -1,8 +1,5 @@
-use Rattle.std.proofs.Common.{[], ap, ◌∙◌}
-use Rattle.pdc_life.specs.declared.given.Settings.{Settings}
-use Rattle.pdc_world.specs.Ledger.{station_view, world_view}
-use Rattle.pdc_world.specs.Opening.{world_of}
-use Rattle.pdc_world.specs.Views.{WorldView}
+use Rattle.std.proofs.Common.{[], ◌∙◌, ap}
+use Rattle.pdc_world.proofs.Names.{Settings, station_view, world_of, world_view, WorldView}
 use Rattle.pdc_world.proofs.Openings.{begun_holds, left_from}
 use Rattle.pdc_world.proofs.world.World.begun.Goals as goal
 

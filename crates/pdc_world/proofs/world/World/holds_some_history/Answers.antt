@@ -1,5 +1,5 @@
 use Rattle.std.proofs.Common.{subst}
-use Rattle.pdc_world.specs.Holds.{HoldsSome}
+use Rattle.pdc_world.proofs.Names.{HoldsSome}
 use Rattle.pdc_world.proofs.world.World.holds_some_history.Goals as goal
 
 pub returns : goal.returns

@@ -1,7 +1,7 @@
 use Rattle.std.proofs.Common.{[]}
-use Rattle.pdc_event.specs.declared.event.Event.{Event}
-use Rattle.pdc_event.specs.declared.event.Event.TheVariants as event
+use Rattle.pdc_world.proofs.Names.{Event}
 use Rattle.pdc_world.proofs.Played.{all_played, cut_short, played_more}
+use Rattle.pdc_event.specs.declared.event.Event.TheVariants as event
 use Rattle.pdc_world.proofs.world.World.play.Goals as goal
 
 pub returns-in-Err-clause-cut : goal.returns-in-Err-clause-cut

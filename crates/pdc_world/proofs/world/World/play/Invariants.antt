@@ -1,7 +1,5 @@
 use Rattle.std.proofs.Common.{List, map, take}
-use Rattle.pdc_event.specs.Event.{asked_of}
-use Rattle.pdc_history.specs.World.{Happened, World}
-use Rattle.pdc_world.specs.Holds.{Holds, IsPlayed}
+use Rattle.pdc_world.proofs.Names.{asked_of, Happened, Holds, IsPlayed, World}
 use Rattle.pdc_world.proofs.world.World.play.Given as goal
 
 -- the events so far were played

@@ -1,4 +1,4 @@
-use Rattle.pdc_world.specs.Ledger.{ledger_has_room, ledger_view, station_view, world_view}
+use Rattle.pdc_world.proofs.Names.{ledger_has_room, ledger_view, station_view, world_view}
 use Rattle.pdc_world.proofs.Parts.{room_again}
 use Rattle.pdc_world.proofs.world.World.reserve.Goals as goal
 

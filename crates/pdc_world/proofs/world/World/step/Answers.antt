@@ -1,4 +1,4 @@
-use Rattle.pdc_event.specs.Event.{asked_of}
+use Rattle.pdc_world.proofs.Names.{asked_of}
 use Rattle.pdc_world.proofs.Told.{cause_told}
 use Rattle.pdc_world.proofs.world.World.step.Goals as goal
 

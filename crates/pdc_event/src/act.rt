@@ -1,4 +1,4 @@
-//! Where a stop falls.
+//! What cores do.
 
 /// What is stored when a stop falls into the store.
 #[derive(Clone, Copy, Debug, PartialEq, Eq)]
@@ -23,4 +23,18 @@ pub enum StopAt {
         /// Whether the store is done.
         landed: bool,
     },
+}
+
+/// What a core does.
+#[derive(Clone, Copy, Debug, PartialEq, Eq)]
+pub enum Act {
+    /// It ticks.
+    Tick {
+        /// The instant that is now.
+        now: u64,
+    },
+    /// It publishes the next row, if one waits.
+    Publish,
+    /// It stops, and its next life begins.
+    Stop(StopAt),
 }
