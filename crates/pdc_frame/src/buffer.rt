@@ -56,7 +56,7 @@ impl<A: Allocator> Buffer for Vec<u8, A> {
     }
 
     // `extend_from_slice` does not promise that the capacity stays. This loop becomes a copy of 32 bytes a turn.
-    #[inline]
+    #[inline(always)]
     fn append_bytes(&mut self, bytes: &[u8]) {
         for byte in bytes {
             self.push_reserved(*byte);
@@ -83,7 +83,7 @@ impl<const N: usize> Buffer for ArrayVec<u8, N> {
         }
     }
 
-    #[inline]
+    #[inline(always)]
     fn append_bytes(&mut self, bytes: &[u8]) {
         self.try_extend_from_slice(bytes).unwrap();
     }

@@ -31,6 +31,7 @@ fn kind_number(kind: Kind) -> u8
 }
 
 /// The fields before the payload, in a frame of so many bytes.
+#[inline(always)]
 fn header_bytes(head: &Frame, size: u16) -> [u8; HEADER_LEN]
     ensures value { result ≡ header_of (fields_of head.now) size }
     ensures soc { head.now.soc < 2 ^ 32 }
@@ -56,6 +57,7 @@ fn header_bytes(head: &Frame, size: u16) -> [u8; HEADER_LEN]
 /// # Errors
 ///
 /// [`AllocError`] where `out` has no room and gets none.
+#[inline(always)]
 pub fn begin_frame<B: Buffer>(
     head: &Frame,
     payload_len: usize,
@@ -82,6 +84,7 @@ pub fn begin_frame<B: Buffer>(
 }
 
 /// Appends CHK of the frame that begins at `start`, for which room was made. It takes no memory.
+#[inline(always)]
 pub fn end_frame<B: Buffer>(start: usize, out: &mut B)
     requires start { start ≤ length (B.content out.old) }
     requires room { length (B.content out.old) + CHECK_LEN ≤ B.capacity out.old }
@@ -106,6 +109,7 @@ fn payload_len(payload: &[u8]) -> usize
 /// # Errors
 ///
 /// [`AllocError`] where `out` has no room and gets none.
+#[inline(always)]
 pub fn write_frame<B: Buffer>(frame: &Frame, out: &mut B) -> Result<(), AllocError>
     // What is appended is the frame,
     ensures ok { OnOk result (B.content out.new ≡ B.content out.old ++ spelling_of (fields_of frame.now)) }
