@@ -79,7 +79,7 @@ pub fn begin_frame<B: Buffer>(
     let size = payload_len + OVERHEAD;
     let header = header_bytes(head, size as u16);
     out.make_room(size)?;
-    out.append_bytes(&header);
+    out.append_few(&header);
     Ok(())
 }
 
@@ -93,7 +93,7 @@ pub fn end_frame<B: Buffer>(start: usize, out: &mut B)
     ensures in_place { B.capacity out.new ≡ B.capacity out.old }
 {
     let check = check_word(&out.content()[start..]);
-    out.append_bytes(&check.to_be_bytes());
+    out.append_few(&check.to_be_bytes());
 }
 
 /// The number of bytes of a payload.
