@@ -35,7 +35,7 @@ fn append_each<B: Buffer>(words: &[u16], out: &mut B)
     ensures in_place { B.capacity out.new ≡ B.capacity out.old }
 {
     for word in words {
-        out.append_bytes(&word.to_be_bytes());
+        out.append_few(&word.to_be_bytes());
     }
 }
 
@@ -48,7 +48,7 @@ pub fn append_words<B: Buffer>(words: &[u16], out: &mut B)
 {
     let mut at = 0;
     while words.len() - at >= WORDS_AT_ONCE {
-        out.append_bytes(&eight_words(words, at));
+        out.append_few(&eight_words(words, at));
         at += WORDS_AT_ONCE;
     }
     append_each(&words[at..], out);

@@ -15,6 +15,7 @@ const COUNT_PLACE: usize = 4;
 const SECTIONS_PLACE: usize = 6;
 
 /// The configuration that a payload is.
+#[inline(always)]
 fn read_payload(payload: &[u8]) -> Result<ConfigView<'_>, CfgFault>
     ensures found { IfOk result (λ c. IsConfig payload.now (config_fields_of c)) }
     ensures only { (c : ConfigFields) → IsConfig payload.now c → IsOkAnd result (λ view. config_fields_of view ≡ c) }
@@ -46,6 +47,7 @@ fn read_payload(payload: &[u8]) -> Result<ConfigView<'_>, CfgFault>
 /// # Errors
 ///
 /// The first fault in reading order.
+#[inline(always)]
 pub fn read_config<'a>(frame: &Frame<'a>) -> Result<ConfigView<'a>, CfgFault>
     // What is read is spelled so, in a frame of that kind.
     ensures kind { IfOk result (λ _. IsConfigKind frame.now.kind) }

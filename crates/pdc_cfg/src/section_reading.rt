@@ -79,6 +79,7 @@ fn read_section(bytes: &[u8]) -> Result<SectionView<'_>, CfgFault>
 
 /// Reads the sections that the bytes are, all of the bytes. They go where the caller holds them: a list of so many views
 /// is not moved about.
+#[inline(always)]
 pub(crate) fn read_sections<'a>(
     count: u16,
     body: &'a [u8],

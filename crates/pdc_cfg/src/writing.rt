@@ -28,6 +28,7 @@ fn sections_len(sections: &[SectionView]) -> usize
 }
 
 /// Appends TIME_BASE and NUM_PMU. It takes no memory.
+#[inline(always)]
 fn append_start<B: Buffer>(config: &ConfigView, out: &mut B)
     requires { length (B.content out.old) + 6 ≤ B.capacity out.old }
     ensures content { B.content out.new ≡ B.content out.old ++ (to_be_bytes w32 (config.now.flags * 2 ^ 24 + config.now.time_base)
@@ -36,12 +37,13 @@ fn append_start<B: Buffer>(config: &ConfigView, out: &mut B)
     ensures flags { config.now.flags < 2 ^ 8 }
 {
     let base = (u32::from(config.flags) << 24) + config.time_base;
-    out.append_bytes(&base.to_be_bytes());
+    out.append_few(&base.to_be_bytes());
     let count = config.sections.len() as u16;
-    out.append_bytes(&count.to_be_bytes());
+    out.append_few(&count.to_be_bytes());
 }
 
 /// Appends the bytes of the sections, one after the other. It takes no memory.
+#[inline(always)]
 fn append_sections<B: Buffer>(sections: &[SectionView], out: &mut B)
     requires { length (B.content out.old) + length (flat_map (λ s. s.bytes.now) sections.now) ≤ B.capacity out.old }
     ensures content { B.content out.new ≡ B.content out.old ++ flat_map (λ s. s.bytes.now) sections.now }
@@ -53,13 +55,14 @@ fn append_sections<B: Buffer>(sections: &[SectionView], out: &mut B)
 }
 
 /// Appends DATA_RATE. It takes no memory.
+#[inline(always)]
 fn append_rate<B: Buffer>(rate: i16, out: &mut B)
     requires { length (B.content out.old) + 2 ≤ B.capacity out.old }
     ensures content { B.content out.new ≡ B.content out.old ++ to_be_bytes w16 (cast_unsigned w16 rate) }
     ensures in_place { B.capacity out.new ≡ B.capacity out.old }
 {
     let word = rate.cast_unsigned();
-    out.append_bytes(&word.to_be_bytes());
+    out.append_few(&word.to_be_bytes());
 }
 
 /// The bytes of the configuration.
@@ -71,6 +74,7 @@ fn payload_len(config: &ConfigView) -> usize
 }
 
 /// Appends the bytes of the configuration. It takes no memory.
+#[inline(always)]
 fn append_payload<B: Buffer>(config: &ConfigView, out: &mut B)
     requires { length (B.content out.old) + length (payload_of (config_fields_of config.now)) ≤ B.capacity out.old }
     ensures content { B.content out.new ≡ B.content out.old ++ payload_of (config_fields_of config.now) }
@@ -87,6 +91,7 @@ fn append_payload<B: Buffer>(config: &ConfigView, out: &mut B)
 /// # Errors
 ///
 /// [`AllocError`] where `out` has no room and gets none.
+#[inline(always)]
 pub fn write_config<B: Buffer>(
     config: &ConfigView,
     kind: Kind,

@@ -1,9 +1,9 @@
 -- Some bytes at once: a state whose product with x^16 has the check word as its remainder.
 use Rattle.std.proofs.Common.{◌≡◌, ℕ, suc, ◌+◌, ◌-◌, ◌*◌, ◌/◌, ◌%◌, ◌^◌, ◌<◌, ◌≤◌, List, [], ◌∷◌, ◌++◌, length, length-append, take, drop, get_or, length-drop, fold, refl, sym, ap, ap₂, subst, ◌∙◌, arith}
 use Rattle.std.specs.Int.Bits.{bit_or, bit_xor, xor_assoc, xor_zero_r, xor_zero_l, xor_shifted}
-use Rattle.std.proofs.lemmas.Nat.{pow-add, pow_pos, shr_split, mul-le, or_shifted}
+use Rattle.std.proofs.lemmas.Nat.{mod-mul-add, pow-add, pow_pos, shr_split, mul-le, or_shifted}
 use Rattle.std.proofs.Math.Pow.{pow_mono}
-use Rattle.std.proofs.Math.Nat.{mul-div-mul_right}
+use Rattle.std.proofs.Math.Nat.{add_comm, mul-div-mul_right}
 use Rattle.std.proofs.Math.Seq.{take-add}
 use Rattle.std.proofs.lemmas.List.{length-take, take_all, take-append-drop, drop-drop}
 use Rattle.std.proofs.lemmas.Grind.{fold-append, take_at_read}
@@ -99,10 +99,8 @@ pub first_state : IsRemainder (0x84CF * 2 ^ 16) 65535
 first_state = record { quotient = 35871; division = refl; small = omega arith }
 
 -- the front and the rest are the whole
-pub front_then : (check at : ℕ) (bytes : List ℕ) → fold check_after (fold check_after check (take at bytes)) (take (length bytes - at) (drop at bytes)) ≡ fold check_after check bytes
-front_then check at bytes =
-    ap (fold check_after (fold check_after check (take at bytes))) (take_all (length bytes - at) (drop at bytes) (omega (arith, length-drop at bytes)))
-    ∙ sym (fold-append check_after check (take at bytes) (drop at bytes)) ∙ ap (fold check_after check) (take-append-drop at bytes)
+pub front_then : (check at : ℕ) (bytes : List ℕ) → fold check_after (fold check_after check (take at bytes)) (drop at bytes) ≡ fold check_after check bytes
+front_then check at bytes = sym (fold-append check_after check (take at bytes) (drop at bytes)) ∙ ap (fold check_after check) (take-append-drop at bytes)
 
 -- a step of n bytes of a longer list
 pub step_at : (n state next check at : ℕ) (bytes : List ℕ) → AreBytes bytes → at + n ≤ length bytes
@@ -139,10 +137,63 @@ two_words place high low bytes fits le high_fits low_fits high-is low-is =
     ∙ sym (ap polynomial_of parts ∙ polynomial_of-append (take 8 (drop place bytes)) rest ∙ ap (λ (n : ℕ). polynomial_of (take 8 (drop place bytes)) * 2 ^ (8 * n) + polynomial_of rest) len)
 
 -- a word of eight bytes and then the rest
-pub step_then : (state next word last check : ℕ) (rest : List ℕ) → AreBytes rest → 8 ≤ length rest → IsRemainder (state * 2 ^ 16) check → IsCongruent (state * 2 ^ 64) next → word ≡ polynomial_of (take 8 rest)
-    → (IsRemainder (bit_xor next word * 2 ^ 16) (fold check_after check (take 8 rest)) → IsRemainder (last * 2 ^ 16) (fold check_after (fold check_after check (take 8 rest)) (take (length rest - 8) (drop 8 rest))))
-    → IsRemainder (last * 2 ^ 16) (fold check_after check rest)
-step_then state next word last check rest fits le now step word-is then =
-    let first : IsRemainder (bit_xor next (polynomial_of (take 8 rest)) * 2 ^ 16) (fold check_after check (take 8 rest)) = step_at 8 state next check 0 rest fits le now step in
+pub step_then : (state next word last check place : ℕ) (bytes : List ℕ) → AreBytes bytes → place + 8 ≤ length bytes → IsRemainder (state * 2 ^ 16) check → IsCongruent (state * 2 ^ 64) next
+    → word ≡ polynomial_of (take 8 (drop place bytes))
+    → ((after : ℕ) → IsRemainder (bit_xor next word * 2 ^ 16) after → IsRemainder (last * 2 ^ 16) (fold check_after after (drop (place + 8) bytes)))
+    → IsRemainder (last * 2 ^ 16) (fold check_after check (drop place bytes))
+step_then state next word last check place bytes fits le now step word-is then =
+    let rest : List ℕ = drop place bytes in
+    let rest_fits : AreBytes rest = AreBytes-drop place bytes fits in
+    let long : 0 + 8 ≤ length rest = omega (arith, length-drop place bytes, le) in
+    let first : IsRemainder (bit_xor next (polynomial_of (take 8 rest)) * 2 ^ 16) (fold check_after check (take 8 rest)) = step_at 8 state next check 0 rest rest_fits long now step in
     let first' : IsRemainder (bit_xor next word * 2 ^ 16) (fold check_after check (take 8 rest)) = subst (λ (w : ℕ). IsRemainder (bit_xor next w * 2 ^ 16) (fold check_after check (take 8 rest))) (sym word-is) first in
-    subst (λ (r : ℕ). IsRemainder (last * 2 ^ 16) r) (front_then check 8 rest) (then first')
+    let behind : fold check_after (fold check_after check (take 8 rest)) (drop (place + 8) bytes) ≡ fold check_after check rest =
+    ap (fold check_after (fold check_after check (take 8 rest))) (sym (drop-drop 8 place bytes)) ∙ front_then check 8 rest in
+    subst (λ (r : ℕ). IsRemainder (last * 2 ^ 16) r) behind (then (fold check_after check (take 8 rest)) first')
+
+-- fewer bytes than eight, moved up by as many bits as they have
+pub last_step : (state moved word check place : ℕ) (bytes : List ℕ) → AreBytes bytes → place ≤ length bytes → length bytes < place + 8 → IsRemainder (state * 2 ^ 16) check
+    → IsCongruent (state / 2 ^ (64 - 8 * (length bytes - place)) * 2 ^ 64) moved → word ≡ polynomial_of (drop place bytes)
+    → IsRemainder (bit_xor moved (bit_xor (state * 2 ^ (8 * (length bytes - place)) % 2 ^ 64) word) * 2 ^ 16) (fold check_after check (drop place bytes))
+last_step state moved word check place bytes fits le few now step word-is =
+    let n : ℕ = 8 * (length bytes - place) in
+    let low : ℕ = state * 2 ^ n % 2 ^ 64 in
+    let rest : List ℕ = drop place bytes in
+    let len : 8 * (length bytes - place) ≡ 8 * length rest = omega (arith, length-drop place bytes) in
+    let up : IsCongruent (state * 2 ^ n) (bit_xor moved low) = part_moved_up state moved n (omega (arith, few)) step in
+    let up' : IsCongruent (state * 2 ^ (8 * length rest)) (bit_xor moved low) = subst (λ (m : ℕ). IsCongruent (state * 2 ^ m) (bit_xor moved low)) len up in
+    let same : bit_xor (bit_xor moved low) (polynomial_of rest) ≡ bit_xor moved (bit_xor low word) =
+    xor_assoc moved low (polynomial_of rest) ∙ ap (λ (w : ℕ). bit_xor moved (bit_xor low w)) (sym word-is) in
+    subst (λ (s : ℕ). IsRemainder (s * 2 ^ 16) (fold check_after check rest)) same (bytes_step state (bit_xor moved low) check rest (AreBytes-drop place bytes fits) now up')
+
+-- the last bytes as a part of a word of eight
+pub back_of_word : (word place : ℕ) (bytes : List ℕ) → AreBytes bytes → place ≤ length bytes → length bytes < place + 8 → 8 ≤ length bytes
+    → word ≡ polynomial_of (take 8 (drop (length bytes - 8) bytes)) → word % (1 * 2 ^ (8 * (length bytes - place)) % 2 ^ 64) ≡ polynomial_of (drop place bytes)
+back_of_word word place bytes fits le few long word-is =
+    let at : ℕ = length bytes - 8 in
+    let front : List ℕ = take (place - at) (drop at bytes) in
+    let rest : List ℕ = drop place bytes in
+    let n : ℕ = 8 * (length bytes - place) in
+    let low : n ≤ 56 = omega (arith, few) in
+    let wide : 2 ^ n ≤ 2 ^ 56 = pow_mono low in
+    let whole : 1 * 2 ^ n % 2 ^ 64 ≡ 2 ^ n = omega (arith, wide) in
+    let behind : place - at + at ≡ place = omega (arith, few, long) in
+    let parts : take 8 (drop at bytes) ≡ front ++ rest =
+    take_all 8 (drop at bytes) (omega (arith, length-drop at bytes, long)) ∙ sym (take-append-drop (place - at) (drop at bytes))
+    ∙ ap (λ (xs : List ℕ). front ++ xs) (drop-drop (place - at) at bytes ∙ ap (λ (m : ℕ). drop m bytes) (add_comm at (place - at) ∙ behind)) in
+    let len : 8 * length rest ≡ n = omega (arith, length-drop place bytes) in
+    let below : polynomial_of rest < 2 ^ (8 * length rest) = polynomial_below rest (AreBytes-drop place bytes fits) in
+    ap (λ (m : ℕ). word % m) (whole ∙ ap (λ (m : ℕ). 2 ^ m) (sym len))
+    ∙ ap (λ (w : ℕ). w % 2 ^ (8 * length rest)) (word-is ∙ ap polynomial_of parts ∙ polynomial_of-append front rest)
+    ∙ mod-mul-add (polynomial_of front) (2 ^ (8 * length rest)) (polynomial_of rest) below
+
+-- fewer bytes than eight, alone: what the state before them is moved up to is below 2 ^ 72
+pub few_state : (word : ℕ) (bytes : List ℕ) → AreBytes bytes → length bytes < 8 → word ≡ polynomial_of bytes
+    → IsRemainder (bit_xor (0x84CF * 2 ^ (8 * length bytes) % 2 ^ 128) word * 2 ^ 16) (fold check_after 65535 bytes)
+few_state word bytes fits few word-is =
+    let n : ℕ = 8 * length bytes in
+    let low : n ≤ 56 = omega (arith, few) in
+    let wide : 2 ^ n ≤ 2 ^ 56 = pow_mono low in
+    let whole : 0x84CF * 2 ^ n ≡ 0x84CF * 2 ^ n % 2 ^ 128 = omega (arith, wide) in
+    subst (λ (w : ℕ). IsRemainder (bit_xor (0x84CF * 2 ^ n % 2 ^ 128) w * 2 ^ 16) (fold check_after 65535 bytes)) (sym word-is)
+    (bytes_step 0x84CF (0x84CF * 2 ^ n % 2 ^ 128) 65535 bytes fits first_state (congruent_from whole))

@@ -1,5 +1,5 @@
 //! Bytes that frames are appended to.
-ghost use Rattle.std.specs.Prelude.{◌≡◌, ◌+◌, ◌≤◌, ◌++◌, ℕ, List, length, vec_capacity, IsOk, OnOk, OnErr};
+ghost use Rattle.std.specs.Prelude.{◌≡◌, ◌+◌, ◌*◌, ◌^◌, ◌<◌, ◌≤◌, ◌++◌, ℕ, List, length, vec_capacity, IsOk, OnOk, OnErr};
 
 use arrayvec::ArrayVec;
 use std::alloc::{AllocError, Allocator};
@@ -35,6 +35,51 @@ pub trait Buffer {
         requires { length (content self.old) + length bytes.now ≤ capacity self.old }
         ensures bytes { content self.new ≡ content self.old ++ bytes.now }
         ensures in_place { capacity self.new ≡ capacity self.old };
+
+    /// Appends the bytes, for which there is room: a few, whose number the caller's code tells, so that they are written as numbers. It
+    /// takes no memory.
+    fn append_few(&mut self, bytes: &[u8])
+        requires { length (content self.old) + length bytes.now ≤ capacity self.old }
+        ensures bytes { content self.new ≡ content self.old ++ bytes.now }
+        ensures in_place { capacity self.new ≡ capacity self.old };
+}
+
+/// How many bytes are appended in one step: as many as fill a register.
+const BYTES_AT_ONCE: usize = 16;
+
+/// Appends the bytes, for which there is room, one by one.
+#[inline(always)]
+fn push_each<A: Allocator>(out: &mut Vec<u8, A>, bytes: &[u8])
+    requires { length out.old.items + length bytes.now ≤ vec_capacity out.old }
+    ensures items { out.new.items ≡ out.old.items ++ bytes.now }
+    ensures capacity { vec_capacity out.new ≡ vec_capacity out.old }
+{
+    for byte in bytes {
+        out.push_reserved(*byte);
+    }
+}
+
+/// Appends the first `N` of the bytes, if there are as many, and answers those behind them. All are read before one is written,
+/// so that they are moved in one step.
+#[inline(always)]
+fn push_part<'a, const N: usize, A: Allocator>(
+    out: &mut Vec<u8, A>,
+    bytes: &'a [u8],
+) -> &'a [u8]
+    requires small { N < 2 ^ 63 }
+    requires room { length out.old.items + length bytes.now ≤ vec_capacity out.old }
+    ensures items { out.new.items ++ result.now ≡ out.old.items ++ bytes.now }
+    ensures room { length out.new.items + length result.now ≤ vec_capacity out.new }
+    ensures taken { N ≤ length bytes.now → length result.now + N ≡ length bytes.now }
+    ensures few { length bytes.now < 2 * N → length result.now < N }
+    ensures capacity { vec_capacity out.new ≡ vec_capacity out.old }
+{
+    let Some(part) = bytes.first_chunk::<N>() else {
+        return bytes;
+    };
+    let part = *part;
+    push_each(out, &part);
+    &bytes[N..]
 }
 
 impl<A: Allocator> Buffer for Vec<u8, A> {
@@ -55,12 +100,22 @@ impl<A: Allocator> Buffer for Vec<u8, A> {
         self.reserve(additional)
     }
 
-    // `extend_from_slice` does not promise that the capacity stays. This loop becomes a copy of 32 bytes a turn.
-    #[inline]
+    // `extend_from_slice` does not promise that the capacity stays.
+    #[inline(always)]
     fn append_bytes(&mut self, bytes: &[u8]) {
-        for byte in bytes {
-            self.push_reserved(*byte);
+        let mut rest = bytes;
+        while rest.len() >= BYTES_AT_ONCE {
+            rest = push_part::<BYTES_AT_ONCE, A>(self, rest);
         }
+        let rest = push_part::<8, A>(self, rest);
+        let rest = push_part::<4, A>(self, rest);
+        let rest = push_part::<2, A>(self, rest);
+        push_part::<1, A>(self, rest);
+    }
+
+    #[inline(always)]
+    fn append_few(&mut self, bytes: &[u8]) {
+        push_each(self, bytes);
     }
 }
 
@@ -83,8 +138,13 @@ impl<const N: usize> Buffer for ArrayVec<u8, N> {
         }
     }
 
-    #[inline]
+    #[inline(always)]
     fn append_bytes(&mut self, bytes: &[u8]) {
         self.try_extend_from_slice(bytes).unwrap();
+    }
+
+    #[inline]
+    fn append_few(&mut self, bytes: &[u8]) {
+        self.append_bytes(bytes);
     }
 }

@@ -120,9 +120,9 @@ fn read_wide_step(bytes: &[u8], place: usize) -> u128
     (u128::from(read_step(bytes, place)) << u64::BITS) | u128::from(read_step(bytes, place + STEP))
 }
 
-/// The bytes of the last, shorter word as one number, the first highest.
+/// Fewer than eight bytes as one number, the first highest.
 #[inline]
-fn read_last(bytes: &[u8]) -> u64
+fn read_few(bytes: &[u8]) -> u64
     requires { length bytes.now < STEP }
     ensures { result ≡ polynomial_of bytes.now }
 {
@@ -133,29 +133,47 @@ fn read_last(bytes: &[u8]) -> u64
     number
 }
 
-/// The state after fewer than eight bytes more.
+/// The bytes from `place` on, which are fewer than eight, as one number, the first highest: a part of the last eight.
 #[inline]
-fn after_last(state: u64, last: &[u8]) -> u64
-    requires { length last.now < STEP }
-    ensures step { (check : ℕ) → IsRemainder (state * 2 ^ DEGREE) check → IsRemainder (result * 2 ^ DEGREE) (fold check_after check last.now) }
+fn read_last(bytes: &[u8], place: usize) -> u64
+    requires long { STEP ≤ length bytes.now }
+    requires place { place ≤ length bytes.now }
+    requires few { length bytes.now < place + STEP }
+    ensures { result ≡ polynomial_of (drop place bytes.now) }
 {
-    if last.is_empty() {
-        return state;
-    }
-    let bits = 8 * last.len();
-    moved_up(state >> (STATE_BITS - bits)) ^ ((state << bits) ^ read_last(last))
+    let bits = 8 * (bytes.len() - place);
+    read_step(bytes, bytes.len() - STEP) % (1 << bits)
 }
 
-/// The state after fewer than sixteen bytes more.
+/// The state after the bytes from `place` on, which are fewer than eight.
 #[inline]
-fn after_rest(state: u64, rest: &[u8]) -> u64
-    requires { length rest.now < WIDE_STEP }
-    ensures step { (check : ℕ) → IsRemainder (state * 2 ^ DEGREE) check → IsRemainder (result * 2 ^ DEGREE) (fold check_after check rest.now) }
+fn after_last(state: u64, bytes: &[u8], place: usize) -> u64
+    requires long { STEP ≤ length bytes.now }
+    requires place { place ≤ length bytes.now }
+    requires few { length bytes.now < place + STEP }
+    ensures step { (check : ℕ) → IsRemainder (state * 2 ^ DEGREE) check
+        → IsRemainder (result * 2 ^ DEGREE) (fold check_after check (drop place bytes.now)) }
 {
-    if rest.len() < STEP {
-        return after_last(state, rest);
+    if place == bytes.len() {
+        return state;
     }
-    after_last(moved_up(state) ^ read_step(rest, 0), &rest[STEP..])
+    let bits = 8 * (bytes.len() - place);
+    moved_up(state >> (STATE_BITS - bits)) ^ ((state << bits) ^ read_last(bytes, place))
+}
+
+/// The state after the bytes from `place` on, which are fewer than sixteen.
+#[inline]
+fn after_rest(state: u64, bytes: &[u8], place: usize) -> u64
+    requires long { STEP ≤ length bytes.now }
+    requires place { place ≤ length bytes.now }
+    requires few { length bytes.now < place + WIDE_STEP }
+    ensures step { (check : ℕ) → IsRemainder (state * 2 ^ DEGREE) check
+        → IsRemainder (result * 2 ^ DEGREE) (fold check_after check (drop place bytes.now)) }
+{
+    if bytes.len() - place < STEP {
+        return after_last(state, bytes, place);
+    }
+    after_last(moved_up(state) ^ read_step(bytes, place), bytes, place + STEP)
 }
 
 /// The state after the first bytes, and how many they are: a wide step, where there are as many. What the state before the
@@ -171,6 +189,17 @@ fn first_step(bytes: &[u8]) -> (u128, usize)
     (wide_moved_up(START) ^ read_wide_step(bytes, 0), WIDE_STEP)
 }
 
+/// The check word of fewer than eight bytes: no frame has so few, and so it is a call of its own.
+#[inline(never)]
+fn check_of_few(bytes: &[u8]) -> u16
+    requires { length bytes.now < STEP }
+    ensures remainder { IsCheckWord bytes.now result }
+    ensures value { result ≡ check_word_of bytes.now }
+{
+    let state = (START << (8 * bytes.len())) ^ u128::from(read_few(bytes));
+    check_of_state(narrowed(state))
+}
+
 /// The check word of the bytes: CRC-CCITT with generator x^16 + x^12 + x^5 + 1, start value FFFF and no final mask
 /// (C37.118.2-2011, annex B).
 pub fn check_word(bytes: &[u8]) -> u16
@@ -179,10 +208,13 @@ pub fn check_word(bytes: &[u8]) -> u16
     // of which there is one.
     ensures value { result ≡ check_word_of bytes.now }
 {
+    if bytes.len() < STEP {
+        return check_of_few(bytes);
+    }
     let (mut state, mut at) = first_step(bytes);
     while bytes.len() - at >= WIDE_STEP {
         state = wide_moved_up(state) ^ read_wide_step(bytes, at);
         at += WIDE_STEP;
     }
-    check_of_state(after_rest(narrowed(state), &bytes[at..]))
+    check_of_state(after_rest(narrowed(state), bytes, at))
 }

@@ -31,6 +31,7 @@ fn kind_number(kind: Kind) -> u8
 }
 
 /// The fields before the payload, in a frame of so many bytes.
+#[inline(always)]
 fn header_bytes(head: &Frame, size: u16) -> [u8; HEADER_LEN]
     ensures value { result ≡ header_of (fields_of head.now) size }
     ensures soc { head.now.soc < 2 ^ 32 }
@@ -56,6 +57,7 @@ fn header_bytes(head: &Frame, size: u16) -> [u8; HEADER_LEN]
 /// # Errors
 ///
 /// [`AllocError`] where `out` has no room and gets none.
+#[inline(always)]
 pub fn begin_frame<B: Buffer>(
     head: &Frame,
     payload_len: usize,
@@ -77,11 +79,12 @@ pub fn begin_frame<B: Buffer>(
     let size = payload_len + OVERHEAD;
     let header = header_bytes(head, size as u16);
     out.make_room(size)?;
-    out.append_bytes(&header);
+    out.append_few(&header);
     Ok(())
 }
 
 /// Appends CHK of the frame that begins at `start`, for which room was made. It takes no memory.
+#[inline(always)]
 pub fn end_frame<B: Buffer>(start: usize, out: &mut B)
     requires start { start ≤ length (B.content out.old) }
     requires room { length (B.content out.old) + CHECK_LEN ≤ B.capacity out.old }
@@ -90,7 +93,7 @@ pub fn end_frame<B: Buffer>(start: usize, out: &mut B)
     ensures in_place { B.capacity out.new ≡ B.capacity out.old }
 {
     let check = check_word(&out.content()[start..]);
-    out.append_bytes(&check.to_be_bytes());
+    out.append_few(&check.to_be_bytes());
 }
 
 /// The number of bytes of a payload.
@@ -106,6 +109,7 @@ fn payload_len(payload: &[u8]) -> usize
 /// # Errors
 ///
 /// [`AllocError`] where `out` has no room and gets none.
+#[inline(always)]
 pub fn write_frame<B: Buffer>(frame: &Frame, out: &mut B) -> Result<(), AllocError>
     // What is appended is the frame,
     ensures ok { OnOk result (B.content out.new ≡ B.content out.old ++ spelling_of (fields_of frame.now)) }

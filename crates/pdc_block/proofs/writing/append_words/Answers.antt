@@ -10,7 +10,7 @@ loop-at-preserved g c =
     let at : ℕ = c.loop-at.at in
     let before : List ℕ = g.B.Buffer.content c.loop-at.out in
     let piece : List ℕ = take 8 (drop at words) in
-    let whole : g.B.Buffer.content c.append_bytes.new.self ≡ before ++ bytes_of_words piece = c.append_bytes.ensures.bytes ∙ ap (λ (bytes : List ℕ). before ++ bytes) c.eight_words.ensures in
+    let whole : g.B.Buffer.content c.append_few.new.self ≡ before ++ bytes_of_words piece = c.append_few.ensures.bytes ∙ ap (λ (bytes : List ℕ). before ++ bytes) c.eight_words.ensures in
     record {
       at_most = omega (arith, c.loop-at-test.true, c.loop-at.invariant.at_most);
       content = whole ∙ more_words words (g.B.Buffer.content c.args.out.now) before at c.loop-at.invariant.content;
@@ -24,7 +24,7 @@ loop-at-preserved g c =
         c.loop-at-test.true,
         c.loop-at.invariant.len,
       );
-      in_place = c.append_bytes.ensures.in_place ∙ c.loop-at.invariant.in_place;
+      in_place = c.append_few.ensures.in_place ∙ c.loop-at.invariant.in_place;
     }
 
 pub returns-clause-content : goal.returns-clause-content

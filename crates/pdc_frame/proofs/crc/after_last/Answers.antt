@@ -1,16 +1,8 @@
-use Rattle.std.proofs.Common.{◌≡◌, ℕ, ◌*◌, ◌%◌, ◌^◌, length, fold, arith, sym, ap, subst, ◌∙◌}
-use Rattle.std.specs.Int.Bits.{bit_xor, xor_assoc}
-use Rattle.pdc_frame.specs.CheckWord.{IsRemainder, check_after, polynomial_of}
-use Rattle.pdc_frame.proofs.WordSteps.{bytes_step, part_moved_up}
+use Rattle.std.proofs.Common.{arith}
+use Rattle.pdc_frame.proofs.WordSteps.{last_step}
 use Rattle.pdc_frame.proofs.crc.after_last.Goals as goal
 
 pub returns : goal.returns
 returns c = record {
-  step = λ check h.
-      let n : ℕ = 8 * length c.args.last.now in
-      let low : ℕ = c.args.state * 2 ^ n % 2 ^ 64 in
-      let same : bit_xor (bit_xor c.moved_up.result low) (polynomial_of c.args.last.now) ≡ bit_xor c.moved_up.result (bit_xor low c.read_last.result) =
-      xor_assoc c.moved_up.result low (polynomial_of c.args.last.now) ∙ ap (λ (w : ℕ). bit_xor c.moved_up.result (bit_xor low w)) (sym c.read_last.ensures) in
-      subst (λ (s : ℕ). IsRemainder (s * 2 ^ 16) (fold check_after check c.args.last.now)) same
-      (bytes_step _ _ check c.args.last.now (λ i. omega (arith, c.type_inv.last i)) h (part_moved_up _ _ n (omega (arith, c.requires)) c.moved_up.ensures));
+  step = λ check h. last_step c.args.state _ _ check c.args.place c.args.bytes.now (λ i. omega (arith, c.type_inv.bytes i)) c.requires.place c.requires.few h c.moved_up.ensures c.read_last.ensures;
 }
