@@ -7,8 +7,8 @@ use crate::traffic::{RATE, TIME_BASE, pmu_configuration, pmu_data};
 use crate::{ours, paths};
 use std::hint::black_box;
 
-/// The rounds of a line whose steps are counted.
-const COUNTED: u32 = 100;
+/// The rounds of a line whose steps are counted: so many that what comes once, before the first round, is no part of them.
+const COUNTED: u32 = 1000;
 
 /// Enough rounds for some milliseconds on frames of this length.
 fn rounds_for(len: usize, mode: &Mode) -> u32 {

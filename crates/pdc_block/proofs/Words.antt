@@ -61,6 +61,18 @@ eight_from words at l =
     next_word words (at + 6) (at + 7) 1 (omega arith) (omega (arith, l)) ∙ ap (λ (r : List ℕ). get_or words (at + 6) 0 ∷ r) (
     next_word words (at + 7) (at + 8) 0 (omega arith) (omega (arith, l)))))))))
 
+-- four words at once
+pub four_from : (words : List ℕ) (at : ℕ) → at + 4 ≤ length words
+    → take 4 (drop at words) ≡ get_or words at 0 ∷ get_or words (at + 1) 0 ∷ get_or words (at + 2) 0 ∷ get_or words (at + 3) 0 ∷ []
+four_from words at l =
+    next_word words at (at + 1) 3 (omega arith) (omega (arith, l)) ∙ ap (λ (r : List ℕ). get_or words at 0 ∷ r) (
+    next_word words (at + 1) (at + 2) 2 (omega arith) (omega (arith, l)) ∙ ap (λ (r : List ℕ). get_or words (at + 1) 0 ∷ r) (
+    next_word words (at + 2) (at + 3) 1 (omega arith) (omega (arith, l)) ∙ ap (λ (r : List ℕ). get_or words (at + 2) 0 ∷ r) (
+    next_word words (at + 3) (at + 4) 0 (omega arith) (omega (arith, l)))))
+
+abbrev pub joined_four : (a b c d : List ℕ) → List ℕ
+joined_four a b c d = get_or a 0 0 ∷ get_or a 1 0 ∷ get_or b 0 0 ∷ get_or b 1 0 ∷ get_or c 0 0 ∷ get_or c 1 0 ∷ get_or d 0 0 ∷ get_or d 1 0 ∷ []
+
 -- the bytes of eight words, each by its place
 abbrev pub joined : (a b c d e f g h : List ℕ) → List ℕ
 joined a b c d e f g h =

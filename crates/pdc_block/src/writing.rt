@@ -27,6 +27,19 @@ fn eight_words(words: &[u16], at: usize) -> [u8; 16]
     ]
 }
 
+/// The bytes of the four words from this place on, each with its high byte first.
+#[inline]
+fn four_words(words: &[u16], at: usize) -> [u8; 8]
+    requires { at + 4 ≤ length words.now }
+    ensures { result ≡ bytes_of_words (take 4 (drop at words.now)) }
+{
+    let a = words[at].to_be_bytes();
+    let b = words[at + 1].to_be_bytes();
+    let c = words[at + 2].to_be_bytes();
+    let d = words[at + 3].to_be_bytes();
+    [a[0], a[1], b[0], b[1], c[0], c[1], d[0], d[1]]
+}
+
 /// Appends the words one by one.
 fn append_each<B: Buffer>(words: &[u16], out: &mut B)
     requires { length (B.content out.old) + 2 * length words.now ≤ B.capacity out.old }
@@ -37,6 +50,21 @@ fn append_each<B: Buffer>(words: &[u16], out: &mut B)
     for word in words {
         out.append_few(&word.to_be_bytes());
     }
+}
+
+/// Appends the words, which are fewer than eight: four at once, and the last ones one by one.
+fn append_last<B: Buffer>(words: &[u16], out: &mut B)
+    requires { length (B.content out.old) + 2 * length words.now ≤ B.capacity out.old }
+    ensures content { B.content out.new ≡ B.content out.old ++ bytes_of_words words.now }
+    ensures len { length (B.content out.new) ≡ length (B.content out.old) + 2 * length words.now }
+    ensures in_place { B.capacity out.new ≡ B.capacity out.old }
+{
+    let mut rest = words;
+    if words.len() >= 4 {
+        out.append_few(&four_words(words, 0));
+        rest = &words[4..];
+    }
+    append_each(rest, out);
 }
 
 /// Appends the words, each with its high byte first. It takes no memory: there is room for them.
@@ -51,7 +79,7 @@ pub fn append_words<B: Buffer>(words: &[u16], out: &mut B)
         out.append_few(&eight_words(words, at));
         at += WORDS_AT_ONCE;
     }
-    append_each(&words[at..], out);
+    append_last(&words[at..], out);
 }
 
 /// The bytes that the blocks take, one after the other: 6 to 214 each.

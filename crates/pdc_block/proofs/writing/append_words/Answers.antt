@@ -32,6 +32,6 @@ returns-clause-content g c =
     let words : List ℕ = c.args.words.now in
     let at : ℕ = c.loop-at.at in
     let rest : List ℕ = take (length words - at) (drop at words) in
-    c.append_each.ensures.content
+    c.append_last.ensures.content
     ∙ last_words words rest (g.B.Buffer.content c.args.out.now) (g.B.Buffer.content c.loop-at.out) at c.loop-at.invariant.content
     (take_all (length words - at) (drop at words) (omega (arith, length-drop at words)))
