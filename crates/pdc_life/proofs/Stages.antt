@@ -20,9 +20,11 @@ pub record ReadOnce : Type 0 where
 abbrev pub Split : {A B : Type 0} (P : A → Type 0) (First : A → Arrival → Type 0) (Q : B → Type 0) (Next : B → Arrival → Type 0) → Arrival → Type 0
 Split {A = A} {B = B} P First Q Next a = ((x : A) × P x × First x a) ⊎ ((y : B) × Q y × Next y a)
 
+-- no two of them differ
 abbrev pub AreOne : {A : Type 0} → (A → Type 0) → Type 0
 AreOne {A = A} P = (x y : A) → P x → P y → x ≡ y
 
+-- what follows each of them is one thing
 abbrev pub SayOne : {A : Type 0} → (A → Arrival → Type 0) → Type 0
 SayOne {A = A} Next = (x : A) (a b : Arrival) → Next x a → Next x b → a ≡ b
 
