@@ -1,7 +1,7 @@
 -- Whether a data frame can be cut under a layout that was sent can be told.
 use Rattle.std.proofs.Common.{[], ◌*◌, ◌+◌, ◌<◌, ◌^◌, ◌∙◌, ◌∷◌, ◌≡◌, ap, arith, inl, inr, length, List, map, refl, subst, sym, ℕ}
-use Rattle.pdc_headline.proofs.Names.{◌⊎◌, AreBytes, body_len_of, bytes_of_blocks, Cfg2, ConfigFields, Fields, HasConfig, Hz50, Hz60, IsConfig, IsCut, IsCutOf, IsCutUnder, IsFrame, IsLayoutUnder, IsOwn, output_in, own_block, own_bytes, PartsKeepTheirWords, SectionFields, Seen, Shape, Stamp, stream_in, sum_by, Who, word_at}
-use Rattle.pdc_headline.proofs.{Layouts.{has_some_config, HasSomeConfig}, Reading.{config_in, frame_stands_there, is_frame}, Told.{among, both, either, has_one, HasOne, is_below, is_list, is_number, IsTold, likewise, there}}
+use Rattle.pdc_headline.proofs.Names.{◌⊎◌, AreBytes, body_len_of, bytes_of_blocks, Cfg2, ConfigFields, Fields, HasConfig, Hz50, Hz60, IsConfig, IsCut, IsCutOf, IsCutUnder, IsFrame, IsLayoutUnder, IsOwn, output_in, own_block, own_bytes, PartsKeepTheirWords, place_there, SectionFields, Seen, Shape, Stamp, stream_in, sum_by, Who, word_at}
+use Rattle.pdc_headline.proofs.{Layouts.{has_some_config, HasSomeConfig}, Reading.{config_in, frame_stands_there, is_frame}, Told.{both, either, has_one, HasOne, is_below, is_list, is_number, IsTold, likewise, there}}
 
 -- what is known of configurations and of cuts
 pub record CutLaws : Type 0 where
@@ -185,7 +185,7 @@ cut_of_somewhere seen who payload (inr h) = record {
   is_cut = record {
     under = inr (record {
       bytes = h.1;
-      among = among seen.frames h.0 h.1 h.2;
+      among = place_there seen.frames h.0 h.1 h.2;
       config = h.3.config;
       has = h.3.has;
       own = h.3.own;

@@ -1,5 +1,5 @@
 -- Whether bytes have a configuration can be told: its sections are cut one after the other.
-use Rattle.std.proofs.Common.{[], ◌%◌, ◌*◌, ◌++◌, ◌+◌, ◌-◌, ◌/◌, ◌<◌, ◌^◌, ◌∙◌, ◌∷◌, ◌≡◌, ◌≤◌, ap, arith, drop, if◌then◌else◌, inl, inr, length, length-append, List, nat_eq, refl, subst, suc, sym, take, zero, ℕ}
+use Rattle.std.proofs.Common.{[], ◌%◌, ◌*◌, ◌++◌, ◌+◌, ◌-◌, ◌/◌, ◌<◌, ◌^◌, ◌∙◌, ◌∷◌, ◌≡◌, ◌≤◌, ap, arith, drop, drop_at, if◌then◌else◌, inl, inr, length, length-append, List, nat_eq, refl, subst, suc, sym, take, zero, ℕ}
 use Rattle.pdc_headline.proofs.Names.{AllByRecursion, analogs_in, AreBytes, AreFew, bytes_of_sections, cast_signed, cast_unsigned, ConfigFields, count_in, digitals_in, format_in, HasIntegers, IsConfig, IsSection, len_in, long_at, of_z-to_z, of_z_fits, PartsKeepTheirWords, payload_of, phasors_in, read_sfits, section_len, SectionFields, source_in, take-append-drop, take-append_seam, to_be_bytes, w16, w32, word_at}
 use Rattle.pdc_headline.proofs.{Told.{both, is_below, is_list, IsTold, likewise}, Valid.{is_section}}
 
@@ -33,10 +33,6 @@ section_in body few = record {
   polar = nat_eq (format_in (front_of body) % 2) 1;
 }
 
-dropped : (xs ys : List ℕ) → drop (length xs) (xs ++ ys) ≡ ys
-dropped [] ys = refl
-dropped (x ∷ xs) ys = dropped xs ys
-
 record IsFront (body rest : List ℕ) (s : SectionFields) : Type 0 where
   phasors : phasors_in body ≡ s.shape.phasors
   analogs : analogs_in body ≡ s.shape.analogs
@@ -55,7 +51,7 @@ is_front K body rest s k parts =
       analogs = analogs;
       digitals = digitals;
       front = (λ i. take (len i) (parts i)) ∙ take-append_seam s.bytes rest;
-      behind = (λ i. drop (len i) (parts i)) ∙ dropped s.bytes rest;
+      behind = (λ i. drop (len i) (parts i)) ∙ drop_at s.bytes rest (length s.bytes) refl;
     }
 
 parity : (n : ℕ) → n < 2 → n ≡ (if nat_eq n 1 then 1 else 0)

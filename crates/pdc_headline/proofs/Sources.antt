@@ -1,7 +1,7 @@
 -- Whether a section or a block was sent can be told: PMUs and frames are so many.
 use Rattle.std.proofs.Common.{[], ◌^◌, ◌∙◌, ◌∷◌, ◌≡◌, ap, arith, length, List, subst, sym, ℕ}
-use Rattle.pdc_headline.proofs.Names.{absent_of, AreBytes, AreGenuineBlocks, AreWords, bytes_of_words, Contains, Fields, HasGenuineFrames, IsBody, IsCutOf, IsData, IsGenuineData, IsValid, Pmu, SectionFields, SectionWasSent, Seen, Shape, Stamp, stream_in, stream_of, WasSent, Who, word_count_of}
-use Rattle.pdc_headline.proofs.{Cuts.{CutLaws, is_somehow_cut, IsSomehowCut}, Reading.{data_in, data_there, is_data_there, IsDataThere, same_data, TagsAreComputed, there_of_data}, Stable.{each}, Told.{among, are_below, both, CannotFail, either, has_one, HasOne, holds, is_list, is_number, IsTold, likewise, so_does, there}, Valid.{is_valid}}
+use Rattle.pdc_headline.proofs.Names.{absent_of, AreBytes, AreGenuineBlocks, AreWords, bytes_of_words, Contains, Fields, HasGenuineFrames, IsBody, IsCutOf, IsData, IsGenuineData, IsValid, place_there, Pmu, SectionFields, SectionWasSent, Seen, Shape, Stamp, stream_in, stream_of, WasSent, Who, word_count_of}
+use Rattle.pdc_headline.proofs.{Cuts.{CutLaws, is_somehow_cut, IsSomehowCut}, Reading.{data_in, data_there, is_data_there, IsDataThere, same_data, TagsAreComputed, there_of_data}, Stable.{each}, Told.{are_below, both, CannotFail, either, has_one, HasOne, holds, is_list, is_number, IsTold, likewise, so_does, there}, Valid.{is_valid}}
 
 -- ---- sections
 
@@ -14,7 +14,7 @@ sent_of_found seen s h = record {
   pmu = h.1;
   listed = h.2;
   bytes = h.3.1;
-  among = among seen.frames h.3.0 h.3.1 h.3.2;
+  among = place_there seen.frames h.3.0 h.3.1 h.3.2;
   valid = h.3.3;
 }
 
@@ -56,7 +56,7 @@ was_of_found T seen i s words h = record {
   bytes = h.3.1.1;
   quality = (data_in h.3.1.1).quality;
   payload = (data_in h.3.1.1).payload;
-  among = among seen.frames h.3.1.0 h.3.1.1 h.3.1.2;
+  among = place_there seen.frames h.3.1.0 h.3.1.1 h.3.1.2;
   is_data = data_there T (stream_of seen.a h.1) h.3.1.1 i h.3.1.3.0;
   body = h.3.1.3.1;
 }
@@ -94,8 +94,7 @@ blocks_hold T seen i (s ∷ sections) (words ∷ blocks) k = (
   holds (either (is_list words (absent_of s.shape)) (was_sent T seen i s words)) (so_does (λ a. a.0) k),
   blocks_hold T seen i sections blocks (so_does (λ a. a.1) k),
 )
-blocks_hold T seen i [] (words ∷ blocks) k = k (λ a. a)
-blocks_hold T seen i (s ∷ sections) [] k = k (λ a. a)
+blocks_hold T seen i sections blocks k = k (λ a. a)
 
 -- ---- frames
 

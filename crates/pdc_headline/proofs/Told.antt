@@ -1,6 +1,6 @@
 -- What can be told by looking.
 use Rattle.std.proofs.Common.{[], ◌<◌, ◌∙◌, ◌∷◌, ◌≡◌, ap, arith, inl, inr, List, None, Option, refl, Some, subst, suc, sym, zero, ℕ}
-use Rattle.pdc_headline.proofs.Names.{◌⊎◌, cases_eq, cases_lt, Contains, get_or_from_slice_get, none-some, same_Some, slice_get, slice_get-get_or, slice_get_within, slice_index}
+use Rattle.pdc_headline.proofs.Names.{◌⊎◌, cases_eq, cases_lt, Contains, head_of, none-some, same_Some, slice_get, slice_get-get_or, slice_index, tail_of}
 
 -- That it did not hold is absurd: so much is had of a world, which keeps no history. What can be told by looking holds then.
 abbrev pub CannotFail : Type 0 → Type 0
@@ -44,23 +44,16 @@ is_below a b = elim (cases_lt a b) [
   | inr h ↦ inr (λ l. omega arith)
 ]
 
+pub are_alike : {X : Type 0} → ((x y : X) → IsTold (x ≡ y)) → (xs ys : List X) → IsTold (xs ≡ ys)
+are_alike f [] [] = inl refl
+are_alike f (x ∷ xs) (y ∷ ys) = likewise (λ (e : (x ≡ y) × (xs ≡ ys)). λ i. e.0 i ∷ e.1 i) (λ e. (head_of e, tail_of e)) (both (f x y) (are_alike f xs ys))
+are_alike f xs ys = inr (λ e. cc)
+
 pub is_list : (xs ys : List ℕ) → IsTold (xs ≡ ys)
-is_list [] [] = inl refl
-is_list [] (y ∷ ys) = inr (λ e. cc)
-is_list (x ∷ xs) [] = inr (λ e. cc)
-is_list (x ∷ xs) (y ∷ ys) = likewise joined (λ e. (cc, cc)) (both (is_number x y) (is_list xs ys))
-  where
-    joined : (x ≡ y) × (xs ≡ ys) → x ∷ xs ≡ y ∷ ys
-    joined e = λ i. e.0 i ∷ e.1 i
+is_list xs ys = are_alike is_number xs ys
 
 pub are_lists : (xs ys : List (List ℕ)) → IsTold (xs ≡ ys)
-are_lists [] [] = inl refl
-are_lists [] (y ∷ ys) = inr (λ e. cc)
-are_lists (x ∷ xs) [] = inr (λ e. cc)
-are_lists (x ∷ xs) (y ∷ ys) = likewise joined (λ e. (cc, cc)) (both (is_list x y) (are_lists xs ys))
-  where
-    joined : (x ≡ y) × (xs ≡ ys) → x ∷ xs ≡ y ∷ ys
-    joined e = λ i. e.0 i ∷ e.1 i
+are_lists xs ys = are_alike is_list xs ys
 
 pub is_some_number : (o : Option ℕ) (i : ℕ) → IsTold (o ≡ Some i)
 is_some_number None i = inr (λ e. none-some i e)
@@ -95,9 +88,6 @@ has_one {X} P f (x ∷ xs) = likewise found apart (either (f x) (has_one P f xs)
     apart h = at h.0 h.1 h.2 h.3
 
 -- ---- elements by their places
-
-pub among : {X : Type 0} (xs : List X) (k : ℕ) (x : X) → slice_get xs k ≡ Some x → Contains xs x
-among xs k x e = (k, slice_get_within xs k x e, get_or_from_slice_get xs k x x e)
 
 pub there : {X : Type 0} (xs : List X) (x : X) (c : Contains xs x) → slice_get xs c.0 ≡ Some x
 there xs x c = slice_get-get_or xs c.0 x c.1 ∙ ap Some c.2
