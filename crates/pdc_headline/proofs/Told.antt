@@ -17,23 +17,19 @@ holds (inr n) k = absurd (k n)
 pub so_does : {P Q : Type 0} → (P → Q) → CannotFail P → CannotFail Q
 so_does f k = λ none. k (λ p. none (f p))
 
-pub likewise : {P Q : Type 0} → (P → Q) → (Q → P) → IsTold P → IsTold Q
-likewise f g (inl p) = inl (f p)
-likewise f g (inr n) = inr (λ q. n (g q))
+pub likewise : {P Q : Type 0} → IsTold P → (P → Q) → (Q → P) → IsTold Q
+likewise (inl p) f g = inl (f p)
+likewise (inr n) f g = inr (λ q. n (g q))
 
 pub both : {P Q : Type 0} → IsTold P → IsTold Q → IsTold (P × Q)
 both (inl p) (inl q) = inl (p, q)
 both (inl p) (inr n) = inr (λ x. n x.1)
 both (inr n) b = inr (λ x. n x.0)
 
-neither : {P Q : Type 0} → (P → ⊥) → (Q → ⊥) → P ⊎ Q → ⊥
-neither m n (inl p) = m p
-neither m n (inr q) = n q
-
 pub either : {P Q : Type 0} → IsTold P → IsTold Q → IsTold (P ⊎ Q)
 either (inl p) b = inl (inl p)
 either (inr m) (inl q) = inl (inr q)
-either (inr m) (inr n) = inr (neither m n)
+either (inr m) (inr n) = inr (elim [ inl p ↦ m p | inr q ↦ n q ])
 
 pub is_number : (a b : ℕ) → IsTold (a ≡ b)
 is_number a b = cases_eq a b
@@ -46,7 +42,7 @@ is_below a b = elim (cases_lt a b) [
 
 pub are_alike : {X : Type 0} → ((x y : X) → IsTold (x ≡ y)) → (xs ys : List X) → IsTold (xs ≡ ys)
 are_alike f [] [] = inl refl
-are_alike f (x ∷ xs) (y ∷ ys) = likewise (λ (e : (x ≡ y) × (xs ≡ ys)). λ i. e.0 i ∷ e.1 i) (λ e. (head_of e, tail_of e)) (both (f x y) (are_alike f xs ys))
+are_alike f (x ∷ xs) (y ∷ ys) = likewise (both (f x y) (are_alike f xs ys)) (λ e i. e.0 i ∷ e.1 i) (λ e. (head_of e, tail_of e))
 are_alike f xs ys = inr (λ e. cc)
 
 pub is_list : (xs ys : List ℕ) → IsTold (xs ≡ ys)
@@ -57,12 +53,12 @@ are_lists xs ys = are_alike is_list xs ys
 
 pub is_some_number : (o : Option ℕ) (i : ℕ) → IsTold (o ≡ Some i)
 is_some_number None i = inr (λ e. none-some i e)
-is_some_number (Some j) i = likewise (λ e. ap Some e) (λ e. same_Some j i e) (is_number j i)
+is_some_number (Some j) i = likewise (is_number j i) (λ e. ap Some e) (λ e. same_Some j i e)
 
 -- each number of the list, and 0 past its end, is below this one
 pub are_below : (top : ℕ) (xs : List ℕ) → 0 < top → IsTold ((i : ℕ) → slice_index xs i < top)
 are_below top [] h = inl (λ i. h)
-are_below top (x ∷ xs) h = likewise joined (λ f. (f 0, λ i. f (suc i))) (both (is_below x top) (are_below top xs h))
+are_below top (x ∷ xs) h = likewise (both (is_below x top) (are_below top xs h)) joined (λ f. (f 0, λ i. f (suc i)))
   where
     joined : (x < top) × ((i : ℕ) → slice_index xs i < top) → (i : ℕ) → slice_index (x ∷ xs) i < top
     joined b zero = b.0
@@ -74,7 +70,7 @@ HasOne {X} P xs = (k : ℕ) × (x : X) × (slice_get xs k ≡ Some x) × P x
 
 pub has_one : {X : Type 0} (P : X → Type 0) → ((x : X) → IsTold (P x)) → (xs : List X) → IsTold (HasOne P xs)
 has_one P f [] = inr (λ h. none-some h.1 h.2)
-has_one {X} P f (x ∷ xs) = likewise found apart (either (f x) (has_one P f xs))
+has_one {X} P f (x ∷ xs) = likewise (either (f x) (has_one P f xs)) found apart
   where
     found : P x ⊎ HasOne P xs → HasOne P (x ∷ xs)
     found (inl p) = (0, x, refl, p)

@@ -1,6 +1,6 @@
 -- The names that the proofs cite of the definitions, and of the crates below, passed on from one place.
 pub use Rattle.std.specs.List.{All, AllByRecursion, Contains, slice_get}
-pub use Rattle.std.proofs.{lemmas.Bool.{and_cases, and_from, and_parts, both_ways, eq-eqb, eqb-false, eqb-true, lt-ltb, ltb-false, ltb-true, ne_eqb, not-true, not_from_false}, lemmas.List.{append-nil, length-map, length-take-le, map-append, take-append-drop, take_all, take_more}, lemmas.Option.{get_or_from_slice_get, slice_get-map, slice_get_read, slice_get_within}}
+pub use Rattle.std.proofs.{lemmas.Bool.{and_from, and_parts, both_ways, eq-eqb, eqb-false, eqb-true, lt-ltb, ltb-false, ltb-true, ne_eqb, not-true, not_from_false}, lemmas.List.{append-nil, length-map, length-take-le, map-append, take-append-drop, take_all, take_more}, lemmas.Option.{get_or_from_slice_get, slice_get-map, slice_get_read, slice_get_within}}
 pub use Rattle.pdc_frame.specs.{declared.limits.TheConstants.{MAX_SIZE}, Frame.{Fields, IsFrame}}
 pub use Rattle.pdc_row.specs.{declared.due_row.DueRow.{DueRow}, RowView.{row_view, RowView}}
 pub use Rattle.pdc_output.specs.{declared.output.Output.{Output}, Layout.{wire_of}}
