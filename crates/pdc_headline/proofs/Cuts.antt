@@ -1,7 +1,7 @@
 -- Whether a data frame can be cut under a layout that was sent can be told.
 use Rattle.std.proofs.Common.{[], ◌*◌, ◌+◌, ◌<◌, ◌^◌, ◌∙◌, ◌∷◌, ◌≡◌, ap, arith, inl, inr, length, List, map, refl, subst, sym, ℕ}
-use Rattle.pdc_headline.proofs.Names.{◌⊎◌, AreBytes, body_len_of, bytes_of_blocks, Cfg2, ConfigFields, Fields, HasConfig, Hz50, Hz60, IsConfig, IsCut, IsCutOf, IsCutUnder, IsFrame, IsLayoutUnder, IsOwn, output_in, own_block, own_bytes, PartsKeepTheirWords, SectionFields, Seen, Shape, Stamp, stream_in, sum_by, Who, word_at}
-use Rattle.pdc_headline.proofs.{Layouts.{has_some_config, HasSomeConfig}, Reading.{config_in, frame_stands_there, is_frame}, Told.{among, both, either, has_one, HasOne, is_below, is_list, is_number, IsTold, likewise, there}}
+use Rattle.pdc_headline.proofs.Names.{◌⊎◌, AreBytes, body_len_of, bytes_of_blocks, Cfg2, ConfigFields, Fields, HasConfig, Hz50, Hz60, IsConfig, IsCut, IsCutOf, IsCutUnder, IsFrame, IsLayoutUnder, IsOwn, output_in, own_block, own_bytes, own_shape, PartsKeepTheirWords, place_there, SectionFields, Seen, Shape, Stamp, stream_in, sum_by, Who, word_at}
+use Rattle.pdc_headline.proofs.{Layouts.{has_some_config, HasSomeConfig}, Reading.{config_in, frame_stands_there, is_frame}, Told.{both, either, has_one, HasOne, is_below, is_list, is_number, IsTold, likewise, there}}
 
 -- what is known of configurations and of cuts
 pub record CutLaws : Type 0 where
@@ -10,9 +10,6 @@ pub record CutLaws : Type 0 where
   pub one_cut : (shapes : List Shape) (payload : List ℕ) (a b : List (List ℕ)) → IsCut shapes payload a → IsCut shapes payload b → a ≡ b
   pub size : (shapes : List Shape) (payload : List ℕ) (blocks : List (List ℕ)) → IsCut shapes payload blocks → length payload ≡ sum_by body_len_of shapes
   pub found : (shapes : List Shape) (payload : List ℕ) → AreBytes payload → length payload ≡ sum_by body_len_of shapes → (blocks : List (List ℕ)) × IsCut shapes payload blocks
-
-abbrev own_shape : Shape
-own_shape = record { phasors = 0; analogs = 0; digitals = 4; phasors_fit = omega arith; analogs_fit = omega arith; digitals_fit = omega arith }
 
 -- ---- a cut under a stamp and sections
 
@@ -25,8 +22,8 @@ IsSomeCut shapes payload first = (blocks : List (List ℕ)) × IsCut shapes payl
 with_first : CutLaws → (shape : Shape) (shapes : List Shape) (payload first : List ℕ) (blocks : List (List ℕ)) → IsCut (shape ∷ shapes) payload blocks → IsTold (IsSomeCut (shape ∷ shapes) payload first)
 with_first C shape shapes payload first [] k = absurd k.shaped
 with_first C shape shapes payload first (b ∷ blocks) k =
-    likewise (λ (e : b ≡ first). (blocks, subst (λ (x : List ℕ). IsCut (shape ∷ shapes) payload (x ∷ blocks)) e k))
-    (λ (x : IsSomeCut (shape ∷ shapes) payload first). (let h : b ∷ blocks ≡ first ∷ x.0 = C.one_cut (shape ∷ shapes) payload (b ∷ blocks) (first ∷ x.0) k x.1 in cc)) (is_list b first)
+    likewise (is_list b first) (λ e. (blocks, subst (λ (x : List ℕ). IsCut (shape ∷ shapes) payload (x ∷ blocks)) e k))
+    (λ x. (let h : b ∷ blocks ≡ first ∷ x.0 = C.one_cut (shape ∷ shapes) payload (b ∷ blocks) (first ∷ x.0) k x.1 in cc))
 
 by_size : CutLaws → (shape : Shape) (shapes : List Shape) (payload first : List ℕ) → AreBytes payload → IsTold (length payload ≡ sum_by body_len_of (shape ∷ shapes)) → IsTold (IsSomeCut (shape ∷ shapes) payload first)
 by_size C shape shapes payload first fits (inl e) =
@@ -37,33 +34,25 @@ by_size C shape shapes payload first fits (inr other) = inr (λ x. other (C.size
 is_some_cut : CutLaws → (shape : Shape) (shapes : List Shape) (payload first : List ℕ) → AreBytes payload → IsTold (IsSomeCut (shape ∷ shapes) payload first)
 is_some_cut C shape shapes payload first fits = by_size C shape shapes payload first fits (is_number (length payload) (sum_by body_len_of (shape ∷ shapes)))
 
-abbrev CutParts : Stamp → List SectionFields → List ℕ → Type 0
-CutParts stamp sections payload = (stamp.start < 2 ^ 32) × ((stamp.change < 2 ^ 32) × IsSomeCut (shapes_of sections) payload (own_block stamp.start stamp.change))
-
 abbrev IsCutSomehow : Stamp → List SectionFields → List ℕ → Type 0
 IsCutSomehow stamp sections payload = (blocks : List (List ℕ)) × IsCutUnder stamp sections payload blocks
 
-cut_of_parts : (stamp : Stamp) (sections : List SectionFields) (payload : List ℕ) → CutParts stamp sections payload → IsCutSomehow stamp sections payload
-cut_of_parts stamp sections payload (start, (change, k)) = (
-  k.0,
-  record {
-    start_fits = start;
-    change_fits = change;
-    cut = λ own phasors analogs digitals. record {
-      shaped = (omega (arith, phasors, analogs, digitals), k.1.shaped.1, k.1.shaped.2);
-      parts = k.1.parts;
-    };
-  },
-)
-
-parts_of_cut : (stamp : Stamp) (sections : List SectionFields) (payload : List ℕ) → IsCutSomehow stamp sections payload → CutParts stamp sections payload
-parts_of_cut stamp sections payload x = (x.1.start_fits, (x.1.change_fits, (x.0, x.1.cut own_shape refl refl refl)))
-
 is_cut_somehow : CutLaws → (stamp : Stamp) (sections : List SectionFields) (payload : List ℕ) → AreBytes payload → IsTold (IsCutSomehow stamp sections payload)
 is_cut_somehow C stamp sections payload fits =
-    likewise (cut_of_parts stamp sections payload) (parts_of_cut stamp sections payload)
+    likewise
     (both (is_below stamp.start (2 ^ 32)) (both (is_below stamp.change (2 ^ 32))
     (is_some_cut C own_shape (map (λ (s : SectionFields). s.shape) sections) payload (own_block stamp.start stamp.change) fits)))
+    (λ p. (
+      p.1.1.0,
+      record {
+        start_fits = p.0;
+        change_fits = p.1.0;
+        cut = λ own phasors analogs digitals. record {
+          shaped = (omega (arith, phasors, analogs, digitals), p.1.1.1.shaped.1, p.1.1.1.shaped.2);
+          parts = p.1.1.1.parts;
+        };
+      },
+    )) (λ x. (x.1.start_fits, (x.1.change_fits, (x.0, x.1.cut own_shape refl refl refl))))
 
 -- the stamp that a payload bears
 abbrev stamp_in : List ℕ → Stamp
@@ -80,15 +69,12 @@ same_stamp stamp sections payload blocks k = stamp_again stamp blocks k.start_fi
 
 -- ---- a layout frame under which it is cut
 
-own_of_parts : (id : ℕ) (bytes : List ℕ) (stamp : Stamp) → (stamp.start < 2 ^ 32) × ((stamp.change < 2 ^ 32)
-    × ((bytes ≡ own_bytes id Hz50 stamp.start stamp.change) ⊎ (bytes ≡ own_bytes id Hz60 stamp.start stamp.change))) → IsOwn id bytes stamp
-own_of_parts id bytes stamp (start, (change, spelled)) = record { start_fits = start; change_fits = change; spelled = spelled }
-
 is_own : (id : ℕ) (bytes : List ℕ) (stamp : Stamp) → IsTold (IsOwn id bytes stamp)
 is_own id bytes stamp =
-    likewise (own_of_parts id bytes stamp) (λ (k : IsOwn id bytes stamp). (k.start_fits, (k.change_fits, k.spelled)))
+    likewise
     (both (is_below stamp.start (2 ^ 32)) (both (is_below stamp.change (2 ^ 32))
     (either (is_list bytes (own_bytes id Hz50 stamp.start stamp.change)) (is_list bytes (own_bytes id Hz60 stamp.start stamp.change)))))
+    (λ p. record { start_fits = p.0; change_fits = p.1.0; spelled = p.1.1 }) (λ k. (k.start_fits, (k.change_fits, k.spelled)))
 
 record Bears (seen : Seen) (who : Who) (stamp : Stamp) (payload bytes : List ℕ) : Type 0 where
   config : ConfigFields
@@ -148,9 +134,10 @@ by_sections : CutLaws → (seen : Seen) (who : Who) (stamp : Stamp) (payload byt
     → IsTold (Bears seen who stamp payload bytes)
 by_sections C seen who stamp payload bytes fits x [] e = inr (no_sections C seen who stamp payload bytes x e)
 by_sections C seen who stamp payload bytes fits x (own ∷ sections) e =
-    likewise (bears_of_parts seen who stamp payload bytes x own sections e) (parts_of_bears C seen who stamp payload bytes x own sections e)
+    likewise
     (both (is_frame bytes (config_in bytes)) (both (is_number (word_at bytes 4) (output_in seen who).id.value) (both (is_own (output_in seen who).id.value own.bytes stamp)
     (is_cut_somehow C stamp sections payload fits))))
+    (bears_of_parts seen who stamp payload bytes x own sections e) (parts_of_bears C seen who stamp payload bytes x own sections e)
 
 by_config : CutLaws → (seen : Seen) (who : Who) (stamp : Stamp) (payload bytes : List ℕ) → AreBytes payload → IsTold (HasSomeConfig (config_in bytes).payload) → IsTold (Bears seen who stamp payload bytes)
 by_config C seen who stamp payload bytes fits (inl x) = by_sections C seen who stamp payload bytes fits x x.0.sections refl
@@ -185,7 +172,7 @@ cut_of_somewhere seen who payload (inr h) = record {
   is_cut = record {
     under = inr (record {
       bytes = h.1;
-      among = among seen.frames h.0 h.1 h.2;
+      among = place_there seen.frames h.0 h.1 h.2;
       config = h.3.config;
       has = h.3.has;
       own = h.3.own;
@@ -210,6 +197,7 @@ somewhere_of_cut seen who payload k =
 
 pub is_somehow_cut : CutLaws → (seen : Seen) (who : Who) (payload : List ℕ) → AreBytes payload → IsTold (IsSomehowCut seen who payload)
 is_somehow_cut C seen who payload fits =
-    likewise (cut_of_somewhere seen who payload) (somewhere_of_cut seen who payload)
+    likewise
     (either (both (is_number (stamp_in payload).change 0) (is_cut_somehow C (stamp_in payload) [] payload fits))
     (has_one (Bears seen who (stamp_in payload) payload) (λ bytes. bears C seen who (stamp_in payload) payload bytes fits) seen.frames))
+    (cut_of_somewhere seen who payload) (somewhere_of_cut seen who payload)

@@ -1,6 +1,6 @@
 -- What PMUs, layouts and frames show: in a history, and of whatever is seen.
 use Rattle.std.proofs.Common.{ap, List, subst, sym, ℕ}
-use Rattle.pdc_headline.proofs.Names.{A, B, bytes_of, FramesAgree, get_or_from_slice_get, HasGenuineFrames, LayoutsAreOne, M, OfHistories, PmusSendOneBody, PmusSendOneSection, Published, PublishedAgree, SectionFields, Seen, Shows, ShowsPublished, slice_get_within, who_of}
+use Rattle.pdc_headline.proofs.Names.{A, B, bytes_of, FramesAgree, HasGenuineFrames, LayoutsAreOne, M, OfHistories, place_there, PmusSendOneBody, PmusSendOneSection, Published, PublishedAgree, SectionFields, Seen, Shows, ShowsPublished, who_of}
 use Rattle.pdc_headline.proofs.Told.{are_lists, CannotFail, holds, is_list, so_does}
 use Rattle.pdc_history.specs.Genuine as genuine
 
@@ -41,7 +41,7 @@ agree seen k v w i s t words others a b source count = (
 published_shows : (seen : Seen) (rows : List Published) (row : Published) (s : SectionFields) (words : List ℕ) → ShowsPublished seen rows row s words → Shows seen (who_of row.who) row.instant s words
 published_shows seen rows row s words k = record {
   bytes = k.bytes;
-  among = (row.number, slice_get_within seen.frames row.number k.bytes k.there, get_or_from_slice_get seen.frames row.number k.bytes k.bytes k.there);
+  among = place_there seen.frames row.number k.bytes k.there;
   shown = k.shown;
 }
 

@@ -1,17 +1,17 @@
 -- Whether bytes have a configuration can be told: its sections are cut one after the other.
-use Rattle.std.proofs.Common.{[], ◌%◌, ◌*◌, ◌++◌, ◌+◌, ◌-◌, ◌/◌, ◌<◌, ◌^◌, ◌∙◌, ◌∷◌, ◌≡◌, ◌≤◌, ap, arith, drop, if◌then◌else◌, inl, inr, length, length-append, List, nat_eq, refl, subst, suc, sym, take, zero, ℕ}
+use Rattle.std.proofs.Common.{[], ◌%◌, ◌*◌, ◌++◌, ◌+◌, ◌-◌, ◌/◌, ◌<◌, ◌^◌, ◌∙◌, ◌∷◌, ◌≡◌, ◌≤◌, ap, arith, drop, drop_at, if◌then◌else◌, inl, inr, length, length-append, List, nat_eq, refl, subst, suc, sym, take, zero, ℕ}
 use Rattle.pdc_headline.proofs.Names.{AllByRecursion, analogs_in, AreBytes, AreFew, bytes_of_sections, cast_signed, cast_unsigned, ConfigFields, count_in, digitals_in, format_in, HasIntegers, IsConfig, IsSection, len_in, long_at, of_z-to_z, of_z_fits, PartsKeepTheirWords, payload_of, phasors_in, read_sfits, section_len, SectionFields, source_in, take-append-drop, take-append_seam, to_be_bytes, w16, w32, word_at}
 use Rattle.pdc_headline.proofs.{Told.{both, is_below, is_list, IsTold, likewise}, Valid.{is_section}}
 
 -- ---- one section
 
 is_at_most : (a b : ℕ) → IsTold (a ≤ b)
-is_at_most a b = likewise (λ h. omega arith) (λ h. omega arith) (is_below a (suc b))
+is_at_most a b = likewise (is_below a (suc b)) (λ h. omega arith) (λ h. omega arith)
 
 are_few : (body : List ℕ) → IsTold (AreFew body)
 are_few body =
-    likewise (λ (p : (phasors_in body ≤ 32) × ((analogs_in body ≤ 32) × (digitals_in body ≤ 8))). record { phasors = p.0; analogs = p.1.0; digitals = p.1.1 })
-    (λ (k : AreFew body). (k.phasors, (k.analogs, k.digitals))) (both (is_at_most (phasors_in body) 32) (both (is_at_most (analogs_in body) 32) (is_at_most (digitals_in body) 8)))
+    likewise (both (is_at_most (phasors_in body) 32) (both (is_at_most (analogs_in body) 32) (is_at_most (digitals_in body) 8)))
+    (λ p. record { phasors = p.0; analogs = p.1.0; digitals = p.1.1 }) (λ k. (k.phasors, (k.analogs, k.digitals)))
 
 abbrev front_of : List ℕ → List ℕ
 front_of body = take (len_in body) body
@@ -33,10 +33,6 @@ section_in body few = record {
   polar = nat_eq (format_in (front_of body) % 2) 1;
 }
 
-dropped : (xs ys : List ℕ) → drop (length xs) (xs ++ ys) ≡ ys
-dropped [] ys = refl
-dropped (x ∷ xs) ys = dropped xs ys
-
 record IsFront (body rest : List ℕ) (s : SectionFields) : Type 0 where
   phasors : phasors_in body ≡ s.shape.phasors
   analogs : analogs_in body ≡ s.shape.analogs
@@ -55,7 +51,7 @@ is_front K body rest s k parts =
       analogs = analogs;
       digitals = digitals;
       front = (λ i. take (len i) (parts i)) ∙ take-append_seam s.bytes rest;
-      behind = (λ i. drop (len i) (parts i)) ∙ dropped s.bytes rest;
+      behind = (λ i. drop (len i) (parts i)) ∙ drop_at s.bytes rest (length s.bytes) refl;
     }
 
 parity : (n : ℕ) → n < 2 → n ≡ (if nat_eq n 1 then 1 else 0)
@@ -128,12 +124,12 @@ few_at K n body S =
     few_of body (bytes_of_sections h.more) h.first (is_front K body (bytes_of_sections h.more) h.first h.is h.parts)
 
 one_more : PartsKeepTheirWords → (n : ℕ) (body : List ℕ) → IsTold (AreFew body) → IsTold (AreSections n (drop (len_in body) body)) → IsTold (AreSections (suc n) body)
-one_more K n body (inl few) rest = likewise (made n body few) (parts_of K n body few) (both (is_section (section_in body few)) rest)
+one_more K n body (inl few) rest = likewise (both (is_section (section_in body few)) rest) (made n body few) (parts_of K n body few)
 one_more K n body (inr many) rest = inr (λ S. many (few_at K n body S))
 
 pub are_sections : PartsKeepTheirWords → (n : ℕ) (body : List ℕ) → IsTold (AreSections n body)
 are_sections K zero body =
-    likewise (λ e. record { sections = []; many = refl; all = tt; parts = e }) (λ (S : AreSections 0 body). none_of body S.sections S.many S.parts) (is_list body [])
+    likewise (is_list body []) (λ e. record { sections = []; many = refl; all = tt; parts = e }) (λ S. none_of body S.sections S.many S.parts)
 are_sections K (suc n) body = one_more K n body (are_few body) (are_sections K n (drop (len_in body) body))
 
 -- ---- a configuration
@@ -220,9 +216,10 @@ HasSomeConfig payload = (c : ConfigFields) × IsConfig payload c
 by_sections : PartsKeepTheirWords → (payload : List ℕ) → IsTold (AreSections (word_at payload 4) (body_of payload)) → IsTold (HasSomeConfig payload)
 by_sections K payload (inr none) = inr (λ x. none (sections_of_config payload x.0 x.1))
 by_sections K payload (inl S) =
-    likewise (λ (p : SpelledParts payload S.sections). (config_of payload S.sections, config_of_spelled payload S p)) (λ (x : HasSomeConfig payload). spelled_of_config K payload S x.0 x.1)
+    likewise
     (both (is_below (long_at payload 0 / 2 ^ 24) (2 ^ 8)) (both (is_below 0 (length S.sections)) (both (is_at_most (length S.sections) 17)
     (is_list payload (payload_of (config_of payload S.sections))))))
+    (λ p. (config_of payload S.sections, config_of_spelled payload S p)) (λ x. spelled_of_config K payload S x.0 x.1)
 
 pub has_some_config : PartsKeepTheirWords → (payload : List ℕ) → IsTold (HasSomeConfig payload)
 has_some_config K payload = by_sections K payload (are_sections K (word_at payload 4) (body_of payload))

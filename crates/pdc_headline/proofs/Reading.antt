@@ -57,10 +57,10 @@ parts_of_frame bytes f k = (k.spelled, (k.fits.version, (k.fits.id_low, (k.fits.
 
 pub is_frame : (bytes : List ℕ) (f : Fields) → IsTold (IsFrame bytes f)
 is_frame bytes f =
-    likewise (frame_of_parts bytes f) (parts_of_frame bytes f)
+    likewise
     (both (is_list bytes (spelling_of f)) (both (either (is_number f.version 1) (is_number f.version 2)) (both (is_below 0 f.id) (both (is_below f.id 65535)
     (both (is_below f.soc (2 ^ 32)) (both (is_below f.quality (2 ^ 8)) (both (is_below f.frac (2 ^ 24)) (both (is_below (length f.payload + 16) (2 ^ 16))
-    (are_below 256 f.payload (omega arith))))))))))
+    (are_below 256 f.payload (omega arith)))))))))) (frame_of_parts bytes f) (parts_of_frame bytes f)
 
 -- `instant_of` computes the instant of a tag
 abbrev pub TagsAreComputed : Type 0

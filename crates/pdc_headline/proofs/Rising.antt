@@ -1,30 +1,19 @@
 -- The instants that are listed of an owner are those of the rows that it published.
-use Rattle.std.proofs.Common.{[], ◌++◌, ◌∙◌, ◌∷◌, ◌≡◌, ap, Bool, cond, false, filter, List, map, None, refl, Some, subst, sym, true, ℕ}
-use Rattle.pdc_headline.proofs.Names.{A, AreRising, B, Comes, Ends, first_mark, Happened, instants_of, InstantsRise, is_same, IsHistory, listed, listed_at, M, name_of, PassesBy, Published, published, published_at, Publishes, Rises, row_instants, rows_of_one, RowView, Sends, Ticks, Who, who_of, World}
+use Rattle.std.proofs.Common.{[], ◌++◌, ◌∙◌, ◌∷◌, ◌≡◌, ap, Bool, cond, false, filter, List, map, refl, Some, subst, sym, true, ℕ}
+use Rattle.pdc_headline.proofs.Names.{A, AreRising, B, filter-append, first_mark, Happened, instants_of, InstantsRise, is_same, IsHistory, listed, listed_at, M, map-append, map-map, name_of, Published, published, published_at, Publishes, Rises, row_instants, rows_of_one, RowView, Who, who_of, World}
 use Rattle.pdc_headline.proofs.{Stable.{all_rising}, Told.{CannotFail, so_does}}
 use Rattle.pdc_history.specs.Marks as marks
 
 pub same_who : (who : Who) → who_of (name_of who) ≡ who
 same_who A = refl
-same_who B = refl
-same_who M = refl
+same_who who = refl
 
 -- the instants of those that pass
 abbrev instants_where : {X : Type 0} → (X → Bool) → (X → ℕ) → List X → List ℕ
 instants_where p f xs = map f (filter p xs)
 
-one_more : {X : Type 0} (p : X → Bool) (f : X → ℕ) (x : X) (xs ys : List X) (b : Bool) → instants_where p f (xs ++ ys) ≡ instants_where p f xs ++ instants_where p f ys
-    → map f (cond b (x ∷ filter p (xs ++ ys)) (filter p (xs ++ ys))) ≡ map f (cond b (x ∷ filter p xs) (filter p xs)) ++ instants_where p f ys
-one_more p f x xs ys true e = ap (λ (ns : List ℕ). f x ∷ ns) e
-one_more p f x xs ys false e = e
-
 joined : {X : Type 0} (p : X → Bool) (f : X → ℕ) (xs ys : List X) → instants_where p f (xs ++ ys) ≡ instants_where p f xs ++ instants_where p f ys
-joined p f [] ys = refl
-joined p f (x ∷ xs) ys = one_more p f x xs ys (p x) (joined p f xs ys)
-
-mapped_on : {X Y : Type 0} (f : X → Y) (g : Y → ℕ) (xs : List X) → map g (map f xs) ≡ map (λ (x : X). g (f x)) xs
-mapped_on f g [] = refl
-mapped_on f g (x ∷ xs) = ap (λ (ns : List ℕ). g (f x) ∷ ns) (mapped_on f g xs)
+joined p f xs ys = ap (map f) (filter-append p xs ys) ∙ map-append f (filter p xs) (filter p ys)
 
 -- a row that was published, and one that was listed, are of this owner
 abbrev is_by : Who → Who × RowView → Bool
@@ -47,14 +36,7 @@ same_at : (W : World) (H : List Happened) (who : Who) (h : Happened) → instant
 same_at W H who (Publishes A (Some row)) = one_kept (is_same A who) _ (A, row) refl
 same_at W H who (Publishes B (Some row)) = one_kept (is_same B who) _ (B, row) refl
 same_at W H who (Publishes M (Some row)) = one_kept (is_same M who) _ (M, row) refl
-same_at W H who (Publishes A None) = refl
-same_at W H who (Publishes B None) = refl
-same_at W H who (Publishes M None) = refl
-same_at W H who (Sends bytes) = refl
-same_at W H who (Comes v e) = refl
-same_at W H who (PassesBy v) = refl
-same_at W H who (Ticks v e) = refl
-same_at W H who (Ends v mark) = refl
+same_at W H who h = refl
 
 same_instants : (W : World) (H : List Happened) (who : Who) → instants_of who (listed W H) ≡ instants_where (is_by who) instant_in (published H)
 same_instants W [] who = refl
@@ -65,7 +47,7 @@ same_instants W (h ∷ H) who =
     ∙ sym (joined (is_by who) instant_in (published H) (published_at h))
 
 of_rows : (H : List Happened) (who : Who) → row_instants (rows_of_one who (published H)) ≡ instants_where (is_by who) instant_in (published H)
-of_rows H who = mapped_on (λ (r : Who × RowView). r.1) (λ (r : RowView). r.instant) (filter (is_by who) (published H))
+of_rows H who = map-map (λ (r : RowView). r.instant) (λ (r : Who × RowView). r.1) (filter (is_by who) (published H))
 
 without_low : (low : ℕ) (ns : List ℕ) → Rises low ns → AreRising ns
 without_low low [] k = tt

@@ -1,6 +1,6 @@
 -- The frame of each listed row is there, and it is data of the row's instant.
 use Rattle.std.proofs.Common.{[], ◌++◌, ◌∙◌, ◌∷◌, ◌≡◌, length, List, None, Option, refl, Some, subst, suc, sym, zero, ℕ}
-use Rattle.pdc_headline.proofs.Names.{AllByRecursion, Comes, Ends, Happened, IsData, IsHistory, IsPublishedData, IsSentData, listed, listed_at, none-some, output_of, PassesBy, Published, published, published_as, PublishedWereSent, Publishes, row_payload, RowsAreSentData, RowView, same_Some, Seen, seen_in, Sends, sent, sent_at, slice_get, stream_in, Ticks, Who, who_of, wire_of, World}
+use Rattle.pdc_headline.proofs.Names.{AllByRecursion, appended, Happened, IsData, IsHistory, IsPublishedData, IsSentData, last_one, listed, listed_at, mapped, none-some, output_of, Published, published, published_as, PublishedWereSent, Publishes, row_payload, RowsAreSentData, RowView, same_Some, Seen, seen_in, sent, sent_at, slice_get, stream_in, Who, who_of, wire_of, World}
 use Rattle.pdc_headline.proofs.{Reading.{data_in, data_there, is_data_there, IsDataThere, TagsAreComputed, there_of_data}, Rising.{same_who}, Stable.{each}, Told.{CannotFail, holds, so_does}}
 
 -- ---- in a history
@@ -13,18 +13,6 @@ stays_there (y ∷ xs) ys (suc n) x e = stays_there xs ys n x e
 comes_last : {X : Type 0} (xs : List X) (x : X) → slice_get (xs ++ x ∷ []) (length xs) ≡ Some x
 comes_last [] x = refl
 comes_last (y ∷ xs) x = comes_last xs x
-
-of_last : {X : Type 0} (P : X → Type 0) (xs : List X) (x : X) → AllByRecursion P (xs ++ x ∷ []) → P x
-of_last P [] x k = k.0
-of_last P (y ∷ xs) x k = of_last P xs x k.1
-
-and_then : {X : Type 0} (P : X → Type 0) (xs ys : List X) → AllByRecursion P xs → AllByRecursion P ys → AllByRecursion P (xs ++ ys)
-and_then P [] ys a b = b
-and_then P (x ∷ xs) ys a b = (a.0, and_then P xs ys a.1 b)
-
-turned : {X : Type 0} (P Q : X → Type 0) (xs : List X) → ((x : X) → P x → Q x) → AllByRecursion P xs → AllByRecursion Q xs
-turned P Q [] f a = tt
-turned P Q (x ∷ xs) f a = (f x a.0, turned P Q xs f a.1)
 
 still_sent : (W : World) (H : List Happened) (h : Happened) (row : Published) → IsSentData (seen_in W H) row → IsSentData (seen_in W (h ∷ H)) row
 still_sent W H h row k = record {
@@ -39,7 +27,7 @@ sent_now : PublishedWereSent → (W : World) (H : List Happened) (v : Who) (row 
     → IsSentData (seen_in W (Publishes v (Some row) ∷ H)) (published_as v (length (sent W H)) row)
 sent_now P W H v row is =
     let X : List Happened = Publishes v (Some row) ∷ H in
-    let k : IsPublishedData W X (v, row) = of_last (IsPublishedData W X) (published H) (v, row) (P W X is) in
+    let k : IsPublishedData W X (v, row) = last_one (IsPublishedData W X) (published H) (v, row) (P W X is) in
     record {
       bytes = wire_of (output_of W v) row;
       there = comes_last (sent W H) (wire_of (output_of W v) row);
@@ -49,19 +37,14 @@ sent_now P W H v row is =
     }
 
 all_now : PublishedWereSent → (W : World) (H : List Happened) (h : Happened) → IsHistory W (h ∷ H) → AllByRecursion (IsSentData (seen_in W (h ∷ H))) (listed_at W H h)
-all_now P W H (Sends bytes) is = tt
-all_now P W H (Comes v e) is = tt
-all_now P W H (PassesBy v) is = tt
-all_now P W H (Ticks v e) is = tt
-all_now P W H (Publishes v None) is = tt
 all_now P W H (Publishes v (Some row)) is = (sent_now P W H v row is, tt)
-all_now P W H (Ends v mark) is = tt
+all_now P W H h is = tt
 
 pub rows_are_sent_in : PublishedWereSent → (W : World) (H : List Happened) → IsHistory W H → RowsAreSentData (seen_in W H) (listed W H)
 rows_are_sent_in P W [] is = tt
 rows_are_sent_in P W (h ∷ H) is =
-    and_then (IsSentData (seen_in W (h ∷ H))) (listed W H) (listed_at W H h)
-    (turned (IsSentData (seen_in W H)) (IsSentData (seen_in W (h ∷ H))) (listed W H) (still_sent W H h) (rows_are_sent_in P W H is.1)) (all_now P W H h is)
+    appended (IsSentData (seen_in W (h ∷ H))) (listed W H) (listed_at W H h)
+    (mapped (IsSentData (seen_in W H)) (IsSentData (seen_in W (h ∷ H))) (listed W H) (still_sent W H h) (rows_are_sent_in P W H is.1)) (all_now P W H h is)
 
 -- ---- of whatever is seen
 

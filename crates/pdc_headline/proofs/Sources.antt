@@ -1,44 +1,24 @@
 -- Whether a section or a block was sent can be told: PMUs and frames are so many.
 use Rattle.std.proofs.Common.{[], ◌^◌, ◌∙◌, ◌∷◌, ◌≡◌, ap, arith, length, List, subst, sym, ℕ}
-use Rattle.pdc_headline.proofs.Names.{absent_of, AreBytes, AreGenuineBlocks, AreWords, bytes_of_words, Contains, Fields, HasGenuineFrames, IsBody, IsCutOf, IsData, IsGenuineData, IsValid, Pmu, SectionFields, SectionWasSent, Seen, Shape, Stamp, stream_in, stream_of, WasSent, Who, word_count_of}
-use Rattle.pdc_headline.proofs.{Cuts.{CutLaws, is_somehow_cut, IsSomehowCut}, Reading.{data_in, data_there, is_data_there, IsDataThere, same_data, TagsAreComputed, there_of_data}, Stable.{each}, Told.{among, are_below, both, CannotFail, either, has_one, HasOne, holds, is_list, is_number, IsTold, likewise, so_does, there}, Valid.{is_valid}}
+use Rattle.pdc_headline.proofs.Names.{absent_of, AreBytes, AreGenuineBlocks, bytes_of_words, Contains, Fields, HasGenuineFrames, IsBody, IsCutOf, IsData, IsGenuineData, IsValid, place_there, Pmu, SectionFields, SectionWasSent, Seen, Shape, Stamp, stream_in, stream_of, WasSent, Who, word_count_of}
+use Rattle.pdc_headline.proofs.{Cuts.{CutLaws, is_somehow_cut, IsSomehowCut}, Reading.{data_in, data_there, is_data_there, IsDataThere, same_data, TagsAreComputed, there_of_data}, Stable.{each}, Told.{are_below, both, CannotFail, either, has_one, HasOne, holds, is_list, is_number, IsTold, likewise, so_does, there}, Valid.{is_valid}}
 
 -- ---- sections
 
-abbrev SectionFound : Seen → SectionFields → Type 0
-SectionFound seen s = HasOne (λ (pmu : Pmu). HasOne (λ (bytes : List ℕ). IsValid seen.a pmu bytes s) seen.frames) seen.a.pmus.items
-
-sent_of_found : (seen : Seen) (s : SectionFields) → SectionFound seen s → SectionWasSent seen s
-sent_of_found seen s h = record {
-  p = h.0;
-  pmu = h.1;
-  listed = h.2;
-  bytes = h.3.1;
-  among = among seen.frames h.3.0 h.3.1 h.3.2;
-  valid = h.3.3;
-}
-
-found_of_sent : (seen : Seen) (s : SectionFields) → SectionWasSent seen s → SectionFound seen s
-found_of_sent seen s k = (k.p, k.pmu, k.listed, (k.among.0, k.bytes, there seen.frames k.bytes k.among, k.valid))
-
 section_was_sent : (seen : Seen) (s : SectionFields) → IsTold (SectionWasSent seen s)
 section_was_sent seen s =
-    likewise (sent_of_found seen s) (found_of_sent seen s)
+    likewise
     (has_one (λ (pmu : Pmu). HasOne (λ (bytes : List ℕ). IsValid seen.a pmu bytes s) seen.frames)
     (λ pmu. has_one (λ (bytes : List ℕ). IsValid seen.a pmu bytes s) (λ bytes. is_valid seen.a pmu bytes s) seen.frames) seen.a.pmus.items)
+    (λ h. record { p = h.0; pmu = h.1; listed = h.2; bytes = h.3.1; among = place_there seen.frames h.3.0 h.3.1 h.3.2; valid = h.3.3 })
+    (λ k. (k.p, k.pmu, k.listed, (k.among.0, k.bytes, there seen.frames k.bytes k.among, k.valid)))
 
 -- ---- blocks
 
-body_of_parts : (shape : Shape) (bytes words : List ℕ) → (length words ≡ word_count_of shape) × (AreWords words × (bytes ≡ bytes_of_words words)) → IsBody shape bytes words
-body_of_parts shape bytes words (count, (fits, spelled)) = record { count = count; fits = fits; spelled = spelled }
-
-parts_of_body : (shape : Shape) (bytes words : List ℕ) → IsBody shape bytes words → (length words ≡ word_count_of shape) × (AreWords words × (bytes ≡ bytes_of_words words))
-parts_of_body shape bytes words k = (k.count, (k.fits, k.spelled))
-
 is_body : (shape : Shape) (bytes words : List ℕ) → IsTold (IsBody shape bytes words)
 is_body shape bytes words =
-    likewise (body_of_parts shape bytes words) (parts_of_body shape bytes words)
-    (both (is_number (length words) (word_count_of shape)) (both (are_below (2 ^ 16) words (omega arith)) (is_list bytes (bytes_of_words words))))
+    likewise (both (is_number (length words) (word_count_of shape)) (both (are_below (2 ^ 16) words (omega arith)) (is_list bytes (bytes_of_words words))))
+    (λ p. record { count = p.0; fits = p.1.0; spelled = p.1.1 }) (λ k. (k.count, (k.fits, k.spelled)))
 
 -- a frame of the PMU has them
 abbrev IsBroughtBy : Seen → ℕ → SectionFields → List ℕ → Pmu → List ℕ → Type 0
@@ -56,7 +36,7 @@ was_of_found T seen i s words h = record {
   bytes = h.3.1.1;
   quality = (data_in h.3.1.1).quality;
   payload = (data_in h.3.1.1).payload;
-  among = among seen.frames h.3.1.0 h.3.1.1 h.3.1.2;
+  among = place_there seen.frames h.3.1.0 h.3.1.1 h.3.1.2;
   is_data = data_there T (stream_of seen.a h.1) h.3.1.1 i h.3.1.3.0;
   body = h.3.1.3.1;
 }
@@ -81,11 +61,11 @@ found_of_was T seen i s words k =
 
 was_sent : TagsAreComputed → (seen : Seen) (i : ℕ) (s : SectionFields) (words : List ℕ) → IsTold (WasSent seen i s words)
 was_sent T seen i s words =
-    likewise (was_of_found T seen i s words) (found_of_was T seen i s words)
+    likewise
     (has_one (IsFoundAt seen i s words)
     (λ pmu. both (is_number pmu.source s.source)
     (has_one (IsBroughtBy seen i s words pmu) (λ bytes. both (is_data_there (stream_of seen.a pmu) bytes i) (is_body s.shape (data_in bytes).payload words)) seen.frames))
-    seen.a.pmus.items)
+    seen.a.pmus.items) (was_of_found T seen i s words) (found_of_was T seen i s words)
 
 blocks_hold : TagsAreComputed → (seen : Seen) (i : ℕ) (sections : List SectionFields) (blocks : List (List ℕ)) → CannotFail (AreGenuineBlocks seen i sections blocks)
     → AreGenuineBlocks seen i sections blocks
@@ -94,8 +74,7 @@ blocks_hold T seen i (s ∷ sections) (words ∷ blocks) k = (
   holds (either (is_list words (absent_of s.shape)) (was_sent T seen i s words)) (so_does (λ a. a.0) k),
   blocks_hold T seen i sections blocks (so_does (λ a. a.1) k),
 )
-blocks_hold T seen i [] (words ∷ blocks) k = k (λ a. a)
-blocks_hold T seen i (s ∷ sections) [] k = k (λ a. a)
+blocks_hold T seen i sections blocks k = k (λ a. a)
 
 -- ---- frames
 

@@ -1,6 +1,6 @@
 -- What can be told by looking.
 use Rattle.std.proofs.Common.{[], ◌<◌, ◌∙◌, ◌∷◌, ◌≡◌, ap, arith, inl, inr, List, None, Option, refl, Some, subst, suc, sym, zero, ℕ}
-use Rattle.pdc_headline.proofs.Names.{◌⊎◌, cases_eq, cases_lt, Contains, get_or_from_slice_get, none-some, same_Some, slice_get, slice_get-get_or, slice_get_within, slice_index}
+use Rattle.pdc_headline.proofs.Names.{◌⊎◌, cases_eq, cases_lt, Contains, head_of, none-some, same_Some, slice_get, slice_get-get_or, slice_index, tail_of}
 
 -- That it did not hold is absurd: so much is had of a world, which keeps no history. What can be told by looking holds then.
 abbrev pub CannotFail : Type 0 → Type 0
@@ -17,23 +17,19 @@ holds (inr n) k = absurd (k n)
 pub so_does : {P Q : Type 0} → (P → Q) → CannotFail P → CannotFail Q
 so_does f k = λ none. k (λ p. none (f p))
 
-pub likewise : {P Q : Type 0} → (P → Q) → (Q → P) → IsTold P → IsTold Q
-likewise f g (inl p) = inl (f p)
-likewise f g (inr n) = inr (λ q. n (g q))
+pub likewise : {P Q : Type 0} → IsTold P → (P → Q) → (Q → P) → IsTold Q
+likewise (inl p) f g = inl (f p)
+likewise (inr n) f g = inr (λ q. n (g q))
 
 pub both : {P Q : Type 0} → IsTold P → IsTold Q → IsTold (P × Q)
 both (inl p) (inl q) = inl (p, q)
 both (inl p) (inr n) = inr (λ x. n x.1)
 both (inr n) b = inr (λ x. n x.0)
 
-neither : {P Q : Type 0} → (P → ⊥) → (Q → ⊥) → P ⊎ Q → ⊥
-neither m n (inl p) = m p
-neither m n (inr q) = n q
-
 pub either : {P Q : Type 0} → IsTold P → IsTold Q → IsTold (P ⊎ Q)
 either (inl p) b = inl (inl p)
 either (inr m) (inl q) = inl (inr q)
-either (inr m) (inr n) = inr (neither m n)
+either (inr m) (inr n) = inr (elim [ inl p ↦ m p | inr q ↦ n q ])
 
 pub is_number : (a b : ℕ) → IsTold (a ≡ b)
 is_number a b = cases_eq a b
@@ -44,32 +40,25 @@ is_below a b = elim (cases_lt a b) [
   | inr h ↦ inr (λ l. omega arith)
 ]
 
+pub are_alike : {X : Type 0} → ((x y : X) → IsTold (x ≡ y)) → (xs ys : List X) → IsTold (xs ≡ ys)
+are_alike f [] [] = inl refl
+are_alike f (x ∷ xs) (y ∷ ys) = likewise (both (f x y) (are_alike f xs ys)) (λ e i. e.0 i ∷ e.1 i) (λ e. (head_of e, tail_of e))
+are_alike f xs ys = inr (λ e. cc)
+
 pub is_list : (xs ys : List ℕ) → IsTold (xs ≡ ys)
-is_list [] [] = inl refl
-is_list [] (y ∷ ys) = inr (λ e. cc)
-is_list (x ∷ xs) [] = inr (λ e. cc)
-is_list (x ∷ xs) (y ∷ ys) = likewise joined (λ e. (cc, cc)) (both (is_number x y) (is_list xs ys))
-  where
-    joined : (x ≡ y) × (xs ≡ ys) → x ∷ xs ≡ y ∷ ys
-    joined e = λ i. e.0 i ∷ e.1 i
+is_list xs ys = are_alike is_number xs ys
 
 pub are_lists : (xs ys : List (List ℕ)) → IsTold (xs ≡ ys)
-are_lists [] [] = inl refl
-are_lists [] (y ∷ ys) = inr (λ e. cc)
-are_lists (x ∷ xs) [] = inr (λ e. cc)
-are_lists (x ∷ xs) (y ∷ ys) = likewise joined (λ e. (cc, cc)) (both (is_list x y) (are_lists xs ys))
-  where
-    joined : (x ≡ y) × (xs ≡ ys) → x ∷ xs ≡ y ∷ ys
-    joined e = λ i. e.0 i ∷ e.1 i
+are_lists xs ys = are_alike is_list xs ys
 
 pub is_some_number : (o : Option ℕ) (i : ℕ) → IsTold (o ≡ Some i)
 is_some_number None i = inr (λ e. none-some i e)
-is_some_number (Some j) i = likewise (λ e. ap Some e) (λ e. same_Some j i e) (is_number j i)
+is_some_number (Some j) i = likewise (is_number j i) (λ e. ap Some e) (λ e. same_Some j i e)
 
 -- each number of the list, and 0 past its end, is below this one
 pub are_below : (top : ℕ) (xs : List ℕ) → 0 < top → IsTold ((i : ℕ) → slice_index xs i < top)
 are_below top [] h = inl (λ i. h)
-are_below top (x ∷ xs) h = likewise joined (λ f. (f 0, λ i. f (suc i))) (both (is_below x top) (are_below top xs h))
+are_below top (x ∷ xs) h = likewise (both (is_below x top) (are_below top xs h)) joined (λ f. (f 0, λ i. f (suc i)))
   where
     joined : (x < top) × ((i : ℕ) → slice_index xs i < top) → (i : ℕ) → slice_index (x ∷ xs) i < top
     joined b zero = b.0
@@ -81,7 +70,7 @@ HasOne {X} P xs = (k : ℕ) × (x : X) × (slice_get xs k ≡ Some x) × P x
 
 pub has_one : {X : Type 0} (P : X → Type 0) → ((x : X) → IsTold (P x)) → (xs : List X) → IsTold (HasOne P xs)
 has_one P f [] = inr (λ h. none-some h.1 h.2)
-has_one {X} P f (x ∷ xs) = likewise found apart (either (f x) (has_one P f xs))
+has_one {X} P f (x ∷ xs) = likewise (either (f x) (has_one P f xs)) found apart
   where
     found : P x ⊎ HasOne P xs → HasOne P (x ∷ xs)
     found (inl p) = (0, x, refl, p)
@@ -95,9 +84,6 @@ has_one {X} P f (x ∷ xs) = likewise found apart (either (f x) (has_one P f xs)
     apart h = at h.0 h.1 h.2 h.3
 
 -- ---- elements by their places
-
-pub among : {X : Type 0} (xs : List X) (k : ℕ) (x : X) → slice_get xs k ≡ Some x → Contains xs x
-among xs k x e = (k, slice_get_within xs k x e, get_or_from_slice_get xs k x x e)
 
 pub there : {X : Type 0} (xs : List X) (x : X) (c : Contains xs x) → slice_get xs c.0 ≡ Some x
 there xs x c = slice_get-get_or xs c.0 x c.1 ∙ ap Some c.2

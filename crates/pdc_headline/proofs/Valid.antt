@@ -28,38 +28,30 @@ parts_of_section s k = (k.fits, (k.size, (k.source, (k.integers, (k.polar, (k.ph
 
 pub is_section : (s : SectionFields) → IsTold (IsSection s)
 is_section s =
-    likewise (section_of_parts s) (parts_of_section s)
+    likewise
     (both (are_below 256 s.bytes (omega arith)) (both (is_number (length s.bytes) (section_len_of s.shape)) (both (is_number (source_in s.bytes) s.source)
     (both (is_number (format_in s.bytes / 2 % 8) 0) (both (is_number (format_in s.bytes % 2) (if s.polar then 1 else 0)) (both (is_number (phasors_in s.bytes) s.shape.phasors)
     (both (is_number (analogs_in s.bytes) s.shape.analogs) (both (is_number (digitals_in s.bytes) s.shape.digitals) (is_number (count_in s.bytes) s.count)))))))))
+    (section_of_parts s) (parts_of_section s)
 
 -- ---- a configuration of one section, with this TIME_BASE and rate
 
 abbrev config_with : (payload : List ℕ) (time_base rate : ℕ) → SectionFields → ConfigFields
 config_with payload time_base rate s = record { flags = long_at payload 0 / 2 ^ 24; time_base = time_base; sections = s ∷ []; rate = cast_signed w16 rate }
 
-abbrev ConfigParts : (payload : List ℕ) (time_base rate : ℕ) → SectionFields → Type 0
-ConfigParts payload time_base rate s =
-    (long_at payload 0 / 2 ^ 24 < 2 ^ 8) × ((time_base < 2 ^ 24) × (IsSection s × (payload ≡ payload_of (config_with payload time_base rate s))))
-
-config_of_parts : (payload : List ℕ) (time_base rate : ℕ) (s : SectionFields) → ConfigParts payload time_base rate s → IsConfig payload (config_with payload time_base rate s)
-config_of_parts payload time_base rate s (flags, (base, (section, spelled))) = record {
-  flags = flags;
-  time_base = base;
-  some = omega arith;
-  few = omega arith;
-  sections = (section, tt);
-  rate = read_sfits w16 rate;
-  spelled = spelled;
-}
-
-parts_of_config : (payload : List ℕ) (time_base rate : ℕ) (s : SectionFields) → IsConfig payload (config_with payload time_base rate s) → ConfigParts payload time_base rate s
-parts_of_config payload time_base rate s k = (k.flags, (k.time_base, (k.sections.0, k.spelled)))
-
 is_config : (payload : List ℕ) (time_base rate : ℕ) (s : SectionFields) → IsTold (IsConfig payload (config_with payload time_base rate s))
 is_config payload time_base rate s =
-    likewise (config_of_parts payload time_base rate s) (parts_of_config payload time_base rate s)
+    likewise
     (both (is_below (long_at payload 0 / 2 ^ 24) (2 ^ 8)) (both (is_below time_base (2 ^ 24)) (both (is_section s) (is_list payload (payload_of (config_with payload time_base rate s))))))
+    (λ p. record {
+      flags = p.0;
+      time_base = p.1.0;
+      some = omega arith;
+      few = omega arith;
+      sections = (p.1.1.0, tt);
+      rate = read_sfits w16 rate;
+      spelled = p.1.1.1;
+    }) (λ k. (k.flags, (k.time_base, (k.sections.0, k.spelled))))
 
 flags_again : (c : ConfigFields) → c.flags < 2 ^ 8 → c.time_base < 2 ^ 24 → c.flags ≡ long_at (payload_of c) 0 / 2 ^ 24
 flags_again c flags base =
@@ -110,6 +102,7 @@ parts_of_valid settings pmu bytes s v =
 
 pub is_valid : (settings : Settings) (pmu : Pmu) (bytes : List ℕ) (s : SectionFields) → IsTold (IsValid settings pmu bytes s)
 is_valid settings pmu bytes s =
-    likewise (valid_of_parts settings pmu bytes s) (parts_of_valid settings pmu bytes s)
+    likewise
     (both (is_frame bytes (config_in bytes)) (both (is_number (word_at bytes 4) pmu.stream.value) (both (is_config (config_in bytes).payload pmu.time_base settings.output.rate s)
     (both (is_number (cast_unsigned w16 (cast_signed w16 settings.output.rate)) settings.output.rate) (is_number s.source pmu.source)))))
+    (valid_of_parts settings pmu bytes s) (parts_of_valid settings pmu bytes s)

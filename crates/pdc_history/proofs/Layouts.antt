@@ -183,7 +183,7 @@ none_in_force L g E q =
 
 -- an adoption is a tick
 adoption_ticks : (W : World) (H : List Happened) (h : Happened) (who : Who) (e : Entry) → IsMade W H h → entry_at who h ≡ Some e → is_adoption e ≡ true → h ≡ Ticks who e
-adoption_ticks W H h who (Tick now counts answer) made q a = (tick_ticks W H h who now counts answer made q).is
+adoption_ticks W H h who (Tick now counts answer) made q a = tick_ticks W H h who now counts answer made q
 adoption_ticks W H h who e made q a = absurd (false≢true a)
 
 own_of : (W : World) (who : Who) (mark : Stored) (bytes : List ℕ) (start change : ℕ) → start < 2 ^ 32 → change < 2 ^ 32

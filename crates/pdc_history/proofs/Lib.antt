@@ -15,13 +15,11 @@ pub mod NodeFrames
 pub mod Nodes
 pub mod One
 pub mod Order
-pub mod Play
 pub mod Rows
 pub mod RowsAt
 pub mod Sent
 pub mod Stored
 pub mod Vectors
-pub mod Waiting
 pub mod Worked
 pub mod WorkedFaults
 pub mod WorkedHistory

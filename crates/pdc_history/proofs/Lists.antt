@@ -19,6 +19,10 @@ pub appended : {A : Type 0} (P : A → Type 0) (xs more : List A) → AllByRecur
 appended P [] more a b = b
 appended P (x ∷ xs) more a b = (a.0, appended P xs more a.1 b)
 
+pub last_one : {A : Type 0} (P : A → Type 0) (xs : List A) (x : A) → AllByRecursion P (xs ++ x ∷ []) → P x
+last_one P [] x a = a.0
+last_one P (y ∷ xs) x a = last_one P xs x a.1
+
 pub mapped : {A : Type 0} (P Q : A → Type 0) (xs : List A) → ((x : A) → P x → Q x) → AllByRecursion P xs → AllByRecursion Q xs
 mapped P Q [] f a = tt
 mapped P Q (x ∷ xs) f a = (f x a.0, mapped P Q xs f a.1)

@@ -1,6 +1,6 @@
 -- Lives are lives, and what is published are their rows.
-use Rattle.std.proofs.Common.{[], ◌++◌, ◌∷◌, ◌≡◌, ap, Bool, cond, false, filter, List, map, None, Option, refl, Some, subst, sym, true, ℕ}
-use Rattle.pdc_history.proofs.Names.{A, AllByRecursion, Arrival, Arrive, B, begins_at, begun_with, Comes, ended, Ends, Entry, first_mark, Given, given_by, given_in, Happened, is_same, IsHistory, IsLifeOf, IsMade, IsRun, life_of, LifeLaws, LivesAreLives, M, opened_with, past_lives, PastLife, Pop, pop_answer, Publishes, raised, rows_of_one, RowView, rules_of, Says, since, Stored, Tick, tick_answer, Ticks, Who, with_entry, World}
+use Rattle.std.proofs.Common.{[], ◌++◌, ◌∙◌, ◌∷◌, ◌≡◌, ap, Bool, cond, false, filter, List, map, None, Option, refl, Some, subst, sym, true, ℕ}
+use Rattle.pdc_history.proofs.Names.{A, AllByRecursion, Arrival, Arrive, B, begins_at, begun_with, Comes, ended, Ends, Entry, filter-append, first_mark, Given, given_by, given_in, Happened, is_same, IsHistory, IsLifeOf, IsMade, IsRun, life_of, LifeLaws, LivesAreLives, M, map-append, opened_with, past_lives, PastLife, Pop, pop_answer, Publishes, raised, rows_of_one, RowView, rules_of, Says, since, Stored, Tick, tick_answer, Ticks, Who, with_entry, World}
 use Rattle.pdc_history.proofs.{Lists.{appended}, Made.{comes_is, publishes_is, ticks_is}, Moments.{same_who}}
 
 -- a new life, and one step more
@@ -95,11 +95,6 @@ popped_run L W H who row is made =
 
 -- those of one core, of a row behind others
 pub of_one_append : (who : Who) (rows more : List (Who × RowView)) → rows_of_one who (rows ++ more) ≡ rows_of_one who rows ++ rows_of_one who more
-of_one_append who [] more = refl
-of_one_append who (r ∷ rows) more = this_one (is_same r.0 who) r (filter (λ (x : Who × RowView). is_same x.0 who) (rows ++ more)) (filter (λ (x : Who × RowView). is_same x.0 who) rows) (rows_of_one who more) (of_one_append who rows more)
-  where
-    this_one : (b : Bool) (r : Who × RowView) (all some : List (Who × RowView)) (more : List RowView)
-        → map (λ (x : Who × RowView). x.1) all ≡ map (λ (x : Who × RowView). x.1) some ++ more
-        → map (λ (x : Who × RowView). x.1) (cond b (r ∷ all) all) ≡ map (λ (x : Who × RowView). x.1) (cond b (r ∷ some) some) ++ more
-    this_one true r all some more e = ap (λ (rs : List RowView). r.1 ∷ rs) e
-    this_one false r all some more e = e
+of_one_append who rows more =
+    ap (map (λ (r : Who × RowView). r.1)) (filter-append (λ (r : Who × RowView). is_same r.0 who) rows more)
+    ∙ map-append (λ (r : Who × RowView). r.1) (filter (λ (r : Who × RowView). is_same r.0 who) rows) (filter (λ (r : Who × RowView). is_same r.0 who) more)

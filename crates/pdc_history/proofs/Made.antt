@@ -85,10 +85,6 @@ pub record ComesHere (W : World) (H : List Happened) (h : Happened) (who : Who) 
   pub is : h ≡ Comes who e
   pub come : HasCome W H who e
 
-pub record TicksHere (W : World) (H : List Happened) (h : Happened) (who : Who) (e : Entry) : Type 0 where
-  pub is : h ≡ Ticks who e
-  pub ticked : HasTicked W H who e
-
 pub arrival_comes : (W : World) (H : List Happened) (h : Happened) (who : Who) (s : ℕ) (bytes : List ℕ) (arrival : Arrival) (answer : Answer) → IsMade W H h
     → entry_at who h ≡ Some (Arrive s bytes arrival answer) → ComesHere W H h who (Arrive s bytes arrival answer)
 arrival_comes W H (Comes v x) who s bytes arrival answer made q =
@@ -105,12 +101,10 @@ arrival_comes W H (Publishes v row) who s bytes arrival answer made q = let r = 
 arrival_comes W H h who s bytes arrival answer made q = absurd (none-some (Arrive s bytes arrival answer) q)
 
 pub tick_ticks : (W : World) (H : List Happened) (h : Happened) (who : Who) (now : ℕ) (counts : List ℕ) (answer : TickAnswer) → IsMade W H h
-    → entry_at who h ≡ Some (Tick now counts answer) → TicksHere W H h who (Tick now counts answer)
+    → entry_at who h ≡ Some (Tick now counts answer) → h ≡ Ticks who (Tick now counts answer)
 tick_ticks W H (Ticks v x) who now counts answer made q =
     let r = cond_none (is_same v who) x (Tick now counts answer) q in
-    let same : v ≡ who = same_who v who r.0 in
-    let is : Ticks v x ≡ Ticks who (Tick now counts answer) = λ i. Ticks (same i) (r.1 i) in
-    record { is = is; ticked = ticks_is W H who (Tick now counts answer) (subst (IsMade W H) is made) }
+    λ i. Ticks (same_who v who r.0 i) (r.1 i)
 tick_ticks W H (Comes v x) who now counts answer made q =
     let r = cond_none (is_same v who) x (Tick now counts answer) q in
     let t = comes_is W H v x made in

@@ -1,6 +1,6 @@
 -- Marks bound what was published and adopted, so instants rise.
-use Rattle.std.proofs.Common.{[], ◌++◌, ◌<◌, ◌^◌, ◌∙◌, ◌∷◌, ◌≡◌, ◌≤◌, ap, arith, Bool, cond, false, List, map, max, None, Option, refl, Some, subst, sym, true, ℕ}
-use Rattle.pdc_history.proofs.Names.{A, AllByRecursion, append-nil, AreBelow, begun_with, cleared_count, Comes, count_for, ended, Ends, Entry, first_mark, Given, given_by, given_in, Happened, InstantsRise, is_same, IsHistory, IsMade, IsRun, lead_of, life_of, LifeLaws, mark_of, MarksBound, opened_with, PassesBy, past_lives, PastLife, Pop, popped, published, published_at, Publishes, raised, reserved, Rises, row_instants, rows_of_lives, rows_of_one, RowView, section_in_force, SectionFields, Sends, since, Stored, Ticks, Who, with_counts_of, with_entry, World}
+use Rattle.std.proofs.Common.{[], ◌++◌, ◌<◌, ◌^◌, ◌∙◌, ◌∷◌, ◌≡◌, ◌≤◌, ap, arith, Bool, cond, false, le_refl, List, map, None, Option, refl, Some, subst, sym, true, ℕ}
+use Rattle.pdc_history.proofs.Names.{A, AllByRecursion, append-nil, AreBelow, begun_with, below_append, cleared_count, Comes, count_for, ended, Ends, Entry, first_mark, Given, given_by, given_in, Happened, InstantsRise, is_same, IsHistory, IsMade, IsRun, lead_of, life_of, LifeLaws, map-append, mark_of, MarksBound, opened_with, past_lives, PastLife, Pop, popped, published, published_at, Publishes, raised, reserved, Rises, row_instants, rows_of_lives, rows_of_one, RowView, section_in_force, SectionFields, since, Stored, Ticks, Who, with_counts_of, with_entry, World}
 use Rattle.pdc_history.proofs.{Lists.{appended, mapped}, Lives.{of_one_append, popped_run, run_in}, Made.{comes_is, tick_at, ticks_is}, Moments.{same_who}, Rows.{rows_are_of_lives}, Stored.{AtLeast, ends_is, IsNext, itself, raised_keeps, reserved_covers, reserved_keeps}}
 
 -- ---- what a mark gives to a life
@@ -37,20 +37,17 @@ record Bounded (first mark opened : Stored) (g : Given) (E : List Entry) (past :
 abbrev BoundedIn : World → List Happened → Who → Type 0
 BoundedIn W H who = Bounded (first_mark W who) (mark_of W H who) (opened_with W H who) (given_in W H who) (life_of H who) (past_lives W H who) (rows_of_one who (published H))
 
-no_less : (n : ℕ) → n ≤ n
-no_less n = omega arith
-
 at_begin : (W : World) (who : Who) → (first_mark W who).start < 2 ^ 32 → BoundedIn W [] who
 at_begin W who fits = record {
   start = refl;
   fits = fits;
-  low = no_less (first_mark W who).floor;
-  floor_grows = no_less (first_mark W who).floor;
-  counts_grow = λ c. no_less (count_for c (first_mark W who).counts);
+  low = le_refl (first_mark W who).floor;
+  floor_grows = le_refl (first_mark W who).floor;
+  counts_grow = λ c. le_refl (count_for c (first_mark W who).counts);
   earlier = tt;
   floor = tt;
   past_floor = tt;
-  cleared = λ c. subst (λ (counts : List ℕ). count_for c (given_by W who (first_mark W who)).counts ≤ count_for c counts) (given_counts W who (first_mark W who)) (no_less (count_for c (given_by W who (first_mark W who)).counts));
+  cleared = λ c. subst (λ (counts : List ℕ). count_for c (given_by W who (first_mark W who)).counts ≤ count_for c counts) (given_counts W who (first_mark W who)) (le_refl (count_for c (given_by W who (first_mark W who)).counts));
   past_in_force = λ c. tt;
 }
 
@@ -86,9 +83,6 @@ arrival_clears_none : (W : World) (H : List Happened) (v : Who) (e : Entry) (g :
 arrival_clears_none W H v e g E c made = let come = comes_is W H v e made in ap (λ (x : Entry). cleared_count g (x ∷ E) c) come.is
 
 -- a tick
-no_more : (a b c : ℕ) → a ≤ b → b ≤ c → max a c ≤ c
-no_more a b c h k = omega (arith, h, k)
-
 ticked : (W : World) (H : List Happened) (who v : Who) (e : Entry) (o : Bool) → (o ≡ true → v ≡ who) → IsMade W H (Ticks v e) → BoundedIn W H who
     → Bounded (first_mark W who) (cond o (with_counts_of e (mark_of W H who)) (mark_of W H who)) (opened_with W H who) (given_in W H who) (with_entry (cond o (Some e) None) (life_of H who)) (past_lives W H who) (rows_of_one who (published H) ++ [])
 ticked W H who v e true same made b =
@@ -96,7 +90,7 @@ ticked W H who v e true same made b =
     let k : AtLeast (mark_of W H who) (raised W H who) = raised_keeps W H who in
     subst (λ (x : Entry). Bounded (first_mark W who) (with_counts_of x (mark_of W H who)) (opened_with W H who) (given_in W H who) (x ∷ life_of H who) (past_lives W H who) (rows_of_one who (published H) ++ [])) (sym t.is)
     (grown (first_mark W who) (mark_of W H who) (raised W H who) (opened_with W H who) (given_in W H who) (life_of H who) (tick_at W H who t.now ∷ life_of H who) (past_lives W H who) (rows_of_one who (published H)) [] k
-    (λ c. no_more (cleared_count (given_in W H who) (life_of H who) c) (count_for c (mark_of W H who).counts) (count_for c (raised W H who).counts) (b.cleared c) (k.counts c)) tt b)
+    (λ c. omega (arith, b.cleared c, k.counts c)) tt b)
 ticked W H who v e false same made b = same_rows (first_mark W who) (mark_of W H who) (opened_with W H who) (given_in W H who) (life_of H who) (past_lives W H who) (rows_of_one who (published H)) b
 
 -- a publish
@@ -132,12 +126,12 @@ ends L W H who v mark true same is made b =
       start = refl;
       fits = n.fits;
       low = omega (arith, b.low, b.floor_grows, n.floor);
-      floor_grows = no_less mark.floor;
-      counts_grow = λ c. no_less (count_for c mark.counts);
+      floor_grows = le_refl mark.floor;
+      counts_grow = λ c. le_refl (count_for c mark.counts);
       earlier = (this, mapped (λ (p : PastLife). p.given.start < (mark_of W H who).start) (λ (p : PastLife). p.given.start < mark.start) (past_lives W H who) (λ p h. omega (arith, h, n.start)) b.earlier);
       floor = appended (λ (r : RowView). r.instant ≤ mark.floor) (rows_of_one who (published H)) [] all tt;
       past_floor = subst (AllByRecursion (λ (r : RowView). r.instant ≤ mark.floor)) (rows_are_of_lives W H who is) all;
-      cleared = λ c. subst (λ (counts : List ℕ). count_for c (given_by W who mark).counts ≤ count_for c counts) (given_counts W who mark) (no_less (count_for c (given_by W who mark).counts));
+      cleared = λ c. subst (λ (counts : List ℕ). count_for c (given_by W who mark).counts ≤ count_for c counts) (given_counts W who mark) (le_refl (count_for c (given_by W who mark).counts));
       past_in_force = λ c. (
         λ s h. omega (arith, (L.cleared (given_in W H who) (life_of H who) c s (run_in L W H who is).ticked h).1, b.cleared c, n.counts c),
         mapped (InForceBelow (opened_with W H who).counts c) (InForceBelow mark.counts c) (past_lives W H who)
@@ -180,14 +174,6 @@ one_above : (low i : ℕ) (ns : List ℕ) → Rises low ns → low < i → AreBe
 one_above low i [] r h k = (h, tt)
 one_above low i (n ∷ ns) r h k = (r.0, one_above n i ns r.1 k.0 k.1)
 
-instants_append : (rows more : List RowView) → row_instants (rows ++ more) ≡ row_instants rows ++ row_instants more
-instants_append [] more = refl
-instants_append (r ∷ rows) more = ap (λ ns. r.instant ∷ ns) (instants_append rows more)
-
-below_append : (top : ℕ) (ns ms : List ℕ) → AreBelow top ns → AreBelow top ms → AreBelow top (ns ++ ms)
-below_append top [] ms a b = b
-below_append top (n ∷ ns) ms a b = (a.0, below_append top ns ms a.1 b)
-
 below_floor : (floor top : ℕ) (rows : List RowView) → floor < top → AllByRecursion (λ (r : RowView). r.instant ≤ floor) rows → AreBelow top (row_instants rows)
 below_floor floor top [] h a = tt
 below_floor floor top (r ∷ rows) h a = (omega (arith, a.0, h), below_floor floor top rows h a.1)
@@ -200,7 +186,7 @@ row_above L W H who r is run =
     let next = L.next (given_in W H who) (life_of H who) r run in
     let above : (opened_with W H who).floor < r.instant = subst (λ n. n < r.instant) (given_floor W who (opened_with W H who)) next.0 in (
       above,
-      subst (λ (ns : List ℕ). AreBelow r.instant ns) (sym (ap row_instants (rows_are_of_lives W H who is) ∙ instants_append (rows_of_lives (past_lives W H who)) (popped (life_of H who))))
+      subst (λ (ns : List ℕ). AreBelow r.instant ns) (sym (ap row_instants (rows_are_of_lives W H who is) ∙ map-append (λ (x : RowView). x.instant) (rows_of_lives (past_lives W H who)) (popped (life_of H who))))
           (below_append r.instant (row_instants (rows_of_lives (past_lives W H who))) (row_instants (popped (life_of H who)))
           (below_floor (opened_with W H who).floor r.instant (rows_of_lives (past_lives W H who)) above b.past_floor) next.1),
     )
@@ -222,16 +208,12 @@ rises_by L W H who v (Some row) true e same is r =
     let run : IsRun (given_in W H who) (Pop (Some row) ∷ life_of H who) = popped_run L W H who row is.1 here.0 in
     let above = row_above L W H who row is.1 run in
     subst (λ (x : Bool). RisesTo W who (rows_of_one who (published H) ++ map (λ (y : Who × RowView). y.1) (cond x ((v, row) ∷ []) []))) (sym e)
-    (subst (λ (ns : List ℕ). Rises (first_mark W who).floor ns) (sym (instants_append (rows_of_one who (published H)) (row ∷ [])))
+    (subst (λ (ns : List ℕ). Rises (first_mark W who).floor ns) (sym (map-append (λ (x : RowView). x.instant) (rows_of_one who (published H)) (row ∷ [])))
     (one_above (first_mark W who).floor row.instant (row_instants (rows_of_one who (published H))) r (omega (arith, b.low, above.0)) above.1))
 
 rises_more : LifeLaws → (W : World) (H : List Happened) (who : Who) (h : Happened) → IsHistory W (h ∷ H) → RisesTo W who (rows_of_one who (published H)) → RisesTo W who (rows_of_one who (published H) ++ rows_of_one who (published_at h))
-rises_more L W H who (Sends bytes) is r = still_rises W who (rows_of_one who (published H)) r
-rises_more L W H who (Comes v e) is r = still_rises W who (rows_of_one who (published H)) r
-rises_more L W H who (PassesBy v) is r = still_rises W who (rows_of_one who (published H)) r
-rises_more L W H who (Ticks v e) is r = still_rises W who (rows_of_one who (published H)) r
-rises_more L W H who (Ends v mark) is r = still_rises W who (rows_of_one who (published H)) r
 rises_more L W H who (Publishes v row) is r = rises_by L W H who v row (is_same v who) refl (same_who v who) is r
+rises_more L W H who h is r = still_rises W who (rows_of_one who (published H)) r
 
 pub instants_rise : LifeLaws → InstantsRise
 instants_rise L W [] who is = tt

@@ -1,6 +1,6 @@
 -- What calls of a core and of a publisher append.
 use Rattle.std.proofs.Common.{[], ◌++◌, ◌+◌, ◌<◌, ◌∙◌, ◌∷◌, ◌≡◌, ◌≤◌, ap, arith, inl, inr, List, map, None, Option, refl, Some, subst, sym, ℕ}
-use Rattle.pdc_station.proofs.Names.{AllAreSent, AllByRecursion, append-nil, append_assoc, AreBelow, Arrived, below_append, below_higher, Call, concat, concat-append, Contains, Contains-append_cases, element, Empty, Entry, Given, in_one, Lost, MakeAll, map-append, NoLostRowIsSent, not_in_none, option_to_list, Pop, pop_answer, popped, Rises, rises_append, row_instants, rows_lost, rows_popped, rows_sent, RowsAreOfTheLife, RowView, Rules, Sent, SentRowsAreAppended, SentRowsRise, Ticked, Told, wire_of}
+use Rattle.pdc_station.proofs.Names.{AllAreSent, AllByRecursion, append-nil, append_assoc, AreBelow, below_append, below_higher, Call, concat, concat-append, Contains, Contains-append_cases, element, Empty, Entry, Given, in_one, Lost, MakeAll, Makes, map-append, NoLostRowIsSent, not_empty, not_in_none, option_to_list, Pop, pop_answer, popped, Rises, rises_append, row_instants, rows_lost, rows_popped, rows_sent, RowsAreOfTheLife, RowView, Rules, Sent, SentRowsAreAppended, SentRowsRise, Told, wire_of}
 
 -- one frame more
 frame_more : (g : Given) (rows : List RowView) (row : RowView) (a b c : List ℕ) → b ≡ a ++ concat (map (wire_of g.output) rows) → c ≡ b ++ wire_of g.output row
@@ -13,20 +13,21 @@ frame_more g rows row a b c so one =
 
 pub appended : SentRowsAreAppended
 appended rules g [] old new h = ap (λ (t : Told). t.bytes) h ∙ sym (append-nil old.bytes)
-appended rules g (Arrived s bytes arrival ∷ calls) old new h = h.2.2 ∙ appended rules g calls old h.0 h.1
-appended rules g (Ticked now counts ∷ calls) old new h = h.2.2 ∙ appended rules g calls old h.0 h.1
 appended rules g (Empty ∷ calls) old new h = h.2.3 ∙ appended rules g calls old h.0 h.1
 appended rules g (Sent row ∷ calls) old new h = frame_more g (rows_sent calls) row old.bytes h.0.bytes new.bytes (appended rules g calls old h.0 h.1) h.2.1
 appended rules g (Lost row ∷ calls) old new h = h.2.1 ∙ appended rules g calls old h.0 h.1
+appended rules g (call ∷ calls) old new h = h.2.2 ∙ appended rules g calls old h.0 h.1
 
 -- the greatest instant popped only grows
+grows_by : (rules : Rules) (g : Given) (call : Call) (old new : Told) → Makes rules g call old new → old.popped ≤ new.popped
+grows_by rules g Empty old new h = omega (arith, h.2)
+grows_by rules g (Sent row) old new h = omega (arith, h.0.above, h.0.popped)
+grows_by rules g (Lost row) old new h = omega (arith, h.0.above, h.0.popped)
+grows_by rules g call old new h = omega (arith, h.1)
+
 grows : (rules : Rules) (g : Given) (calls : List Call) (old new : Told) → MakeAll rules g calls old new → old.popped ≤ new.popped
 grows rules g [] old new h = omega (arith, ap (λ (t : Told). t.popped) h)
-grows rules g (Arrived s bytes arrival ∷ calls) old new h = omega (arith, h.2.1, grows rules g calls old h.0 h.1)
-grows rules g (Ticked now counts ∷ calls) old new h = omega (arith, h.2.1, grows rules g calls old h.0 h.1)
-grows rules g (Empty ∷ calls) old new h = omega (arith, h.2.2, grows rules g calls old h.0 h.1)
-grows rules g (Sent row ∷ calls) old new h = omega (arith, h.2.0.above, h.2.0.popped, grows rules g calls old h.0 h.1)
-grows rules g (Lost row ∷ calls) old new h = omega (arith, h.2.0.above, h.2.0.popped, grows rules g calls old h.0 h.1)
+grows rules g (call ∷ calls) old new h = omega (arith, grows_by rules g call h.0 new h.2, grows rules g calls old h.0 h.1)
 
 -- none of the rows is above the greatest instant popped, where none was before, or with this row more
 stays : (rows : List RowView) (a b : ℕ) → a ≤ b → AreBelow (a + 1) (row_instants rows) → AreBelow (b + 1) (row_instants rows)
@@ -42,30 +43,21 @@ with_row rows row a b above at below =
 
 sent_under : (rules : Rules) (g : Given) (calls : List Call) (old new : Told) → MakeAll rules g calls old new → AreBelow (new.popped + 1) (row_instants (rows_sent calls))
 sent_under rules g [] old new h = tt
-sent_under rules g (Arrived s bytes arrival ∷ calls) old new h = stays (rows_sent calls) h.0.popped new.popped (omega (arith, h.2.1)) (sent_under rules g calls old h.0 h.1)
-sent_under rules g (Ticked now counts ∷ calls) old new h = stays (rows_sent calls) h.0.popped new.popped (omega (arith, h.2.1)) (sent_under rules g calls old h.0 h.1)
-sent_under rules g (Empty ∷ calls) old new h = stays (rows_sent calls) h.0.popped new.popped (omega (arith, h.2.2)) (sent_under rules g calls old h.0 h.1)
-sent_under rules g (Lost row ∷ calls) old new h = stays (rows_sent calls) h.0.popped new.popped (omega (arith, h.2.0.above, h.2.0.popped)) (sent_under rules g calls old h.0 h.1)
 sent_under rules g (Sent row ∷ calls) old new h = with_row (rows_sent calls) row h.0.popped new.popped h.2.0.above h.2.0.popped (sent_under rules g calls old h.0 h.1)
+sent_under rules g (call ∷ calls) old new h = stays (rows_sent calls) h.0.popped new.popped (grows_by rules g call h.0 new h.2) (sent_under rules g calls old h.0 h.1)
 
 lost_under : (rules : Rules) (g : Given) (calls : List Call) (old new : Told) → MakeAll rules g calls old new → AreBelow (new.popped + 1) (row_instants (rows_lost calls))
 lost_under rules g [] old new h = tt
-lost_under rules g (Arrived s bytes arrival ∷ calls) old new h = stays (rows_lost calls) h.0.popped new.popped (omega (arith, h.2.1)) (lost_under rules g calls old h.0 h.1)
-lost_under rules g (Ticked now counts ∷ calls) old new h = stays (rows_lost calls) h.0.popped new.popped (omega (arith, h.2.1)) (lost_under rules g calls old h.0 h.1)
-lost_under rules g (Empty ∷ calls) old new h = stays (rows_lost calls) h.0.popped new.popped (omega (arith, h.2.2)) (lost_under rules g calls old h.0 h.1)
-lost_under rules g (Sent row ∷ calls) old new h = stays (rows_lost calls) h.0.popped new.popped (omega (arith, h.2.0.above, h.2.0.popped)) (lost_under rules g calls old h.0 h.1)
 lost_under rules g (Lost row ∷ calls) old new h = with_row (rows_lost calls) row h.0.popped new.popped h.2.0.above h.2.0.popped (lost_under rules g calls old h.0 h.1)
+lost_under rules g (call ∷ calls) old new h = stays (rows_lost calls) h.0.popped new.popped (grows_by rules g call h.0 new h.2) (lost_under rules g calls old h.0 h.1)
 
 pub rise : SentRowsRise
 rise rules g [] old new h = tt
-rise rules g (Arrived s bytes arrival ∷ calls) old new h = rise rules g calls old h.0 h.1
-rise rules g (Ticked now counts ∷ calls) old new h = rise rules g calls old h.0 h.1
-rise rules g (Empty ∷ calls) old new h = rise rules g calls old h.0 h.1
-rise rules g (Lost row ∷ calls) old new h = rise rules g calls old h.0 h.1
 rise rules g (Sent row ∷ calls) old new h =
     subst (Rises old.popped) (sym (joined (rows_sent calls) row))
     (rises_append old.popped h.0.popped (row_instants (rows_sent calls)) (row.instant ∷ []) (grows rules g calls old h.0 h.1) (rise rules g calls old h.0 h.1)
     (sent_under rules g calls old h.0 h.1) (h.2.0.above, tt))
+rise rules g (call ∷ calls) old new h = rise rules g calls old h.0 h.1
 
 -- a row of those is not above it
 all_below : (rows : List RowView) (top : ℕ) → AreBelow top (row_instants rows) → AllByRecursion (λ (r : RowView). r.instant < top) rows
@@ -77,9 +69,6 @@ is_below rows row top h k = element (λ (r : RowView). r.instant < top) rows row
 
 pub apart : NoLostRowIsSent
 apart rules g [] old new lost sent h a b same = not_in_none lost a
-apart rules g (Arrived s bytes arrival ∷ calls) old new lost sent h a b same = apart rules g calls old h.0 lost sent h.1 a b same
-apart rules g (Ticked now counts ∷ calls) old new lost sent h a b same = apart rules g calls old h.0 lost sent h.1 a b same
-apart rules g (Empty ∷ calls) old new lost sent h a b same = apart rules g calls old h.0 lost sent h.1 a b same
 apart rules g (Sent row ∷ calls) old new lost sent h a b same = elim (Contains-append_cases (rows_sent calls) (row ∷ []) sent b) [
   | inl k ↦ apart rules g calls old h.0 lost sent h.1 a k same
   | inr k ↦
@@ -92,6 +81,7 @@ apart rules g (Lost row ∷ calls) old new lost sent h a b same = elim (Contains
       let at : row.instant ≡ lost.instant = ap (λ (r : RowView). r.instant) (in_one row lost k) in
       absurd (omega (arith, h.2.0.above, at, same, is_below (rows_sent calls) sent (h.0.popped + 1) (sent_under rules g calls old h.0 h.1) b))
 ]
+apart rules g (call ∷ calls) old new lost sent h a b same = apart rules g calls old h.0 lost sent h.1 a b same
 
 -- a pop of the life takes this row out
 one_more : (E : List Entry) (row : RowView) → pop_answer E ≡ Some row → popped (Pop (pop_answer E) ∷ E) ≡ popped E ++ row ∷ []
@@ -106,24 +96,17 @@ row_more E F before rows row so given life =
 
 pub of_life : RowsAreOfTheLife
 of_life rules g [] old new h = ap (λ (t : Told). popped t.life) h ∙ sym (append-nil (popped old.life))
-of_life rules g (Arrived s bytes arrival ∷ calls) old new h = ap popped h.2.0 ∙ of_life rules g calls old h.0 h.1
-of_life rules g (Ticked now counts ∷ calls) old new h = ap popped h.2.0 ∙ of_life rules g calls old h.0 h.1
 of_life rules g (Empty ∷ calls) old new h = ap popped h.2.1 ∙ none_more h.0.life h.2.0 ∙ of_life rules g calls old h.0 h.1
 of_life rules g (Sent row ∷ calls) old new h = row_more h.0.life new.life (popped old.life) (rows_popped calls) row (of_life rules g calls old h.0 h.1) h.2.0.given h.2.0.life
 of_life rules g (Lost row ∷ calls) old new h = row_more h.0.life new.life (popped old.life) (rows_popped calls) row (of_life rules g calls old h.0 h.1) h.2.0.given h.2.0.life
+of_life rules g (call ∷ calls) old new h = ap popped h.2.0 ∙ of_life rules g calls old h.0 h.1
 
 -- where none was lost, what was popped was sent
 none_lost : (calls : List Call) → rows_lost calls ≡ [] → rows_popped calls ≡ rows_sent calls
 none_lost [] e = refl
-none_lost (Arrived s bytes arrival ∷ calls) e = none_lost calls e
-none_lost (Ticked now counts ∷ calls) e = none_lost calls e
-none_lost (Empty ∷ calls) e = none_lost calls e
 none_lost (Sent row ∷ calls) e = ap (λ (rs : List RowView). rs ++ row ∷ []) (none_lost calls e)
-none_lost (Lost row ∷ calls) e = absurd (not_none (rows_lost calls) row e)
-  where
-    not_none : (rows : List RowView) (row : RowView) → rows ++ row ∷ [] ≡ [] → ⊥
-    not_none [] row e = cc
-    not_none (x ∷ xs) row e = cc
+none_lost (Lost row ∷ calls) e = absurd (not_empty (rows_lost calls) [] row (sym e))
+none_lost (call ∷ calls) e = none_lost calls e
 
 pub all_sent : AllAreSent
 all_sent rules g calls old new h fresh empty e =

@@ -8,5 +8,5 @@ pub use Rattle.pdc_mark.specs.Stored.{with_next_start}
 pub use Rattle.pdc_publisher.specs.Publisher.{mark_in}
 pub use Rattle.pdc_life.specs.{Answer.{answered, pop_answer, Rules, ToPop}, Given.{Given}, Life.{Entry, Pop, popped}, Published.{published}}
 pub use Rattle.pdc_align.specs.Popped.{popped_after}
-pub use Rattle.pdc_history.proofs.Lists.{element, in_one, not_in_none}
-pub use Rattle.pdc_station.specs.{Calls.{AllAreSent, Arrived, Call, Empty, Lost, MakeAll, Makes, NoLostRowIsSent, publish_of, rows_lost, rows_popped, rows_sent, RowsAreOfTheLife, Sent, SentRowsAreAppended, SentRowsRise, Ticked, Told}, Published.{PopsArePublished}, Station.{wire_of_some}}
+pub use Rattle.pdc_history.proofs.Lists.{element, in_one, not_empty, not_in_none}
+pub use Rattle.pdc_station.specs.{Calls.{AllAreSent, Call, Empty, Lost, MakeAll, Makes, NoLostRowIsSent, publish_of, rows_lost, rows_popped, rows_sent, RowsAreOfTheLife, Sent, SentRowsAreAppended, SentRowsRise, Told}, Published.{PopsArePublished}, Station.{wire_of_some}}

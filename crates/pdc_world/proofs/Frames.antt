@@ -1,7 +1,6 @@
 -- The frames that cores send fit, and are no PMU's.
 use Rattle.std.proofs.Common.{[], ◌++◌, ◌+◌, ◌∙◌, ◌∷◌, ◌≡◌, ◌≤◌, ap, arith, Bool, cond, Err, false, IfSome, is_some, IsOk, IsSome, length, List, lit<, nat_lt, None, Ok, Option, option_map, refl, Result, Some, subst, sym, true, ℕ}
-use Rattle.pdc_world.proofs.Names.{A, AllByRecursion, answered, append-nil, B, changes, Contains, DueRow, Entry, Fields, frames_if, frames_with, FramesAreKnown, Given, given_by, given_in, Happened, IsFrame, IsHistory, IsLifeOf, IsOfNone, IsOfPmu, IsPart, IsPublishedData, IsRun, IsSomeFrame, IsSomePart, Keeps, layout_wire, layouts_of, LedgerView, life_of, lt-ltb, ltb-false, ltb-true, M, MAX_SIZE, new_change, opened_with, Output, output_of, pop_answer, published, Publishes, raised, row_view, RowView, Seat, Settings, Stored, Tick, tick_answer, Ticked, ticked_of, Ticks, ToTick, waiting_counts, Who, wire_of, wire_of_some, with_waiting, World}
-use Rattle.pdc_world.proofs.Own.{same_output}
+use Rattle.pdc_world.proofs.Names.{A, AllByRecursion, answered, append-nil, B, changes, Contains, DueRow, Entry, few_columns, Fields, frames_if, frames_with, FramesAreKnown, Given, given_in, given_output, Happened, IsFrame, IsHistory, IsLifeOf, IsOfNone, IsOfPmu, IsPart, IsPublishedData, IsRun, IsSomeFrame, IsSomePart, Keeps, layout_wire, layouts_of, LedgerView, life_after_tick, life_of, lt-ltb, ltb-false, ltb-true, M, MAX_SIZE, new_change, opened_with, Output, output_of, pop_answer, published, Publishes, raised, row_view, RowView, Seat, Settings, Stored, Tick, tick_answer, Ticked, ticked_of, Ticks, ToTick, waiting_counts, Who, wire_of, wire_of_some, with_waiting, World}
 use Rattle.pdc_history.specs.Event as event
 
 -- a bound that is not absurd
@@ -43,7 +42,7 @@ row_history W H v row history gave = (record { event = event.Do v event.Publish;
 row_wire : (W : World) (H : List Happened) (v : Who) (row : RowView) (out : List ℕ) → Some row ≡ pop_answer (life_of H v)
     → out ≡ wire_of_some (given_in W H v).output (pop_answer (life_of H v)) → out ≡ wire_of (output_of W v) row
 row_wire W H v row out gave bytes =
-    bytes ∙ ap (λ (r : Option RowView). wire_of_some (given_in W H v).output r) (sym gave) ∙ ap (λ (o : Output). wire_of o row) (same_output W v (opened_with W H v))
+    bytes ∙ ap (λ (r : Option RowView). wire_of_some (given_in W H v).output r) (sym gave) ∙ ap (λ (o : Output). wire_of o row) (given_output W v (opened_with W H v))
 
 pub row_most : FramesAreKnown → (v : Who) (seat : Seat) (l : LedgerView) (row : Option DueRow) (out : List ℕ) → IsSomePart v seat l
     → ((g : Given) (E : List Entry) → seat.stands g E → option_map row_view row ≡ pop_answer E) → ((g : Given) (E : List Entry) → seat.stands g E → out ≡ wire_of_some g.output (pop_answer E))
@@ -69,25 +68,15 @@ row_none known v seat l table (Some row) out same some gives bytes =
 
 -- ---- layouts
 
-few_columns : (W : World) (v : Who) (mark : Stored) → (given_by W v mark).columns ≤ 16
-few_columns W A mark = W.a.settings.few
-few_columns W B mark = W.b.settings.few
-few_columns W M mark = W.m.settings.few
-
 run_of : FramesAreKnown → (W : World) (v : Who) (g : Given) (E : List Entry) → IsLifeOf W v g E → IsRun g E
 run_of known W A g E life = known.node_runs W.a.settings g E life
 run_of known W B g E life = known.node_runs W.b.settings g E life
 run_of known W M g E life = known.merger_runs W.m.settings g E life
 
-life_ticks : (H : List Happened) (v : Who) (e : Entry) → life_of (Ticks v e ∷ H) v ≡ e ∷ life_of H v
-life_ticks H A e = refl
-life_ticks H B e = refl
-life_ticks H M e = refl
-
 layout_fits_in : FramesAreKnown → (W : World) (H : List Happened) (v : Who) (e : Entry) → IsHistory W (Ticks v e ∷ H) → length (layout_wire (given_in W H v) (e ∷ life_of H v) 0) ≤ MAX_SIZE
 layout_fits_in known W H v e history =
     let life : IsLifeOf W v (given_in W H v) (e ∷ life_of H v) =
-    subst (λ (E : List Entry). IsLifeOf W v (given_in W H v) E) (life_ticks H v e) (known.lives W (Ticks v e ∷ H) v history).present in
+    subst (λ (E : List Entry). IsLifeOf W v (given_in W H v) E) (life_after_tick H v e) (known.lives W (Ticks v e ∷ H) v history).present in
     frame_fits known (layout_wire (given_in W H v) (e ∷ life_of H v) 0) _
     (known.layouts (given_in W H v) (e ∷ life_of H v) 0 (run_of known W v (given_in W H v) (e ∷ life_of H v) life) (few_columns W v (opened_with W H v)) (lit< tt)).0
 

@@ -1,15 +1,12 @@
 -- Bytes that come to the stream that they name.
 use Rattle.std.proofs.Common.{◌∙◌, ◌≡◌, ap, Bool, false, inl, inr, IsTrue, length, List, not, refl, Some, subst, sym, true, ℕ}
-use Rattle.pdc_world.proofs.Names.{Arrival, Bring, Contains, get_or_from_slice_get, Happened, IsForOne, IsNamed, IsReadOf, IsUnnamed, Junk, MayCome, Miss, Names, NamesNone, Says, sent, slice_get, slice_get_read, slice_get_within, stream_ids, To, Who, World}
+use Rattle.pdc_world.proofs.Names.{Arrival, Bring, Contains, Happened, IsForOne, IsNamed, IsReadOf, IsUnnamed, Junk, MayCome, Miss, Names, NamesNone, place_there, Says, sent, slice_get, slice_get_read, stream_ids, To, Who, World}
 
 pub names : (W : World) (v : Who) (ids bytes : List ℕ) (s : ℕ) → ids ≡ stream_ids W v → IsNamed ids bytes s → Names W v bytes s
 names W v ids bytes s same named = record { fields = named.fields; frame = named.frame; named = ap (λ (xs : List ℕ). slice_get xs s) (sym same) ∙ named.id }
 
 pub names_none : (W : World) (v : Who) (ids bytes : List ℕ) → ids ≡ stream_ids W v → IsUnnamed ids bytes → NamesNone W v bytes
 names_none W v ids bytes same unnamed = λ s n. unnamed s (record { fields = n.fields; frame = n.frame; id = ap (λ (xs : List ℕ). slice_get xs s) same ∙ n.named })
-
-pub among : (frames : List (List ℕ)) (number : ℕ) (bytes : List ℕ) → slice_get frames number ≡ Some bytes → Contains frames bytes
-among frames number bytes there = (number, slice_get_within frames number bytes there, get_or_from_slice_get frames number bytes bytes there)
 
 pub read_to : (W : World) (H : List Happened) (v : Who) (number s : ℕ) (ids bytes : List ℕ) (frames : List (List ℕ)) (arrival : Arrival) → frames ≡ sent W H
     → slice_get frames number ≡ Some bytes → ids ≡ stream_ids W v → IsNamed ids bytes s → Says W v s bytes arrival → IsReadOf W H (To v number) (Bring v s bytes arrival)
@@ -23,7 +20,7 @@ pub may_to : (W : World) (H : List Happened) (v : Who) (number s : ℕ) (bytes :
     → slice_get frames number ≡ Some bytes → Says W v s bytes arrival → MayCome W H v s bytes arrival
 may_to W H v number s bytes frames arrival same there says = record {
   says = says;
-  was_sent = λ is_for_one. among (sent W H) number bytes (ap (λ (xs : List (List ℕ)). slice_get xs number) (sym same) ∙ there);
+  was_sent = λ is_for_one. place_there (sent W H) number bytes (ap (λ (xs : List (List ℕ)). slice_get xs number) (sym same) ∙ there);
 }
 
 pub read_past : (W : World) (H : List Happened) (v : Who) (number : ℕ) (ids bytes : List ℕ) (frames : List (List ℕ)) → frames ≡ sent W H

@@ -8,8 +8,3 @@ pub mod Openings
 pub mod Others
 pub mod Own
 pub mod Parts
-pub mod Placed
-pub mod Played
-pub mod Refused
-pub mod Same
-pub mod Told

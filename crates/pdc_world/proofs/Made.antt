@@ -1,8 +1,8 @@
 -- Acts of one core, as what they make happen.
 use Rattle.std.proofs.Common.{[], ◌++◌, ◌+◌, ◌<◌, ◌^◌, ◌∙◌, ◌∷◌, ◌≡◌, ap, arith, Bool, cond, Err, IfOk, length, List, nat_lt, None, Ok, Option, option_map, refl, Result, Some, subst, sym, ℕ}
 use Rattle.pdc_event.specs.declared.who.Who.{Who as WhoData}
-use Rattle.pdc_world.proofs.Names.{answered, append-nil, Asked, Bring, changes, Comes, Ends, Entry, Fault, frames_with, Given, given_by, given_in, Happened, HasStopped, Hears, IsAct, IsPart, IsReadOf, IsSend, IsStepOf, Keeps, layout_wire, layouts_of, lead_of, LedgerView, left_by, life_of, listed_at, listed_with, lt-ltb, mark_of, MayCome, Miss, new_change, opened_with, Outcome, Output, output_of, PassesBy, pop_answer, Published, published_as, Publishes, raised, Reply, reserved, RowView, Rules, rules_of, Seat, Sends, sent, sent_at, Stop, StopAt, Stored, Tick, tick_answer, Ticked, ticked_of, Ticks, ToArrive, ToPop, ToTick, waiting_counts, Who, who_of, with_next_start, with_waiting, World}
-use Rattle.pdc_world.proofs.{Ended.{asked_to_stop, begun_by, stop_step}, Own.{come_comes, come_ends, come_passes, come_publishes, come_ticks, name_back, same_itself, same_output}}
+use Rattle.pdc_world.proofs.Names.{answered, append-nil, Asked, Bring, changes, Comes, Ends, Entry, Fault, frames_with, Given, given_by, given_in, given_output, Happened, HasStopped, Hears, is_itself, IsAct, IsPart, IsReadOf, IsSend, IsStepOf, Keeps, layout_wire, layouts_of, lead_of, LedgerView, left_by, life_of, listed_at, listed_with, lt-ltb, mark_of, MayCome, Miss, new_change, opened_with, Outcome, Output, output_of, PassesBy, pop_answer, Published, published_as, Publishes, raised, Reply, reserved, RowView, Rules, rules_of, Seat, Sends, sent, sent_at, Stop, StopAt, Stored, Tick, tick_answer, Ticked, ticked_of, Ticks, ToArrive, ToPop, ToTick, waiting_counts, Who, who_of, with_next_start, with_waiting, World}
+use Rattle.pdc_world.proofs.{Ended.{asked_to_stop, begun_by, stop_step}, Own.{come_comes, come_ends, come_passes, come_publishes, come_ticks, name_back}}
 use Rattle.pdc_event.specs.declared.reply.Reply.TheVariants as reply
 use Rattle.pdc_history.specs.Asked as asked
 use Rattle.pdc_history.specs.Event as event
@@ -35,7 +35,7 @@ heard_made W H w asked old new l s bytes outcome part hears stays read may =
     record {
       happened = Comes v (answered (rules_of v) g E (ToArrive s bytes hears.arrival));
       step = record { event = Bring v s bytes hears.arrival; read = read; may = may; made = refl };
-      own = same_itself v;
+      own = is_itself v;
       come =
           come_comes W H v (answered (rules_of v) g E (ToArrive s bytes hears.arrival)) new
           (subst (λ (r : Rules). new.stands g (answered r g E (ToArrive s bytes hears.arrival) ∷ E)) part.one.rules (hears.stands g E part.come.stands))
@@ -51,7 +51,7 @@ pub passed_made : (W : World) (H : List Happened) (w : WhoData) (asked : Asked) 
 passed_made W H w asked seat l part read = record {
   happened = PassesBy (who_of w);
   step = record { event = Miss (who_of w); read = read; may = tt; made = refl };
-  own = same_itself (who_of w);
+  own = is_itself (who_of w);
   come = come_passes W H (who_of w) seat part.come;
   keeps = quiet W H (PassesBy (who_of w)) l part.keeps refl refl;
   told = ap (λ (x : WhoData). reply.Came x None) (sym (name_back w));
@@ -89,7 +89,7 @@ ticked_made W H w old new l m now ticked part marks tells stands table frames pu
     record {
       happened = Ticks v e;
       step = record { event = event.Do v (event.TickAt now); read = refl; may = tt; made = refl };
-      own = same_itself v;
+      own = is_itself v;
       come = come_ticks W H v e new after same;
       keeps =
           more_kept W H (Ticks v e) l m part.keeps table
@@ -135,11 +135,11 @@ published_made W H w old new l m row out part gives marks stands table frames pu
     record {
       happened = Publishes v (pop_answer E);
       step = record { event = event.Do v event.Publish; read = refl; may = tt; made = refl };
-      own = same_itself v;
+      own = is_itself v;
       come = come_publishes W H v (pop_answer E) new (stands g E part.come.stands) same;
       keeps =
           more_kept W H (Publishes v (pop_answer E)) l m part.keeps table
-          (frames g E part.come.stands ∙ ap (λ (o : Output). l.frames ++ frames_with o row) (same_output W v (opened_with W H v))
+          (frames g E part.come.stands ∙ ap (λ (o : Output). l.frames ++ frames_with o row) (given_output W v (opened_with W H v))
           ∙ ap (λ (r : Option RowView). l.frames ++ frames_with (output_of W v) r) gave ∙ ap (λ (xs : List (List ℕ)). l.frames ++ xs) (same_frames W H v (pop_answer E)))
           (published ∙ ap (λ (n : ℕ). l.published ++ listed_with v n row) (ap length part.keeps.frames)
           ∙ ap (λ (r : Option RowView). l.published ++ listed_with v (length (sent W H)) r) gave
@@ -164,7 +164,7 @@ ended_made W H w at old new l said stored StopsAs before after part was is stopp
     record {
       happened = Ends v (begun_by W H v at);
       step = stop_step W H v at (subst (λ (s : Stored). s.start < 2 ^ 32) same fits);
-      own = same_itself v;
+      own = is_itself v;
       come =
           come_ends W H v (begun_by W H v at) new
           (subst (λ (s : Stored). new.stands (given_by W v s) []) same (subst (λ (g : Given). new.stands g []) (part.one.given new.mark) stands)) same;

@@ -1,13 +1,9 @@
 -- A world whose first lives begin.
-use Rattle.std.proofs.Common.{[], ◌&&◌, ◌<◌, ◌^◌, ◌∙◌, ◌≡◌, ◌⊎◌, ap, arith, Bool, false, inl, inr, nat_lt, subst, sym, true}
-use Rattle.pdc_world.proofs.Names.{A, and_cases, and_parts, are_left, B, both_ways, do_agree, first_mark, given_by, given_of, given_of_merger, HasCome, HasNoStart, Holds, Leads, LedgerView, ltb-false, ltb-true, M, MayBegin, merger_seat, MergerSettings, node_seat, Seat, Settings, SettingsAgree, Stored, Who, with_next_start, World, world_of, WorldView}
+use Rattle.std.proofs.Common.{[], ◌&&◌, ◌<◌, ◌^◌, ◌∙◌, ◌≡◌, ◌⊎◌, ap, arith, Bool, false, inl, inr, nat_lt, refl, subst, sym, true}
+use Rattle.pdc_world.proofs.Names.{A, and_parts, are_left, B, both_ways, do_agree, first_mark, given_by, given_of, given_of_merger, HasCome, HasNoStart, Holds, Leads, LedgerView, ltb-false, ltb-true, M, MayBegin, merger_seat, MergerSettings, node_seat, Seat, Settings, SettingsAgree, Stored, Who, with_next_start, World, world_of, WorldView}
 use Rattle.pdc_world.proofs.Agreements.{agree_from, agree_to}
 use Rattle.pdc_merge.specs.Merger as merger
 use Rattle.pdc_node.specs.Node as node
-
-either : {P Q R : Type 0} → P ⊎ Q → (P → R) → (Q → R) → R
-either (inl p) f g = f p
-either (inr q) f g = g q
 
 come_first : (W : World) (v : Who) (seat : Seat) → seat.mark ≡ first_mark W v → seat.stands (given_by W v seat.mark) [] → HasCome W [] v seat
 come_first W v seat same stands = record { stands = subst (λ (s : Stored). seat.stands (given_by W v s) []) same stands; mark = same }
@@ -43,34 +39,20 @@ pub not_agreed : (a b : Settings) (m : MergerSettings) (leads : Leads) (of_a of_
     → SettingsAgree (world_of a b m leads of_a of_b of_m) → ⊥
 not_agreed a b m leads of_a of_b of_m test is e agree = both_ways test e (is ∙ agree_to (world_of a b m leads of_a of_b of_m) agree)
 
-pub do_agree_by : (a b : Settings) (m : MergerSettings) (test : Bool) → test ≡ do_agree a b m → test ≡ true → do_agree a b m ≡ true
-do_agree_by a b m test is e = sym is ∙ e
-
-pub are_left_by : (of_a of_b of_m : Stored) (test : Bool) → test ≡ are_left of_a of_b of_m → test ≡ true → are_left of_a of_b of_m ≡ true
-are_left_by of_a of_b of_m test is e = sym is ∙ e
-
-past_a : (a b : Settings) (m : MergerSettings) (leads : Leads) (of_a of_b of_m : Stored) → nat_lt of_a.start 4294967295 ≡ false → HasNoStart (world_of a b m leads of_a of_b of_m)
-past_a a b m leads of_a of_b of_m e = record { who = A; past = omega (arith, ltb-false of_a.start 4294967295 e) }
-
-past_b : (a b : Settings) (m : MergerSettings) (leads : Leads) (of_a of_b of_m : Stored) → nat_lt of_b.start 4294967295 ≡ false → HasNoStart (world_of a b m leads of_a of_b of_m)
-past_b a b m leads of_a of_b of_m e = record { who = B; past = omega (arith, ltb-false of_b.start 4294967295 e) }
-
-past_m : (a b : Settings) (m : MergerSettings) (leads : Leads) (of_a of_b of_m : Stored) → nat_lt of_m.start 4294967295 ≡ false → HasNoStart (world_of a b m leads of_a of_b of_m)
-past_m a b m leads of_a of_b of_m e = record { who = M; past = omega (arith, ltb-false of_m.start 4294967295 e) }
-
-past_one : (a b : Settings) (m : MergerSettings) (leads : Leads) (of_a of_b of_m : Stored) → (nat_lt of_a.start 4294967295 && nat_lt of_b.start 4294967295) ≡ false
-    → HasNoStart (world_of a b m leads of_a of_b of_m)
-past_one a b m leads of_a of_b of_m e =
-    either (and_cases (nat_lt of_a.start 4294967295) (nat_lt of_b.start 4294967295) e) (past_a a b m leads of_a of_b of_m) (past_b a b m leads of_a of_b of_m)
+-- the first of three tests that fails
+one_fails : (p q r : Bool) → (p && q && r) ≡ false → (p ≡ false) ⊎ ((q ≡ false) ⊎ (r ≡ false))
+one_fails false q r e = inl refl
+one_fails true false r e = inr (inl refl)
+one_fails true true r e = inr (inr e)
 
 pub no_start : (a b : Settings) (m : MergerSettings) (leads : Leads) (of_a of_b of_m : Stored) (test : Bool) → test ≡ are_left of_a of_b of_m → test ≡ false
     → HasNoStart (world_of a b m leads of_a of_b of_m)
 no_start a b m leads of_a of_b of_m test is e =
-    either (and_cases (nat_lt of_a.start 4294967295 && nat_lt of_b.start 4294967295) (nat_lt of_m.start 4294967295) (sym is ∙ e))
-    (past_one a b m leads of_a of_b of_m) (past_m a b m leads of_a of_b of_m)
-
-pub settings_agree : (a b : Settings) (m : MergerSettings) (leads : Leads) (of_a of_b of_m : Stored) → do_agree a b m ≡ true → SettingsAgree (world_of a b m leads of_a of_b of_m)
-settings_agree a b m leads of_a of_b of_m agree = agree_from (world_of a b m leads of_a of_b of_m) agree
+    elim (one_fails (nat_lt of_a.start 4294967295) (nat_lt of_b.start 4294967295) (nat_lt of_m.start 4294967295) (sym is ∙ e)) [
+      | inl past ↦ record { who = A; past = omega (arith, ltb-false of_a.start 4294967295 past) }
+      | inr (inl past) ↦ record { who = B; past = omega (arith, ltb-false of_b.start 4294967295 past) }
+      | inr (inr past) ↦ record { who = M; past = omega (arith, ltb-false of_m.start 4294967295 past) }
+    ]
 
 -- ---- a world that begins
 

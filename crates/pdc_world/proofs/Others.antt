@@ -1,12 +1,6 @@
 -- What happens to one core leaves the others where they have come to.
-use Rattle.std.proofs.Common.{◌∷◌, ◌≡◌, Bool, cond, false, List, None, refl, Some, subst, sym, true}
-use Rattle.pdc_world.proofs.Names.{A, B, begun_with, Comes, Ends, Entry, Given, given_by, given_in, Happened, HasCome, is_own, is_same, lead_of, life_of, M, mark_of, opened_with, PassesBy, Pop, Publishes, reserved, Seat, Sends, since, Stored, Ticks, Who, with_counts_of, with_entry, World}
-
-same_who : (v w : Who) → is_same v w ≡ true → v ≡ w
-same_who A A e = refl
-same_who B B e = refl
-same_who M M e = refl
-same_who v w e = cc
+use Rattle.std.proofs.Common.{◌∷◌, ◌≡◌, Bool, cond, false, List, None, Some, subst, sym, true}
+use Rattle.pdc_world.proofs.Names.{begun_with, Comes, Ends, Entry, Given, given_by, given_in, Happened, HasCome, is_own, is_same, lead_of, life_of, mark_of, opened_with, Pop, Publishes, reserved, same_who, Seat, since, Stored, Ticks, Who, with_counts_of, with_entry, World}
 
 another : (v who w : Who) → is_same v who ≡ true → is_same who w ≡ false → is_same v w ≡ false
 another v who w own other = subst (λ (x : Who). is_same x w ≡ false) (sym (same_who v who own)) other
@@ -31,12 +25,10 @@ no_begin true begun mark stored none e = cc
 
 pub others_stay : (W : World) (H : List Happened) (h : Happened) (who w : Who) (seat : Seat) → is_own who h ≡ true → is_same who w ≡ false
     → HasCome W H w seat → HasCome W (h ∷ H) w seat
-others_stay W H (Sends bytes) who w seat own other come = record { stands = come.stands; mark = come.mark }
 others_stay W H (Comes v e) who w seat own other come = record {
   stands = no_entry W H w (is_same v w) e seat.stands (another v who w own other) come.stands;
   mark = come.mark;
 }
-others_stay W H (PassesBy v) who w seat own other come = record { stands = come.stands; mark = come.mark }
 others_stay W H (Ticks v e) who w seat own other come = record {
   stands = no_entry W H w (is_same v w) e seat.stands (another v who w own other) come.stands;
   mark = no_mark (is_same v w) (with_counts_of e (mark_of W H w)) (mark_of W H w) seat.mark (another v who w own other) come.mark;
@@ -49,3 +41,4 @@ others_stay W H (Ends v begun) who w seat own other come = record {
   stands = no_end W H w (is_same v w) begun seat.stands (another v who w own other) come.stands;
   mark = no_begin (is_same v w) begun (mark_of W H w) seat.mark (another v who w own other) come.mark;
 }
+others_stay W H h who w seat own other come = record { stands = come.stands; mark = come.mark }

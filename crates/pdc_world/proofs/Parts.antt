@@ -6,25 +6,18 @@ use Rattle.pdc_world.proofs.Others.{others_stay}
 -- ---- one seat
 
 is_seat : (W : World) (H : List Happened) (who : Who) (station : StationView (CoreOf who)) → IsSeated W H who station → IsSeat W who (seat_of who station)
-is_seat W H A station seated = record {
-  rules = refl;
-  given = λ mark. ap (λ (s : Settings). given_of s mark.start mark.floor mark.counts 0) seated.settings;
-  says = λ s bytes arrival says. subst (λ (x : Settings). ReadsFor x s bytes arrival) seated.settings says;
-  ids = ap (λ (s : Settings). ids_of s.pmus.items) seated.settings;
-  lead = seated.lead;
-}
-is_seat W H B station seated = record {
-  rules = refl;
-  given = λ mark. ap (λ (s : Settings). given_of s mark.start mark.floor mark.counts 0) seated.settings;
-  says = λ s bytes arrival says. subst (λ (x : Settings). ReadsFor x s bytes arrival) seated.settings says;
-  ids = ap (λ (s : Settings). ids_of s.pmus.items) seated.settings;
-  lead = seated.lead;
-}
 is_seat W H M station seated = record {
   rules = refl;
   given = λ mark. ap (λ (s : MergerSettings). given_of_merger s mark.start mark.floor mark.counts 0) seated.settings;
   says = λ s bytes arrival says. subst (λ (x : MergerSettings). ReadsForMerger x s bytes arrival) seated.settings says;
   ids = ap node_ids seated.settings;
+  lead = seated.lead;
+}
+is_seat W H who station seated = record {
+  rules = refl;
+  given = λ mark. ap (λ (s : Settings). given_of s mark.start mark.floor mark.counts 0) seated.settings;
+  says = λ s bytes arrival says. subst (λ (x : Settings). ReadsFor x s bytes arrival) seated.settings says;
+  ids = ap (λ (s : Settings). ids_of s.pmus.items) seated.settings;
   lead = seated.lead;
 }
 
@@ -50,19 +43,13 @@ stays W H h who w station own other old = record { settings = old.settings; lead
 seats_after : (W : World) (H : List Happened) (h : Happened) (v : WorldView) (who : Who) (station : StationView (CoreOf who)) (l : LedgerView) (r : Bool) → is_own who h ≡ true
     → ((w : Who) → IsSeated W H w (station_of v w)) → IsSeated W (h ∷ H) who station → (w : Who) → IsSeated W (h ∷ H) w (station_of (with_station v who station l r) w)
 seats_after W H h v A station l r own old new A = new
-seats_after W H h v A station l r own old new B = stays W H h A B v.b own refl (old B)
-seats_after W H h v A station l r own old new M = stays W H h A M v.m own refl (old M)
-seats_after W H h v B station l r own old new A = stays W H h B A v.a own refl (old A)
 seats_after W H h v B station l r own old new B = new
-seats_after W H h v B station l r own old new M = stays W H h B M v.m own refl (old M)
-seats_after W H h v M station l r own old new A = stays W H h M A v.a own refl (old A)
-seats_after W H h v M station l r own old new B = stays W H h M B v.b own refl (old B)
 seats_after W H h v M station l r own old new M = new
+seats_after W H h v who station l r own old new w = stays W H h who w (station_of v w) own refl (old w)
 
 same_ledger : (v : WorldView) (who : Who) (station : StationView (CoreOf who)) (l : LedgerView) (r : Bool) → l ≡ (with_station v who station l r).ledger
 same_ledger v A station l r = refl
-same_ledger v B station l r = refl
-same_ledger v M station l r = refl
+same_ledger v who station l r = refl
 
 moved : (W : World) (H : List Happened) (asked : Asked) (reply : Reply) (v : WorldView) (who : Who) (station : StationView (CoreOf who)) (l : LedgerView) (r : Bool) → Holds W H v
     → settings_in who station.core ≡ settings_in who (station_of v who).core → station.lead ≡ (station_of v who).lead → IsAct W H who asked (seat_of who station) l reply

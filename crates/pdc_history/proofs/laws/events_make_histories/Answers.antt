@@ -1,5 +1,22 @@
-use Rattle.pdc_history.proofs.{Moments.{events_make_histories}, Play.{plays_are_histories, plays_are_one, steps_are_one}}
+-- What is asked of a world determines its history.
+use Rattle.std.proofs.Common.{[], ◌∙◌, ◌∷◌, ◌≡◌, ap, subst, sym}
+use Rattle.pdc_history.proofs.Names.{FrameLaws, Happened, happens, IsHistory, IsPlayOf, MergerReadsOnce, NodeReadsOnce, PlaysAreHistories, PlaysAreOne, StepsAreOne}
+use Rattle.pdc_history.proofs.{Asked.{asked_is_read_once}, Moments.{events_make_histories}}
 use Rattle.pdc_history.proofs.laws.events_make_histories.Goals as goal
+
+steps_are_one : FrameLaws → NodeReadsOnce → MergerReadsOnce → StepsAreOne
+steps_are_one F N R W H asked a b x y = x.made ∙ ap (happens W H) (asked_is_read_once F N R W H asked x.event y.event x.read y.read) ∙ sym y.made
+
+plays_are_one : FrameLaws → NodeReadsOnce → MergerReadsOnce → PlaysAreOne
+plays_are_one F N R W H [] a b x y = x ∙ sym y
+plays_are_one F N R W H (asked ∷ more) a b x y =
+    let same : x.0 ≡ y.0 = steps_are_one F N R W H asked x.0 y.0 x.1 y.1 in
+    plays_are_one F N R W (y.0 ∷ H) more a b (subst (λ (h : Happened). IsPlayOf W (h ∷ H) more a) same x.2) y.2
+
+plays_are_histories : PlaysAreHistories
+plays_are_histories W H [] after is x = subst (IsHistory W) (sym x) is
+plays_are_histories W H (asked ∷ more) after is x =
+    plays_are_histories W (x.0 ∷ H) more after (record { event = x.1.event; may = x.1.may; made = x.1.made }, is) x.2
 
 pub returns-clause-events : goal.returns-clause-events
 returns-clause-events c W H events is may = events_make_histories W H events is may

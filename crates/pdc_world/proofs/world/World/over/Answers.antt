@@ -1,5 +1,6 @@
-use Rattle.std.proofs.Common.{refl}
-use Rattle.pdc_world.proofs.Openings.{are_left_by, do_agree_by, may_begin, no_start, not_agreed, settings_agree}
+use Rattle.std.proofs.Common.{◌∙◌, refl, sym}
+use Rattle.pdc_world.proofs.Names.{world_of}
+use Rattle.pdc_world.proofs.{Agreements.{agree_from}, Openings.{may_begin, no_start, not_agreed}}
 use Rattle.pdc_world.proofs.world.World.over.Goals as goal
 
 pub returns-then-not-are_agreed-clause-fault : goal.returns-then-not-are_agreed-clause-fault
@@ -12,7 +13,7 @@ pub returns-then-not-have_next-clause-fault : goal.returns-then-not-have_next-cl
 returns-then-not-have_next-clause-fault g c = record {
   at = refl;
   why = (
-    settings_agree c.args.a c.args.b c.args.m c.args.leads (g.S.Mark.stored c.args.stores.0) (g.S.Mark.stored c.args.stores.1) (g.S.Mark.stored c.args.stores.2) (do_agree_by c.args.a c.args.b c.args.m c.are_agreed.result c.are_agreed.ensures c.if-not-are_agreed.false),
+    agree_from (world_of c.args.a c.args.b c.args.m c.args.leads (g.S.Mark.stored c.args.stores.0) (g.S.Mark.stored c.args.stores.1) (g.S.Mark.stored c.args.stores.2)) (sym c.are_agreed.ensures ∙ c.if-not-are_agreed.false),
     no_start c.args.a c.args.b c.args.m c.args.leads (g.S.Mark.stored c.args.stores.0) (g.S.Mark.stored c.args.stores.1) (g.S.Mark.stored c.args.stores.2) c.have_next.result c.have_next.ensures c.if-not-have_next.true,
   );
 }
@@ -21,6 +22,6 @@ pub returns-in-Err-clause-fault : goal.returns-in-Err-clause-fault
 returns-in-Err-clause-fault g c = record {
   at = refl;
   why =
-      may_begin c.args.a c.args.b c.args.m c.args.leads (g.S.Mark.stored c.args.stores.0) (g.S.Mark.stored c.args.stores.1) (g.S.Mark.stored c.args.stores.2) (do_agree_by c.args.a c.args.b c.args.m c.are_agreed.result c.are_agreed.ensures c.if-not-are_agreed.false)
-      (are_left_by (g.S.Mark.stored c.args.stores.0) (g.S.Mark.stored c.args.stores.1) (g.S.Mark.stored c.args.stores.2) c.have_next.result c.have_next.ensures c.if-not-have_next.false);
+      may_begin c.args.a c.args.b c.args.m c.args.leads (g.S.Mark.stored c.args.stores.0) (g.S.Mark.stored c.args.stores.1) (g.S.Mark.stored c.args.stores.2) (sym c.are_agreed.ensures ∙ c.if-not-are_agreed.false)
+      (sym c.have_next.ensures ∙ c.if-not-have_next.false);
 }
