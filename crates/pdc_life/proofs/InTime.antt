@@ -55,6 +55,7 @@ put_on b r rest e h = ap (λ (a : Answer). a.outcome) (cond-false b (bare (Refus
 abbrev pub node_cells : (p quality : ℕ) (payload : List ℕ) → SectionFields → List (ℕ × CellView)
 node_cells p quality payload s = (p, cell_under s quality (words_in payload)) ∷ []
 
+-- data that is taken has the length of the section in force, and gives its words under it
 pub record NodeGives (g : Given) (E : List Entry) (p i quality : ℕ) (payload : List ℕ) (answer : Answer) : Type 0 where
   pub section : SectionFields
   pub in_force : section_in_force g E p ≡ Some section
@@ -78,8 +79,7 @@ node_takes g E p i quality payload h =
       section = k.section;
       in_force = k.in_force;
       size = k.size;
-      in_time = in_time g E p i (node_cells p quality payload k.section)
-          (sym (ap (λ (a : Answer). a.outcome) k.is) ∙ h);
+      in_time = in_time g E p i (node_cells p quality payload k.section) (sym (ap (λ (a : Answer). a.outcome) k.is) ∙ h);
     }
 
 taken_by_node : (g : Given) (E : List Entry) (p i quality : ℕ) (payload : List ℕ) → NodeTakes g E p i payload → (node_answer g E p (Data i quality payload)).outcome ≡ Taken
@@ -94,9 +94,11 @@ node_takes_in_time g E p i quality payload = (node_takes g E p i quality payload
 
 -- ---- the merger
 
+-- the words of the sections, behind those of the own block
 abbrev pub node_words : List ℕ → List ℕ
 node_words payload = drop 7 (words_in payload)
 
+-- data that is taken bears the stamp of the held layout, has its length, and gives the cells that are cut under it
 pub record MergerGives (g : Given) (E : List Entry) (s i quality : ℕ) (payload : List ℕ) (answer : Answer) : Type 0 where
   pub layout : HeldLayout
   pub held : held_layout E s ≡ Some layout
