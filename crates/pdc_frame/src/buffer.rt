@@ -62,10 +62,7 @@ fn push_each<A: Allocator>(out: &mut Vec<u8, A>, bytes: &[u8])
 /// Appends the first `N` of the bytes, if there are as many, and answers those behind them. All are read before one is written,
 /// so that they are moved in one step.
 #[inline(always)]
-fn push_part<'a, const N: usize, A: Allocator>(
-    out: &mut Vec<u8, A>,
-    bytes: &'a [u8],
-) -> &'a [u8]
+fn push_part<'a, const N: usize, A: Allocator>(out: &mut Vec<u8, A>, bytes: &'a [u8]) -> &'a [u8]
     requires small { N < 2 ^ 63 }
     requires room { length out.old.items + length bytes.now ≤ vec_capacity out.old }
     ensures items { out.new.items ++ result.now ≡ out.old.items ++ bytes.now }

@@ -173,7 +173,11 @@ fn after_rest(state: u64, bytes: &[u8], place: usize) -> u64
     if bytes.len() - place < STEP {
         return after_last(state, bytes, place);
     }
-    after_last(moved_up(state) ^ read_step(bytes, place), bytes, place + STEP)
+    after_last(
+        moved_up(state) ^ read_step(bytes, place),
+        bytes,
+        place + STEP,
+    )
 }
 
 /// The state after the first bytes, and how many they are: a wide step, where there are as many. What the state before the
