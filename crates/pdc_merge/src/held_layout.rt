@@ -27,16 +27,22 @@ pub struct HeldSection {
 #[derive(Drop)]
 pub struct HeldLayout {
     stamp: Stamp,
+    /// The bytes of the blocks of its sections, which each frame of data is to have.
+    len: usize,
     sections: ArrayVec<HeldSection, MAX_PMUS>,
 }
 
 impl Model for HeldLayout {
+    ghost use Rattle.std.specs.Prelude.{◌≡◌};
     ghost use Rattle.pdc_arrival.specs.Views.{stamp_view};
+    ghost use Rattle.pdc_merge.specs.Cells.{blocks_len};
     ghost use Rattle.pdc_merge.specs.Held.{LayoutView};
 
     ghost Value = { LayoutView };
 
     ghost view = { λ l. record { stamp = stamp_view l.stamp; sections = l.sections.items } };
+
+    ghost invariant = { λ l. l.len ≡ blocks_len l.sections.items };
 }
 
 impl HeldLayout {
@@ -45,9 +51,11 @@ impl HeldLayout {
         requires { length sections.now ≤ MAX_PMUS }
         ensures { result ≡ record { stamp = stamp_view stamp; sections = map held_section_of (map section_part sections.now) } }
     {
+        let sections = held_sections(sections);
         HeldLayout {
             stamp,
-            sections: held_sections(sections),
+            len: len_of(sections.as_slice()),
+            sections,
         }
     }
 
@@ -70,12 +78,20 @@ impl HeldLayout {
     pub(crate) fn blocks_len(&self) -> usize
         ensures { result ≡ blocks_len self.now.sections }
     {
-        let mut len = 0;
-        for section in self.sections.as_slice() {
-            len += 2 * section.shape.word_count();
-        }
-        len
+        self.len
     }
+}
+
+/// The bytes of the blocks of these sections.
+fn len_of(sections: &[HeldSection]) -> usize
+    requires { length sections.now ≤ MAX_PMUS }
+    ensures { result ≡ blocks_len sections.now }
+{
+    let mut len = 0;
+    for section in sections {
+        len += 2 * section.shape.word_count();
+    }
+    len
 }
 
 /// What is kept of these sections.

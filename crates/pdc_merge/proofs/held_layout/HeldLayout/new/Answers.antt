@@ -5,8 +5,8 @@ use Rattle.pdc_merge.specs.Held.{LayoutView, held_section_of}
 use Rattle.pdc_merge.specs.declared.held_layout.HeldSection.{HeldSection}
 use Rattle.pdc_merge.proofs.held_layout.HeldLayout.new.Goals as goal
 
-abbrev kept : goal.After-held_sections → List HeldSection → LayoutView
+abbrev kept : goal.After-len_of → List HeldSection → LayoutView
 kept c sections = record { stamp = stamp_view c.args.stamp; sections = sections }
 
 pub returns : goal.returns
-returns c = ap (kept c) (c.held_sections.ensures ∙ sym (map-map held_section_of section_part c.args.sections.now))
+returns c = ap (kept c) (c.held_sections-sections.ensures ∙ sym (map-map held_section_of section_part c.args.sections.now))
