@@ -8,7 +8,8 @@ use Rattle.pdc_history.specs.Event as events
 -- ---- one event
 
 -- bytes say one thing to a stream
-node_arrival : NodeReadsOnce → (settings : Settings) (s : ℕ) (bytes : List ℕ) (x y : Arrival) → ReadsFor settings s bytes x → ReadsFor settings s bytes y → x ≡ y
+node_arrival : NodeReadsOnce → (settings : Settings) (s : ℕ) (bytes : List ℕ) (x y : Arrival) → ReadsFor settings s bytes x → ReadsFor settings s bytes y
+    → x ≡ y
 node_arrival N settings s bytes x y a b =
     let same : a.pmu ≡ b.pmu = same_Some a.pmu b.pmu (sym a.listed ∙ b.listed) in
     N settings s b.pmu bytes x y (subst (λ (p : Pmu). Reads settings s p bytes x) same a.reads) b.reads
@@ -48,8 +49,9 @@ one_named F N R W who bytes a b x y =
     one_brings N R W who y.stream bytes a b (subst (λ (s : ℕ). Brings W who s bytes a) stream x.brings) y.brings
 
 -- named or not, where what is not named reads as one event
-one_read : FrameLaws → NodeReadsOnce → MergerReadsOnce → (W : World) (who : Who) (bytes : List ℕ) (Else : Event → Type 0) (a b : Event) → (Else a → Else b → a ≡ b)
-    → BringsToNamed W who bytes a ⊎ (IsUnnamed (stream_ids W who) bytes × Else a) → BringsToNamed W who bytes b ⊎ (IsUnnamed (stream_ids W who) bytes × Else b) → a ≡ b
+one_read : FrameLaws → NodeReadsOnce → MergerReadsOnce → (W : World) (who : Who) (bytes : List ℕ) (Else : Event → Type 0) (a b : Event)
+    → (Else a → Else b → a ≡ b) → BringsToNamed W who bytes a ⊎ (IsUnnamed (stream_ids W who) bytes × Else a)
+    → BringsToNamed W who bytes b ⊎ (IsUnnamed (stream_ids W who) bytes × Else b) → a ≡ b
 one_read F N R W who bytes Else a b one (inl x) (inl y) = one_named F N R W who bytes a b x y
 one_read F N R W who bytes Else a b one (inl x) (inr y) = absurd (y.0 x.stream x.names)
 one_read F N R W who bytes Else a b one (inr x) (inl y) = absurd (x.0 y.stream y.names)

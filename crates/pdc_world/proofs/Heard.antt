@@ -7,7 +7,11 @@ pub read_to : (W : World) (H : List Happened) (v : Who) (number s : ℕ) (ids by
 read_to W H v number s ids bytes frames arrival same there ids_same named says = record {
   bytes = bytes;
   there = ap (λ (xs : List (List ℕ)). slice_get xs number) (sym same) ∙ there;
-  read = inl (record { stream = s; names = subst (λ (xs : List ℕ). IsNamed xs bytes s) ids_same named; brings = record { arrival = arrival; says = says; is = refl } });
+  read = inl (record {
+    stream = s;
+    names = subst (λ (xs : List ℕ). IsNamed xs bytes s) ids_same named;
+    brings = record { arrival = arrival; says = says; is = refl };
+  });
 }
 
 pub may_to : (W : World) (H : List Happened) (v : Who) (number s : ℕ) (bytes : List ℕ) (frames : List (List ℕ)) (arrival : Arrival) → frames ≡ sent W H
@@ -33,7 +37,10 @@ pub read_unnamed : (W : World) (H : List Happened) (v : Who) (s : ℕ) (ids byte
     → Says W v s bytes arrival → IsReadOf W H (Junk v bytes) (Bring v s bytes arrival)
 read_unnamed W H v s ids bytes arrival first same unnamed says =
     subst (λ (x : ℕ). IsReadOf W H (Junk v bytes) (Bring v x bytes arrival)) (sym first)
-    (inr (subst (λ (xs : List ℕ). IsUnnamed xs bytes) same unnamed, record { arrival = arrival; says = subst (λ (x : ℕ). Says W v x bytes arrival) first says; is = refl }))
+    (inr (
+      subst (λ (xs : List ℕ). IsUnnamed xs bytes) same unnamed,
+      record { arrival = arrival; says = subst (λ (x : ℕ). Says W v x bytes arrival) first says; is = refl },
+    ))
 
 is_for_none : (W : World) (v : Who) (bytes : List ℕ) → IsUnnamed (stream_ids W v) bytes → IsForOne W v bytes → ⊥
 is_for_none W v bytes none one =
