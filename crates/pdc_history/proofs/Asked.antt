@@ -1,14 +1,15 @@
 -- What is asked reads as one event, or is a fault, for one cause.
 use Rattle.std.proofs.Common.{[], ◌&&◌, ◌∙◌, ◌∷◌, ◌≡◌, ap, arith, Bool, false, inl, inr, List, map, not, refl, Some, subst, sym, true, ℕ}
 use Rattle.pdc_history.specs.Asked.{Do}
-use Rattle.pdc_history.proofs.Names.{◌==◌, ◌||◌, ◌⊎◌, A, Act, are_distinct, Arrival, AskedIsReadOnce, B, Bring, Brings, BringsToNamed, Cause, CausesAreOne, Cfg2, DataFrame, Event, false≢true, FaultsMayNotHappen, Fields, Foreign, FrameLaws, Happened, HasOtherBody, HasOtherSection, IsFault, IsOfPmu, IsOneBody, IsOneSection, Junk, list_any, M, MayCome, MayHappen, MaySend, MergedNode, MergerReadsOnce, Miss, Names, NamesNone, NodeReadsOnce, NoSuchFrame, OtherBody, OtherSection, Pmu, Publish, Reads, ReadsFor, ReadsFrom, same_Some, Says, Send, sent, SentMayCome, Settings, slice_get, slice_get_within, StartsUsedUp, stream_ids, TickAt, To, Who, World}
+use Rattle.pdc_history.proofs.Names.{◌==◌, ◌||◌, ◌⊎◌, A, Act, are_distinct, Arrival, AskedIsReadOnce, B, Bring, Brings, BringsToNamed, Cause, CausesAreOne, Cfg2, DataFrame, Event, false≢true, FaultsMayNotHappen, Fields, Foreign, FrameLaws, Happened, HasOtherBody, HasOtherSection, IsFault, IsNamed, IsOfPmu, IsOneBody, IsOneSection, IsUnnamed, Junk, list_any, M, MayCome, MayHappen, MaySend, MergedNode, MergerReadsOnce, Miss, NodeReadsOnce, NoSuchFrame, OtherBody, OtherSection, Pmu, Publish, Reads, ReadsFor, ReadsFrom, same_Some, Says, Send, sent, SentMayCome, Settings, slice_get, slice_get_within, StartsUsedUp, stream_ids, TickAt, To, Who, World}
 use Rattle.pdc_history.proofs.{Lists.{place_there}, One.{distinct_rest, not_and, one_place, pmu_of_stream}}
 use Rattle.pdc_history.specs.Event as events
 
 -- ---- one event
 
 -- bytes say one thing to a stream
-node_arrival : NodeReadsOnce → (settings : Settings) (s : ℕ) (bytes : List ℕ) (x y : Arrival) → ReadsFor settings s bytes x → ReadsFor settings s bytes y → x ≡ y
+node_arrival : NodeReadsOnce → (settings : Settings) (s : ℕ) (bytes : List ℕ) (x y : Arrival) → ReadsFor settings s bytes x → ReadsFor settings s bytes y
+    → x ≡ y
 node_arrival N settings s bytes x y a b =
     let same : a.pmu ≡ b.pmu = same_Some a.pmu b.pmu (sym a.listed ∙ b.listed) in
     N settings s b.pmu bytes x y (subst (λ (p : Pmu). Reads settings s p bytes x) same a.reads) b.reads
@@ -33,7 +34,7 @@ distinct_ids W A = distinct_rest W.a.settings.output.id.value (map (λ (pmu : Pm
 distinct_ids W B = distinct_rest W.b.settings.output.id.value (map (λ (pmu : Pmu). pmu.stream.value) W.b.settings.pmus.items) W.b.settings.streams
 distinct_ids W M = two_distinct W.m.settings.first.id.value W.m.settings.second.id.value W.m.settings.sources.items W.m.settings.distinct
 
-one_stream : FrameLaws → (W : World) (who : Who) (bytes : List ℕ) (s t : ℕ) → Names W who bytes s → Names W who bytes t → s ≡ t
+one_stream : FrameLaws → (W : World) (who : Who) (bytes : List ℕ) (s t : ℕ) → IsNamed (stream_ids W who) bytes s → IsNamed (stream_ids W who) bytes t → s ≡ t
 one_stream F W who bytes s t a b =
     let one : a.fields ≡ b.fields = F.one_frame bytes a.fields b.fields a.frame b.frame in
     one_place (stream_ids W who) s t b.fields.id (distinct_ids W who) (a.named ∙ ap (λ (f : Fields). Some f.id) one) b.named
@@ -48,8 +49,9 @@ one_named F N R W who bytes a b x y =
     one_brings N R W who y.stream bytes a b (subst (λ (s : ℕ). Brings W who s bytes a) stream x.brings) y.brings
 
 -- named or not, where what is not named reads as one event
-one_read : FrameLaws → NodeReadsOnce → MergerReadsOnce → (W : World) (who : Who) (bytes : List ℕ) (Else : Event → Type 0) (a b : Event) → (Else a → Else b → a ≡ b)
-    → BringsToNamed W who bytes a ⊎ (NamesNone W who bytes × Else a) → BringsToNamed W who bytes b ⊎ (NamesNone W who bytes × Else b) → a ≡ b
+one_read : FrameLaws → NodeReadsOnce → MergerReadsOnce → (W : World) (who : Who) (bytes : List ℕ) (Else : Event → Type 0) (a b : Event)
+    → (Else a → Else b → a ≡ b) → BringsToNamed W who bytes a ⊎ (IsUnnamed (stream_ids W who) bytes × Else a)
+    → BringsToNamed W who bytes b ⊎ (IsUnnamed (stream_ids W who) bytes × Else b) → a ≡ b
 one_read F N R W who bytes Else a b one (inl x) (inl y) = one_named F N R W who bytes a b x y
 one_read F N R W who bytes Else a b one (inl x) (inr y) = absurd (y.0 x.stream x.names)
 one_read F N R W who bytes Else a b one (inr x) (inl y) = absurd (x.0 y.stream y.names)
@@ -59,7 +61,7 @@ pub asked_is_read_once : FrameLaws → NodeReadsOnce → MergerReadsOnce → Ask
 asked_is_read_once F N R W H (To who number) a b x y =
     let same : x.bytes ≡ y.bytes = same_Some x.bytes y.bytes (sym x.there ∙ y.there) in
     one_read F N R W who y.bytes (λ e. e ≡ Miss who) a b (λ p q. p ∙ sym q)
-    (subst (λ (bs : List ℕ). BringsToNamed W who bs a ⊎ (NamesNone W who bs × (a ≡ Miss who))) same x.read) y.read
+    (subst (λ (bs : List ℕ). BringsToNamed W who bs a ⊎ (IsUnnamed (stream_ids W who) bs × (a ≡ Miss who))) same x.read) y.read
 asked_is_read_once F N R W H (Junk who bytes) a b x y = one_read F N R W who bytes (Brings W who 0 bytes) a b (one_brings N R W who 0 bytes a b) x y
 asked_is_read_once F N R W H asked a b x y = x ∙ sym y
 
@@ -140,7 +142,7 @@ faults_may_not_happen F W H asked cause event x read may = x
 
 -- ---- a frame that was sent may come
 
-may_come : (W : World) (H : List Happened) (who : Who) (number : ℕ) (event : Event) (bytes : List ℕ) → slice_get (sent W H) number ≡ Some bytes → BringsToNamed W who bytes event ⊎ (NamesNone W who bytes × (event ≡ Miss who)) → MayHappen W H event
+may_come : (W : World) (H : List Happened) (who : Who) (number : ℕ) (event : Event) (bytes : List ℕ) → slice_get (sent W H) number ≡ Some bytes → BringsToNamed W who bytes event ⊎ (IsUnnamed (stream_ids W who) bytes × (event ≡ Miss who)) → MayHappen W H event
 may_come W H who number event bytes there (inl k) =
     let comes : MayCome W H who k.stream bytes k.brings.arrival = record { says = k.brings.says; was_sent = λ for_one. place_there (sent W H) number bytes there } in
     subst (MayHappen W H) (sym k.brings.is) comes

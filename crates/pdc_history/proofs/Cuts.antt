@@ -143,7 +143,9 @@ one_cut L F W H who payload s t sections others blocks more is a b =
     record {
       one_stamp = stamp;
       one_layout = layout;
-      one_split = tail_of (F.one_cut (own_shape ∷ map (λ (x : SectionFields). x.shape) others) payload (own_block s.start s.change ∷ blocks) (own_block t.start t.change ∷ more) first (b.cut.cut own_shape refl refl refl));
+      one_split = tail_of
+          (F.one_cut (own_shape ∷ map (λ (x : SectionFields). x.shape) others) payload (own_block s.start s.change ∷ blocks) (own_block t.start t.change ∷ more)
+          first (b.cut.cut own_shape refl refl refl));
     }
 
 pub of_one_cut : LifeLaws → FrameLaws → (W : World) (H : List Happened) (who : Who) (i : ℕ) (payload : List ℕ) (t : Stamp) (others : List SectionFields) (more : List (List ℕ)) → IsHistory W H

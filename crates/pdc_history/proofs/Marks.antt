@@ -148,7 +148,8 @@ one_more L W H who (Comes v e) is made b =
 one_more L W H who (Ticks v e) is made b = ticked W H who v e (is_same v who) (same_who v who) made b
 one_more L W H who (Publishes v row) is made b = publishes W H who v row (is_same v who) refl b
 one_more L W H who (Ends v mark) is made b = ends L W H who v mark (is_same v who) (same_who v who) is made b
-one_more L W H who h is made b = same_rows (first_mark W who) (mark_of W H who) (opened_with W H who) (given_in W H who) (life_of H who) (past_lives W H who) (rows_of_one who (published H)) b
+one_more L W H who h is made b =
+    same_rows (first_mark W who) (mark_of W H who) (opened_with W H who) (given_in W H who) (life_of H who) (past_lives W H who) (rows_of_one who (published H)) b
 
 bounded : LifeLaws → (W : World) (H : List Happened) (who : Who) → IsHistory W H → BoundedIn W H who
 bounded L W [] who is = at_begin W who (is.starts who)

@@ -57,7 +57,12 @@ starts_after : (W : World) (H : List Happened) (who : Who) (store : Store) (land
 starts_after W H who OfPublish true fits =
     starts (mark_of W H who) (left_in W H who OfPublish true) (reserved_keeps (lead_of W who) (pop_answer (life_of H who)) (mark_of W H who)) fits
 starts_after W H who OfTick true fits = starts (mark_of W H who) (raised W H who) (raised_keeps W H who) fits
-starts_after W H who OfStart true fits = record { start = omega arith; fits = fits; floor = le_refl (mark_of W H who).floor; counts = λ c. le_refl (count_for c (mark_of W H who).counts) }
+starts_after W H who OfStart true fits = record {
+  start = omega arith;
+  fits = fits;
+  floor = le_refl (mark_of W H who).floor;
+  counts = λ c. le_refl (count_for c (mark_of W H who).counts);
+}
 starts_after W H who store false fits = starts (mark_of W H who) (mark_of W H who) (itself (mark_of W H who)) fits
 
 next_here : (W : World) (H : List Happened) (who v : Who) (mark n : Stored) → v ≡ who → mark ≡ n → IsNext (mark_of W H v) n → IsNext (mark_of W H who) mark
@@ -66,7 +71,8 @@ next_here W H who v mark n same is k = subst (λ (w : Who). IsNext (mark_of W H 
 ends_of : (W : World) (H : List Happened) (who : Who) (mark : Stored) (event : Event) → MayHappen W H event → Ends who mark ≡ happens W H event → IsNext (mark_of W H who) mark
 ends_of W H who mark (Do v Stop) may q =
     next_here W H who v mark (with_next_start (mark_of W H v)) (cc) (cc) (starts (mark_of W H v) (mark_of W H v) (itself (mark_of W H v)) may)
-ends_of W H who mark (Do v (StopDuring store landed)) may q = next_here W H who v mark (with_next_start (left_in W H v store landed)) (cc) (cc) (starts_after W H v store landed may)
+ends_of W H who mark (Do v (StopDuring store landed)) may q =
+    next_here W H who v mark (with_next_start (left_in W H v store landed)) (cc) (cc) (starts_after W H v store landed may)
 ends_of W H who mark event may q = cc
 
 pub ends_is : (W : World) (H : List Happened) (who : Who) (mark : Stored) → IsMade W H (Ends who mark) → IsNext (mark_of W H who) mark

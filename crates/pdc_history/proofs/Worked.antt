@@ -94,7 +94,8 @@ stops : (after (during OfPublish true ∷ []) ≡ mark 2 57478860001) × (after 
 stops = (refl, refl)
 
 -- With no row due a stop in a publish is a stop.
-stop_with_none_due : (after (publish A ∷ during OfPublish true ∷ []) ≡ mark 2 57478860001) × (after (publish A ∷ during OfPublish false ∷ []) ≡ mark 2 57478860001)
+stop_with_none_due : (after (publish A ∷ during OfPublish true ∷ []) ≡ mark 2 57478860001)
+    × (after (publish A ∷ during OfPublish false ∷ []) ≡ mark 2 57478860001)
 stop_with_none_due = (refl, refl)
 
 stops_at_start : (after (publish A ∷ during OfStart false ∷ []) ≡ mark 2 57478860001) × (after (publish A ∷ during OfStart true ∷ []) ≡ mark 3 57478860001)

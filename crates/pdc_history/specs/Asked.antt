@@ -15,14 +15,14 @@ pub data Asked : Type 0 where
   Junk : (who : Who) (bytes : List ℕ) → Asked
   Do : (who : Who) (act : Act) → Asked
 
--- the bytes are a frame whose id names this stream of the core
-pub record Names (W : World) (who : Who) (bytes : List ℕ) (s : ℕ) : Type 0 where
+-- The bytes are a frame, and its id is that of this stream.
+pub record IsNamed (ids bytes : List ℕ) (s : ℕ) : Type 0 where
   pub fields : Fields
   pub frame : IsFrame bytes fields
-  pub named : slice_get (stream_ids W who) s ≡ Some fields.id
+  pub named : slice_get ids s ≡ Some fields.id
 
-abbrev pub NamesNone : World → Who → List ℕ → Type 0
-NamesNone W who bytes = (s : ℕ) → Names W who bytes s → ⊥
+abbrev pub IsUnnamed : (ids bytes : List ℕ) → Type 0
+IsUnnamed ids bytes = (s : ℕ) → IsNamed ids bytes s → ⊥
 
 -- the event brings the bytes to this stream, with what they say to it
 pub record Brings (W : World) (who : Who) (s : ℕ) (bytes : List ℕ) (event : Event) : Type 0 where
@@ -33,20 +33,20 @@ pub record Brings (W : World) (who : Who) (s : ℕ) (bytes : List ℕ) (event : 
 -- to the stream that they name
 pub record BringsToNamed (W : World) (who : Who) (bytes : List ℕ) (event : Event) : Type 0 where
   pub stream : ℕ
-  pub names : Names W who bytes stream
+  pub names : IsNamed (stream_ids W who) bytes stream
   pub brings : Brings W who stream bytes event
 
 -- A frame that was sent comes to the stream that it names, or passes by a core that has none.
 pub record BringsSent (W : World) (H : List Happened) (who : Who) (number : ℕ) (event : Event) : Type 0 where
   pub bytes : List ℕ
   pub there : slice_get (sent W H) number ≡ Some bytes
-  pub read : BringsToNamed W who bytes event ⊎ (NamesNone W who bytes × (event ≡ Miss who))
+  pub read : BringsToNamed W who bytes event ⊎ (IsUnnamed (stream_ids W who) bytes × (event ≡ Miss who))
 
 -- What is asked, its bytes read, is this event.
 abbrev pub IsReadOf : World → List Happened → Asked → Event → Type 0
 IsReadOf W H (Send bytes) event = event ≡ events.Send bytes
 IsReadOf W H (To who number) event = BringsSent W H who number event
-IsReadOf W H (Junk who bytes) event = BringsToNamed W who bytes event ⊎ (NamesNone W who bytes × Brings W who 0 bytes event)
+IsReadOf W H (Junk who bytes) event = BringsToNamed W who bytes event ⊎ (IsUnnamed (stream_ids W who) bytes × Brings W who 0 bytes event)
 IsReadOf W H (Do who act) event = event ≡ events.Do who act
 
 -- ---- faults

@@ -44,12 +44,14 @@ with_row rows row a b above at below =
 sent_under : (rules : Rules) (g : Given) (calls : List Call) (old new : Told) → MakeAll rules g calls old new → AreBelow (new.popped + 1) (row_instants (rows_sent calls))
 sent_under rules g [] old new h = tt
 sent_under rules g (Sent row ∷ calls) old new h = with_row (rows_sent calls) row h.0.popped new.popped h.2.0.above h.2.0.popped (sent_under rules g calls old h.0 h.1)
-sent_under rules g (call ∷ calls) old new h = stays (rows_sent calls) h.0.popped new.popped (grows_by rules g call h.0 new h.2) (sent_under rules g calls old h.0 h.1)
+sent_under rules g (call ∷ calls) old new h =
+    stays (rows_sent calls) h.0.popped new.popped (grows_by rules g call h.0 new h.2) (sent_under rules g calls old h.0 h.1)
 
 lost_under : (rules : Rules) (g : Given) (calls : List Call) (old new : Told) → MakeAll rules g calls old new → AreBelow (new.popped + 1) (row_instants (rows_lost calls))
 lost_under rules g [] old new h = tt
 lost_under rules g (Lost row ∷ calls) old new h = with_row (rows_lost calls) row h.0.popped new.popped h.2.0.above h.2.0.popped (lost_under rules g calls old h.0 h.1)
-lost_under rules g (call ∷ calls) old new h = stays (rows_lost calls) h.0.popped new.popped (grows_by rules g call h.0 new h.2) (lost_under rules g calls old h.0 h.1)
+lost_under rules g (call ∷ calls) old new h =
+    stays (rows_lost calls) h.0.popped new.popped (grows_by rules g call h.0 new h.2) (lost_under rules g calls old h.0 h.1)
 
 pub rise : SentRowsRise
 rise rules g [] old new h = tt

@@ -76,7 +76,8 @@ record Three (a b m : Output) : Type 0 where
 
 three_from : (a b m : Output) → are_three a b m ≡ true → Three a b m
 three_from a b m e =
-    let same = parts true (b.rate == a.rate) (m.rate == a.rate) (not (a.id.value == b.id.value)) (not (a.id.value == m.id.value)) (not (b.id.value == m.id.value)) e in
+    let same = parts true (b.rate == a.rate) (m.rate == a.rate) (not (a.id.value == b.id.value))
+    (not (a.id.value == m.id.value)) (not (b.id.value == m.id.value)) e in
     record {
       b_rate = eqb-true b.rate a.rate same.1;
       m_rate = eqb-true m.rate a.rate same.2;
@@ -87,7 +88,8 @@ three_from a b m e =
 
 three_to : (a b m : Output) → Three a b m → are_three a b m ≡ true
 three_to a b m t =
-    both (both (both (both (eq-eqb b.rate a.rate t.b_rate) (eq-eqb m.rate a.rate t.m_rate)) (differ_to a.id.value b.id.value t.a_b)) (differ_to a.id.value m.id.value t.a_m))
+    both (both (both (both (eq-eqb b.rate a.rate t.b_rate) (eq-eqb m.rate a.rate t.m_rate)) (differ_to a.id.value b.id.value t.a_b))
+    (differ_to a.id.value m.id.value t.a_m))
     (differ_to b.id.value m.id.value t.b_m)
 
 own_alone : (W : World) → Three W.a.settings.output W.b.settings.output W.m.settings.output → (v w : Who) → (output_of W v).id.value ≡ (output_of W w).id.value → is_same v w ≡ true
@@ -107,8 +109,10 @@ one_rate W t M = t.m_rate
 none_free : (W : World) → are_free W.a.settings.output W.b.settings.output W.m.settings.output W.a.settings.pmus.items ≡ true → (who : Who)
     → AllByRecursion (λ (pmu : Pmu). pmu.stream.value ≢ (output_of W who).id.value) W.a.settings.pmus.items
 none_free W e who =
-    let free = parts true true true (is_free W.a.settings.output.id.value W.a.settings.pmus.items) (is_free W.b.settings.output.id.value W.a.settings.pmus.items) (is_free W.m.settings.output.id.value W.a.settings.pmus.items) e in
-    free_from (output_of W who).id.value W.a.settings.pmus.items (elim who as (λ (w : Who). is_free (output_of W w).id.value W.a.settings.pmus.items ≡ true) [ A ↦ free.3 | B ↦ free.4 | M ↦ free.5 ])
+    let pmus : List Pmu = W.a.settings.pmus.items in
+    let free = parts true true true (is_free W.a.settings.output.id.value pmus) (is_free W.b.settings.output.id.value pmus) (is_free W.m.settings.output.id.value pmus) e in
+    free_from (output_of W who).id.value pmus
+    (elim who as (λ (w : Who). is_free (output_of W w).id.value pmus ≡ true) [ A ↦ free.3 | B ↦ free.4 | M ↦ free.5 ])
 
 -- ---- both directions
 
@@ -117,7 +121,8 @@ agree_from W e =
     let a : Settings = W.a.settings in
     let b : Settings = W.b.settings in
     let m : MergerSettings = W.m.settings in
-    let all = parts (are_alike b.pmus.items a.pmus.items) (are_sources m.sources.items a.pmus.items) (is_taken_for m.first a.output) (is_taken_for m.second b.output)
+    let all = parts (are_alike b.pmus.items a.pmus.items) (are_sources m.sources.items a.pmus.items) (is_taken_for m.first a.output)
+    (is_taken_for m.second b.output)
     (are_three a.output b.output m.output) (are_free a.output b.output m.output a.pmus.items) e in
     let alike : Alike b.pmus.items a.pmus.items = alike_from b.pmus.items a.pmus.items all.0 in
     let first = and_parts (m.first.id.value == a.output.id.value) (m.first.time_base == a.output.time_base) all.2 in
@@ -151,8 +156,10 @@ agree_to W agree =
     let a : Settings = W.a.settings in
     let b : Settings = W.b.settings in
     let m : MergerSettings = W.m.settings in
-    both (both (both (both (both (alike_to b.pmus.items a.pmus.items agree.streams agree.time_bases agree.sources) (sources_to m.sources.items a.pmus.items agree.merged))
+    both (both (both (both (both (alike_to b.pmus.items a.pmus.items agree.streams agree.time_bases agree.sources)
+    (sources_to m.sources.items a.pmus.items agree.merged))
     (both (eq-eqb m.first.id.value a.output.id.value agree.first_id) (eq-eqb m.first.time_base a.output.time_base agree.first_time_base)))
     (both (eq-eqb m.second.id.value b.output.id.value agree.second_id) (eq-eqb m.second.time_base b.output.time_base agree.second_time_base)))
     (three_to a.output b.output m.output (three_of W agree)))
-    (both (both (free_to a.output.id.value a.pmus.items (agree.no_pmu A)) (free_to b.output.id.value a.pmus.items (agree.no_pmu B))) (free_to m.output.id.value a.pmus.items (agree.no_pmu M)))
+    (both (both (free_to a.output.id.value a.pmus.items (agree.no_pmu A)) (free_to b.output.id.value a.pmus.items (agree.no_pmu B)))
+    (free_to m.output.id.value a.pmus.items (agree.no_pmu M)))

@@ -1,15 +1,14 @@
 -- The frames that cores send fit, and are no PMU's.
-use Rattle.std.proofs.Common.{[], ◌++◌, ◌+◌, ◌∙◌, ◌∷◌, ◌≡◌, ◌≤◌, ap, arith, Bool, cond, Err, false, IfSome, is_some, IsOk, IsSome, length, List, lit<, nat_lt, None, Ok, Option, option_map, refl, Result, Some, subst, sym, true, ℕ}
-use Rattle.pdc_world.proofs.Names.{A, AllByRecursion, answered, append-nil, B, changes, Contains, DueRow, Entry, few_columns, Fields, frames_if, frames_with, FramesAreKnown, Given, given_in, given_output, Happened, IsFrame, IsHistory, IsLifeOf, IsOfNone, IsOfPmu, IsPart, IsPublishedData, IsRun, IsSomeFrame, IsSomePart, Keeps, layout_wire, layouts_of, LedgerView, life_after_tick, life_of, lt-ltb, ltb-false, ltb-true, M, MAX_SIZE, new_change, opened_with, Output, output_of, pop_answer, published, Publishes, raised, row_view, RowView, Seat, Settings, Stored, Tick, tick_answer, Ticked, ticked_of, Ticks, ToTick, waiting_counts, Who, wire_of, wire_of_some, with_waiting, World}
+use Rattle.std.proofs.Common.{[], ◌++◌, ◌+◌, ◌∙◌, ◌∷◌, ◌≡◌, ◌≤◌, ap, arith, Bool, cond, Err, false, IfSome, inl, inr, is_some, IsOk, IsSome, length, List, lit<, nat_lt, None, Ok, Option, option_map, refl, Result, Some, subst, sym, true, ℕ}
+use Rattle.pdc_world.proofs.Names.{A, answered, append-nil, B, cases_lt, changes, Contains, DueRow, Entry, few_columns, Fields, frames_if, frames_with, FramesAreKnown, Given, given_in, given_output, Happened, IsFrame, IsHistory, IsLifeOf, IsOfNone, IsOfPmu, IsPart, IsPublishedData, IsRun, IsSomeFrame, IsSomePart, Keeps, last_one, layout_wire, layouts_of, LedgerView, life_after_tick, life_of, lt-ltb, M, MAX_SIZE, new_change, opened_with, Output, output_of, pop_answer, published, Publishes, raised, row_view, RowView, Seat, Settings, Stored, Tick, tick_answer, Ticked, ticked_of, Ticks, ToTick, waiting_counts, Who, wire_of, wire_of_some, with_waiting, World}
 use Rattle.pdc_history.specs.Event as event
 
 -- a bound that is not absurd
-by_test : (a b : ℕ) (over : Bool) → nat_lt b a ≡ over → ((a ≤ b → ⊥) → ⊥) → a ≤ b
-by_test a b true test some = absurd (some (λ below. omega (arith, ltb-true b a test, below)))
-by_test a b false test some = ltb-false b a test
-
 stable : (a b : ℕ) → ((a ≤ b → ⊥) → ⊥) → a ≤ b
-stable a b some = by_test a b (nat_lt b a) refl some
+stable a b some = elim (cases_lt b a) [
+  | inl above ↦ absurd (some (λ below. omega (arith, above, below)))
+  | inr below ↦ below
+]
 
 frame_fits : FramesAreKnown → (bytes : List ℕ) (f : Fields) → IsFrame bytes f → length bytes ≤ MAX_SIZE
 frame_fits known bytes f frame = omega (arith, ap length frame.spelled, known.len f, frame.fits.size)
@@ -18,10 +17,6 @@ alone : (bytes : List ℕ) → Contains (bytes ∷ []) bytes
 alone bytes = (0, omega arith, refl)
 
 -- ---- rows
-
-last_one : {X : Type 0} (P : X → Type 0) (xs : List X) (x : X) → AllByRecursion P (xs ++ x ∷ []) → P x
-last_one P [] x all = all.0
-last_one P (y ∷ xs) x all = last_one P xs x all.1
 
 row_fits_in : FramesAreKnown → (W : World) (H : List Happened) (v : Who) (row : RowView) → IsHistory W (Publishes v (Some row) ∷ H) → length (wire_of (output_of W v) row) ≤ MAX_SIZE
 row_fits_in known W H v row history =

@@ -1,19 +1,17 @@
 -- Bytes that come to the stream that they name.
 use Rattle.std.proofs.Common.{◌∙◌, ◌≡◌, ap, Bool, false, inl, inr, IsTrue, length, List, not, refl, Some, subst, sym, true, ℕ}
-use Rattle.pdc_world.proofs.Names.{Arrival, Bring, Contains, Happened, IsForOne, IsNamed, IsReadOf, IsUnnamed, Junk, MayCome, Miss, Names, NamesNone, place_there, Says, sent, slice_get, slice_get_read, stream_ids, To, Who, World}
-
-pub names : (W : World) (v : Who) (ids bytes : List ℕ) (s : ℕ) → ids ≡ stream_ids W v → IsNamed ids bytes s → Names W v bytes s
-names W v ids bytes s same named = record { fields = named.fields; frame = named.frame; named = ap (λ (xs : List ℕ). slice_get xs s) (sym same) ∙ named.id }
-
-pub names_none : (W : World) (v : Who) (ids bytes : List ℕ) → ids ≡ stream_ids W v → IsUnnamed ids bytes → NamesNone W v bytes
-names_none W v ids bytes same unnamed = λ s n. unnamed s (record { fields = n.fields; frame = n.frame; id = ap (λ (xs : List ℕ). slice_get xs s) same ∙ n.named })
+use Rattle.pdc_world.proofs.Names.{Arrival, Bring, Contains, Happened, IsForOne, IsNamed, IsReadOf, IsUnnamed, Junk, MayCome, Miss, place_there, Says, sent, slice_get, slice_get_read, stream_ids, To, Who, World}
 
 pub read_to : (W : World) (H : List Happened) (v : Who) (number s : ℕ) (ids bytes : List ℕ) (frames : List (List ℕ)) (arrival : Arrival) → frames ≡ sent W H
     → slice_get frames number ≡ Some bytes → ids ≡ stream_ids W v → IsNamed ids bytes s → Says W v s bytes arrival → IsReadOf W H (To v number) (Bring v s bytes arrival)
 read_to W H v number s ids bytes frames arrival same there ids_same named says = record {
   bytes = bytes;
   there = ap (λ (xs : List (List ℕ)). slice_get xs number) (sym same) ∙ there;
-  read = inl (record { stream = s; names = names W v ids bytes s ids_same named; brings = record { arrival = arrival; says = says; is = refl } });
+  read = inl (record {
+    stream = s;
+    names = subst (λ (xs : List ℕ). IsNamed xs bytes s) ids_same named;
+    brings = record { arrival = arrival; says = says; is = refl };
+  });
 }
 
 pub may_to : (W : World) (H : List Happened) (v : Who) (number s : ℕ) (bytes : List ℕ) (frames : List (List ℕ)) (arrival : Arrival) → frames ≡ sent W H
@@ -28,20 +26,23 @@ pub read_past : (W : World) (H : List Happened) (v : Who) (number : ℕ) (ids by
 read_past W H v number ids bytes frames same there ids_same unnamed = record {
   bytes = bytes;
   there = ap (λ (xs : List (List ℕ)). slice_get xs number) (sym same) ∙ there;
-  read = inr (names_none W v ids bytes ids_same unnamed, refl);
+  read = inr (subst (λ (xs : List ℕ). IsUnnamed xs bytes) ids_same unnamed, refl);
 }
 
 pub read_named : (W : World) (H : List Happened) (v : Who) (s : ℕ) (ids bytes : List ℕ) (arrival : Arrival) → ids ≡ stream_ids W v → IsNamed ids bytes s
     → Says W v s bytes arrival → IsReadOf W H (Junk v bytes) (Bring v s bytes arrival)
-read_named W H v s ids bytes arrival same named says = inl (record { stream = s; names = names W v ids bytes s same named; brings = record { arrival = arrival; says = says; is = refl } })
+read_named W H v s ids bytes arrival same named says = inl (record { stream = s; names = subst (λ (xs : List ℕ). IsNamed xs bytes s) same named; brings = record { arrival = arrival; says = says; is = refl } })
 
 pub read_unnamed : (W : World) (H : List Happened) (v : Who) (s : ℕ) (ids bytes : List ℕ) (arrival : Arrival) → s ≡ 0 → ids ≡ stream_ids W v → IsUnnamed ids bytes
     → Says W v s bytes arrival → IsReadOf W H (Junk v bytes) (Bring v s bytes arrival)
 read_unnamed W H v s ids bytes arrival first same unnamed says =
     subst (λ (x : ℕ). IsReadOf W H (Junk v bytes) (Bring v x bytes arrival)) (sym first)
-    (inr (names_none W v ids bytes same unnamed, record { arrival = arrival; says = subst (λ (x : ℕ). Says W v x bytes arrival) first says; is = refl }))
+    (inr (
+      subst (λ (xs : List ℕ). IsUnnamed xs bytes) same unnamed,
+      record { arrival = arrival; says = subst (λ (x : ℕ). Says W v x bytes arrival) first says; is = refl },
+    ))
 
-is_for_none : (W : World) (v : Who) (bytes : List ℕ) → NamesNone W v bytes → IsForOne W v bytes → ⊥
+is_for_none : (W : World) (v : Who) (bytes : List ℕ) → IsUnnamed (stream_ids W v) bytes → IsForOne W v bytes → ⊥
 is_for_none W v bytes none one =
     none one.listed.0 (record { fields = one.fields; frame = one.frame; named = slice_get_read (stream_ids W v) (length (stream_ids W v)) one.listed.0 one.fields.id refl one.listed.1 (sym one.listed.2) })
 
@@ -49,7 +50,7 @@ pub may_unnamed : (W : World) (H : List Happened) (v : Who) (s : ℕ) (ids bytes
     → Says W v s bytes arrival → MayCome W H v s bytes arrival
 may_unnamed W H v s ids bytes arrival same unnamed says = record {
   says = says;
-  was_sent = λ one. absurd (is_for_none W v bytes (names_none W v ids bytes same unnamed) one);
+  was_sent = λ one. absurd (is_for_none W v bytes (subst (λ (xs : List ℕ). IsUnnamed xs bytes) same unnamed) one);
 }
 
 pub may_named : (W : World) (H : List Happened) (v : Who) (s : ℕ) (bytes : List ℕ) (frames : List (List ℕ)) (arrival : Arrival) → frames ≡ sent W H → Contains frames bytes

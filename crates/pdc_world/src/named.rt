@@ -1,6 +1,6 @@
 //! The stream that bytes name.
 ghost use Rattle.std.specs.Prelude.{◌<◌, IfNone, IfSome};
-ghost use Rattle.pdc_world.specs.Named.{IsNamed, IsUnnamed};
+ghost use Rattle.pdc_history.specs.Asked.{IsNamed, IsUnnamed};
 
 use crate::plays::Plays;
 use pdc_frame::read_frame;

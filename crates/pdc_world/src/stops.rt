@@ -45,7 +45,8 @@ pub(crate) fn stop<C: Plays, S: Store>(
 ) -> Result<Reply, Fault>
     ensures made { IsMade (who_of who) (asked.Do (who_of who) (act_of (Stop at))) (⟦<Station<C, S> as Sits>⟧.seat station.old)
         (⟦<Station<C, S> as Sits>⟧.seat station.new) (ledger_view ledger.now) (ledger_view ledger.now) result }
-    ensures why { IsRefused (who_of who) (asked.Do (who_of who) (act_of (Stop at))) (⟦<Station<C, S> as Sits>⟧.seat station.old) (ledger_view ledger.now) result }
+    ensures why { IsRefused (who_of who) (asked.Do (who_of who) (act_of (Stop at)))
+        (⟦<Station<C, S> as Sits>⟧.seat station.old) (ledger_view ledger.now) result }
     ensures err { OnErr result (station.new ≡ station.old) }
     ensures settings { C.settings_of station.new.core ≡ C.settings_of station.old.core }
     ensures lead { lead_in station.new.publisher ≡ lead_in station.old.publisher }

@@ -13,7 +13,8 @@ pub returns-then-not-have_next-clause-fault : goal.returns-then-not-have_next-cl
 returns-then-not-have_next-clause-fault g c = record {
   at = refl;
   why = (
-    agree_from (world_of c.args.a c.args.b c.args.m c.args.leads (g.S.Mark.stored c.args.stores.0) (g.S.Mark.stored c.args.stores.1) (g.S.Mark.stored c.args.stores.2)) (sym c.are_agreed.ensures ∙ c.if-not-are_agreed.false),
+    agree_from (world_of c.args.a c.args.b c.args.m c.args.leads
+        (g.S.Mark.stored c.args.stores.0) (g.S.Mark.stored c.args.stores.1) (g.S.Mark.stored c.args.stores.2)) (sym c.are_agreed.ensures ∙ c.if-not-are_agreed.false),
     no_start c.args.a c.args.b c.args.m c.args.leads (g.S.Mark.stored c.args.stores.0) (g.S.Mark.stored c.args.stores.1) (g.S.Mark.stored c.args.stores.2) c.have_next.result c.have_next.ensures c.if-not-have_next.true,
   );
 }
