@@ -1,5 +1,6 @@
 -- What a tick adopts (this profile).
-use Rattle.pdc_life.specs.Lives.{◌-◌, ◌<◌, ◌^◌, ◌∷◌, ◌≡◌, ◌≤◌, changes, cleared_count, count_for, Entry, Given, held_section, IsTicked, List, max, None, Option, section_in_force, SectionFields, Some, Tick, TickAnswer, ℕ}
+use Rattle.std.specs.Prelude.{◌-◌, ◌<◌, ◌^◌, ◌∷◌, ◌≡◌, ◌≤◌}
+use Rattle.pdc_life.specs.Lives.{changes, cleared_count, count_for, Entry, Given, held_section, IsTicked, List, max, None, Option, section_in_force, SectionFields, Some, Tick, TickAnswer, ℕ}
 
 -- its count is greater than the one in force, or the first
 abbrev pub IsNewer : SectionFields → Option SectionFields → Type 0

@@ -1,5 +1,6 @@
 -- What a step is answered after a life, and which lives there are (this profile).
-use Rattle.pdc_life.specs.Names.{[], if◌then◌else◌, ◌&&◌, ◌++◌, ◌+◌, ◌-◌, ◌^◌, ◌∷◌, ◌≡◌, Bool, CellView, false, filter, is_near, length, List, list_all, list_any, map, max, MAX_PMUS, nat_le, nat_lt, None, not, Option, replicate, RowView, same_block, SectionFields, slice_get, Some, true, ℕ}
+use Rattle.std.specs.Prelude.{if◌then◌else◌, ◌&&◌, ◌++◌, ◌+◌, ◌-◌, ◌^◌, ◌∷◌, ◌≡◌}
+use Rattle.pdc_life.specs.Names.{[], Bool, CellView, false, filter, is_near, length, List, list_all, list_any, map, max, MAX_PMUS, nat_le, nat_lt, None, not, Option, replicate, RowView, same_block, SectionFields, slice_get, Some, true, ℕ}
 use Rattle.pdc_life.specs.Arrival.{Arrival}
 use Rattle.pdc_life.specs.Given.{Given, columns_of, count_for}
 use Rattle.pdc_life.specs.Life.{Answer, TickAnswer, Entry, Arrive, Tick, Pop, Take, changes, cell_of, cleared_count, held_instants, held_section, is_taken, last_of, now_of, section_in_force, take_of, waiting}

@@ -1,5 +1,6 @@
 -- What holds of the cells that are taken (this profile).
-use Rattle.pdc_life.specs.Lives.{◌≡◌, cell_of, CellView, Entry, Given, IsOfSectionInForce, IsRun, List, Some, ℕ}
+use Rattle.std.specs.Prelude.{◌≡◌}
+use Rattle.pdc_life.specs.Lives.{cell_of, CellView, Entry, Given, IsOfSectionInForce, IsRun, List, Some, ℕ}
 
 -- A cell since the adoption of its column is of the section in force: it has its shape, and as many words.
 abbrev pub CellsAreOfSections : Type 0

@@ -1,5 +1,6 @@
 -- The counters of a life, and what a core shows of them (this profile).
-use Rattle.pdc_life.specs.Names.{◌-◌, ◌^◌, Bool, false, filter, length, List, min, true, ℕ}
+use Rattle.std.specs.Prelude.{◌-◌, ◌^◌}
+use Rattle.pdc_life.specs.Names.{Bool, false, filter, length, List, min, true, ℕ}
 use Rattle.pdc_life.specs.Life.{Entry, Arrive, is_candidate, is_taken}
 use Rattle.pdc_life.specs.declared.outcome.Outcome.{Outcome}
 use Rattle.pdc_life.specs.declared.outcome.Outcome.TheVariants.{Known, Refused}

@@ -1,5 +1,6 @@
 -- Ids of which no two are the same.
-use Rattle.pdc_life.specs.Names.{[], ◌&&◌, ◌==◌, ◌∷◌, Bool, List, list_any, not, true, ℕ}
+use Rattle.std.specs.Prelude.{◌&&◌, ◌==◌, ◌∷◌}
+use Rattle.pdc_life.specs.Names.{[], Bool, List, list_any, not, true, ℕ}
 
 abbrev pub are_distinct : List ℕ → Bool
 are_distinct [] = true

@@ -1,5 +1,6 @@
 -- Where the blocks of a row come from, and that what was taken is shown (this profile).
-use Rattle.pdc_life.specs.Lives.{[], ◌++◌, ◌<◌, ◌∷◌, ◌≡◌, ◌⊎◌, absent_view, AllByRecursion, Answer, Arrive, block_in, BlockView, cell_of, CellView, chosen_of, closed, columns_of, Contains, Data, Entry, filter_map, Given, is_present, IsBody, IsNodeLife, IsRun, IsTicked, List, Option, option_map, popped, ReadsFor, row_of, RowView, section_in_force, SectionFields, Settings, Some, Taken, true, waiting, ℕ}
+use Rattle.std.specs.Prelude.{◌++◌, ◌<◌, ◌∷◌, ◌≡◌, ◌⊎◌}
+use Rattle.pdc_life.specs.Lives.{[], absent_view, AllByRecursion, Answer, Arrive, block_in, BlockView, cell_of, CellView, chosen_of, closed, columns_of, Contains, Data, Entry, filter_map, Given, is_present, IsBody, IsNodeLife, IsRun, IsTicked, List, Option, option_map, popped, ReadsFor, row_of, RowView, section_in_force, SectionFields, Settings, Some, Taken, true, waiting, ℕ}
 use Rattle.pdc_life.specs.Laws.{IsRowOfTick}
 
 -- Data of the stream for the instant was taken in the life, and gave the cell for the column. What was in force of the column then

@@ -1,5 +1,6 @@
 -- What is given to a life (this profile).
-use Rattle.pdc_life.specs.Names.{if◌then◌else◌, ◌==◌, ◌≡◌, length, List, range_with_len, slice_index_or, ℕ}
+use Rattle.std.specs.Prelude.{if◌then◌else◌, ◌==◌, ◌≡◌}
+use Rattle.pdc_life.specs.Names.{length, List, range_with_len, slice_index_or, ℕ}
 use Rattle.pdc_output.specs.declared.output.Output.{Output}
 use Rattle.pdc_life.specs.declared.given.Settings.{Settings}
 use Rattle.pdc_life.specs.declared.timing.Timing.{Timing}

@@ -1,5 +1,6 @@
 -- Data in time (this profile).
-use Rattle.pdc_life.specs.Lives.{◌*◌, ◌+◌, ◌<◌, ◌↔◌, ◌≡◌, ◌≤◌, ◌⊎◌, AreBelow, CellView, closed, Data, Entry, Given, held_instants, held_layout, HeldLayout, is_near, last_of, length, List, list_all, merged_answer, node_answer, None, now_of, outcome_in_time, own_words, payload_len, row_instants, section_in_force, SectionFields, Some, stamp_words, take_of, Taken, true, word_count_of, ℕ}
+use Rattle.std.specs.Prelude.{◌*◌, ◌+◌, ◌<◌, ◌↔◌, ◌≡◌, ◌≤◌, ◌⊎◌}
+use Rattle.pdc_life.specs.Lives.{AreBelow, CellView, closed, Data, Entry, Given, held_instants, held_layout, HeldLayout, is_near, last_of, length, List, list_all, merged_answer, node_answer, None, now_of, outcome_in_time, own_words, payload_len, row_instants, section_in_force, SectionFields, Some, stamp_words, take_of, Taken, true, word_count_of, ℕ}
 
 -- The instant is in time for the stream: above the last one closed, at most ahead above now, and near every instant held, and
 -- nothing was taken of the stream for it.

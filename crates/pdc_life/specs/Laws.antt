@@ -1,5 +1,6 @@
 -- What holds of every life: rows, change numbers and counts (this profile).
-use Rattle.pdc_life.specs.Lives.{if◌then◌else◌, ◌++◌, ◌+◌, ◌∷◌, ◌≡◌, ◌≤◌, AllByRecursion, changes, cleared_count, closed, closing, Contains, count_for, Entry, Given, is_adoption, is_due, IsMergerLife, IsNodeLife, IsRun, IsTicked, List, MergerSettings, open_instants, popped, Rises, row_instants, row_of, RowView, section_in_force, SectionFields, Settings, Some, Tick, TickAnswer, true, waiting, ℕ}
+use Rattle.std.specs.Prelude.{if◌then◌else◌, ◌++◌, ◌+◌, ◌∷◌, ◌≡◌, ◌≤◌}
+use Rattle.pdc_life.specs.Lives.{AllByRecursion, changes, cleared_count, closed, closing, Contains, count_for, Entry, Given, is_adoption, is_due, IsMergerLife, IsNodeLife, IsRun, IsTicked, List, MergerSettings, open_instants, popped, Rises, row_instants, row_of, RowView, section_in_force, SectionFields, Settings, Some, Tick, TickAnswer, true, waiting, ℕ}
 
 -- The premises of what node and merger have in common: ticks and pops are answered as in every life; and what was taken is sound.
 abbrev pub NodeLivesAreRuns : Type 0

@@ -1,5 +1,5 @@
 -- The names that most laws of lives cite, passed on from one place. Declares nothing.
-pub use Rattle.pdc_life.specs.Names.{[], if◌then◌else◌, ◌*◌, ◌++◌, ◌+◌, ◌-◌, ◌<◌, ◌==◌, ◌^◌, ◌↔◌, ◌∷◌, ◌≡◌, ◌≤◌, ◌⊎◌, absent_view, AllByRecursion, AreBelow, BlockView, Bool, CellView, Contains, drop, false, filter, filter_map, flat_map, is_near, is_present, is_some, IsBody, IsCut, IsFrame, IsLayout, IsSection, layout_fields_of, layout_payload_of, length, List, list_all, map, max, MAX_PMUS, nat_le, None, Option, option_map, own_block, range_with_len, Rises, row_fields, row_instants, row_payload, RowView, SectionFields, Shape, slice_get, Some, stamp_words, time_quality_of, true, wire_of, word_count_of, words_in, ℕ}
+pub use Rattle.pdc_life.specs.Names.{[], absent_view, AllByRecursion, AreBelow, BlockView, Bool, CellView, Contains, drop, false, filter, filter_map, flat_map, is_near, is_present, is_some, IsBody, IsCut, IsFrame, IsLayout, IsSection, layout_fields_of, layout_payload_of, length, List, list_all, map, max, MAX_PMUS, nat_le, None, Option, option_map, own_block, range_with_len, Rises, row_fields, row_instants, row_payload, RowView, SectionFields, Shape, slice_get, Some, stamp_words, time_quality_of, true, wire_of, word_count_of, words_in, ℕ}
 pub use Rattle.pdc_life.specs.Answer.{answered, IsLifeOf, IsReadStep, life_from, outcome_in_time, ReadStep, Rules, Step}
 pub use Rattle.pdc_life.specs.Arrival.{Arrival, Data, Layout, Stamp}
 pub use Rattle.pdc_life.specs.Given.{columns_of, count_for, Given}

@@ -1,5 +1,6 @@
 -- What a cell of the merger is in the data of its node (this profile).
-use Rattle.pdc_life.specs.Lives.{◌++◌, ◌∷◌, ◌≡◌, Answer, Arrive, CellView, Data, drop, Entry, Given, held_layout, HeldLayout, IsCut, IsMergerLife, List, map, MergerSettings, ReadsForMerger, section_in_force, SectionFields, Shape, slice_get, Some, stamp_words, Taken, ℕ}
+use Rattle.std.specs.Prelude.{◌++◌, ◌∷◌, ◌≡◌}
+use Rattle.pdc_life.specs.Lives.{Answer, Arrive, CellView, Data, drop, Entry, Given, held_layout, HeldLayout, IsCut, IsMergerLife, List, map, MergerSettings, ReadsForMerger, section_in_force, SectionFields, Shape, slice_get, Some, stamp_words, Taken, ℕ}
 use Rattle.pdc_life.specs.Genuine.{HasGiven}
 
 -- the shapes of the sections of a layout, in their order

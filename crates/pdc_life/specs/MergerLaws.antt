@@ -1,5 +1,6 @@
 -- What holds of every life of the merger (this profile).
-use Rattle.pdc_life.specs.Lives.{◌∷◌, ◌≡◌, Answer, Arrival, Arrive, Contains, Entry, Given, held_layout, HeldLayout, IsLifeOf, IsMergerLife, IsRun, List, merged_answer, MergerSettings, ReadsForMerger, ReadsFrom, section_in_force, SectionFields, Some, Step, ℕ}
+use Rattle.std.specs.Prelude.{◌∷◌, ◌≡◌}
+use Rattle.pdc_life.specs.Lives.{Answer, Arrival, Arrive, Contains, Entry, Given, held_layout, HeldLayout, IsLifeOf, IsMergerLife, IsRun, List, merged_answer, MergerSettings, ReadsForMerger, ReadsFrom, section_in_force, SectionFields, Some, Step, ℕ}
 use Rattle.pdc_life.specs.declared.merging.MergedNode.{MergedNode}
 
 -- A section of a held layout with the count in force of its column is the one in force.

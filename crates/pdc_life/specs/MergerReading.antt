@@ -1,5 +1,6 @@
 -- What the bytes say that arrive from a node at the merger: all that needs no memory of what came before (this profile).
-use Rattle.pdc_life.specs.Names.{[], ◌+◌, ◌<◌, ◌^◌, ◌∷◌, ◌≡◌, ◌⊎◌, AllByRecursion, ConfigFields, length, List, map, None, own_bytes, Rises, SectionFields, slice_get, Some, WrongKind, ℕ}
+use Rattle.std.specs.Prelude.{◌+◌, ◌<◌, ◌^◌, ◌∷◌, ◌≡◌, ◌⊎◌}
+use Rattle.pdc_life.specs.Names.{[], AllByRecursion, ConfigFields, length, List, map, None, own_bytes, Rises, SectionFields, slice_get, Some, WrongKind, ℕ}
 use Rattle.pdc_output.specs.declared.output.Nominal.TheVariants.{Hz50, Hz60}
 use Rattle.pdc_output.specs.pdc_frame.Frame as frame
 use Rattle.pdc_life.specs.Answer.{IsLife}

@@ -1,5 +1,5 @@
 -- The names of the libraries below that most definitions of this crate cite, passed on from one place. Declares nothing.
-pub use Rattle.std.specs.Prelude.{[], if◌then◌else◌, ◌&&◌, ◌*◌, ◌++◌, ◌+◌, ◌-◌, ◌<◌, ◌==◌, ◌^◌, ◌||◌, ◌↔◌, ◌∷◌, ◌≡◌, ◌≢◌, ◌≤◌, ◌⊎◌, Bool, codes, drop, false, filter, find, is_some, length, List, map, max, min, nat_eq, nat_le, nat_lt, None, not, Option, option_map, replicate, slice_index_or, Some, sum, take, true, ℕ}
+pub use Rattle.std.specs.Prelude.{[], Bool, codes, drop, false, filter, find, is_some, length, List, map, max, min, nat_eq, nat_le, nat_lt, None, not, Option, option_map, replicate, slice_index_or, Some, sum, take, true, ℕ}
 pub use Rattle.std.specs.Cmp.Lexicographic.{pointwise}
 pub use Rattle.std.specs.List.{AllByRecursion, Contains, filter_map, flat_map, list_all, list_any, range_with_len, slice_get}
 pub use Rattle.pdc_output.specs.Layout.{IsLayout, layout_fields_of, layout_payload_of, layout_wire_of, own_block, own_bytes, row_fields, row_payload, stamp_words, wire_of}

@@ -1,5 +1,6 @@
 -- The rules of a node: one lane, and a stream for each PMU (this profile).
-use Rattle.pdc_life.specs.Names.{[], if◌then◌else◌, ◌*◌, ◌==◌, ◌∷◌, ◌≡◌, CellView, length, List, nat_eq, nat_lt, None, not, Option, pointwise, SectionFields, slice_get, Some, TooMany, word_count_of, words_in, ℕ}
+use Rattle.std.specs.Prelude.{if◌then◌else◌, ◌*◌, ◌==◌, ◌∷◌, ◌≡◌}
+use Rattle.pdc_life.specs.Names.{[], CellView, length, List, nat_eq, nat_lt, None, not, Option, pointwise, SectionFields, slice_get, Some, TooMany, word_count_of, words_in, ℕ}
 use Rattle.pdc_life.specs.Answer.{answer_in_time, bare, IsLife}
 use Rattle.pdc_life.specs.Arrival.{Arrival, BytesRefused, Data, Layout}
 use Rattle.pdc_life.specs.Given.{Given, IsGivenBy, count_for}

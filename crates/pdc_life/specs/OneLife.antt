@@ -1,5 +1,6 @@
 -- Steps make one life (this profile).
-use Rattle.pdc_life.specs.Lives.{[], ◌++◌, ◌∷◌, ◌≡◌, AllByRecursion, Answer, answered, Arrival, Arrive, Entry, Given, IsLifeOf, IsMergerLife, IsNodeLife, IsReadStep, life_from, List, merged_answer, MergerSettings, node_answer, ReadsFor, ReadsForMerger, ReadStep, Rules, Settings, Step, ℕ}
+use Rattle.std.specs.Prelude.{◌++◌, ◌∷◌, ◌≡◌}
+use Rattle.pdc_life.specs.Lives.{[], AllByRecursion, Answer, answered, Arrival, Arrive, Entry, Given, IsLifeOf, IsMergerLife, IsNodeLife, IsReadStep, life_from, List, merged_answer, MergerSettings, node_answer, ReadsFor, ReadsForMerger, ReadStep, Rules, Settings, Step, ℕ}
 use Rattle.pdc_life.specs.NodeReading.{Reads}
 use Rattle.pdc_life.specs.declared.pmu.Pmu.{Pmu}
 

@@ -1,5 +1,6 @@
 -- Where sections come from, and which are held (this profile).
-use Rattle.pdc_life.specs.Lives.{[], ◌++◌, ◌<◌, ◌∷◌, ◌≡◌, ◌≤◌, AllByRecursion, Answer, Arrive, Candidate, Contains, count_for, Entry, filter, flat_map, Given, held_section, is_of_column, IsNodeLife, IsRun, IsSection, IsTicked, Layout, List, map, nat_le, None, Option, section_in_force, SectionFields, sections_for, Settings, Some, Stamp, ℕ}
+use Rattle.std.specs.Prelude.{◌++◌, ◌<◌, ◌∷◌, ◌≡◌, ◌≤◌}
+use Rattle.pdc_life.specs.Lives.{[], AllByRecursion, Answer, Arrive, Candidate, Contains, count_for, Entry, filter, flat_map, Given, held_section, is_of_column, IsNodeLife, IsRun, IsSection, IsTicked, Layout, List, map, nat_le, None, Option, section_in_force, SectionFields, sections_for, Settings, Some, Stamp, ℕ}
 
 -- What is held of a column is a section as a configuration spells it, and so is what is in force.
 abbrev pub HeldIsSection : Type 0

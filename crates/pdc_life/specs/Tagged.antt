@@ -1,5 +1,6 @@
 -- The instants of a life's rows can be tagged (this profile).
-use Rattle.pdc_life.specs.Lives.{◌*◌, ◌<◌, ◌∷◌, AllByRecursion, AreBelow, closed, Entry, Given, IsRun, List, Pop, popped, row_instants, RowView, Some, waiting}
+use Rattle.std.specs.Prelude.{◌*◌, ◌<◌, ◌∷◌}
+use Rattle.pdc_life.specs.Lives.{AllByRecursion, AreBelow, closed, Entry, Given, IsRun, List, Pop, popped, row_instants, RowView, Some, waiting}
 
 -- Each row's instant lies in a second that SOC can name, which has 32 bits (C37.118.2-2011, 6.2, table 2): there are
 -- 4294967296 seconds, of as many instants each as the rate.

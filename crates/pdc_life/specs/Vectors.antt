@@ -1,6 +1,7 @@
 -- Worked frames: those of the PMUs 11 and 12, with one phasor each, at 50 frames a second from SOC 1149577200 on, whose first instant
 -- is 57478860000; and what nodes and the merger make of them.
-use Rattle.pdc_life.specs.Names.{[], ◌∷◌, List, ℕ}
+use Rattle.std.specs.Prelude.{◌∷◌}
+use Rattle.pdc_life.specs.Names.{[], List, ℕ}
 
 -- the CFG-2 frame of PMU 11, count 1
 abbrev pub e1 : List ℕ

@@ -1,5 +1,6 @@
 -- What contracts see of what bytes say, wherever they lie in memory.
-use Rattle.pdc_life.specs.Names.{[], ◌∷◌, fields_of_view, None, ℕ}
+use Rattle.std.specs.Prelude.{◌∷◌}
+use Rattle.pdc_life.specs.Names.{[], fields_of_view, None, ℕ}
 use Rattle.pdc_life.specs.Arrival.{Arrival, BytesRefused, Data, Layout}
 use Rattle.pdc_life.specs.declared.reading.Reading.{Reading}
 use Rattle.pdc_life.specs.declared.reading.Reading.TheVariants as reading
