@@ -1,6 +1,6 @@
 //! What a hub does for each datagram, on one thread: it is read and kept, and then, under the lock, taken by the core and recorded.
 ghost use Rattle.std.specs.Prelude.{◌≡◌, Some, [], length};
-ghost use Rattle.pdc_life.specs.Given.{given_of};
+ghost use Rattle.pdc_life.specs.CoreKind.{given_of, OfNode};
 ghost use Rattle.pdc_node.specs.Node.{StandsFor};
 
 use crate::frames::{FLOOR, Frames};
@@ -70,8 +70,8 @@ fn record_all<N: Naming<Settings>>(
     state: Node<RingTable>,
     frames: &Frames,
 ) -> bool
-    requires given { N.given ≡ Some (given_of settings.now 1 FLOOR counts.now 0) }
-    requires alike { StandsFor (given_of settings.now 1 FLOOR counts.now 0) [] base × StandsFor (given_of settings.now 1 FLOOR counts.now 0) [] state }
+    requires given { N.given ≡ Some (given_of (OfNode settings.now) 1 FLOOR counts.now 0) }
+    requires alike { StandsFor (given_of (OfNode settings.now) 1 FLOOR counts.now 0) [] base × StandsFor (given_of (OfNode settings.now) 1 FLOOR counts.now 0) [] state }
     requires settings { (N.settings ≡ Some settings.now) × (base.settings ≡ settings.now) × (state.settings ≡ settings.now) }
 {
     let mut core = Replayed::<Node<RingTable>, N>::new(alloc, base, state, MAX_LIMIT);

@@ -15,5 +15,5 @@ listed_at settings (suc (suc s)) h = absurd (omega (arith, h))
 
 pub data_said : (settings : MergerSettings) (s : ℕ) (bytes : List ℕ) (h : Heard) → s < 2 → HearsFrom settings (node_of settings s) bytes h → SaysData settings s bytes h
 data_said settings s bytes (heard.BytesRefused refusal) l h = tt
-data_said settings s bytes (heard.Data instant quality payload) l h = record { node = node_of settings s; listed = listed_at settings s l; reads = h }
+data_said settings s bytes (heard.Data instant quality payload) l h = record { sender = node_of settings s; listed = listed_at settings s l; reads = h }
 data_said settings s bytes (heard.Configuration frame) l h = tt

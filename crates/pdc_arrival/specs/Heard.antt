@@ -1,9 +1,10 @@
 -- What bytes say of a node's stream before a configuration is read.
 use Rattle.std.specs.Prelude.{◌≡◌, ◌==◌, ℕ, List, if◌then◌else◌}
+use Rattle.pdc_life.specs.CoreKind.{OfMerger, Says}
 use Rattle.pdc_life.specs.pdc_frame.Frame.{fields_of}
 use Rattle.pdc_life.specs.pdc_frame.declared.frame.Kind.TheVariants.{Cfg2}
 use Rattle.pdc_life.specs.Arrival.{BytesRefused, Data}
-use Rattle.pdc_life.specs.MergerReading.{ReadsForMerger, ReadsFrom, stream_from}
+use Rattle.pdc_life.specs.MergerReading.{ReadsFrom, stream_from}
 use Rattle.pdc_life.specs.Reading.{IsOfStream}
 use Rattle.pdc_life.specs.declared.merging.MergedNode.{MergedNode}
 use Rattle.pdc_life.specs.declared.merging.MergerSettings.{MergerSettings}
@@ -26,5 +27,5 @@ HearsForMerger settings s bytes h = HearsFrom settings (node_of settings s) byte
 -- What is heard as data is what the bytes say.
 abbrev pub SaysData : MergerSettings → (s : ℕ) → List ℕ → Heard → Type 0
 SaysData settings s bytes (heard.BytesRefused refusal) = Unit {0}
-SaysData settings s bytes (heard.Data instant quality payload) = ReadsForMerger settings s bytes (Data instant quality payload.now)
+SaysData settings s bytes (heard.Data instant quality payload) = Says (OfMerger settings) s bytes (Data instant quality payload.now)
 SaysData settings s bytes (heard.Configuration frame) = Unit {0}

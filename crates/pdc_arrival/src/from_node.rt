@@ -1,9 +1,10 @@
 //! What bytes say that arrived at the merger from a node.
 ghost use Rattle.std.specs.Prelude.{◌≡◌, ◌<◌, List, ℕ};
+ghost use Rattle.pdc_life.specs.CoreKind.{OfMerger, Says};
 ghost use Rattle.pdc_life.specs.pdc_frame.Frame.{fields_of};
 ghost use Rattle.pdc_life.specs.pdc_frame.declared.frame.Kind.TheVariants.{DataFrame, Cfg2};
 ghost use Rattle.pdc_life.specs.pdc_cfg.Config.{config_fields_of};
-ghost use Rattle.pdc_life.specs.MergerReading.{ReadsForMerger, ReadsFrom, stream_from};
+ghost use Rattle.pdc_life.specs.MergerReading.{ReadsFrom, stream_from};
 ghost use Rattle.pdc_life.specs.Reading.{HasConfig, IsOfStream};
 ghost use Rattle.pdc_arrival.specs.Heard.{HearsFrom, HearsForMerger, SaysData, node_of};
 ghost use Rattle.pdc_arrival.specs.Views.{arrival_view};
@@ -41,7 +42,7 @@ pub enum Heard<'a> {
 /// What bytes say that arrived for the stream with this number: 0 is node A's, 1 is node B's. It takes no memory.
 pub fn read_from_node<'a>(settings: &MergerSettings, stream: usize, bytes: &'a [u8]) -> Arrival<'a>
     requires { stream < NODES }
-    ensures { ReadsForMerger settings.now stream bytes.now (arrival_view result) }
+    ensures { Says (OfMerger settings.now) stream bytes.now (arrival_view result) }
 {
     arrival_from_node(settings, stream, hear_from_node(settings, stream, bytes))
 }
@@ -63,7 +64,7 @@ pub fn arrival_from_node<'a>(
     heard: Heard<'a>,
 ) -> Arrival<'a>
     requires { stream < NODES }
-    ensures { (bytes : List ℕ) → HearsForMerger settings.now stream bytes heard.entry → ReadsForMerger settings.now stream bytes (arrival_view result) }
+    ensures { (bytes : List ℕ) → HearsForMerger settings.now stream bytes heard.entry → Says (OfMerger settings.now) stream bytes (arrival_view result) }
 {
     arrival_of(settings, node_of(settings, stream), heard)
 }

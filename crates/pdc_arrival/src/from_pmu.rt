@@ -1,6 +1,6 @@
 //! What bytes say that arrived for a PMU.
 ghost use Rattle.std.specs.Prelude.{◌≡◌, ◌<◌, [], ◌∷◌, length, map};
-ghost use Rattle.pdc_life.specs.Node.{ReadsFor};
+ghost use Rattle.pdc_life.specs.CoreKind.{OfNode, Says};
 ghost use Rattle.pdc_life.specs.Views.{arrival_view as reading_view};
 ghost use Rattle.pdc_arrival.specs.Views.{arrival_view, section_part};
 
@@ -11,7 +11,7 @@ use pdc_life::{MAX_PMUS, Reading, Settings, read_arrival};
 /// What bytes say that arrived for the PMU with this number. It takes no memory.
 pub fn read_from_pmu<'a>(settings: &Settings, stream: usize, bytes: &'a [u8]) -> Arrival<'a>
     requires { stream < length settings.now.pmus.items }
-    ensures { ReadsFor settings.now stream bytes.now (arrival_view result) }
+    ensures { Says (OfNode settings.now) stream bytes.now (arrival_view result) }
 {
     arrival_from_pmu(stream, hear_from_pmu(settings, stream, bytes))
 }
@@ -20,7 +20,7 @@ pub fn read_from_pmu<'a>(settings: &Settings, stream: usize, bytes: &'a [u8]) ->
 #[inline]
 pub fn hear_from_pmu<'a>(settings: &Settings, stream: usize, bytes: &'a [u8]) -> Reading<'a>
     requires { stream < length settings.now.pmus.items }
-    ensures { ReadsFor settings.now stream bytes.now (reading_view stream result) }
+    ensures { Says (OfNode settings.now) stream bytes.now (reading_view stream result) }
 {
     read_arrival(settings, &settings.pmus[stream], bytes)
 }

@@ -3,8 +3,7 @@ ghost use Rattle.std.specs.Prelude.{◌≡◌, ◌<◌, ℕ, Bool, IfOk, List, l
 ghost use Rattle.pdc_core.specs.Fits.{fits_merger, fits_node};
 ghost use Rattle.pdc_core.specs.KeptArrival.{taken_view};
 ghost use Rattle.pdc_align.specs.pdc_life.Arrival.{Arrival};
-ghost use Rattle.pdc_align.specs.pdc_life.MergerReading.{ReadsForMerger};
-ghost use Rattle.pdc_align.specs.pdc_life.Node.{ReadsFor};
+ghost use Rattle.pdc_align.specs.pdc_life.CoreKind.{OfMerger, OfNode, Says};
 ghost use Rattle.pdc_align.specs.pdc_arrival.Views.{arrival_view};
 
 use crate::KeptArrival;
@@ -55,7 +54,7 @@ impl Reads for Settings {
 
     ghost streams = { λ settings. length settings.pmus.items };
 
-    ghost says = { ReadsFor };
+    ghost says = { λ settings. Says (OfNode settings) };
 
     ghost fits = { fits_node };
 
@@ -73,7 +72,7 @@ impl Reads for MergerSettings {
 
     ghost streams = { λ _. NODES };
 
-    ghost says = { ReadsForMerger };
+    ghost says = { λ settings. Says (OfMerger settings) };
 
     ghost fits = { fits_merger };
 

@@ -1,25 +1,12 @@
 -- What is asked reads as one event, or is a fault, for one cause.
 use Rattle.std.proofs.Common.{[], ◌&&◌, ◌∙◌, ◌∷◌, ◌≡◌, ap, arith, Bool, false, inl, inr, List, map, not, refl, Some, subst, sym, true, ℕ}
 use Rattle.pdc_history.specs.Asked.{Do}
-use Rattle.pdc_history.proofs.Names.{◌==◌, ◌||◌, ◌⊎◌, A, Act, are_distinct, Arrival, AskedIsReadOnce, B, Bring, Brings, BringsToNamed, Cause, CausesAreOne, Cfg2, DataFrame, Event, false≢true, FaultsMayNotHappen, Fields, Foreign, FrameLaws, Happened, HasOtherBody, HasOtherSection, IsFault, IsNamed, IsOfPmu, IsOneBody, IsOneSection, IsUnnamed, Junk, list_any, M, MayCome, MayHappen, MaySend, MergedNode, MergerReadsOnce, Miss, NodeReadsOnce, NoSuchFrame, OtherBody, OtherSection, Pmu, Publish, Reads, ReadsFor, ReadsFrom, same_Some, Says, Send, sent, SentMayCome, Settings, slice_get, slice_get_within, StartsUsedUp, stream_ids, TickAt, To, Who, World}
+use Rattle.pdc_history.proofs.Names.{◌==◌, ◌||◌, ◌⊎◌, Act, are_distinct, AskedIsReadOnce, Bring, Brings, BringsToNamed, Cause, CausesAreOne, Cfg2, CoreKind, DataFrame, Event, false≢true, FaultsMayNotHappen, Fields, Foreign, FrameLaws, Happened, HasOtherBody, HasOtherSection, IsFault, IsNamed, IsOfPmu, IsOneBody, IsOneSection, IsUnnamed, Junk, kind_of, list_any, MayCome, MayHappen, MaySend, Miss, NoSuchFrame, OfMerger, OfNode, OtherBody, OtherSection, Pmu, Publish, ReadsOnce, same_Some, Send, sent, SentMayCome, slice_get, slice_get_within, StartsUsedUp, stream_ids, TickAt, To, Who, World}
+use Rattle.pdc_life.proofs.OneLife.{says_once}
 use Rattle.pdc_history.proofs.{Lists.{place_there}, One.{distinct_rest, not_and, one_place, pmu_of_stream}}
 use Rattle.pdc_history.specs.Event as events
 
 -- ---- one event
-
--- bytes say one thing to a stream
-node_arrival : NodeReadsOnce → (settings : Settings) (s : ℕ) (bytes : List ℕ) (x y : Arrival) → ReadsFor settings s bytes x → ReadsFor settings s bytes y
-    → x ≡ y
-node_arrival N settings s bytes x y a b =
-    let same : a.pmu ≡ b.pmu = same_Some a.pmu b.pmu (sym a.listed ∙ b.listed) in
-    N settings s b.pmu bytes x y (subst (λ (p : Pmu). Reads settings s p bytes x) same a.reads) b.reads
-
-one_arrival : NodeReadsOnce → MergerReadsOnce → (W : World) (who : Who) (s : ℕ) (bytes : List ℕ) (x y : Arrival) → Says W who s bytes x → Says W who s bytes y → x ≡ y
-one_arrival N R W A = node_arrival N W.a.settings
-one_arrival N R W B = node_arrival N W.b.settings
-one_arrival N R W M = λ s bytes x y a b.
-    let same : a.node ≡ b.node = same_Some a.node b.node (sym a.listed ∙ b.listed) in
-    R W.m.settings b.node bytes x y (subst (λ (n : MergedNode). ReadsFrom W.m.settings n bytes x) same a.reads) b.reads
 
 -- the ids of a core's streams are distinct
 two_distinct : (a b : ℕ) (ids : List ℕ) → are_distinct (a ∷ b ∷ ids) ≡ true → are_distinct (a ∷ b ∷ []) ≡ true
@@ -29,41 +16,40 @@ two_distinct a b ids d = from_first (b == a) (list_any (λ other. other == a) id
     from_first false y h = refl
     from_first true y h = absurd (false≢true (sym h))
 
-distinct_ids : (W : World) (who : Who) → are_distinct (stream_ids W who) ≡ true
-distinct_ids W A = distinct_rest W.a.settings.output.id.value (map (λ (pmu : Pmu). pmu.stream.value) W.a.settings.pmus.items) W.a.settings.streams
-distinct_ids W B = distinct_rest W.b.settings.output.id.value (map (λ (pmu : Pmu). pmu.stream.value) W.b.settings.pmus.items) W.b.settings.streams
-distinct_ids W M = two_distinct W.m.settings.first.id.value W.m.settings.second.id.value W.m.settings.sources.items W.m.settings.distinct
+distinct_ids : (kind : CoreKind) → are_distinct (stream_ids kind) ≡ true
+distinct_ids (OfNode settings) = distinct_rest settings.output.id.value (map (λ (pmu : Pmu). pmu.stream.value) settings.pmus.items) settings.streams
+distinct_ids (OfMerger settings) = two_distinct settings.first.id.value settings.second.id.value settings.sources.items settings.distinct
 
-one_stream : FrameLaws → (W : World) (who : Who) (bytes : List ℕ) (s t : ℕ) → IsNamed (stream_ids W who) bytes s → IsNamed (stream_ids W who) bytes t → s ≡ t
+one_stream : FrameLaws → (W : World) (who : Who) (bytes : List ℕ) (s t : ℕ) → IsNamed (stream_ids (kind_of W who)) bytes s → IsNamed (stream_ids (kind_of W who)) bytes t → s ≡ t
 one_stream F W who bytes s t a b =
     let one : a.fields ≡ b.fields = F.one_frame bytes a.fields b.fields a.frame b.frame in
-    one_place (stream_ids W who) s t b.fields.id (distinct_ids W who) (a.named ∙ ap (λ (f : Fields). Some f.id) one) b.named
+    one_place (stream_ids (kind_of W who)) s t b.fields.id (distinct_ids (kind_of W who)) (a.named ∙ ap (λ (f : Fields). Some f.id) one) b.named
 
-one_brings : NodeReadsOnce → MergerReadsOnce → (W : World) (who : Who) (s : ℕ) (bytes : List ℕ) (a b : Event) → Brings W who s bytes a → Brings W who s bytes b → a ≡ b
-one_brings N R W who s bytes a b x y =
-    x.is ∙ ap (Bring who s bytes) (one_arrival N R W who s bytes x.arrival y.arrival x.says y.says) ∙ sym y.is
+one_brings : ReadsOnce → (W : World) (who : Who) (s : ℕ) (bytes : List ℕ) (a b : Event) → Brings W who s bytes a → Brings W who s bytes b → a ≡ b
+one_brings N W who s bytes a b x y =
+    x.is ∙ ap (Bring who s bytes) (says_once N (kind_of W who) s bytes x.arrival y.arrival x.says y.says) ∙ sym y.is
 
-one_named : FrameLaws → NodeReadsOnce → MergerReadsOnce → (W : World) (who : Who) (bytes : List ℕ) (a b : Event) → BringsToNamed W who bytes a → BringsToNamed W who bytes b → a ≡ b
-one_named F N R W who bytes a b x y =
+one_named : FrameLaws → ReadsOnce → (W : World) (who : Who) (bytes : List ℕ) (a b : Event) → BringsToNamed W who bytes a → BringsToNamed W who bytes b → a ≡ b
+one_named F N W who bytes a b x y =
     let stream : x.stream ≡ y.stream = one_stream F W who bytes x.stream y.stream x.names y.names in
-    one_brings N R W who y.stream bytes a b (subst (λ (s : ℕ). Brings W who s bytes a) stream x.brings) y.brings
+    one_brings N W who y.stream bytes a b (subst (λ (s : ℕ). Brings W who s bytes a) stream x.brings) y.brings
 
 -- named or not, where what is not named reads as one event
-one_read : FrameLaws → NodeReadsOnce → MergerReadsOnce → (W : World) (who : Who) (bytes : List ℕ) (Else : Event → Type 0) (a b : Event)
-    → (Else a → Else b → a ≡ b) → BringsToNamed W who bytes a ⊎ (IsUnnamed (stream_ids W who) bytes × Else a)
-    → BringsToNamed W who bytes b ⊎ (IsUnnamed (stream_ids W who) bytes × Else b) → a ≡ b
-one_read F N R W who bytes Else a b one (inl x) (inl y) = one_named F N R W who bytes a b x y
-one_read F N R W who bytes Else a b one (inl x) (inr y) = absurd (y.0 x.stream x.names)
-one_read F N R W who bytes Else a b one (inr x) (inl y) = absurd (x.0 y.stream y.names)
-one_read F N R W who bytes Else a b one (inr x) (inr y) = one x.1 y.1
+one_read : FrameLaws → ReadsOnce → (W : World) (who : Who) (bytes : List ℕ) (Else : Event → Type 0) (a b : Event)
+    → (Else a → Else b → a ≡ b) → BringsToNamed W who bytes a ⊎ (IsUnnamed (stream_ids (kind_of W who)) bytes × Else a)
+    → BringsToNamed W who bytes b ⊎ (IsUnnamed (stream_ids (kind_of W who)) bytes × Else b) → a ≡ b
+one_read F N W who bytes Else a b one (inl x) (inl y) = one_named F N W who bytes a b x y
+one_read F N W who bytes Else a b one (inl x) (inr y) = absurd (y.0 x.stream x.names)
+one_read F N W who bytes Else a b one (inr x) (inl y) = absurd (x.0 y.stream y.names)
+one_read F N W who bytes Else a b one (inr x) (inr y) = one x.1 y.1
 
-pub asked_is_read_once : FrameLaws → NodeReadsOnce → MergerReadsOnce → AskedIsReadOnce
-asked_is_read_once F N R W H (To who number) a b x y =
+pub asked_is_read_once : FrameLaws → ReadsOnce → AskedIsReadOnce
+asked_is_read_once F N W H (To who number) a b x y =
     let same : x.bytes ≡ y.bytes = same_Some x.bytes y.bytes (sym x.there ∙ y.there) in
-    one_read F N R W who y.bytes (λ e. e ≡ Miss who) a b (λ p q. p ∙ sym q)
-    (subst (λ (bs : List ℕ). BringsToNamed W who bs a ⊎ (IsUnnamed (stream_ids W who) bs × (a ≡ Miss who))) same x.read) y.read
-asked_is_read_once F N R W H (Junk who bytes) a b x y = one_read F N R W who bytes (Brings W who 0 bytes) a b (one_brings N R W who 0 bytes a b) x y
-asked_is_read_once F N R W H asked a b x y = x ∙ sym y
+    one_read F N W who y.bytes (λ e. e ≡ Miss who) a b (λ p q. p ∙ sym q)
+    (subst (λ (bs : List ℕ). BringsToNamed W who bs a ⊎ (IsUnnamed (stream_ids (kind_of W who)) bs × (a ≡ Miss who))) same x.read) y.read
+asked_is_read_once F N W H (Junk who bytes) a b x y = one_read F N W who bytes (Brings W who 0 bytes) a b (one_brings N W who 0 bytes a b) x y
+asked_is_read_once F N W H asked a b x y = x ∙ sym y
 
 -- ---- one cause
 
@@ -142,7 +128,7 @@ faults_may_not_happen F W H asked cause event x read may = x
 
 -- ---- a frame that was sent may come
 
-may_come : (W : World) (H : List Happened) (who : Who) (number : ℕ) (event : Event) (bytes : List ℕ) → slice_get (sent W H) number ≡ Some bytes → BringsToNamed W who bytes event ⊎ (IsUnnamed (stream_ids W who) bytes × (event ≡ Miss who)) → MayHappen W H event
+may_come : (W : World) (H : List Happened) (who : Who) (number : ℕ) (event : Event) (bytes : List ℕ) → slice_get (sent W H) number ≡ Some bytes → BringsToNamed W who bytes event ⊎ (IsUnnamed (stream_ids (kind_of W who)) bytes × (event ≡ Miss who)) → MayHappen W H event
 may_come W H who number event bytes there (inl k) =
     let comes : MayCome W H who k.stream bytes k.brings.arrival = record { says = k.brings.says; was_sent = λ for_one. place_there (sent W H) number bytes there } in
     subst (MayHappen W H) (sym k.brings.is) comes

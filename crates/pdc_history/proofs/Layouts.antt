@@ -1,7 +1,7 @@
 -- Under a stamp there is one layout, that of each life and moment with this stamp.
 use Rattle.std.proofs.Common.{[], ◌++◌, ◌<◌, ◌^◌, ◌∙◌, ◌∷◌, ◌≡◌, ap, arith, Bool, cond, false, filter, inl, inr, length, List, None, Option, refl, Some, subst, sym, true, ℕ}
-use Rattle.pdc_history.proofs.Names.{◌⊎◌, append-nil, append_assoc, Cfg2, changes, columns_of, ConfigFields, Contains, DataFrame, Entry, entry_at, false≢true, Fields, filter_map, FrameLaws, Given, given_by, given_in, Happened, Hz50, Hz60, is_adoption, IsConfig, IsFrame, IsHistory, IsLayoutSent, IsLayoutUnder, IsMade, IsOwn, IsRun, layout_payload_of, layout_wire, LayoutsAreOne, life_of, LifeLaws, Nominal, opened_with, Output, output_of, own_bytes, row_fields, RowView, SectionFields, sections_in_force, seen_in, Stamp, Stored, Tick, Ticks, Who, with_entry, World}
-use Rattle.pdc_history.proofs.{Lists.{head_of, tail_of}, Made.{tick_ticks}, Marks.{given_start}, Moments.{before, given_then, is_itself, Moment, moment, sent_now, stays_sent, then}, Order.{after, same_given}, Sent.{AsLayout, AsRow, few_columns, given_output, layout_fields, owned, start_fits, tick_run}}
+use Rattle.pdc_history.proofs.Names.{◌⊎◌, append-nil, append_assoc, Cfg2, changes, columns_of, ConfigFields, Contains, DataFrame, Entry, entry_at, false≢true, Fields, filter_map, FrameLaws, Given, given_by, given_in, Happened, Hz50, Hz60, is_adoption, IsConfig, IsFrame, IsHistory, IsLayoutSent, IsLayoutUnder, IsMade, IsOwn, IsRun, kind_of, layout_payload_of, layout_wire, LayoutsAreOne, life_of, LifeLaws, Nominal, opened_with, Output, output_of, own_bytes, row_fields, RowView, SectionFields, sections_in_force, seen_in, Stamp, Stored, Tick, Ticks, Who, with_entry, World}
+use Rattle.pdc_history.proofs.{Lists.{head_of, tail_of}, Made.{tick_ticks}, Moments.{before, given_then, is_itself, Moment, moment, sent_now, stays_sent, then}, Order.{after, same_given}, Sent.{AsLayout, AsRow, few_columns, layout_fields, owned, start_fits, tick_run}}
 
 -- ---- two moments of a history
 
@@ -29,7 +29,7 @@ later_sections L W later H who is starts same_changes = elim (after L W later H 
       ap (λ (g : Given). sections_in_force g (life_of (later ++ H) who)) (same_given W later H who s)
       ∙ ap (λ (E : List Entry). sections_in_force (given_in W H who) E) s.life
       ∙ same_in_life L (given_in W H who) s.more (life_of H who) (sym (ap changes s.life) ∙ same_changes)
-  | inr n ↦ absurd (omega (arith, n.start, starts, given_start W who (opened_with W (later ++ H) who), given_start W who (opened_with W H who)))
+  | inr n ↦ absurd (omega (arith, n.start, starts))
 ]
 
 at_either : LifeLaws → (W : World) (H X Y a : List Happened) (who : Who) → IsHistory W H → H ≡ a ++ X → (given_in W X who).start ≡ (given_in W Y who).start
@@ -77,7 +77,7 @@ from_layout L F W H later earlier who e stamp sections is k stands adopts frame 
     let g : Given = given_in W earlier who in
     let E : List Entry = e ∷ life_of earlier who in
     let run : IsRun g E = tick_run L W earlier who e then.1 then.0 in
-    let layout = (F.layouts g E 0 run (few_columns W who (opened_with W earlier who)) (omega arith)).1 in
+    let layout = (F.layouts g E 0 run (few_columns (kind_of W who)) (omega arith)).1 in
     let one : k.has.fields ≡ layout_fields g E = F.one_frame k.bytes k.has.fields (layout_fields g E) k.has.of_stream.frame frame in
     let config : k.config ≡ layout.config =
     F.one_config (layout_payload_of g.output g.start (changes E) (sections_in_force g E)) k.config layout.config (subst (λ (p : List ℕ). IsConfig p k.config) (ap (λ (f : Fields). f.payload) one) k.has.config) layout.spelled in
@@ -191,7 +191,7 @@ own_of : (W : World) (who : Who) (mark : Stored) (bytes : List ℕ) (start chang
 own_of W who mark bytes start change s c q = record {
   start_fits = s;
   change_fits = c;
-  spelled = either (output_of W who).nominal (q ∙ ap (λ (o : Output). own_bytes o.id.value o.nominal start change) (given_output W who mark));
+  spelled = either (output_of W who).nominal q;
 }
   where
     either : (n : Nominal) → bytes ≡ own_bytes (output_of W who).id.value n start change → (bytes ≡ own_bytes (output_of W who).id.value Hz50 start change) ⊎ (bytes ≡ own_bytes (output_of W who).id.value Hz60 start change)
@@ -210,14 +210,14 @@ layout_sent L F W later H who e is adopts =
     let g : Given = given_in W H who in
     let E : List Entry = e ∷ life_of H who in
     let run : IsRun g E = tick_run L W H who e then.1 then.0 in
-    let both = F.layouts g E 0 run (few_columns W who (opened_with W H who)) (omega arith) in
+    let both = F.layouts g E 0 run (few_columns (kind_of W who)) (omega arith) in
     record {
       bytes = layout_wire g E 0;
       among = stays_sent W later (Ticks who e ∷ H) (layout_wire g E 0) (sent_now W H (Ticks who e) (layout_wire g E 0) (in_cond (is_adoption e) (layout_wire g E 0) adopts));
       config = both.1.config;
       has = record {
         fields = layout_fields g E;
-        of_stream = record { frame = both.0; id = ap (λ (o : Output). o.id.value) (given_output W who (opened_with W H who)) };
+        of_stream = record { frame = both.0; id = refl };
         kind = refl;
         config = both.1.spelled;
       };

@@ -1,7 +1,7 @@
 -- What each kind of thing that happened was made from.
 use Rattle.std.proofs.Common.{◌∙◌, ◌≡◌, Bool, cond, false, List, None, Option, refl, Some, subst, sym, true, ℕ}
 use Rattle.pdc_history.specs.Event.{Send}
-use Rattle.pdc_history.proofs.Names.{Answer, answered, Arrival, Arrive, Bring, Comes, Do, Entry, entry_at, Event, given_in, Happened, happens, is_same, IsMade, life_of, MayCome, MayHappen, MaySend, none-some, Pop, pop_answer, Publish, Publishes, raised, RowView, rules_of, same_Some, Sends, Stop, Tick, TickAnswer, TickAt, Ticks, ToTick, Who, World}
+use Rattle.pdc_history.proofs.Names.{Answer, answered, Arrival, Arrive, Bring, Comes, Do, Entry, entry_at, Event, given_in, Happened, happens, is_same, IsMade, kind_of, life_of, MayCome, MayHappen, MaySend, none-some, Pop, pop_answer, Publish, Publishes, raised, RowView, rules_of, same_Some, Sends, Stop, Tick, TickAnswer, TickAt, Ticks, ToTick, Who, World}
 use Rattle.pdc_history.proofs.Moments.{same_who}
 
 -- ---- a send
@@ -21,22 +21,22 @@ pub record HasCome (W : World) (H : List Happened) (who : Who) (e : Entry) : Typ
   pub bytes : List ℕ
   pub arrival : Arrival
   pub may : MayCome W H who stream bytes arrival
-  pub is : e ≡ Arrive stream bytes arrival (rules_of who (given_in W H who) (life_of H who) stream arrival)
+  pub is : e ≡ Arrive stream bytes arrival (rules_of (kind_of W who) (given_in W H who) (life_of H who) stream arrival)
 
 comes_here : (W : World) (H : List Happened) (who v : Who) (e : Entry) (s : ℕ) (bytes : List ℕ) (arrival : Arrival) → MayCome W H v s bytes arrival → v ≡ who
-    → e ≡ Arrive s bytes arrival (rules_of v (given_in W H v) (life_of H v) s arrival) → HasCome W H who e
+    → e ≡ Arrive s bytes arrival (rules_of (kind_of W v) (given_in W H v) (life_of H v) s arrival) → HasCome W H who e
 comes_here W H who v e s bytes arrival may same q = record {
   stream = s;
   bytes = bytes;
   arrival = arrival;
   may = subst (λ (w : Who). MayCome W H w s bytes arrival) same may;
-  is = subst (λ (w : Who). e ≡ Arrive s bytes arrival (rules_of w (given_in W H w) (life_of H w) s arrival)) same q;
+  is = subst (λ (w : Who). e ≡ Arrive s bytes arrival (rules_of (kind_of W w) (given_in W H w) (life_of H w) s arrival)) same q;
 }
 
 comes_of : (W : World) (H : List Happened) (who : Who) (e : Entry) (event : Event) → MayHappen W H event → Comes who e ≡ happens W H event → HasCome W H who e
 comes_of W H who e (Bring v s bytes arrival) may q =
     let same : v ≡ who = cc in
-    let is : e ≡ Arrive s bytes arrival (rules_of v (given_in W H v) (life_of H v) s arrival) = cc in
+    let is : e ≡ Arrive s bytes arrival (rules_of (kind_of W v) (given_in W H v) (life_of H v) s arrival) = cc in
     comes_here W H who v e s bytes arrival may same is
 comes_of W H who e (Do v Stop) may q = cc
 comes_of W H who e event may q = cc
@@ -47,7 +47,7 @@ comes_is W H who e made = comes_of W H who e made.event made.may made.made
 -- ---- a tick
 
 abbrev pub tick_at : World → List Happened → Who → ℕ → Entry
-tick_at W H who now = answered (rules_of who) (given_in W H who) (life_of H who) (ToTick now (raised W H who).counts)
+tick_at W H who now = answered (rules_of (kind_of W who)) (given_in W H who) (life_of H who) (ToTick now (raised W H who).counts)
 
 pub record HasTicked (W : World) (H : List Happened) (who : Who) (e : Entry) : Type 0 where
   pub now : ℕ
@@ -108,7 +108,7 @@ tick_ticks W H (Ticks v x) who now counts answer made q =
 tick_ticks W H (Comes v x) who now counts answer made q =
     let r = cond_none (is_same v who) x (Tick now counts answer) q in
     let t = comes_is W H v x made in
-    let e : Tick now counts answer ≡ Arrive t.stream t.bytes t.arrival (rules_of v (given_in W H v) (life_of H v) t.stream t.arrival) = sym r.1 ∙ t.is in
+    let e : Tick now counts answer ≡ Arrive t.stream t.bytes t.arrival (rules_of (kind_of W v) (given_in W H v) (life_of H v) t.stream t.arrival) = sym r.1 ∙ t.is in
     cc
 tick_ticks W H (Publishes v row) who now counts answer made q = let r = cond_none (is_same v who) (Pop row) (Tick now counts answer) q in let e : Pop row ≡ Tick now counts answer = r.1 in cc
 tick_ticks W H h who now counts answer made q = absurd (none-some (Tick now counts answer) q)

@@ -1,21 +1,7 @@
 -- Marks bound what was published and adopted, so instants rise.
 use Rattle.std.proofs.Common.{[], ◌++◌, ◌<◌, ◌^◌, ◌∙◌, ◌∷◌, ◌≡◌, ◌≤◌, ap, arith, Bool, cond, false, le_refl, List, map, None, Option, refl, Some, subst, sym, true, ℕ}
-use Rattle.pdc_history.proofs.Names.{A, AllByRecursion, append-nil, AreBelow, begun_with, below_append, cleared_count, Comes, count_for, ended, Ends, Entry, first_mark, Given, given_by, given_in, Happened, InstantsRise, is_same, IsHistory, IsMade, IsRun, lead_of, life_of, LifeLaws, map-append, mark_of, MarksBound, opened_with, past_lives, PastLife, Pop, popped, published, published_at, Publishes, raised, reserved, Rises, row_instants, rows_of_lives, rows_of_one, RowView, section_in_force, SectionFields, since, Stored, Ticks, Who, with_counts_of, with_entry, World}
+use Rattle.pdc_history.proofs.Names.{AllByRecursion, append-nil, AreBelow, begun_with, below_append, cleared_count, Comes, count_for, ended, Ends, Entry, first_mark, Given, given_by, given_in, Happened, InstantsRise, is_same, IsHistory, IsMade, IsRun, lead_of, life_of, LifeLaws, map-append, mark_of, MarksBound, opened_with, past_lives, PastLife, Pop, popped, published, published_at, Publishes, raised, reserved, Rises, row_instants, rows_of_lives, rows_of_one, RowView, section_in_force, SectionFields, since, Stored, Ticks, Who, with_counts_of, with_entry, World}
 use Rattle.pdc_history.proofs.{Lists.{appended, mapped}, Lives.{of_one_append, popped_run, run_in}, Made.{comes_is, tick_at, ticks_is}, Moments.{same_who}, Rows.{rows_are_of_lives}, Stored.{AtLeast, ends_is, IsNext, itself, raised_keeps, reserved_covers, reserved_keeps}}
-
--- ---- what a mark gives to a life
-
-pub given_start : (W : World) (who : Who) (mark : Stored) → (given_by W who mark).start ≡ mark.start
-given_start W A mark = refl
-given_start W who mark = refl
-
-pub given_floor : (W : World) (who : Who) (mark : Stored) → (given_by W who mark).floor ≡ mark.floor
-given_floor W A mark = refl
-given_floor W who mark = refl
-
-pub given_counts : (W : World) (who : Who) (mark : Stored) → (given_by W who mark).counts ≡ mark.counts
-given_counts W A mark = refl
-given_counts W who mark = refl
 
 -- ---- the bounds
 
@@ -47,7 +33,7 @@ at_begin W who fits = record {
   earlier = tt;
   floor = tt;
   past_floor = tt;
-  cleared = λ c. subst (λ (counts : List ℕ). count_for c (given_by W who (first_mark W who)).counts ≤ count_for c counts) (given_counts W who (first_mark W who)) (le_refl (count_for c (given_by W who (first_mark W who)).counts));
+  cleared = λ c. le_refl (count_for c (first_mark W who).counts);
   past_in_force = λ c. tt;
 }
 
@@ -120,7 +106,7 @@ ends : LifeLaws → (W : World) (H : List Happened) (who v : Who) (mark : Stored
     (since (cond o (Some mark) None) (life_of H who)) (ended (cond o (Some mark) None) (record { given = given_in W H who; life = life_of H who }) ++ past_lives W H who) (rows_of_one who (published H) ++ [])
 ends L W H who v mark true same is made b =
     let n : IsNext (mark_of W H who) mark = ends_is W H who mark (subst (λ (w : Who). IsMade W H (Ends w mark)) (same refl) made) in
-    let this : (given_in W H who).start < mark.start = omega (arith, given_start W who (opened_with W H who), b.start, n.start) in
+    let this : (opened_with W H who).start < mark.start = omega (arith, b.start, n.start) in
     let all : AllByRecursion (λ (r : RowView). r.instant ≤ mark.floor) (rows_of_one who (published H)) = mapped (λ (r : RowView). r.instant ≤ (mark_of W H who).floor) (λ (r : RowView). r.instant ≤ mark.floor) (rows_of_one who (published H)) (λ r h. omega (arith, h, n.floor)) b.floor in
     record {
       start = refl;
@@ -131,7 +117,7 @@ ends L W H who v mark true same is made b =
       earlier = (this, mapped (λ (p : PastLife). p.given.start < (mark_of W H who).start) (λ (p : PastLife). p.given.start < mark.start) (past_lives W H who) (λ p h. omega (arith, h, n.start)) b.earlier);
       floor = appended (λ (r : RowView). r.instant ≤ mark.floor) (rows_of_one who (published H)) [] all tt;
       past_floor = subst (AllByRecursion (λ (r : RowView). r.instant ≤ mark.floor)) (rows_are_of_lives W H who is) all;
-      cleared = λ c. subst (λ (counts : List ℕ). count_for c (given_by W who mark).counts ≤ count_for c counts) (given_counts W who mark) (le_refl (count_for c (given_by W who mark).counts));
+      cleared = λ c. le_refl (count_for c mark.counts);
       past_in_force = λ c. (
         λ s h. omega (arith, (L.cleared (given_in W H who) (life_of H who) c s (run_in L W H who is).ticked h).1, b.cleared c, n.counts c),
         mapped (InForceBelow (opened_with W H who).counts c) (InForceBelow mark.counts c) (past_lives W H who)
@@ -185,7 +171,7 @@ row_above : LifeLaws → (W : World) (H : List Happened) (who : Who) (r : RowVie
 row_above L W H who r is run =
     let b : BoundedIn W H who = bounded L W H who is in
     let next = L.next (given_in W H who) (life_of H who) r run in
-    let above : (opened_with W H who).floor < r.instant = subst (λ n. n < r.instant) (given_floor W who (opened_with W H who)) next.0 in (
+    let above : (opened_with W H who).floor < r.instant = next.0 in (
       above,
       subst (λ (ns : List ℕ). AreBelow r.instant ns) (sym (ap row_instants (rows_are_of_lives W H who is) ∙ map-append (λ (x : RowView). x.instant) (rows_of_lives (past_lives W H who)) (popped (life_of H who))))
           (below_append r.instant (row_instants (rows_of_lives (past_lives W H who))) (row_instants (popped (life_of H who)))

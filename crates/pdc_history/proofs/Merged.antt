@@ -1,6 +1,6 @@
 -- The sections and blocks of the merger's lives come from the frames of the nodes.
 use Rattle.std.proofs.Common.{[], ◌&&◌, ◌++◌, ◌∙◌, ◌∷◌, ◌≡◌, ap, arith, Bool, cond, false, inr, List, map, None, Option, refl, rules, Some, subst, suc, sym, true, zero, ℕ}
-use Rattle.pdc_history.proofs.Names.{◌==◌, A, AllByRecursion, Answer, AreGenuineBlocks, Arrive, B, BlockLaws, Contains, Entry, false≢true, FrameLaws, given_in, Happened, HasConfig, HasGenuineFrames, held_layout, HeldLayout, is_candidate, IsForOne, IsGenuineBlock, IsHistory, IsLayoutOf, IsLayoutSent, IsOwn, Layout, life_of, LifeLaws, M, MergedNode, nodes_of, none-some, ReadsForMerger, same_Some, section_in_force, SectionFields, SectionWasSent, seen_in, sent, SettingsAgree, slice_get, Stamp, Stream, stream_from, stream_ids, Who, World}
+use Rattle.pdc_history.proofs.Names.{◌==◌, A, AllByRecursion, Answer, AreGenuineBlocks, Arrive, B, BlockLaws, Contains, Entry, false≢true, FrameLaws, given_in, Happened, HasConfig, HasGenuineFrames, held_layout, HeldLayout, is_candidate, IsForOne, IsGenuineBlock, IsHistory, IsLayoutOf, IsLayoutSent, IsOwn, kind_of, Layout, life_of, LifeLaws, M, MergedNode, nodes_of, none-some, OfMerger, same_Some, Says, section_in_force, SectionFields, SectionWasSent, seen_in, sent, SettingsAgree, slice_get, Stamp, Stream, stream_from, stream_ids, Who, World}
 use Rattle.pdc_history.proofs.{Lists.{element, none_there}, Moments.{began}, NodeFrames.{frames_of_a, frames_of_b}, Nodes.{has_arrived, HasArrived, sent_since}}
 use Rattle.pdc_life.specs.MergerReading as reading
 
@@ -9,7 +9,7 @@ use Rattle.pdc_life.specs.MergerReading as reading
 -- the stream of the merger is what this owner publishes, whose frames are genuine
 pub record IsFrom (W : World) (node : MergedNode) (v : Who) : Type 0 where
   pub stream : reading.stream_from W.m.settings node ≡ stream_from W v
-  pub listed : Contains (stream_ids W M) node.id.value
+  pub listed : Contains (stream_ids (kind_of W M)) node.id.value
   pub genuine : LifeLaws → FrameLaws → BlockLaws → (H : List Happened) → IsHistory W H → HasGenuineFrames (seen_in W H) v
 
 -- node A or node B
@@ -54,7 +54,7 @@ config_for_one : (W : World) (node : MergedNode) (v : Who) (bytes : List ℕ) (s
 config_for_one W node v bytes stamp parts from k = record {
   fields = k.has.base.has.fields;
   frame = k.has.base.has.of_stream.frame;
-  listed = subst (Contains (stream_ids W M)) (sym k.has.base.has.of_stream.id) from.listed;
+  listed = subst (Contains (stream_ids (kind_of W M))) (sym k.has.base.has.of_stream.id) from.listed;
 }
 
 -- a layout that arrived, with the owner that sent it
@@ -63,7 +63,7 @@ pub record LayoutCame (W : World) (H : List Happened) (node : MergedNode) (stamp
   pub same : map (λ (part : ℕ × SectionFields). part.1) parts ≡ others
   pub sent : (v : Who) → IsFrom W node v → IsLayoutSent (seen_in W H) v stamp others
 
-with_stamp : (W : World) (s : ℕ) (bytes : List ℕ) (parts : List (ℕ × SectionFields)) (k : ReadsForMerger W.m.settings s bytes (Layout None parts)) → ⊥
+with_stamp : (W : World) (s : ℕ) (bytes : List ℕ) (parts : List (ℕ × SectionFields)) (k : Says (OfMerger W.m.settings) s bytes (Layout None parts)) → ⊥
 with_stamp W s bytes parts k = k.reads
 
 layout_came : (W : World) (H : List Happened) (node : MergedNode) (bytes : List ℕ) (stamp : Stamp) (parts : List (ℕ × SectionFields)) (later then : List Happened) → H ≡ later ++ then → (IsForOne W M bytes → Contains (sent W then) bytes)
@@ -85,11 +85,11 @@ part_section parts others P c s q a k =
     parts_all (part ∷ parts) a = (a.0, parts_all parts a.1)
 
 section_of_stamp : LifeLaws → FrameLaws → BlockLaws → (W : World) (H : List Happened) (stream c : ℕ) (s : SectionFields) (bytes : List ℕ) (stamp : Option Stamp) (parts : List (ℕ × SectionFields)) (later then : List Happened)
-    → IsHistory W H → H ≡ later ++ then → (IsForOne W M bytes → Contains (sent W then) bytes) → ReadsForMerger W.m.settings stream bytes (Layout stamp parts) → Contains parts (c, s) → SectionWasSent (seen_in W H) s
+    → IsHistory W H → H ≡ later ++ then → (IsForOne W M bytes → Contains (sent W then) bytes) → Says (OfMerger W.m.settings) stream bytes (Layout stamp parts) → Contains parts (c, s) → SectionWasSent (seen_in W H) s
 section_of_stamp L F K W H stream c s bytes None parts later then is stands was reads k = absurd (with_stamp W stream bytes parts reads)
 section_of_stamp L F K W H stream c s bytes (Some stamp) parts later then is stands was reads k =
-    let from = from_node W stream reads.node (began W H is).settings reads.listed in
-    let came : LayoutCame W H reads.node stamp parts = layout_came W H reads.node bytes stamp parts later then stands was reads.reads in
+    let from = from_node W stream reads.sender (began W H is).settings reads.listed in
+    let came : LayoutCame W H reads.sender stamp parts = layout_came W H reads.sender bytes stamp parts later then stands was reads.reads in
     let all : AllByRecursion (SectionWasSent (seen_in W H)) came.others = (from.1.genuine L F K H is).sections stamp came.others (inr (came.sent from.0 from.1)) in
     part_section parts came.others (SectionWasSent (seen_in W H)) c s came.same all k
 
@@ -140,7 +140,7 @@ pub held_under : (W : World) (H : List Happened) (s : ℕ) (node : MergedNode) (
 held_under W H s node layout is listed q =
     let h : HeldCame (life_of H M) s layout = held_came (life_of H M) s layout q in
     let a : HasArrived W H M s h.bytes (Layout (Some layout.stamp) layout.sections) h.earlier = has_arrived W H M h.later s h.bytes (Layout (Some layout.stamp) layout.sections) h.answer h.earlier is h.stands in
-    let same : a.says.node ≡ node = same_Some a.says.node node (sym a.says.listed ∙ listed) in
+    let same : a.says.sender ≡ node = same_Some a.says.sender node (sym a.says.listed ∙ listed) in
     layout_came W H node h.bytes layout.stamp layout.sections a.later a.then a.stands a.was_sent (subst (λ (n : MergedNode). IsLayoutOf W.m.settings n h.bytes layout.stamp layout.sections) same a.says.reads)
 
 -- ---- its blocks

@@ -1,6 +1,6 @@
 -- The sections and blocks of a node's lives come from its PMUs.
 use Rattle.std.proofs.Common.{[], ◌++◌, ◌∙◌, ◌∷◌, ◌≡◌, ap, arith, inr, List, map, None, Option, option_map, refl, Some, subst, suc, sym, zero, ℕ}
-use Rattle.pdc_history.proofs.Names.{A, Answer, append_assoc, Arrival, Arrive, B, BlockLaws, BlockView, Contains, Data, Entry, Fields, Given, given_in, Happened, HasBase, HasBrought, ids_of, IsBody, IsData, IsForOne, IsHistory, IsLifeOf, IsMade, IsNodeData, IsNodeLife, IsOfStream, IsValid, Layout, life_of, LifeLaws, MayCome, none-some, Pmu, Reads, ReadsFor, same_Some, Says, section_in_force, SectionFields, seen_in, sent, Settings, SettingsAgree, slice_get, slice_get-map, sources_of, Stamp, Stream, stream_ids, stream_of, time_bases_of, WasSent, Who, World}
+use Rattle.pdc_history.proofs.Names.{A, Answer, append_assoc, Arrival, Arrive, B, BlockLaws, BlockView, Contains, CoreKind, Data, Entry, Fields, given_in, Happened, HasBase, HasBrought, ids_of, IsBody, IsData, IsDataOf, IsForOne, IsHistory, IsLifeOf, IsMade, IsOfStream, IsValid, kind_of, Layout, life_of, LifeLaws, MayCome, none-some, OfNode, Pmu, Reads, same_Some, Says, section_in_force, SectionFields, seen_in, sent, Settings, SettingsAgree, slice_get, slice_get-map, sources_of, Stamp, Stream, stream_ids, stream_of, time_bases_of, WasSent, Who, World}
 use Rattle.pdc_history.proofs.{Blocks.{IsSourced}, Lists.{place_there}, Lives.{life_is_life}, Made.{arrival_comes, ComesHere, HasCome}, Moments.{Moment, moment, stays_sent, then}}
 
 -- ---- what came, was sent
@@ -10,7 +10,7 @@ pub record HasArrived (W : World) (H : List Happened) (who : Who) (s : ℕ) (byt
   pub later : List Happened
   pub then : List Happened
   pub stands : H ≡ later ++ then
-  pub says : Says W who s bytes arrival
+  pub says : Says (kind_of W who) s bytes arrival
   pub was_sent : IsForOne W who bytes → Contains (sent W then) bytes
   pub life : life_of then who ≡ E
 
@@ -44,9 +44,7 @@ sent_since W H later then bytes q k = subst (λ (X : List Happened). Contains (s
 
 -- what a node's settings have in common with those of node A
 pub record IsNode (W : World) (who : Who) (settings : Settings) : Type 0 where
-  pub says : (s : ℕ) (bytes : List ℕ) (arrival : Arrival) → Says W who s bytes arrival → ReadsFor settings s bytes arrival
-  pub life : (g : Given) (E : List Entry) → IsLifeOf W who g E → IsNodeLife settings g E
-  pub ids : stream_ids W who ≡ ids_of settings.pmus.items
+  pub kind : kind_of W who ≡ OfNode settings
   pub streams : ids_of settings.pmus.items ≡ ids_of W.a.settings.pmus.items
   pub time_bases : time_bases_of settings.pmus.items ≡ time_bases_of W.a.settings.pmus.items
   pub sources : sources_of settings.pmus.items ≡ sources_of W.a.settings.pmus.items
@@ -54,9 +52,7 @@ pub record IsNode (W : World) (who : Who) (settings : Settings) : Type 0 where
 
 pub node_a : (W : World) → IsNode W A W.a.settings
 node_a W = record {
-  says = λ s bytes arrival k. k;
-  life = λ g E k. k;
-  ids = refl;
+  kind = refl;
   streams = refl;
   time_bases = refl;
   sources = refl;
@@ -65,9 +61,7 @@ node_a W = record {
 
 pub node_b : (W : World) → SettingsAgree W → IsNode W B W.b.settings
 node_b W k = record {
-  says = λ s bytes arrival k. k;
-  life = λ g E k. k;
-  ids = refl;
+  kind = refl;
   streams = k.streams;
   time_bases = k.time_bases;
   sources = k.sources;
@@ -149,7 +143,7 @@ frame_for_one : (W : World) (who : Who) (settings : Settings) (p : ℕ) (pmu : P
 frame_for_one W who settings p pmu bytes f n listed of_stream = record {
   fields = f;
   frame = of_stream.frame;
-  listed = subst (λ (ids : List ℕ). Contains ids f.id) (sym n.ids) (subst (Contains (ids_of settings.pmus.items)) (sym of_stream.id) (has_id settings.pmus.items p pmu listed));
+  listed = subst (λ (ids : List ℕ). Contains ids f.id) (sym (ap stream_ids n.kind)) (subst (Contains (ids_of settings.pmus.items)) (sym of_stream.id) (has_id settings.pmus.items p pmu listed));
 }
 
 -- what came for the PMU of a stream is of its column
@@ -166,9 +160,9 @@ came_for W who settings H later then p c pmu bytes s n listed stands was one =
     }
 
 came_in : (W : World) (who : Who) (settings : Settings) (H later then : List Happened) (p c : ℕ) (bytes : List ℕ) (stamp : Option Stamp) (sections : List (ℕ × SectionFields)) (s : SectionFields) → IsNode W who settings → H ≡ later ++ then
-    → (IsForOne W who bytes → Contains (sent W then) bytes) → Contains sections (c, s) → ReadsFor settings p bytes (Layout stamp sections) → IsOfColumn W H c s
+    → (IsForOne W who bytes → Contains (sent W then) bytes) → Contains sections (c, s) → Says (OfNode settings) p bytes (Layout stamp sections) → IsOfColumn W H c s
 came_in W who settings H later then p c bytes stamp sections s n stands was among reads =
-    came_for W who settings H later then p c reads.pmu bytes s n reads.listed stands was (says_one settings p c reads.pmu bytes stamp sections s reads.reads among)
+    came_for W who settings H later then p c reads.sender bytes s n reads.listed stands was (says_one settings p c reads.sender bytes stamp sections s reads.reads among)
 
 node_column : LifeLaws → (W : World) (who : Who) (settings : Settings) (H : List Happened) (c : ℕ) (s : SectionFields) → IsNode W who settings → IsHistory W H → section_in_force (given_in W H who) (life_of H who) c ≡ Some s
     → IsOfColumn W H c s
@@ -177,18 +171,20 @@ node_column L W who settings H c s n is q =
     let a : HasArrived W H who come.stream come.bytes (Layout come.stamp come.sections) come.earlier =
     has_arrived W H who come.later come.stream come.bytes (Layout come.stamp come.sections) come.answer come.earlier is come.stands in
     came_in W who settings H a.later a.then come.stream c come.bytes come.stamp come.sections s n a.stands a.was_sent come.among
-    (n.says come.stream come.bytes (Layout come.stamp come.sections) a.says)
+    (subst (λ (kind : CoreKind). Says kind come.stream come.bytes (Layout come.stamp come.sections)) n.kind a.says)
 
 -- ---- its blocks
 
 block_was_sent : LifeLaws → BlockLaws → (W : World) (who : Who) (settings : Settings) (H : List Happened) (c i : ℕ) (s : SectionFields) (b : BlockView) → IsNode W who settings → IsHistory W H
     → HasBrought (given_in W H who) (life_of H who) c i s b → WasSent (seen_in W H) i s b.words
 block_was_sent L K W who settings H c i s b n is k =
-    let d : IsNodeData settings (life_of H who) c i s k.cell =
-    (K.node_cells settings (given_in W H who) (life_of H who) k.stream c i s k.cell (n.life (given_in W H who) (life_of H who) (life_is_life W H who is)) k.in_force k.given).1 in
+    let cell : IsDataOf (OfNode settings) (life_of H who) k.stream c i s k.cell =
+    K.cells (OfNode settings) (given_in W H who) (life_of H who) k.stream c i s k.cell
+    (subst (λ (kind : CoreKind). IsLifeOf kind (given_in W H who) (life_of H who)) n.kind (life_is_life W H who is)) k.in_force k.given in
+    let d : IsDataOf (OfNode settings) (life_of H who) c c i s k.cell = subst (λ (p : ℕ). IsDataOf (OfNode settings) (life_of H who) p c i s k.cell) cell.words.0 cell in
     let a : HasArrived W H who c d.bytes (Data i d.quality d.payload) d.earlier = has_arrived W H who d.later c d.bytes (Data i d.quality d.payload) d.answer d.earlier is d.stands in
-    let of_pmu : IsData (stream_of settings d.reads.pmu) d.bytes i d.quality d.payload = d.reads.reads in
-    let same : SamePmu W c d.reads.pmu = same_pmu W who settings c d.reads.pmu n d.reads.listed in
+    let of_pmu : IsData (stream_of settings d.reads.sender) d.bytes i d.quality d.payload = d.reads.reads in
+    let same : SamePmu W c d.reads.sender = same_pmu W who settings c d.reads.sender n d.reads.listed in
     let column : IsOfColumn W H c s = node_column L W who settings H c s n is k.in_force in
     let one : column.pmu ≡ same.other = same_Some column.pmu same.other (sym column.listed ∙ same.listed) in
     record {
@@ -199,9 +195,9 @@ block_was_sent L K W who settings H c i s b n is k =
       bytes = d.bytes;
       quality = d.quality;
       payload = d.payload;
-      among = sent_since W H a.later a.then d.bytes a.stands (a.was_sent (frame_for_one W who settings c d.reads.pmu d.bytes of_pmu.fields n d.reads.listed of_pmu.of_stream));
-      is_data = subst (λ (x : Stream). IsData x d.bytes i d.quality d.payload) (same_stream W who settings c d.reads.pmu n same) of_pmu;
-      body = subst (λ (x : BlockView). IsBody s.shape d.payload x.words) k.block d.body;
+      among = sent_since W H a.later a.then d.bytes a.stands (a.was_sent (frame_for_one W who settings c d.reads.sender d.bytes of_pmu.fields n d.reads.listed of_pmu.of_stream));
+      is_data = subst (λ (x : Stream). IsData x d.bytes i d.quality d.payload) (same_stream W who settings c d.reads.sender n same) of_pmu;
+      body = subst (λ (x : BlockView). IsBody s.shape d.payload x.words) k.block d.words.1;
     }
 
 pub node_is_sourced : LifeLaws → BlockLaws → (W : World) (who : Who) (settings : Settings) → IsNode W who settings → IsSourced W who

@@ -1,7 +1,7 @@
 -- A PMU sent one body for one instant, and one section under one count; and PMUs are told by their streams and sources.
 use Rattle.std.proofs.Common.{[], ◌&&◌, ◌∙◌, ◌∷◌, ◌≡◌, ap, arith, Bool, false, inl, inr, List, map, not, option_map, refl, rules, Some, subst, suc, sym, true, zero, ℕ}
-use Rattle.pdc_history.proofs.Names.{◌==◌, ◌||◌, ◌⊎◌, are_distinct, ConfigFields, Contains, Contains-append_cases, false≢true, Fields, FrameLaws, given_in, Happened, IsConfig, IsData, IsFrame, IsHistory, IsOneBody, IsOneSection, IsValid, life_of, LifeLaws, list_any, opened_with, Output, output_of, Pmu, PmusSendTheirOwn, row_fields, same_Some, SectionFields, Sends, sent, sent_at, slice_get, slice_get-map, stream_of, World}
-use Rattle.pdc_history.proofs.{Lists.{head_of, none_there}, Sent.{ByPublish, BySend, ByTick, given_output, layout_fields, no_pmu_is_own, sent_as, SentAs}}
+use Rattle.pdc_history.proofs.Names.{◌==◌, ◌||◌, ◌⊎◌, are_distinct, ConfigFields, Contains, Contains-append_cases, false≢true, Fields, FrameLaws, given_in, Happened, IsConfig, IsData, IsFrame, IsHistory, IsOneBody, IsOneSection, IsValid, life_of, LifeLaws, list_any, output_of, Pmu, PmusSendTheirOwn, row_fields, same_Some, SectionFields, Sends, sent, sent_at, slice_get, slice_get-map, stream_of, World}
+use Rattle.pdc_history.proofs.{Lists.{head_of, none_there}, Sent.{ByPublish, BySend, ByTick, layout_fields, no_pmu_is_own, sent_as, SentAs}}
 
 -- ---- distinct numbers stand at one place each
 
@@ -72,7 +72,7 @@ new_send L F W H h p pmu bytes f is listed frame id (BySend same may) =
     }
 new_send L F W H h p pmu bytes f is listed frame id (ByTick v e same adopts spelled layout) =
     let one : f ≡ layout_fields (given_in W H v) (e ∷ life_of H v) = F.one_frame bytes f (layout_fields (given_in W H v) (e ∷ life_of H v)) frame layout in
-    absurd (no_pmu_is_own W H v p pmu is.1 listed (sym id ∙ ap (λ (x : Fields). x.id) one ∙ ap (λ (o : Output). o.id.value) (given_output W v (opened_with W H v))))
+    absurd (no_pmu_is_own W H v p pmu is.1 listed (sym id ∙ ap (λ (x : Fields). x.id) one))
 new_send L F W H h p pmu bytes f is listed frame id (ByPublish v row same spelled of_row) =
     let one : f ≡ row_fields (output_of W v) row = F.one_frame bytes f (row_fields (output_of W v) row) frame of_row in
     absurd (no_pmu_is_own W H v p pmu is.1 listed (sym id ∙ ap (λ (x : Fields). x.id) one))

@@ -1,7 +1,7 @@
 -- Of two moments of one history, the later is in the same life, or in a later one.
 use Rattle.std.proofs.Common.{[], ◌++◌, ◌<◌, ◌∙◌, ◌∷◌, ◌≡◌, ◌≤◌, ap, arith, Bool, cond, false, inl, inr, List, None, Option, refl, Some, subst, sym, true, ℕ}
 use Rattle.pdc_history.proofs.Names.{◌⊎◌, AdoptedCountsNeverFall, begins_at, begun_with, count_for, Ends, Entry, entry_at, Given, given_by, given_in, Happened, is_same, IsHistory, IsMade, IsRun, lead_of, life_of, LifeLaws, mark_of, MarkBounds, none-some, opened_with, Publishes, reserved, RowView, same_Some, section_in_force, SectionFields, since, Stored, Ticks, Who, with_counts_of, with_entry, World}
-use Rattle.pdc_history.proofs.{Lives.{run_in}, Made.{cond_none, ticks_is}, Marks.{given_counts, marks_bound}, Moments.{before, none_begun, same_who}, Stored.{ends_is, IsNext, raised_keeps, reserved_keeps}}
+use Rattle.pdc_history.proofs.{Lives.{run_in}, Made.{cond_none, ticks_is}, Marks.{marks_bound}, Moments.{before, none_begun, same_who}, Stored.{ends_is, IsNext, raised_keeps, reserved_keeps}}
 
 -- a life begins with a mark above the stored one
 pub begins_next : (W : World) (H : List Happened) (who : Who) (h : Happened) (mark : Stored) → IsMade W H h → begins_at who h ≡ Some mark → IsNext (mark_of W H who) mark
@@ -120,9 +120,8 @@ in_next_life : LifeLaws → (W : World) (later H : List Happened) (who : Who) (c
     → section_in_force (given_in W (later ++ H) who) (life_of (later ++ H) who) c ≡ Some t → NextLife W later H who → s.count ≤ t.count
 in_next_life L W later H who c s t is was now next =
     let b : MarkBounds W H who = marks_bound L W H who (before W later H is) in
-    let low = (L.cleared (given_in W (later ++ H) who) (life_of (later ++ H) who) c t (run_in L W (later ++ H) who is).ticked now).0 in
     let opened : count_for c (opened_with W (later ++ H) who).counts ≤ t.count =
-    subst (λ (counts : List ℕ). count_for c counts ≤ t.count) (given_counts W who (opened_with W (later ++ H) who)) low in
+    (L.cleared (given_in W (later ++ H) who) (life_of (later ++ H) who) c t (run_in L W (later ++ H) who is).ticked now).0 in
     omega (arith, b.in_force c s was, next.counts c, opened)
 
 pub adopted_counts_never_fall : LifeLaws → AdoptedCountsNeverFall

@@ -1,23 +1,19 @@
 -- What was sent, and by whom: by a PMU, or as the layout or a row of one of the three lives.
 use Rattle.std.proofs.Common.{[], ◌++◌, ◌<◌, ◌^◌, ◌∙◌, ◌∷◌, ◌≡◌, ◌≤◌, ap, arith, Bool, cond, false, List, refl, Some, subst, sym, true, ℕ}
-use Rattle.pdc_history.proofs.Names.{◌≢◌, A, B, changes, closed, Contains, Contains-append_right, Entry, Fields, FrameLaws, Given, given_by, given_in, Happened, is_adoption, IsFrame, IsFramedRow, IsHistory, IsMade, IsRun, layout_fields_of, layout_wire, life_of, LifeLaws, M, MarkBounds, MaySend, opened_with, Output, output_of, Pmu, popped, Publishes, row_fields, RowView, sections_in_force, Sends, sent, sent_at, slice_get, Stored, Ticks, waiting, Who, wire_of, World}
-use Rattle.pdc_history.proofs.{Lists.{element, in_one, not_in_none, place_there}, Lives.{life_is_life, run_in, run_of, tick_of}, Made.{publishes_is, sends_is}, Marks.{given_start, marks_bound}, Moments.{before, began, same_who, was_sent_at, WasSentAt}}
+use Rattle.pdc_history.proofs.Names.{◌≢◌, changes, closed, column_count, Contains, Contains-append_right, CoreKind, Entry, Fields, FrameLaws, Given, given_in, Happened, is_adoption, IsFrame, IsFramedRow, IsHistory, IsMade, IsRun, kind_of, layout_fields_of, layout_wire, life_of, LifeLaws, MarkBounds, MaySend, OfMerger, OfNode, opened_with, output_of, Pmu, popped, Publishes, row_fields, RowView, sections_in_force, Sends, sent, sent_at, slice_get, Ticks, waiting, Who, wire_of, World}
+use Rattle.pdc_history.proofs.{Lists.{element, in_one, not_in_none, place_there}, Lives.{life_is_life, run_in, tick_of}, Made.{publishes_is, sends_is}, Marks.{marks_bound}, Moments.{before, began, same_who, was_sent_at, WasSentAt}}
 
 -- ---- what a mark gives
 
-pub given_output : (W : World) (who : Who) (mark : Stored) → (given_by W who mark).output ≡ output_of W who
-given_output W A mark = refl
-given_output W who mark = refl
-
-pub few_columns : (W : World) (who : Who) (mark : Stored) → (given_by W who mark).columns ≤ 16
-few_columns W A mark = W.a.settings.few
-few_columns W B mark = W.b.settings.few
-few_columns W M mark = W.m.settings.few
+pub few_columns : (kind : CoreKind) → column_count kind ≤ 16
+few_columns (OfNode settings) = settings.few
+few_columns (OfMerger settings) = settings.few
 
 pub start_fits : LifeLaws → (W : World) (H : List Happened) (who : Who) → IsHistory W H → (given_in W H who).start < 2 ^ 32
 start_fits L W H who is =
     let b : MarkBounds W H who = marks_bound L W H who is in
-    omega (arith, b.fits, b.start, given_start W who (opened_with W H who))
+    let fits : (opened_with W H who).start < 2 ^ 32 = omega (arith, b.fits, b.start) in
+    fits
 
 -- ---- a row that is published closed
 
@@ -30,18 +26,17 @@ published_closed L W H who row is made =
 pub framed_row : LifeLaws → FrameLaws → (W : World) (H : List Happened) (who : Who) (row : RowView) → IsHistory W H → IsMade W H (Publishes who (Some row)) → IsFramedRow (given_in W H who) (life_of H who) row
 framed_row L F W H who row is made =
     element (IsFramedRow (given_in W H who) (life_of H who)) (closed (life_of H who)) row
-    (F.rows (given_in W H who) (life_of H who) (run_in L W H who is) (few_columns W who (opened_with W H who)) (start_fits L W H who is))
+    (F.rows (given_in W H who) (life_of H who) (run_in L W H who is) (few_columns (kind_of W who)) (start_fits L W H who is))
     (published_closed L W H who row is made)
 
 pub row_frame : LifeLaws → FrameLaws → (W : World) (H : List Happened) (who : Who) (row : RowView) → IsHistory W H → IsMade W H (Publishes who (Some row)) → IsFrame (wire_of (output_of W who) row) (row_fields (output_of W who) row)
-row_frame L F W H who row is made =
-    subst (λ (o : Output). IsFrame (wire_of o row) (row_fields o row)) (given_output W who (opened_with W H who)) (framed_row L F W H who row is made).frame
+row_frame L F W H who row is made = (framed_row L F W H who row is made).frame
 
 -- ---- the layout of a tick that adopts
 
 pub tick_run : LifeLaws → (W : World) (H : List Happened) (who : Who) (e : Entry) → IsHistory W H → IsMade W H (Ticks who e) → IsRun (given_in W H who) (e ∷ life_of H who)
 tick_run L W H who e is made =
-    run_of L W who (given_in W H who) (e ∷ life_of H who) (tick_of W H who who e refl made (life_is_life W H who is))
+    L.runs (kind_of W who) (given_in W H who) (e ∷ life_of H who) (tick_of W H who who e refl made (life_is_life W H who is))
 
 abbrev pub layout_fields : Given → List Entry → Fields
 layout_fields g E = layout_fields_of g.output g.start (changes E) (sections_in_force g E) 0
@@ -49,7 +44,7 @@ layout_fields g E = layout_fields_of g.output g.start (changes E) (sections_in_f
 pub layout_frame : LifeLaws → FrameLaws → (W : World) (H : List Happened) (who : Who) (e : Entry) → IsHistory W H → IsMade W H (Ticks who e)
     → IsFrame (layout_wire (given_in W H who) (e ∷ life_of H who) 0) (layout_fields (given_in W H who) (e ∷ life_of H who))
 layout_frame L F W H who e is made =
-    (F.layouts (given_in W H who) (e ∷ life_of H who) 0 (tick_run L W H who e is made) (few_columns W who (opened_with W H who)) (omega arith)).0
+    (F.layouts (given_in W H who) (e ∷ life_of H who) 0 (tick_run L W H who e is made) (few_columns (kind_of W who)) (omega arith)).0
 
 -- ---- by whom
 
@@ -102,7 +97,7 @@ owned_as L F W H later earlier h who bytes f is stands frame id (BySend same may
     absurd (no_pmu_is_own W H who may.p may.pmu is may.of_pmu.listed (sym may.of_pmu.of_stream.id ∙ sym (ap (λ (x : Fields). x.id) one) ∙ id))
 owned_as L F W H later earlier h who bytes f is stands frame id (ByTick v e same adopts spelled layout) =
     let one : f ≡ layout_fields (given_in W earlier v) (e ∷ life_of earlier v) = F.one_frame bytes f (layout_fields (given_in W earlier v) (e ∷ life_of earlier v)) frame layout in
-    let own : (output_of W v).id.value ≡ (output_of W who).id.value = sym (ap (λ (o : Output). o.id.value) (given_output W v (opened_with W earlier v))) ∙ sym (ap (λ (x : Fields). x.id) one) ∙ id in
+    let own : (output_of W v).id.value ≡ (output_of W who).id.value = sym (ap (λ (x : Fields). x.id) one) ∙ id in
     let owner : v ≡ who = one_owner W H v who is own in
     AsLayout later earlier e (stands ∙ ap (λ (x : Happened). later ++ x ∷ earlier) (same ∙ ap (λ (w : Who). Ticks w e) owner)) adopts
     (subst (λ (w : Who). bytes ≡ layout_wire (given_in W earlier w) (e ∷ life_of earlier w) 0) owner spelled)

@@ -221,16 +221,16 @@ abbrev after : List Event → List Happened
 after events = history_from W [] events
 
 come_1 : MayCome W (after sends) A 0 e1 (Layout None ((0, fields_11 1 section_11) ∷ []))
-come_1 = record { says = record { pmu = pmu_11; listed = refl; reads = (refl, valid_1) }; was_sent = λ k. (0, omega arith, refl) }
+come_1 = record { says = record { sender = pmu_11; listed = refl; reads = (refl, valid_1) }; was_sent = λ k. (0, omega arith, refl) }
 
 come_2 : MayCome W (after (sends ++ to_11 A 1 section_11 ∷ [])) A 1 e2 (Layout None ((1, fields_12) ∷ []))
-come_2 = record { says = record { pmu = pmu_12; listed = refl; reads = (refl, valid_2) }; was_sent = λ k. (1, omega arith, refl) }
+come_2 = record { says = record { sender = pmu_12; listed = refl; reads = (refl, valid_2) }; was_sent = λ k. (1, omega arith, refl) }
 
 come_3 : FrameLaws → MayCome W (after (sends ++ to_11 A 1 section_11 ∷ to_12 A ∷ tick A 0 ∷ [])) A 0 e3 (Data 57478860001 0 body_3)
-come_3 F = record { says = record { pmu = pmu_11; listed = refl; reads = data_3 F }; was_sent = λ k. (2, omega arith, refl) }
+come_3 F = record { says = record { sender = pmu_11; listed = refl; reads = data_3 F }; was_sent = λ k. (2, omega arith, refl) }
 
 come_4 : FrameLaws → MayCome W (after (sends ++ to_11 A 1 section_11 ∷ to_12 A ∷ tick A 0 ∷ data_11 A 1 ∷ [])) A 1 e4 (Data 57478860001 0 body_4)
-come_4 F = record { says = record { pmu = pmu_12; listed = refl; reads = data_4 F }; was_sent = λ k. (3, omega arith, refl) }
+come_4 F = record { says = record { sender = pmu_12; listed = refl; reads = data_4 F }; was_sent = λ k. (3, omega arith, refl) }
 
 -- The script may happen, up to the stop after its publish.
 the_script_may_happen : FrameLaws → MayAllHappen W [] (to_the_tick ++ Do A Publish ∷ Do A Publish ∷ Do A Stop ∷ [])

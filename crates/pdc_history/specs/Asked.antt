@@ -2,8 +2,8 @@
 use Rattle.std.specs.{List.{Contains, slice_get}, Prelude.{◌^◌, ◌≡◌, ◌≢◌, ◌≤◌, ◌⊎◌, length, List, Some, ℕ}}
 use Rattle.pdc_frame.specs.Frame.{Fields, IsFrame}
 use Rattle.pdc_cfg.specs.Section.{SectionFields}
-use Rattle.pdc_life.specs.{Arrival.{Arrival}, declared.pmu.Pmu.{Pmu}, NodeReading.{IsValid, stream_of}, Reading.{IsData}}
-use Rattle.pdc_history.specs.{Event.{Act, Bring, Event, happens, Miss}, History.{IsForOne, IsOfPmu, MayHappen, Says, stream_ids}, World.{Ends, Happened, sent, Who, World}}
+use Rattle.pdc_life.specs.{Arrival.{Arrival}, CoreKind.{Says}, declared.pmu.Pmu.{Pmu}, NodeReading.{IsValid, stream_of}, Reading.{IsData}}
+use Rattle.pdc_history.specs.{Event.{Act, Bring, Event, happens, Miss}, History.{IsForOne, IsOfPmu, MayHappen, stream_ids}, World.{Ends, Happened, kind_of, sent, Who, World}}
 use Rattle.pdc_history.specs.Event as events
 
 pub data Asked : Type 0 where
@@ -27,26 +27,26 @@ IsUnnamed ids bytes = (s : ℕ) → IsNamed ids bytes s → ⊥
 -- the event brings the bytes to this stream, with what they say to it
 pub record Brings (W : World) (who : Who) (s : ℕ) (bytes : List ℕ) (event : Event) : Type 0 where
   pub arrival : Arrival
-  pub says : Says W who s bytes arrival
+  pub says : Says (kind_of W who) s bytes arrival
   pub is : event ≡ Bring who s bytes arrival
 
 -- to the stream that they name
 pub record BringsToNamed (W : World) (who : Who) (bytes : List ℕ) (event : Event) : Type 0 where
   pub stream : ℕ
-  pub names : IsNamed (stream_ids W who) bytes stream
+  pub names : IsNamed (stream_ids (kind_of W who)) bytes stream
   pub brings : Brings W who stream bytes event
 
 -- A frame that was sent comes to the stream that it names, or passes by a core that has none.
 pub record BringsSent (W : World) (H : List Happened) (who : Who) (number : ℕ) (event : Event) : Type 0 where
   pub bytes : List ℕ
   pub there : slice_get (sent W H) number ≡ Some bytes
-  pub read : BringsToNamed W who bytes event ⊎ (IsUnnamed (stream_ids W who) bytes × (event ≡ Miss who))
+  pub read : BringsToNamed W who bytes event ⊎ (IsUnnamed (stream_ids (kind_of W who)) bytes × (event ≡ Miss who))
 
 -- What is asked, its bytes read, is this event.
 abbrev pub IsReadOf : World → List Happened → Asked → Event → Type 0
 IsReadOf W H (Send bytes) event = event ≡ events.Send bytes
 IsReadOf W H (To who number) event = BringsSent W H who number event
-IsReadOf W H (Junk who bytes) event = BringsToNamed W who bytes event ⊎ (IsUnnamed (stream_ids W who) bytes × Brings W who 0 bytes event)
+IsReadOf W H (Junk who bytes) event = BringsToNamed W who bytes event ⊎ (IsUnnamed (stream_ids (kind_of W who)) bytes × Brings W who 0 bytes event)
 IsReadOf W H (Do who act) event = event ≡ events.Do who act
 
 -- ---- faults

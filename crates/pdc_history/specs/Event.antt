@@ -2,8 +2,8 @@
 use Rattle.std.specs.Prelude.{[], ◌∷◌, Bool, if◌then◌else◌, List, Option, option_map, ℕ}
 use Rattle.pdc_row.specs.RowView.{RowView}
 use Rattle.pdc_mark.specs.{declared.stored.Stored.{Stored}, Stored.{with_due, with_next_start, with_waiting}}
-use Rattle.pdc_life.specs.{Answer.{answered, pop_answer, ToArrive, ToTick, waiting_counts}, Arrival.{Arrival}, Life.{Entry}}
-use Rattle.pdc_history.specs.World.{Comes, Ends, given_in, Happened, lead_of, life_of, mark_of, PassesBy, Publishes, raised, rules_of, Sends, Ticks, Who, World}
+use Rattle.pdc_life.specs.{Answer.{answered, pop_answer, ToArrive, ToTick, waiting_counts}, Arrival.{Arrival}, CoreKind.{rules_of}, Life.{Entry}}
+use Rattle.pdc_history.specs.World.{Comes, Ends, given_in, Happened, kind_of, lead_of, life_of, mark_of, PassesBy, Publishes, raised, Sends, Ticks, Who, World}
 
 -- what stores
 pub data Store : Type 0 where
@@ -49,9 +49,9 @@ left_in W H who store landed =
 -- a stop: the mark is the same, landed or not.
 abbrev pub happens : World → List Happened → Event → Happened
 happens W H (Send bytes) = Sends bytes
-happens W H (Bring who s bytes arrival) = Comes who (answered (rules_of who) (given_in W H who) (life_of H who) (ToArrive s bytes arrival))
+happens W H (Bring who s bytes arrival) = Comes who (answered (rules_of (kind_of W who)) (given_in W H who) (life_of H who) (ToArrive s bytes arrival))
 happens W H (Miss who) = PassesBy who
-happens W H (Do who (TickAt now)) = Ticks who (answered (rules_of who) (given_in W H who) (life_of H who) (ToTick now (raised W H who).counts))
+happens W H (Do who (TickAt now)) = Ticks who (answered (rules_of (kind_of W who)) (given_in W H who) (life_of H who) (ToTick now (raised W H who).counts))
 happens W H (Do who Publish) = Publishes who (pop_answer (life_of H who))
 happens W H (Do who Stop) = Ends who (with_next_start (mark_of W H who))
 happens W H (Do who (StopDuring store landed)) = Ends who (with_next_start (left_in W H who store landed))

@@ -2,8 +2,8 @@
 use Rattle.std.specs.{List.{Contains, slice_get}, Prelude.{[], ◌<◌, ◌^◌, ◌∷◌, ◌≡◌, List, map, Some, ℕ}}
 use Rattle.pdc_frame.specs.Frame.{Fields, IsFrame}
 use Rattle.pdc_cfg.specs.Section.{SectionFields}
-use Rattle.pdc_life.specs.{Arrival.{Arrival}, declared.merging.MergedNode.{MergedNode}, declared.pmu.Pmu.{Pmu}, MergerReading.{nodes_of, ReadsForMerger}, Node.{ReadsFor}, NodeReading.{IsValid, stream_of}, Reading.{IsData, IsOfStream}}
-use Rattle.pdc_history.specs.{Agree.{ids_of, MayBegin}, Event.{Bring, Event, happens, history_from, Send}, World.{A, B, Ends, Happened, M, sent, Who, World}}
+use Rattle.pdc_life.specs.{Arrival.{Arrival}, CoreKind.{CoreKind, OfMerger, OfNode, Says}, declared.merging.MergedNode.{MergedNode}, declared.pmu.Pmu.{Pmu}, MergerReading.{nodes_of}, NodeReading.{IsValid, stream_of}, Reading.{IsData, IsOfStream}}
+use Rattle.pdc_history.specs.{Agree.{ids_of, MayBegin}, Event.{Bring, Event, happens, history_from, Send}, World.{Ends, Happened, kind_of, sent, Who, World}}
 
 -- The bytes are a frame of this PMU; the PMUs are those of A's settings.
 pub record IsOfPmu (W : World) (p : ℕ) (pmu : Pmu) (bytes : List ℕ) : Type 0 where
@@ -32,26 +32,19 @@ pub record MaySend (W : World) (H : List Happened) (bytes : List ℕ) : Type 0 w
   pub one_section : IsOneSection W H pmu bytes
 
 -- the ids of the streams of a core
-abbrev pub stream_ids : World → Who → List ℕ
-stream_ids W A = ids_of W.a.settings.pmus.items
-stream_ids W B = ids_of W.b.settings.pmus.items
-stream_ids W M = map (λ (node : MergedNode). node.id.value) (nodes_of W.m.settings)
+abbrev pub stream_ids : CoreKind → List ℕ
+stream_ids (OfNode settings) = ids_of settings.pmus.items
+stream_ids (OfMerger settings) = map (λ (node : MergedNode). node.id.value) (nodes_of settings)
 
 -- the bytes read as a frame of a stream of the core
 pub record IsForOne (W : World) (who : Who) (bytes : List ℕ) : Type 0 where
   pub fields : Fields
   pub frame : IsFrame bytes fields
-  pub listed : Contains (stream_ids W who) fields.id
-
--- what bytes say to a core
-abbrev pub Says : World → Who → ℕ → List ℕ → Arrival → Type 0
-Says W A s bytes arrival = ReadsFor W.a.settings s bytes arrival
-Says W B s bytes arrival = ReadsFor W.b.settings s bytes arrival
-Says W M s bytes arrival = ReadsForMerger W.m.settings s bytes arrival
+  pub listed : Contains (stream_ids (kind_of W who)) fields.id
 
 -- What comes was read for its stream; and what reads as a frame of a stream of its receiver was sent.
 pub record MayCome (W : World) (H : List Happened) (who : Who) (s : ℕ) (bytes : List ℕ) (arrival : Arrival) : Type 0 where
-  pub says : Says W who s bytes arrival
+  pub says : Says (kind_of W who) s bytes arrival
   pub was_sent : IsForOne W who bytes → Contains (sent W H) bytes
 
 -- a start number is left

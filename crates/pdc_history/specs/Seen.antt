@@ -1,8 +1,8 @@
 -- What a reader of the streams sees: the settings, and the frames that were ever sent (this profile).
 use Rattle.std.specs.Prelude.{List, ℕ}
 use Rattle.pdc_output.specs.declared.output.Output.{Output}
-use Rattle.pdc_life.specs.{declared.given.Settings.{Settings}, declared.merging.MergerSettings.{MergerSettings}, Reading.{Stream}}
-use Rattle.pdc_history.specs.{History.{IsHistory}, World.{Happened, output_among, sent, Who, World}}
+use Rattle.pdc_life.specs.{CoreKind.{output_under}, declared.given.Settings.{Settings}, declared.merging.MergerSettings.{MergerSettings}, Reading.{Stream}}
+use Rattle.pdc_history.specs.{History.{IsHistory}, World.{Happened, kind_among, sent, Who, World}}
 
 pub record Seen : Type 0 where
   pub a : Settings
@@ -20,7 +20,7 @@ OfHistories P = (W : World) (H : List Happened) → IsHistory W H → P (seen_in
 
 -- how an owner publishes, and the stream that it does
 abbrev pub output_in : Seen → Who → Output
-output_in seen who = output_among seen.a seen.b seen.m who
+output_in seen who = output_under (kind_among seen.a seen.b seen.m who)
 
 abbrev pub stream_in : Seen → Who → Stream
 stream_in seen who = record { id = (output_in seen who).id.value; time_base = (output_in seen who).time_base; rate = (output_in seen who).rate }

@@ -4,7 +4,7 @@ use Rattle.std.specs.Prelude.{[], ◌++◌, ◌∷◌, Bool, false, if◌then◌
 use Rattle.pdc_row.specs.RowView.{RowView}
 use Rattle.pdc_output.specs.{declared.output.Output.{Output}, Layout.{wire_of}}
 use Rattle.pdc_mark.specs.{declared.stored.Stored.{Stored}, Stored.{with_counts, with_due, with_waiting}}
-use Rattle.pdc_life.specs.{Answer.{Rules, waiting_counts}, declared.given.Settings.{Settings}, declared.merging.MergerSettings.{MergerSettings}, Given.{Given, given_of}, Life.{Entry, is_adoption, Pop, Tick}, Merger.{merged_answer}, MergerReading.{given_of_merger}, Node.{node_answer}, Published.{layout_wire}}
+use Rattle.pdc_life.specs.{Answer.{waiting_counts}, CoreKind.{CoreKind, given_of, OfMerger, OfNode, output_under}, declared.given.Settings.{Settings}, declared.merging.MergerSettings.{MergerSettings}, Given.{Given}, Life.{Entry, is_adoption, Pop, Tick}, Published.{layout_wire}}
 
 -- node A, node B and the merger
 pub data Who : Type 0 where
@@ -55,24 +55,21 @@ lead_of W A = W.a.lead
 lead_of W B = W.b.lead
 lead_of W M = W.m.lead
 
-abbrev pub rules_of : Who → Rules
-rules_of A = node_answer
-rules_of B = node_answer
-rules_of M = merged_answer
+-- what each core is, of these settings
+abbrev pub kind_among : Settings → Settings → MergerSettings → Who → CoreKind
+kind_among a b m A = OfNode a
+kind_among a b m B = OfNode b
+kind_among a b m M = OfMerger m
+
+abbrev pub kind_of : World → Who → CoreKind
+kind_of W who = kind_among W.a.settings W.b.settings W.m.settings who
 
 -- what is given to a life that begins with this mark: its now is 0 until its first tick
 abbrev pub given_by : World → Who → Stored → Given
-given_by W A mark = given_of W.a.settings mark.start mark.floor mark.counts 0
-given_by W B mark = given_of W.b.settings mark.start mark.floor mark.counts 0
-given_by W M mark = given_of_merger W.m.settings mark.start mark.floor mark.counts 0
-
-abbrev pub output_among : Settings → Settings → MergerSettings → Who → Output
-output_among a b m A = a.output
-output_among a b m B = b.output
-output_among a b m M = m.output
+given_by W who mark = given_of (kind_of W who) mark.start mark.floor mark.counts 0
 
 abbrev pub output_of : World → Who → Output
-output_of W who = output_among W.a.settings W.b.settings W.m.settings who
+output_of W who = output_under (kind_of W who)
 
 -- The present life of a core.
 

@@ -9,7 +9,7 @@ ghost use Rattle.pdc_history.specs.Pmus.{PmusSendOneBody, PmusSendOneSection, Pm
 ghost use Rattle.pdc_history.specs.Seen.{OfHistories};
 
 use crate::known::{blocks_are_known, frames_are_known, lives_are_known};
-use pdc_life::{bytes_are_read_in_one_way, merger_steps_have_one_life};
+use pdc_life::bytes_are_read_in_one_way;
 
 /// What a world is asked reads as one event, or is a fault for one cause; never both, where the event may happen. A frame that was
 /// sent may always come.
@@ -21,7 +21,6 @@ pub fn asked_is_event_or_fault()
 {
     frames_are_known();
     bytes_are_read_in_one_way();
-    merger_steps_have_one_life();
 }
 
 /// Events that may happen, each after those before it, make a history. So does what is asked, and there is one such history: what a
@@ -34,7 +33,6 @@ pub fn events_make_histories()
 {
     frames_are_known();
     bytes_are_read_in_one_way();
-    merger_steps_have_one_life();
 }
 
 /// In every history lives are lives, the present ones and those that ended; and what a core published are the rows that its lives

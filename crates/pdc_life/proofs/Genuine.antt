@@ -1,12 +1,11 @@
 -- Each block of a row is absent, or was brought; what was taken and is present is shown.
-use Rattle.pdc_life.proofs.Names.{[], if◌then◌else◌, ◌==◌, ◌∙◌, ◌∷◌, ◌≡◌, AllByRecursion, ap, AreGenuine, block_in, block_or_absent, BlocksAreGenuine, BlockView, cell_of, CellsWereGiven, CellView, chosen_of, ChosenIsShown, closed, columns_of, cond_both, cons_option, Entry, eqb, filter_map, first_cell, first_of, Given, inl, inr, IsGenuine, IsGenuineRow, IsOfSectionInForce, IsRowOfTick, List, NodeTakenIsShown, None, none-some, Option, option_map, popped, present_of, refl, RowsAreGenuine, RowView, same_Some, second_cell, section_in_force, SectionFields, Some, subst, sym, true, waiting, with_section, WordsOfBytes, ℕ}
+use Rattle.pdc_life.proofs.Names.{[], if◌then◌else◌, ◌==◌, ◌∙◌, ◌∷◌, ◌≡◌, AllByRecursion, ap, AreGenuine, block_in, block_or_absent, BlocksAreGenuine, BlockView, cell_of, CellsWereGiven, CellView, chosen_of, ChosenIsShown, closed, columns_of, cond_both, cons_option, Entry, filter_map, first_cell, Given, inl, inr, IsGenuine, IsGenuineRow, IsOfSectionInForce, IsRowOfTick, List, None, none-some, Option, option_map, popped, present_of, refl, RowsAreGenuine, RowView, same_Some, second_cell, section_in_force, SectionFields, Some, subst, sym, waiting, with_section, ℕ}
 use Rattle.pdc_life.proofs.Closing.{rows_are_of_their_ticks}
 use Rattle.pdc_life.proofs.Filtered.{listed_in}
-use Rattle.pdc_life.proofs.Gave.{cell_was_given, first_is, gave_under_section, is_present_one, of_lanes, present_is}
+use Rattle.pdc_life.proofs.Gave.{cell_was_given, first_is, gave_under_section, present_is}
 use Rattle.pdc_life.proofs.InForce.{cells_are_of_sections}
 use Rattle.pdc_life.proofs.LifeLaws.{rows_come_out_once}
 use Rattle.pdc_life.proofs.Lists.{each, front_part}
-use Rattle.pdc_life.proofs.NodeRuns.{node_lives_are_runs}
 
 pub cells_were_given : CellsWereGiven
 cells_were_given g E s c i cell h = gave_under_section g E s c i cell (cell_was_given E s c i cell h)
@@ -73,10 +72,3 @@ chosen_is_shown g E c i cell run here h =
     let t : IsOfSectionInForce g E (c, cell) = cells_are_of_sections g E from.stream c i cell run from.is in
     listed_in (λ d. block_in (section_in_force g E d) (chosen_of g E d i)) g.columns c cell.block here
     (ap (λ (o : Option SectionFields). block_in o (chosen_of g E c i)) t.in_force ∙ ap (λ (o : Option CellView). block_in (Some t.section) o) h)
-
-module _ (W : WordsOfBytes) where
-  pub node_taken_is_shown : NodeTakenIsShown
-  node_taken_is_shown settings g E p i cell life here h present =
-      chosen_is_shown g E p i cell (node_lives_are_runs W settings g E life) here
-      (of_lanes g E p i true (ap (λ (k : Given). eqb k.lanes 1) life.given) ∙ ap (λ (o : Option CellView). first_of o None)
-      (is_present_one (cell_of E p p i) cell h present))

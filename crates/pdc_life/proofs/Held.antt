@@ -1,5 +1,5 @@
 -- Held is the greatest count that came, with the first section of it.
-use Rattle.pdc_life.proofs.Names.{[], ◌++◌, ◌<◌, ◌∙◌, ◌∷◌, ◌≡◌, ◌≤◌, AllByRecursion, Answer, ap, arith, Arrive, Bool, came_at, came_for, cases_lt, cond, count_for, Entry, eqb, false, false≢true, filter, first_greatest, flat_map, Given, greater, held_section, HeldIsGreatest, inl, inr, is_candidate, IsFirstGreatest, IsHeld, IsLife, Layout, leb, List, ltb, map, node_answer, NodeHoldsGreatest, None, Option, ReadsFor, refl, Refused, rules, section_after, section_answer, SectionFields, sections_at, Settings, Some, StaleCount, subst, sym, true, ℕ}
+use Rattle.pdc_life.proofs.Names.{[], ◌++◌, ◌<◌, ◌∙◌, ◌∷◌, ◌≡◌, ◌≤◌, AllByRecursion, Answer, ap, arith, Arrive, Bool, came_at, came_for, cases_lt, cond, count_for, Entry, eqb, false, false≢true, filter, first_greatest, flat_map, Given, greater, held_section, HeldIsGreatest, inl, inr, is_candidate, IsFirstGreatest, IsHeld, IsLife, Layout, leb, List, ltb, map, node_answer, NodeHoldsGreatest, None, OfNode, Option, refl, Refused, rules, Says, section_after, section_answer, SectionFields, sections_at, Settings, Some, StaleCount, subst, sym, true, ℕ}
 use Rattle.pdc_life.proofs.Lists.{same_number}
 use Rattle.pdc_life.proofs.Steps.{life_before}
 
@@ -79,7 +79,7 @@ after_one low d s rest ss true true k h = after_accepted low (filter (passes low
 after_one low d s rest ss true false k h =
     after_refused low (filter (passes low) rest) (first_greatest (filter (passes low) ss)) s (leb low s.count) refl (sym (k refl)) h
 
-holds_greatest : (settings : Settings) (g : Given) (E : List Entry) (c : ℕ) → IsLife node_answer (ReadsFor settings) g E → IsHeld (came_for g E c) (held_section g E c)
+holds_greatest : (settings : Settings) (g : Given) (E : List Entry) (c : ℕ) → IsLife node_answer (Says (OfNode settings)) g E → IsHeld (came_for g E c) (held_section g E c)
 holds_greatest settings g [] c life = refl
 holds_greatest settings g (Arrive p bytes (Layout None ((d, s) ∷ [])) answer ∷ E) c life =
     after_one (count_for c g.counts) d s (flat_map (came_at c) E) (flat_map (sections_at c) E) (eqb d c) (is_candidate answer.outcome)
@@ -87,7 +87,7 @@ holds_greatest settings g (Arrive p bytes (Layout None ((d, s) ∷ [])) answer �
     ∙ ap (λ q. is_candidate (section_answer (count_for q g.counts) (held_section g E q) s)) (sym life.0.reads.0 ∙ same_number d c mine))
     (holds_greatest settings g E c life.2)
 holds_greatest settings g (Arrive p bytes (Layout stamp sections) answer ∷ E) c life = absurd life.0.reads
-holds_greatest settings g (e ∷ E) c life = holds_greatest settings g E c (life_before node_answer (ReadsFor settings) g e E life)
+holds_greatest settings g (e ∷ E) c life = holds_greatest settings g E c (life_before node_answer (Says (OfNode settings)) g e E life)
 
 pub node_holds_greatest : NodeHoldsGreatest
 node_holds_greatest settings g E c life = holds_greatest settings g E c life.life

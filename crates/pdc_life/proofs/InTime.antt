@@ -1,6 +1,6 @@
 -- What is taken came in time.
-use Rattle.pdc_life.proofs.Names.{[], ◌*◌, ◌+◌, ◌<◌, ◌∙◌, ◌∷◌, ◌≡◌, ◌≤◌, again_answer, Ahead, Answer, answer_in_time, ap, AreBelow, arith, bare, Bool, cell_of, cell_under, CellView, closed, cond, cond-false, cond_both, Data, data_answer, drop, Entry, eqb, false, false≢true, first_cause, Given, greatest, held_instants, held_layout, HeldLayout, inl, inr, is_near, is_other, is_taken, last_of, Late, length, List, list_all, list_any, ltb, merged_answer, merged_cells, merged_data_answer, nat_eq, nat_le, nat_lt, node_answer, None, not, now_of, Option, OtherStamp, Outcome, outcome_in_time, OutOfWindow, own_words, payload_len, pointwise, refl, Refused, RisingLaws, row_instants, rules, section_in_force, SectionFields, Some, stamp_words, sym, Take, take_of, Taken, true, word_count_of, words_in, WrongLength, ℕ}
-use Rattle.pdc_life.specs.InTime.{ClosedStayClosed, ComesInTime, MergerTakes, MergerTakesInTime, NodeTakes, NodeTakesInTime, TakenIsInTime}
+use Rattle.pdc_life.proofs.Names.{[], ◌*◌, ◌+◌, ◌<◌, ◌∙◌, ◌∷◌, ◌≡◌, ◌≤◌, again_answer, Ahead, Answer, answer_in_time, ap, AreBelow, arith, bare, Bool, cell_of, cell_under, CellView, closed, cond, cond-false, cond_both, CoreKind, Data, data_answer, drop, Entry, eqb, false, false≢true, first_cause, Given, greatest, held_instants, held_layout, HeldLayout, is_near, is_other, is_taken, last_of, Late, length, List, list_all, list_any, ltb, merged_cells, merged_data_answer, nat_eq, nat_le, nat_lt, None, not, now_of, OfMerger, OfNode, Option, OtherStamp, Outcome, outcome_in_time, OutOfWindow, own_words, payload_len, pointwise, refl, Refused, RisingLaws, row_instants, rules, rules_of, section_in_force, SectionFields, Some, stamp_words, sym, Take, take_of, Taken, true, word_count_of, words_in, WrongLength, ℕ}
+use Rattle.pdc_life.specs.InTime.{ClosedStayClosed, ComesInTime, TakenIsInTime, Takes, TakesInTime}
 use Rattle.pdc_life.specs.declared.outcome.Refusal.{Refusal}
 use Rattle.pdc_life.proofs.LifeLaws.{last_is}
 use Rattle.pdc_life.proofs.Lists.{is_same_text, same_length, text_is_same}
@@ -71,27 +71,6 @@ node_gives g E p i quality payload (Some s) k h =
     (λ (a : Answer). a.outcome ≡ Taken → NodeGives g E p i quality payload a) (λ e taken. absurd (false≢true (ap is_taken taken)))
     (λ e taken. record { section = s; in_force = k; size = same_length (length payload) (2 * word_count_of s.shape) e; is = refl }) h
 
-node_takes : (g : Given) (E : List Entry) (p i quality : ℕ) (payload : List ℕ) → (node_answer g E p (Data i quality payload)).outcome ≡ Taken
-    → NodeTakes g E p i payload
-node_takes g E p i quality payload h =
-    let k = node_gives g E p i quality payload (section_in_force g E p) refl h in
-    record {
-      section = k.section;
-      in_force = k.in_force;
-      size = k.size;
-      in_time = in_time g E p i (node_cells p quality payload k.section) (sym (ap (λ (a : Answer). a.outcome) k.is) ∙ h);
-    }
-
-taken_by_node : (g : Given) (E : List Entry) (p i quality : ℕ) (payload : List ℕ) → NodeTakes g E p i payload → (node_answer g E p (Data i quality payload)).outcome ≡ Taken
-taken_by_node g E p i quality payload t =
-    let cells : List (ℕ × CellView) = node_cells p quality payload t.section in
-    ap (λ (f : Option SectionFields). (data_answer g E p i quality payload f).outcome) t.in_force
-    ∙ put_on (not (eqb (length payload) (2 * word_count_of t.section.shape))) WrongLength (answer_in_time g E p i cells)
-    (search (rules, t.size)) (taken_in_time g E p i cells t.in_time)
-
-pub node_takes_in_time : NodeTakesInTime
-node_takes_in_time g E p i quality payload = (node_takes g E p i quality payload, taken_by_node g E p i quality payload)
-
 -- ---- the merger
 
 -- the words of the sections, behind those of the own block
@@ -129,28 +108,48 @@ merger_gives g E s i quality payload (Some layout) k h =
       is = refl;
     }))) h
 
-merger_takes : (g : Given) (E : List Entry) (s i quality : ℕ) (payload : List ℕ) → (merged_answer g E s (Data i quality payload)).outcome ≡ Taken
-    → MergerTakes g E s i payload
-merger_takes g E s i quality payload h =
+-- ---- what is taken, and what is not
+
+takes_so : (kind : CoreKind) (g : Given) (E : List Entry) (s i quality : ℕ) (payload : List ℕ) → (rules_of kind g E s (Data i quality payload)).outcome ≡ Taken
+    → Takes kind g E s i payload
+takes_so (OfNode settings) g E p i quality payload h =
+    let k = node_gives g E p i quality payload (section_in_force g E p) refl h in
+    record {
+      of_stream = record { section = k.section; in_force = k.in_force; size = k.size };
+      in_time = in_time g E p i (node_cells p quality payload k.section) (sym (ap (λ (a : Answer). a.outcome) k.is) ∙ h);
+    }
+takes_so (OfMerger settings) g E s i quality payload h =
     let k = merger_gives g E s i quality payload (held_layout E s) refl h in
     let cells : List (ℕ × CellView) = merged_cells g E quality k.layout.sections (node_words payload) in
-    record { layout = k.layout; held = k.held; stamp = k.stamp; size = k.size; in_time = in_time g E s i cells (sym (ap (λ (a : Answer). a.outcome) k.is) ∙ h) }
+    record {
+      of_stream = record { layout = k.layout; held = k.held; stamp = k.stamp; size = k.size };
+      in_time = in_time g E s i cells (sym (ap (λ (a : Answer). a.outcome) k.is) ∙ h);
+    }
 
-taken_by_merger : (g : Given) (E : List Entry) (s i quality : ℕ) (payload : List ℕ) → MergerTakes g E s i payload → (merged_answer g E s (Data i quality payload)).outcome ≡ Taken
-taken_by_merger g E s i quality payload t =
-    let cells : List (ℕ × CellView) = merged_cells g E quality t.layout.sections (node_words payload) in
-    let stamp : List ℕ = stamp_words t.layout.stamp.start t.layout.stamp.change in
+taken_so : (kind : CoreKind) (g : Given) (E : List Entry) (s i quality : ℕ) (payload : List ℕ) → Takes kind g E s i payload
+    → (rules_of kind g E s (Data i quality payload)).outcome ≡ Taken
+taken_so (OfNode settings) g E p i quality payload t =
+    let section : SectionFields = t.of_stream.section in
+    let cells : List (ℕ × CellView) = node_cells p quality payload section in
+    ap (λ (f : Option SectionFields). (data_answer g E p i quality payload f).outcome) t.of_stream.in_force
+    ∙ put_on (not (eqb (length payload) (2 * word_count_of section.shape))) WrongLength (answer_in_time g E p i cells)
+    (search (rules, t.of_stream.size)) (taken_in_time g E p i cells t.in_time)
+taken_so (OfMerger settings) g E s i quality payload t =
+    let layout : HeldLayout = t.of_stream.layout in
+    let cells : List (ℕ × CellView) = merged_cells g E quality layout.sections (node_words payload) in
+    let stamp : List ℕ = stamp_words layout.stamp.start layout.stamp.change in
     let last : Answer = answer_in_time g E s i cells in
-    let sized : Answer = cond (not (eqb (length payload) (payload_len t.layout.sections))) (bare (Refused WrongLength)) last in
+    let sized : Answer = cond (not (eqb (length payload) (payload_len layout.sections))) (bare (Refused WrongLength)) last in
     let stamped : Answer = cond (not (pointwise nat_eq (own_words payload) stamp)) (bare (Refused OtherStamp)) sized in
-    ap (λ (held : Option HeldLayout). (merged_data_answer g E s i quality payload held).outcome) t.held
-    ∙ put_on (ltb (length payload) 14) WrongLength stamped (search (rules, t.size))
-    (put_on (not (pointwise nat_eq (own_words payload) stamp)) OtherStamp sized (text_is_same (own_words payload) stamp (pointwise nat_eq (own_words payload) stamp) refl t.stamp)
-    (put_on (not (eqb (length payload) (payload_len t.layout.sections))) WrongLength last (search (rules, t.size))
+    ap (λ (held : Option HeldLayout). (merged_data_answer g E s i quality payload held).outcome) t.of_stream.held
+    ∙ put_on (ltb (length payload) 14) WrongLength stamped (search (rules, t.of_stream.size))
+    (put_on (not (pointwise nat_eq (own_words payload) stamp)) OtherStamp sized
+    (text_is_same (own_words payload) stamp (pointwise nat_eq (own_words payload) stamp) refl t.of_stream.stamp)
+    (put_on (not (eqb (length payload) (payload_len layout.sections))) WrongLength last (search (rules, t.of_stream.size))
     (taken_in_time g E s i cells t.in_time)))
 
-pub merger_takes_in_time : MergerTakesInTime
-merger_takes_in_time g E s i quality payload = (merger_takes g E s i quality payload, taken_by_merger g E s i quality payload)
+pub takes_in_time : TakesInTime
+takes_in_time kind g E s i quality payload = (takes_so kind g E s i quality payload, taken_so kind g E s i quality payload)
 
 -- ---- what closed stays closed
 
@@ -163,5 +162,4 @@ module _ (R : RisingLaws) where
       (omega (arith, k, l), R.below_higher (greatest g.floor (row_instants (closed E)) + 1) i (row_instants (closed E)) (omega (arith, l)) (R.below_greatest g.floor (row_instants (closed E))))
 
   pub closed_stay_closed : ClosedStayClosed
-  closed_stay_closed g E s i quality payload (inl h) = above_all g E s i (node_takes g E s i quality payload h).in_time
-  closed_stay_closed g E s i quality payload (inr h) = above_all g E s i (merger_takes g E s i quality payload h).in_time
+  closed_stay_closed kind g E s i quality payload h = above_all g E s i (takes_so kind g E s i quality payload h).in_time

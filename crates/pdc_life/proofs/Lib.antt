@@ -1,4 +1,5 @@
 pub mod Adoption
+pub mod CellData
 pub mod Closing
 pub mod Come
 pub mod Exact
@@ -12,12 +13,10 @@ pub mod InForce
 pub mod InTime
 pub mod LifeLaws
 mod Lists
-pub mod MergerData
 pub mod MergerReads
 pub mod MergerRuns
 mod Names
 pub mod NextRow
-pub mod NodeData
 pub mod NodeRuns
 pub mod OneLife
 pub mod OneReading

@@ -1,5 +1,5 @@
 -- Laws of all lives: steps make lives, rows come out once and rise, change numbers never fall; and wait rules agree.
-use Rattle.pdc_life.proofs.Names.{[], ◌++◌, ◌+◌, ◌==◌, ◌∙◌, ◌∷◌, ◌≡◌, ◌≤◌, AllByRecursion, answered, ap, append_assoc, arith, Arrival, Arrive, Bool, changes, ChangesNeverFall, ChangesRiseByOne, closed, closing, cond, drop, Entry, false, filter, Given, greatest, is_adoption, is_adoption_of, IsLife, IsReadStep, IsTicked, last_of, length, life_from, List, list_any, ltb, map, map-append, merged_answer, MergerLivesAreTicked, node_answer, OneStepMore, open_instants, Option, Pop, popped, ReadsFor, ReadsForMerger, ReadStep, refl, Rises, RisingLaws, row_instants, row_of, RowsComeOutOnce, RowsRise, RowView, Rules, rules, SameChangeSameSections, section_in_force, slice_get, StepsMakeMergerLives, StepsMakeNodeLives, subst, sym, Take, takes, Tick, TickAnswer, ToArrive, waiting, ℕ}
+use Rattle.pdc_life.proofs.Names.{[], ◌++◌, ◌+◌, ◌==◌, ◌∙◌, ◌∷◌, ◌≡◌, ◌≤◌, AllByRecursion, answered, ap, append_assoc, arith, Arrival, Arrive, Bool, changes, ChangesNeverFall, ChangesRiseByOne, closed, closing, cond, drop, Entry, false, filter, Given, greatest, is_adoption, is_adoption_of, IsLife, IsReadStep, IsTicked, last_of, length, life_from, List, list_any, ltb, map, map-append, OneStepMore, open_instants, Option, Pop, popped, ReadStep, refl, Rises, RisingLaws, row_instants, row_of, RowsComeOutOnce, RowsRise, RowView, Rules, rules, rules_of, SameChangeSameSections, Says, section_in_force, slice_get, StepsMakeLives, subst, sym, Take, takes, Tick, TickAnswer, ToArrive, waiting, ℕ}
 use Rattle.std.specs.Option.{option_to_list}
 use Rattle.pdc_life.proofs.Lists.{by_cases}
 use Rattle.pdc_life.proofs.Steps.{ticked_before}
@@ -64,25 +64,17 @@ changes_rise_by_one E e =
     by_cases (λ (b : Bool). length (cond b (e ∷ filter is_adoption E) (filter is_adoption E)) ≡ cond b (changes E + 1) (changes E)) (is_adoption e)
     (λ h. omega arith) (λ h. refl)
 
-pub merger_lives_are_ticked : MergerLivesAreTicked
-merger_lives_are_ticked settings g E life = lives_are_ticked merged_answer (ReadsForMerger settings) g E life.life
-
 read_step_life : (rules : Rules) (Says : ℕ → List ℕ → Arrival → Type 0) (g : Given) (E : List Entry) (step : ReadStep) → IsLife rules Says g E → IsReadStep Says step → IsLife rules Says g (answered rules g E step ∷ E)
 read_step_life rules Says g E (ToArrive s bytes arrival) life says = (says, refl, life)
 read_step_life rules Says g E step life says = (refl, life)
 
-steps_make_lives : (rules : Rules) (Says : ℕ → List ℕ → Arrival → Type 0) (g : Given) (E : List Entry) (steps : List ReadStep) → IsLife rules Says g E → AllByRecursion (IsReadStep Says) steps → IsLife rules Says g (life_from rules g E steps)
-steps_make_lives rules Says g E [] life says = life
-steps_make_lives rules Says g E (step ∷ steps) life says =
-    steps_make_lives rules Says g (answered rules g E step ∷ E) steps (read_step_life rules Says g E step life says.0) says.1
+life_goes_on : (rules : Rules) (Says : ℕ → List ℕ → Arrival → Type 0) (g : Given) (E : List Entry) (steps : List ReadStep) → IsLife rules Says g E → AllByRecursion (IsReadStep Says) steps → IsLife rules Says g (life_from rules g E steps)
+life_goes_on rules Says g E [] life says = life
+life_goes_on rules Says g E (step ∷ steps) life says =
+    life_goes_on rules Says g (answered rules g E step ∷ E) steps (read_step_life rules Says g E step life says.0) says.1
 
-pub steps_make_node_lives : StepsMakeNodeLives
-steps_make_node_lives settings g E steps life says =
-    record { given = life.given; life = steps_make_lives node_answer (ReadsFor settings) g E steps life.life says }
-
-pub steps_make_merger_lives : StepsMakeMergerLives
-steps_make_merger_lives settings g E steps life says =
-    record { given = life.given; life = steps_make_lives merged_answer (ReadsForMerger settings) g E steps life.life says }
+pub steps_make_lives : StepsMakeLives
+steps_make_lives kind g E steps life says = record { given = life.given; life = life_goes_on (rules_of kind) (Says kind) g E steps life.life says }
 
 -- ---- what follows from the laws of rising numbers: rows rise
 

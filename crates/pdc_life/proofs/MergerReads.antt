@@ -1,8 +1,9 @@
--- Bytes that arrive from a node say one thing at the merger.
-use Rattle.pdc_life.proofs.Names.{[], ◌==◌, ◌||◌, ◌∙◌, ◌∷◌, ◌≡◌, AllByRecursion, ap, AreOfTable, Arrival, BadOwnBlock, BadTag, Bool, BytesRefused, cast_unsigned, ConfigFields, Data, eqb, false≢true, HasSections, Hz50, Hz60, inl, inr, IsOwn, Layout, List, list_any, map, MergedNode, MergerReadsOnce, MergerSettings, NoConfiguration, NoFrame, None, none-some, not, own_bytes, OwnSectionsTellStamps, ReadsForMerger, ReadsFrom, refl, rules, same_Some, SectionFields, slice_get, Some, Stamp, stream_from, subst, suc, sym, true, UnknownSource, w16, WrongId, WrongKind, WrongRate, WrongTimeBase, zero, ℕ}
+-- Bytes say one thing: those that arrive from a node at the merger, and so those of a PMU.
+use Rattle.pdc_life.proofs.Names.{[], ◌==◌, ◌||◌, ◌∙◌, ◌∷◌, ◌≡◌, AllByRecursion, ap, AreOfTable, Arrival, BadOwnBlock, BadTag, Bool, BytesRefused, cast_unsigned, ConfigFields, Data, eqb, false≢true, HasSections, Hz50, Hz60, inl, inr, IsOwn, Layout, List, list_any, map, MergedNode, MergerSettings, NoConfiguration, NoFrame, None, none-some, not, OfMerger, OfNode, own_bytes, OwnSectionsTellStamps, ReadsFrom, ReadsOnce, refl, rules, same_Some, SectionFields, slice_get, Some, Stamp, stream_from, subst, suc, sym, true, UnknownSource, w16, WrongId, WrongKind, WrongRate, WrongTimeBase, zero, ℕ}
 use Rattle.pdc_output.specs.declared.output.Nominal.{Nominal}
 use Rattle.pdc_life.specs.Distinct.{are_distinct}
 use Rattle.pdc_life.proofs.Lists.{both, by_cases, heads}
+use Rattle.pdc_life.proofs.OneReading.{node_reads_once}
 use Rattle.pdc_life.proofs.Stages.{Just, of_broken, of_config, of_data, of_foreign, of_no_instant, of_other_kind, ReadOnce, same_just, same_staged, same_unless, SayOne, Staged, Unless}
 
 -- ---- the table tells the column of a source
@@ -118,12 +119,8 @@ module _ (laws : ReadOnce) (tell : OwnSectionsTellStamps) where
       with_sections settings node bytes h.own h.others _ h.has (inr (stamp, h.itself, inr (parts, h.of_table, refl)))
   staged settings node bytes (Layout None parts) h = absurd h
 
-  pub merger_reads_once : MergerReadsOnce
-  merger_reads_once settings node bytes a b h k =
+  pub reads_once : ReadsOnce
+  reads_once (OfNode settings) p pmu bytes a b h k = node_reads_once laws settings p pmu bytes a b h k
+  reads_once (OfMerger settings) s node bytes a b h k =
       same_staged laws (stream_from settings node) (InConfig settings node) (same_in_config settings node) bytes a b (staged settings node bytes a h)
       (staged settings node bytes b k)
-
-  pub for_nodes : (settings : MergerSettings) (s : ℕ) (bytes : List ℕ) (a b : Arrival) → ReadsForMerger settings s bytes a → ReadsForMerger settings s bytes b → a ≡ b
-  for_nodes settings s bytes a b h k =
-      let node : h.node ≡ k.node = same_Some h.node k.node (sym h.listed ∙ k.listed) in
-      merger_reads_once settings k.node bytes a b (subst (λ (n : MergedNode). ReadsFrom settings n bytes a) node h.reads) k.reads

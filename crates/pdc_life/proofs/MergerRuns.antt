@@ -1,12 +1,12 @@
--- Lives of the merger are runs.
-use Rattle.pdc_life.proofs.Names.{[], if◌then◌else◌, ◌*◌, ◌++◌, ◌+◌, ◌<◌, ◌==◌, ◌∙◌, ◌∷◌, ◌≡◌, ◌≤◌, AllByRecursion, Answer, ap, AreBytes, AreSound, AreWords, arith, Arrival, Bool, BytesRefused, Candidate, cast_signed, cast_unsigned, cell_under, CellView, cond, cond_both, ConfigFields, CountConflict, Data, drop, Entry, false, false≢true, get_or-drop, Given, given_of_merger, has_count_conflict, HaveColumns, held_layout, HeldLayout, is_in_force, is_older, is_taken, IsConfig, IsInTime, IsLayoutOf, IsLife, IsMergerLife, IsOfSectionInForce, IsSection, IsSound, Known, Layout, layout_answer, length, length-drop, length-take-le, List, map, merged_answer, merged_cells, MergedNode, MergerLivesAreRuns, MergerSettings, nodes_of, None, not, OldStamp, Option, payload_of, range_with_len, ReadsForMerger, refl, Refused, Rises, rules, section_in_force, SectionFields, slice_get, slice_get_within, Some, Stamp, Stream, stream_from, streams_of, subst, suc, sum, sym, take, Taken, to_be_bytes, true, w16, w32, word_count_of, words_in, WordsOfBytes, zero, ℕ}
+-- Lives are runs: of a node, and of the merger.
+use Rattle.pdc_life.proofs.Names.{[], if◌then◌else◌, ◌*◌, ◌++◌, ◌+◌, ◌<◌, ◌==◌, ◌∙◌, ◌∷◌, ◌≡◌, ◌≤◌, AllByRecursion, Answer, ap, AreBytes, AreSound, AreWords, arith, Arrival, Bool, BytesRefused, Candidate, cast_signed, cast_unsigned, cell_under, CellView, cond, cond_both, ConfigFields, CoreKind, CountConflict, Data, drop, Entry, false, false≢true, get_or-drop, Given, given_of, has_count_conflict, HaveColumns, held_layout, HeldLayout, is_in_force, is_older, is_taken, IsConfig, IsInTime, IsLayoutOf, IsLife, IsLifeOf, IsOfSectionInForce, IsSection, IsSound, Known, Layout, layout_answer, length, length-drop, length-take-le, List, LivesAreRuns, map, merged_answer, merged_cells, MergedNode, MergerSettings, nodes_of, None, not, OfMerger, OfNode, OldStamp, Option, payload_of, range_with_len, refl, Refused, Rises, rules, rules_of, Says, section_in_force, SectionFields, slice_get, slice_get_within, Some, Stamp, Stream, stream_from, streams_of, subst, suc, sum, sym, take, Taken, to_be_bytes, true, w16, w32, word_count_of, words_in, WordsOfBytes, zero, ℕ}
 use Rattle.std.proofs.lemmas.List.Sums.{sum_by-cons}
 use Rattle.pdc_life.proofs.Come.{in_force_whole}
 use Rattle.pdc_life.proofs.Frames.{words_cons, words_none}
 use Rattle.pdc_life.proofs.InTime.{merger_gives, MergerGives, node_words}
 use Rattle.pdc_life.proofs.LifeLaws.{lives_are_ticked}
 use Rattle.pdc_life.proofs.Lists.{by_each, heads, May, of_each, same_number}
-use Rattle.pdc_life.proofs.NodeRuns.{data_has_tag, data_is_bytes, in_time_of, lives_are_sound, not_either}
+use Rattle.pdc_life.proofs.NodeRuns.{data_has_tag, data_is_bytes, facts_of, in_time_of, lives_are_sound, node_is_sound, not_either}
 use Rattle.pdc_life.proofs.SameCount.{of_held_layout, same_count_same_section}
 
 -- what the law of configurations says
@@ -73,11 +73,11 @@ of_layout settings g node bytes stamp parts n h =
     }
 
 held_facts : (settings : MergerSettings) (g : Given) (E : List Entry) (s : ℕ) → g.columns ≡ length settings.sources.items
-    → IsLife merged_answer (ReadsForMerger settings) g E
+    → IsLife merged_answer (Says (OfMerger settings)) g E
     → May (λ (h : HeldLayout). Facts g h.sections) (held_layout E s)
 held_facts settings g E s n life =
     of_held_layout settings g (λ F h. Facts g h.sections) (λ F e h k. k)
-    (λ F r bytes stamp parts answer reads is accepted. of_layout settings g reads.node bytes stamp parts n reads.reads) E s life
+    (λ F r bytes stamp parts answer reads is accepted. of_layout settings g reads.sender bytes stamp parts n reads.reads) E s life
 
 -- ---- the cells of data
 
@@ -165,15 +165,15 @@ layout_not (Some held) stamp conflicts =
     not_either (is_older stamp held.stamp) (Refused OldStamp) _ refl
     (not_either (not (is_older held.stamp stamp)) Known _ refl (not_either conflicts (Refused CountConflict) Candidate refl refl))
 
-of_two : (settings : MergerSettings) (g : Given) (E : List Entry) (s : ℕ) (bytes : List ℕ) (arrival : Arrival) → g ≡ given_of_merger settings g.start g.floor g.counts g.opening → ReadsForMerger settings s bytes arrival → s < length (streams_of g)
+of_two : (settings : MergerSettings) (g : Given) (E : List Entry) (s : ℕ) (bytes : List ℕ) (arrival : Arrival) → g ≡ given_of (OfMerger settings) g.start g.floor g.counts g.opening → Says (OfMerger settings) s bytes arrival → s < length (streams_of g)
 of_two settings g E s bytes arrival given r =
-    let below : s < length (nodes_of settings) = slice_get_within (nodes_of settings) s r.node r.listed in
+    let below : s < length (nodes_of settings) = slice_get_within (nodes_of settings) s r.sender r.listed in
     let lanes : g.lanes ≡ 2 = ap (λ (k : Given). k.lanes) given in
     let size : length (streams_of g) ≡ 2 = ap (λ n. length (range_with_len 0 (if n == 1 then g.columns else 2))) lanes in
     omega (arith, below, size)
 
 module _ (once : OneConfig) where
-  pub all_same : (settings : MergerSettings) (g : Given) (E : List Entry) (s : ℕ) (layout : HeldLayout) → IsMergerLife settings g E → AreSound g E
+  pub all_same : (settings : MergerSettings) (g : Given) (E : List Entry) (s : ℕ) (layout : HeldLayout) → IsLifeOf (OfMerger settings) g E → AreSound g E
       → held_layout E s ≡ Some layout → AllByRecursion (IsSame g E) layout.sections
   all_same settings g E s layout life sound held =
       let facts : Facts g layout.sections =
@@ -183,7 +183,7 @@ module _ (once : OneConfig) where
       (subst (May IsSection) f (in_force_whole g E part.0 sound)) (same_count_same_section settings g E s part.0 layout part.1 u life held among f e))
 
 module _ (once : OneConfig) (W : WordsOfBytes) where
-  in_time_at : (settings : MergerSettings) (g : Given) (E : List Entry) (s i quality : ℕ) (payload : List ℕ) (answer : Answer) → IsMergerLife settings g E
+  in_time_at : (settings : MergerSettings) (g : Given) (E : List Entry) (s i quality : ℕ) (payload : List ℕ) (answer : Answer) → IsLifeOf (OfMerger settings) g E
       → AreSound g E → i < 4294967296 * g.output.rate → AreBytes payload
       → MergerGives g E s i quality payload answer → answer.outcome ≡ Taken → IsInTime g E s (Data i quality payload) answer
   in_time_at settings g E s i quality payload answer life sound tag bytes k h =
@@ -199,7 +199,7 @@ module _ (once : OneConfig) (W : WordsOfBytes) where
       (cells_of_sections g E quality sections words (all_same once settings g E s k.layout life sound k.held) left fits)
       (λ lane. absurd (two_not_one g.lanes (ap (λ (q : Given). q.lanes) life.given) lane))
 
-  sound_at : (settings : MergerSettings) (g : Given) (E : List Entry) (s : ℕ) (bytes : List ℕ) (arrival : Arrival) → IsMergerLife settings g E → AreSound g E → s < length (streams_of g) → ReadsForMerger settings s bytes arrival
+  sound_at : (settings : MergerSettings) (g : Given) (E : List Entry) (s : ℕ) (bytes : List ℕ) (arrival : Arrival) → IsLifeOf (OfMerger settings) g E → AreSound g E → s < length (streams_of g) → Says (OfMerger settings) s bytes arrival
       → IsSound g E s arrival (merged_answer g E s arrival)
   sound_at settings g E s bytes (BytesRefused refusal) life sound here r = record {
     stream = here;
@@ -209,7 +209,7 @@ module _ (once : OneConfig) (W : WordsOfBytes) where
   }
   sound_at settings g E s bytes (Data i quality payload) life sound here r =
       let rate : settings.output.rate ≡ g.output.rate = sym (ap (λ (k : Given). k.output.rate) life.given) in
-      let stream : Stream = stream_from settings r.node in
+      let stream : Stream = stream_from settings r.sender in
       record {
         stream = here;
         taken = λ h. in_time_at settings g E s i quality payload (merged_answer g E s (Data i quality payload)) life sound
@@ -219,7 +219,7 @@ module _ (once : OneConfig) (W : WordsOfBytes) where
         sections = tt;
       }
   sound_at settings g E s bytes (Layout (Some stamp) parts) life sound here r =
-      let facts : Facts g parts = of_layout settings g r.node bytes stamp parts (ap (λ (k : Given). k.columns) life.given) r.reads in
+      let facts : Facts g parts = of_layout settings g r.sender bytes stamp parts (ap (λ (k : Given). k.columns) life.given) r.reads in
       record {
         stream = here;
         taken = λ h. absurd (false≢true (sym (layout_not (held_layout E s) stamp (has_count_conflict g E parts)) ∙ ap is_taken h));
@@ -228,10 +228,17 @@ module _ (once : OneConfig) (W : WordsOfBytes) where
       }
   sound_at settings g E s bytes (Layout None parts) life sound here r = absurd r.reads
 
-  pub merger_lives_are_runs : MergerLivesAreRuns
-  merger_lives_are_runs settings g E life = record {
-    ticked = lives_are_ticked merged_answer (ReadsForMerger settings) g E life.life;
-    sound = lives_are_sound merged_answer (ReadsForMerger settings) g
-        (λ F s bytes arrival before known r. sound_at settings g F s bytes arrival (record { given = life.given; life = before }) known
-        (of_two settings g F s bytes arrival life.given r) r) E life.life;
+  -- each step of a life is sound
+  step_is_sound : (kind : CoreKind) (g : Given) (E : List Entry) (s : ℕ) (bytes : List ℕ) (arrival : Arrival) → IsLifeOf kind g E → AreSound g E → Says kind s bytes arrival
+      → IsSound g E s arrival (rules_of kind g E s arrival)
+  step_is_sound (OfNode settings) g E p bytes arrival life known r =
+      node_is_sound W settings g E p bytes arrival (ap (λ (h : Given). h.output.rate) life.given) (facts_of settings g p bytes arrival life.given r) r
+  step_is_sound (OfMerger settings) g E s bytes arrival life known r =
+      sound_at settings g E s bytes arrival life known (of_two settings g E s bytes arrival life.given r) r
+
+  pub lives_are_runs : LivesAreRuns
+  lives_are_runs kind g E life = record {
+    ticked = lives_are_ticked (rules_of kind) (Says kind) g E life.life;
+    sound = lives_are_sound (rules_of kind) (Says kind) g
+        (λ F s bytes arrival before known r. step_is_sound kind g F s bytes arrival (record { given = life.given; life = before }) known r) E life.life;
   }

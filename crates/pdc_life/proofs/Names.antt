@@ -34,22 +34,22 @@ unfoldable pub use Rattle.pdc_output.specs.pdc_tag.Nearest.{nearest_of}
 unfoldable pub use Rattle.pdc_output.specs.pdc_tag.Tag.{tag_of}
 pub use Rattle.pdc_life.specs.Answer.{again_answer, answer_in_time, answered, bare, first_cause, has_change, is_newer, is_other, is_ready, IsLife, IsReadStep, life_from, outcome_in_time, ReadStep, ready_columns, Rules, Step, step_of, steps_of, tick_answer, ToArrive, ToPop, ToTick, waiting_counts}
 pub use Rattle.pdc_life.specs.Arrival.{Arrival, BytesRefused, Data, Layout, Stamp}
-pub use Rattle.pdc_life.specs.Gave.{AreExact, Gave, GavePresent, GaveShown, GaveUnderSection, IsExact, IsExactRow, IsWorstShown, MergerTakenIsGiven, NodeTakenIsGiven, place_of, PlacesAreOfLayouts, PresentExactlyWhereGiven, QualityIsWorstShown, RowsAreExact, ShallShow, ShallShowCell, ShallShowSome}
-pub use Rattle.pdc_life.specs.Genuine.{AreGenuine, BlocksAreGenuine, CellsWereGiven, ChosenIsShown, IsGenuine, IsGenuineRow, IsNodeData, NodeCellsAreData, NodeTakenIsShown, RowsAreGenuine, with_section}
-pub use Rattle.pdc_life.specs.Given.{columns_of, count_for, Given, IsGivenBy, streams_of}
-pub use Rattle.pdc_life.specs.Laws.{ChangesNeverFall, ChangesRiseByOne, InForceIsCleared, IsRowOfTick, MergerLivesAreTicked, NodeLivesAreRuns, NoneOvertakes, RowsAreOfTheirTicks, RowsComeOutOnce, RowsRise, SameChangeSameSections}
+pub use Rattle.pdc_life.specs.CoreKind.{CoreKind, given_of, IsLifeOf, OfMerger, OfNode, ReadsAs, rules_of, Says, SenderOf}
+pub use Rattle.pdc_life.specs.Gave.{AreExact, Gave, GavePresent, GaveShown, GaveUnderSection, IsExact, IsExactRow, IsWorstShown, place_of, PlacesAreOfLayouts, PresentExactlyWhereGiven, QualityIsWorstShown, RowsAreExact, ShallShow, ShallShowCell, ShallShowSome, TakenIsGiven}
+pub use Rattle.pdc_life.specs.Genuine.{AreGenuine, BlocksAreGenuine, CellsWereGiven, ChosenIsShown, IsGenuine, IsGenuineRow, RowsAreGenuine, TakenIsShown, with_section}
+pub use Rattle.pdc_life.specs.Given.{columns_of, count_for, Given, streams_of}
+pub use Rattle.pdc_life.specs.Laws.{ChangesNeverFall, ChangesRiseByOne, InForceIsCleared, IsRowOfTick, LivesAreRuns, NoneOvertakes, RowsAreOfTheirTicks, RowsComeOutOnce, RowsRise, SameChangeSameSections}
 pub use Rattle.pdc_life.specs.Life.{Answer, Arrive, cell_in, cell_of, changes, cleared_count, closed, Entry, first_greatest, greater, held_instants, held_section, is_adoption, is_adoption_of, is_candidate, is_of_column, is_take_of, is_taken, last_of, now_of, open_instants, Pop, popped, section_in_force, sections_at, sections_for, Take, take_at, take_of, takes, takes_since_adopted, Tick, TickAnswer, waiting}
 pub use Rattle.pdc_life.specs.Merger.{differs_from, has_count_conflict, held_layout, HeldLayout, is_in_force, is_older, layout_answer, merged_answer, merged_cells, merged_data_answer, own_words, payload_len}
-pub use Rattle.pdc_life.specs.MergerLaws.{MergerLivesAreRuns, MergerReadsOnce, SameCountSameSection}
-pub use Rattle.pdc_life.specs.MergerReading.{AreOfTable, given_of_merger, HasSections, IsLayoutOf, IsMergerLife, IsOwn, nodes_of, ReadsForMerger, ReadsFrom, stream_from}
-pub use Rattle.pdc_life.specs.Node.{cell_under, data_answer, node_answer, ReadsFor, section_after, section_answer}
+pub use Rattle.pdc_life.specs.MergerReading.{AreOfTable, HasSections, IsLayoutOf, IsOwn, nodes_of, ReadsFrom, stream_from}
+pub use Rattle.pdc_life.specs.Node.{cell_under, data_answer, node_answer, section_after, section_answer}
 pub use Rattle.pdc_life.specs.NodeReading.{IsValid, Reads, stream_of}
-pub use Rattle.pdc_life.specs.OneLife.{NodeReadsOnce, OneStepMore, StepsMakeMergerLives, StepsMakeNodeLives}
+pub use Rattle.pdc_life.specs.OneLife.{OneStepMore, ReadsOnce, StepsMakeLives}
 pub use Rattle.pdc_life.specs.Published.{layout_wire, published, sections_in_force}
 pub use Rattle.pdc_life.specs.Reading.{HasConfig, HasNoInstant, IsBroken, IsData, IsForeign, IsOfStream, IsOtherKind, Stream}
 pub use Rattle.pdc_life.specs.Row.{block_in, chosen_of, closing, first_cell, is_due, quality_in, row_of, second_cell}
 pub use Rattle.pdc_life.specs.Run.{AreSound, HaveColumns, IsInTime, IsOfSectionInForce, IsRun, IsSound, IsTicked}
-pub use Rattle.pdc_life.specs.Sections.{came_at, came_for, CountsNeverFall, HasCome, HeldHasCome, HeldIsGreatest, HeldIsSection, InForceHasCome, InForceIsSection, IsFirstGreatest, IsHeld, KeepsCount, NodeHoldsGreatest}
+pub use Rattle.pdc_life.specs.Sections.{came_at, came_for, CountsNeverFall, HasCome, HeldHasCome, HeldIsGreatest, HeldIsSection, InForceHasCome, InForceIsSection, IsFirstGreatest, IsHeld, KeepsCount, NodeHoldsGreatest, SameCountSameSection}
 pub use Rattle.pdc_life.specs.Tagged.{NextIsAbove, RowsHaveTags}
 pub use Rattle.pdc_life.specs.declared.given.Settings.{Settings}
 pub use Rattle.pdc_life.specs.declared.merging.MergedNode.{MergedNode}

@@ -1,9 +1,8 @@
--- Lives of a node are runs.
-use Rattle.pdc_life.proofs.Names.{[], if◌then◌else◌, ◌*◌, ◌+◌, ◌<◌, ◌==◌, ◌∙◌, ◌∷◌, ◌≡◌, ◌≤◌, AllByRecursion, Answer, answer_in_time, ap, AreBytes, AreSound, AreWords, arith, Arrival, Arrive, Bool, BytesRefused, Candidate, cases_lt, cell_under, CellView, cond, count_for, CountConflict, Data, Entry, false, false≢true, Given, HaveColumns, held_section, inl, inr, is_taken, IsData, IsGivenBy, IsInstant, IsInTime, IsLife, IsOfSectionInForce, IsSection, IsSound, IsValid, Known, Layout, length, length-range_with_len, List, ltb, nat_eq, node_answer, NodeLivesAreRuns, None, Option, Outcome, Pmu, pointwise, range_with_len, ReadsFor, refl, Refused, Rules, section_after, section_answer, section_in_force, SectionFields, Settings, slice_get_within, Some, StaleCount, Stream, stream_of, streams_of, subst, sym, Taken, true, word_count_of, words_in, WordsOfBytes, ℕ}
+-- What is taken at a node is sound.
+use Rattle.pdc_life.proofs.Names.{[], if◌then◌else◌, ◌*◌, ◌+◌, ◌<◌, ◌==◌, ◌∙◌, ◌∷◌, ◌≡◌, ◌≤◌, AllByRecursion, Answer, answer_in_time, ap, AreBytes, AreSound, AreWords, arith, Arrival, Arrive, Bool, BytesRefused, Candidate, cases_lt, cell_under, CellView, cond, count_for, CountConflict, Data, Entry, false, false≢true, Given, given_of, HaveColumns, held_section, inl, inr, is_taken, IsData, IsInstant, IsInTime, IsLife, IsOfSectionInForce, IsSection, IsSound, IsValid, Known, Layout, length, length-range_with_len, List, ltb, nat_eq, node_answer, None, OfNode, Option, Outcome, Pmu, pointwise, range_with_len, refl, Refused, Rules, Says, section_after, section_answer, section_in_force, SectionFields, Settings, slice_get_within, Some, StaleCount, Stream, stream_of, streams_of, subst, sym, Taken, true, word_count_of, words_in, WordsOfBytes, ℕ}
 use Rattle.std.proofs.Math.Nat.{mul-le-mul_right}
 use Rattle.pdc_output.specs.pdc_tag.Slot.{IsSlot}
 use Rattle.pdc_life.proofs.InTime.{node_cells, node_gives, taken_cells}
-use Rattle.pdc_life.proofs.LifeLaws.{lives_are_ticked}
 
 pub not_either : (b : Bool) (o q : Outcome) → is_taken o ≡ false → is_taken q ≡ false → is_taken (cond b o q) ≡ false
 not_either true o q h k = h
@@ -80,11 +79,11 @@ of_valid settings pmu bytes s h =
 own_column : {A : Type 0} (g : Given) (p : ℕ) (a : A) → p < g.columns → HaveColumns g ((p, a) ∷ [])
 own_column g p a h = record { rise = (omega arith, tt); exist = (h, tt) }
 
-facts_of : (settings : Settings) (g : Given) (p : ℕ) (bytes : List ℕ) (arrival : Arrival) → IsGivenBy settings g → ReadsFor settings p bytes arrival
+pub facts_of : (settings : Settings) (g : Given) (p : ℕ) (bytes : List ℕ) (arrival : Arrival) → g ≡ given_of (OfNode settings) g.start g.floor g.counts g.opening → Says (OfNode settings) p bytes arrival
     → (p < g.columns) × (p < length (streams_of g))
 facts_of settings g p bytes arrival given r =
     let number : g.columns ≡ length settings.pmus.items = ap (λ (h : Given). h.columns) given in
-    let here : p < g.columns = omega (arith, number, slice_get_within settings.pmus.items p r.pmu r.listed) in
+    let here : p < g.columns = omega (arith, number, slice_get_within settings.pmus.items p r.sender r.listed) in
     let one : g.lanes ≡ 1 = ap (λ (h : Given). h.lanes) given in
     let size : length (streams_of g) ≡ g.columns =
     ap (λ n. length (range_with_len 0 (if n == 1 then g.columns else 2))) one ∙ length-range_with_len 0 g.columns in
@@ -93,21 +92,21 @@ facts_of settings g p bytes arrival given r =
 -- ---- what follows from the law of words
 
 module _ (W : WordsOfBytes) where
-  sound : (settings : Settings) (g : Given) (E : List Entry) (p : ℕ) (bytes : List ℕ) (arrival : Arrival) → g.output.rate ≡ settings.output.rate
-      → (p < g.columns) × (p < length (streams_of g)) → ReadsFor settings p bytes arrival → IsSound g E p arrival (node_answer g E p arrival)
-  sound settings g E p bytes (BytesRefused refusal) rate facts r = record {
+  pub node_is_sound : (settings : Settings) (g : Given) (E : List Entry) (p : ℕ) (bytes : List ℕ) (arrival : Arrival) → g.output.rate ≡ settings.output.rate
+      → (p < g.columns) × (p < length (streams_of g)) → Says (OfNode settings) p bytes arrival → IsSound g E p arrival (node_answer g E p arrival)
+  node_is_sound settings g E p bytes (BytesRefused refusal) rate facts r = record {
     stream = facts.1;
     taken = λ h. absurd (false≢true (ap is_taken h));
     columns = record { rise = tt; exist = tt };
     sections = tt;
   }
-  sound settings g E p bytes (Data i quality payload) rate facts r =
-      let tag : i < 4294967296 * settings.output.rate = data_has_tag (stream_of settings r.pmu) bytes i quality payload r.reads in
+  node_is_sound settings g E p bytes (Data i quality payload) rate facts r =
+      let tag : i < 4294967296 * settings.output.rate = data_has_tag (stream_of settings r.sender) bytes i quality payload r.reads in
       record {
         stream = facts.1;
         taken = λ h.
             let k = node_gives g E p i quality payload (section_in_force g E p) refl h in
-            let fits : AreWords (words_in payload) = W.fit payload (data_is_bytes (stream_of settings r.pmu) bytes i quality payload r.reads) in
+            let fits : AreWords (words_in payload) = W.fit payload (data_is_bytes (stream_of settings r.sender) bytes i quality payload r.reads) in
             let count : length (words_in payload) ≡ word_count_of k.section.shape = W.count payload (word_count_of k.section.shape) k.size in
             in_time_of g E p i quality payload (node_cells p quality payload k.section) (node_answer g E p (Data i quality payload)) k.is h
             (subst (λ n. i < 4294967296 * n) (sym rate) tag) (own_column g p (cell_under k.section quality (words_in payload)) facts.0)
@@ -115,18 +114,10 @@ module _ (W : WordsOfBytes) where
         columns = record { rise = tt; exist = tt };
         sections = tt;
       }
-  sound settings g E p bytes (Layout None ((c, s) ∷ [])) rate facts r = record {
+  node_is_sound settings g E p bytes (Layout None ((c, s) ∷ [])) rate facts r = record {
     stream = facts.1;
     taken = λ h. absurd (false≢true (sym (section_not (count_for p g.counts) (held_section g E p) s) ∙ ap is_taken h));
     columns = own_column g c s (subst (λ n. n < g.columns) (sym r.reads.0) facts.0);
-    sections = (of_valid settings r.pmu bytes s r.reads.1, tt);
+    sections = (of_valid settings r.sender bytes s r.reads.1, tt);
   }
-  sound settings g E p bytes (Layout stamp sections) rate facts r = absurd r.reads
-
-  pub node_lives_are_runs : NodeLivesAreRuns
-  node_lives_are_runs settings g E life = record {
-    ticked = lives_are_ticked node_answer (ReadsFor settings) g E life.life;
-    sound = lives_are_sound node_answer (ReadsFor settings) g
-        (λ F p bytes arrival before known r. sound settings g F p bytes arrival (ap (λ (h : Given). h.output.rate) life.given)
-        (facts_of settings g p bytes arrival life.given r) r) E life.life;
-  }
+  node_is_sound settings g E p bytes (Layout stamp sections) rate facts r = absurd r.reads

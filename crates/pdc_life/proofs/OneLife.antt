@@ -1,16 +1,17 @@
 -- Two answers to one step cannot both hold, so steps have one life.
-use Rattle.pdc_life.proofs.Names.{[], ◌++◌, ◌∙◌, ◌∷◌, ◌≡◌, Answer, ap, arith, Arrival, Arrive, Entry, Given, IsLife, length, length-append, List, NodeReadsOnce, Pmu, Pop, Reads, ReadsFor, refl, Rules, same_Some, Settings, Step, step_of, steps_of, subst, sym, Tick, tick_answer, ℕ}
+use Rattle.pdc_life.proofs.Names.{[], ◌++◌, ◌∙◌, ◌∷◌, ◌≡◌, Answer, ap, arith, Arrival, Arrive, CoreKind, Entry, Given, IsLife, length, length-append, List, Pop, ReadsAs, ReadsOnce, refl, Rules, rules_of, same_Some, Says, SenderOf, Step, step_of, steps_of, subst, sym, Tick, tick_answer, ℕ}
+use Rattle.pdc_life.specs.OneLife.{AnswersAreOne, StepsHaveOneLife}
 use Rattle.pdc_life.proofs.Steps.{life_before}
 
--- what arrives for a stream of the settings says one thing
-pub for_streams : NodeReadsOnce → (settings : Settings) (p : ℕ) (bytes : List ℕ) (a b : Arrival) → ReadsFor settings p bytes a → ReadsFor settings p bytes b → a ≡ b
-for_streams once settings p bytes a b h k =
-    let pmu : h.pmu ≡ k.pmu = same_Some h.pmu k.pmu (sym h.listed ∙ k.listed) in
-    once settings p k.pmu bytes a b (subst (λ (q : Pmu). Reads settings p q bytes a) pmu h.reads) k.reads
+-- what arrives for a stream says one thing
+pub says_once : ReadsOnce → (kind : CoreKind) (s : ℕ) (bytes : List ℕ) (a b : Arrival) → Says kind s bytes a → Says kind s bytes b → a ≡ b
+says_once once kind s bytes a b h k =
+    let sender : h.sender ≡ k.sender = same_Some h.sender k.sender (sym h.listed ∙ k.listed) in
+    once kind s k.sender bytes a b (subst (λ (q : SenderOf kind). ReadsAs kind s q bytes a) sender h.reads) k.reads
 
 module _ (rules : Rules) (Says : ℕ → List ℕ → Arrival → Type 0) (once : (s : ℕ) (bytes : List ℕ) (a b : Arrival) → Says s bytes a → Says s bytes b → a ≡ b) where
-  pub answers_are_one : (g : Given) (E : List Entry) (s : ℕ) (bytes : List ℕ) (r t : Arrival) (a b : Answer) → IsLife rules Says g (Arrive s bytes r a ∷ E) → IsLife rules Says g (Arrive s bytes t b ∷ E) → (r ≡ t) × (a ≡ b)
-  answers_are_one g E s bytes r t a b h k =
+  same_answers : (g : Given) (E : List Entry) (s : ℕ) (bytes : List ℕ) (r t : Arrival) (a b : Answer) → IsLife rules Says g (Arrive s bytes r a ∷ E) → IsLife rules Says g (Arrive s bytes t b ∷ E) → (r ≡ t) × (a ≡ b)
+  same_answers g E s bytes r t a b h k =
       let said : r ≡ t = once s bytes r t h.0 k.0 in
       (said, h.1 ∙ ap (rules g E s) said ∙ sym k.1)
 
@@ -18,7 +19,7 @@ module _ (rules : Rules) (Says : ℕ → List ℕ → Arrival → Type 0) (once 
   same_arrive g E p q bytes others r s a b number same h k =
       let moved : IsLife rules Says g (Arrive q others r a ∷ E) =
       subst (λ (n : ℕ). IsLife rules Says g (Arrive n others r a ∷ E)) number (subst (λ (t : List ℕ). IsLife rules Says g (Arrive p t r a ∷ E)) same h) in
-      let one : (r ≡ s) × (a ≡ b) = answers_are_one g E q others r s a b moved k in
+      let one : (r ≡ s) × (a ≡ b) = same_answers g E q others r s a b moved k in
       λ i. Arrive (number i) (same i) (one.0 i) (one.1 i)
 
   same_entry : (g : Given) (E : List Entry) (d e : Entry) → step_of d ≡ step_of e → IsLife rules Says g (d ∷ E) → IsLife rules Says g (e ∷ E) → d ≡ e
@@ -45,7 +46,7 @@ module _ (rules : Rules) (Says : ℕ → List ℕ → Arrival → Type 0) (once 
       let one = same_last ss ts s t back in
       (λ i. front i ∷ one.0 i, one.1)
 
-  pub same_lives : (g : Given) (E F : List Entry) → steps_of E ≡ steps_of F → IsLife rules Says g E → IsLife rules Says g F → E ≡ F
+  same_lives : (g : Given) (E F : List Entry) → steps_of E ≡ steps_of F → IsLife rules Says g E → IsLife rules Says g F → E ≡ F
   same_lives g [] [] same h k = refl
   same_lives g [] (e ∷ F) same h k = absurd (omega (arith, ap length same, length-append (steps_of F) (step_of e ∷ [])))
   same_lives g (d ∷ E) [] same h k = absurd (omega (arith, ap length same, length-append (steps_of E) (step_of d ∷ [])))
@@ -54,3 +55,10 @@ module _ (rules : Rules) (Says : ℕ → List ℕ → Arrival → Type 0) (once 
       let earlier : E ≡ F = same_lives g E F parts.0 (life_before rules Says g d E h) (life_before rules Says g e F k) in
       let last : d ≡ e = same_entry g F d e parts.1 (subst (λ (D : List Entry). IsLife rules Says g (d ∷ D)) earlier h) k in
       λ i. last i ∷ earlier i
+
+module _ (once : ReadsOnce) where
+  pub answers_are_one : AnswersAreOne
+  answers_are_one kind g E s bytes r t a b h k = same_answers (rules_of kind) (Says kind) (says_once once kind) g E s bytes r t a b h.life k.life
+
+  pub steps_have_one_life : StepsHaveOneLife
+  steps_have_one_life kind g steps E F h k = same_lives (rules_of kind) (Says kind) (says_once once kind) g E F (h.same_steps ∙ sym k.same_steps) h.life k.life

@@ -1,5 +1,5 @@
 -- Bytes that arrive for a PMU say one thing.
-use Rattle.pdc_life.proofs.Names.{[], ◌∙◌, ◌∷◌, ◌≡◌, ap, arith, Arrival, BadTag, BytesRefused, cast_unsigned, ConfigFields, Cut, Data, FloatFormat, inl, inr, Layout, length, List, NoConfiguration, NodeReadsOnce, NoFrame, None, Pmu, Reads, refl, SectionFields, Settings, stream_of, sym, TooMany, w16, WrongId, WrongKind, WrongRate, WrongSource, WrongTimeBase, ℕ}
+use Rattle.pdc_life.proofs.Names.{[], ◌∙◌, ◌∷◌, ◌≡◌, ap, arith, Arrival, BadTag, BytesRefused, cast_unsigned, ConfigFields, Cut, Data, FloatFormat, inl, inr, Layout, length, List, NoConfiguration, NoFrame, None, Pmu, Reads, refl, SectionFields, Settings, stream_of, sym, TooMany, w16, WrongId, WrongKind, WrongRate, WrongSource, WrongTimeBase, ℕ}
 use Rattle.pdc_life.proofs.Lists.{heads}
 use Rattle.pdc_life.proofs.Stages.{Just, of_broken, of_config, of_data, of_foreign, of_no_instant, of_other_kind, ReadOnce, same_just, same_staged, same_unless, SayOne, Staged, Unless}
 
@@ -52,7 +52,7 @@ staged p settings pmu bytes (Layout None ((c, s) ∷ [])) h =
     (inr (s, h.1.one, inr (tt, h.1.base.time_base, inr (tt, h.1.base.rate, inr (tt, h.1.source, (λ j. Layout None ((h.0 j, s) ∷ [])))))))
 staged p settings pmu bytes (Layout stamp sections) h = absurd h
 
-pub one_reading : ReadOnce → NodeReadsOnce
-one_reading laws settings p pmu bytes a b h k =
+pub node_reads_once : ReadOnce → (settings : Settings) (p : ℕ) (pmu : Pmu) (bytes : List ℕ) (a b : Arrival) → Reads settings p pmu bytes a → Reads settings p pmu bytes b → a ≡ b
+node_reads_once laws settings p pmu bytes a b h k =
     same_staged laws (stream_of settings pmu) (InConfig p settings pmu) (same_in_config p settings pmu) bytes a b (staged p settings pmu bytes a h)
     (staged p settings pmu bytes b k)

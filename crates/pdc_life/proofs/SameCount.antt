@@ -1,5 +1,5 @@
 -- At the merger a section of a held layout with the count in force is the one in force.
-use Rattle.pdc_life.proofs.Names.{[], ◌&&◌, ◌++◌, ◌+◌, ◌<◌, ◌||◌, ◌∙◌, ◌∷◌, ◌≡◌, ◌≤◌, AllByRecursion, Answer, ap, arith, Arrive, Bool, Candidate, cases_lt, cond, cond_both, count_for, CountConflict, differs_from, Entry, eqb, false, false≢true, filter, first_greatest, flat_map, Given, greater, has_count_conflict, held_layout, held_section, HeldLayout, inl, inr, is_adoption_of, is_candidate, is_of_column, is_older, IsLife, Known, Layout, layout_answer, leb, length, List, ltb, map, merged_answer, MergerSettings, nat_eq, None, not, OldStamp, Option, or_parts, pointwise, ReadsForMerger, refl, Refused, Rises, rules, SameCountSameSection, section_in_force, SectionFields, sections_at, slice_index_or, Some, Stamp, subst, suc, sym, true, zero, ℕ}
+use Rattle.pdc_life.proofs.Names.{[], ◌&&◌, ◌++◌, ◌+◌, ◌<◌, ◌||◌, ◌∙◌, ◌∷◌, ◌≡◌, ◌≤◌, AllByRecursion, Answer, ap, arith, Arrive, Bool, Candidate, cases_lt, cond, cond_both, count_for, CountConflict, differs_from, Entry, eqb, false, false≢true, filter, first_greatest, flat_map, Given, greater, has_count_conflict, held_layout, held_section, HeldLayout, inl, inr, is_adoption_of, is_candidate, is_of_column, is_older, IsLife, Known, Layout, layout_answer, leb, length, List, ltb, map, merged_answer, MergerSettings, nat_eq, None, not, OfMerger, OldStamp, Option, or_parts, pointwise, refl, Refused, Rises, rules, SameCountSameSection, Says, section_in_force, SectionFields, sections_at, slice_index_or, Some, Stamp, subst, suc, sym, true, zero, ℕ}
 use Rattle.pdc_life.proofs.InForce.{in_force_is_cleared}
 use Rattle.pdc_life.proofs.LifeLaws.{lives_are_ticked}
 use Rattle.pdc_life.proofs.Lists.{above_first, both, by_each, each, is_same_text, May, may_each, none_passes, not_same, of_each}
@@ -140,10 +140,10 @@ new_good g E r bytes stamp parts answer accepted rise none =
 pub of_held_layout : (settings : MergerSettings) (g : Given) (P : List Entry → HeldLayout → Type 0)
     → ((E : List Entry) (e : Entry) (h : HeldLayout) → P E h → P (e ∷ E) h)
     → ((E : List Entry) (r : ℕ) (bytes : List ℕ) (stamp : Stamp) (parts : List (ℕ × SectionFields)) (answer : Answer)
-    → ReadsForMerger settings r bytes (Layout (Some stamp) parts)
+    → Says (OfMerger settings) r bytes (Layout (Some stamp) parts)
     → answer ≡ merged_answer g E r (Layout (Some stamp) parts) → is_candidate answer.outcome ≡ true
     → P (Arrive r bytes (Layout (Some stamp) parts) answer ∷ E) (record { stamp = stamp; sections = parts }))
-    → (E : List Entry) (s : ℕ) → IsLife merged_answer (ReadsForMerger settings) g E → May (P E) (held_layout E s)
+    → (E : List Entry) (s : ℕ) → IsLife merged_answer (Says (OfMerger settings)) g E → May (P E) (held_layout E s)
 of_held_layout settings g P keeps new [] s life = tt
 of_held_layout settings g P keeps new (Arrive r bytes (Layout (Some stamp) parts) answer ∷ E) s life =
     let e : Entry = Arrive r bytes (Layout (Some stamp) parts) answer in
@@ -152,10 +152,10 @@ of_held_layout settings g P keeps new (Arrive r bytes (Layout (Some stamp) parts
     (λ other. may_each (P E) (P (e ∷ E)) (held_layout E s) (keeps E e) (of_held_layout settings g P keeps new E s life.2))
 of_held_layout settings g P keeps new (e ∷ E) s life =
     may_each (P E) (P (e ∷ E)) (held_layout E s) (keeps E e) (of_held_layout settings g P keeps new E s
-    (life_before merged_answer (ReadsForMerger settings) g e E life))
+    (life_before merged_answer (Says (OfMerger settings)) g e E life))
 
 -- each section of a held layout is good
-held_are_good : (settings : MergerSettings) (g : Given) (E : List Entry) (s : ℕ) → IsLife merged_answer (ReadsForMerger settings) g E
+held_are_good : (settings : MergerSettings) (g : Given) (E : List Entry) (s : ℕ) → IsLife merged_answer (Says (OfMerger settings)) g E
     → May (λ (h : HeldLayout). AreGood g E h.sections) (held_layout E s)
 held_are_good settings g E s life =
     of_held_layout settings g (λ F h. AreGood g F h.sections) (λ F e h k. each (Good g F) (Good g (e ∷ F)) h.sections (good_after g F e) k)
@@ -166,6 +166,6 @@ pub same_count_same_section : SameCountSameSection
 same_count_same_section settings g E s c layout t u life held among in_force same =
     let good : AreGood g E layout.sections = subst (May (λ (h : HeldLayout). AreGood g E h.sections)) held (held_are_good settings g E s life.life) in
     let one : Good g E (c, t) = of_each (Good g E) layout.sections (c, t) good among in
-    let cleared = in_force_is_cleared g E c u (lives_are_ticked merged_answer (ReadsForMerger settings) g E life.life) in_force in
+    let cleared = in_force_is_cleared g E c u (lives_are_ticked merged_answer (Says (OfMerger settings)) g E life.life) in_force in
     let k = one (omega (arith, cleared.0, same)) in
     subst (λ (o : Option SectionFields). SameAs o t) in_force k.1 same

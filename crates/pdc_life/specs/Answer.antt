@@ -133,8 +133,3 @@ step_of (Pop row) = Pops
 abbrev pub steps_of : List Entry → List Step
 steps_of [] = []
 steps_of (e ∷ E) = steps_of E ++ step_of e ∷ []
-
--- The entries are the life of these steps.
-pub record IsLifeOf (rules : Rules) (Says : ℕ → List ℕ → Arrival → Type 0) (g : Given) (steps : List Step) (E : List Entry) : Type 0 where
-  pub life : IsLife rules Says g E
-  pub same_steps : steps_of E ≡ steps

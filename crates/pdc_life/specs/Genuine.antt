@@ -1,6 +1,6 @@
 -- Where the blocks of a row come from, and that what was taken is shown (this profile).
 use Rattle.std.specs.Prelude.{◌++◌, ◌<◌, ◌∷◌, ◌≡◌, ◌⊎◌}
-use Rattle.pdc_life.specs.Lives.{[], absent_view, AllByRecursion, Answer, Arrive, block_in, BlockView, cell_of, CellView, chosen_of, closed, columns_of, Contains, Data, Entry, filter_map, Given, is_present, IsBody, IsNodeLife, IsRun, IsTicked, List, Option, option_map, popped, ReadsFor, row_of, RowView, section_in_force, SectionFields, Settings, Some, Taken, true, waiting, ℕ}
+use Rattle.pdc_life.specs.Lives.{[], absent_view, AllByRecursion, Answer, Arrive, block_in, BlockView, cell_of, CellView, chosen_of, closed, columns_of, Contains, CoreKind, Data, Entry, filter_map, Given, is_present, IsLifeOf, IsRun, IsTicked, List, OfMerger, OfNode, Option, option_map, popped, row_of, RowView, section_in_force, SectionFields, Some, Taken, true, waiting, ℕ}
 use Rattle.pdc_life.specs.Laws.{IsRowOfTick}
 
 -- Data of the stream for the instant was taken in the life, and gave the cell for the column. What was in force of the column then
@@ -64,28 +64,6 @@ RowsAreGenuine =
     (g : Given) (E : List Entry) → IsTicked g E →
     AllByRecursion (IsGenuineRow g E) (closed E) × AllByRecursion (IsGenuineRow g E) (waiting E) × AllByRecursion (IsGenuineRow g E) (popped E)
 
--- At a node the data is a frame of the PMU for the instant, and its payload is the body with the words of the block, under the
--- section in force.
-pub record IsNodeData (settings : Settings) (E : List Entry) (p i : ℕ) (s : SectionFields) (cell : CellView) : Type 0 where
-  pub later : List Entry
-  pub earlier : List Entry
-  pub bytes : List ℕ
-  pub quality : ℕ
-  pub payload : List ℕ
-  pub answer : Answer
-  pub stands : E ≡ later ++ Arrive p bytes (Data i quality payload) answer ∷ earlier
-  pub taken : answer.outcome ≡ Taken
-  pub reads : ReadsFor settings p bytes (Data i quality payload)
-  pub same_quality : cell.quality ≡ quality
-  pub shape : cell.block.shape ≡ s.shape
-  pub body : IsBody s.shape payload cell.block.words
-
--- What a cell of a node was given by: the data of its own PMU.
-abbrev pub NodeCellsAreData : Type 0
-NodeCellsAreData =
-    (settings : Settings) (g : Given) (E : List Entry) (s c i : ℕ) (f : SectionFields) (cell : CellView) → IsNodeLife settings g E →
-    section_in_force g E c ≡ Some f → HasGiven g E s c i cell → (s ≡ c) × IsNodeData settings E c i f cell
-
 -- What was taken since its column was adopted, and is present, is shown in the row: the chosen cell is, and one is chosen where a
 -- cell is present, that of the lowest lane.
 abbrev pub ChosenIsShown : Type 0
@@ -93,7 +71,12 @@ ChosenIsShown =
     (g : Given) (E : List Entry) (c i : ℕ) (cell : CellView) → IsRun g E → c < g.columns → chosen_of g E c i ≡ Some cell →
     Contains (row_of g E i).blocks cell.block
 
-abbrev pub NodeTakenIsShown : Type 0
-NodeTakenIsShown =
-    (settings : Settings) (g : Given) (E : List Entry) (p i : ℕ) (cell : CellView) → IsNodeLife settings g E → p < g.columns →
-    cell_of E p p i ≡ Some cell → is_present cell.block ≡ true → Contains (row_of g E i).blocks cell.block
+-- the stream of the lowest lane: at a node the column's own, at the merger that of A
+abbrev pub first_lane : CoreKind → (c : ℕ) → ℕ
+first_lane (OfNode settings) c = c
+first_lane (OfMerger settings) c = 0
+
+abbrev pub TakenIsShown : Type 0
+TakenIsShown =
+    (kind : CoreKind) (g : Given) (E : List Entry) (c i : ℕ) (cell : CellView) → IsLifeOf kind g E → c < g.columns →
+    cell_of E (first_lane kind c) c i ≡ Some cell → is_present cell.block ≡ true → Contains (row_of g E i).blocks cell.block

@@ -1,9 +1,7 @@
 -- What is given to a life (this profile).
-use Rattle.std.specs.Prelude.{if◌then◌else◌, ◌==◌, ◌≡◌}
-use Rattle.pdc_life.specs.Names.{length, List, range_with_len, slice_index_or, ℕ}
+use Rattle.std.specs.Prelude.{if◌then◌else◌, ◌==◌}
+use Rattle.pdc_life.specs.Names.{List, range_with_len, slice_index_or, ℕ}
 use Rattle.pdc_output.specs.declared.output.Output.{Output}
-use Rattle.pdc_life.specs.declared.given.Settings.{Settings}
-use Rattle.pdc_life.specs.declared.timing.Timing.{Timing}
 use Rattle.pdc_life.specs.declared.timing.WaitKind.{WaitKind}
 
 -- What does not change in a life, and what it begins with. Of settings a life needs no more than this: with one lane there is a
@@ -38,27 +36,3 @@ streams_of g = range_with_len 0 (if g.lanes == 1 then g.columns else 2)
 -- the count of a column; past the last one it is 0
 abbrev pub count_for : ℕ → List ℕ → ℕ
 count_for c counts = slice_index_or counts c 0
-
--- What is given to a life under these settings.
-abbrev pub given_under : Output → Timing → (columns lanes start floor : ℕ) → (counts : List ℕ) → (opening : ℕ) → Given
-given_under output timing columns lanes start floor counts opening = record {
-  output = output;
-  wait = timing.wait;
-  wait_kind = timing.wait_kind;
-  window = timing.window;
-  ahead = timing.ahead;
-  columns = columns;
-  lanes = lanes;
-  start = start;
-  floor = floor;
-  counts = counts;
-  opening = opening;
-}
-
--- What is given to a life of a node.
-abbrev pub given_of : Settings → (start floor : ℕ) → (counts : List ℕ) → (opening : ℕ) → Given
-given_of settings start floor counts opening = given_under settings.output settings.timing (length settings.pmus.items) 1 start floor counts opening
-
--- The life is given by these settings, and by some start, floor, counts and opening.
-abbrev pub IsGivenBy : Settings → Given → Type 0
-IsGivenBy settings g = g ≡ given_of settings g.start g.floor g.counts g.opening

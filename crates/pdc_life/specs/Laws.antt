@@ -1,13 +1,10 @@
 -- What holds of every life: rows, change numbers and counts (this profile).
 use Rattle.std.specs.Prelude.{if◌then◌else◌, ◌++◌, ◌+◌, ◌∷◌, ◌≡◌, ◌≤◌}
-use Rattle.pdc_life.specs.Lives.{AllByRecursion, changes, cleared_count, closed, closing, Contains, count_for, Entry, Given, is_adoption, is_due, IsMergerLife, IsNodeLife, IsRun, IsTicked, List, MergerSettings, open_instants, popped, Rises, row_instants, row_of, RowView, section_in_force, SectionFields, Settings, Some, Tick, TickAnswer, true, waiting, ℕ}
+use Rattle.pdc_life.specs.Lives.{AllByRecursion, changes, cleared_count, closed, closing, Contains, CoreKind, count_for, Entry, Given, is_adoption, is_due, IsLifeOf, IsRun, IsTicked, List, open_instants, popped, Rises, row_instants, row_of, RowView, section_in_force, SectionFields, Some, Tick, TickAnswer, true, waiting, ℕ}
 
 -- The premises of what node and merger have in common: ticks and pops are answered as in every life; and what was taken is sound.
-abbrev pub NodeLivesAreRuns : Type 0
-NodeLivesAreRuns = (settings : Settings) (g : Given) (E : List Entry) → IsNodeLife settings g E → IsRun g E
-
-abbrev pub MergerLivesAreTicked : Type 0
-MergerLivesAreTicked = (settings : MergerSettings) (g : Given) (E : List Entry) → IsMergerLife settings g E → IsTicked g E
+abbrev pub LivesAreRuns : Type 0
+LivesAreRuns = (kind : CoreKind) (g : Given) (E : List Entry) → IsLifeOf kind g E → IsRun g E
 
 -- In every life the instants of the rows that closed rise strictly, and lie above the floor.
 abbrev pub RowsRise : Type 0

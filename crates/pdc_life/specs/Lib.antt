@@ -1,7 +1,9 @@
 pub mod Adoption
 pub mod Answer
 pub mod Arrival
+pub mod CellData
 pub mod Cells
+pub mod CoreKind
 pub mod Counts
 pub mod Distinct
 pub mod Frames
@@ -13,8 +15,6 @@ pub mod Laws
 pub mod Life
 mod Lives
 pub mod Merger
-pub mod MergerData
-pub mod MergerLaws
 pub mod MergerReading
 mod Names
 pub mod Node

@@ -1,13 +1,9 @@
 -- What the bytes say that arrive from a node at the merger: all that needs no memory of what came before (this profile).
 use Rattle.std.specs.Prelude.{◌+◌, ◌<◌, ◌^◌, ◌∷◌, ◌≡◌, ◌⊎◌}
-use Rattle.pdc_life.specs.Names.{[], AllByRecursion, ConfigFields, length, List, map, None, own_bytes, Rises, SectionFields, slice_get, Some, WrongKind, ℕ}
+use Rattle.pdc_life.specs.Names.{[], AllByRecursion, ConfigFields, List, map, None, own_bytes, Rises, SectionFields, slice_get, Some, WrongKind, ℕ}
 use Rattle.pdc_output.specs.declared.output.Nominal.TheVariants.{Hz50, Hz60}
 use Rattle.pdc_output.specs.pdc_frame.Frame as frame
-use Rattle.pdc_life.specs.Answer.{IsLife}
 use Rattle.pdc_life.specs.Arrival.{Arrival, Stamp, BytesRefused, Data, Layout}
-use Rattle.pdc_life.specs.Given.{Given, given_under}
-use Rattle.pdc_life.specs.Life.{Entry}
-use Rattle.pdc_life.specs.Merger.{merged_answer}
 use Rattle.pdc_life.specs.Reading.{Stream, HasBase, HasNoInstant, HasOtherRate, HasOtherTimeBase, IsBroken, IsData, IsForeign, IsOtherKind}
 use Rattle.pdc_life.specs.declared.merging.MergedNode.{MergedNode}
 use Rattle.pdc_life.specs.declared.merging.MergerSettings.{MergerSettings}
@@ -17,10 +13,6 @@ use Rattle.pdc_life.specs.declared.outcome.Refusal.TheVariants.{NoFrame, WrongId
 -- the node of a stream: 0 is A, 1 is B
 abbrev pub nodes_of : MergerSettings → List MergedNode
 nodes_of settings = settings.first ∷ settings.second ∷ []
-
--- What is given to a life of the merger.
-abbrev pub given_of_merger : MergerSettings → (start floor : ℕ) → (counts : List ℕ) → (opening : ℕ) → Given
-given_of_merger settings start floor counts opening = given_under settings.output settings.timing (length settings.sources.items) 2 start floor counts opening
 
 -- the stream of a node
 abbrev pub stream_from : MergerSettings → MergedNode → Stream
@@ -87,14 +79,3 @@ ReadsFrom settings node bytes (BytesRefused refusal) = IsRefusedFrom settings no
 ReadsFrom settings node bytes (Data instant quality payload) = IsData (stream_from settings node) bytes instant quality payload
 ReadsFrom settings node bytes (Layout (Some stamp) parts) = IsLayoutOf settings node bytes stamp parts
 ReadsFrom settings node bytes (Layout None parts) = ⊥
-
--- The bytes say this of the stream with this number: 0 is A, 1 is B.
-pub record ReadsForMerger (settings : MergerSettings) (s : ℕ) (bytes : List ℕ) (arrival : Arrival) : Type 0 where
-  pub node : MergedNode
-  pub listed : slice_get (nodes_of settings) s ≡ Some node
-  pub reads : ReadsFrom settings node bytes arrival
-
--- A life of the merger.
-pub record IsMergerLife (settings : MergerSettings) (g : Given) (E : List Entry) : Type 0 where
-  pub given : g ≡ given_of_merger settings g.start g.floor g.counts g.opening
-  pub life : IsLife merged_answer (ReadsForMerger settings) g E

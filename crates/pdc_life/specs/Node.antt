@@ -1,16 +1,13 @@
 -- The rules of a node: one lane, and a stream for each PMU (this profile).
-use Rattle.std.specs.Prelude.{if◌then◌else◌, ◌*◌, ◌==◌, ◌∷◌, ◌≡◌}
-use Rattle.pdc_life.specs.Names.{[], CellView, length, List, nat_eq, nat_lt, None, not, Option, pointwise, SectionFields, slice_get, Some, TooMany, word_count_of, words_in, ℕ}
-use Rattle.pdc_life.specs.Answer.{answer_in_time, bare, IsLife}
+use Rattle.std.specs.Prelude.{if◌then◌else◌, ◌*◌, ◌==◌, ◌∷◌}
+use Rattle.pdc_life.specs.Names.{[], CellView, length, List, nat_eq, nat_lt, None, not, Option, pointwise, SectionFields, Some, TooMany, word_count_of, words_in, ℕ}
+use Rattle.pdc_life.specs.Answer.{answer_in_time, bare}
 use Rattle.pdc_life.specs.Arrival.{Arrival, BytesRefused, Data, Layout}
-use Rattle.pdc_life.specs.Given.{Given, IsGivenBy, count_for}
+use Rattle.pdc_life.specs.Given.{Given, count_for}
 use Rattle.pdc_life.specs.Life.{Answer, Entry, held_section, section_in_force}
-use Rattle.pdc_life.specs.NodeReading.{Reads}
-use Rattle.pdc_life.specs.declared.given.Settings.{Settings}
 use Rattle.pdc_life.specs.declared.outcome.Outcome.{Outcome}
 use Rattle.pdc_life.specs.declared.outcome.Outcome.TheVariants.{Candidate, Known, Refused}
 use Rattle.pdc_life.specs.declared.outcome.Refusal.TheVariants.{CountConflict, NoConfig, NoConfiguration, StaleCount, WrongLength}
-use Rattle.pdc_life.specs.declared.pmu.Pmu.{Pmu}
 
 -- the cell that words give under a section
 abbrev pub cell_under : SectionFields → (quality : ℕ) → (words : List ℕ) → CellView
@@ -41,14 +38,3 @@ node_answer g E p (BytesRefused refusal) = bare (Refused refusal)
 node_answer g E p (Data i quality payload) = data_answer g E p i quality payload (section_in_force g E p)
 node_answer g E p (Layout stamp ((c, s) ∷ [])) = bare (section_answer (count_for p g.counts) (held_section g E p) s)
 node_answer g E p (Layout stamp sections) = bare (Refused (NoConfiguration TooMany))
-
--- The bytes say this of the stream with this number.
-pub record ReadsFor (settings : Settings) (p : ℕ) (bytes : List ℕ) (arrival : Arrival) : Type 0 where
-  pub pmu : Pmu
-  pub listed : slice_get settings.pmus.items p ≡ Some pmu
-  pub reads : Reads settings p pmu bytes arrival
-
--- A life of a node.
-pub record IsNodeLife (settings : Settings) (g : Given) (E : List Entry) : Type 0 where
-  pub given : IsGivenBy settings g
-  pub life : IsLife node_answer (ReadsFor settings) g E

@@ -1,6 +1,6 @@
 -- Where sections come from, and which are held (this profile).
 use Rattle.std.specs.Prelude.{◌++◌, ◌<◌, ◌∷◌, ◌≡◌, ◌≤◌}
-use Rattle.pdc_life.specs.Lives.{[], AllByRecursion, Answer, Arrive, Candidate, Contains, count_for, Entry, filter, flat_map, Given, held_section, is_of_column, IsNodeLife, IsRun, IsSection, IsTicked, Layout, List, map, nat_le, None, Option, section_in_force, SectionFields, sections_for, Settings, Some, Stamp, ℕ}
+use Rattle.pdc_life.specs.Lives.{[], AllByRecursion, Answer, Arrive, Candidate, Contains, count_for, Entry, filter, flat_map, Given, held_layout, held_section, HeldLayout, is_of_column, IsLifeOf, IsRun, IsSection, IsTicked, Layout, List, map, MergerSettings, nat_le, None, OfMerger, OfNode, Option, section_in_force, SectionFields, sections_for, Settings, Some, Stamp, ℕ}
 
 -- What is held of a column is a section as a configuration spells it, and so is what is in force.
 abbrev pub HeldIsSection : Type 0
@@ -56,7 +56,14 @@ came_for g E c = filter (λ (s : SectionFields). nat_le (count_for c g.counts) s
 
 -- At a node it is the greatest of all valid configurations that came: those that are refused are none greater.
 abbrev pub NodeHoldsGreatest : Type 0
-NodeHoldsGreatest = (settings : Settings) (g : Given) (E : List Entry) (c : ℕ) → IsNodeLife settings g E → IsHeld (came_for g E c) (held_section g E c)
+NodeHoldsGreatest = (settings : Settings) (g : Given) (E : List Entry) (c : ℕ) → IsLifeOf (OfNode settings) g E → IsHeld (came_for g E c) (held_section g E c)
+
+-- At the merger a section of a held layout with the count in force of its column is the one in force.
+abbrev pub SameCountSameSection : Type 0
+SameCountSameSection =
+    (settings : MergerSettings) (g : Given) (E : List Entry) (s c : ℕ) (layout : HeldLayout) (t u : SectionFields) →
+    IsLifeOf (OfMerger settings) g E → held_layout E s ≡ Some layout → Contains layout.sections (c, t) →
+    section_in_force g E c ≡ Some u → t.count ≡ u.count → t.bytes ≡ u.bytes
 
 -- A column that has a section in force keeps one, and the count never falls.
 pub record KeepsCount (g : Given) (E : List Entry) (c count : ℕ) : Type 0 where

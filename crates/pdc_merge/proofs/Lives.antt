@@ -6,11 +6,11 @@ use Rattle.pdc_cfg.specs.Section.{SectionFields}
 use Rattle.pdc_row.specs.Rising.{Rises}
 use Rattle.pdc_life.specs.declared.merging.MergerSettings.{MergerSettings}
 use Rattle.pdc_life.specs.Arrival.{Arrival, Layout, Stamp}
+use Rattle.pdc_life.specs.CoreKind.{given_of, IsLifeOf, OfMerger, Says}
 use Rattle.pdc_life.specs.Given.{Given}
 use Rattle.pdc_life.specs.Life.{Answer, Arrive, Entry, is_candidate}
 use Rattle.pdc_life.specs.Merger.{HeldLayout, held_layout, merged_answer}
-use Rattle.pdc_life.specs.MergerLaws.{MergerLivesAreRuns}
-use Rattle.pdc_life.specs.MergerReading.{IsMergerLife, ReadsForMerger, given_of_merger}
+use Rattle.pdc_life.specs.Laws.{LivesAreRuns}
 use Rattle.pdc_life.specs.Run.{IsRun}
 use Rattle.pdc_align.specs.Align.{HasSizes, KeepsSizes, State}
 use Rattle.pdc_align.specs.Align as align
@@ -26,8 +26,8 @@ Parts = List (ℕ × SectionFields)
 -- ---- the start
 
 pub begins : (settings : MergerSettings) (start floor : ℕ) (counts : List ℕ) (opening : ℕ) (g : Given) (a : State) (l : LayoutsView) (k : Counts) (m : List ℕ) (d last : ℕ)
-    → g ≡ given_of_merger settings start floor counts opening → align.StandsFor g [] a → l ≡ layouts_of [] → k ≡ counts_after []
-    → StandsFor (given_of_merger settings start floor counts opening) [] (record { settings = settings; start = start; state = a; layouts = l; counts = k; memory = m; disagreements = d; popped = last })
+    → g ≡ given_of (OfMerger settings) start floor counts opening → align.StandsFor g [] a → l ≡ layouts_of [] → k ≡ counts_after []
+    → StandsFor (given_of (OfMerger settings) start floor counts opening) [] (record { settings = settings; start = start; state = a; layouts = l; counts = k; memory = m; disagreements = d; popped = last })
 begins settings start floor counts opening g a l k m d last e aligned held counted = record {
   life = record { given = refl; life = tt };
   same_start = refl;
@@ -114,13 +114,13 @@ one_in_place n held s layout all e = subst (MayBeInPlace n) e (at_in_place n hel
 
 -- ---- arrivals
 
-module _ (runs : MergerLivesAreRuns) where
-  life_more : (m : MergerView) (g : Given) (E : List Entry) (s : ℕ) (bytes : List ℕ) (arrival : Arrival) → ReadsForMerger m.settings s bytes arrival → StandsFor g E m
-      → IsMergerLife m.settings g (Arrive s bytes arrival (merged_answer g E s arrival) ∷ E)
+module _ (runs : LivesAreRuns) where
+  life_more : (m : MergerView) (g : Given) (E : List Entry) (s : ℕ) (bytes : List ℕ) (arrival : Arrival) → Says (OfMerger m.settings) s bytes arrival → StandsFor g E m
+      → IsLifeOf (OfMerger m.settings) g (Arrive s bytes arrival (merged_answer g E s arrival) ∷ E)
   life_more m g E s bytes arrival reads stands = record { given = stands.life.given; life = (reads, refl, stands.life.life) }
 
   pub arrives : (m : MergerView) (g : Given) (E : List Entry) (s : ℕ) (bytes : List ℕ) (arrival : Arrival) (b : State) (l : LayoutsView) (k : Counts) (memory : List ℕ) (d last : ℕ)
-      → ReadsForMerger m.settings s bytes arrival → StandsFor g E m
+      → Says (OfMerger m.settings) s bytes arrival → StandsFor g E m
       → (IsRun g (Arrive s bytes arrival (merged_answer g E s arrival) ∷ E) → align.StandsFor g (Arrive s bytes arrival (merged_answer g E s arrival) ∷ E) b)
       → l ≡ layouts_of (Arrive s bytes arrival (merged_answer g E s arrival) ∷ E)
       → (m.counts ≡ counts_after E → k ≡ counts_after (Arrive s bytes arrival (merged_answer g E s arrival) ∷ E))
@@ -128,7 +128,7 @@ module _ (runs : MergerLivesAreRuns) where
   arrives m g E s bytes arrival b l k memory d last reads stands step held counts = record {
     life = life_more m g E s bytes arrival reads stands;
     same_start = stands.same_start;
-    aligned = step (runs m.settings g (Arrive s bytes arrival (merged_answer g E s arrival) ∷ E) (life_more m g E s bytes arrival reads stands));
+    aligned = step (runs (OfMerger m.settings) g (Arrive s bytes arrival (merged_answer g E s arrival) ∷ E) (life_more m g E s bytes arrival reads stands));
     held = held;
     counted = counts stands.counted;
   }

@@ -7,10 +7,10 @@ use Rattle.pdc_life.specs.declared.merging.MergerSettings.{MergerSettings}
 use Rattle.pdc_life.specs.declared.outcome.Outcome.{Outcome}
 use Rattle.pdc_life.specs.Answer.{answered, ToArrive}
 use Rattle.pdc_life.specs.Arrival.{Arrival}
+use Rattle.pdc_life.specs.CoreKind.{IsLifeOf, OfMerger}
 use Rattle.pdc_life.specs.Given.{Given}
 use Rattle.pdc_life.specs.Life.{Entry}
 use Rattle.pdc_life.specs.Merger.{merged_answer}
-use Rattle.pdc_life.specs.MergerReading.{IsMergerLife, ReadsForMerger}
 use Rattle.pdc_life.specs.Run.{sections_of}
 use Rattle.pdc_align.specs.Align.{HasSizes, State}
 use Rattle.pdc_align.specs.Align as align
@@ -35,7 +35,7 @@ pub record MergerView : Type 0 where
 
 -- The merger stands for this life, which is one of its settings.
 pub record StandsFor (g : Given) (E : List Entry) (m : MergerView) : Type 0 where
-  pub life : IsMergerLife m.settings g E
+  pub life : IsLifeOf (OfMerger m.settings) g E
   pub same_start : m.start ≡ g.start
   pub aligned : align.StandsFor g E m.state
   pub held : m.layouts ≡ layouts_of E

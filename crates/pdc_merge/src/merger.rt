@@ -4,10 +4,10 @@ ghost use Rattle.pdc_align.specs.Align.{given_by};
 ghost use Rattle.pdc_arrival.specs.Counts.{after_answer};
 ghost use Rattle.pdc_life.specs.Answer.{ToArrive, answered};
 ghost use Rattle.pdc_life.specs.Arrival.{Data};
+ghost use Rattle.pdc_life.specs.CoreKind.{given_of, OfMerger, Says};
 ghost use Rattle.pdc_life.specs.Given.{Given};
 ghost use Rattle.pdc_life.specs.Life.{Entry};
 ghost use Rattle.pdc_life.specs.Merger.{merged_answer};
-ghost use Rattle.pdc_life.specs.MergerReading.{ReadsForMerger, given_of_merger};
 ghost use Rattle.pdc_merge.specs.Merger.{StandsFor};
 
 use crate::answering;
@@ -16,7 +16,7 @@ use pdc_align::{Alignment, Plan, Ticked, append_layout_frame};
 use pdc_arrival::{Arrival, Counts, Heard, arrival_from_node, hear_from_node};
 use pdc_core::Core;
 use pdc_frame::Buffer;
-use pdc_life::{MAX_PMUS, MergerSettings, Outcome, merger_lives_are_runs, rows_have_tags};
+use pdc_life::{MAX_PMUS, MergerSettings, Outcome, lives_are_runs, rows_have_tags};
 use pdc_table::{DueRow, Table};
 use std::alloc::{AllocError, Global};
 use std::marker::Model;
@@ -57,7 +57,7 @@ impl<T: Table> Model for Merger<T> {
 /// How the instants of the merger are aligned: each node has a stream, which brings cells for all columns.
 fn plan_of(settings: &MergerSettings) -> Plan
     ensures given { (start floor : ℕ) (counts : List ℕ) (opening : ℕ) →
-        given_by result settings.now.output start floor counts opening ≡ given_of_merger settings.now start floor counts opening }
+        given_by result settings.now.output start floor counts opening ≡ given_of (OfMerger settings.now) start floor counts opening }
     ensures columns { result.columns ≡ length settings.now.sources.items }
     ensures lanes { result.lanes ≡ 2 }
 {
@@ -86,7 +86,7 @@ impl<T: Table> Merger<T> {
         counts: &[u16; MAX_PMUS],
         now: u64,
     ) -> Result<Merger<T>, AllocError>
-        ensures stands { IfOk result (λ m. StandsFor (given_of_merger settings start floor counts.now now) [] m) }
+        ensures stands { IfOk result (λ m. StandsFor (given_of (OfMerger settings) start floor counts.now now) [] m) }
         ensures settings { IfOk result (λ m. m.settings ≡ settings) }
         ensures popped { IfOk result (λ m. m.popped ≡ floor) }
         ensures disagreements { IfOk result (λ m. m.disagreements ≡ 0) }
@@ -106,14 +106,14 @@ impl<T: Table> Merger<T> {
         requires { stream < 2 }
         ensures answer { (g : Given) (E : List Entry) → StandsFor g E self.old →
             result ≡ (merged_answer g E stream (Data instant quality payload.now)).outcome }
-        ensures stands { (g : Given) (E : List Entry) (bytes : List ℕ) → ReadsForMerger self.old.settings stream bytes (Data instant quality payload.now) →
+        ensures stands { (g : Given) (E : List Entry) (bytes : List ℕ) → Says (OfMerger self.old.settings) stream bytes (Data instant quality payload.now) →
             StandsFor g E self.old → StandsFor g (answered merged_answer g E (ToArrive stream bytes (Data instant quality payload.now)) ∷ E) self.new }
         ensures counts { self.new.counts ≡ after_answer result self.old.counts }
         ensures popped { self.new.popped ≡ self.old.popped }
         ensures settings { self.new.settings ≡ self.old.settings }
         ensures memory { self.new.memory ≡ self.old.memory }
     {
-        merger_lives_are_runs();
+        lives_are_runs();
         let outcome = answering::answer_data(
             &mut self.alignment,
             &self.layouts,
@@ -155,7 +155,7 @@ impl<T: Table> Core for Merger<T> {
     }
 
     fn arrive(&mut self, stream: usize, arrival: &Arrival<'_>) -> Outcome {
-        merger_lives_are_runs();
+        lives_are_runs();
         let outcome = answering::answer(&mut self.alignment, &mut self.layouts, stream, arrival);
         self.counts.count(outcome);
         outcome

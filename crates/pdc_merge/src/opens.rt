@@ -1,6 +1,6 @@
 //! The lives of the merger, one after the other.
 ghost use Rattle.std.specs.Prelude.{◌≡◌};
-ghost use Rattle.pdc_life.specs.MergerReading.{given_of_merger};
+ghost use Rattle.pdc_life.specs.CoreKind.{given_of, OfMerger};
 
 use crate::merger::Merger;
 use arrayvec::ArrayVec;
@@ -28,7 +28,7 @@ pub fn copy_of_merger(settings: &MergerSettings) -> MergerSettings
 }
 
 impl<T: Table> Opens for Merger<T> {
-    ghost given_with = { λ settings start floor counts. given_of_merger settings start floor counts 0 };
+    ghost given_with = { λ settings start floor counts. given_of (OfMerger settings) start floor counts 0 };
 
     ghost output_of = { λ settings. settings.output };
 

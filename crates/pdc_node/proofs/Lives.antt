@@ -5,13 +5,14 @@ use Rattle.std.proofs.lemmas.Option.{slice_get_within}
 use Rattle.pdc_cfg.specs.Section.{SectionFields}
 use Rattle.pdc_output.specs.declared.output.Output.{Output}
 use Rattle.pdc_output.specs.Layout.{layout_wire_of}
+use Rattle.pdc_life.specs.CoreKind.{given_of, IsLifeOf, OfNode, Says}
 use Rattle.pdc_life.specs.Published.{layout_wire}
 use Rattle.pdc_life.specs.declared.given.Settings.{Settings}
 use Rattle.pdc_life.specs.Arrival.{Arrival}
-use Rattle.pdc_life.specs.Given.{Given, given_of}
-use Rattle.pdc_life.specs.Laws.{NodeLivesAreRuns}
+use Rattle.pdc_life.specs.Given.{Given}
+use Rattle.pdc_life.specs.Laws.{LivesAreRuns}
 use Rattle.pdc_life.specs.Life.{Arrive, Entry, changes, section_in_force}
-use Rattle.pdc_life.specs.Node.{IsNodeLife, ReadsFor, node_answer}
+use Rattle.pdc_life.specs.Node.{node_answer}
 use Rattle.pdc_life.specs.Run.{IsRun}
 use Rattle.pdc_align.specs.Align.{HasSizes, KeepsSizes, State}
 use Rattle.pdc_align.specs.Align as align
@@ -22,8 +23,8 @@ use Rattle.pdc_node.specs.Node.{IsReady, NodeView, StandsFor}
 -- ---- the start
 
 pub begins : (settings : Settings) (start floor : ℕ) (counts : List ℕ) (opening : ℕ) (g : Given) (a : State) (k : Counts) (m : List ℕ) (last : ℕ)
-    → g ≡ given_of settings start floor counts opening → align.StandsFor g [] a → k ≡ counts_after []
-    → StandsFor (given_of settings start floor counts opening) [] (record { settings = settings; start = start; opening = counts; state = a; counts = k; memory = m; popped = last })
+    → g ≡ given_of (OfNode settings) start floor counts opening → align.StandsFor g [] a → k ≡ counts_after []
+    → StandsFor (given_of (OfNode settings) start floor counts opening) [] (record { settings = settings; start = start; opening = counts; state = a; counts = k; memory = m; popped = last })
 begins settings start floor counts opening g a k m last e aligned counted = record {
   life = record { given = refl; life = tt };
   same_start = refl;
@@ -34,13 +35,13 @@ begins settings start floor counts opening g a k m last e aligned counted = reco
 
 -- ---- arrivals
 
-module _ (runs : NodeLivesAreRuns) where
-  pub life_more : (n : NodeView) (g : Given) (E : List Entry) (s : ℕ) (bytes : List ℕ) (arrival : Arrival) → ReadsFor n.settings s bytes arrival → StandsFor g E n
-      → IsNodeLife n.settings g (Arrive s bytes arrival (node_answer g E s arrival) ∷ E)
+module _ (runs : LivesAreRuns) where
+  pub life_more : (n : NodeView) (g : Given) (E : List Entry) (s : ℕ) (bytes : List ℕ) (arrival : Arrival) → Says (OfNode n.settings) s bytes arrival → StandsFor g E n
+      → IsLifeOf (OfNode n.settings) g (Arrive s bytes arrival (node_answer g E s arrival) ∷ E)
   life_more n g E s bytes arrival reads stands = record { given = stands.life.given; life = (reads, refl, stands.life.life) }
 
   pub arrives : (n : NodeView) (g : Given) (E : List Entry) (s : ℕ) (bytes : List ℕ) (arrival : Arrival) (b : State) (k : Counts) (m : List ℕ) (last : ℕ)
-      → ReadsFor n.settings s bytes arrival → StandsFor g E n
+      → Says (OfNode n.settings) s bytes arrival → StandsFor g E n
       → (IsRun g (Arrive s bytes arrival (node_answer g E s arrival) ∷ E) → align.StandsFor g (Arrive s bytes arrival (node_answer g E s arrival) ∷ E) b)
       → (n.counts ≡ counts_after E → k ≡ counts_after (Arrive s bytes arrival (node_answer g E s arrival) ∷ E))
       → StandsFor g (Arrive s bytes arrival (node_answer g E s arrival) ∷ E) (record n { state = b; counts = k; memory = m; popped = last })
@@ -48,7 +49,7 @@ module _ (runs : NodeLivesAreRuns) where
     life = life_more n g E s bytes arrival reads stands;
     same_start = stands.same_start;
     same_opening = stands.same_opening;
-    aligned = step (runs n.settings g (Arrive s bytes arrival (node_answer g E s arrival) ∷ E) (life_more n g E s bytes arrival reads stands));
+    aligned = step (runs (OfNode n.settings) g (Arrive s bytes arrival (node_answer g E s arrival) ∷ E) (life_more n g E s bytes arrival reads stands));
     counted = counts stands.counted;
   }
 

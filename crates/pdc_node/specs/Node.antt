@@ -6,9 +6,10 @@ use Rattle.pdc_life.specs.declared.given.Settings.{Settings}
 use Rattle.pdc_life.specs.declared.outcome.Outcome.{Outcome}
 use Rattle.pdc_life.specs.Answer.{answered, ToArrive}
 use Rattle.pdc_life.specs.Arrival.{Arrival}
+use Rattle.pdc_life.specs.CoreKind.{IsLifeOf, OfNode}
 use Rattle.pdc_life.specs.Given.{Given}
 use Rattle.pdc_life.specs.Life.{Entry}
-use Rattle.pdc_life.specs.Node.{IsNodeLife, ReadsFor, node_answer}
+use Rattle.pdc_life.specs.Node.{node_answer}
 use Rattle.pdc_life.specs.Run.{sections_of}
 use Rattle.pdc_align.specs.Align.{State}
 use Rattle.pdc_align.specs.Align as align
@@ -30,7 +31,7 @@ pub record NodeView : Type 0 where
 
 -- The node stands for this life, which is one of its settings.
 pub record StandsFor (g : Given) (E : List Entry) (n : NodeView) : Type 0 where
-  pub life : IsNodeLife n.settings g E
+  pub life : IsLifeOf (OfNode n.settings) g E
   pub same_start : n.start ≡ g.start
   pub same_opening : n.opening ≡ g.counts
   pub aligned : align.StandsFor g E n.state

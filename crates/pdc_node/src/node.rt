@@ -6,9 +6,10 @@ ghost use Rattle.pdc_core.specs.Fits.{fits_node};
 ghost use Rattle.pdc_core.specs.KeptArrival.{taken_view};
 ghost use Rattle.pdc_life.specs.Answer.{ToArrive, answered};
 ghost use Rattle.pdc_life.specs.Arrival.{Data};
-ghost use Rattle.pdc_life.specs.Given.{Given, given_of};
+ghost use Rattle.pdc_life.specs.CoreKind.{given_of, OfNode, Says};
+ghost use Rattle.pdc_life.specs.Given.{Given};
 ghost use Rattle.pdc_life.specs.Life.{Entry};
-ghost use Rattle.pdc_life.specs.Node.{ReadsFor, node_answer};
+ghost use Rattle.pdc_life.specs.Node.{node_answer};
 ghost use Rattle.pdc_node.specs.Node.{StandsFor};
 
 use crate::answering;
@@ -54,7 +55,7 @@ impl<T: Table> Model for Node<T> {
 /// How the instants of a node are aligned: each PMU has a stream and a column of its own.
 fn plan_of(settings: &Settings) -> Plan
     ensures given { (start floor : ℕ) (counts : List ℕ) (opening : ℕ) →
-        given_by result settings.now.output start floor counts opening ≡ given_of settings.now start floor counts opening }
+        given_by result settings.now.output start floor counts opening ≡ given_of (OfNode settings.now) start floor counts opening }
     ensures columns { result.columns ≡ length settings.now.pmus.items }
     ensures lanes { result.lanes ≡ 1 }
 {
@@ -83,7 +84,7 @@ impl<T: Table> Node<T> {
         counts: &[u16; MAX_PMUS],
         now: u64,
     ) -> Result<Node<T>, AllocError>
-        ensures stands { IfOk result (λ n. StandsFor (given_of settings start floor counts.now now) [] n) }
+        ensures stands { IfOk result (λ n. StandsFor (given_of (OfNode settings) start floor counts.now now) [] n) }
         ensures settings { IfOk result (λ n. n.settings ≡ settings) }
         ensures popped { IfOk result (λ n. n.popped ≡ floor) }
     {
@@ -102,7 +103,7 @@ impl<T: Table> Node<T> {
         requires { stream < length self.old.settings.pmus.items }
         ensures answer { (g : Given) (E : List Entry) → StandsFor g E self.old →
             result ≡ (node_answer g E stream (Data instant quality payload.now)).outcome }
-        ensures stands { (g : Given) (E : List Entry) (bytes : List ℕ) → ReadsFor self.old.settings stream bytes (Data instant quality payload.now) →
+        ensures stands { (g : Given) (E : List Entry) (bytes : List ℕ) → Says (OfNode self.old.settings) stream bytes (Data instant quality payload.now) →
             StandsFor g E self.old → StandsFor g (answered node_answer g E (ToArrive stream bytes (Data instant quality payload.now)) ∷ E) self.new }
         ensures counts { self.new.counts ≡ after_answer result self.old.counts }
         ensures popped { self.new.popped ≡ self.old.popped }
@@ -127,7 +128,7 @@ impl<T: Table> Node<T> {
         requires { fits_node self.old.settings stream (taken_view taken.now) ≡ true }
         ensures answer { (g : Given) (E : List Entry) → StandsFor g E self.old →
             result ≡ (node_answer g E stream (taken_view taken.now)).outcome }
-        ensures stands { (g : Given) (E : List Entry) (bytes : List ℕ) → ReadsFor self.old.settings stream bytes (taken_view taken.now) →
+        ensures stands { (g : Given) (E : List Entry) (bytes : List ℕ) → Says (OfNode self.old.settings) stream bytes (taken_view taken.now) →
             StandsFor g E self.old → StandsFor g (answered node_answer g E (ToArrive stream bytes (taken_view taken.now)) ∷ E) self.new }
         ensures counts { self.new.counts ≡ after_answer result self.old.counts }
         ensures popped { self.new.popped ≡ self.old.popped }

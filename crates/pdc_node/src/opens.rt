@@ -1,6 +1,6 @@
 //! The lives of a node, one after the other.
 ghost use Rattle.std.specs.Prelude.{◌≡◌};
-ghost use Rattle.pdc_life.specs.Given.{given_of};
+ghost use Rattle.pdc_life.specs.CoreKind.{given_of, OfNode};
 
 use crate::node::Node;
 use arrayvec::ArrayVec;
@@ -25,7 +25,7 @@ pub fn copy_of(settings: &Settings) -> Settings
 }
 
 impl<T: Table> Opens for Node<T> {
-    ghost given_with = { λ settings start floor counts. given_of settings start floor counts 0 };
+    ghost given_with = { λ settings start floor counts. given_of (OfNode settings) start floor counts 0 };
 
     ghost output_of = { λ settings. settings.output };
 

@@ -2,22 +2,18 @@
 ghost use Rattle.std.specs.Prelude.{◌≡◌, ◌∷◌, IfOk, length, map};
 ghost use Rattle.std.specs.List.{All};
 ghost use Rattle.pdc_life.specs.Answer.{step_of};
-ghost use Rattle.pdc_life.specs.MergerReading.{IsMergerLife};
-ghost use Rattle.pdc_life.specs.Node.{IsNodeLife};
+ghost use Rattle.pdc_life.specs.CoreKind.{IsLifeOf, OfMerger, OfNode};
 ghost use Rattle.pdc_life.specs.Run.{IsRun};
 ghost use Rattle.pdc_arrival.specs.declared.from_node.TheConstants.{NODES};
 ghost use Rattle.pdc_plain_steps.specs.Views.{IsForStream, entry_view, given_view, life_view, step_view};
-ghost use Rattle.pdc_plain.specs.Views.{IsMergerLifeOf, IsNodeLifeOf, given_to_merger, given_to_node};
+ghost use Rattle.pdc_plain.specs.Views.{IsLifeFrom, given_to};
 
 use crate::life::Life;
 use crate::merger::merged_answer;
 use crate::node::node_answer;
 use crate::opening::{Opening, given_to_merger, given_to_node};
 use pdc_arrival::{read_from_node, read_from_pmu};
-use pdc_life::{
-    MergerSettings, Settings, closed_rows_are_frames, lives_are_runs, merger_lives_are_runs,
-    rows_have_tags,
-};
+use pdc_life::{MergerSettings, Settings, closed_rows_are_frames, lives_are_runs, rows_have_tags};
 use pdc_plain_steps::{Answered, Given, LifeStep, pop, tick};
 use std::alloc::{AllocError, Global};
 
@@ -40,9 +36,9 @@ fn node_step<'a>(
     life: &[Answered<'a>],
     step: &LifeStep<'a>,
 ) -> Result<Answered<'a>, AllocError>
-    requires life { IsNodeLife settings.now (given_view given.now) (life_view life.now) }
+    requires life { IsLifeOf (OfNode settings.now) (given_view given.now) (life_view life.now) }
     requires step { IsForStream (length settings.now.pmus.items) (step_view step.now) }
-    ensures life { IfOk result (λ answered. IsNodeLife settings.now (given_view given.now) (entry_view answered ∷ life_view life.now)) }
+    ensures life { IfOk result (λ answered. IsLifeOf (OfNode settings.now) (given_view given.now) (entry_view answered ∷ life_view life.now)) }
     ensures step { IfOk result (λ answered. step_of (entry_view answered) ≡ step_view step.now) }
 {
     lives_are_runs();
@@ -74,8 +70,8 @@ pub fn live_node<'a>(
     steps: &[LifeStep<'a>],
 ) -> Result<Life<'a>, AllocError>
     requires { All (λ step. IsForStream (length settings.now.pmus.items) (step_view step)) steps.now }
-    ensures life { IfOk result (λ life. IsNodeLifeOf settings.now opening.now (map step_view steps.now) (life_view life.entries.items)) }
-    ensures given { IfOk result (λ life. given_view life.given ≡ given_to_node settings.now opening.now) }
+    ensures life { IfOk result (λ life. IsLifeFrom (OfNode settings.now) opening.now (map step_view steps.now) (life_view life.entries.items)) }
+    ensures given { IfOk result (λ life. given_view life.given ≡ given_to (OfNode settings.now) opening.now) }
 {
     lives_are_runs();
     let given = given_to_node(settings, opening);
@@ -95,9 +91,9 @@ fn merger_step<'a>(
     life: &[Answered<'a>],
     step: &LifeStep<'a>,
 ) -> Result<Answered<'a>, AllocError>
-    requires life { IsMergerLife settings.now (given_view given.now) (life_view life.now) }
+    requires life { IsLifeOf (OfMerger settings.now) (given_view given.now) (life_view life.now) }
     requires step { IsForStream NODES (step_view step.now) }
-    ensures life { IfOk result (λ answered. IsMergerLife settings.now (given_view given.now) (entry_view answered ∷ life_view life.now)) }
+    ensures life { IfOk result (λ answered. IsLifeOf (OfMerger settings.now) (given_view given.now) (entry_view answered ∷ life_view life.now)) }
     ensures step { IfOk result (λ answered. step_of (entry_view answered) ≡ step_view step.now) }
 {
     lives_are_runs();
@@ -129,10 +125,10 @@ pub fn live_merger<'a>(
     steps: &[LifeStep<'a>],
 ) -> Result<Life<'a>, AllocError>
     requires { All (λ step. IsForStream NODES (step_view step)) steps.now }
-    ensures life { IfOk result (λ life. IsMergerLifeOf settings.now opening.now (map step_view steps.now) (life_view life.entries.items)) }
-    ensures given { IfOk result (λ life. given_view life.given ≡ given_to_merger settings.now opening.now) }
+    ensures life { IfOk result (λ life. IsLifeFrom (OfMerger settings.now) opening.now (map step_view steps.now) (life_view life.entries.items)) }
+    ensures given { IfOk result (λ life. given_view life.given ≡ given_to (OfMerger settings.now) opening.now) }
 {
-    merger_lives_are_runs();
+    lives_are_runs();
     let given = given_to_merger(settings, opening);
     let mut entries = Vec::new(alloc);
     for step in steps {

@@ -1,7 +1,8 @@
 //! What a life begins with, and so what is given to it.
 ghost use Rattle.std.specs.Prelude.{◌≡◌};
+ghost use Rattle.pdc_life.specs.CoreKind.{OfMerger, OfNode};
 ghost use Rattle.pdc_plain_steps.specs.Views.{given_view};
-ghost use Rattle.pdc_plain.specs.Views.{given_to_merger, given_to_node};
+ghost use Rattle.pdc_plain.specs.Views.{given_to};
 
 use pdc_life::{MAX_PMUS, MergerSettings, Settings};
 use pdc_plain_steps::Given;
@@ -21,7 +22,7 @@ pub struct Opening {
 
 /// What is given to a life of a node.
 pub fn given_to_node(settings: &Settings, opening: &Opening) -> Given
-    ensures { given_view result ≡ given_to_node settings.now opening.now }
+    ensures { given_view result ≡ given_to (OfNode settings.now) opening.now }
 {
     Given {
         output: settings.output,
@@ -40,7 +41,7 @@ pub fn given_to_node(settings: &Settings, opening: &Opening) -> Given
 
 /// What is given to a life of the merger.
 pub fn given_to_merger(settings: &MergerSettings, opening: &Opening) -> Given
-    ensures { given_view result ≡ given_to_merger settings.now opening.now }
+    ensures { given_view result ≡ given_to (OfMerger settings.now) opening.now }
 {
     Given {
         output: settings.output,

@@ -4,8 +4,9 @@ use Rattle.std.proofs.lemmas.Option.{none-some, same_Some}
 use Rattle.pdc_life.specs.declared.given.Settings.{Settings}
 use Rattle.pdc_life.specs.declared.pmu.Pmu.{Pmu}
 use Rattle.pdc_life.specs.Arrival.{Arrival, BytesRefused, Data, Layout}
+use Rattle.pdc_life.specs.CoreKind.{OfNode}
 use Rattle.pdc_life.specs.NodeReading.{Reads}
-use Rattle.pdc_life.specs.OneLife.{NodeReadsOnce}
+use Rattle.pdc_life.specs.OneLife.{ReadsOnce}
 use Rattle.pdc_sent.specs.declared.key.Key.{Key}
 use Rattle.pdc_sent.specs.declared.key.Key.TheVariants.{Count, Instant}
 use Rattle.pdc_sent.specs.Told.{Tells, ToldView, told_in}
@@ -14,11 +15,11 @@ use Rattle.pdc_sent.specs.Told.{Tells, ToldView, told_in}
 abbrev pub view : Key → List ℕ → ToldView
 view key x = record { key = key; content = x }
 
-pub told_is_read : NodeReadsOnce → (settings : Settings) (pmu : Pmu) (bytes : List ℕ) (a : Arrival) (key : Key) (x : List ℕ) → Reads settings 0 pmu bytes a → Tells settings pmu bytes key x → told_in a ≡ Some (view key x)
+pub told_is_read : ReadsOnce → (settings : Settings) (pmu : Pmu) (bytes : List ℕ) (a : Arrival) (key : Key) (x : List ℕ) → Reads settings 0 pmu bytes a → Tells settings pmu bytes key x → told_in a ≡ Some (view key x)
 told_is_read once settings pmu bytes a (Instant i) x reads tells =
-    ap told_in (once settings 0 pmu bytes a (Data i tells.quality x) reads tells.is_data)
+    ap told_in (once (OfNode settings) 0 pmu bytes a (Data i tells.quality x) reads tells.is_data)
 told_is_read once settings pmu bytes a (Count n) x reads tells =
-    ap told_in (once settings 0 pmu bytes a (Layout None ((0, tells.section) ∷ [])) reads (refl, tells.valid))
+    ap told_in (once (OfNode settings) 0 pmu bytes a (Layout None ((0, tells.section) ∷ [])) reads (refl, tells.valid))
     ∙ ap (λ (m : ℕ). Some (view (Count m) tells.section.bytes)) tells.same_count ∙ ap (λ (y : List ℕ). Some (view (Count n) y)) tells.same_bytes
 
 as_told : (settings : Settings) (pmu : Pmu) (bytes : List ℕ) (t : ToldView) (key : Key) (x : List ℕ) → Some t ≡ Some (view key x) → Tells settings pmu bytes t.key t.content → Tells settings pmu bytes key x

@@ -1,10 +1,8 @@
 -- How a run is over that began with what a mark stores, and what it tells (this profile).
 use Rattle.std.specs.Prelude.{◌≡◌, ℕ, List, Option, Result, Some}
 use Rattle.pdc_life.specs.Answer.{Rules}
-use Rattle.pdc_life.specs.Given.{Given, given_of}
-use Rattle.pdc_life.specs.Merger.{merged_answer}
-use Rattle.pdc_life.specs.MergerReading.{ReadsForMerger, given_of_merger}
-use Rattle.pdc_life.specs.Node.{ReadsFor, node_answer}
+use Rattle.pdc_life.specs.CoreKind.{CoreKind, given_of, OfMerger, OfNode, rules_of, Says}
+use Rattle.pdc_life.specs.Given.{Given}
 use Rattle.pdc_life.specs.declared.merging.MergerSettings.{MergerSettings}
 use Rattle.pdc_life.specs.declared.given.Settings.{Settings}
 use Rattle.pdc_mark.specs.declared.stored.Stored.{Stored}
@@ -50,15 +48,19 @@ abbrev pub HasEndedAsGiven : {C S : Type 0} (rules : Rules) (Stands : C → Live
 HasEndedAsGiven rules Stands Says given every told Gave Took before after sources outcome =
     HasEndedWith rules Stands (Some given) Says given.output given.output.rate every told Gave Took before after sources outcome
 
--- of a node, by its rules, and its settings with what the mark stores
+-- of a kind of core, by its rules, and its settings with what the mark stores
+abbrev pub HasEndedUnder : {C S : Type 0} (kind : CoreKind) (Stands : C → Lives) (every : ℕ) (told : S → List Heard → Type 0) (Gave : List ℕ → Type 0) (Took : List (List ℕ) → Type 0) (before after : Found) (sources : List S) (outcome : Result Totals HubFault) → Type 0
+HasEndedUnder kind Stands every told Gave Took before after sources outcome =
+    HasEndedAsGiven (rules_of kind) Stands (Says kind) (given_of kind before.stored.start before.stored.floor before.stored.counts 0) every told Gave Took before after sources outcome
+
+-- of a node, and of the merger
 abbrev pub NodeHasEnded : {S : Type 0} (settings : Settings) (every : ℕ) (told : S → List Heard → Type 0) (Gave : List ℕ → Type 0) (Took : List (List ℕ) → Type 0) (before after : Found) (sources : List S) (outcome : Result Totals HubFault) → Type 0
 NodeHasEnded settings every told Gave Took before after sources outcome =
-    HasEndedAsGiven node_answer (λ n g E. StandsFor g E n) (ReadsFor settings) (given_of settings before.stored.start before.stored.floor before.stored.counts 0) every told Gave Took before after sources outcome
+    HasEndedUnder (OfNode settings) (λ n g E. StandsFor g E n) every told Gave Took before after sources outcome
 
--- of the merger
 abbrev pub MergerHasEnded : {S : Type 0} (settings : MergerSettings) (every : ℕ) (told : S → List Heard → Type 0) (Gave : List ℕ → Type 0) (Took : List (List ℕ) → Type 0) (before after : Found) (sources : List S) (outcome : Result Totals HubFault) → Type 0
 MergerHasEnded settings every told Gave Took before after sources outcome =
-    HasEndedAsGiven merged_answer (λ m g E. MergerStandsFor g E m) (ReadsForMerger settings) (given_of_merger settings before.stored.start before.stored.floor before.stored.counts 0) every told Gave Took before after sources outcome
+    HasEndedUnder (OfMerger settings) (λ m g E. MergerStandsFor g E m) every told Gave Took before after sources outcome
 
 -- of either of them
 abbrev pub EitherHasEnded : {S : Type 0} → Concentrator → (every : ℕ) (told : S → List Heard → Type 0) (Gave : List ℕ → Type 0) (Took : List (List ℕ) → Type 0) (before after : Found) (sources : List S) (outcome : Result Totals HubFault) → Type 0

@@ -5,8 +5,7 @@ ghost use Rattle.pdc_threads.specs.Rate.{IsAtRate};
 ghost use Rattle.pdc_threads.specs.Run.{GivesFrom, HasEach, HasRun, HasRunInTurns, IsCausedByMark, IsCausedBySink, IsSummed};
 ghost use Rattle.pdc_aligner.specs.Device.{standing_of};
 ghost use Rattle.pdc_hub.specs.declared.fault.HubFault.TheVariants.{NoMemory};
-ghost use Rattle.pdc_life.specs.Given.{Given, given_of};
-ghost use Rattle.pdc_life.specs.MergerReading.{given_of_merger};
+ghost use Rattle.pdc_life.specs.CoreKind.{given_of, OfMerger, OfNode};
 ghost use Rattle.pdc_merge.specs.Merger.{StandsFor as MergerStandsFor};
 ghost use Rattle.pdc_node.specs.Node.{StandsFor};
 ghost use Rattle.pdc_publisher.specs.Publisher.{last_in, lead_in, mark_in, output_in};
@@ -241,7 +240,7 @@ pub fn run_node<W: Outside, R: Threads + Wait + Sync>(
     ensures mark { IsCausedByMark result.outcome (begun_standing (W.Mark.is_broken (begun_mark handed.mark)) (W.Mark.failures (begun_mark handed.mark))) (standing_of result.publisher) }
     // And tick by tick: what was put for each tick are the data frames of the node's life, begun with what the mark stored, and then its
     // layout, after so many ticks as the plan says and where it changed.
-    ensures turned { HasRunAsGiven (λ n g E. StandsFor g E n) (given_of settings.now (W.Mark.stored (begun_mark handed.mark)).start (W.Mark.stored (begun_mark handed.mark)).floor (W.Mark.stored (begun_mark handed.mark)).counts 0) plan.now.layout_every (GivesFrom W.Ticker.gave handed.ticker) (W.Sink.took handed.sink result.sink) (W.Mark.stored (begun_mark handed.mark)) (W.Mark.stored (mark_in result.publisher)) result.outcome }
+    ensures turned { HasRunAsGiven (λ n g E. StandsFor g E n) (given_of (OfNode settings.now) (W.Mark.stored (begun_mark handed.mark)).start (W.Mark.stored (begun_mark handed.mark)).floor (W.Mark.stored (begun_mark handed.mark)).counts 0) plan.now.layout_every (GivesFrom W.Ticker.gave handed.ticker) (W.Sink.took handed.sink result.sink) (W.Mark.stored (begun_mark handed.mark)) (W.Mark.stored (mark_in result.publisher)) result.outcome }
     // Each source was read as the stream of its place, each datagram answered in the node's life, and the entries of the totals are what was
     // counted of each; the fault that is told is the first in the order receivers, aligner, sender.
     ensures ended { NodeHasEnded settings.now plan.now.layout_every W.Source.told (GivesFrom W.Ticker.gave handed.ticker) (W.Sink.took handed.sink result.sink)
@@ -275,7 +274,7 @@ pub fn run_merger<W: Outside, R: Threads + Wait + Sync>(
     ensures each { HasEach result.outcome (vec_len handed.sources) }
     ensures kept { (output_in result.publisher ≡ settings.now.output) × (lead_in result.publisher ≡ plan.now.lead) }
     ensures mark { IsCausedByMark result.outcome (begun_standing (W.Mark.is_broken (begun_mark handed.mark)) (W.Mark.failures (begun_mark handed.mark))) (standing_of result.publisher) }
-    ensures turned { HasRunAsGiven (λ m g E. MergerStandsFor g E m) (given_of_merger settings.now (W.Mark.stored (begun_mark handed.mark)).start (W.Mark.stored (begun_mark handed.mark)).floor (W.Mark.stored (begun_mark handed.mark)).counts 0) plan.now.layout_every (GivesFrom W.Ticker.gave handed.ticker) (W.Sink.took handed.sink result.sink) (W.Mark.stored (begun_mark handed.mark)) (W.Mark.stored (mark_in result.publisher)) result.outcome }
+    ensures turned { HasRunAsGiven (λ m g E. MergerStandsFor g E m) (given_of (OfMerger settings.now) (W.Mark.stored (begun_mark handed.mark)).start (W.Mark.stored (begun_mark handed.mark)).floor (W.Mark.stored (begun_mark handed.mark)).counts 0) plan.now.layout_every (GivesFrom W.Ticker.gave handed.ticker) (W.Sink.took handed.sink result.sink) (W.Mark.stored (begun_mark handed.mark)) (W.Mark.stored (mark_in result.publisher)) result.outcome }
     ensures ended { MergerHasEnded settings.now plan.now.layout_every W.Source.told (GivesFrom W.Ticker.gave handed.ticker) (W.Sink.took handed.sink result.sink)
         (found_by (W.Mark.stored (begun_mark handed.mark)) (begun_standing (W.Mark.is_broken (begun_mark handed.mark)) (W.Mark.failures (begun_mark handed.mark))) (W.Sink.failures_of handed.sink)) (found_by (W.Mark.stored (mark_in result.publisher)) (standing_of result.publisher) (W.Sink.failures_of result.sink)) handed.sources.items result.outcome }
 {

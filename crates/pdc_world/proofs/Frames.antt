@@ -1,6 +1,6 @@
 -- The frames that cores send fit, and are no PMU's.
 use Rattle.std.proofs.Common.{[], ◌++◌, ◌+◌, ◌∙◌, ◌∷◌, ◌≡◌, ◌≤◌, ap, arith, Bool, cond, Err, false, IfSome, inl, inr, is_some, IsOk, IsSome, length, List, lit<, nat_lt, None, Ok, Option, option_map, refl, Result, Some, subst, sym, true, ℕ}
-use Rattle.pdc_world.proofs.Names.{A, answered, append-nil, B, cases_lt, changes, Contains, DueRow, Entry, few_columns, Fields, frames_if, frames_with, FramesAreKnown, Given, given_in, given_output, Happened, IsFrame, IsHistory, IsLifeOf, IsOfNone, IsOfPmu, IsPart, IsPublishedData, IsRun, IsSomeFrame, IsSomePart, Keeps, last_one, layout_wire, layouts_of, LedgerView, life_after_tick, life_of, lt-ltb, M, MAX_SIZE, new_change, opened_with, Output, output_of, pop_answer, published, Publishes, raised, row_view, RowView, Seat, Settings, Stored, Tick, tick_answer, Ticked, ticked_of, Ticks, ToTick, waiting_counts, Who, wire_of, wire_of_some, with_waiting, World}
+use Rattle.pdc_world.proofs.Names.{A, append-nil, B, cases_lt, changes, Contains, DueRow, Entry, few_columns, Fields, frames_if, frames_with, FramesAreKnown, Given, given_in, Happened, IsFrame, IsHistory, IsLifeOf, IsOfNone, IsOfPmu, IsPart, IsPublishedData, IsSomeFrame, IsSomePart, Keeps, kind_of, last_one, layout_wire, layouts_of, LedgerView, life_after_tick, life_of, lt-ltb, MAX_SIZE, new_change, Output, output_of, pop_answer, published, Publishes, raised, row_view, RowView, Seat, Settings, Stored, Tick, tick_answer, Ticked, ticked_of, Ticks, waiting_counts, Who, wire_of, wire_of_some, with_waiting, World}
 use Rattle.pdc_history.specs.Event as event
 
 -- a bound that is not absurd
@@ -37,7 +37,7 @@ row_history W H v row history gave = (record { event = event.Do v event.Publish;
 row_wire : (W : World) (H : List Happened) (v : Who) (row : RowView) (out : List ℕ) → Some row ≡ pop_answer (life_of H v)
     → out ≡ wire_of_some (given_in W H v).output (pop_answer (life_of H v)) → out ≡ wire_of (output_of W v) row
 row_wire W H v row out gave bytes =
-    bytes ∙ ap (λ (r : Option RowView). wire_of_some (given_in W H v).output r) (sym gave) ∙ ap (λ (o : Output). wire_of o row) (given_output W v (opened_with W H v))
+    bytes ∙ ap (λ (r : Option RowView). wire_of_some (given_in W H v).output r) (sym gave)
 
 pub row_most : FramesAreKnown → (v : Who) (seat : Seat) (l : LedgerView) (row : Option DueRow) (out : List ℕ) → IsSomePart v seat l
     → ((g : Given) (E : List Entry) → seat.stands g E → option_map row_view row ≡ pop_answer E) → ((g : Given) (E : List Entry) → seat.stands g E → out ≡ wire_of_some g.output (pop_answer E))
@@ -63,17 +63,12 @@ row_none known v seat l table (Some row) out same some gives bytes =
 
 -- ---- layouts
 
-run_of : FramesAreKnown → (W : World) (v : Who) (g : Given) (E : List Entry) → IsLifeOf W v g E → IsRun g E
-run_of known W A g E life = known.node_runs W.a.settings g E life
-run_of known W B g E life = known.node_runs W.b.settings g E life
-run_of known W M g E life = known.merger_runs W.m.settings g E life
-
 layout_fits_in : FramesAreKnown → (W : World) (H : List Happened) (v : Who) (e : Entry) → IsHistory W (Ticks v e ∷ H) → length (layout_wire (given_in W H v) (e ∷ life_of H v) 0) ≤ MAX_SIZE
 layout_fits_in known W H v e history =
-    let life : IsLifeOf W v (given_in W H v) (e ∷ life_of H v) =
-    subst (λ (E : List Entry). IsLifeOf W v (given_in W H v) E) (life_after_tick H v e) (known.lives W (Ticks v e ∷ H) v history).present in
+    let life : IsLifeOf (kind_of W v) (given_in W H v) (e ∷ life_of H v) =
+    subst (λ (E : List Entry). IsLifeOf (kind_of W v) (given_in W H v) E) (life_after_tick H v e) (known.lives W (Ticks v e ∷ H) v history).present in
     frame_fits known (layout_wire (given_in W H v) (e ∷ life_of H v) 0) _
-    (known.layouts (given_in W H v) (e ∷ life_of H v) 0 (run_of known W v (given_in W H v) (e ∷ life_of H v) life) (few_columns W v (opened_with W H v)) (lit< tt)).0
+    (known.layouts (given_in W H v) (e ∷ life_of H v) 0 (known.runs (kind_of W v) (given_in W H v) (e ∷ life_of H v) life) (few_columns (kind_of W v)) (lit< tt)).0
 
 adopts : (change : ℕ) (adopted : List ℕ) → IsSome (new_change change adopted) → nat_lt 0 (length adopted) ≡ true
 adopts change [] some = cc
@@ -87,7 +82,7 @@ pub layout_some : FramesAreKnown → (v : Who) (old : Seat) (After : Given → L
     → IsSomePart v old l
     → ((g : Given) (E : List Entry) → old.stands g E → new ≡ with_waiting (waiting_counts g E) old.mark)
     → ((g : Given) (E : List Entry) → old.stands g E → ticked ≡ ticked_of (changes E) (tick_answer g E now new.counts))
-    → ((g : Given) (E : List Entry) → old.stands g E → After g (answered old.rules g E (ToTick now new.counts) ∷ E))
+    → ((g : Given) (E : List Entry) → old.stands g E → After g (Tick now new.counts (tick_answer g E now new.counts) ∷ E))
     → IsSome ticked.change → IsSomeFrame After table
 layout_some known v old After new l table now ticked same some marks tells stands change =
     λ none. some (λ W H part.

@@ -1,7 +1,7 @@
 -- Acts of one core, as what they make happen.
 use Rattle.std.proofs.Common.{[], ◌++◌, ◌+◌, ◌<◌, ◌^◌, ◌∙◌, ◌∷◌, ◌≡◌, ap, arith, Bool, cond, Err, IfOk, length, List, nat_lt, None, Ok, Option, option_map, refl, Result, Some, subst, sym, ℕ}
 use Rattle.pdc_event.specs.declared.who.Who.{Who as WhoData}
-use Rattle.pdc_world.proofs.Names.{answered, append-nil, Asked, Bring, changes, Comes, Ends, Entry, Fault, frames_with, Given, given_by, given_in, given_output, Happened, HasStopped, Hears, is_itself, IsAct, IsPart, IsReadOf, IsSend, IsStepOf, Keeps, layout_wire, layouts_of, lead_of, LedgerView, left_by, life_of, listed_at, listed_with, lt-ltb, mark_of, MayCome, Miss, new_change, opened_with, Outcome, Output, output_of, PassesBy, pop_answer, Published, published_as, Publishes, raised, Reply, reserved, RowView, Rules, rules_of, Seat, Sends, sent, sent_at, Stop, StopAt, Stored, Tick, tick_answer, Ticked, ticked_of, Ticks, ToArrive, ToPop, ToTick, waiting_counts, Who, who_of, with_next_start, with_waiting, World}
+use Rattle.pdc_world.proofs.Names.{answered, append-nil, Arrival, Asked, Bring, changes, Comes, CoreKind, Ends, Entry, Fault, frames_with, Given, given_by, given_in, given_of, Happened, HasStopped, Hears, is_itself, IsAct, IsPart, IsReadOf, IsSeat, IsSend, IsStepOf, Keeps, kind_of, layout_wire, layouts_of, lead_of, LedgerView, left_by, life_of, listed_at, listed_with, lt-ltb, mark_of, MayCome, Miss, new_change, Outcome, output_of, PassesBy, Pop, pop_answer, Published, published_as, Publishes, raised, Reply, reserved, RowView, Rules, rules_of, Says, Seat, Sends, sent, sent_at, Stop, StopAt, Stored, Tick, tick_answer, Ticked, ticked_of, Ticks, ToArrive, waiting_counts, Who, who_of, with_next_start, with_waiting, World}
 use Rattle.pdc_world.proofs.{Ended.{asked_to_stop, begun_by, stop_step}, Own.{come_comes, come_ends, come_passes, come_publishes, come_ticks, name_back}}
 use Rattle.pdc_event.specs.declared.reply.Reply.TheVariants as reply
 use Rattle.pdc_history.specs.Asked as asked
@@ -24,26 +24,33 @@ quiet W H h l keeps unsent unlisted =
 
 -- ---- arrivals
 
+-- what its core is told, as the kind of core that the world says
+pub said_to : (W : World) (who : Who) (seat : Seat) (s : ℕ) (bytes : List ℕ) (arrival : Arrival) → IsSeat W who seat → Says seat.kind s bytes arrival
+    → Says (kind_of W who) s bytes arrival
+said_to W who seat s bytes arrival one says = subst (λ (kind : CoreKind). Says kind s bytes arrival) one.kind says
+
 pub heard_made : (W : World) (H : List Happened) (w : WhoData) (asked : Asked) (old new : Seat) (l : LedgerView) (s : ℕ) (bytes : List ℕ) (outcome : Outcome)
-    → IsPart W H (who_of w) old l → (hears : Hears old.says old.rules old.stands new.stands s bytes outcome) → new.mark ≡ old.mark
+    (rules : Rules) (says : ℕ → List ℕ → Arrival → Type 0) → rules ≡ rules_of old.kind
+    → IsPart W H (who_of w) old l → (hears : Hears says rules old.stands new.stands s bytes outcome) → new.mark ≡ old.mark
     → IsReadOf W H asked (Bring (who_of w) s bytes hears.arrival) → MayCome W H (who_of w) s bytes hears.arrival
     → IsAct W H (who_of w) asked new l (reply.Came w (Some outcome))
-heard_made W H w asked old new l s bytes outcome part hears stays read may =
+heard_made W H w asked old new l s bytes outcome rules says of_kind part hears stays read may =
+    let by : rules ≡ rules_of (kind_of W (who_of w)) = of_kind ∙ ap rules_of part.one.kind in
     let v : Who = who_of w in
     let g : Given = given_in W H v in
     let E : List Entry = life_of H v in
     record {
-      happened = Comes v (answered (rules_of v) g E (ToArrive s bytes hears.arrival));
+      happened = Comes v (answered (rules_of (kind_of W v)) g E (ToArrive s bytes hears.arrival));
       step = record { event = Bring v s bytes hears.arrival; read = read; may = may; made = refl };
       own = is_itself v;
       come =
-          come_comes W H v (answered (rules_of v) g E (ToArrive s bytes hears.arrival)) new
-          (subst (λ (r : Rules). new.stands g (answered r g E (ToArrive s bytes hears.arrival) ∷ E)) part.one.rules (hears.stands g E part.come.stands))
+          come_comes W H v (answered (rules_of (kind_of W v)) g E (ToArrive s bytes hears.arrival)) new
+          (subst (λ (r : Rules). new.stands g (answered r g E (ToArrive s bytes hears.arrival) ∷ E)) by (hears.stands g E part.come.stands))
           (stays ∙ part.come.mark);
-      keeps = quiet W H (Comes v (answered (rules_of v) g E (ToArrive s bytes hears.arrival))) l part.keeps refl refl;
+      keeps = quiet W H (Comes v (answered (rules_of (kind_of W v)) g E (ToArrive s bytes hears.arrival))) l part.keeps refl refl;
       told =
-          ap (λ (o : Outcome). reply.Came w (Some o)) (hears.answer g E part.come.stands ∙ ap (λ (r : Rules). (r g E s hears.arrival).outcome) part.one.rules)
-          ∙ ap (λ (x : WhoData). reply.Came x (Some (rules_of v g E s hears.arrival).outcome)) (sym (name_back w));
+          ap (λ (o : Outcome). reply.Came w (Some o)) (hears.answer g E part.come.stands ∙ ap (λ (r : Rules). (r g E s hears.arrival).outcome) by)
+          ∙ ap (λ (x : WhoData). reply.Came x (Some (rules_of (kind_of W v) g E s hears.arrival).outcome)) (sym (name_back w));
     }
 
 pub passed_made : (W : World) (H : List Happened) (w : WhoData) (asked : Asked) (seat : Seat) (l : LedgerView) → IsPart W H (who_of w) seat l
@@ -73,7 +80,7 @@ pub ticked_made : (W : World) (H : List Happened) (w : WhoData) (old new : Seat)
     → IsPart W H (who_of w) old l
     → ((g : Given) (E : List Entry) → old.stands g E → new.mark ≡ with_waiting (waiting_counts g E) old.mark)
     → ((g : Given) (E : List Entry) → old.stands g E → ticked ≡ ticked_of (changes E) (tick_answer g E now new.mark.counts))
-    → ((g : Given) (E : List Entry) → old.stands g E → new.stands g (answered old.rules g E (ToTick now new.mark.counts) ∷ E))
+    → ((g : Given) (E : List Entry) → old.stands g E → new.stands g (Tick now new.mark.counts (tick_answer g E now new.mark.counts) ∷ E))
     → m.table ≡ l.table → ((g : Given) (E : List Entry) → new.stands g E → m.frames ≡ l.frames ++ layouts_of ticked.change g E) → m.published ≡ l.published
     → IsAct W H (who_of w) (asked.Do (who_of w) (event.TickAt now)) new m (reply.Ticked w ticked)
 ticked_made W H w old new l m now ticked part marks tells stands table frames published =
@@ -121,7 +128,7 @@ pub published_made : (W : World) (H : List Happened) (w : WhoData) (old new : Se
     → IsPart W H (who_of w) old l
     → ((g : Given) (E : List Entry) → old.stands g E → row ≡ pop_answer E)
     → ((g : Given) (E : List Entry) → old.stands g E → new.mark ≡ reserved old.lead (pop_answer E) old.mark)
-    → ((g : Given) (E : List Entry) → old.stands g E → new.stands g (answered old.rules g E ToPop ∷ E))
+    → ((g : Given) (E : List Entry) → old.stands g E → new.stands g (Pop (pop_answer E) ∷ E))
     → m.table ≡ l.table → ((g : Given) (E : List Entry) → old.stands g E → m.frames ≡ l.frames ++ frames_with g.output row)
     → m.published ≡ l.published ++ listed_with (who_of w) (length l.frames) row → out ≡ option_map (published_as (who_of w) (length l.frames)) row
     → IsAct W H (who_of w) (asked.Do (who_of w) event.Publish) new m (reply.Published w out)
@@ -139,8 +146,7 @@ published_made W H w old new l m row out part gives marks stands table frames pu
       come = come_publishes W H v (pop_answer E) new (stands g E part.come.stands) same;
       keeps =
           more_kept W H (Publishes v (pop_answer E)) l m part.keeps table
-          (frames g E part.come.stands ∙ ap (λ (o : Output). l.frames ++ frames_with o row) (given_output W v (opened_with W H v))
-          ∙ ap (λ (r : Option RowView). l.frames ++ frames_with (output_of W v) r) gave ∙ ap (λ (xs : List (List ℕ)). l.frames ++ xs) (same_frames W H v (pop_answer E)))
+          (frames g E part.come.stands ∙ ap (λ (r : Option RowView). l.frames ++ frames_with (output_of W v) r) gave ∙ ap (λ (xs : List (List ℕ)). l.frames ++ xs) (same_frames W H v (pop_answer E)))
           (published ∙ ap (λ (n : ℕ). l.published ++ listed_with v n row) (ap length part.keeps.frames)
           ∙ ap (λ (r : Option RowView). l.published ++ listed_with v (length (sent W H)) r) gave
           ∙ ap (λ (xs : List Published). l.published ++ xs) (same_listed W H v (pop_answer E)));
@@ -154,7 +160,7 @@ published_made W H w old new l m row out part gives marks stands table frames pu
 
 pub ended_made : (W : World) (H : List Happened) (w : WhoData) (at : StopAt) (old new : Seat) (l : LedgerView) (said : Reply) {S : Type 0} (stored : S → Stored)
     (StopsAs : Stop → S → S → Type 0) (before after : S) → IsPart W H (who_of w) old l → old.mark ≡ stored before → new.mark ≡ stored after
-    → HasStopped stored StopsAs old.stands at old.lead before after → new.mark.start < 2 ^ 32 → new.stands (old.given new.mark) []
+    → HasStopped stored StopsAs old.stands at old.lead before after → new.mark.start < 2 ^ 32 → new.stands (given_of old.kind new.mark.start new.mark.floor new.mark.counts 0) []
     → said ≡ reply.Stopped w new.mark.start new.mark.floor → IsAct W H (who_of w) (asked_to_stop (who_of w) at) new l said
 ended_made W H w at old new l said stored StopsAs before after part was is stopped fits stands tells =
     let v : Who = who_of w in
@@ -167,7 +173,7 @@ ended_made W H w at old new l said stored StopsAs before after part was is stopp
       own = is_itself v;
       come =
           come_ends W H v (begun_by W H v at) new
-          (subst (λ (s : Stored). new.stands (given_by W v s) []) same (subst (λ (g : Given). new.stands g []) (part.one.given new.mark) stands)) same;
+          (subst (λ (s : Stored). new.stands (given_by W v s) []) same (subst (λ (kind : CoreKind). new.stands (given_of kind new.mark.start new.mark.floor new.mark.counts 0) []) part.one.kind stands)) same;
       keeps = quiet W H (Ends v (begun_by W H v at)) l part.keeps refl refl;
       told =
           tells ∙ ap (λ (s : Stored). reply.Stopped w s.start s.floor) same

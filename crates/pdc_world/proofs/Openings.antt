@@ -1,6 +1,6 @@
 -- A world whose first lives begin.
 use Rattle.std.proofs.Common.{[], ◌&&◌, ◌<◌, ◌^◌, ◌∙◌, ◌≡◌, ◌⊎◌, ap, arith, Bool, false, inl, inr, nat_lt, refl, subst, sym, true}
-use Rattle.pdc_world.proofs.Names.{A, and_parts, are_left, B, both_ways, do_agree, first_mark, given_by, given_of, given_of_merger, HasCome, HasNoStart, Holds, Leads, LedgerView, ltb-false, ltb-true, M, MayBegin, merger_seat, MergerSettings, node_seat, Seat, Settings, SettingsAgree, Stored, Who, with_next_start, World, world_of, WorldView}
+use Rattle.pdc_world.proofs.Names.{A, and_parts, are_left, B, both_ways, do_agree, first_mark, given_by, given_of, HasCome, HasNoStart, Holds, Leads, LedgerView, ltb-false, ltb-true, M, MayBegin, MergerSettings, OfMerger, OfNode, Seat, seat_of, Settings, SettingsAgree, Stored, Who, with_next_start, World, world_of, WorldView}
 use Rattle.pdc_world.proofs.Agreements.{agree_from, agree_to}
 use Rattle.pdc_merge.specs.Merger as merger
 use Rattle.pdc_node.specs.Node as node
@@ -57,16 +57,16 @@ no_start a b m leads of_a of_b of_m test is e =
 -- ---- a world that begins
 
 pub begun_holds : (a b : Settings) (m : MergerSettings) (leads : Leads) (of_a of_b of_m : Stored) (v : WorldView) → do_agree a b m ≡ true → are_left of_a of_b of_m ≡ true
-    → v.a.mark ≡ with_next_start of_a → node.StandsFor (given_of a v.a.mark.start v.a.mark.floor v.a.mark.counts 0) [] v.a.core → v.a.core.settings ≡ a → v.a.lead ≡ leads.a
-    → v.b.mark ≡ with_next_start of_b → node.StandsFor (given_of b v.b.mark.start v.b.mark.floor v.b.mark.counts 0) [] v.b.core → v.b.core.settings ≡ b → v.b.lead ≡ leads.b
-    → v.m.mark ≡ with_next_start of_m → merger.StandsFor (given_of_merger m v.m.mark.start v.m.mark.floor v.m.mark.counts 0) [] v.m.core → v.m.core.settings ≡ m → v.m.lead ≡ leads.m
+    → v.a.mark ≡ with_next_start of_a → node.StandsFor (given_of (OfNode a) v.a.mark.start v.a.mark.floor v.a.mark.counts 0) [] v.a.core → v.a.core.settings ≡ a → v.a.lead ≡ leads.a
+    → v.b.mark ≡ with_next_start of_b → node.StandsFor (given_of (OfNode b) v.b.mark.start v.b.mark.floor v.b.mark.counts 0) [] v.b.core → v.b.core.settings ≡ b → v.b.lead ≡ leads.b
+    → v.m.mark ≡ with_next_start of_m → merger.StandsFor (given_of (OfMerger m) v.m.mark.start v.m.mark.floor v.m.mark.counts 0) [] v.m.core → v.m.core.settings ≡ m → v.m.lead ≡ leads.m
     → v.ledger ≡ record { table = a; frames = []; published = [] } → Holds (world_of a b m leads of_a of_b of_m) [] v
 begun_holds a b m leads of_a of_b of_m v agree left a_mark a_stands a_settings a_lead b_mark b_stands b_settings b_lead m_mark m_stands m_settings m_lead ledger = record {
   history = may_begin a b m leads of_a of_b of_m agree left;
   seats = elim [
-    | A ↦ record { settings = a_settings; lead = a_lead; come = come_first (world_of a b m leads of_a of_b of_m) A (node_seat v.a) a_mark a_stands }
-    | B ↦ record { settings = b_settings; lead = b_lead; come = come_first (world_of a b m leads of_a of_b of_m) B (node_seat v.b) b_mark b_stands }
-    | M ↦ record { settings = m_settings; lead = m_lead; come = come_first (world_of a b m leads of_a of_b of_m) M (merger_seat v.m) m_mark m_stands }
+    | A ↦ record { kind = ap OfNode a_settings; lead = a_lead; come = come_first (world_of a b m leads of_a of_b of_m) A (seat_of A v.a) a_mark a_stands }
+    | B ↦ record { kind = ap OfNode b_settings; lead = b_lead; come = come_first (world_of a b m leads of_a of_b of_m) B (seat_of B v.b) b_mark b_stands }
+    | M ↦ record { kind = ap OfMerger m_settings; lead = m_lead; come = come_first (world_of a b m leads of_a of_b of_m) M (seat_of M v.m) m_mark m_stands }
   ];
   ledger = record { table = ap (λ (l : LedgerView). l.table) ledger; frames = ap (λ (l : LedgerView). l.frames) ledger; published = ap (λ (l : LedgerView). l.published) ledger };
 }

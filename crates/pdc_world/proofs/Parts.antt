@@ -1,25 +1,12 @@
 -- The seats of a world, and a world in which something happened to one of them.
-use Rattle.std.proofs.Common.{◌∙◌, ◌∷◌, ◌≡◌, ap, Bool, Err, false, IfErr, IfOk, List, Ok, OnErr, refl, Result, subst, sym, true}
-use Rattle.pdc_world.proofs.Names.{A, Asked, B, CoreOf, Fault, given_of, given_of_merger, Happened, Holds, HoldsSome, ids_of, is_own, is_same, IsAct, IsAnswered, IsMade, IsPart, IsRefused, IsSeat, IsSeated, IsSomePart, IsWhy, Keeps, LedgerView, M, MergerSettings, node_ids, ReadsFor, ReadsForMerger, Reply, seat_of, Settings, settings_in, station_of, StationView, Who, World, WorldView}
+use Rattle.std.proofs.Common.{◌∙◌, ◌∷◌, ◌≡◌, Bool, Err, false, IfErr, IfOk, List, Ok, OnErr, refl, Result, subst, sym, true}
+use Rattle.pdc_world.proofs.Names.{A, Asked, B, CoreOf, Fault, Happened, Holds, HoldsSome, is_own, is_same, IsAct, IsAnswered, IsMade, IsPart, IsRefused, IsSeat, IsSeated, IsSomePart, IsWhy, Keeps, kind_in, LedgerView, M, Reply, seat_of, station_of, StationView, Who, World, WorldView}
 use Rattle.pdc_world.proofs.Others.{others_stay}
 
 -- ---- one seat
 
 is_seat : (W : World) (H : List Happened) (who : Who) (station : StationView (CoreOf who)) → IsSeated W H who station → IsSeat W who (seat_of who station)
-is_seat W H M station seated = record {
-  rules = refl;
-  given = λ mark. ap (λ (s : MergerSettings). given_of_merger s mark.start mark.floor mark.counts 0) seated.settings;
-  says = λ s bytes arrival says. subst (λ (x : MergerSettings). ReadsForMerger x s bytes arrival) seated.settings says;
-  ids = ap node_ids seated.settings;
-  lead = seated.lead;
-}
-is_seat W H who station seated = record {
-  rules = refl;
-  given = λ mark. ap (λ (s : Settings). given_of s mark.start mark.floor mark.counts 0) seated.settings;
-  says = λ s bytes arrival says. subst (λ (x : Settings). ReadsFor x s bytes arrival) seated.settings says;
-  ids = ap (λ (s : Settings). ids_of s.pmus.items) seated.settings;
-  lead = seated.lead;
-}
+is_seat W H who station seated = record { kind = seated.kind; lead = seated.lead }
 
 part_at : (W : World) (H : List Happened) (v : WorldView) (who w : Who) → w ≡ who → Holds W H v → IsPart W H w (seat_of who (station_of v who)) v.ledger
 part_at W H v who w same h =
@@ -38,7 +25,7 @@ with_station v M station l r = record { a = v.a; b = v.b; m = station; ledger = 
 
 stays : (W : World) (H : List Happened) (h : Happened) (who w : Who) (station : StationView (CoreOf w)) → is_own who h ≡ true → is_same who w ≡ false → IsSeated W H w station
     → IsSeated W (h ∷ H) w station
-stays W H h who w station own other old = record { settings = old.settings; lead = old.lead; come = others_stay W H h who w (seat_of w station) own other old.come }
+stays W H h who w station own other old = record { kind = old.kind; lead = old.lead; come = others_stay W H h who w (seat_of w station) own other old.come }
 
 seats_after : (W : World) (H : List Happened) (h : Happened) (v : WorldView) (who : Who) (station : StationView (CoreOf who)) (l : LedgerView) (r : Bool) → is_own who h ≡ true
     → ((w : Who) → IsSeated W H w (station_of v w)) → IsSeated W (h ∷ H) who station → (w : Who) → IsSeated W (h ∷ H) w (station_of (with_station v who station l r) w)
@@ -52,36 +39,36 @@ same_ledger v A station l r = refl
 same_ledger v who station l r = refl
 
 moved : (W : World) (H : List Happened) (asked : Asked) (reply : Reply) (v : WorldView) (who : Who) (station : StationView (CoreOf who)) (l : LedgerView) (r : Bool) → Holds W H v
-    → settings_in who station.core ≡ settings_in who (station_of v who).core → station.lead ≡ (station_of v who).lead → IsAct W H who asked (seat_of who station) l reply
+    → kind_in who station.core ≡ kind_in who (station_of v who).core → station.lead ≡ (station_of v who).lead → IsAct W H who asked (seat_of who station) l reply
     → IsAnswered W H asked reply (with_station v who station l r)
-moved W H asked reply v who station l r h settings lead act = record {
+moved W H asked reply v who station l r h kind lead act = record {
   happened = act.happened;
   step = act.step;
   holds = record {
     history = (record { event = act.step.event; may = act.step.may; made = act.step.made }, h.history);
     seats =
         seats_after W H act.happened v who station l r act.own h.seats
-        (record { settings = settings ∙ (h.seats who).settings; lead = lead ∙ (h.seats who).lead; come = act.come });
+        (record { kind = kind ∙ (h.seats who).kind; lead = lead ∙ (h.seats who).lead; come = act.come });
     ledger = subst (Keeps W (act.happened ∷ H)) (same_ledger v who station l r) act.keeps;
   };
   told = act.told;
 }
 
 answered_at : (W : World) (H : List Happened) (asked : Asked) (v : WorldView) (who w : Who) (station : StationView (CoreOf who)) (l : LedgerView) (r : Bool) (result : Result Reply Fault)
-    → w ≡ who → Holds W H v → settings_in who station.core ≡ settings_in who (station_of v who).core → station.lead ≡ (station_of v who).lead
+    → w ≡ who → Holds W H v → kind_in who station.core ≡ kind_in who (station_of v who).core → station.lead ≡ (station_of v who).lead
     → IfOk result (IsAct W H w asked (seat_of who station) l) → IfOk result (λ (reply : Reply). IsAnswered W H asked reply (with_station v who station l r))
-answered_at W H asked v who w station l r (Ok reply) same h settings lead act =
-    moved W H asked reply v who station l r h settings lead (subst (λ (x : Who). IsAct W H x asked (seat_of who station) l reply) same act)
-answered_at W H asked v who w station l r (Err fault) same h settings lead act = tt
+answered_at W H asked v who w station l r (Ok reply) same h kind lead act =
+    moved W H asked reply v who station l r h kind lead (subst (λ (x : Who). IsAct W H x asked (seat_of who station) l reply) same act)
+answered_at W H asked v who w station l r (Err fault) same h kind lead act = tt
 
 -- ---- the contract of an act is that of the world
 
 pub made_at : (asked : Asked) (v : WorldView) (who w : Who) (station : StationView (CoreOf who)) (l : LedgerView) (r : Bool) (result : Result Reply Fault) → w ≡ who
-    → settings_in who station.core ≡ settings_in who (station_of v who).core → station.lead ≡ (station_of v who).lead
+    → kind_in who station.core ≡ kind_in who (station_of v who).core → station.lead ≡ (station_of v who).lead
     → IsMade w asked (seat_of who (station_of v who)) (seat_of who station) v.ledger l result
     → (W : World) (H : List Happened) → Holds W H v → IfOk result (λ (reply : Reply). IsAnswered W H asked reply (with_station v who station l r))
-made_at asked v who w station l r result same settings lead made W H h =
-    answered_at W H asked v who w station l r result same h settings lead (made W H (part_at W H v who w same h))
+made_at asked v who w station l r result same kind lead made W H h =
+    answered_at W H asked v who w station l r result same h kind lead (made W H (part_at W H v who w same h))
 
 pub why_at : (asked : Asked) (v : WorldView) (who w : Who) (result : Result Reply Fault) → w ≡ who → IsRefused w asked (seat_of who (station_of v who)) v.ledger result
     → (W : World) (H : List Happened) → Holds W H v → IfErr result (IsWhy W H asked)

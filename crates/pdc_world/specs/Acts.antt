@@ -3,9 +3,8 @@ use Rattle.std.specs.Prelude.{[], ◌∷◌, ◌≡◌, ◌≤◌, Bool, IfErr, 
 use Rattle.pdc_frame.specs.declared.limits.TheConstants.{MAX_SIZE}
 use Rattle.pdc_row.specs.RowView.{RowView}
 use Rattle.pdc_output.specs.{declared.output.Output.{Output}, Layout.{wire_of}}
-use Rattle.pdc_mark.specs.declared.stored.Stored.{Stored}
-use Rattle.pdc_life.specs.{Arrival.{Arrival}, declared.given.Settings.{Settings}, Given.{Given}, Life.{Entry}, Published.{layout_wire}}
-use Rattle.pdc_history.specs.{Asked.{Asked, Cause, Foreign, IsFault, OtherBody, OtherSection}, History.{IsHistory, Says, stream_ids}, Play.{IsStepOf}, World.{given_by, given_in, Happened, is_same, lead_of, life_of, mark_of, rules_of, Sends, sent, Who, World}}
+use Rattle.pdc_life.specs.{declared.given.Settings.{Settings}, Given.{Given}, Life.{Entry}, Published.{layout_wire}}
+use Rattle.pdc_history.specs.{Asked.{Asked, Cause, Foreign, IsFault, OtherBody, OtherSection}, History.{IsHistory}, Play.{IsStepOf}, World.{given_in, Happened, is_same, kind_of, lead_of, life_of, mark_of, Sends, sent, Who, World}}
 use Rattle.pdc_sent.specs.{declared.fault.SendFault.{SendFault}, Sent.{IsOfNone}}
 use Rattle.pdc_event.specs.{declared.fault.Fault.{Fault}, declared.fault.Premise.TheVariants.{Genuine, OneBody, OneSection, OneTable}, declared.reply.Published.{Published}, declared.reply.Reply.{Reply}}
 use Rattle.pdc_station.specs.declared.fault.StopFault.{StopFault}
@@ -17,10 +16,7 @@ use Rattle.pdc_station.specs.declared.fault.StopFault.TheVariants as stop
 
 -- What is fixed of the seat is that of this core of the world.
 pub record IsSeat (W : World) (who : Who) (seat : Seat) : Type 0 where
-  pub rules : seat.rules ≡ rules_of who
-  pub given : (mark : Stored) → seat.given mark ≡ given_by W who mark
-  pub says : (s : ℕ) (bytes : List ℕ) (arrival : Arrival) → seat.says s bytes arrival → Says W who s bytes arrival
-  pub ids : seat.ids ≡ stream_ids W who
+  pub kind : seat.kind ≡ kind_of W who
   pub lead : seat.lead ≡ lead_of W who
 
 -- It stands for its present life, and this is its mark.

@@ -1,12 +1,12 @@
 -- The histories that a world holds, and what its steps make of them (this profile).
 use Rattle.std.specs.Prelude.{◌++◌, ◌+◌, ◌∷◌, ◌≡◌, length, List}
-use Rattle.pdc_history.specs.{Asked.{Asked}, History.{IsHistory}, Play.{IsPlayOf, IsStepOf}, World.{Happened, lead_of, Who, World}}
+use Rattle.pdc_history.specs.{Asked.{Asked}, History.{IsHistory}, Play.{IsPlayOf, IsStepOf}, World.{Happened, kind_of, lead_of, Who, World}}
 use Rattle.pdc_event.specs.{declared.fault.WorldFault.{WorldFault}, declared.reply.Reply.{Reply}}
-use Rattle.pdc_world.specs.{Acts.{HasCome, IsWhy, Keeps}, Replies.{reply_of}, Seats.{CoreOf, seat_of, settings_in, settings_of, station_of}, Views.{StationView, WorldView}}
+use Rattle.pdc_world.specs.{Acts.{HasCome, IsWhy, Keeps}, Replies.{reply_of}, Seats.{CoreOf, kind_in, seat_of, station_of}, Views.{StationView, WorldView}}
 
 -- The station of a seat has the settings and the lead of this core of the world, and has come to where the history left it.
 pub record IsSeated (W : World) (H : List Happened) (who : Who) (station : StationView (CoreOf who)) : Type 0 where
-  pub settings : settings_in who station.core ≡ settings_of W who
+  pub kind : kind_in who station.core ≡ kind_of W who
   pub lead : station.lead ≡ lead_of W who
   pub come : HasCome W H who (seat_of who station)
 

@@ -4,7 +4,6 @@ pub mod Seats
 pub mod Acts
 pub mod Ledger
 pub mod Holds
-pub mod Named
 pub mod Known
 pub mod Receiver
 pub mod Agreement

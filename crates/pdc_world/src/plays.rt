@@ -1,12 +1,13 @@
 //! Cores whose streams are named by ids.
-ghost use Rattle.std.specs.Prelude.{◌≡◌, ◌≢◌, ◌<◌, ℕ, IfNone, IfSome, List, Some, length};
+ghost use Rattle.std.specs.Prelude.{◌≡◌, ◌≢◌, ◌<◌, ℕ, IfNone, IfSome, Some, length};
 ghost use Rattle.std.proofs.Common.{lit<};
 ghost use Rattle.std.specs.List.{All, slice_get};
 ghost use Rattle.pdc_life.specs.declared.pmu.Pmu.{Pmu as PmuData};
+ghost use Rattle.pdc_life.specs.CoreKind.{CoreKind, OfMerger, OfNode};
 ghost use Rattle.pdc_history.specs.Agree.{ids_of};
+ghost use Rattle.pdc_history.specs.History.{stream_ids};
 ghost use Rattle.pdc_station.specs.pdc_publisher.Publisher.{lead_in, mark_in};
-ghost use Rattle.pdc_world.specs.Named.{node_ids};
-ghost use Rattle.pdc_world.specs.Seats.{Seat};
+ghost use Rattle.pdc_world.specs.Seats.{IsOfKind, Seat, is_of_itself};
 
 use pdc_core::{Core, Opens};
 use pdc_life::{MergerSettings, Pmu, Settings};
@@ -18,14 +19,17 @@ use pdc_table::Table;
 
 /// A core whose streams are named by ids.
 pub(crate) trait Plays: Opens {
-    // The ids of its streams, in their order.
-    ghost ids: { Self.Settings → List ℕ };
+    // What it is with these settings.
+    ghost kind: { Self.Settings → CoreKind };
 
     /// The number of the stream with this id, from 0.
     fn stream_of(&self, id: u16) -> Option<usize>
-        ensures there { IfSome result (λ s. slice_get (ids (Self.settings_of self.now)) s ≡ Some id) }
+        ensures there { IfSome result (λ s. slice_get (stream_ids (kind (Self.settings_of self.now))) s ≡ Some id) }
         ensures exists { IfSome result (λ s. s < Self.Settings.streams (Self.settings_of self.now)) }
-        ensures none { IfNone result ((s : ℕ) → slice_get (ids (Self.settings_of self.now)) s ≢ Some id) };
+        ensures none { IfNone result ((s : ℕ) → slice_get (stream_ids (kind (Self.settings_of self.now))) s ≢ Some id) };
+
+    // So it answers, so bytes say to it, and this its lives are given.
+    ghost is_of_kind: { (settings : Self.Settings) → IsOfKind (kind settings) Self.rules (Self.Settings.says settings) (Self.given_with settings) };
 
     // It has a stream.
     ghost has_stream: { (settings : Self.Settings) → 0 < Self.Settings.streams settings };
@@ -39,10 +43,7 @@ pub(crate) trait Sits {
 
 impl<C: Plays, S: Store> Sits for Station<C, S> {
     ghost seat = { λ station. record {
-      rules = C.rules;
-      given = λ mark. C.given_with (C.settings_of station.core) mark.start mark.floor mark.counts;
-      says = C.Settings.says (C.settings_of station.core);
-      ids = C.ids (C.settings_of station.core);
+      kind = C.kind (C.settings_of station.core);
       lead = lead_in station.publisher;
       stands = C.stands_for station.core;
       mark = S.stored (mark_in station.publisher);
@@ -60,18 +61,18 @@ fn first_of(pmus: &[Pmu], id: u16) -> Option<usize>
 
 /// The number of the PMU with this stream id.
 fn pmu_of(settings: &Settings, id: u16) -> Option<usize>
-    ensures there { IfSome result (λ s. slice_get (ids_of settings.now.pmus.items) s ≡ Some id) }
+    ensures there { IfSome result (λ s. slice_get (stream_ids (OfNode settings.now)) s ≡ Some id) }
     ensures exists { IfSome result (λ s. s < length settings.now.pmus.items) }
-    ensures none { IfNone result ((s : ℕ) → slice_get (ids_of settings.now.pmus.items) s ≢ Some id) }
+    ensures none { IfNone result ((s : ℕ) → slice_get (stream_ids (OfNode settings.now)) s ≢ Some id) }
 {
     first_of(settings.pmus.as_slice(), id)
 }
 
 /// The number of the node with this id: 0 is A, 1 is B.
 fn node_of(settings: &MergerSettings, id: u16) -> Option<usize>
-    ensures there { IfSome result (λ s. slice_get (node_ids settings.now) s ≡ Some id) }
+    ensures there { IfSome result (λ s. slice_get (stream_ids (OfMerger settings.now)) s ≡ Some id) }
     ensures exists { IfSome result (λ s. s < 2) }
-    ensures none { IfNone result ((s : ℕ) → slice_get (node_ids settings.now) s ≢ Some id) }
+    ensures none { IfNone result ((s : ℕ) → slice_get (stream_ids (OfMerger settings.now)) s ≢ Some id) }
 {
     if settings.first.id.value == id {
         return Some(0);
@@ -83,7 +84,9 @@ fn node_of(settings: &MergerSettings, id: u16) -> Option<usize>
 }
 
 impl<T: Table> Plays for Node<T> {
-    ghost ids = { λ settings. ids_of settings.pmus.items };
+    ghost kind = { OfNode };
+
+    ghost is_of_kind = { λ settings. is_of_itself (OfNode settings) };
 
     ghost has_stream = { λ settings. settings.some };
 
@@ -93,7 +96,9 @@ impl<T: Table> Plays for Node<T> {
 }
 
 impl<T: Table> Plays for Merger<T> {
-    ghost ids = { node_ids };
+    ghost kind = { OfMerger };
+
+    ghost is_of_kind = { λ settings. is_of_itself (OfMerger settings) };
 
     ghost has_stream = { λ _. lit< tt };
 

@@ -1,6 +1,6 @@
 //! One run, and what came of it.
 ghost use Rattle.std.specs.Prelude.{◌≡◌, ◌≤◌, ◌<◌, ◌+◌, Some, [], length, vec_len};
-ghost use Rattle.pdc_life.specs.Given.{given_of};
+ghost use Rattle.pdc_life.specs.CoreKind.{given_of, OfNode};
 ghost use Rattle.pdc_node.specs.Node.{StandsFor};
 ghost use Rattle.pdc_publisher.specs.Publisher.{last_in, mark_in, output_in};
 
@@ -73,8 +73,8 @@ fn opened<'h, N: Naming<Settings> + Send + Sync, M: Mark + Drop, R: Threads + Wa
     stage: Stage<M>,
     blanks: Blanks,
 ) -> io::Result<Option<Played<M>>>
-    requires given { N.given ≡ Some (given_of settings.now stage.start 0 stage.counts 0) }
-    requires alike { StandsFor (given_of settings.now stage.start 0 stage.counts 0) [] stage.base × StandsFor (given_of settings.now stage.start 0 stage.counts 0) [] stage.state }
+    requires given { N.given ≡ Some (given_of (OfNode settings.now) stage.start 0 stage.counts 0) }
+    requires alike { StandsFor (given_of (OfNode settings.now) stage.start 0 stage.counts 0) [] stage.base × StandsFor (given_of (OfNode settings.now) stage.start 0 stage.counts 0) [] stage.state }
     requires settings { (N.settings ≡ Some settings.now) × (stage.base.settings ≡ settings.now) × (stage.state.settings ≡ settings.now) }
     requires popped { stage.state.popped ≡ 0 }
     requires limit { 1 ≤ scene.now.limit }

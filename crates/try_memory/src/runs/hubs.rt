@@ -1,6 +1,6 @@
 //! The calls of a hub over two nodes, each the first one of a hub of its own.
 ghost use Rattle.std.specs.Prelude.{◌≡◌, ◌<◌, Some, [], length};
-ghost use Rattle.pdc_life.specs.Given.{given_of};
+ghost use Rattle.pdc_life.specs.CoreKind.{given_of, OfNode};
 ghost use Rattle.pdc_node.specs.Node.{StandsFor};
 ghost use Rattle.try_memory.specs.Mine.{IsFit};
 
@@ -149,8 +149,8 @@ fn play_on<N: Naming<Settings>, R: Wait + Print>(
     called: Called,
     blanks: Blanks,
 ) -> io::Result<()>
-    requires given { N.given ≡ Some (given_of opened.settings.now 1 0 opened.counts 0) }
-    requires alike { StandsFor (given_of opened.settings.now 1 0 opened.counts 0) [] opened.base × StandsFor (given_of opened.settings.now 1 0 opened.counts 0) [] opened.state }
+    requires given { N.given ≡ Some (given_of (OfNode opened.settings.now) 1 0 opened.counts 0) }
+    requires alike { StandsFor (given_of (OfNode opened.settings.now) 1 0 opened.counts 0) [] opened.base × StandsFor (given_of (OfNode opened.settings.now) 1 0 opened.counts 0) [] opened.state }
     requires settings { (N.settings ≡ Some opened.settings.now) × (opened.base.settings ≡ opened.settings.now) × (opened.state.settings ≡ opened.settings.now) }
     requires popped { opened.state.popped ≡ 0 }
     requires streams { 0 < length opened.settings.now.pmus.items }

@@ -8,7 +8,7 @@ use Rattle.pdc_arrival.proofs.from_node.arrival_from_node.Goals as goal
 
 pub returns : goal.returns
 returns c bytes h = record {
-  node = node_of c.args.settings.now c.args.stream;
+  sender = node_of c.args.settings.now c.args.stream;
   listed = listed_at c.args.settings.now c.args.stream c.requires;
   reads = subst (λ (n : MergedNode). ReadsFrom c.args.settings.now n bytes (arrival_view c.arrival_of.result)) c.node_of.ensures
       (c.arrival_of.ensures bytes (subst (λ (n : MergedNode). HearsFrom c.args.settings.now n bytes c.args.heard) (sym c.node_of.ensures) h));

@@ -11,7 +11,7 @@ get_listed (y ∷ pmus) (suc p) x h e = get_listed pmus p x (omega (arith, h)) e
 
 pub returns : goal.returns
 returns c = record {
-  pmu = c.index-deref-stream.result;
+  sender = c.index-deref-stream.result;
   listed = get_listed c.args.settings.now.pmus.items c.args.stream c.index-deref-stream.result (search rules) (search rules);
   reads = c.read_arrival.ensures c.args.stream;
 }

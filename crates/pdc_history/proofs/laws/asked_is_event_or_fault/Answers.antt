@@ -3,7 +3,7 @@ use Rattle.pdc_history.proofs.laws.asked_is_event_or_fault.Goals as goal
 
 pub returns-clause-one_event : goal.returns-clause-one_event
 returns-clause-one_event c W H asked a b x y =
-    asked_is_read_once c.frames_are_known.ensures c.bytes_are_read_in_one_way.ensures c.merger_steps_have_one_life.ensures.bytes W H asked a b x y
+    asked_is_read_once c.frames_are_known.ensures c.bytes_are_read_in_one_way.ensures W H asked a b x y
 
 pub returns-clause-one_cause : goal.returns-clause-one_cause
 returns-clause-one_cause c W H asked a b x y = causes_are_one c.frames_are_known.ensures W H asked a b x y

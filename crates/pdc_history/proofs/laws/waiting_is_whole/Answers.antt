@@ -1,6 +1,6 @@
 -- As many counts wait as a mark has.
 use Rattle.std.proofs.Common.{◌++◌, ◌-◌, ◌∙◌, ◌≡◌, ◌≤◌, arith, length, length-append, List, map, replicate, ℕ}
-use Rattle.pdc_history.proofs.Names.{cleared_count, Entry, Given, given_in, greatest_count, held_section, length-map, length-range_with_len, length-replicate, life_of, opened_with, range_with_len, WaitingIsWhole}
+use Rattle.pdc_history.proofs.Names.{cleared_count, Entry, Given, given_in, greatest_count, held_section, kind_of, length-map, length-range_with_len, length-replicate, life_of, range_with_len, WaitingIsWhole}
 use Rattle.pdc_history.proofs.Sent.{few_columns}
 use Rattle.pdc_history.proofs.laws.waiting_is_whole.Goals as goal
 
@@ -13,7 +13,7 @@ waiting_is_whole : WaitingIsWhole
 waiting_is_whole W H who =
     let g : Given = given_in W H who in
     let E : List Entry = life_of H who in
-    whole g.columns (λ c. greatest_count (cleared_count g E c) (held_section g E c)) (few_columns W who (opened_with W H who))
+    whole g.columns (λ c. greatest_count (cleared_count g E c) (held_section g E c)) (few_columns (kind_of W who))
 
 pub returns : goal.returns
 returns c W H who = waiting_is_whole W H who

@@ -1,9 +1,9 @@
-use Rattle.pdc_life.proofs.OneReading.{one_reading}
+use Rattle.pdc_life.proofs.MergerReads.{reads_once}
 use Rattle.pdc_life.proofs.Stages.{ReadOnce}
 use Rattle.pdc_life.proofs.laws.bytes_are_read_in_one_way.Goals as goal
 
 pub returns : goal.returns
-returns c settings p pmu bytes a b h k =
+returns c kind s sender bytes a b h k =
     let laws : ReadOnce = record {
       same_frame = c.frames_are_read_in_one_way.ensures.same;
       one_fault = c.frames_are_read_in_one_way.ensures.fault;
@@ -13,4 +13,4 @@ returns c settings p pmu bytes a b h k =
       no_payload_fault = c.configurations_are_read_in_one_way.ensures.apart;
       instants = c.instant_is_nearest.ensures.computed;
     } in
-    one_reading laws settings p pmu bytes a b h k
+    reads_once laws c.own_sections_tell_stamps.ensures kind s sender bytes a b h k

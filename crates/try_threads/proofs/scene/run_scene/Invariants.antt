@@ -1,9 +1,9 @@
 use Rattle.std.proofs.Common.{Some}
-use Rattle.pdc_life.specs.Given.{given_of}
+use Rattle.pdc_life.specs.CoreKind.{given_of, OfNode}
 use Rattle.try_threads.proofs.scene.run_scene.Given as goal
 
 abbrev pub ghosts-opened-N-Naming : goal.ghosts-opened-N-Naming
-ghosts-opened-N-Naming g a = record { given = Some (given_of a.settings.now a.stage.start 0 a.stage.counts 0); settings = Some a.settings.now }
+ghosts-opened-N-Naming g a = record { given = Some (given_of (OfNode a.settings.now) a.stage.start 0 a.stage.counts 0); settings = Some a.settings.now }
 
 abbrev pub ghosts-opened-N-Ledgers : goal.ghosts-opened-N-Ledgers
 ghosts-opened-N-Ledgers g a = record {

@@ -1,7 +1,7 @@
 use Rattle.std.proofs.Common.{◌≡◌, length, subst, sym, true}
 use Rattle.pdc_core.specs.Fits.{fits_merger}
+use Rattle.pdc_life.specs.CoreKind.{OfMerger, Says}
 use Rattle.pdc_life.specs.Merger.{merged_answer}
-use Rattle.pdc_life.specs.MergerReading.{ReadsForMerger}
 use Rattle.pdc_arrival.specs.Views.{arrival_view}
 use Rattle.pdc_merge.specs.Merger.{MergerView, StandsFor}
 use Rattle.pdc_merge.proofs.Lives.{arrives, is_ready, is_whole, same_place}
@@ -28,9 +28,9 @@ returns-clause-stands g c h E bytes reads before =
     let m : MergerView = record { settings = c.self.inside.settings; start = c.self.inside.start; state = c.self.inside.alignment.state; layouts = c.self.inside.layouts; counts = c.self.inside.counts; memory = c.self.inside.alignment.memory; disagreements = c.self.inside.alignment.disagreements; popped = c.self.inside.alignment.popped } in
     let arrival = arrival_view c.args.arrival.now in
     let stands : StandsFor h E m = subst (λ (n : MergerView). StandsFor h E n) (sym c.self.view_is) before in
-    arrives c.merger_lives_are_runs.ensures m h E c.args.stream bytes arrival c.answer-outcome.new.alignment.state c.answer-outcome.new.layouts c.count.new.self c.answer-outcome.new.alignment.memory
+    arrives c.lives_are_runs.ensures m h E c.args.stream bytes arrival c.answer-outcome.new.alignment.state c.answer-outcome.new.layouts c.count.new.self c.answer-outcome.new.alignment.memory
     c.answer-outcome.new.alignment.disagreements c.answer-outcome.new.alignment.popped
-    (subst (λ (n : MergerView). ReadsForMerger n.settings c.args.stream bytes arrival) (sym c.self.view_is) reads) stands
+    (subst (λ (n : MergerView). Says (OfMerger n.settings) c.args.stream bytes arrival) (sym c.self.view_is) reads) stands
     (c.answer-outcome.ensures.stands h E bytes stands.aligned stands.held)
     (c.answer-outcome.ensures.held h E bytes stands.aligned stands.held)
     (λ old. c.count.ensures.life E c.args.stream bytes arrival (merged_answer h E c.args.stream arrival) old (c.answer-outcome.ensures.answer h E stands.aligned stands.held))

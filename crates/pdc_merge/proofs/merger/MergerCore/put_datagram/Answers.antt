@@ -2,7 +2,7 @@ use Rattle.std.proofs.Common.{◌≡◌, subst, true}
 use Rattle.pdc_core.specs.Fits.{fits_merger}
 use Rattle.pdc_core.specs.Said.{said_fits_merger}
 use Rattle.pdc_life.specs.Arrival.{Data}
-use Rattle.pdc_life.specs.MergerReading.{ReadsForMerger}
+use Rattle.pdc_life.specs.CoreKind.{OfMerger, Says}
 use Rattle.pdc_arrival.specs.Heard.{SaysData}
 use Rattle.pdc_arrival.specs.Views.{arrival_view}
 use Rattle.pdc_arrival.specs.declared.from_node.Heard.{Heard}
@@ -17,8 +17,8 @@ arrive-requires g c =
 
 pub returns-in-Data-clause-hears : goal.returns-in-Data-clause-hears
 returns-in-Data-clause-hears g c =
-    let said : ReadsForMerger c.args.self.now.settings c.args.stream c.args.bytes.now (Data c.in-Data.instant c.in-Data.quality c.in-Data.payload.now) =
-    subst (λ (m : MergerView). ReadsForMerger m.settings c.args.stream c.args.bytes.now (Data c.in-Data.instant c.in-Data.quality c.in-Data.payload.now)) c.self.view_is
+    let said : Says (OfMerger c.args.self.now.settings) c.args.stream c.args.bytes.now (Data c.in-Data.instant c.in-Data.quality c.in-Data.payload.now) =
+    subst (λ (m : MergerView). Says (OfMerger m.settings) c.args.stream c.args.bytes.now (Data c.in-Data.instant c.in-Data.quality c.in-Data.payload.now)) c.self.view_is
     (subst (λ (h : Heard). SaysData c.self.inside.settings c.args.stream c.args.bytes.now h) c.in-Data.is c.hear_from_node.ensures.data) in
     record {
       arrival = Data c.in-Data.instant c.in-Data.quality c.in-Data.payload.now;
@@ -29,8 +29,8 @@ returns-in-Data-clause-hears g c =
 
 pub returns-in_default : goal.returns-in_default
 returns-in_default g c =
-    let said : ReadsForMerger c.args.self.now.settings c.args.stream c.args.bytes.now (arrival_view c.arrival_from_node-arrival.result) =
-    subst (λ (m : MergerView). ReadsForMerger m.settings c.args.stream c.args.bytes.now (arrival_view c.arrival_from_node-arrival.result)) c.self.view_is
+    let said : Says (OfMerger c.args.self.now.settings) c.args.stream c.args.bytes.now (arrival_view c.arrival_from_node-arrival.result) =
+    subst (λ (m : MergerView). Says (OfMerger m.settings) c.args.stream c.args.bytes.now (arrival_view c.arrival_from_node-arrival.result)) c.self.view_is
     (c.arrival_from_node-arrival.ensures c.args.bytes.now c.hear_from_node.ensures.heard) in
     record {
       hears = record {

@@ -1,6 +1,6 @@
 use Rattle.std.proofs.Common.{◌≡◌, ℕ, List, subst, sym}
 use Rattle.pdc_life.specs.Arrival.{Arrival, Data}
-use Rattle.pdc_life.specs.Node.{ReadsFor}
+use Rattle.pdc_life.specs.CoreKind.{OfNode, Says}
 use Rattle.pdc_life.specs.Views.{arrival_view as reading_view}
 use Rattle.pdc_life.specs.declared.reading.Reading.{Reading}
 use Rattle.pdc_arrival.specs.Views.{arrival_view}
@@ -8,13 +8,13 @@ use Rattle.pdc_node.specs.Node.{NodeView}
 use Rattle.pdc_node.proofs.node.NodeCore.put_datagram.Goals as goal
 
 -- what was read by the settings of one view was read by those of another that is the same
-read_by : (n m : NodeView) (p : ℕ) (bytes : List ℕ) (arrival : Arrival) → n ≡ m → ReadsFor n.settings p bytes arrival → ReadsFor m.settings p bytes arrival
-read_by n m p bytes arrival e reads = subst (λ (v : NodeView). ReadsFor v.settings p bytes arrival) e reads
+read_by : (n m : NodeView) (p : ℕ) (bytes : List ℕ) (arrival : Arrival) → n ≡ m → Says (OfNode n.settings) p bytes arrival → Says (OfNode m.settings) p bytes arrival
+read_by n m p bytes arrival e reads = subst (λ (v : NodeView). Says (OfNode v.settings) p bytes arrival) e reads
 
 pub returns-in-Data-clause-hears : goal.returns-in-Data-clause-hears
 returns-in-Data-clause-hears g c =
-    let said : ReadsFor c.args.self.now.settings c.args.stream c.args.bytes.now (Data c.in-Data.instant c.in-Data.quality c.in-Data.payload.now) =
-    subst (λ (r : Reading). ReadsFor c.args.self.now.settings c.args.stream c.args.bytes.now (reading_view c.args.stream r)) c.in-Data.is (read_by _ _ c.args.stream c.args.bytes.now (reading_view c.args.stream c.hear_from_pmu.result) c.self.view_is c.hear_from_pmu.ensures) in
+    let said : Says (OfNode c.args.self.now.settings) c.args.stream c.args.bytes.now (Data c.in-Data.instant c.in-Data.quality c.in-Data.payload.now) =
+    subst (λ (r : Reading). Says (OfNode c.args.self.now.settings) c.args.stream c.args.bytes.now (reading_view c.args.stream r)) c.in-Data.is (read_by _ _ c.args.stream c.args.bytes.now (reading_view c.args.stream c.hear_from_pmu.result) c.self.view_is c.hear_from_pmu.ensures) in
     record {
       arrival = Data c.in-Data.instant c.in-Data.quality c.in-Data.payload.now;
       says = said;
@@ -24,8 +24,8 @@ returns-in-Data-clause-hears g c =
 
 pub returns-in_default : goal.returns-in_default
 returns-in_default g c =
-    let said : ReadsFor c.args.self.now.settings c.args.stream c.args.bytes.now (arrival_view c.arrival_from_pmu-arrival.result) =
-    subst (λ (a : Arrival). ReadsFor c.args.self.now.settings c.args.stream c.args.bytes.now a) (sym c.arrival_from_pmu-arrival.ensures) (read_by _ _ c.args.stream c.args.bytes.now (reading_view c.args.stream c.hear_from_pmu.result) c.self.view_is c.hear_from_pmu.ensures) in
+    let said : Says (OfNode c.args.self.now.settings) c.args.stream c.args.bytes.now (arrival_view c.arrival_from_pmu-arrival.result) =
+    subst (λ (a : Arrival). Says (OfNode c.args.self.now.settings) c.args.stream c.args.bytes.now a) (sym c.arrival_from_pmu-arrival.ensures) (read_by _ _ c.args.stream c.args.bytes.now (reading_view c.args.stream c.hear_from_pmu.result) c.self.view_is c.hear_from_pmu.ensures) in
     record {
       hears = record {
         arrival = arrival_view c.arrival_from_pmu-arrival.result;

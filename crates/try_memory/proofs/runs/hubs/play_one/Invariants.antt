@@ -1,9 +1,9 @@
 use Rattle.std.proofs.Common.{Some}
-use Rattle.pdc_life.specs.Given.{given_of}
+use Rattle.pdc_life.specs.CoreKind.{given_of, OfNode}
 use Rattle.try_memory.proofs.runs.hubs.play_one.Given as goal
 
 abbrev pub ghosts-play_on-N-Naming : goal.ghosts-play_on-N-Naming
-ghosts-play_on-N-Naming g a = record { given = Some (given_of a.opened.settings.now 1 0 a.opened.counts 0); settings = Some a.opened.settings.now }
+ghosts-play_on-N-Naming g a = record { given = Some (given_of (OfNode a.opened.settings.now) 1 0 a.opened.counts 0); settings = Some a.opened.settings.now }
 
 abbrev pub ghosts-play_on-N-Ledgers : goal.ghosts-play_on-N-Ledgers
 ghosts-play_on-N-Ledgers g a = record {
