@@ -24,11 +24,11 @@ pub use body::Body;
 pub use fault::BodyFault;
 pub use laws::{bodies_are_their_words, payloads_are_cut_in_one_way};
 pub use pdc_cfg::{
-    Buffer, CfgFault, ConfigView, Frame, FrameFault, Kind, MAX_SECTION_LEN, MAX_WORDS, OVERHEAD,
-    Section, SectionView, Shape, StreamId, begin_frame, configurations_are_read_in_one_way,
-    end_frame, frames_are_read_in_one_way, frames_are_written_in_parts, read_config, read_frame,
-    read_word, write_config,
+    Buffer, CHECK_LEN, CfgFault, ConfigView, Frame, FrameFault, HEADER_LEN, Kind, MAX_SECTION_LEN,
+    MAX_WORDS, OVERHEAD, Section, SectionView, Shape, StreamId, begin_frame,
+    configurations_are_read_in_one_way, end_frame, frames_are_read_in_one_way,
+    frames_are_written_in_parts, read_config, read_frame, read_word, write_config, write_ends,
 };
 pub use reading::{cut, read_body};
 pub use stat::{ErrorClass, Stat};
-pub use writing::{append_blocks, append_words, join, joined_len};
+pub use writing::{append_blocks, append_words, join, joined_len, write_blocks, write_words};

@@ -82,6 +82,79 @@ pub fn append_words<B: Buffer>(words: &[u16], out: &mut B)
     append_last(&words[at..], out);
 }
 
+/// Writes the words over these bytes, each with its high byte first: sixteen at a step, then eight, and the last ones one by one.
+pub fn write_words(words: &[u16], bytes: &mut [u8])
+    requires { length bytes.old ≡ 2 * length words.now }
+    ensures { bytes.new ≡ bytes_of_words words.now }
+{
+    if words.len() < 2 * WORDS_AT_ONCE {
+        write_some(words, bytes);
+        return;
+    }
+    let (front, behind) = words.split_at(2 * WORDS_AT_ONCE);
+    let (place, left) = bytes.split_at_mut(4 * WORDS_AT_ONCE);
+    write_sixteen(front, place);
+    write_words(behind, left);
+}
+
+/// Writes sixteen words over these bytes, in two steps.
+#[inline(always)]
+fn write_sixteen(words: &[u16], bytes: &mut [u8])
+    requires words { length words.now ≡ 16 }
+    requires bytes { length bytes.old ≡ 32 }
+    ensures { bytes.new ≡ bytes_of_words words.now }
+{
+    let (first, second) = words.split_at(WORDS_AT_ONCE);
+    let (front, behind) = bytes.split_at_mut(2 * WORDS_AT_ONCE);
+    front.copy_from_slice(&eight_words(first, 0));
+    behind.copy_from_slice(&eight_words(second, 0));
+}
+
+/// Writes fewer than sixteen words over these bytes: eight at once, and the last ones.
+#[inline(always)]
+fn write_some(words: &[u16], bytes: &mut [u8])
+    requires size { length bytes.old ≡ 2 * length words.now }
+    ensures { bytes.new ≡ bytes_of_words words.now }
+{
+    if words.len() < WORDS_AT_ONCE {
+        write_last(words, bytes);
+        return;
+    }
+    let (front, behind) = words.split_at(WORDS_AT_ONCE);
+    let (place, left) = bytes.split_at_mut(2 * WORDS_AT_ONCE);
+    place.copy_from_slice(&eight_words(front, 0));
+    write_last(behind, left);
+}
+
+/// Writes fewer than eight words over these bytes: four at once, and the last ones one by one.
+#[inline(always)]
+fn write_last(words: &[u16], bytes: &mut [u8])
+    requires size { length bytes.old ≡ 2 * length words.now }
+    ensures { bytes.new ≡ bytes_of_words words.now }
+{
+    if words.len() < 4 {
+        write_each(words, bytes);
+        return;
+    }
+    let (front, behind) = words.split_at(4);
+    let (place, left) = bytes.split_at_mut(8);
+    place.copy_from_slice(&four_words(front, 0));
+    write_each(behind, left);
+}
+
+/// Writes the words over these bytes one by one.
+fn write_each(words: &[u16], bytes: &mut [u8])
+    requires { length bytes.old ≡ 2 * length words.now }
+    ensures { bytes.new ≡ bytes_of_words words.now }
+{
+    let Some((word, behind)) = words.split_first() else {
+        return;
+    };
+    let (place, left) = bytes.split_at_mut(2);
+    place.copy_from_slice(&word.to_be_bytes());
+    write_each(behind, left);
+}
+
 /// The bytes that the blocks take, one after the other: 6 to 214 each.
 pub fn joined_len(blocks: &[Block]) -> usize
     ensures value { result ≡ sum_by (λ block. body_len_of (shape_of block)) blocks.now }
@@ -104,6 +177,20 @@ pub fn append_blocks<B: Buffer>(blocks: &[Block], out: &mut B)
     for block in blocks {
         append_words(block.words(), out);
     }
+}
+
+/// Writes the bytes of the blocks over these, one after the other.
+pub fn write_blocks(blocks: &[Block], bytes: &mut [u8])
+    requires { length bytes.old ≡ sum_by (λ block. body_len_of (shape_of block)) blocks.now }
+    ensures { bytes.new ≡ bytes_of_blocks (map words_of blocks.now) }
+{
+    let Some((block, behind)) = blocks.split_first() else {
+        return;
+    };
+    let words = block.words();
+    let (place, left) = bytes.split_at_mut(2 * words.len());
+    write_words(words, place);
+    write_blocks(behind, left);
 }
 
 /// Appends the bytes of the blocks, one after the other, as the payload of a data frame has them.

@@ -1,12 +1,15 @@
 -- A frame written in parts.
-use Rattle.std.proofs.Common.{◌≡◌, ◌⊎◌, inl, inr, ℕ, ◌+◌, ◌^◌, ◌<◌, ◌≤◌, List, ◌++◌, length, drop, refl, ap, ◌∙◌, append_assoc, arith, length-append}
+use Rattle.std.proofs.Common.{◌≡◌, ◌⊎◌, inl, inr, ℕ, ◌+◌, ◌*◌, ◌^◌, ◌<◌, ◌≤◌, List, ◌∷◌, ◌++◌, length, drop, refl, ap, ◌∙◌, append_assoc, arith, length-append}
 use Rattle.std.proofs.Math.Seq.{drop-append_seam}
-use Rattle.std.specs.Int.{w16, to_be_bytes}
+use Rattle.std.specs.Int.{w16, w32, to_be_bytes}
 use Rattle.pdc_frame.specs.CheckWord.{check_word_of}
 use Rattle.std.proofs.lemmas.Bool.{cases_lt}
 use Rattle.pdc_frame.specs.declared.frame.Frame.{Frame}
 use Rattle.pdc_frame.specs.Bytes.{AreBytes}
-use Rattle.pdc_frame.specs.Frame.{Fields, fields_of, before_check, spelling_of, IsFrame}
+use Rattle.pdc_frame.specs.Frame.{Fields, fields_of, number_of, header_of, before_check, spelling_of, IsFrame}
+use Rattle.pdc_frame.specs.declared.frame.Kind.{Kind}
+use Rattle.pdc_frame.specs.declared.frame.Kind.TheVariants.{DataFrame, HeaderFrame, Cfg1, Cfg2, CommandFrame, Cfg3}
+use Rattle.pdc_frame.proofs.Cells.{AreBytes-cons, AreBytes-append, word_bytes, long_bytes}
 
 -- what stands before a payload, the payload, and CHK over both
 pub framed : (old header payload middle new : List ℕ) (start : ℕ) → start ≡ length old → middle ≡ (old ++ header) ++ payload → new ≡ middle ++ to_be_bytes w16 (check_word_of (drop start middle))
@@ -40,3 +43,23 @@ writable frame soc quality bytes = record {
   };
   spelled = refl;
 }
+
+-- what stands before a payload are bytes
+number_small : (kind : Kind) → number_of kind < 6
+number_small DataFrame = omega arith
+number_small HeaderFrame = omega arith
+number_small Cfg1 = omega arith
+number_small Cfg2 = omega arith
+number_small CommandFrame = omega arith
+number_small Cfg3 = omega arith
+
+pub header_is_bytes : (frame : Frame) (size : ℕ) → AreBytes (header_of (fields_of frame) size)
+header_is_bytes frame size =
+    let f : Fields = fields_of frame in
+    let fracsec : List ℕ = to_be_bytes w32 (f.quality * 2 ^ 24 + f.frac) in
+    let soc : List ℕ = to_be_bytes w32 f.soc ++ fracsec in
+    let id : List ℕ = to_be_bytes w16 f.id ++ soc in
+    let sized : List ℕ = to_be_bytes w16 size ++ id in
+    AreBytes-cons 170 ((16 * number_of f.kind + f.version) ∷ sized) (omega arith) (AreBytes-cons (16 * number_of f.kind + f.version) sized (omega (arith, number_small frame.kind, frame.version_high))
+    (AreBytes-append (to_be_bytes w16 size) id (word_bytes size) (AreBytes-append (to_be_bytes w16 f.id) soc (word_bytes f.id)
+    (AreBytes-append (to_be_bytes w32 f.soc) fracsec (long_bytes f.soc) (long_bytes (f.quality * 2 ^ 24 + f.frac))))))

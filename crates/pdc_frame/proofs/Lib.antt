@@ -10,3 +10,4 @@ pub mod Written
 pub mod Splitting
 pub mod Readings
 pub mod Framed
+pub mod LongSteps

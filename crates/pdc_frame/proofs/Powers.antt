@@ -102,7 +102,7 @@ shr-swap j k a = shr-shr a j k ∙ ap (λ (n : ℕ). a / 2 ^ n) (add_comm j k) �
 shl-twice : (k a : ℕ) → a * 2 ^ k * 2 ^ k ≡ a * 2 ^ (k + k)
 shl-twice k a = let e : 2 ^ (k + k) ≡ 2 ^ k * 2 ^ k = pow-add 2 k k in rw e (omega arith)
 
-product-squared : (i j k a : ℕ) → product i j k (product i j k a) ≡ product (i + i) (j + j) (k + k) a
+pub product-squared : (i j k a : ℕ) → product i j k (product i j k a) ≡ product (i + i) (j + j) (k + k) a
 product-squared i j k a =
     four_squared (λ x. x * 2 ^ k) (λ x. x * 2 ^ j) (λ x. x * 2 ^ i) (λ x. x) (Linear-shl k) (Linear-shl j) (Linear-shl i) Linear-self
     (shl-swap j k) (λ x. refl) (shl-swap i k) (λ x. refl) (shl-swap i j) (λ x. refl) a

@@ -23,7 +23,7 @@ pub narrow_state : (wide state check : ℕ) → IsCongruent wide state → IsRem
 narrow_state wide state check a h = congruent_remainder (congruent_shl 16 (congruent_back a)) h
 
 -- bytes are a polynomial of that many bits
-polynomial_below : (bytes : List ℕ) → AreBytes bytes → polynomial_of bytes < 2 ^ (8 * length bytes)
+pub polynomial_below : (bytes : List ℕ) → AreBytes bytes → polynomial_of bytes < 2 ^ (8 * length bytes)
 polynomial_below [] fits = omega arith
 polynomial_below (byte ∷ bytes) fits =
     let n : ℕ = 8 * length bytes in
@@ -118,7 +118,7 @@ step_at n state next check at bytes fits le now step =
 row_sum : (a m n p r : ℕ) → a * (m * n) + (p * n + r) ≡ (a * m + p) * n + r
 row_sum a m n p r = omega arith
 
-polynomial_of-append : (front rest : List ℕ) → polynomial_of (front ++ rest) ≡ polynomial_of front * 2 ^ (8 * length rest) + polynomial_of rest
+pub polynomial_of-append : (front rest : List ℕ) → polynomial_of (front ++ rest) ≡ polynomial_of front * 2 ^ (8 * length rest) + polynomial_of rest
 polynomial_of-append [] rest = omega arith
 polynomial_of-append (byte ∷ front) rest =
     let len : 8 * length (front ++ rest) ≡ 8 * length front + 8 * length rest = omega (arith, length-append front rest) in
@@ -197,3 +197,26 @@ few_state word bytes fits few word-is =
     let whole : 0x84CF * 2 ^ n ≡ 0x84CF * 2 ^ n % 2 ^ 128 = omega (arith, wide) in
     subst (λ (w : ℕ). IsRemainder (bit_xor (0x84CF * 2 ^ n % 2 ^ 128) w * 2 ^ 16) (fold check_after 65535 bytes)) (sym word-is)
     (bytes_step 0x84CF (0x84CF * 2 ^ n % 2 ^ 128) 65535 bytes fits first_state (congruent_from whole))
+
+-- no bytes change nothing
+pub none_then : (check : ℕ) (bytes : List ℕ) → length bytes ≡ 0 → fold check_after check bytes ≡ check
+none_then check [] none = refl
+none_then check (byte ∷ bytes) none = absurd (omega (arith, none))
+
+-- the state after fourteen bytes: before them stand the sixteen bits of the start
+pub header_state : (number : ℕ) (bytes : List ℕ) → AreBytes bytes → length bytes ≡ 14 → number ≡ polynomial_of bytes
+    → IsRemainder (bit_xor (0x84CF * 2 ^ 112 % 2 ^ 128) number * 2 ^ 16) (fold check_after 65535 bytes)
+header_state number bytes fits size number-is =
+    let whole : 0x84CF * 2 ^ (8 * length bytes) ≡ 0x84CF * 2 ^ 112 % 2 ^ 128 = rw size (omega arith) in
+    subst (λ (w : ℕ). IsRemainder (bit_xor (0x84CF * 2 ^ 112 % 2 ^ 128) w * 2 ^ 16) (fold check_after 65535 bytes)) (sym number-is)
+    (bytes_step 0x84CF (0x84CF * 2 ^ 112 % 2 ^ 128) 65535 bytes fits first_state (congruent_from whole))
+
+-- fewer bytes than eight, from their first on
+pub few_then : (state moved word check : ℕ) (bytes : List ℕ) → AreBytes bytes → length bytes < 8 → IsRemainder (state * 2 ^ 16) check
+    → IsCongruent (state / 2 ^ (64 - 8 * length bytes) * 2 ^ 64) moved → word ≡ polynomial_of bytes
+    → IsRemainder (bit_xor moved (bit_xor (state * 2 ^ (8 * length bytes) % 2 ^ 64) word) * 2 ^ 16) (fold check_after check bytes)
+few_then state moved word check bytes fits few now step word-is =
+    let same : length bytes - 0 ≡ length bytes = omega arith in
+    let step' : IsCongruent (state / 2 ^ (64 - 8 * (length bytes - 0)) * 2 ^ 64) moved = subst (λ (n : ℕ). IsCongruent (state / 2 ^ (64 - 8 * n) * 2 ^ 64) moved) (sym same) step in
+    subst (λ (n : ℕ). IsRemainder (bit_xor moved (bit_xor (state * 2 ^ (8 * n) % 2 ^ 64) word) * 2 ^ 16) (fold check_after check bytes)) same
+    (last_step state moved word check 0 bytes fits (omega arith) (omega (arith, few)) now step' word-is)

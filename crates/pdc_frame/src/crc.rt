@@ -1,10 +1,13 @@
-//! The check word, sixteen bytes a step.
+//! The check word, thirty-two bytes a step.
 //!
 //! It is the remainder of state * x^16, where the state stands for the bytes so far. Over bits a square has no mixed
-//! terms, so the generator's fourth power has four terms as the generator itself, and its eighth power too. A state of
-//! as many bits as such a power has is moved up by them, and reduced again, with a few shifts.
-ghost use Rattle.std.specs.Prelude.{◌≡◌, ◌+◌, ◌*◌, ◌^◌, ◌≤◌, ◌<◌, ℕ, fold, length, take, drop};
+//! terms, so the generator's fourth power has four terms as the generator itself, and its eighth and sixteenth power too. A
+//! state of as many bits as such a power has is moved up by them, and reduced again, with a few shifts.
+ghost use Rattle.std.specs.Prelude.{◌≡◌, ◌+◌, ◌*◌, ◌^◌, ◌≤◌, ◌<◌, ◌++◌, ℕ, List, fold, length, take, drop};
+ghost use Rattle.pdc_frame.specs.Bytes.{AreBytes};
 ghost use Rattle.pdc_frame.specs.CheckWord.{IsCheckWord, IsCongruent, IsRemainder, check_after, check_word_of, high_of_product, polynomial_of};
+
+use crate::limits::HEADER_LEN;
 
 /// The highest exponent of the generator, x^16 + x^12 + x^5 + 1.
 const DEGREE: u32 = 16;
@@ -24,6 +27,9 @@ const LOWER_GAP: u32 = DEGREE - LOWER;
 /// The state before the first byte: its product with x^16 has the remainder FFFF.
 const START: u128 = 0x84CF;
 
+/// The number of bytes of a long step.
+const LONG_STEP: usize = 32;
+
 /// The number of bytes of a wide step.
 const WIDE_STEP: usize = 16;
 
@@ -35,6 +41,9 @@ const STATE_BITS: usize = 8 * STEP;
 
 /// The number of bits of a wide state.
 const WIDE_BITS: usize = 8 * WIDE_STEP;
+
+/// The number of bits of a long state.
+const LONG_BITS: usize = 8 * LONG_STEP;
 
 /// The quotient of state * x^64 by the generator's fourth power, x^64 + x^48 + x^20 + 1: the largest shifts come first,
 /// and those that leave nothing of a state are left out.
@@ -71,6 +80,43 @@ fn wide_moved_up(state: u128) -> u128
 {
     let quotient = wide_quotient(state);
     (quotient << (8 * UPPER)) ^ ((quotient << (8 * LOWER)) ^ quotient)
+}
+
+/// A long state, in two halves, that stands for state * x^256: what is left of it behind the sixteenth power,
+/// x^256 + x^192 + x^80 + 1.
+#[inline(always)]
+fn long_moved_up(high: u128, low: u128) -> (u128, u128)
+    ensures congruent { IsCongruent ((high * 2 ^ WIDE_BITS + low) * 2 ^ LONG_BITS) (result.0 * 2 ^ WIDE_BITS + result.1) }
+    ensures low { result.1 < 2 ^ WIDE_BITS }
+{
+    let mixed = low ^ high;
+    let first = high ^ (high >> 64);
+    let second = (mixed ^ ((high << 64) | (mixed >> 64))) ^ (high >> 48);
+    (
+        (second << 64) ^ (((first << 80) | (second >> 48)) ^ first),
+        (second << 80) ^ second,
+    )
+}
+
+/// The state after the first bytes, in steps of thirty-two, and how many bytes they are.
+#[inline(always)]
+fn after_long_steps(state: u128, bytes: &[u8]) -> (u128, usize)
+    requires { LONG_STEP ≤ length bytes.now }
+    ensures at { result.1 ≤ length bytes.now }
+    ensures state { (check : ℕ) → IsRemainder (state * 2 ^ DEGREE) check
+        → IsRemainder (result.0 * 2 ^ DEGREE) (fold check_after check (take result.1 bytes.now)) }
+{
+    let (up, down) = long_moved_up(0, state);
+    let mut high = up ^ read_wide_step(bytes, 0);
+    let mut low = down ^ read_wide_step(bytes, WIDE_STEP);
+    let mut at = LONG_STEP;
+    while bytes.len() - at >= LONG_STEP {
+        let (up, down) = long_moved_up(high, low);
+        high = up ^ read_wide_step(bytes, at);
+        low = down ^ read_wide_step(bytes, at + WIDE_STEP);
+        at += LONG_STEP;
+    }
+    (wide_moved_up(high) ^ low, at)
 }
 
 /// A state that stands for the same in half the bits.
@@ -190,6 +236,9 @@ fn first_step(bytes: &[u8]) -> (u128, usize)
     if bytes.len() < WIDE_STEP {
         return (START, 0);
     }
+    if bytes.len() >= LONG_STEP {
+        return after_long_steps(START, bytes);
+    }
     (wide_moved_up(START) ^ read_wide_step(bytes, 0), WIDE_STEP)
 }
 
@@ -221,4 +270,64 @@ pub fn check_word(bytes: &[u8]) -> u16
         at += WIDE_STEP;
     }
     check_of_state(after_rest(narrowed(state), bytes, at))
+}
+
+/// The state after the first bytes behind a header, of which this is the state, and how many they are: long steps, where there are as
+/// many.
+#[inline(always)]
+fn after_front(header: u128, payload: &[u8]) -> (u128, usize)
+    ensures at { result.1 ≤ length payload.now }
+    ensures state { (check : ℕ) → IsRemainder (header * 2 ^ DEGREE) check
+        → IsRemainder (result.0 * 2 ^ DEGREE) (fold check_after check (take result.1 payload.now)) }
+{
+    if payload.len() < LONG_STEP {
+        return (header, 0);
+    }
+    after_long_steps(header, payload)
+}
+
+/// The state after the bytes behind a header, of which this is the state.
+#[inline]
+fn after_payload(header: u128, payload: &[u8]) -> u64
+    requires { STEP ≤ length payload.now }
+    ensures step { (check : ℕ) → IsRemainder (header * 2 ^ DEGREE) check
+        → IsRemainder (result * 2 ^ DEGREE) (fold check_after check payload.now) }
+{
+    let (mut state, mut at) = after_front(header, payload);
+    while payload.len() - at >= WIDE_STEP {
+        state = wide_moved_up(state) ^ read_wide_step(payload, at);
+        at += WIDE_STEP;
+    }
+    after_rest(narrowed(state), payload, at)
+}
+
+/// The state after fewer than eight bytes behind a header: no data has so few, and so it is a call of its own.
+#[inline(never)]
+fn after_few(header: u128, payload: &[u8]) -> u64
+    requires { length payload.now < STEP }
+    ensures step { (check : ℕ) → IsRemainder (header * 2 ^ DEGREE) check
+        → IsRemainder (result * 2 ^ DEGREE) (fold check_after check payload.now) }
+{
+    let state = narrowed(header);
+    if payload.is_empty() {
+        return state;
+    }
+    let bits = 8 * payload.len();
+    moved_up(state >> (STATE_BITS - bits)) ^ ((state << bits) ^ read_few(payload))
+}
+
+/// The check word of a header, given as one number with its first byte highest, and the payload behind it. So a header that was just
+/// written need not be read again, which would wait for it.
+#[inline(always)]
+pub(crate) fn check_word_behind(header: u128, payload: &[u8]) -> u16
+    ensures { (front : List ℕ) → AreBytes front → length front ≡ HEADER_LEN → header ≡ polynomial_of front
+        → result ≡ check_word_of (front ++ payload.now) }
+{
+    let state = (START << (8 * HEADER_LEN)) ^ header;
+    let whole = if payload.len() < STEP {
+        after_few(state, payload)
+    } else {
+        after_payload(state, payload)
+    };
+    check_of_state(whole)
 }

@@ -40,4 +40,4 @@ pub use reading::read_frame;
 pub use step::Step;
 pub use stream::frames_of;
 pub use words::{read_long, read_word};
-pub use writing::{begin_frame, end_frame, write_frame};
+pub use writing::{begin_frame, end_frame, write_ends, write_frame};

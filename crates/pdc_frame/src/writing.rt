@@ -2,11 +2,11 @@
 ghost use Rattle.std.specs.Prelude.{◌≡◌, ◌+◌, ◌^◌, ◌<◌, ◌≤◌, ◌++◌, length, drop, OnOk, OnErr, IsOk};
 ghost use Rattle.std.specs.Int.{w16, to_be_bytes};
 ghost use Rattle.pdc_frame.specs.Bytes.{AreBytes};
-ghost use Rattle.pdc_frame.specs.CheckWord.{check_word_of};
+ghost use Rattle.pdc_frame.specs.CheckWord.{check_word_of, polynomial_of};
 ghost use Rattle.pdc_frame.specs.Frame.{Fits, fields_of, number_of, header_of, spelling_of, IsFrame};
 
 use crate::buffer::Buffer;
-use crate::crc::check_word;
+use crate::crc::{check_word, check_word_behind};
 use crate::frame::{Frame, Kind};
 use crate::limits::{
     CHECK_LEN, FRACSEC_PLACE, HEADER_LEN, ID_PLACE, MAX_PAYLOAD, OVERHEAD, SIZE_PLACE, SOC_PLACE,
@@ -48,6 +48,49 @@ fn header_bytes(head: &Frame, size: u16) -> [u8; HEADER_LEN]
         (u32::from(head.quality) << 24) + head.frac,
     );
     header
+}
+
+/// The same fields as one number, the first byte highest.
+#[inline(always)]
+fn header_number(head: &Frame, size: u16) -> u128
+    ensures { result ≡ polynomial_of (header_of (fields_of head.now) size) }
+{
+    let sync = 16 * kind_number(head.kind) + head.version;
+    let fracsec = (u32::from(head.quality) << 24) + head.frac;
+    (u128::from(SYNC_BYTE) << 104)
+        + (u128::from(sync) << 96)
+        + (u128::from(size) << 80)
+        + (u128::from(head.id.value) << 64)
+        + (u128::from(head.soc) << 32)
+        + u128::from(fracsec)
+}
+
+/// CHK of the frame with the fields of `head` and this payload.
+#[inline(always)]
+fn check_bytes(head: &Frame, payload: &[u8]) -> [u8; CHECK_LEN]
+    requires { length payload.now ≤ MAX_PAYLOAD }
+    ensures { result ≡ to_be_bytes w16 (check_word_of (header_of (fields_of head.now) (length payload.now + OVERHEAD) ++ payload.now)) }
+{
+    let size = payload.len() + OVERHEAD;
+    check_word_behind(header_number(head, size as u16), payload).to_be_bytes()
+}
+
+/// Writes over these bytes what stands before and behind this payload in a frame: the fields of `head`, whose own payload is not looked
+/// at, and CHK.
+#[inline(always)]
+pub fn write_ends(head: &Frame, payload: &[u8], front: &mut [u8], back: &mut [u8])
+    requires payload { length payload.now ≤ MAX_PAYLOAD }
+    requires front { length front.old ≡ HEADER_LEN }
+    requires back { length back.old ≡ CHECK_LEN }
+    ensures front { front.new ≡ header_of (fields_of head.now) (length payload.now + OVERHEAD) }
+    ensures back { back.new ≡ to_be_bytes w16 (check_word_of (header_of (fields_of head.now) (length payload.now + OVERHEAD) ++ payload.now)) }
+    // The other fields are in range by their types.
+    ensures soc { head.now.soc < 2 ^ 32 }
+    ensures quality { head.now.quality < 2 ^ 8 }
+{
+    let size = payload.len() + OVERHEAD;
+    front.copy_from_slice(&header_bytes(head, size as u16));
+    back.copy_from_slice(&check_bytes(head, payload));
 }
 
 /// Appends what stands before the payload of a frame: the fields of `head`, whose own payload is not looked at. The
@@ -122,9 +165,8 @@ pub fn write_frame<B: Buffer>(frame: &Frame, out: &mut B) -> Result<(), AllocErr
     ensures in_place { length (B.content out.old) + length (spelling_of (fields_of frame.now)) ≤ B.capacity out.old → B.capacity out.new ≡ B.capacity out.old }
     ensures capacity { B.capacity out.old ≤ B.capacity out.new }
 {
-    let start = out.content().len();
     begin_frame(frame, payload_len(frame.payload), out)?;
     out.append_bytes(frame.payload);
-    end_frame(start, out);
+    out.append_few(&check_bytes(frame, frame.payload));
     Ok(())
 }

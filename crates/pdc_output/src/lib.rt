@@ -25,5 +25,5 @@ pub use pdc_row::{
     read_config, read_frame, read_word,
 };
 pub use pdc_tag::{instant, instant_is_nearest};
-pub use row_frame::{MAX_ROW_LEN, OWN_BLOCK_LEN, append_row};
+pub use row_frame::{MAX_ROW_LEN, OWN_BLOCK_LEN, append_row, write_row};
 pub use section::own_section;

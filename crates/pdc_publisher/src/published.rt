@@ -5,7 +5,7 @@ ghost use Rattle.pdc_row.specs.RowView.{row_view};
 ghost use Rattle.pdc_publisher.specs.Published.{IsOfSomeRow, IsRowFrame, no_row};
 
 use arrayvec::ArrayVec;
-use pdc_output::{MAX_ROW_LEN, Output, append_row};
+use pdc_output::{MAX_ROW_LEN, Output, append_row, write_row};
 use pdc_row::DueRow;
 
 /// The data frame of a row that was published (this profile; C37.118.2-2011, 6.3).
@@ -63,8 +63,7 @@ pub fn write_over(output: &Output, row: &DueRow, frame: &mut Published)
     ensures output { frame.new.output ≡ output.now }
     ensures frame { IsRowFrame frame.new.instant frame.new.start frame.new.change frame.new.bytes.items output.now (row_view row.now) }
 {
-    frame.bytes.clear();
-    append_row(output, row, &mut frame.bytes).unwrap();
+    write_row(output, row, &mut frame.bytes);
     frame.output = *output;
     frame.instant = row.instant;
     frame.start = row.start;

@@ -20,10 +20,10 @@ pub use laws::numbers_rise;
 pub use limits::{MAX_PMUS, MAX_WINDOW, MIN_WINDOW};
 pub use offered::Offered;
 pub use pdc_block::{
-    Block, Body, Buffer, CfgFault, ConfigView, Frame, FrameFault, Kind, MAX_SECTION_LEN, OVERHEAD,
-    Section, SectionView, Shape, StreamId, append_blocks, append_words, begin_frame,
-    bodies_are_their_words, configurations_are_read_in_one_way, end_frame,
+    Block, Body, Buffer, CHECK_LEN, CfgFault, ConfigView, Frame, FrameFault, HEADER_LEN, Kind,
+    MAX_SECTION_LEN, OVERHEAD, Section, SectionView, Shape, StreamId, append_blocks, append_words,
+    begin_frame, bodies_are_their_words, configurations_are_read_in_one_way, end_frame,
     frames_are_read_in_one_way, frames_are_written_in_parts, joined_len, read_body, read_config,
-    read_frame, read_word, set_absent, write_config,
+    read_frame, read_word, set_absent, write_blocks, write_config, write_ends,
 };
 pub use present::is_present;

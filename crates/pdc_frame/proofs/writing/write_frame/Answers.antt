@@ -1,6 +1,6 @@
-use Rattle.std.proofs.Common.{◌+◌, List, ℕ, ◌++◌, length, ap, ◌∙◌}
-use Rattle.pdc_frame.specs.Frame.{Fields, header_of, fields_of}
-use Rattle.pdc_frame.proofs.Framed.{framed, writable}
+use Rattle.std.proofs.Common.{◌+◌, List, ℕ, ◌++◌, length, ap, append_assoc, ◌∙◌}
+use Rattle.pdc_frame.specs.Frame.{Fields, header_of, fields_of, before_check}
+use Rattle.pdc_frame.proofs.Framed.{writable}
 use Rattle.pdc_frame.proofs.writing.write_frame.Goals as goal
 
 pub returns-in_err-begin_frame-clause-frame : goal.returns-in_err-begin_frame-clause-frame
@@ -15,4 +15,6 @@ returns-clause-ok g c =
     let header : List ℕ = header_of f (length f.payload + 16) in
     let old : List ℕ = g.B.Buffer.content c.args.out.now in
     let begun = c.in_ok-begin_frame.ensures.ok ∙ ap (λ (n : ℕ). old ++ header_of f (n + 16)) c.payload_len.ensures.value in
-    framed old header f.payload _ _ _ (ap length c.content-start.ensures) (c.append_bytes.ensures.bytes ∙ ap (λ (xs : List ℕ). xs ++ f.payload) begun) c.end_frame.ensures.items
+    let joined = c.append_bytes.ensures.bytes ∙ ap (λ (xs : List ℕ). xs ++ f.payload) begun ∙ append_assoc old header f.payload in
+    c.append_few.ensures.bytes ∙ ap (λ (xs : List ℕ). xs ++ c.check_bytes.result) joined ∙ append_assoc old (before_check f) c.check_bytes.result
+    ∙ ap (λ (xs : List ℕ). old ++ (before_check f ++ xs)) c.check_bytes.ensures

@@ -1,25 +1,11 @@
-use Rattle.std.proofs.Common.{ap, arith, length}
 use Rattle.pdc_row.specs.RowView.{row_view}
-use Rattle.pdc_output.specs.Layout.{wire_of}
-use Rattle.pdc_publisher.proofs.Fitting.{appended, framed_of}
+use Rattle.pdc_publisher.proofs.Fitting.{framed_of}
 use Rattle.pdc_publisher.proofs.published.write_over.Goals as goal
 
-pub unwrap-requires : goal.unwrap-requires
-unwrap-requires c = c.append_row.ensures.room (omega (arith, c.append_row.ensures.most, ap length c.clear.ensures))
-
 pub returns-clause-frame : goal.returns-clause-frame
-returns-clause-frame c =
-    let room = c.append_row.ensures.room (omega (arith, c.append_row.ensures.most, ap length c.clear.ensures)) in
-    framed_of c.args.output.now c.args.row.now _ c.requires
-    (appended c.append_row.result c.append_row.new.out.items _ (wire_of c.args.output.now (row_view c.args.row.now)) room c.append_row.ensures.ok c.clear.ensures)
+returns-clause-frame c = framed_of c.args.output.now c.args.row.now _ c.requires c.write_row.ensures
 
 pub invariant_of-frame : goal.invariant_of-frame
-invariant_of-frame c =
-    let room = c.append_row.ensures.room (omega (arith, c.append_row.ensures.most, ap length c.clear.ensures)) in
-    record {
-      of_some_row = ∣ (
-        row_view c.args.row.now,
-        framed_of c.args.output.now c.args.row.now _ c.requires
-            (appended c.append_row.result c.append_row.new.out.items _ (wire_of c.args.output.now (row_view c.args.row.now)) room c.append_row.ensures.ok c.clear.ensures),
-      ) ∣₁;
-    }
+invariant_of-frame c = record {
+  of_some_row = ∣ (row_view c.args.row.now, framed_of c.args.output.now c.args.row.now _ c.requires c.write_row.ensures) ∣₁;
+}
