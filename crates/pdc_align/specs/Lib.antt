@@ -1,5 +1,6 @@
 pub mod Align
 pub mod Calls
+pub mod Kept
 pub mod Popped
 pub mod Slot
 pub mod State

@@ -18,7 +18,7 @@ ghost use Rattle.pdc_align.specs.State.{rule_of, shape_in};
 ghost use Rattle.pdc_align.specs.Align.{KeepsSizes, StandsFor, Unchanged, new_change};
 ghost use Rattle.pdc_align.specs.Popped.{popped_after};
 ghost use Rattle.pdc_align.specs.Slot.{count_in};
-ghost use Rattle.pdc_align.specs.Calls.{after_data, after_adopting, disagreements_at, after_closing, after_tick_of, column_in, told_at, after_hold, after_pop_of, first_content, first_of_plan, is_ready_in, put_outcome, row_layout_in, waiting_in};
+ghost use Rattle.pdc_align.specs.Calls.{after_data, after_adopting, disagreements_at, after_closing, after_tick_of, cleared_from, column_in, told_at, after_hold, after_pop_of, first_content, first_of_plan, is_ready_in, put_outcome, row_layout_in, waiting_in};
 
 use crate::adopting::adopt_in;
 use crate::{Column, Plan, Ticked, columns};
@@ -33,20 +33,25 @@ pub struct Alignment<T: Table> {
     wait: u64,
     wait_kind: WaitKind,
     ahead: u64,
-    start: u32,
     current: u64,
-    change: u32,
     lanes: usize,
     columns: Vec<Column>,
+    /// The layout under which rows close: the stamp, and the shapes in force.
+    layout: RowLayout,
+    /// The counts that were cleared last.
+    cleared: [u16; MAX_PMUS],
+    /// Whether a tick with these counts leaves each column as it is.
+    is_quiet: bool,
     table: T,
     /// The greatest instant popped, at first the floor.
     popped: u64,
 }
 
 impl<T: Table> Model for Alignment<T> {
-    ghost use Rattle.std.specs.Prelude.{◌≡◌, ◌*◌, ◌∷◌, length};
+    ghost use Rattle.std.specs.Prelude.{◌≡◌, ◌*◌, ◌∷◌, length, true};
     ghost use Rattle.std.specs.Vec.{vec_capacity};
     ghost use Rattle.pdc_align.specs.Align.{AlignmentView};
+    ghost use Rattle.pdc_align.specs.Kept.{AreQuietAt, shapes_in};
     ghost use Rattle.pdc_align.specs.Popped.{IsPoppedTo};
     ghost use Rattle.pdc_table.specs.Content.{IsContent};
 
@@ -57,9 +62,9 @@ impl<T: Table> Model for Alignment<T> {
         wait = a.wait;
         wait_kind = a.wait_kind;
         ahead = a.ahead;
-        start = a.start;
+        start = a.layout.start;
         current = a.current;
-        change = a.change;
+        change = a.layout.change;
         columns = a.columns.items;
         content = T.content a.table;
       };
@@ -73,6 +78,8 @@ impl<T: Table> Model for Alignment<T> {
       each : length a.columns.items ≡ (T.content a.table).columns;
       lanes : a.lanes ≡ (T.content a.table).lanes;
       gone : IsPoppedTo a.popped (T.content a.table);
+      shapes : a.layout.shapes.items ≡ shapes_in a.columns.items;
+      quiet : a.is_quiet ≡ true → AreQuietAt a.cleared a.columns.items;
     } };
 }
 
@@ -153,7 +160,7 @@ impl<T: Table> Alignment<T> {
     pub fn change(&self) -> u32
         ensures { (g : Given) (E : List Entry) → StandsFor g E self.now.state → result ≡ changes E }
     {
-        self.change
+        self.layout.change
     }
 
     /// How often, at a closing, both lanes of a column had present blocks that differed.
@@ -176,15 +183,22 @@ impl<T: Table> Alignment<T> {
         ensures disagreements { IfOk result (λ a. a.disagreements ≡ 0) }
         ensures popped { IfOk result (λ a. a.popped ≡ floor) }
     {
+        let columns = columns::new_columns(alloc, plan.columns, counts)?;
+        let shapes = columns::shapes(&columns);
         Ok(Alignment {
             wait: plan.wait,
             wait_kind: plan.wait_kind,
             ahead: plan.ahead,
-            start,
             current: now,
-            change: 0,
             lanes: plan.lanes,
-            columns: columns::new_columns(alloc, plan.columns, counts)?,
+            columns,
+            layout: RowLayout {
+                start,
+                change: 0,
+                shapes,
+            },
+            cleared: [0; MAX_PMUS],
+            is_quiet: false,
             table: new_table(alloc, plan, floor)?,
             popped: floor,
         })
@@ -219,6 +233,7 @@ impl<T: Table> Alignment<T> {
         ensures unchanged { Unchanged self.old self.new }
     {
         columns::hold(&mut self.columns, sections);
+        self.is_quiet = false;
     }
 
     /// A tick: rows close under the layout before it, and then the columns that are ready are adopted.
@@ -241,7 +256,7 @@ impl<T: Table> Alignment<T> {
             };
         }
         let ready = columns::ready(&self.columns);
-        if self.change == u32::MAX {
+        if self.layout.change == u32::MAX {
             return Ticked {
                 closed,
                 change: None,
@@ -267,24 +282,39 @@ impl<T: Table> Alignment<T> {
         ensures disagreements { self.new.disagreements ≡ disagreements_at self.old.disagreements self.old.state now }
         ensures popped { self.new.popped ≡ self.old.popped }
     {
-        let layout = self.layout();
         let rule = rule_of(self.wait_kind, self.wait, now);
-        let closed = self.close_rows(rule, &layout);
-        let any_ready = columns::clear(&mut self.columns, counts);
+        let closed = self.close_rows(rule);
+        let any_ready = self.clear(counts);
         self.current = now;
         (closed, any_ready)
     }
 
-    /// Closes the rows that are due by the rule, under the layout. It answers how many.
-    fn close_rows(&mut self, rule: WaitRule, layout: &RowLayout) -> u32
+    /// Closes the rows that are due by the rule, under the layout in force. It answers how many.
+    fn close_rows(&mut self, rule: WaitRule) -> u32
         ensures answer { result ≡ table.tick_answer self.old.state.content rule }
-        ensures state { self.new.state ≡ record self.old.state { content = table.after_tick self.old.state.content rule (layout_view layout.now) } }
+        ensures state { self.new.state ≡ record self.old.state { content = table.after_tick self.old.state.content rule (row_layout_in self.old.state) } }
         ensures sizes { KeepsSizes self.old.state self.new.state }
         ensures memory { self.new.memory ≡ self.old.memory }
-        ensures disagreements { self.new.disagreements ≡ table.disagreements_after self.old.disagreements self.old.state.content rule (layout_view layout.now) }
+        ensures disagreements { self.new.disagreements ≡ table.disagreements_after self.old.disagreements self.old.state.content rule (row_layout_in self.old.state) }
         ensures popped { self.new.popped ≡ self.old.popped }
     {
-        self.table.tick(rule, layout)
+        self.table.tick(rule, &self.layout)
+    }
+
+    /// Clears the counts. It answers whether some column is ready, and looks at none where these counts were cleared before, and nothing
+    /// was held since.
+    fn clear(&mut self, counts: &[u16; MAX_PMUS]) -> bool
+        ensures ready { result ≡ list_any is_ready_in self.new.state.columns }
+        ensures state { self.new.state ≡ record self.old.state { columns = cleared_from 0 counts.now self.old.state.columns } }
+        ensures unchanged { Unchanged self.old self.new }
+    {
+        if self.is_quiet && self.cleared == *counts {
+            return false;
+        }
+        let any_ready = columns::clear(&mut self.columns, counts);
+        self.cleared = *counts;
+        self.is_quiet = !any_ready;
+        any_ready
     }
 
     /// Puts into force what is ready, and adopts these columns in the table. It answers the change number, where there are any.
@@ -298,11 +328,13 @@ impl<T: Table> Alignment<T> {
     {
         columns::adopt(&mut self.columns);
         adopt_in(&mut self.table, self.lanes, adopted);
+        self.layout.shapes = columns::shapes(&self.columns);
+        self.is_quiet = false;
         if adopted.is_empty() {
             return None;
         }
-        self.change += 1;
-        Some(self.change)
+        self.layout.change += 1;
+        Some(self.layout.change)
     }
 
     /// Takes out the first row that waits.
@@ -352,8 +384,8 @@ impl<T: Table> Alignment<T> {
         ensures { layout_view result ≡ row_layout_in self.now.state }
     {
         RowLayout {
-            start: self.start,
-            change: self.change,
+            start: self.layout.start,
+            change: self.layout.change,
             shapes: columns::shapes(&self.columns),
         }
     }

@@ -7,7 +7,7 @@ ghost use Rattle.pdc_life.specs.pdc_output.Layout.{stamp_words};
 ghost use Rattle.pdc_life.specs.pdc_output.declared.row_frame.TheConstants.{OWN_BLOCK_LEN};
 
 use crate::arrival::Stamp;
-use pdc_life::{Block, OWN_BLOCK_LEN, Shape, bodies_are_their_words, read_body};
+use pdc_life::{Block, Body, OWN_BLOCK_LEN, Shape, bodies_are_their_words, read_body};
 
 /// The shape of the own block: the stamp is its digital words.
 const OWN_SHAPE: Shape = Shape {
@@ -31,7 +31,9 @@ pub fn bears(own: &[u8], stamp: Stamp) -> bool
     requires { length own.now ≡ OWN_BLOCK_LEN }
     ensures { result ≡ pointwise nat_eq (drop 3 (words_in own.now)) (stamp_words stamp.start stamp.change) }
 {
-    let block = body(OWN_SHAPE, own);
-    let digitals = &block.words()[3..];
-    digitals == stamp.words().as_slice()
+    let own = Body {
+        shape: OWN_SHAPE,
+        bytes: own,
+    };
+    [own.word(3), own.word(4), own.word(5), own.word(6)] == stamp.words()
 }

@@ -1,3 +1,4 @@
+pub mod AbsentWords
 pub mod Bodies
 pub mod Cuts
 pub mod Words

@@ -6,8 +6,9 @@ ghost use Rattle.pdc_cfg.specs.Shape.{word_count_of};
 ghost use Rattle.pdc_block.specs.AbsentBlock.{absent_of, IsAbsent};
 
 use crate::block::Block;
+use crate::in_place::WORDS_AT_ONCE;
 use arrayvec::ArrayVec;
-use pdc_cfg::Shape;
+use pdc_cfg::{MAX_WORDS, Shape};
 
 /// STAT of an absent block: class "test or absent", out of sync, and the greatest unlocked time and time quality code.
 pub const ABSENT_STAT: u16 = 0xA1F0;
@@ -50,11 +51,31 @@ pub fn are_absent(shape: Shape, words: &[u16]) -> bool
     are_all(&words[1..values], NO_VALUE) && are_all(&words[values..], 0)
 }
 
-/// Whether each of the words is this one.
+/// Whether each of the words is this one: eight are compared at a step, and the last one by one.
 fn are_all(words: &[u16], word: u16) -> bool
     ensures { IsTrue result ↔ (words.now ≡ replicate (length words.now) word) }
 {
-    words.iter().all(|each| *each == word)
+    if words.len() < WORDS_AT_ONCE {
+        return words.iter().all(|each| *each == word);
+    }
+    let (front, behind) = words.split_at(WORDS_AT_ONCE);
+    are_eight(front, word) && are_all(behind, word)
+}
+
+/// Whether each of eight words is this one: no test stands between two of them, so that they are compared in one step.
+#[inline(always)]
+fn are_eight(words: &[u16], word: u16) -> bool
+    requires { length words.now ≡ 8 }
+    ensures { IsTrue result ↔ (words.now ≡ replicate 8 word) }
+{
+    (words[0] == word)
+        & (words[1] == word)
+        & (words[2] == word)
+        & (words[3] == word)
+        & (words[4] == word)
+        & (words[5] == word)
+        & (words[6] == word)
+        & (words[7] == word)
 }
 
 /// Makes this the block that `absent` gives, in place.
@@ -63,7 +84,38 @@ pub fn set_absent(block: &mut Block, shape: Shape)
     ensures shape { block.new.shape ≡ shape }
     ensures words { words_of block.new ≡ absent_of shape }
 {
-    *block = absent(shape);
+    block.shape = shape;
+    set_absent_words(&mut block.words, shape);
+}
+
+/// Makes these the words of `absent` of the shape. Where there were as many before, they are written over.
+fn set_absent_words(kept: &mut ArrayVec<u16, MAX_WORDS>, shape: Shape)
+    ensures { kept.new.items ≡ absent_of shape }
+{
+    if kept.len() == shape.word_count() {
+        write_absent(kept.as_mut_slice(), shape);
+    } else {
+        *kept = absent(shape).words;
+    }
+}
+
+/// Writes the words of `absent` of the shape over these.
+fn write_absent(words: &mut [u16], shape: Shape)
+    requires { length words.old ≡ word_count_of shape }
+    ensures { words.new ≡ absent_of shape }
+{
+    let (stat, rest) = words.split_at_mut(1);
+    let (values, digitals) = rest.split_at_mut(rest.len() - usize::from(shape.digitals));
+    stat[0] = ABSENT_STAT;
+    write_all(values, NO_VALUE);
+    write_all(digitals, 0);
+}
+
+/// Writes the word over each of these.
+fn write_all(words: &mut [u16], word: u16)
+    ensures { words.new ≡ replicate (length words.old) word }
+{
+    words.fill(word);
 }
 
 /// Appends the word so many times.

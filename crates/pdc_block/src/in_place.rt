@@ -8,6 +8,9 @@ use pdc_cfg::{MAX_WORDS, read_word};
 /// How many words are written in one step: as many as fill a register of 16 bytes.
 pub const WORDS_AT_ONCE: usize = 8;
 
+/// As many as fill one of 8 bytes.
+const FEW_AT_ONCE: usize = 4;
+
 /// Makes these the words of a block. Where there were as many before, they are written over.
 pub fn set_words(kept: &mut ArrayVec<u16, MAX_WORDS>, words: &[u16])
     requires { length words.now ≤ MAX_WORDS }
@@ -163,9 +166,42 @@ fn read_eight(words: &mut [u16], bytes: &[u8])
     words[7] = h;
 }
 
-/// Writes the words that the bytes write over these, one by one.
+/// Writes the words that the bytes write over these, few as they are: four at once, and the last one by one.
 #[inline(always)]
 fn read_each(words: &mut [u16], bytes: &[u8])
+    requires { length bytes.now ≡ 2 * length words.old }
+    ensures { words.new ≡ words_in bytes.now }
+{
+    if words.len() < FEW_AT_ONCE {
+        read_one_by_one(words, bytes);
+        return;
+    }
+    let (front, behind) = words.split_at_mut(FEW_AT_ONCE);
+    let (bytes, left) = bytes.split_at(2 * FEW_AT_ONCE);
+    read_four(front, bytes);
+    read_one_by_one(behind, left);
+}
+
+/// Writes four words that the bytes write over these: all are read before one is written.
+#[inline(always)]
+fn read_four(words: &mut [u16], bytes: &[u8])
+    requires words { length words.old ≡ 4 }
+    requires bytes { length bytes.now ≡ 8 }
+    ensures { words.new ≡ words_in bytes.now }
+{
+    let a = read_word(bytes, 0);
+    let b = read_word(bytes, 2);
+    let c = read_word(bytes, 4);
+    let d = read_word(bytes, 6);
+    words[0] = a;
+    words[1] = b;
+    words[2] = c;
+    words[3] = d;
+}
+
+/// Writes the words that the bytes write over these, one by one.
+#[inline(always)]
+fn read_one_by_one(words: &mut [u16], bytes: &[u8])
     requires { length bytes.now ≡ 2 * length words.old }
     ensures { words.new ≡ words_in bytes.now }
 {

@@ -1,19 +1,10 @@
-use Rattle.std.proofs.Common.{◌≡◌, ◌<◌, ℕ, zero, suc, ◌^◌, List, [], ◌∷◌, ◌++◌, replicate, subst, sym, arith}
+use Rattle.std.proofs.Common.{◌≡◌, ◌<◌, ℕ, ◌^◌, List, [], ◌∷◌, ◌++◌, replicate, subst, sym, arith}
 use Rattle.pdc_block.specs.Block.{AreWords}
+use Rattle.pdc_block.proofs.AbsentWords.{words-append, words-replicate}
 use Rattle.pdc_block.proofs.absent_block.absent.Goals as goal
-
-words-append : (xs ys : List ℕ) → AreWords xs → AreWords ys → AreWords (xs ++ ys)
-words-append [] ys hx hy i = hy i
-words-append (x ∷ xs) ys hx hy zero = hx zero
-words-append (x ∷ xs) ys hx hy (suc i) = words-append xs ys (λ j. hx (suc j)) hy i
 
 no-words : AreWords []
 no-words i = omega arith
-
-words-replicate : (n w : ℕ) → w < 2 ^ 16 → AreWords (replicate n w)
-words-replicate zero w h i = omega arith
-words-replicate (suc n) w h zero = h
-words-replicate (suc n) w h (suc i) = words-replicate n w h i
 
 -- the words with more behind them
 after_push : (xs ys : List ℕ) (w : ℕ) → AreWords xs → w < 2 ^ 16 → ys ≡ xs ++ w ∷ [] → AreWords ys

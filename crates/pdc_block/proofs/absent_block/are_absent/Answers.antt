@@ -1,15 +1,9 @@
 use Rattle.std.proofs.Common.{◌≡◌, ℕ, ◌+◌, ◌-◌, ◌*◌, List, [], ◌∷◌, ◌++◌, length, get_or, take, drop, replicate, sym, ◌∙◌, ap, subst, arith, length-drop, suc}
 use Rattle.std.proofs.lemmas.Bool.{false≢true}
 use Rattle.std.proofs.Math.Seq.{take-append_seam, drop-append_seam}
-use Rattle.std.proofs.lemmas.List.{length-replicate, length-take-le, replicate-append-replicate, take_all, take-append-drop}
+use Rattle.std.proofs.lemmas.List.{length-replicate, length-take-le, take_all, take-append-drop}
+use Rattle.pdc_block.proofs.AbsentWords.{parts, rest_of}
 use Rattle.pdc_block.proofs.absent_block.are_absent.Goals as goal
-
--- the words of an absent block behind STAT: values, and digital words
-abbrev rest_of : (p a d : ℕ) → List ℕ
-rest_of p a d = replicate (2 * p) 0x8000 ++ (0x8000 ∷ 0x8000 ∷ replicate a 0x8000) ++ replicate d 0
-
-parts : (p a d : ℕ) → rest_of p a d ≡ replicate (2 * p + suc (suc a)) 0x8000 ++ replicate d 0
-parts p a d = ap (λ (xs : List ℕ). xs ++ replicate d 0) (replicate-append-replicate (2 * p) (suc (suc a)) 0x8000)
 
 alike : (xs : List ℕ) (n w : ℕ) → xs ≡ replicate n w → xs ≡ replicate (length xs) w
 alike xs n w e = e ∙ ap (λ k. replicate k w) (sym (ap length e ∙ length-replicate n w))

@@ -11,4 +11,6 @@ invariant_of-self g c = record {
   lanes = c.self.invariant.lanes ∙ sym c.pop_into-is_some.ensures.sizes.lanes;
   gone = popped_rest (g.T.Table.content c.self.inside.table) (g.T.Table.content c.pop_into-is_some.new.self) (row_view c.pop_into-is_some.new.row)
       (sym (ap (λ b. popped_into b c.pop_into-is_some.new.row) c.if-is_some.true) ∙ c.pop_into-is_some.ensures.answer) c.pop_into-is_some.ensures.content c.self.invariant.well_formed;
+  shapes = c.self.invariant.shapes;
+  quiet = c.self.invariant.quiet;
 }
