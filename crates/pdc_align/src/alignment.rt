@@ -4,7 +4,7 @@ ghost use Rattle.std.specs.Prelude.{◌≡◌, ◌<◌, ◌-◌, ◌^◌, ℕ, L
 ghost use Rattle.std.specs.List.{All, list_any};
 ghost use Rattle.pdc_arrival.specs.pdc_cfg.Section.{fields_of_view};
 ghost use Rattle.pdc_arrival.specs.pdc_row.RowView.{RowView, row_view};
-ghost use Rattle.pdc_table.specs.Content.{IsContent, IsPut};
+ghost use Rattle.pdc_table.specs.Content.{HasSizesOf, IsContent, IsPut};
 ghost use Rattle.pdc_table.specs.KeptRow.{popped_into};
 ghost use Rattle.pdc_table.specs.Layout.{layout_view};
 ghost use Rattle.pdc_table.specs.Steps as table;
@@ -23,7 +23,7 @@ ghost use Rattle.pdc_align.specs.Calls.{after_data, after_adopting, disagreement
 use crate::adopting::adopt_in;
 use crate::{Column, Plan, Ticked, columns};
 use pdc_arrival::{Body, ColumnSection, MAX_PMUS, Outcome, Refusal, SectionView, Shape, WaitKind};
-use pdc_table::{DueRow, PutOutcome, RowLayout, Table, WaitRule};
+use pdc_table::{CopyFrom, DueRow, PutOutcome, RowLayout, Table, WaitRule, copy_each};
 use std::alloc::{AllocError, Global};
 use std::marker::Model;
 
@@ -202,6 +202,27 @@ impl<T: Table> Alignment<T> {
             table: new_table(alloc, plan, floor)?,
             popped: floor,
         })
+    }
+
+    /// Makes this the alignment that the other one is, whose table has the sizes of this one. It takes no memory.
+    pub fn copy_from(&mut self, other: &Alignment<T>)
+        requires { HasSizesOf other.now.state.content self.old.state.content }
+        ensures state { self.new.state ≡ other.now.state }
+        ensures memory { self.new.memory ≡ self.old.memory }
+        ensures disagreements { self.new.disagreements ≡ other.now.disagreements }
+        ensures popped { self.new.popped ≡ other.now.popped }
+    {
+        self.wait = other.wait;
+        self.wait_kind = other.wait_kind;
+        self.ahead = other.ahead;
+        self.current = other.current;
+        self.lanes = other.lanes;
+        copy_each(self.columns.as_mut_slice(), other.columns.as_slice());
+        self.layout.copy_from(&other.layout);
+        self.cleared = other.cleared;
+        self.is_quiet = other.is_quiet;
+        self.table.copy_from(&other.table);
+        self.popped = other.popped;
     }
 
     /// Offers data to the table, unless it is too far above now.

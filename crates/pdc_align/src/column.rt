@@ -8,6 +8,7 @@ ghost use Rattle.pdc_align.specs.State.{shape_in};
 
 use crate::slot::Slot;
 use pdc_arrival::{SectionView, Shape};
+use pdc_table::CopyFrom;
 use std::alloc::{AllocError, Global};
 use std::marker::Model;
 
@@ -131,5 +132,14 @@ impl Column {
         if let Some(held) = self.held.view() {
             self.in_force.set(&held);
         }
+    }
+}
+
+impl CopyFrom for Column {
+    fn copy_from(&mut self, other: &Column) {
+        self.opening = other.opening;
+        self.cleared = other.cleared;
+        self.held.copy_from(&other.held);
+        self.in_force.copy_from(&other.in_force);
     }
 }

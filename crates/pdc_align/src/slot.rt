@@ -5,6 +5,7 @@ ghost use Rattle.pdc_align.specs.Slot.{count_in};
 ghost use Rattle.pdc_align.specs.State.{shape_in};
 
 use pdc_arrival::{Section, SectionView, Shape};
+use pdc_table::CopyFrom;
 use std::alloc::{AllocError, Global};
 use std::marker::Model;
 
@@ -72,5 +73,18 @@ impl Slot {
         self.count = Some(section.count);
         self.shape = Some(section.shape);
         *self.section = Some(section.to_section());
+    }
+}
+
+impl CopyFrom for Slot {
+    fn copy_from(&mut self, other: &Slot) {
+        match other.view() {
+            Some(section) => self.set(&section),
+            None => {
+                self.count = None;
+                self.shape = None;
+                *self.section = None;
+            }
+        }
     }
 }

@@ -1,3 +1,4 @@
+pub mod Alike
 pub mod Core
 pub mod Fits
 pub mod Said

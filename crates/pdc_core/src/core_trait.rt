@@ -3,6 +3,7 @@ ghost use Rattle.std.specs.Prelude.{◌≡◌, ◌≤◌, ◌<◌, ◌+◌, ◌*
 ghost use Rattle.pdc_align.specs.Align.{ticked_of};
 ghost use Rattle.pdc_align.specs.pdc_arrival.Counts.{after_answer, counts_after};
 ghost use Rattle.pdc_align.specs.pdc_arrival.declared.counts.Counts.{Counts as CountsData};
+ghost use Rattle.pdc_core.specs.Alike.{AreAlike};
 ghost use Rattle.pdc_core.specs.Core.{Hears};
 ghost use Rattle.pdc_core.specs.KeptArrival.{taken_view};
 ghost use Rattle.pdc_align.specs.Popped.{popped_after};
@@ -142,6 +143,15 @@ pub trait Core {
     /// For each column the count that waits to be stored.
     fn waiting(&self) -> [u16; MAX_PMUS]
         ensures { (g : Given) (E : List Entry) → stands_for self.now g E → result ≡ waiting_counts g E };
+
+    /// Makes this core stand for each life that the other one stands for. Both were opened alike.
+    fn copy_from(&mut self, other: &Self)
+        requires { ∥ AreAlike (stands_for self.old) (stands_for other.now) ∥₁ }
+        ensures stands { (g : Given) (E : List Entry) → stands_for other.now g E → stands_for self.new g E }
+        ensures counts { counts_of self.new ≡ counts_of other.now }
+        ensures popped { popped_of self.new ≡ popped_of other.now }
+        ensures settings { settings_of self.new ≡ settings_of other.now }
+        ensures memory { memory self.new ≡ memory self.old };
 
     /// Makes a step: what arrived is answered, a tick ticks, or a row is taken out.
     fn apply(&mut self, step: &CoreStep) -> Reply

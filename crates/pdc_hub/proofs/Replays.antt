@@ -3,12 +3,13 @@ use Rattle.std.proofs.Common.{arith, ◌≡◌, ℕ, suc, ◌+◌, Bool, true, L
 use Rattle.std.proofs.lemmas.Option.{same_Some}
 use Rattle.std.proofs.lemmas.Grind.{common_steps}
 use Rattle.std.specs.List.{list_all}
+use Rattle.pdc_core.specs.Alike.{AreAlike}
 use Rattle.pdc_core.specs.Step.{IsOf}
 use Rattle.pdc_core.specs.declared.step.CoreStep.{CoreStep}
 use Rattle.pdc_life.specs.Answer.{IsReadStep, ReadStep, Rules, answered, life_from}
 use Rattle.pdc_life.specs.Given.{Given}
 use Rattle.pdc_life.specs.Life.{Entry}
-use Rattle.pdc_hub.specs.Replay.{AreRead, Follows, InSomeLife, Lives, Replaying, Replays, Sayings, number_after, number_in}
+use Rattle.pdc_hub.specs.Replay.{AreRead, Follows, InSomeLife, Lives, Replays, Sayings, number_after, number_in}
 
 -- one step more, at the end
 life_after : (rules : Rules) (g : Given) (E : List Entry) (reads : List ReadStep) (read : ReadStep)
@@ -39,24 +40,6 @@ read_after Says [] (r ∷ reads) step read is says h = absurd h
 read_after Says (s ∷ steps) [] step read is says h = absurd h
 read_after Says (s ∷ steps) (r ∷ reads) step read is says h = (h.0, h.1, read_after Says steps reads step read is says h.2)
 
--- the step that was added comes last
-pub extended : (rules : Rules) (Says : Sayings) (Before Middle After : Lives) (steps : List CoreStep) (step : CoreStep)
-    → Replaying rules Says Before Middle steps
-    → ((g : Given) (E : List Entry) (read : ReadStep) → IsOf step read → IsReadStep Says read → Middle g E → After g (answered rules g E read ∷ E))
-    → Replaying rules Says Before After (steps ++ step ∷ [])
-extended rules Says Before Middle After [] step before makes g E [] read b = absurd read
-extended rules Says Before Middle After [] step before makes g E (r ∷ []) read b = makes g E r read.0 read.1 (before g E [] tt b)
-extended rules Says Before Middle After [] step before makes g E (r ∷ s ∷ reads) read b = absurd read.2
-extended rules Says Before Middle After (x ∷ steps) step before makes g E [] read b = absurd read
-extended rules Says Before Middle After (x ∷ steps) step before makes g E (r ∷ reads) read b =
-    extended rules Says (λ h F. (h ≡ g) × (F ≡ answered rules g E r ∷ E)) Middle After steps step
-    (λ h F rs are at. subst (λ (y : Given × List Entry). Middle y.0 (life_from rules y.0 y.1 rs)) (λ i. (sym at.0 i, sym at.1 i))
-    (before g E (r ∷ rs) (read.0, read.1, are) b)) makes g (answered rules g E r ∷ E) reads read.2 (refl, refl)
-
-pub replays_nothing : (rules : Rules) (Says : Sayings) (Before : Lives) → Replaying rules Says Before Before []
-replays_nothing rules Says Before g E [] read b = b
-replays_nothing rules Says Before g E (r ∷ reads) read b = absurd read
-
 -- at the start nothing is replayed
 pub opened : (rules : Rules) (Says : Sayings) (named : Option Given) (Base State : Lives) (first : ℕ) (steps : List CoreStep) → first ≡ 0 → steps ≡ [] → (g : Given) → named ≡ Some g → Base g [] → State g []
     → Replays rules Says named Base State first steps
@@ -77,19 +60,29 @@ grown rules Says named Base State After first steps more step read e is says fol
   counted = r.counted;
 }
 
--- the base is brought up by all steps
+-- the base is brought up to the state
 pub rebased : (rules : Rules) (Says Now : Sayings) (named : Option Given) (Base State After : Lives) (first then : ℕ) (steps none : List CoreStep)
-    → then ≡ number_after (first + length steps) → none ≡ [] → Replaying rules Says Base After steps → Replays rules Says named Base State first steps
+    → then ≡ number_after (first + length steps) → none ≡ [] → ((g : Given) (E : List Entry) → State g E → After g E) → Replays rules Says named Base State first steps
     → Replays rules Now named After State then none
-rebased rules Says Now named Base State After first then steps none t e replaying r = record {
+rebased rules Says Now named Base State After first then steps none t e follows r = record {
   given = r.given;
   is_named = r.is_named;
   life = life_from rules r.given r.life r.reads;
-  based = replaying r.given r.life r.reads r.read r.based;
+  based = follows r.given (life_from rules r.given r.life r.reads) r.reached;
   reads = [];
   read = subst (λ (l : List CoreStep). AreRead Now l []) (sym e) tt;
   reached = r.reached;
   counted = t ∙ numbered_on rules Says r.given r.life r.reads steps first r.counted r.read;
+}
+
+-- base and state stand for lives that begin with the same
+pub alike : (rules : Rules) (Says : Sayings) (named : Option Given) (Base State : Lives) (first : ℕ) (steps : List CoreStep) → Replays rules Says named Base State first steps → AreAlike Base State
+alike rules Says named Base State first steps r = record {
+  given = r.given;
+  life = r.life;
+  stands = r.based;
+  other_life = life_from rules r.given r.life r.reads;
+  other_stands = r.reached;
 }
 
 -- what is named is one thing

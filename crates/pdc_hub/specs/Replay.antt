@@ -21,11 +21,6 @@ AreRead Says [] [] = Unit {0}
 AreRead Says (step ∷ steps) (read ∷ reads) = IsOf step read × IsReadStep Says read × AreRead Says steps reads
 AreRead Says steps reads = ⊥
 
--- Whatever life the value stood for before, it stands for it now with these steps more, each answered as the life before it says.
-abbrev pub Replaying : Rules → Sayings → (Before After : Lives) → List CoreStep → Type 0
-Replaying rules Says Before After steps =
-    (g : Given) (E : List Entry) (reads : List ReadStep) → AreRead Says steps reads → Before g E → After g (life_from rules g E reads)
-
 -- The number of the step that comes next after so many: how many there were, a counter of 64 bits that stays at its greatest value.
 abbrev pub number_after : ℕ → ℕ
 number_after steps = min steps (2 ^ 64 - 1)

@@ -1,18 +1,17 @@
 //! A core beside a base from which the steps since lead to it.
 ghost use Rattle.std.specs.Prelude.{◌≡◌, ◌≤◌, ◌<◌, ◌*◌, ◌+◌, ◌∷◌, ◌++◌, ℕ, IfOk, List, OnErr, OnOk, Option, Some, [], false, length, true, vec_len};
 ghost use Rattle.std.specs.List.{list_all};
-ghost use Rattle.pdc_core.specs.Step.{IsOf, after_answer, is_allowed, ticked_of};
+ghost use Rattle.pdc_core.specs.Step.{after_answer, is_allowed, ticked_of};
 ghost use Rattle.pdc_core.specs.KeptArrival.{taken_view};
 ghost use Rattle.pdc_core.specs.declared.step.CoreStep.TheVariants as step;
-ghost use Rattle.pdc_life.specs.Answer.{IsReadStep, ReadStep, ToArrive, ToPop, ToTick, pop_answer, tick_answer};
+ghost use Rattle.pdc_life.specs.Answer.{ToArrive, ToPop, ToTick, pop_answer, tick_answer};
 ghost use Rattle.pdc_life.specs.Given.{Given};
 ghost use Rattle.pdc_life.specs.Life.{Entry, changes};
 ghost use Rattle.pdc_hub.specs.Pops.{IsPop};
-ghost use Rattle.pdc_hub.specs.Replay.{Follows, Replaying, Replays, WasRead, number_after, since};
+ghost use Rattle.pdc_hub.specs.Replay.{Follows, Replays, WasRead, number_after, since};
 ghost use Rattle.pdc_tag.specs.declared.limits.TheConstants.{SECONDS};
 
 use crate::naming::Naming;
-use crate::pops::spare_row;
 use pdc_core::{Core, CoreStep, KeptArrival, Ticked};
 use pdc_life::{MAX_PMUS, Outcome};
 use pdc_row::DueRow;
@@ -62,7 +61,7 @@ impl<C: Core + Drop, N: Naming<C::Settings>> Replayed<C, N> {
         self.first.saturating_add(self.events.len() as u64)
     }
 
-    /// Where the list is full, the base is brought up by it.
+    /// Where the list is full, the base is brought up by it: it becomes what the steps made of the state.
     fn bring_up(&mut self)
         ensures state { self.new.state ≡ self.old.state }
         ensures events { self.new.events.items ≡ since self.old.limit self.old.events.items }
@@ -76,9 +75,10 @@ impl<C: Core + Drop, N: Naming<C::Settings>> Replayed<C, N> {
             base,
             first,
             events,
+            state,
             ..
         } = self;
-        replay(base, events);
+        base.copy_from(state);
         *first = first.saturating_add(events.len() as u64);
         events.clear();
     }
@@ -217,37 +217,4 @@ fn answered<C: Core>(state: &mut C, stream: usize, taken: &KeptArrival) -> Outco
     ensures settings { C.settings_of state.new ≡ C.settings_of state.old }
 {
     state.arrive_kept(stream, taken)
-}
-
-/// Makes a step again. Its answer is known, and the row that it pops is written over this one.
-fn repeat<C: Core>(base: &mut C, step: &CoreStep, row: &mut DueRow)
-    requires { is_allowed (C.Settings.fits (C.settings_of base.old)) step.now ≡ true }
-    ensures settings { C.settings_of base.new ≡ C.settings_of base.old }
-    ensures stands { (read : ReadStep) → IsOf step.now read → IsReadStep (C.Settings.says (C.settings_of base.old)) read →
-        Follows C.rules (C.stands_for base.old) (C.stands_for base.new) read }
-{
-    match step {
-        CoreStep::Arrive { stream, taken } => {
-            let _ = base.arrive_kept(*stream, taken);
-        }
-        CoreStep::Tick { now, counts } => {
-            let _ = base.tick(*now, counts);
-        }
-        CoreStep::Pop => {
-            let _ = base.pop_into(row);
-        }
-    }
-}
-
-/// Makes the steps in order. It stands apart, so that a step that only is added stays small.
-#[inline(never)]
-fn replay<C: Core>(base: &mut C, events: &[CoreStep])
-    requires { list_all (is_allowed (C.Settings.fits (C.settings_of base.old))) events.now ≡ true }
-    ensures settings { C.settings_of base.new ≡ C.settings_of base.old }
-    ensures replayed { Replaying C.rules (C.Settings.says (C.settings_of base.old)) (C.stands_for base.old) (C.stands_for base.new) events.now }
-{
-    let mut row = spare_row();
-    for event in events {
-        repeat(base, event, &mut row);
-    }
 }

@@ -74,6 +74,21 @@ impl HeldLayout {
         self.sections.as_slice()
     }
 
+    /// A copy, which takes no memory.
+    pub(crate) fn copy(&self) -> HeldLayout
+        ensures { result ≡ self.now }
+    {
+        let mut sections = ArrayVec::new();
+        sections
+            .try_extend_from_slice(self.sections.as_slice())
+            .unwrap();
+        HeldLayout {
+            stamp: self.stamp,
+            len: self.len,
+            sections,
+        }
+    }
+
     /// The bytes of their blocks.
     pub(crate) fn blocks_len(&self) -> usize
         ensures { result ≡ blocks_len self.now.sections }

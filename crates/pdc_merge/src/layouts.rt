@@ -42,6 +42,16 @@ impl HeldLayouts {
         }
     }
 
+    /// A copy, which takes no memory.
+    pub(crate) fn copy(&self) -> HeldLayouts
+        ensures { result ≡ self.now }
+    {
+        HeldLayouts {
+            first: copy_of(&self.first),
+            second: copy_of(&self.second),
+        }
+    }
+
     /// Holds this layout of the node of this stream.
     pub(crate) fn hold(&mut self, stream: usize, layout: HeldLayout)
         ensures { self.new ≡ with_layout self.old stream layout }
@@ -51,5 +61,15 @@ impl HeldLayouts {
         } else {
             self.second = Some(layout);
         }
+    }
+}
+
+/// A copy of the layout, if there is one.
+fn copy_of(layout: &Option<HeldLayout>) -> Option<HeldLayout>
+    ensures { result ≡ layout.now }
+{
+    match layout {
+        Some(layout) => Some(layout.copy()),
+        None => None,
     }
 }

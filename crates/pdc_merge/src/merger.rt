@@ -12,6 +12,7 @@ ghost use Rattle.pdc_merge.specs.Merger.{StandsFor};
 
 use crate::answering;
 use crate::layouts::HeldLayouts;
+use crate::opens::copy_of_merger;
 use pdc_align::{Alignment, Plan, Ticked, append_layout_frame};
 use pdc_arrival::{Arrival, Counts, Heard, arrival_from_node, hear_from_node};
 use pdc_core::Core;
@@ -210,6 +211,14 @@ impl<T: Table> Core for Merger<T> {
 
     fn counts(&self) -> Counts {
         self.counts
+    }
+
+    fn copy_from(&mut self, other: &Merger<T>) {
+        self.settings = copy_of_merger(&other.settings);
+        self.start = other.start;
+        self.alignment.copy_from(&other.alignment);
+        self.layouts = other.layouts.copy();
+        self.counts = other.counts;
     }
 
     /// For each column the count that waits to be stored: the greater of the cleared and the held one; 0 past the last.

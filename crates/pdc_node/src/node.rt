@@ -13,6 +13,7 @@ ghost use Rattle.pdc_life.specs.Node.{node_answer};
 ghost use Rattle.pdc_node.specs.Node.{StandsFor};
 
 use crate::answering;
+use crate::opens::copy_of;
 use pdc_align::{Alignment, Plan, Ticked, append_layout_frame};
 use pdc_arrival::{Arrival, Counts, arrival_from_pmu, hear_from_pmu};
 use pdc_core::{Core, KeptArrival};
@@ -228,6 +229,14 @@ impl<T: Table> Core for Node<T> {
 
     fn counts(&self) -> Counts {
         self.counts
+    }
+
+    fn copy_from(&mut self, other: &Node<T>) {
+        self.settings = copy_of(&other.settings);
+        self.start = other.start;
+        self.opening = other.opening;
+        self.alignment.copy_from(&other.alignment);
+        self.counts = other.counts;
     }
 
     /// For each PMU the count that waits to be stored: the greater of the cleared and the held one; 0 past the last.

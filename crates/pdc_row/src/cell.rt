@@ -2,9 +2,9 @@
 ghost use Rattle.std.specs.Prelude.{◌≡◌, ◌%◌, length};
 ghost use Rattle.pdc_block.specs.pdc_cfg.Shape.{word_count_of};
 
-use crate::Offered;
 use crate::present::are_present;
 use crate::same::are_same;
+use crate::{CopyFrom, Offered};
 use pdc_block::{Block, MAX_WORDS, Shape};
 use std::marker::Model;
 
@@ -109,5 +109,16 @@ impl Cell {
         ensures { result ≡ same_block self.now.block other.now.block }
     {
         other.shape == self.shape && are_same(self.words(), other.words())
+    }
+}
+
+impl CopyFrom for Cell {
+    /// Of its words as many are copied as there are.
+    fn copy_from(&mut self, other: &Cell) {
+        self.shape = other.shape;
+        self.quality = other.quality;
+        self.has_data = other.has_data;
+        let count = other.shape.word_count();
+        self.words[..count].copy_from_slice(&other.words[..count]);
     }
 }

@@ -7,6 +7,7 @@
 #![tactic(auto)]
 
 mod cell;
+mod copied;
 mod due_row;
 mod laws;
 mod limits;
@@ -15,6 +16,7 @@ mod present;
 mod same;
 
 pub use cell::Cell;
+pub use copied::{CopyFrom, copy_each};
 pub use due_row::DueRow;
 pub use laws::numbers_rise;
 pub use limits::{MAX_PMUS, MAX_WINDOW, MIN_WINDOW};

@@ -1,5 +1,5 @@
 -- The columns of an open row whose flags and cells stand in lists of their own.
-use Rattle.std.proofs.Common.{◌≡◌, ℕ, ◌<◌, ◌≤◌, Bool, true, false, cond, eqb, ◌||◌, List, [], ◌∷◌, length, get_or, set, replicate, map, None, Some, Option, append-nil, ap, sym, refl, ◌∙◌, arith, zero, suc}
+use Rattle.std.proofs.Common.{◌≡◌, ℕ, ◌+◌, ◌<◌, ◌≤◌, Bool, true, false, cond, drop, eqb, take, ◌||◌, List, [], ◌∷◌, length, get_or, set, replicate, map, None, Some, Option, append-nil, ap, sym, refl, ◌∙◌, arith, zero, suc}
 use Rattle.std.specs.List.{list_any, refill}
 use Rattle.std.proofs.lemmas.Bool.{or_parts}
 use Rattle.std.proofs.lemmas.List.{drop_all, length-map, length-replicate, length-set, take_all}
@@ -184,3 +184,20 @@ none_disagree (shape ∷ shapes) (h ∷ hs) [] ss e = refl
 none_disagree (shape ∷ shapes) (h ∷ hs) (f ∷ fs) [] e = refl
 none_disagree (shape ∷ shapes) (h ∷ hs) (f ∷ fs) (s ∷ ss) e =
     rw (alone shape h f s (or_parts h.second (any_second hs) e).0, none_disagree shapes hs fs ss (or_parts h.second (any_second hs) e).1) refl
+
+-- the cells of one column more are copies, as far as they are held
+one_copied : (hs : List Held) (fs ss gs ts : List CellView) (i : ℕ) (h : Held) (f s g t : CellView) → i < length hs → length hs ≤ length fs → length hs ≤ length ss → length hs ≤ length gs → length hs ≤ length ts → column_of (get_or hs i h) f s ≡ column_of (get_or hs i h) (get_or gs i g) (get_or ts i t) → columns_of (take i hs) fs ss ≡ columns_of (take i hs) gs ts → columns_of (take (suc i) hs) (set fs i f) (set ss i s) ≡ columns_of (take (suc i) hs) gs ts
+one_copied [] fs ss gs ts i h f s g t l a b c d e k = absurd (omega arith)
+one_copied (x ∷ hs) [] ss gs ts i h f s g t l a b c d e k = absurd (omega arith)
+one_copied (x ∷ hs) (y ∷ fs) [] gs ts i h f s g t l a b c d e k = absurd (omega arith)
+one_copied (x ∷ hs) (y ∷ fs) (z ∷ ss) [] ts i h f s g t l a b c d e k = absurd (omega arith)
+one_copied (x ∷ hs) (y ∷ fs) (z ∷ ss) (v ∷ gs) [] i h f s g t l a b c d e k = absurd (omega arith)
+one_copied (x ∷ hs) (y ∷ fs) (z ∷ ss) (v ∷ gs) (w ∷ ts) zero h f s g t l a b c d e k = ap (λ column. column ∷ []) e
+one_copied (x ∷ hs) (y ∷ fs) (z ∷ ss) (v ∷ gs) (w ∷ ts) (suc i) h f s g t l a b c d e k =
+    rw (ap (λ columns. get_or columns 0 (column_of x y z)) k, one_copied hs fs ss gs ts i h f s g t (omega arith) (omega arith) (omega arith) (omega arith) (omega arith) e (ap (drop 1) k)) refl
+
+-- the same where the cells were read
+pub column_copied : (hs : List Held) (fs ss gs ts : List CellView) (i : ℕ) (h : Held) (f s g t : CellView) → i < length hs → length hs ≤ length fs → length hs ≤ length ss → length hs ≤ length gs → length hs ≤ length ts → g ≡ get_or gs i g → t ≡ get_or ts i t → column_of (get_or hs i h) f s ≡ column_of (get_or hs i h) g t → columns_of (take i hs) fs ss ≡ columns_of (take i hs) gs ts → columns_of (take (i + 1) hs) (set fs i f) (set ss i s) ≡ columns_of (take (i + 1) hs) gs ts
+column_copied hs fs ss gs ts i h f s g t l a b c d m n e k =
+    let more : i + 1 ≡ suc i = omega arith in
+    rw more (one_copied hs fs ss gs ts i h f s g t l a b c d (e ∙ ap (λ x. column_of (get_or hs i h) x t) m ∙ ap (column_of (get_or hs i h) (get_or gs i g)) n) k)

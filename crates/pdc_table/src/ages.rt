@@ -43,6 +43,18 @@ impl Ages {
         })
     }
 
+    /// Makes the age at each place that of the others, which are as many.
+    pub fn copy(&mut self, other: &Ages)
+        requires { length self.old.items ≡ length other.now.items }
+        ensures items { self.new.items ≡ other.now.items }
+        ensures capacity { self.new.capacity ≡ self.old.capacity }
+    {
+        self.ticks = other.ticks;
+        self.since
+            .as_mut_slice()
+            .copy_from_slice(other.since.as_slice());
+    }
+
     /// The age at a place.
     #[inline]
     pub fn at(&self, place: usize) -> u64

@@ -1,10 +1,10 @@
 //! The layout that a row closed under.
-ghost use Rattle.std.specs.Prelude.{◌≡◌, ◌≤◌, length};
+ghost use Rattle.std.specs.Prelude.{◌≡◌};
 ghost use Rattle.pdc_table.specs.Layout.{layout_view};
 
-use crate::{MAX_COLUMNS, RowLayout};
+use crate::RowLayout;
 use arrayvec::ArrayVec;
-use pdc_row::Shape;
+use pdc_row::CopyFrom;
 use std::marker::Model;
 
 /// A copy of the layout that a row closed under.
@@ -41,9 +41,7 @@ impl ClosingLayout {
     pub(crate) fn set(&mut self, layout: &RowLayout)
         ensures { self.new ≡ layout_view layout.now }
     {
-        set_shapes(&mut self.layout.shapes, layout.shapes.as_slice());
-        self.layout.start = layout.start;
-        self.layout.change = layout.change;
+        self.layout.copy_from(layout);
     }
 
     /// The layout.
@@ -54,15 +52,8 @@ impl ClosingLayout {
     }
 }
 
-/// Makes these the shapes of a layout. Where there were as many before, they are written over, and nothing is emptied first.
-fn set_shapes(kept: &mut ArrayVec<Option<Shape>, MAX_COLUMNS>, shapes: &[Option<Shape>])
-    requires { length shapes.now ≤ MAX_COLUMNS }
-    ensures { kept.new.items ≡ shapes.now }
-{
-    if kept.len() == shapes.len() {
-        kept.as_mut_slice().copy_from_slice(shapes);
-        return;
+impl CopyFrom for ClosingLayout {
+    fn copy_from(&mut self, other: &ClosingLayout) {
+        self.set(&other.layout);
     }
-    kept.clear();
-    kept.try_extend_from_slice(shapes).unwrap();
 }

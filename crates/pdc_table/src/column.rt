@@ -7,7 +7,7 @@ ghost use Rattle.pdc_table.specs.OpenRowParts.{column_of, nothing, without_lane}
 ghost use Rattle.pdc_table.specs.Steps.{disagreement_at};
 ghost use Rattle.pdc_table.specs.Taking.{cell_in, holds_other, with_cell};
 
-use pdc_row::{Cell, Offered, Shape};
+use pdc_row::{Cell, CopyFrom, Offered, Shape};
 
 /// Which lanes of a column hold a cell.
 #[derive(Clone, Copy)]
@@ -68,6 +68,25 @@ impl Held {
         } else {
             self.second = true;
             second.set(block, quality);
+        }
+    }
+
+    /// Makes the cells that are held, of these of the column, copies of those of another row.
+    #[inline]
+    pub(crate) fn copy(
+        &self,
+        first: &mut Cell,
+        second: &mut Cell,
+        other_first: &Cell,
+        other_second: &Cell,
+    )
+        ensures { column_of self.now first.new second.new ≡ column_of self.now other_first.now other_second.now }
+    {
+        if self.first {
+            first.copy_from(other_first);
+        }
+        if self.second {
+            second.copy_from(other_second);
         }
     }
 

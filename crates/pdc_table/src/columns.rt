@@ -111,6 +111,32 @@ fn put_each<B: Offered>(
     }
 }
 
+/// Makes the cells that are held copies of those of another row.
+pub fn copy_held(
+    held: &[Held],
+    first: &mut [Cell],
+    second: &mut [Cell],
+    other_first: &[Cell],
+    other_second: &[Cell],
+)
+    requires first { length held.now ≤ length first.old }
+    requires second { length held.now ≤ length second.old }
+    requires other_first { length held.now ≤ length other_first.now }
+    requires other_second { length held.now ≤ length other_second.now }
+    ensures columns { columns_of held.now first.new second.new ≡ columns_of held.now other_first.now other_second.now }
+    ensures first { length first.new ≡ length first.old }
+    ensures second { length second.new ≡ length second.old }
+{
+    for (place, held) in held.iter().enumerate() {
+        held.copy(
+            &mut first[place],
+            &mut second[place],
+            &other_first[place],
+            &other_second[place],
+        );
+    }
+}
+
 /// Whether some of these blocks differs from what this lane of its column holds.
 pub fn any_other<B: Offered>(
     held: &[Held],

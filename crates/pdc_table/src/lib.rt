@@ -14,6 +14,7 @@ mod circle;
 mod closing_layout;
 mod column;
 mod columns;
+mod copied;
 mod front;
 mod laws;
 mod limits;
@@ -31,6 +32,7 @@ mod wait_rule;
 
 use closing_layout::ClosingLayout;
 use column::Held;
+pub use copied::copy_items;
 pub use front::{is_near, remove_front};
 pub use laws::{
     ages_are_ticks, blocks_stand_in_their_columns, cells_are_first_puts, instants_open_where_taken,
@@ -39,7 +41,7 @@ pub use laws::{
 pub use limits::{MAX_COLUMNS, MAX_LANES};
 pub use open_row::{OpenRow, Places};
 pub use outcome::PutOutcome;
-pub use pdc_row::{DueRow, MAX_WINDOW, MIN_WINDOW};
+pub use pdc_row::{CopyFrom, DueRow, MAX_WINDOW, MIN_WINDOW, copy_each};
 pub use ring_table::RingTable;
 pub use row_layout::RowLayout;
 pub use spare::spare_row;

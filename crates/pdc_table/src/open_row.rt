@@ -14,12 +14,13 @@ ghost use Rattle.pdc_table.specs.Views.{blank_row};
 ghost use Rattle.pdc_table.specs.declared.column.Held.{Held as HeldData};
 
 use crate::column::{NOTHING, forget_all, forget_lane};
-use crate::columns::{any_other, chosen_at, disagreements_at, nothings, put_cells};
+use crate::columns::{any_other, chosen_at, copy_held, disagreements_at, nothings, put_cells};
+use crate::copied::copy_items;
 use crate::row_blocks::{WORST_QUALITY, give, make_slot};
 use crate::streams::{all_taken, falses};
 use crate::{Held, MAX_COLUMNS, PutOutcome, RowLayout, WaitRule};
 use arrayvec::ArrayVec;
-use pdc_row::{Block, Cell, DueRow, Offered};
+use pdc_row::{Block, Cell, CopyFrom, DueRow, Offered};
 use std::array;
 use std::marker::Model;
 
@@ -261,5 +262,22 @@ impl OpenRow {
         }
         blocks.truncate(count);
         if above == 0 { WORST_QUALITY } else { above - 1 }
+    }
+}
+
+impl CopyFrom for OpenRow {
+    /// Of its cells those are copied that are held.
+    fn copy_from(&mut self, other: &OpenRow) {
+        self.instant = other.instant;
+        self.has_second = other.has_second;
+        copy_items(&mut self.taken, other.taken.as_slice());
+        copy_items(&mut self.held, other.held.as_slice());
+        copy_held(
+            other.held.as_slice(),
+            &mut self.first,
+            &mut self.second,
+            &other.first,
+            &other.second,
+        );
     }
 }

@@ -20,7 +20,7 @@ use crate::circle::Circle;
 use crate::front::is_near;
 use crate::open_row::{OpenRow, Places};
 use crate::{MAX_COLUMNS, PutOutcome, RowLayout, WaitRule};
-use pdc_row::{Offered, numbers_rise};
+use pdc_row::{Offered, copy_each, numbers_rise};
 use std::alloc::{AllocError, Global};
 use std::collections::VecDeque;
 
@@ -149,6 +149,18 @@ fn open_instant(open: &mut Vec<u64>, instant: u64)
     open.insert(at, instant).unwrap();
 }
 
+/// Makes these the open instants, for which there is room.
+fn copy_open(open: &mut Vec<u64>, others: &[u64])
+    requires { length others.now ≤ vec_capacity open.old }
+    ensures items { open.new.items ≡ others.now }
+    ensures capacity { vec_capacity open.new ≡ vec_capacity open.old }
+{
+    open.clear();
+    for instant in others {
+        open.push_reserved(*instant);
+    }
+}
+
 impl Rows {
     /// So many places, of which none is open.
     pub fn new(alloc: Global, count: usize, sizes: Places) -> Result<Rows, AllocError>
@@ -164,6 +176,23 @@ impl Rows {
             ages: Ages::new(alloc, count)?,
             open: Vec::with_capacity(alloc, count)?,
         })
+    }
+
+    /// Makes these the rows of another ring of as many places.
+    pub fn copy(&mut self, other: &Rows)
+        requires places { length self.old.places.items ≡ length other.now.places.items }
+        requires ages { length self.old.ages.items ≡ length other.now.ages.items }
+        requires room { length other.now.open.items ≤ vec_capacity self.old.open }
+        ensures places { self.new.places.items ≡ other.now.places.items }
+        ensures ages { self.new.ages.items ≡ other.now.ages.items }
+        ensures open { self.new.open.items ≡ other.now.open.items }
+        ensures ages_capacity { self.new.ages.capacity ≡ self.old.ages.capacity }
+        ensures capacity { vec_capacity self.new.places ≡ vec_capacity self.old.places }
+        ensures open_capacity { vec_capacity self.new.open ≡ vec_capacity self.old.open }
+    {
+        copy_each(self.places.as_mut_slice(), other.places.as_slice());
+        self.ages.copy(&other.ages);
+        copy_open(&mut self.open, other.open.as_slice());
     }
 
     /// Takes a frame of a stream for the instant of the circle, unless the stream was taken there.

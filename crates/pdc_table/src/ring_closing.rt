@@ -17,7 +17,7 @@ use crate::circle::Circle;
 use crate::ring::{Rows, count_disagreements, count_due};
 use crate::{ClosingLayout, RowLayout, WaitRule};
 use arrayvec::ArrayVec;
-use pdc_row::DueRow;
+use pdc_row::{DueRow, copy_each};
 use std::alloc::{AllocError, Global};
 use std::collections::VecDeque;
 
@@ -78,6 +78,18 @@ fn greatest(due: &[u64], last: u64) -> u64
     greatest
 }
 
+/// Makes these the closed instants, for which there is room.
+fn copy_closed(closed: &mut VecDeque<u64>, others: &VecDeque<u64>)
+    requires { deque_len others.now ≤ deque_capacity closed.old }
+    ensures items { closed.new.items ≡ others.now.items }
+    ensures capacity { deque_capacity closed.new ≡ deque_capacity closed.old }
+{
+    closed.clear();
+    for place in 0..others.len() {
+        closed.push_back_reserved(others[place]);
+    }
+}
+
 impl Closed {
     /// Nothing closed above the floor, with room for so many rows.
     pub fn new(alloc: Global, count: usize, floor: u64) -> Result<Closed, AllocError>
@@ -93,6 +105,23 @@ impl Closed {
             last: floor,
             disagree: 0,
         })
+    }
+
+    /// Makes this what is closed of another ring of as many places.
+    pub fn copy(&mut self, other: &Closed)
+        requires layouts { length self.old.layouts.items ≡ length other.now.layouts.items }
+        requires room { deque_len other.now.instants ≤ deque_capacity self.old.instants }
+        ensures instants { self.new.instants.items ≡ other.now.instants.items }
+        ensures layouts { self.new.layouts.items ≡ other.now.layouts.items }
+        ensures last { self.new.last ≡ other.now.last }
+        ensures disagree { self.new.disagree ≡ other.now.disagree }
+        ensures layouts_capacity { vec_capacity self.new.layouts ≡ vec_capacity self.old.layouts }
+        ensures capacity { deque_capacity self.new.instants ≡ deque_capacity self.old.instants }
+    {
+        copy_closed(&mut self.instants, &other.instants);
+        copy_each(self.layouts.as_mut_slice(), other.layouts.as_slice());
+        self.last = other.last;
+        self.disagree = other.disagree;
     }
 
     /// Closes the rows for which every row up to them is due, and answers how many: so many open instants, from the front on, are

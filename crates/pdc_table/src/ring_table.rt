@@ -5,6 +5,7 @@ ghost use Rattle.pdc_table.specs.Steps.{after_put, put_answer};
 ghost use Rattle.pdc_table.specs.Taking.{cells_in};
 
 use crate::circle::Circle;
+use crate::copied::copy_items;
 use crate::open_row::Places;
 use crate::ring::Rows;
 use crate::ring_closing::Closed;
@@ -108,6 +109,16 @@ impl Table for RingTable {
             rows,
             closed,
         })
+    }
+
+    fn copy_from(&mut self, other: &RingTable) {
+        numbers_rise();
+        self.columns = other.columns;
+        self.lanes = other.lanes;
+        copy_items(&mut self.required, other.required.as_slice());
+        self.circle = other.circle;
+        self.rows.copy(&other.rows);
+        self.closed.copy(&other.closed);
     }
 
     fn put(

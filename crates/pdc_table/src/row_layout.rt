@@ -1,7 +1,8 @@
 //! The layout under which rows close.
 use crate::MAX_COLUMNS;
+use crate::copied::copy_items;
 use arrayvec::ArrayVec;
-use pdc_row::Shape;
+use pdc_row::{CopyFrom, Shape};
 
 /// The layout under which rows close (this profile): its stamp, and a shape or nothing for each column.
 #[derive(Debug, Drop)]
@@ -12,4 +13,12 @@ pub struct RowLayout {
     pub change: u32,
     /// The shape of each column's blocks, at most 16; a column without one has no block in a row.
     pub shapes: ArrayVec<Option<Shape>, MAX_COLUMNS>,
+}
+
+impl CopyFrom for RowLayout {
+    fn copy_from(&mut self, other: &RowLayout) {
+        self.start = other.start;
+        self.change = other.change;
+        copy_items(&mut self.shapes, other.shapes.as_slice());
+    }
 }

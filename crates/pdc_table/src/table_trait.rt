@@ -82,6 +82,14 @@ pub trait Table: Drop {
         ensures memory { memory self.new ≡ memory self.old }
         ensures well_formed { IsContent (content self.new) };
 
+    /// Makes this the table that the other one is, which has its sizes.
+    fn copy_from(&mut self, other: &Self)
+        requires { HasSizesOf (content other.now) (content self.old) }
+        ensures content { content self.new ≡ content other.now }
+        ensures disagreements { disagreements self.new ≡ disagreements other.now }
+        ensures memory { memory self.new ≡ memory self.old }
+        ensures well_formed { IsContent (content self.new) };
+
     /// Sets whether an instant waits for the stream. In a new table none is waited for.
     fn require(&mut self, stream: usize, is_required: bool)
         requires { stream < streams_of (content self.old) }

@@ -9,7 +9,7 @@ ghost use Rattle.pdc_table.specs.Steps.{answer_at, disagreements_of, is_taken};
 ghost use Rattle.pdc_table.specs.Taking.{cells_in, with_frame, without_column, without_stream};
 ghost use Rattle.pdc_table.specs.Views.{blank_row};
 
-use pdc_row::{DueRow, Offered};
+use pdc_row::{CopyFrom, DueRow, Offered};
 use pdc_table::{MAX_COLUMNS, OpenRow, Places, PutOutcome, RowLayout, WaitRule};
 use std::marker::Model;
 
@@ -125,5 +125,12 @@ impl AgedRow {
         ensures { row_view result ≡ row_of (layout_view layout.now) self.now }
     {
         self.row.close(layout)
+    }
+}
+
+impl CopyFrom for AgedRow {
+    fn copy_from(&mut self, other: &AgedRow) {
+        self.row.copy_from(&other.row);
+        self.age = other.age;
     }
 }

@@ -18,7 +18,7 @@ ghost use Rattle.pdc_table.specs.Layout.{layout_view};
 ghost use Rattle.pdc_table.specs.Views.{OpenRowView, blank_row};
 
 use crate::aged_row::AgedRow;
-use pdc_row::{DueRow, Offered, numbers_rise};
+use pdc_row::{CopyFrom, DueRow, Offered, numbers_rise};
 use pdc_table::{MAX_COLUMNS, Places, PutOutcome, RowLayout, WaitRule, is_near, remove_front};
 use std::collections::VecDeque;
 
@@ -237,4 +237,39 @@ pub fn close_due(
     *disagree = count_disagreements(due, layout, *disagree);
     remove_front(rows, count);
     count
+}
+
+/// Makes these the open rows, for which there is room.
+pub fn copy_rows(rows: &mut Vec<AgedRow>, places: Places, others: &[AgedRow])
+    requires streams { places.streams ≤ MAX_COLUMNS }
+    requires columns { places.columns ≤ MAX_COLUMNS }
+    requires room { length others.now ≤ vec_capacity rows.old }
+    ensures items { rows.new.items ≡ others.now }
+    ensures capacity { vec_capacity rows.new ≡ vec_capacity rows.old }
+{
+    rows.clear();
+    for other in others {
+        let mut row = AgedRow::blank(0, places);
+        row.copy_from(other);
+        rows.push_reserved(row);
+    }
+}
+
+/// The row again.
+fn again(row: &DueRow) -> DueRow
+    ensures { row_view result ≡ row_view row.now }
+{
+    row.clone().unwrap()
+}
+
+/// Makes these the closed rows, for which there is room.
+pub fn copy_closed(closed: &mut VecDeque<DueRow>, others: &VecDeque<DueRow>)
+    requires { deque_len others.now ≤ deque_capacity closed.old }
+    ensures rows { map row_view closed.new.items ≡ map row_view others.now.items }
+    ensures capacity { deque_capacity closed.new ≡ deque_capacity closed.old }
+{
+    closed.clear();
+    for place in 0..others.len() {
+        closed.push_back_reserved(again(&others[place]));
+    }
 }

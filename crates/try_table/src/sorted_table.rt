@@ -9,7 +9,8 @@ use crate::rows::{self, DueRule, FrameHead};
 use arrayvec::ArrayVec;
 use pdc_row::{Block, Body, DueRow, Offered, numbers_rise};
 use pdc_table::{
-    MAX_COLUMNS, Places, PutOutcome, RowLayout, Table, WaitRule, falses, lane_of, stream_count,
+    MAX_COLUMNS, Places, PutOutcome, RowLayout, Table, WaitRule, copy_items, falses, lane_of,
+    stream_count,
 };
 use std::alloc::{AllocError, Global};
 use std::collections::VecDeque;
@@ -124,6 +125,22 @@ impl Table for SortedTable {
         quality: u8,
     ) -> PutOutcome {
         self.offer(stream, instant, cells, quality)
+    }
+
+    fn copy_from(&mut self, other: &SortedTable) {
+        numbers_rise();
+        self.window = other.window;
+        self.columns = other.columns;
+        self.lanes = other.lanes;
+        copy_items(&mut self.required, other.required.as_slice());
+        let places = Places {
+            streams: self.required.len(),
+            columns: self.columns,
+        };
+        rows::copy_rows(&mut self.rows, places, other.rows.as_slice());
+        rows::copy_closed(&mut self.closed, &other.closed);
+        self.last = other.last;
+        self.disagree = other.disagree;
     }
 
     fn require(&mut self, stream: usize, is_required: bool) {

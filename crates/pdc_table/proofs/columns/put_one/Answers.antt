@@ -1,4 +1,4 @@
-use Rattle.std.proofs.Common.{Some, arith}
+use Rattle.std.proofs.Common.{Some}
 use Rattle.pdc_table.specs.OpenRowParts.{nothing}
 use Rattle.pdc_table.proofs.OpenRowParts.{column_put, second_kept}
 use Rattle.pdc_table.proofs.columns.put_one.Goals as goal

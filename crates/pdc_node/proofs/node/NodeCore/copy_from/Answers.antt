@@ -1,0 +1,10 @@
+use Rattle.std.proofs.Common.{ap}
+use Rattle.pdc_core.proofs.Alike.{same_sizes}
+use Rattle.pdc_node.specs.Node.{StandsFor, NodeView}
+use Rattle.pdc_node.proofs.node.NodeCore.copy_from.Goals as goal
+
+pub copy_from-requires : goal.copy_from-requires
+copy_from-requires g c =
+    rw (ap (λ (v : NodeView). v.state) c.self.view_is, ap (λ (v : NodeView). v.state) c.other.view_is)
+    (same_sizes (λ g E. StandsFor g E c.args.self.now) (λ g E. StandsFor g E c.args.other.now) c.args.self.now.state c.args.other.now.state
+    (λ g E s. s.aligned) (λ g E s. s.aligned) c.requires)
