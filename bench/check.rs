@@ -8,7 +8,7 @@ pub trait CheckWord {
 /// Sixteen bytes a step from tables: slicing by 16.
 pub struct ByTables;
 
-/// Sixteen bytes a step without tables, as ours.
+/// Thirty-two bytes a step without tables, as ours.
 pub struct ByShifts;
 
 const fn next_check(check: u16, byte: u8) -> u16 {
@@ -59,6 +59,9 @@ impl CheckWord for ByTables {
     }
 }
 
+/// The state before the first byte.
+const START: u128 = 0x84CF;
+
 /// The quotient of state * x^64 by the generator's fourth power, x^64 + x^48 + x^20 + 1.
 #[inline]
 fn quotient(state: u64) -> u64 {
@@ -79,6 +82,39 @@ fn wide_moved_up(state: u128) -> u128 {
     let half = state ^ (state >> 64);
     let quotient = half ^ (half >> 32) ^ (half >> 88);
     (quotient << 96) ^ (quotient << 40) ^ quotient
+}
+
+/// What is left of state * x^256 behind the generator's sixteenth power, x^256 + x^192 + x^80 + 1: a state in two halves.
+#[inline]
+fn long_moved_up((high, low): (u128, u128)) -> (u128, u128) {
+    let mixed = low ^ high;
+    let first = high ^ (high >> 64);
+    let second = mixed ^ ((high << 64) | (mixed >> 64)) ^ (high >> 48);
+    (
+        (second << 64) ^ ((first << 80) | (second >> 48)) ^ first,
+        (second << 80) ^ second,
+    )
+}
+
+/// The state after a step of thirty-two bytes.
+#[inline]
+fn after_long(state: (u128, u128), step: &[u8; 32]) -> (u128, u128) {
+    let (high, low) = long_moved_up(state);
+    let [first, second] = [0, 16].map(|at| {
+        let (half, _) = step[at..].as_chunks::<16>();
+        u128::from_be_bytes(half[0])
+    });
+    (high ^ first, low ^ second)
+}
+
+/// The state after the steps of thirty-two bytes; the first one starts from a constant.
+#[inline]
+fn after_all_long(steps: &[[u8; 32]]) -> u128 {
+    let Some((first, steps)) = steps.split_first() else {
+        return START;
+    };
+    let (high, low) = steps.iter().fold(after_long((0, START), first), after_long);
+    wide_moved_up(high) ^ low
 }
 
 /// The state after fewer than eight bytes more.
@@ -106,9 +142,10 @@ fn check_of_state(state: u64) -> u16 {
 impl CheckWord for ByShifts {
     #[inline]
     fn of(bytes: &[u8]) -> u16 {
-        let (steps, rest) = bytes.as_chunks::<16>();
-        let start = 0x84CF;
-        let state = steps.iter().fold(start, |state, step| {
+        let (steps, rest) = bytes.as_chunks::<32>();
+        let state = after_all_long(steps);
+        let (steps, rest) = rest.as_chunks::<16>();
+        let state = steps.iter().fold(state, |state, step| {
             wide_moved_up(state) ^ u128::from_be_bytes(*step)
         });
         let state = moved_up((state >> 64) as u64) ^ state as u64;

@@ -61,3 +61,10 @@ module _ (words : WordsAreTheirBytes) where
       let len : length bytes ≡ 2 * word_count_of shape = ap length h.spelled ∙ length-bytes_of_words xs ∙ ap (λ n. 2 * n) h.count in
       let body : IsBody shape bytes (words_in bytes) = body_of_bytes shape bytes fits len in
       same_words words xs (words_in bytes) (h.count ∙ sym body.count) h.fits body.fits (sym h.spelled ∙ body.spelled)
+
+-- the words of joined bytes, where an even number stands in front
+pub words_in_append : (n : ℕ) (front back : List ℕ) → length front ≡ 2 * n → words_in (front ++ back) ≡ words_in front ++ words_in back
+words_in_append n [] back even = refl
+words_in_append n (byte ∷ []) back even = absurd (omega (arith, even))
+words_in_append zero (high ∷ low ∷ front) back even = absurd (omega (arith, even))
+words_in_append (suc n) (high ∷ low ∷ front) back even = ap (λ (words : List ℕ). (256 * high + low) ∷ words) (words_in_append n front back (omega (arith, even)))

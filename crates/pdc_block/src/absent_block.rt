@@ -51,7 +51,9 @@ pub fn are_absent(shape: Shape, words: &[u16]) -> bool
     are_all(&words[1..values], NO_VALUE) && are_all(&words[values..], 0)
 }
 
-/// Whether each of the words is this one: eight are compared at a step, and the last one by one.
+/// Whether each of the words is this one: eight are compared at a step, and the last one by one. A call of its own, so that a look at a
+/// block that is present stays small.
+#[inline(never)]
 fn are_all(words: &[u16], word: u16) -> bool
     ensures { IsTrue result ↔ (words.now ≡ replicate (length words.now) word) }
 {

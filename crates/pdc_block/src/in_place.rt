@@ -8,9 +8,6 @@ use pdc_cfg::{MAX_WORDS, read_word};
 /// How many words are written in one step: as many as fill a register of 16 bytes.
 pub const WORDS_AT_ONCE: usize = 8;
 
-/// As many as fill one of 8 bytes.
-const FEW_AT_ONCE: usize = 4;
-
 /// Makes these the words of a block. Where there were as many before, they are written over.
 pub fn set_words(kept: &mut ArrayVec<u16, MAX_WORDS>, words: &[u16])
     requires { length words.now ≤ MAX_WORDS }
@@ -33,10 +30,40 @@ fn replace(kept: &mut ArrayVec<u16, MAX_WORDS>, words: &[u16])
     kept.try_extend_from_slice(words).unwrap();
 }
 
-/// Writes the words over these, eight at a step, and the last in steps of fixed numbers: most blocks are too short to be worth the call
-/// of a copy.
+/// Writes the words over these, sixteen at a step, and the last in steps of fixed numbers: most blocks are too short to be worth the
+/// call of a copy.
 fn write_over(kept: &mut [u16], words: &[u16])
     requires { length words.now ≡ length kept.old }
+    ensures { kept.new ≡ words.now }
+{
+    if words.len() < 2 * WORDS_AT_ONCE {
+        write_some(kept, words);
+        return;
+    }
+    let (front, behind) = kept.split_at_mut(2 * WORDS_AT_ONCE);
+    let (words, left) = words.split_at(2 * WORDS_AT_ONCE);
+    write_sixteen(front, words);
+    write_over(behind, left);
+}
+
+/// Writes sixteen words over these, in two steps.
+#[inline(always)]
+fn write_sixteen(kept: &mut [u16], words: &[u16])
+    requires kept { length kept.old ≡ 16 }
+    requires words { length words.now ≡ 16 }
+    ensures { kept.new ≡ words.now }
+{
+    let (front, behind) = kept.split_at_mut(WORDS_AT_ONCE);
+    let (first, second) = words.split_at(WORDS_AT_ONCE);
+    write_eight(front, first);
+    write_eight(behind, second);
+}
+
+/// Writes fewer than sixteen words over these: eight at once, and the last ones.
+#[inline(always)]
+fn write_some(kept: &mut [u16], words: &[u16])
+    requires size { length words.now ≡ length kept.old }
+    requires some { length words.now < 16 }
     ensures { kept.new ≡ words.now }
 {
     if words.len() < WORDS_AT_ONCE {
@@ -46,7 +73,7 @@ fn write_over(kept: &mut [u16], words: &[u16])
     let (front, behind) = kept.split_at_mut(WORDS_AT_ONCE);
     let (words, left) = words.split_at(WORDS_AT_ONCE);
     write_eight(front, words);
-    write_over(behind, left);
+    write_few(behind, left);
 }
 
 /// Writes eight words over these: all are read before one is written, so that they are moved in one step.
@@ -125,8 +152,37 @@ pub fn new_words(count: usize, bytes: &[u8]) -> ArrayVec<u16, MAX_WORDS>
     words
 }
 
-/// Writes the words that the bytes write over these, eight at a step, and the last one by one.
+/// Writes the words that the bytes write over these, sixteen at a step, then eight, and the last one by one.
 pub fn read_into(words: &mut [u16], bytes: &[u8])
+    requires { length bytes.now ≡ 2 * length words.old }
+    ensures { words.new ≡ words_in bytes.now }
+{
+    if words.len() < 2 * WORDS_AT_ONCE {
+        read_some(words, bytes);
+        return;
+    }
+    let (front, behind) = words.split_at_mut(2 * WORDS_AT_ONCE);
+    let (bytes, left) = bytes.split_at(4 * WORDS_AT_ONCE);
+    read_sixteen(front, bytes);
+    read_into(behind, left);
+}
+
+/// Writes sixteen words that the bytes write over these, in two steps.
+#[inline(always)]
+fn read_sixteen(words: &mut [u16], bytes: &[u8])
+    requires words { length words.old ≡ 16 }
+    requires bytes { length bytes.now ≡ 32 }
+    ensures { words.new ≡ words_in bytes.now }
+{
+    let (front, behind) = words.split_at_mut(WORDS_AT_ONCE);
+    let (first, second) = bytes.split_at(2 * WORDS_AT_ONCE);
+    read_eight(front, first);
+    read_eight(behind, second);
+}
+
+/// Writes fewer than sixteen words that the bytes write over these: eight at once, and the last ones.
+#[inline(always)]
+fn read_some(words: &mut [u16], bytes: &[u8])
     requires { length bytes.now ≡ 2 * length words.old }
     ensures { words.new ≡ words_in bytes.now }
 {
@@ -137,7 +193,7 @@ pub fn read_into(words: &mut [u16], bytes: &[u8])
     let (front, behind) = words.split_at_mut(WORDS_AT_ONCE);
     let (bytes, left) = bytes.split_at(2 * WORDS_AT_ONCE);
     read_eight(front, bytes);
-    read_into(behind, left);
+    read_each(behind, left);
 }
 
 /// Writes eight words that the bytes write over these: all are read before one is written, so that they are turned and moved in one
@@ -166,42 +222,9 @@ fn read_eight(words: &mut [u16], bytes: &[u8])
     words[7] = h;
 }
 
-/// Writes the words that the bytes write over these, few as they are: four at once, and the last one by one.
-#[inline(always)]
-fn read_each(words: &mut [u16], bytes: &[u8])
-    requires { length bytes.now ≡ 2 * length words.old }
-    ensures { words.new ≡ words_in bytes.now }
-{
-    if words.len() < FEW_AT_ONCE {
-        read_one_by_one(words, bytes);
-        return;
-    }
-    let (front, behind) = words.split_at_mut(FEW_AT_ONCE);
-    let (bytes, left) = bytes.split_at(2 * FEW_AT_ONCE);
-    read_four(front, bytes);
-    read_one_by_one(behind, left);
-}
-
-/// Writes four words that the bytes write over these: all are read before one is written.
-#[inline(always)]
-fn read_four(words: &mut [u16], bytes: &[u8])
-    requires words { length words.old ≡ 4 }
-    requires bytes { length bytes.now ≡ 8 }
-    ensures { words.new ≡ words_in bytes.now }
-{
-    let a = read_word(bytes, 0);
-    let b = read_word(bytes, 2);
-    let c = read_word(bytes, 4);
-    let d = read_word(bytes, 6);
-    words[0] = a;
-    words[1] = b;
-    words[2] = c;
-    words[3] = d;
-}
-
 /// Writes the words that the bytes write over these, one by one.
 #[inline(always)]
-fn read_one_by_one(words: &mut [u16], bytes: &[u8])
+fn read_each(words: &mut [u16], bytes: &[u8])
     requires { length bytes.now ≡ 2 * length words.old }
     ensures { words.new ≡ words_in bytes.now }
 {

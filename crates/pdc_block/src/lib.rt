@@ -31,4 +31,4 @@ pub use pdc_cfg::{
 };
 pub use reading::{cut, read_body};
 pub use stat::{ErrorClass, Stat};
-pub use writing::{append_blocks, append_words, join, joined_len, write_blocks, write_words};
+pub use writing::{append_blocks, append_words, join, joined_len, write_blocks};

@@ -83,7 +83,7 @@ pub fn append_words<B: Buffer>(words: &[u16], out: &mut B)
 }
 
 /// Writes the words over these bytes, each with its high byte first: sixteen at a step, then eight, and the last ones one by one.
-pub fn write_words(words: &[u16], bytes: &mut [u8])
+fn write_words(words: &[u16], bytes: &mut [u8])
     requires { length bytes.old ≡ 2 * length words.now }
     ensures { bytes.new ≡ bytes_of_words words.now }
 {
@@ -123,11 +123,14 @@ fn write_some(words: &[u16], bytes: &mut [u8])
     let (front, behind) = words.split_at(WORDS_AT_ONCE);
     let (place, left) = bytes.split_at_mut(2 * WORDS_AT_ONCE);
     place.copy_from_slice(&eight_words(front, 0));
-    write_last(behind, left);
+    if !behind.is_empty() {
+        write_last(behind, left);
+    }
 }
 
-/// Writes fewer than eight words over these bytes: four at once, and the last ones one by one.
-#[inline(always)]
+/// Writes fewer than eight words over these bytes: four at once, and the last ones one by one. A call of its own, so that the steps before
+/// it need few registers.
+#[inline(never)]
 fn write_last(words: &[u16], bytes: &mut [u8])
     requires size { length bytes.old ≡ 2 * length words.now }
     ensures { bytes.new ≡ bytes_of_words words.now }
@@ -163,7 +166,7 @@ pub fn joined_len(blocks: &[Block]) -> usize
 {
     let mut len = 0;
     for block in blocks {
-        len += 2 * block.shape.word_count();
+        len += 2 * block.words().len();
     }
     len
 }

@@ -286,8 +286,58 @@ fn after_front(header: u128, payload: &[u8]) -> (u128, usize)
     after_long_steps(header, payload)
 }
 
-/// The state after the bytes behind a header, of which this is the state.
-#[inline]
+/// The state after so many bytes more from this place on, if so many are left, and where the rest begins.
+#[inline(always)]
+fn after_part(state: u64, bytes: &[u8], at: usize, count: usize) -> (u64, usize)
+    requires some { 0 < count }
+    requires few { count < STEP }
+    requires at { at ≤ length bytes.now }
+    requires left { length bytes.now < at + 2 * count }
+    ensures at { result.1 ≤ length bytes.now }
+    ensures left { length bytes.now < result.1 + count }
+    ensures step { (check : ℕ) → IsRemainder (state * 2 ^ DEGREE) (fold check_after check (take at bytes.now))
+        → IsRemainder (result.0 * 2 ^ DEGREE) (fold check_after check (take result.1 bytes.now)) }
+{
+    if bytes.len() - at < count {
+        return (state, at);
+    }
+    let bits = 8 * count;
+    let last = read_few(&bytes[at..at + count]);
+    (
+        moved_up(state >> (STATE_BITS - bits)) ^ ((state << bits) ^ last),
+        at + count,
+    )
+}
+
+/// The state after the bytes from this place on, which are fewer than eight: in pieces of fixed numbers, as they were written.
+#[inline(always)]
+fn after_pieces(state: u64, bytes: &[u8], at: usize) -> u64
+    requires at { at ≤ length bytes.now }
+    requires few { length bytes.now < at + STEP }
+    ensures step { (check : ℕ) → IsRemainder (state * 2 ^ DEGREE) (fold check_after check (take at bytes.now))
+        → IsRemainder (result * 2 ^ DEGREE) (fold check_after check bytes.now) }
+{
+    let (state, at) = after_part(state, bytes, at, 4);
+    let (state, at) = after_part(state, bytes, at, 2);
+    let (state, _) = after_part(state, bytes, at, 1);
+    state
+}
+
+/// The state after fewer than sixteen bytes behind a header, of which this is the state.
+#[inline(always)]
+fn after_short(header: u128, payload: &[u8]) -> u64
+    requires long { STEP ≤ length payload.now }
+    requires few { length payload.now < WIDE_STEP }
+    ensures step { (check : ℕ) → IsRemainder (header * 2 ^ DEGREE) check
+        → IsRemainder (result * 2 ^ DEGREE) (fold check_after check payload.now) }
+{
+    let state = moved_up(narrowed(header)) ^ read_step(payload, 0);
+    after_pieces(state, payload, STEP)
+}
+
+/// The state after the bytes behind a header, of which this is the state. A call of its own, so that a short payload keeps what it needs
+/// in registers.
+#[inline(never)]
 fn after_payload(header: u128, payload: &[u8]) -> u64
     requires { STEP ≤ length payload.now }
     ensures step { (check : ℕ) → IsRemainder (header * 2 ^ DEGREE) check
@@ -324,10 +374,20 @@ pub(crate) fn check_word_behind(header: u128, payload: &[u8]) -> u16
         → result ≡ check_word_of (front ++ payload.now) }
 {
     let state = (START << (8 * HEADER_LEN)) ^ header;
-    let whole = if payload.len() < STEP {
-        after_few(state, payload)
-    } else {
-        after_payload(state, payload)
-    };
-    check_of_state(whole)
+    check_of_state(after_any(state, payload))
+}
+
+/// The state after any bytes behind a header, of which this is the state.
+#[inline(always)]
+fn after_any(header: u128, payload: &[u8]) -> u64
+    ensures step { (check : ℕ) → IsRemainder (header * 2 ^ DEGREE) check
+        → IsRemainder (result * 2 ^ DEGREE) (fold check_after check payload.now) }
+{
+    if payload.len() >= WIDE_STEP {
+        return after_payload(header, payload);
+    }
+    if payload.len() < STEP {
+        return after_few(header, payload);
+    }
+    after_short(header, payload)
 }

@@ -118,7 +118,7 @@ impl CopyFrom for Cell {
         self.shape = other.shape;
         self.quality = other.quality;
         self.has_data = other.has_data;
-        let count = other.shape.word_count();
-        self.words[..count].copy_from_slice(&other.words[..count]);
+        let words = other.words();
+        self.words[..words.len()].copy_from_slice(words);
     }
 }

@@ -1,6 +1,6 @@
 use Rattle.std.proofs.Common.{◌≡◌, length, take}
 use Rattle.pdc_block.specs.Block.{words_in}
-use Rattle.pdc_block.proofs.in_place.read_one_by_one.Given as goal
+use Rattle.pdc_block.proofs.in_place.read_each.Given as goal
 
 abbrev pub invariant-loop-place : goal.invariant-loop-place
 invariant-loop-place l = record {

@@ -2,7 +2,7 @@ use Rattle.std.proofs.Common.{◌<◌, ◌++◌, ◌∷◌, [], ℕ, List, ap, a
 use Rattle.std.proofs.lemmas.List.{length-set, take_all, take_more, take_more_set}
 use Rattle.pdc_block.specs.Block.{words_in}
 use Rattle.pdc_block.proofs.Bodies.{word_in, words_count}
-use Rattle.pdc_block.proofs.in_place.read_one_by_one.Goals as goal
+use Rattle.pdc_block.proofs.in_place.read_each.Goals as goal
 
 pub loop-place-preserved : goal.loop-place-preserved
 loop-place-preserved c =
