@@ -139,20 +139,45 @@ fn check_of_state(state: u64) -> u16 {
     ((last << 12) ^ (last << 5) ^ last) as u16
 }
 
+/// The state after fewer than sixteen bytes more.
+#[inline]
+fn after_rest(state: u128, rest: &[u8]) -> u64 {
+    let state = moved_up((state >> 64) as u64) ^ state as u64;
+    let (steps, rest) = rest.as_chunks::<8>();
+    let state = steps.iter().fold(state, |state, step| {
+        moved_up(state) ^ u64::from_be_bytes(*step)
+    });
+    after_last(state, rest)
+}
+
+/// The check word of thirty-two bytes or more: a call of its own, so that fewer need few registers.
+#[inline(never)]
+fn of_many(bytes: &[u8]) -> u16 {
+    let (steps, rest) = bytes.as_chunks::<32>();
+    let state = after_all_long(steps);
+    let (steps, rest) = rest.as_chunks::<16>();
+    let state = steps.iter().fold(state, |state, step| {
+        wide_moved_up(state) ^ u128::from_be_bytes(*step)
+    });
+    check_of_state(after_rest(state, rest))
+}
+
+/// The check word of fewer than sixteen bytes.
+#[inline(never)]
+fn of_few(bytes: &[u8]) -> u16 {
+    check_of_state(after_rest(START, bytes))
+}
+
 impl CheckWord for ByShifts {
     #[inline]
     fn of(bytes: &[u8]) -> u16 {
-        let (steps, rest) = bytes.as_chunks::<32>();
-        let state = after_all_long(steps);
-        let (steps, rest) = rest.as_chunks::<16>();
-        let state = steps.iter().fold(state, |state, step| {
-            wide_moved_up(state) ^ u128::from_be_bytes(*step)
-        });
-        let state = moved_up((state >> 64) as u64) ^ state as u64;
-        let (steps, rest) = rest.as_chunks::<8>();
-        let state = steps.iter().fold(state, |state, step| {
-            moved_up(state) ^ u64::from_be_bytes(*step)
-        });
-        check_of_state(after_last(state, rest))
+        if bytes.len() >= 32 {
+            return of_many(bytes);
+        }
+        let Some((first, rest)) = bytes.split_first_chunk::<16>() else {
+            return of_few(bytes);
+        };
+        let state = wide_moved_up(START) ^ u128::from_be_bytes(*first);
+        check_of_state(after_rest(state, rest))
     }
 }

@@ -41,8 +41,7 @@ pub extern "C" fn dagluwis_read_config(bytes: &[u8]) -> u64 {
         return 0;
     };
     // It is read where it was made, and not moved.
-    let config = read_config(&frame);
-    match &config {
+    match &read_config(&frame) {
         Ok(config) => mix(config),
         Err(_) => 0,
     }

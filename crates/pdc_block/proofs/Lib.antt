@@ -1,5 +1,6 @@
 pub mod AbsentWords
 pub mod Bodies
+mod CutWords
 pub mod Cuts
 pub mod Words
 pub mod Writes

@@ -47,13 +47,23 @@ pub fn are_absent(shape: Shape, words: &[u16]) -> bool
     if words[0] != ABSENT_STAT {
         return false;
     }
+    are_words_of_absent(shape, words)
+}
+
+/// The same. A call of its own, so that a look at a block that is present stays small.
+#[inline(never)]
+fn are_words_of_absent(shape: Shape, words: &[u16]) -> bool
+    requires { length words.now ≡ word_count_of shape }
+    ensures { IsTrue result ↔ (words.now ≡ absent_of shape) }
+{
+    if words[0] != ABSENT_STAT {
+        return false;
+    }
     let values = words.len() - usize::from(shape.digitals);
     are_all(&words[1..values], NO_VALUE) && are_all(&words[values..], 0)
 }
 
-/// Whether each of the words is this one: eight are compared at a step, and the last one by one. A call of its own, so that a look at a
-/// block that is present stays small.
-#[inline(never)]
+/// Whether each of the words is this one: eight are compared at a step, and the last one by one.
 fn are_all(words: &[u16], word: u16) -> bool
     ensures { IsTrue result ↔ (words.now ≡ replicate (length words.now) word) }
 {

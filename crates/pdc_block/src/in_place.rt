@@ -1,5 +1,5 @@
 //! The words of a block, written over in place.
-ghost use Rattle.std.specs.Prelude.{◌≡◌, ◌+◌, ◌*◌, ◌<◌, ◌≤◌, length, take};
+ghost use Rattle.std.specs.Prelude.{◌≡◌, ◌*◌, ◌<◌, ◌≤◌, length};
 ghost use Rattle.pdc_block.specs.Block.{words_in};
 
 use arrayvec::ArrayVec;
@@ -7,6 +7,9 @@ use pdc_cfg::{MAX_WORDS, read_word};
 
 /// How many words are written in one step: as many as fill a register of 16 bytes.
 pub const WORDS_AT_ONCE: usize = 8;
+
+/// As many as fill one of 8 bytes.
+const FEW_AT_ONCE: usize = 4;
 
 /// Makes these the words of a block. Where there were as many before, they are written over.
 pub fn set_words(kept: &mut ArrayVec<u16, MAX_WORDS>, words: &[u16])
@@ -95,39 +98,57 @@ fn write_eight(kept: &mut [u16], words: &[u16])
     kept[7] = h;
 }
 
-/// Writes fewer than eight words over these.
+/// Writes fewer than eight words over these: four at once, and the last ones one by one.
 #[inline(always)]
 fn write_few(kept: &mut [u16], words: &[u16])
     requires size { length words.now ≡ length kept.old }
     requires few { length words.now < 8 }
     ensures { kept.new ≡ words.now }
 {
-    if words.is_empty() {
+    if words.len() < FEW_AT_ONCE {
+        write_last(kept, words);
         return;
     }
-    let at = write_part(kept, words, 0, 4);
-    let at = write_part(kept, words, at, 2);
-    write_part(kept, words, at, 1);
+    let (front, behind) = kept.split_at_mut(FEW_AT_ONCE);
+    let (words, left) = words.split_at(FEW_AT_ONCE);
+    write_four(front, words);
+    write_last(behind, left);
 }
 
-/// Writes so many words from this place on over those there, if so many are left, and answers where the rest begins.
+/// Writes four words over these, in one step as well.
 #[inline(always)]
-fn write_part(kept: &mut [u16], words: &[u16], at: usize, count: usize) -> usize
-    requires size { length words.now ≡ length kept.old }
-    requires at { at ≤ length words.now }
-    requires left { length words.now < at + 2 * count }
-    requires written { take at kept.old ≡ take at words.now }
-    ensures size { length kept.new ≡ length kept.old }
-    ensures at { result ≤ length words.now }
-    ensures left { length words.now < result + count }
-    ensures written { take result kept.new ≡ take result words.now }
+fn write_four(kept: &mut [u16], words: &[u16])
+    requires kept { length kept.old ≡ 4 }
+    requires words { length words.now ≡ 4 }
+    ensures { kept.new ≡ words.now }
 {
-    if words.len() - at < count {
-        return at;
+    let (a, b, c, d) = (words[0], words[1], words[2], words[3]);
+    kept[0] = a;
+    kept[1] = b;
+    kept[2] = c;
+    kept[3] = d;
+}
+
+/// Writes fewer than four words over these, one by one.
+#[inline(always)]
+fn write_last(kept: &mut [u16], words: &[u16])
+    requires size { length words.now ≡ length kept.old }
+    requires few { length words.now < 4 }
+    ensures { kept.new ≡ words.now }
+{
+    let count = words.len();
+    if count == 0 {
+        return;
     }
-    let next = at + count;
-    kept[at..next].copy_from_slice(&words[at..next]);
-    next
+    kept[0] = words[0];
+    if count == 1 {
+        return;
+    }
+    kept[1] = words[1];
+    if count == 2 {
+        return;
+    }
+    kept[2] = words[2];
 }
 
 /// So many words, to be written over.
@@ -152,7 +173,7 @@ pub fn new_words(count: usize, bytes: &[u8]) -> ArrayVec<u16, MAX_WORDS>
     words
 }
 
-/// Writes the words that the bytes write over these, sixteen at a step, then eight, and the last one by one.
+/// Writes the words that the bytes write over these, sixteen at a step, then eight, then four, and the last one by one.
 pub fn read_into(words: &mut [u16], bytes: &[u8])
     requires { length bytes.now ≡ 2 * length words.old }
     ensures { words.new ≡ words_in bytes.now }
@@ -183,17 +204,35 @@ fn read_sixteen(words: &mut [u16], bytes: &[u8])
 /// Writes fewer than sixteen words that the bytes write over these: eight at once, and the last ones.
 #[inline(always)]
 fn read_some(words: &mut [u16], bytes: &[u8])
-    requires { length bytes.now ≡ 2 * length words.old }
+    requires size { length bytes.now ≡ 2 * length words.old }
+    requires some { length words.old < 16 }
     ensures { words.new ≡ words_in bytes.now }
 {
     if words.len() < WORDS_AT_ONCE {
-        read_each(words, bytes);
+        read_few(words, bytes);
         return;
     }
     let (front, behind) = words.split_at_mut(WORDS_AT_ONCE);
     let (bytes, left) = bytes.split_at(2 * WORDS_AT_ONCE);
     read_eight(front, bytes);
-    read_each(behind, left);
+    read_few(behind, left);
+}
+
+/// Writes fewer than eight words that the bytes write over these: four at once, and the last one by one.
+#[inline(always)]
+fn read_few(words: &mut [u16], bytes: &[u8])
+    requires size { length bytes.now ≡ 2 * length words.old }
+    requires few { length words.old < 8 }
+    ensures { words.new ≡ words_in bytes.now }
+{
+    if words.len() < FEW_AT_ONCE {
+        read_last(words, bytes);
+        return;
+    }
+    let (front, behind) = words.split_at_mut(FEW_AT_ONCE);
+    let (bytes, left) = bytes.split_at(2 * FEW_AT_ONCE);
+    read_four(front, bytes);
+    read_last(behind, left);
 }
 
 /// Writes eight words that the bytes write over these: all are read before one is written, so that they are turned and moved in one
@@ -222,13 +261,41 @@ fn read_eight(words: &mut [u16], bytes: &[u8])
     words[7] = h;
 }
 
-/// Writes the words that the bytes write over these, one by one.
+/// Writes four words that the bytes write over these, in one step as well.
 #[inline(always)]
-fn read_each(words: &mut [u16], bytes: &[u8])
-    requires { length bytes.now ≡ 2 * length words.old }
+fn read_four(words: &mut [u16], bytes: &[u8])
+    requires words { length words.old ≡ 4 }
+    requires bytes { length bytes.now ≡ 8 }
     ensures { words.new ≡ words_in bytes.now }
 {
-    for place in 0..words.len() {
-        words[place] = read_word(bytes, 2 * place);
+    let a = read_word(bytes, 0);
+    let b = read_word(bytes, 2);
+    let c = read_word(bytes, 4);
+    let d = read_word(bytes, 6);
+    words[0] = a;
+    words[1] = b;
+    words[2] = c;
+    words[3] = d;
+}
+
+/// Writes fewer than four words that the bytes write over these, one by one.
+#[inline(always)]
+fn read_last(words: &mut [u16], bytes: &[u8])
+    requires size { length bytes.now ≡ 2 * length words.old }
+    requires few { length words.old < 4 }
+    ensures { words.new ≡ words_in bytes.now }
+{
+    let count = words.len();
+    if count == 0 {
+        return;
     }
+    words[0] = read_word(bytes, 0);
+    if count == 1 {
+        return;
+    }
+    words[1] = read_word(bytes, 2);
+    if count == 2 {
+        return;
+    }
+    words[2] = read_word(bytes, 4);
 }

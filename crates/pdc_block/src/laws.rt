@@ -4,7 +4,7 @@ ghost use Rattle.pdc_cfg.specs.pdc_frame.Bytes.{AreBytes};
 ghost use Rattle.pdc_cfg.specs.Shape.{word_count_of};
 ghost use Rattle.pdc_cfg.specs.declared.shape.Shape.{Shape};
 ghost use Rattle.pdc_block.specs.Block.{IsBody, IsCut, body_len_of, words_in};
-ghost use Rattle.pdc_block.specs.Laws.{WordsOfBytes};
+ghost use Rattle.pdc_block.specs.Laws.{WordsAreCut, WordsOfBytes};
 
 use pdc_cfg::{parts_keep_their_words, words_are_their_bytes};
 
@@ -28,3 +28,8 @@ pub fn payloads_are_cut_in_one_way()
     words_are_their_bytes();
     parts_keep_their_words();
 }
+
+/// The words of a front of some bytes are a front of their words, and those behind it are behind.
+pub fn words_are_cut()
+    ensures { WordsAreCut }
+{}

@@ -22,7 +22,7 @@ pub use absent_block::{ABSENT_STAT, NO_VALUE, absent, are_absent, is_absent, set
 pub use block::Block;
 pub use body::Body;
 pub use fault::BodyFault;
-pub use laws::{bodies_are_their_words, payloads_are_cut_in_one_way};
+pub use laws::{bodies_are_their_words, payloads_are_cut_in_one_way, words_are_cut};
 pub use pdc_cfg::{
     Buffer, CHECK_LEN, CfgFault, ConfigView, Frame, FrameFault, HEADER_LEN, Kind, MAX_SECTION_LEN,
     MAX_WORDS, OVERHEAD, Section, SectionView, Shape, StreamId, begin_frame,

@@ -1,5 +1,5 @@
 //! Blocks, written as the payload of a data frame.
-ghost use Rattle.std.specs.Prelude.{◌≡◌, ◌+◌, ◌*◌, ◌≤◌, ◌++◌, drop, map, take, length, sum_by, IsOk, OnOk, OnErr};
+ghost use Rattle.std.specs.Prelude.{◌≡◌, ◌+◌, ◌*◌, ◌<◌, ◌≤◌, ◌++◌, drop, map, take, length, sum_by, IsOk, OnOk, OnErr};
 ghost use Rattle.pdc_block.specs.Block.{IsCut, words_of, shape_of, body_len_of, bytes_of_words, bytes_of_blocks};
 
 use crate::block::Block;
@@ -40,21 +40,31 @@ fn four_words(words: &[u16], at: usize) -> [u8; 8]
     [a[0], a[1], b[0], b[1], c[0], c[1], d[0], d[1]]
 }
 
-/// Appends the words one by one.
-fn append_each<B: Buffer>(words: &[u16], out: &mut B)
-    requires { length (B.content out.old) + 2 * length words.now ≤ B.capacity out.old }
+/// Appends fewer than four words, one by one.
+fn append_few_words<B: Buffer>(words: &[u16], out: &mut B)
+    requires few { length words.now < 4 }
+    requires room { length (B.content out.old) + 2 * length words.now ≤ B.capacity out.old }
     ensures content { B.content out.new ≡ B.content out.old ++ bytes_of_words words.now }
     ensures len { length (B.content out.new) ≡ length (B.content out.old) + 2 * length words.now }
     ensures in_place { B.capacity out.new ≡ B.capacity out.old }
 {
-    for word in words {
-        out.append_few(&word.to_be_bytes());
+    let Some((first, behind)) = words.split_first() else {
+        return;
+    };
+    out.append_few(&first.to_be_bytes());
+    let Some((second, behind)) = behind.split_first() else {
+        return;
+    };
+    out.append_few(&second.to_be_bytes());
+    if let Some((third, _)) = behind.split_first() {
+        out.append_few(&third.to_be_bytes());
     }
 }
 
 /// Appends the words, which are fewer than eight: four at once, and the last ones one by one.
 fn append_last<B: Buffer>(words: &[u16], out: &mut B)
-    requires { length (B.content out.old) + 2 * length words.now ≤ B.capacity out.old }
+    requires few { length words.now < 8 }
+    requires room { length (B.content out.old) + 2 * length words.now ≤ B.capacity out.old }
     ensures content { B.content out.new ≡ B.content out.old ++ bytes_of_words words.now }
     ensures len { length (B.content out.new) ≡ length (B.content out.old) + 2 * length words.now }
     ensures in_place { B.capacity out.new ≡ B.capacity out.old }
@@ -64,7 +74,7 @@ fn append_last<B: Buffer>(words: &[u16], out: &mut B)
         out.append_few(&four_words(words, 0));
         rest = &words[4..];
     }
-    append_each(rest, out);
+    append_few_words(rest, out);
 }
 
 /// Appends the words, each with its high byte first. It takes no memory: there is room for them.
@@ -164,6 +174,10 @@ pub fn joined_len(blocks: &[Block]) -> usize
     ensures bytes { result ≡ length (bytes_of_blocks (map words_of blocks.now)) }
     ensures most { result ≤ 2 * MAX_WORDS * length blocks.now }
 {
+    // A PMU sends one: it is asked apart, without what leads into a loop.
+    if blocks.len() == 1 {
+        return 2 * blocks[0].words().len();
+    }
     let mut len = 0;
     for block in blocks {
         len += 2 * block.words().len();

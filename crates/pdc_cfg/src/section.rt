@@ -1,4 +1,5 @@
 //! What a configuration says of one PMU.
+ghost use Rattle.std.specs.Prelude.{◌≡◌, ◌≤◌, length};
 ghost use Rattle.pdc_cfg.specs.SectionBytes.{IsSection};
 
 use crate::shape::Shape;
@@ -43,6 +44,19 @@ pub struct Section {
     pub bytes: ArrayVec<u8, MAX_SECTION_LEN>,
     // The bytes are a section that says this.
     pub ghost whole: { IsSection (record { bytes = bytes.items; shape = shape; source = source; count = count; polar = polar }) },
+}
+
+/// Makes these the bytes of a section. Where there were as many before, they are written over, and nothing is emptied first.
+fn set_bytes(kept: &mut ArrayVec<u8, MAX_SECTION_LEN>, bytes: &[u8])
+    requires { length bytes.now ≤ MAX_SECTION_LEN }
+    ensures { kept.new.items ≡ bytes.now }
+{
+    if kept.len() == bytes.len() {
+        kept.as_mut_slice().copy_from_slice(bytes);
+        return;
+    }
+    kept.clear();
+    kept.try_extend_from_slice(bytes).unwrap();
 }
 
 /// A section without channels, to fill places of a list with: 30 bytes of zeros.
@@ -95,6 +109,17 @@ impl SectionView<'_> {
 impl Section {
     ghost use Rattle.std.specs.Prelude.{◌≡◌};
     ghost use Rattle.pdc_cfg.specs.Section.{fields_of_view, fields_of_section};
+
+    /// Makes this a copy of the section, in place. It takes no memory.
+    pub fn set(&mut self, section: &SectionView<'_>)
+        ensures { fields_of_section self.new ≡ fields_of_view section.now }
+    {
+        self.shape = section.shape;
+        self.source = section.source;
+        self.count = section.count;
+        self.polar = section.polar;
+        set_bytes(&mut self.bytes, section.bytes);
+    }
 
     /// The same section, lent.
     pub fn view(&self) -> SectionView<'_>

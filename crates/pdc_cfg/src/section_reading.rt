@@ -1,5 +1,5 @@
 //! The sections of a configuration, read one after the other.
-ghost use Rattle.std.specs.Prelude.{◌≡◌, ◌+◌, ◌-◌, ◌≤◌, IfOk, IfErr, OnOk, MatchOption, [], map, length, take};
+ghost use Rattle.std.specs.Prelude.{◌≡◌, ◌+◌, ◌-◌, ◌≤◌, IfOk, IfErr, OnOk, MatchOption, [], ◌∷◌, map, length, take};
 ghost use Rattle.arrayvec.specs.ArrayVec.{array_vec_len};
 ghost use Rattle.pdc_cfg.specs.Section.{fields_of_view, IsSectionFault, AreMany, phasors_in, analogs_in, digitals_in};
 ghost use Rattle.pdc_cfg.specs.Config.{Begins, IsBodyFault};
@@ -46,6 +46,7 @@ fn read_shape(bytes: &[u8]) -> Option<Shape>
 }
 
 /// The section at the front of the bytes, which may go on behind it.
+#[inline(always)]
 fn read_section(bytes: &[u8]) -> Result<SectionView<'_>, CfgFault>
     ensures front { IfOk result (λ s. s.bytes.now ≡ take (length s.bytes.now) bytes.now) }
     ensures within { IfOk result (λ s. length s.bytes.now ≤ length bytes.now) }
@@ -75,6 +76,31 @@ fn read_section(bytes: &[u8]) -> Result<SectionView<'_>, CfgFault>
         count: read_word(section, len - 2),
         polar: format & 1 == 1,
     })
+}
+
+/// The section that the bytes are, all of the bytes.
+#[inline(always)]
+pub(crate) fn read_only_section(body: &[u8]) -> Result<SectionView<'_>, CfgFault>
+    ensures found { IfOk result (λ s. Begins body.now (fields_of_view s ∷ []) []) }
+    ensures fault { IfErr result (IsBodyFault 1 body.now) }
+{
+    let section = read_section(body)?;
+    if section.bytes.len() < body.len() {
+        return Err(CfgFault::Cut);
+    }
+    Ok(section)
+}
+
+/// The list of this section alone. It is not pushed: so the compiler knows what each place holds, and the list is written once, where the
+/// caller keeps it.
+#[inline(always)]
+pub(crate) fn only(section: SectionView<'_>) -> ArrayVec<SectionView<'_>, MAX_SECTIONS>
+    ensures items { result.items ≡ section.entry ∷ [] }
+    ensures len { array_vec_len result ≡ 1 }
+{
+    let mut sections = ArrayVec::from_array_in((), [section; MAX_SECTIONS]);
+    sections.truncate(1);
+    sections
 }
 
 /// Reads the sections that the bytes are, all of the bytes. They go where the caller holds them: a list of so many views

@@ -3,14 +3,11 @@
 //! It is the remainder of state * x^16, where the state stands for the bytes so far. Over bits a square has no mixed
 //! terms, so the generator's fourth power has four terms as the generator itself, and its eighth and sixteenth power too. A
 //! state of as many bits as such a power has is moved up by them, and reduced again, with a few shifts.
-ghost use Rattle.std.specs.Prelude.{◌≡◌, ◌+◌, ◌*◌, ◌^◌, ◌≤◌, ◌<◌, ◌++◌, ℕ, List, fold, length, take, drop};
-ghost use Rattle.pdc_frame.specs.Bytes.{AreBytes};
+ghost use Rattle.std.specs.Prelude.{◌≡◌, ◌+◌, ◌*◌, ◌^◌, ◌≤◌, ◌<◌, ℕ, fold, length, take, drop};
 ghost use Rattle.pdc_frame.specs.CheckWord.{IsCheckWord, IsCongruent, IsRemainder, check_after, check_word_of, high_of_product, polynomial_of};
 
-use crate::limits::HEADER_LEN;
-
 /// The highest exponent of the generator, x^16 + x^12 + x^5 + 1.
-const DEGREE: u32 = 16;
+pub(crate) const DEGREE: u32 = 16;
 
 /// The next exponent.
 const UPPER: u32 = 12;
@@ -25,19 +22,19 @@ const UPPER_GAP: u32 = DEGREE - UPPER;
 const LOWER_GAP: u32 = DEGREE - LOWER;
 
 /// The state before the first byte: its product with x^16 has the remainder FFFF.
-const START: u128 = 0x84CF;
+pub(crate) const START: u128 = 0x84CF;
 
 /// The number of bytes of a long step.
-const LONG_STEP: usize = 32;
+pub(crate) const LONG_STEP: usize = 32;
 
 /// The number of bytes of a wide step.
-const WIDE_STEP: usize = 16;
+pub(crate) const WIDE_STEP: usize = 16;
 
 /// The number of bytes of a step.
-const STEP: usize = 8;
+pub(crate) const STEP: usize = 8;
 
 /// The number of bits of a state.
-const STATE_BITS: usize = 8 * STEP;
+pub(crate) const STATE_BITS: usize = 8 * STEP;
 
 /// The number of bits of a wide state.
 const WIDE_BITS: usize = 8 * WIDE_STEP;
@@ -66,7 +63,7 @@ fn wide_quotient(state: u128) -> u128
 
 /// A state that stands for state * x^64: what is left of it behind the fourth power.
 #[inline]
-fn moved_up(state: u64) -> u64
+pub(crate) fn moved_up(state: u64) -> u64
     ensures { IsCongruent (state * 2 ^ STATE_BITS) result }
 {
     let quotient = quotient(state);
@@ -75,7 +72,7 @@ fn moved_up(state: u64) -> u64
 
 /// A state that stands for state * x^128: what is left of it behind the eighth power.
 #[inline]
-fn wide_moved_up(state: u128) -> u128
+pub(crate) fn wide_moved_up(state: u128) -> u128
     ensures { IsCongruent (state * 2 ^ WIDE_BITS) result }
 {
     let quotient = wide_quotient(state);
@@ -100,7 +97,7 @@ fn long_moved_up(high: u128, low: u128) -> (u128, u128)
 
 /// The state after the first bytes, in steps of thirty-two, and how many bytes they are.
 #[inline(always)]
-fn after_long_steps(state: u128, bytes: &[u8]) -> (u128, usize)
+pub(crate) fn after_long_steps(state: u128, bytes: &[u8]) -> (u128, usize)
     requires { LONG_STEP ≤ length bytes.now }
     ensures at { result.1 ≤ length bytes.now }
     ensures state { (check : ℕ) → IsRemainder (state * 2 ^ DEGREE) check
@@ -121,14 +118,14 @@ fn after_long_steps(state: u128, bytes: &[u8]) -> (u128, usize)
 
 /// A state that stands for the same in half the bits.
 #[inline]
-fn narrowed(state: u128) -> u64
+pub(crate) fn narrowed(state: u128) -> u64
     ensures { IsCongruent state result }
 {
     moved_up((state >> u64::BITS) as u64) ^ ((state % (1 << u64::BITS)) as u64)
 }
 
 /// The check word that a state stands for.
-fn check_of_state(state: u64) -> u16
+pub(crate) fn check_of_state(state: u64) -> u16
     ensures { IsRemainder (state * 2 ^ DEGREE) result }
 {
     let half = quotient(state);
@@ -141,7 +138,7 @@ fn check_of_state(state: u64) -> u16
 
 /// The eight bytes from `place` on as one number, the first highest.
 #[inline]
-fn read_step(bytes: &[u8], place: usize) -> u64
+pub(crate) fn read_step(bytes: &[u8], place: usize) -> u64
     requires { place + STEP ≤ length bytes.now }
     ensures { result ≡ polynomial_of (take STEP (drop place bytes.now)) }
 {
@@ -159,7 +156,7 @@ fn read_step(bytes: &[u8], place: usize) -> u64
 
 /// The sixteen bytes from `place` on as one number, the first highest.
 #[inline]
-fn read_wide_step(bytes: &[u8], place: usize) -> u128
+pub(crate) fn read_wide_step(bytes: &[u8], place: usize) -> u128
     requires { place + WIDE_STEP ≤ length bytes.now }
     ensures { result ≡ polynomial_of (take WIDE_STEP (drop place bytes.now)) }
 {
@@ -168,7 +165,7 @@ fn read_wide_step(bytes: &[u8], place: usize) -> u128
 
 /// Fewer than eight bytes as one number, the first highest.
 #[inline]
-fn read_few(bytes: &[u8]) -> u64
+pub(crate) fn read_few(bytes: &[u8]) -> u64
     requires { length bytes.now < STEP }
     ensures { result ≡ polynomial_of bytes.now }
 {
@@ -209,7 +206,7 @@ fn after_last(state: u64, bytes: &[u8], place: usize) -> u64
 
 /// The state after the bytes from `place` on, which are fewer than sixteen.
 #[inline]
-fn after_rest(state: u64, bytes: &[u8], place: usize) -> u64
+pub(crate) fn after_rest(state: u64, bytes: &[u8], place: usize) -> u64
     requires long { STEP ≤ length bytes.now }
     requires place { place ≤ length bytes.now }
     requires few { length bytes.now < place + WIDE_STEP }
@@ -226,22 +223,6 @@ fn after_rest(state: u64, bytes: &[u8], place: usize) -> u64
     )
 }
 
-/// The state after the first bytes, and how many they are: a wide step, where there are as many. What the state before the
-/// first byte is moved up to is a constant that the compiler works out, so a short frame takes a step less.
-#[inline]
-fn first_step(bytes: &[u8]) -> (u128, usize)
-    ensures at { result.1 ≤ length bytes.now }
-    ensures state { IsRemainder (result.0 * 2 ^ DEGREE) (fold check_after 65535 (take result.1 bytes.now)) }
-{
-    if bytes.len() < WIDE_STEP {
-        return (START, 0);
-    }
-    if bytes.len() >= LONG_STEP {
-        return after_long_steps(START, bytes);
-    }
-    (wide_moved_up(START) ^ read_wide_step(bytes, 0), WIDE_STEP)
-}
-
 /// The check word of fewer than eight bytes: no frame has so few, and so it is a call of its own.
 #[inline(never)]
 fn check_of_few(bytes: &[u8]) -> u16
@@ -253,6 +234,34 @@ fn check_of_few(bytes: &[u8]) -> u16
     check_of_state(narrowed(state))
 }
 
+/// The check word of fewer than sixteen bytes. A call of its own, so that more keep what they need in few registers.
+#[inline(never)]
+fn check_of_some(bytes: &[u8]) -> u16
+    requires { length bytes.now < WIDE_STEP }
+    ensures remainder { IsCheckWord bytes.now result }
+    ensures value { result ≡ check_word_of bytes.now }
+{
+    if bytes.len() < STEP {
+        return check_of_few(bytes);
+    }
+    check_of_state(after_rest(narrowed(START), bytes, 0))
+}
+
+/// The check word of thirty-two bytes or more. A call of its own, so that fewer keep what they need in few registers.
+#[inline(never)]
+fn check_of_many(bytes: &[u8]) -> u16
+    requires { LONG_STEP ≤ length bytes.now }
+    ensures remainder { IsCheckWord bytes.now result }
+    ensures value { result ≡ check_word_of bytes.now }
+{
+    let (mut state, mut at) = after_long_steps(START, bytes);
+    while bytes.len() - at >= WIDE_STEP {
+        state = wide_moved_up(state) ^ read_wide_step(bytes, at);
+        at += WIDE_STEP;
+    }
+    check_of_state(after_rest(narrowed(state), bytes, at))
+}
+
 /// The check word of the bytes: CRC-CCITT with generator x^16 + x^12 + x^5 + 1, start value FFFF and no final mask
 /// (C37.118.2-2011, annex B).
 pub fn check_word(bytes: &[u8]) -> u16
@@ -261,133 +270,13 @@ pub fn check_word(bytes: &[u8]) -> u16
     // of which there is one.
     ensures value { result ≡ check_word_of bytes.now }
 {
-    if bytes.len() < STEP {
-        return check_of_few(bytes);
+    if bytes.len() >= LONG_STEP {
+        return check_of_many(bytes);
     }
-    let (mut state, mut at) = first_step(bytes);
-    while bytes.len() - at >= WIDE_STEP {
-        state = wide_moved_up(state) ^ read_wide_step(bytes, at);
-        at += WIDE_STEP;
+    if bytes.len() < WIDE_STEP {
+        return check_of_some(bytes);
     }
-    check_of_state(after_rest(narrowed(state), bytes, at))
-}
-
-/// The state after the first bytes behind a header, of which this is the state, and how many they are: long steps, where there are as
-/// many.
-#[inline(always)]
-fn after_front(header: u128, payload: &[u8]) -> (u128, usize)
-    ensures at { result.1 ≤ length payload.now }
-    ensures state { (check : ℕ) → IsRemainder (header * 2 ^ DEGREE) check
-        → IsRemainder (result.0 * 2 ^ DEGREE) (fold check_after check (take result.1 payload.now)) }
-{
-    if payload.len() < LONG_STEP {
-        return (header, 0);
-    }
-    after_long_steps(header, payload)
-}
-
-/// The state after so many bytes more from this place on, if so many are left, and where the rest begins.
-#[inline(always)]
-fn after_part(state: u64, bytes: &[u8], at: usize, count: usize) -> (u64, usize)
-    requires some { 0 < count }
-    requires few { count < STEP }
-    requires at { at ≤ length bytes.now }
-    requires left { length bytes.now < at + 2 * count }
-    ensures at { result.1 ≤ length bytes.now }
-    ensures left { length bytes.now < result.1 + count }
-    ensures step { (check : ℕ) → IsRemainder (state * 2 ^ DEGREE) (fold check_after check (take at bytes.now))
-        → IsRemainder (result.0 * 2 ^ DEGREE) (fold check_after check (take result.1 bytes.now)) }
-{
-    if bytes.len() - at < count {
-        return (state, at);
-    }
-    let bits = 8 * count;
-    let last = read_few(&bytes[at..at + count]);
-    (
-        moved_up(state >> (STATE_BITS - bits)) ^ ((state << bits) ^ last),
-        at + count,
-    )
-}
-
-/// The state after the bytes from this place on, which are fewer than eight: in pieces of fixed numbers, as they were written.
-#[inline(always)]
-fn after_pieces(state: u64, bytes: &[u8], at: usize) -> u64
-    requires at { at ≤ length bytes.now }
-    requires few { length bytes.now < at + STEP }
-    ensures step { (check : ℕ) → IsRemainder (state * 2 ^ DEGREE) (fold check_after check (take at bytes.now))
-        → IsRemainder (result * 2 ^ DEGREE) (fold check_after check bytes.now) }
-{
-    let (state, at) = after_part(state, bytes, at, 4);
-    let (state, at) = after_part(state, bytes, at, 2);
-    let (state, _) = after_part(state, bytes, at, 1);
-    state
-}
-
-/// The state after fewer than sixteen bytes behind a header, of which this is the state.
-#[inline(always)]
-fn after_short(header: u128, payload: &[u8]) -> u64
-    requires long { STEP ≤ length payload.now }
-    requires few { length payload.now < WIDE_STEP }
-    ensures step { (check : ℕ) → IsRemainder (header * 2 ^ DEGREE) check
-        → IsRemainder (result * 2 ^ DEGREE) (fold check_after check payload.now) }
-{
-    let state = moved_up(narrowed(header)) ^ read_step(payload, 0);
-    after_pieces(state, payload, STEP)
-}
-
-/// The state after the bytes behind a header, of which this is the state. A call of its own, so that a short payload keeps what it needs
-/// in registers.
-#[inline(never)]
-fn after_payload(header: u128, payload: &[u8]) -> u64
-    requires { STEP ≤ length payload.now }
-    ensures step { (check : ℕ) → IsRemainder (header * 2 ^ DEGREE) check
-        → IsRemainder (result * 2 ^ DEGREE) (fold check_after check payload.now) }
-{
-    let (mut state, mut at) = after_front(header, payload);
-    while payload.len() - at >= WIDE_STEP {
-        state = wide_moved_up(state) ^ read_wide_step(payload, at);
-        at += WIDE_STEP;
-    }
-    after_rest(narrowed(state), payload, at)
-}
-
-/// The state after fewer than eight bytes behind a header: no data has so few, and so it is a call of its own.
-#[inline(never)]
-fn after_few(header: u128, payload: &[u8]) -> u64
-    requires { length payload.now < STEP }
-    ensures step { (check : ℕ) → IsRemainder (header * 2 ^ DEGREE) check
-        → IsRemainder (result * 2 ^ DEGREE) (fold check_after check payload.now) }
-{
-    let state = narrowed(header);
-    if payload.is_empty() {
-        return state;
-    }
-    let bits = 8 * payload.len();
-    moved_up(state >> (STATE_BITS - bits)) ^ ((state << bits) ^ read_few(payload))
-}
-
-/// The check word of a header, given as one number with its first byte highest, and the payload behind it. So a header that was just
-/// written need not be read again, which would wait for it.
-#[inline(always)]
-pub(crate) fn check_word_behind(header: u128, payload: &[u8]) -> u16
-    ensures { (front : List ℕ) → AreBytes front → length front ≡ HEADER_LEN → header ≡ polynomial_of front
-        → result ≡ check_word_of (front ++ payload.now) }
-{
-    let state = (START << (8 * HEADER_LEN)) ^ header;
-    check_of_state(after_any(state, payload))
-}
-
-/// The state after any bytes behind a header, of which this is the state.
-#[inline(always)]
-fn after_any(header: u128, payload: &[u8]) -> u64
-    ensures step { (check : ℕ) → IsRemainder (header * 2 ^ DEGREE) check
-        → IsRemainder (result * 2 ^ DEGREE) (fold check_after check payload.now) }
-{
-    if payload.len() >= WIDE_STEP {
-        return after_payload(header, payload);
-    }
-    if payload.len() < STEP {
-        return after_few(header, payload);
-    }
-    after_short(header, payload)
+    // What the state before the first byte is moved up to is a constant that the compiler works out.
+    let state = wide_moved_up(START) ^ read_wide_step(bytes, 0);
+    check_of_state(after_rest(narrowed(state), bytes, WIDE_STEP))
 }

@@ -11,6 +11,7 @@
 
 mod buffer;
 mod crc;
+mod crc_behind;
 mod fault;
 mod frame;
 mod framer;

@@ -36,7 +36,7 @@ fn read_sync(first: u8, second: u8) -> Option<(Kind, u8)>
 {
     let kind = kind_of(second >> 4)?;
     let version = second & 0x0F;
-    if first != SYNC_BYTE || version == 0 || version > MAX_VERSION {
+    if version == 0 || version > MAX_VERSION || first != SYNC_BYTE {
         return None;
     }
     Some((kind, version))

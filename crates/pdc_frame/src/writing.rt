@@ -6,7 +6,8 @@ ghost use Rattle.pdc_frame.specs.CheckWord.{check_word_of, polynomial_of};
 ghost use Rattle.pdc_frame.specs.Frame.{Fits, fields_of, number_of, header_of, spelling_of, IsFrame};
 
 use crate::buffer::Buffer;
-use crate::crc::{check_word, check_word_behind};
+use crate::crc::check_word;
+use crate::crc_behind::check_word_behind;
 use crate::frame::{Frame, Kind};
 use crate::limits::{
     CHECK_LEN, FRACSEC_PLACE, HEADER_LEN, ID_PLACE, MAX_PAYLOAD, OVERHEAD, SIZE_PLACE, SOC_PLACE,

@@ -108,7 +108,11 @@ impl Cell {
     pub fn agrees(&self, other: &Cell) -> bool
         ensures { result ≡ same_block self.now.block other.now.block }
     {
-        other.shape == self.shape && are_same(self.words(), other.words())
+        if other.shape != self.shape {
+            return false;
+        }
+        let count = self.shape.word_count();
+        are_same(&self.words[..count], &other.words[..count])
     }
 }
 

@@ -26,6 +26,6 @@ pub use pdc_block::{
     MAX_SECTION_LEN, OVERHEAD, Section, SectionView, Shape, StreamId, append_blocks, append_words,
     begin_frame, bodies_are_their_words, configurations_are_read_in_one_way, end_frame,
     frames_are_read_in_one_way, frames_are_written_in_parts, joined_len, read_body, read_config,
-    read_frame, read_word, set_absent, write_blocks, write_config, write_ends,
+    read_frame, read_word, set_absent, words_are_cut, write_blocks, write_config, write_ends,
 };
 pub use present::is_present;

@@ -1,7 +1,7 @@
 use Rattle.std.proofs.Common.{ℕ, ◌+◌, ◌*◌, ◌^◌, take, fold, bit_xor, arith, subst, sym}
 use Rattle.pdc_frame.specs.CheckWord.{IsRemainder, check_after}
 use Rattle.pdc_frame.proofs.WordSteps.{step_at, narrow_state, front_then}
-use Rattle.pdc_frame.proofs.crc.after_payload.Goals as goal
+use Rattle.pdc_frame.proofs.crc_behind.after_payload.Goals as goal
 
 pub loop-at-preserved : goal.loop-at-preserved
 loop-at-preserved c = (

@@ -2,7 +2,7 @@ use Rattle.std.proofs.Common.{◌≡◌, ℕ, ◌+◌, ◌-◌, ◌*◌, ◌%◌
 use Rattle.std.specs.Int.Bits.{xor_assoc}
 use Rattle.pdc_frame.specs.CheckWord.{IsRemainder, check_after, polynomial_of}
 use Rattle.pdc_frame.proofs.WordSteps.{part_moved_up, step_at}
-use Rattle.pdc_frame.proofs.crc.after_part.Goals as goal
+use Rattle.pdc_frame.proofs.crc_behind.after_part.Goals as goal
 
 pub returns-clause-step : goal.returns-clause-step
 returns-clause-step c = λ check h.

@@ -1,7 +1,7 @@
 use Rattle.std.proofs.Common.{◌≡◌, ℕ, ◌*◌, ◌^◌, arith, length, rules, subst, sym}
 use Rattle.pdc_frame.specs.CheckWord.{IsRemainder}
 use Rattle.pdc_frame.proofs.WordSteps.{few_then, narrow_state, none_then}
-use Rattle.pdc_frame.proofs.crc.after_few.Goals as goal
+use Rattle.pdc_frame.proofs.crc_behind.after_few.Goals as goal
 
 pub returns-then-is_empty : goal.returns-then-is_empty
 returns-then-is_empty c =

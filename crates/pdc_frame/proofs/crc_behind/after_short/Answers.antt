@@ -1,7 +1,7 @@
 use Rattle.std.proofs.Common.{ℕ, ◌*◌, ◌^◌, arith, bit_xor, fold, subst, sym, take}
 use Rattle.pdc_frame.specs.CheckWord.{IsRemainder, check_after}
 use Rattle.pdc_frame.proofs.WordSteps.{narrow_state, step_at}
-use Rattle.pdc_frame.proofs.crc.after_short.Goals as goal
+use Rattle.pdc_frame.proofs.crc_behind.after_short.Goals as goal
 
 pub returns : goal.returns
 returns c = record {

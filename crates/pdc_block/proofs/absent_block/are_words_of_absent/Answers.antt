@@ -3,7 +3,7 @@ use Rattle.std.proofs.lemmas.Bool.{false≢true}
 use Rattle.std.proofs.Math.Seq.{take-append_seam, drop-append_seam}
 use Rattle.std.proofs.lemmas.List.{length-replicate, length-take-le, take_all, take-append-drop}
 use Rattle.pdc_block.proofs.AbsentWords.{parts, rest_of}
-use Rattle.pdc_block.proofs.absent_block.are_absent.Goals as goal
+use Rattle.pdc_block.proofs.absent_block.are_words_of_absent.Goals as goal
 
 alike : (xs : List ℕ) (n w : ℕ) → xs ≡ replicate n w → xs ≡ replicate (length xs) w
 alike xs n w e = e ∙ ap (λ k. replicate k w) (sym (ap length e ∙ length-replicate n w))

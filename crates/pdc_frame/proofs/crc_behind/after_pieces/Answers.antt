@@ -1,7 +1,7 @@
 use Rattle.std.proofs.Common.{ℕ, ◌*◌, ◌^◌, List, arith, fold, subst}
 use Rattle.std.proofs.lemmas.List.{take_all}
 use Rattle.pdc_frame.specs.CheckWord.{IsRemainder, check_after}
-use Rattle.pdc_frame.proofs.crc.after_pieces.Goals as goal
+use Rattle.pdc_frame.proofs.crc_behind.after_pieces.Goals as goal
 
 pub returns : goal.returns
 returns c = record {

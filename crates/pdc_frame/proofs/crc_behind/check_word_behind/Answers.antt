@@ -3,7 +3,7 @@ use Rattle.std.proofs.lemmas.Grind.{fold-append}
 use Rattle.pdc_frame.specs.CheckWord.{check_after}
 use Rattle.pdc_frame.proofs.Polynomials.{is_check, one_remainder}
 use Rattle.pdc_frame.proofs.WordSteps.{header_state}
-use Rattle.pdc_frame.proofs.crc.check_word_behind.Goals as goal
+use Rattle.pdc_frame.proofs.crc_behind.check_word_behind.Goals as goal
 
 pub returns : goal.returns
 returns c = λ front fits size is.
