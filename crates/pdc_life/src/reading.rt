@@ -46,7 +46,7 @@ pub fn read_arrival<'a>(settings: &Settings, pmu: &Pmu, bytes: &'a [u8]) -> Read
     }
     match frame.kind {
         Kind::DataFrame => read_data(settings, pmu, &frame),
-        Kind::Cfg2 => read_configuration(settings, pmu, &frame),
+        Kind::Cfg2 => read_configuration(settings, pmu, frame),
         _ => Reading::BytesRefused(Refusal::NoConfiguration(CfgFault::WrongKind)),
     }
 }
@@ -67,12 +67,13 @@ fn read_data<'a>(settings: &Settings, pmu: &Pmu, frame: &Frame<'a>) -> Reading<'
     }
 }
 
-/// What a CFG-2 frame of the PMU's stream says.
-fn read_configuration<'a>(settings: &Settings, pmu: &Pmu, frame: &Frame<'a>) -> Reading<'a>
-    ensures { (p : ℕ) (bytes : List ℕ) → IsOfStream (stream_of settings.now pmu.now) bytes (fields_of frame.now) → frame.now.kind ≡ Cfg2
+/// What a CFG-2 frame of the PMU's stream says. It is seldom, and so a call of its own, with a frame of its own: that of data stays in registers.
+#[inline(never)]
+fn read_configuration<'a>(settings: &Settings, pmu: &Pmu, frame: Frame<'a>) -> Reading<'a>
+    ensures { (p : ℕ) (bytes : List ℕ) → IsOfStream (stream_of settings.now pmu.now) bytes (fields_of frame.entry) → frame.entry.kind ≡ Cfg2
         → Reads settings.now p pmu.now bytes (arrival_view p result) }
 {
-    match read_config(frame) {
+    match read_config(&frame) {
         Ok(config) => read_section(settings, pmu, &config),
         Err(fault) => Reading::BytesRefused(Refusal::NoConfiguration(fault)),
     }

@@ -1,24 +1,18 @@
 -- A node stands for the life with one step more.
-use Rattle.std.proofs.Common.{◌≡◌, ℕ, List, [], ◌∷◌, length, refl, sym, ◌∙◌, ap, subst, arith}
-use Rattle.std.specs.List.{filter_map, range_with_len}
-use Rattle.std.proofs.lemmas.Option.{slice_get_within}
-use Rattle.pdc_cfg.specs.Section.{SectionFields}
-use Rattle.pdc_output.specs.declared.output.Output.{Output}
-use Rattle.pdc_output.specs.Layout.{layout_wire_of}
+use Rattle.std.proofs.Common.{◌≡◌, ℕ, List, [], ◌∷◌, refl, ◌∙◌, subst}
 use Rattle.pdc_life.specs.CoreKind.{given_of, IsLifeOf, OfNode, Says}
-use Rattle.pdc_life.specs.Published.{layout_wire}
 use Rattle.pdc_life.specs.declared.given.Settings.{Settings}
 use Rattle.pdc_life.specs.Arrival.{Arrival}
 use Rattle.pdc_life.specs.Given.{Given}
 use Rattle.pdc_life.specs.Laws.{LivesAreRuns}
-use Rattle.pdc_life.specs.Life.{Arrive, Entry, changes, section_in_force}
+use Rattle.pdc_life.specs.Life.{Arrive, Entry}
 use Rattle.pdc_life.specs.Node.{node_answer}
 use Rattle.pdc_life.specs.Run.{IsRun}
 use Rattle.pdc_align.specs.Align.{HasSizes, KeepsSizes, State}
 use Rattle.pdc_align.specs.Align as align
 use Rattle.pdc_arrival.specs.declared.counts.Counts.{Counts}
 use Rattle.pdc_arrival.specs.Counts.{counts_after}
-use Rattle.pdc_node.specs.Node.{IsReady, NodeView, StandsFor}
+use Rattle.pdc_node.specs.Node.{NodeView, StandsFor}
 
 -- ---- the start
 

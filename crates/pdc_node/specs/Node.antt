@@ -1,15 +1,12 @@
 -- What contracts see of a node, and the lives that it stands for (this profile).
-use Rattle.std.specs.Prelude.{◌≡◌, ℕ, ◌<◌, List, ◌∷◌, length}
+use Rattle.std.specs.Prelude.{◌≡◌, ℕ, ◌<◌, List, length}
 use Rattle.std.specs.List.{AllByRecursion}
 use Rattle.pdc_cfg.specs.Section.{SectionFields}
 use Rattle.pdc_life.specs.declared.given.Settings.{Settings}
-use Rattle.pdc_life.specs.declared.outcome.Outcome.{Outcome}
-use Rattle.pdc_life.specs.Answer.{answered, ToArrive}
 use Rattle.pdc_life.specs.Arrival.{Arrival}
 use Rattle.pdc_life.specs.CoreKind.{IsLifeOf, OfNode}
 use Rattle.pdc_life.specs.Given.{Given}
 use Rattle.pdc_life.specs.Life.{Entry}
-use Rattle.pdc_life.specs.Node.{node_answer}
 use Rattle.pdc_life.specs.Run.{sections_of}
 use Rattle.pdc_align.specs.Align.{State}
 use Rattle.pdc_align.specs.Align as align

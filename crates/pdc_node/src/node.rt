@@ -10,6 +10,7 @@ ghost use Rattle.pdc_life.specs.CoreKind.{given_of, OfNode, Says};
 ghost use Rattle.pdc_life.specs.Given.{Given};
 ghost use Rattle.pdc_life.specs.Life.{Entry};
 ghost use Rattle.pdc_life.specs.Node.{node_answer};
+ghost use Rattle.pdc_life.specs.Views.{arrival_view as reading_view};
 ghost use Rattle.pdc_node.specs.Node.{StandsFor};
 
 use crate::answering;
@@ -139,6 +140,23 @@ impl<T: Table> Node<T> {
         let arrival = taken.view();
         self.arrive(stream, &arrival)
     }
+
+    /// Answers what was read of a datagram, whatever it is. It stands apart for the same reason.
+    #[inline(never)]
+    fn arrive_read(&mut self, stream: usize, reading: Reading<'_>) -> Outcome
+        requires { fits_node self.old.settings stream (reading_view stream reading) ≡ true }
+        ensures answer { (g : Given) (E : List Entry) → StandsFor g E self.old →
+            result ≡ (node_answer g E stream (reading_view stream reading.entry)).outcome }
+        ensures stands { (g : Given) (E : List Entry) (bytes : List ℕ) → Says (OfNode self.old.settings) stream bytes (reading_view stream reading.entry) →
+            StandsFor g E self.old → StandsFor g (answered node_answer g E (ToArrive stream bytes (reading_view stream reading.entry)) ∷ E) self.new }
+        ensures counts { self.new.counts ≡ after_answer result self.old.counts }
+        ensures popped { self.new.popped ≡ self.old.popped }
+        ensures settings { self.new.settings ≡ self.old.settings }
+        ensures memory { self.new.memory ≡ self.old.memory }
+    {
+        let arrival = arrival_from_pmu(stream, reading);
+        self.arrive(stream, &arrival)
+    }
 }
 
 /// A stream comes from each PMU, and has the column of its number.
@@ -188,10 +206,7 @@ impl<T: Table> Core for Node<T> {
                 quality,
                 payload,
             } => self.arrive_data(stream, instant, quality, payload),
-            reading => {
-                let arrival = arrival_from_pmu(stream, reading);
-                self.arrive(stream, &arrival)
-            }
+            reading => self.arrive_read(stream, reading),
         }
     }
 

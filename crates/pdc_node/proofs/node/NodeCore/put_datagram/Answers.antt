@@ -1,9 +1,8 @@
-use Rattle.std.proofs.Common.{◌≡◌, ℕ, List, subst, sym}
+use Rattle.std.proofs.Common.{◌≡◌, ℕ, List, subst}
 use Rattle.pdc_life.specs.Arrival.{Arrival, Data}
 use Rattle.pdc_life.specs.CoreKind.{OfNode, Says}
 use Rattle.pdc_life.specs.Views.{arrival_view as reading_view}
 use Rattle.pdc_life.specs.declared.reading.Reading.{Reading}
-use Rattle.pdc_arrival.specs.Views.{arrival_view}
 use Rattle.pdc_node.specs.Node.{NodeView}
 use Rattle.pdc_node.proofs.node.NodeCore.put_datagram.Goals as goal
 
@@ -22,19 +21,13 @@ returns-in-Data-clause-hears g c =
       stands = λ h E before. c.arrive_data.ensures.stands h E c.args.bytes.now said before;
     }
 
-pub returns-in_default : goal.returns-in_default
-returns-in_default g c =
-    let said : Says (OfNode c.args.self.now.settings) c.args.stream c.args.bytes.now (arrival_view c.arrival_from_pmu-arrival.result) =
-    subst (λ (a : Arrival). Says (OfNode c.args.self.now.settings) c.args.stream c.args.bytes.now a) (sym c.arrival_from_pmu-arrival.ensures) (read_by _ _ c.args.stream c.args.bytes.now (reading_view c.args.stream c.hear_from_pmu.result) c.self.view_is c.hear_from_pmu.ensures) in
+pub returns-in_default-clause-hears : goal.returns-in_default-clause-hears
+returns-in_default-clause-hears g c =
+    let said : Says (OfNode c.args.self.now.settings) c.args.stream c.args.bytes.now (reading_view c.args.stream c.hear_from_pmu.result) =
+    read_by _ _ c.args.stream c.args.bytes.now (reading_view c.args.stream c.hear_from_pmu.result) c.self.view_is c.hear_from_pmu.ensures in
     record {
-      hears = record {
-        arrival = arrival_view c.arrival_from_pmu-arrival.result;
-        says = said;
-        answer = c.arrive.ensures.answer;
-        stands = λ h E before. c.arrive.ensures.stands h E c.args.bytes.now said before;
-      };
-      counts = c.arrive.ensures.counts;
-      popped = c.arrive.ensures.popped;
-      settings = c.arrive.ensures.settings;
-      memory = c.arrive.ensures.memory;
+      arrival = reading_view c.args.stream c.hear_from_pmu.result;
+      says = said;
+      answer = c.arrive_read.ensures.answer;
+      stands = λ h E before. c.arrive_read.ensures.stands h E c.args.bytes.now said before;
     }
