@@ -1,5 +1,5 @@
 -- What is kept beside the columns stays what is kept of them.
-use Rattle.std.proofs.Common.{◌≡◌, ℕ, ◌+◌, Bool, true, false, cond, leb, not, List, [], ◌∷◌, ◌++◌, append-nil, drop, get_or, length, set, zero, suc, Option, refl, sym, ap, ◌∙◌, arith}
+use Rattle.std.proofs.Common.{◌≡◌, ℕ, ◌+◌, Bool, true, false, cond, leb, not, List, [], ◌∷◌, append-nil, get_or, length, set, zero, suc, Option, refl, sym, ap, ◌∙◌, arith}
 use Rattle.std.specs.Prelude.{max}
 use Rattle.std.specs.List.{list_any, refill}
 use Rattle.std.proofs.lemmas.List.{drop_all, take_all}

@@ -1,48 +1,45 @@
-//! The alignment of a concentrator: what it keeps, what is looked up in it, and its steps, each said of what it keeps. What they mean for a
-//! life stands in `life_calls.rt`.
-ghost use Rattle.std.specs.Prelude.{◌≡◌, ◌<◌, ◌-◌, ◌^◌, ℕ, List, IfOk, IfSome, false, length, map, option_map};
-ghost use Rattle.std.specs.List.{All, list_any};
+//! The alignment of a concentrator: what it keeps, what is looked up in it, and its steps, each said of what it keeps; those of a tick
+//! stand in `ticking.rt`. What they mean for a life stands in `life_calls.rt`.
+ghost use Rattle.std.specs.Prelude.{◌≡◌, ◌<◌, List, IfOk, IfSome, false, length, map, option_map};
+ghost use Rattle.std.specs.List.{All};
 ghost use Rattle.pdc_arrival.specs.pdc_cfg.Section.{fields_of_view};
 ghost use Rattle.pdc_arrival.specs.pdc_row.RowView.{RowView, row_view};
-ghost use Rattle.pdc_table.specs.Content.{HasSizesOf, IsContent, IsPut};
+ghost use Rattle.pdc_table.specs.Content.{HasSizesOf, IsContent};
 ghost use Rattle.pdc_table.specs.KeptRow.{popped_into};
 ghost use Rattle.pdc_table.specs.Layout.{layout_view};
 ghost use Rattle.pdc_table.specs.Steps as table;
-ghost use Rattle.pdc_table.specs.Taking.{body_cells_of};
 ghost use Rattle.pdc_arrival.specs.Views.{section_part};
 ghost use Rattle.pdc_arrival.specs.declared.arrival.ColumnSection.{ColumnSection as ColumnSectionData};
-ghost use Rattle.pdc_align.specs.Follows.{told_by};
 ghost use Rattle.pdc_arrival.specs.pdc_life.Given.{Given};
 ghost use Rattle.pdc_arrival.specs.pdc_life.Life.{Entry, changes, held_section, section_in_force};
-ghost use Rattle.pdc_align.specs.State.{rule_of, shape_in};
-ghost use Rattle.pdc_align.specs.Align.{KeepsSizes, StandsFor, Unchanged, new_change};
+ghost use Rattle.pdc_align.specs.State.{shape_in};
+ghost use Rattle.pdc_align.specs.Align.{KeepsSizes, StandsFor, Unchanged};
 ghost use Rattle.pdc_align.specs.Popped.{popped_after};
 ghost use Rattle.pdc_align.specs.Slot.{count_in};
-ghost use Rattle.pdc_align.specs.Calls.{after_data, after_adopting, disagreements_at, after_closing, after_tick_of, cleared_from, column_in, told_at, after_hold, after_pop_of, first_content, first_of_plan, is_ready_in, put_outcome, row_layout_in, waiting_in};
+ghost use Rattle.pdc_align.specs.Calls.{column_in, after_hold, after_pop_of, first_content, first_of_plan, row_layout_in, waiting_in};
 
-use crate::adopting::adopt_in;
-use crate::{Column, Plan, Ticked, columns};
-use pdc_arrival::{Body, ColumnSection, MAX_PMUS, Outcome, Refusal, SectionView, Shape, WaitKind};
-use pdc_table::{CopyFrom, DueRow, PutOutcome, RowLayout, Table, WaitRule, copy_each};
+use crate::{Column, Plan, columns};
+use pdc_arrival::{ColumnSection, MAX_PMUS, SectionView, Shape, WaitKind};
+use pdc_table::{CopyFrom, DueRow, RowLayout, Table, copy_each};
 use std::alloc::{AllocError, Global};
 use std::marker::Model;
 
 /// The alignment of a concentrator over a table (this profile).
 #[derive(Drop)]
 pub struct Alignment<T: Table> {
-    wait: u64,
-    wait_kind: WaitKind,
-    ahead: u64,
-    current: u64,
-    lanes: usize,
-    columns: Vec<Column>,
+    pub(crate) wait: u64,
+    pub(crate) wait_kind: WaitKind,
+    pub(crate) ahead: u64,
+    pub(crate) current: u64,
+    pub(crate) lanes: usize,
+    pub(crate) columns: Vec<Column>,
     /// The layout under which rows close: the stamp, and the shapes in force.
-    layout: RowLayout,
+    pub(crate) layout: RowLayout,
     /// The counts that were cleared last.
-    cleared: [u16; MAX_PMUS],
+    pub(crate) cleared: [u16; MAX_PMUS],
     /// Whether a tick with these counts leaves each column as it is.
-    is_quiet: bool,
-    table: T,
+    pub(crate) is_quiet: bool,
+    pub(crate) table: T,
     /// The greatest instant popped, at first the floor.
     popped: u64,
 }
@@ -95,30 +92,6 @@ fn new_table<T: Table>(alloc: Global, plan: Plan, floor: u64) -> Result<T, Alloc
         table.require(1, true);
     }
     Ok(table)
-}
-
-/// What a put into the table is answered, as a concentrator tells it.
-fn outcome_of(outcome: PutOutcome) -> Outcome
-    ensures { result ≡ told_by outcome }
-{
-    match outcome {
-        PutOutcome::Taken => Outcome::Taken,
-        PutOutcome::Late => Outcome::Refused(Refusal::Late),
-        PutOutcome::OutOfWindow => Outcome::Refused(Refusal::OutOfWindow),
-        PutOutcome::Duplicate => Outcome::Refused(Refusal::Duplicate),
-        PutOutcome::Conflict => Outcome::Refused(Refusal::Conflict),
-    }
-}
-
-/// The rule that a tick hands to the table: the wait in ticks, or the instant that lies the wait below now.
-fn rule_of(kind: WaitKind, wait: u64, now: u64) -> WaitRule
-    ensures { result ≡ rule_of kind wait now }
-{
-    match kind {
-        WaitKind::Relative => WaitRule::Ticks(wait),
-        WaitKind::Absolute if wait <= now => WaitRule::Until(Some(now - wait)),
-        WaitKind::Absolute => WaitRule::Until(None),
-    }
 }
 
 impl<T: Table> Alignment<T> {
@@ -225,28 +198,6 @@ impl<T: Table> Alignment<T> {
         self.popped = other.popped;
     }
 
-    /// Offers data to the table, unless it is too far above now.
-    pub(crate) fn offer(
-        &mut self,
-        stream: usize,
-        instant: u64,
-        cells: &[(usize, Body<'_>)],
-        quality: u8,
-    ) -> Outcome
-        requires { IsPut self.old.state.content stream (body_cells_of cells.now quality) }
-        ensures answer { result ≡ put_outcome self.old.state stream instant (body_cells_of cells.now quality) }
-        ensures state { self.new.state ≡ after_data self.old.state stream instant (body_cells_of cells.now quality) }
-        ensures unchanged { Unchanged self.old self.new }
-    {
-        if instant <= self.table.last() {
-            return Outcome::Refused(Refusal::Late);
-        }
-        if instant.saturating_sub(self.current) > self.ahead {
-            return Outcome::Refused(Refusal::Ahead);
-        }
-        outcome_of(self.table.put_bodies(stream, instant, cells, quality))
-    }
-
     /// Holds each section in its column.
     pub(crate) fn keep(&mut self, sections: &[ColumnSection<'_>])
         requires { All (λ (s : ColumnSectionData). s.column < length self.old.state.columns) sections.now }
@@ -255,107 +206,6 @@ impl<T: Table> Alignment<T> {
     {
         columns::hold(&mut self.columns, sections);
         self.is_quiet = false;
-    }
-
-    /// A tick: rows close under the layout before it, and then the columns that are ready are adopted.
-    pub(crate) fn step(&mut self, now: u64, counts: &[u16; MAX_PMUS]) -> Ticked
-        ensures answer { result ≡ told_at self.old.state now counts.now }
-        ensures state { self.new.state ≡ after_tick_of self.old.state now counts.now }
-        // The wait is a number of 64 bits: here `tick` learns it.
-        ensures wait { self.old.state.wait < 2 ^ 64 }
-        ensures sizes { KeepsSizes self.old.state self.new.state }
-        ensures memory { self.new.memory ≡ self.old.memory }
-        ensures disagreements { self.new.disagreements ≡ disagreements_at self.old.disagreements self.old.state now }
-        ensures popped { self.new.popped ≡ self.old.popped }
-    {
-        let (closed, any_ready) = self.close(now, counts);
-        if !any_ready {
-            return Ticked {
-                closed,
-                change: None,
-                used_up: false,
-            };
-        }
-        let ready = columns::ready(&self.columns);
-        if self.layout.change == u32::MAX {
-            return Ticked {
-                closed,
-                change: None,
-                used_up: !ready.is_empty(),
-            };
-        }
-        Ticked {
-            closed,
-            change: self.adopt(ready.as_slice()),
-            used_up: false,
-        }
-    }
-
-    /// Closes the rows that are due, and clears the counts. It answers how many rows, and whether some column is ready.
-    fn close(&mut self, now: u64, counts: &[u16; MAX_PMUS]) -> (u32, bool)
-        ensures answer { result.0 ≡ table.tick_answer self.old.state.content (rule_of self.old.state.wait_kind self.old.state.wait now) }
-        ensures ready { result.1 ≡ list_any is_ready_in self.new.state.columns }
-        // And here `step` does.
-        ensures wait { self.old.state.wait < 2 ^ 64 }
-        ensures state { self.new.state ≡ after_closing self.old.state now counts.now }
-        ensures sizes { KeepsSizes self.old.state self.new.state }
-        ensures memory { self.new.memory ≡ self.old.memory }
-        ensures disagreements { self.new.disagreements ≡ disagreements_at self.old.disagreements self.old.state now }
-        ensures popped { self.new.popped ≡ self.old.popped }
-    {
-        let rule = rule_of(self.wait_kind, self.wait, now);
-        let closed = self.close_rows(rule);
-        let any_ready = self.clear(counts);
-        self.current = now;
-        (closed, any_ready)
-    }
-
-    /// Closes the rows that are due by the rule, under the layout in force. It answers how many.
-    fn close_rows(&mut self, rule: WaitRule) -> u32
-        ensures answer { result ≡ table.tick_answer self.old.state.content rule }
-        ensures state { self.new.state ≡ record self.old.state { content = table.after_tick self.old.state.content rule (row_layout_in self.old.state) } }
-        ensures sizes { KeepsSizes self.old.state self.new.state }
-        ensures memory { self.new.memory ≡ self.old.memory }
-        ensures disagreements { self.new.disagreements ≡ table.disagreements_after self.old.disagreements self.old.state.content rule (row_layout_in self.old.state) }
-        ensures popped { self.new.popped ≡ self.old.popped }
-    {
-        self.table.tick(rule, &self.layout)
-    }
-
-    /// Clears the counts. It answers whether some column is ready, and looks at none where these counts were cleared before, and nothing
-    /// was held since.
-    fn clear(&mut self, counts: &[u16; MAX_PMUS]) -> bool
-        ensures ready { result ≡ list_any is_ready_in self.new.state.columns }
-        ensures state { self.new.state ≡ record self.old.state { columns = cleared_from 0 counts.now self.old.state.columns } }
-        ensures unchanged { Unchanged self.old self.new }
-    {
-        if self.is_quiet && self.cleared == *counts {
-            return false;
-        }
-        let any_ready = columns::clear(&mut self.columns, counts);
-        self.cleared = *counts;
-        self.is_quiet = !any_ready;
-        any_ready
-    }
-
-    /// Puts into force what is ready, and adopts these columns in the table. It answers the change number, where there are any.
-    #[inline(never)]
-    fn adopt(&mut self, adopted: &[usize]) -> Option<u32>
-        requires change { self.old.state.change < 2 ^ 32 - 1 }
-        requires exist { All (λ (column : ℕ). column < length self.old.state.columns) adopted.now }
-        ensures answer { result ≡ new_change self.old.state.change adopted.now }
-        ensures state { self.new.state ≡ after_adopting self.old.state adopted.now }
-        ensures unchanged { Unchanged self.old self.new }
-    {
-        columns::adopt(&mut self.columns);
-        adopt_in(&mut self.table, self.lanes, adopted);
-        self.layout.shapes = columns::shapes(&self.columns);
-        self.is_quiet = false;
-        if adopted.is_empty() {
-            return None;
-        }
-        self.layout.change += 1;
-        Some(self.layout.change)
     }
 
     /// Takes out the first row that waits.

@@ -18,10 +18,12 @@ mod in_force;
 mod laws;
 mod layout;
 mod life_calls;
+mod offering;
 mod plan;
 mod slot;
 mod state_laws;
 mod ticked;
+mod ticking;
 
 pub use alignment::Alignment;
 pub use closing_laws::{cells_have_shapes, pop_is_pop, rows_are_those, tick_is_tick};

@@ -1,11 +1,13 @@
 //! The calls of an alignment, said of every life that it stands for: each is a step, and the laws by which the step follows the life.
-ghost use Rattle.std.specs.Prelude.{◌≡◌, ◌<◌, [], ◌∷◌, ℕ, List, IfOk, IfSome, Option, false, length, map, option_map};
+ghost use Rattle.std.specs.Prelude.{◌≡◌, ◌<◌, ◌≤◌, [], ◌∷◌, ℕ, List, IfOk, IfSome, Option, false, length, map, option_map};
 ghost use Rattle.std.specs.List.{All};
 ghost use Rattle.pdc_arrival.specs.pdc_output.declared.output.Output.{Output};
+ghost use Rattle.pdc_arrival.specs.pdc_block.Block.{words_in};
 ghost use Rattle.pdc_arrival.specs.pdc_row.RowView.{RowView, row_view};
 ghost use Rattle.pdc_table.specs.Content.{IsPut};
 ghost use Rattle.pdc_table.specs.KeptRow.{popped_into};
 ghost use Rattle.pdc_table.specs.Layout.{layout_view};
+ghost use Rattle.pdc_table.specs.Parts.{cut_cells, parts_len};
 ghost use Rattle.pdc_table.specs.Taking.{body_cells_of};
 ghost use Rattle.pdc_arrival.specs.Views.{section_part};
 ghost use Rattle.pdc_arrival.specs.declared.arrival.ColumnSection.{ColumnSection as ColumnSectionData};
@@ -24,7 +26,7 @@ use crate::closing_laws::{rows_are_those, tick_is_tick};
 use crate::state_laws::{answers_agree, others_leave_it, take_is_take};
 use crate::{Alignment, Plan, Ticked};
 use pdc_arrival::{Body, ColumnSection, MAX_PMUS, Outcome};
-use pdc_table::{DueRow, RowLayout, Table};
+use pdc_table::{DueRow, Part, RowLayout, Table};
 use std::alloc::{AllocError, Global};
 
 impl<T: Table> Alignment<T> {
@@ -71,6 +73,31 @@ impl<T: Table> Alignment<T> {
         take_is_take();
         others_leave_it();
         self.offer(stream, instant, cells, quality)
+    }
+
+    /// The same, with blocks that lie one after the other in these bytes of the payload: each part tells the column and the shape of one.
+    pub fn put_parts<P: Part>(
+        &mut self,
+        stream: usize,
+        instant: u64,
+        parts: &[P],
+        bytes: &[u8],
+        quality: u8,
+    ) -> Outcome
+        requires put { IsPut self.old.state.content stream (cut_cells P.column_of P.shape_of parts.now quality (words_in bytes.now)) }
+        requires size { length bytes.now ≡ parts_len P.shape_of parts.now }
+        requires few { length parts.now ≤ MAX_PMUS }
+        ensures answer { (g : Given) (E : List Entry) → StandsFor g E self.old.state →
+            result ≡ outcome_in_time g E stream instant (cut_cells P.column_of P.shape_of parts.now quality (words_in bytes.now)) }
+        ensures stands { (g : Given) (E : List Entry) (datagram payload : List ℕ) → StandsFor g E self.old.state →
+            IsRun g (Arrive stream datagram (Data instant quality payload) (with_cells result (cut_cells P.column_of P.shape_of parts.now quality (words_in bytes.now))) ∷ E) →
+            StandsFor g (Arrive stream datagram (Data instant quality payload) (with_cells result (cut_cells P.column_of P.shape_of parts.now quality (words_in bytes.now))) ∷ E) self.new.state }
+        ensures unchanged { Unchanged self.old self.new }
+    {
+        answers_agree();
+        take_is_take();
+        others_leave_it();
+        self.offer_parts(stream, instant, parts, bytes, quality)
     }
 
     /// Holds the sections of a layout that is a candidate, each in its column: of the greatest count, the first of that count.

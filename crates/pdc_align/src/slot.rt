@@ -66,13 +66,16 @@ impl Slot {
         self.shape
     }
 
-    /// Puts a copy of the section here.
+    /// Puts a copy of the section here: in place, where one stands here.
     pub(crate) fn set(&mut self, section: &SectionView<'_>)
         ensures { self.new ≡ Some (fields_of_view section.now) }
     {
         self.count = Some(section.count);
         self.shape = Some(section.shape);
-        *self.section = Some(section.to_section());
+        match &mut *self.section {
+            Some(kept) => kept.set(section),
+            None => *self.section = Some(section.to_section()),
+        }
     }
 }
 

@@ -2,7 +2,6 @@ pub mod Beside
 pub mod Listed
 pub mod OwnStamp
 mod Counting
-mod Words
 mod Worked
 pub use Rattle.pdc_life.proofs as pdc_life
 pub use Rattle.pdc_life.proofs.pdc_output

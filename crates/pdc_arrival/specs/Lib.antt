@@ -3,7 +3,6 @@ pub mod Placing
 pub mod Views
 pub mod Counts
 pub mod Stamps
-pub mod Words
 pub use Rattle.pdc_life.specs as pdc_life
 pub use Rattle.pdc_life.specs.pdc_output
 pub use Rattle.pdc_life.specs.pdc_row

@@ -13,7 +13,6 @@ mod arrival;
 mod counts;
 mod from_node;
 mod from_pmu;
-mod laws;
 mod own_block;
 mod own_stamp;
 mod placing;
@@ -24,7 +23,6 @@ pub use arrival::{Arrival, ColumnSection, Stamp};
 pub use counts::{CAUSES, Counts, causes_are_told_apart};
 pub use from_node::{Heard, NODES, arrival_from_node, hear_from_node, read_from_node};
 pub use from_pmu::{arrival_from_pmu, hear_from_pmu, read_from_pmu};
-pub use laws::words_are_cut;
 pub use own_block::{bears, body};
 pub use pdc_life::{
     Body, Buffer, DueRow, MAX_PMUS, MergerSettings, OWN_BLOCK_LEN, Outcome, Output, Refusal,

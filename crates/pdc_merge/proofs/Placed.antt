@@ -1,6 +1,7 @@
 -- The cells of held sections stand in columns of their own.
-use Rattle.std.proofs.Common.{◌≡◌, ◌≢◌, ℕ, zero, suc, ◌+◌, ◌<◌, Bool, true, false, cond, List, [], ◌∷◌, ◌++◌, drop, length, map, sym, subst, arith, take}
+use Rattle.std.proofs.Common.{◌≡◌, ◌≢◌, ℕ, zero, suc, ◌+◌, ◌<◌, Bool, true, false, cond, List, [], ◌∷◌, ◌++◌, drop, length, map, refl, sym, subst, arith, take}
 use Rattle.std.specs.Prelude.{◌==◌, if◌then◌else◌}
+use Rattle.std.proofs.lemmas.Bool.{and_parts}
 use Rattle.std.specs.List.{All, AllByRecursion}
 use Rattle.pdc_cfg.specs.Shape.{word_count_of}
 use Rattle.pdc_row.specs.CellView.{CellView}
@@ -8,7 +9,8 @@ use Rattle.pdc_row.specs.Rising.{Rises}
 use Rattle.pdc_table.specs.Content.{HaveOwnColumns, IsPut, NoneIsOf}
 use Rattle.pdc_align.specs.Align.{State}
 use Rattle.pdc_align.specs.Calls.{column_in}
-use Rattle.pdc_merge.specs.Cells.{cells_in, has_count}
+use Rattle.pdc_table.specs.Parts.{cut_cells}
+use Rattle.pdc_merge.specs.Cells.{are_in_force, cells_in, has_count}
 use Rattle.pdc_merge.specs.Held.{AreInPlace}
 use Rattle.pdc_merge.specs.declared.held_layout.HeldSection.{HeldSection}
 
@@ -74,3 +76,17 @@ is_put a s quality sections words each lanes two place = record {
   own_column = λ one. absurd (omega (arith, lanes, one));
   once = own_columns a quality 0 sections words place.rise;
 }
+
+given_more : (b : Bool) (cell : ℕ × CellView) (rest more : Cells) → b ≡ true → rest ≡ more → cond b (cell ∷ []) [] ++ rest ≡ cell ∷ more
+given_more b cell rest more e k = rw (e, k) refl
+
+-- where the count of each section is in force, each gives its cell
+pub all_given : (a : State) (quality : ℕ) (sections : List HeldSection) (words : List ℕ) → are_in_force a sections ≡ true
+    → cells_in a quality sections words ≡ cut_cells (λ (s : HeldSection). s.column) (λ (s : HeldSection). s.shape) sections quality words
+all_given a quality [] words h = refl
+all_given a quality (s ∷ sections) words h =
+    given_more (has_count (column_in a s.column).in_force s.count) (cell_with quality s (take (word_count_of s.shape) words))
+    (cells_in a quality sections (drop (word_count_of s.shape) words))
+    (cut_cells (λ (t : HeldSection). t.column) (λ (t : HeldSection). t.shape) sections quality (drop (word_count_of s.shape) words))
+    (and_parts (has_count (column_in a s.column).in_force s.count) (are_in_force a sections) h).0
+    (all_given a quality sections (drop (word_count_of s.shape) words) (and_parts (has_count (column_in a s.column).in_force s.count) (are_in_force a sections) h).1)

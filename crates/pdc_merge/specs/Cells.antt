@@ -1,6 +1,6 @@
 -- What data of a node gives under a held layout, by what is kept (this profile).
 use Rattle.std.specs.Prelude.{ℕ, ◌+◌, ◌*◌, ◌==◌, Bool, false, ◌||◌, not, if◌then◌else◌, List, [], ◌∷◌, ◌++◌, drop, length, nat_eq, nat_lt, sum_by, take, Option, None, Some}
-use Rattle.std.specs.List.{list_any}
+use Rattle.std.specs.List.{list_all, list_any}
 use Rattle.std.specs.Cmp.Lexicographic.{pointwise}
 use Rattle.pdc_cfg.specs.Section.{SectionFields}
 use Rattle.pdc_cfg.specs.Shape.{word_count_of}
@@ -24,6 +24,10 @@ has_count (Some t) count = count == t.count
 abbrev pub cell_in : Option SectionFields → (quality : ℕ) → HeldSection → (words : List ℕ) → List (ℕ × CellView)
 cell_in in_force quality s words =
     if has_count in_force s.count then (s.column, record { block = record { shape = s.shape; words = words }; quality = quality }) ∷ [] else []
+
+-- the count of each section is in force
+abbrev pub are_in_force : State → List HeldSection → Bool
+are_in_force a sections = list_all (λ (s : HeldSection). has_count (column_in a s.column).in_force s.count) sections
 
 -- the cells of all sections, cut one after the other
 abbrev pub cells_in : State → (quality : ℕ) → List HeldSection → (words : List ℕ) → List (ℕ × CellView)

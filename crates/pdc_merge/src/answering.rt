@@ -16,16 +16,16 @@ ghost use Rattle.pdc_merge.specs.Cells.{blocks_len, cells_in, conflicts_in, data
 ghost use Rattle.pdc_merge.specs.Held.{AreAllInPlace, AreInPlace, LayoutView, layout_at, layouts_of};
 ghost use Rattle.pdc_merge.specs.Merger.{IsPlaced, IsReady};
 
-use crate::cells::{new_room, write_cells};
+use crate::cells::{are_in_force, write_cells};
 use crate::held_layout::HeldLayout;
 use crate::layouts::HeldLayouts;
 use pdc_align::{Alignment, columns_stand, others_are_left};
 use pdc_arrival::{
     Arrival, ColumnSection, OWN_BLOCK_LEN, Stamp, bears, differs, is_candidate, layout_answer,
-    words_are_cut,
 };
+use pdc_block::words_are_cut;
 use pdc_life::{Outcome, Refusal};
-use pdc_table::Table;
+use pdc_table::{Table, new_room};
 
 /// Why data is refused under a layout, if it is: it is too short for an own block, it bears another stamp, or it has another length.
 fn data_refusal(layout: &HeldLayout, payload: &[u8]) -> Option<Refusal>
@@ -43,6 +43,38 @@ fn data_refusal(layout: &HeldLayout, payload: &[u8]) -> Option<Refusal>
         return Some(Refusal::WrongLength);
     }
     None
+}
+
+/// Offers the cells of data that a layout reads, where it may be that the count of some section is not in force. A call of its own, since it is
+/// seldom, and makes room for the cells.
+#[inline(never)]
+fn put_some<T: Table>(
+    alignment: &mut Alignment<T>,
+    layout: &HeldLayout,
+    stream: usize,
+    instant: u64,
+    quality: u8,
+    payload: &[u8],
+) -> Outcome
+    requires each { length alignment.old.state.columns ≡ alignment.old.state.content.columns }
+    requires lanes { alignment.old.state.content.lanes ≡ 2 }
+    requires stream { stream < 2 }
+    requires in_place { AreInPlace (length alignment.old.state.columns) layout.now.sections }
+    requires size { length payload.now ≡ OWN_BLOCK_LEN + blocks_len layout.now.sections }
+    ensures answer { (g : Given) (E : List Entry) → StandsFor g E alignment.old.state →
+        result ≡ outcome_in_time g E stream instant (cells_in alignment.old.state quality layout.now.sections (drop 7 (words_in payload.now))) }
+    ensures stands { (g : Given) (E : List Entry) (bytes : List ℕ) → StandsFor g E alignment.old.state →
+        IsRun g (Arrive stream bytes (Data instant quality payload.now)
+        (with_cells result (cells_in alignment.old.state quality layout.now.sections (drop 7 (words_in payload.now)))) ∷ E) →
+        StandsFor g (Arrive stream bytes (Data instant quality payload.now)
+        (with_cells result (cells_in alignment.old.state quality layout.now.sections (drop 7 (words_in payload.now)))) ∷ E) alignment.new.state }
+    ensures unchanged { Unchanged alignment.old alignment.new }
+{
+    words_are_cut();
+    let blocks = &payload[OWN_BLOCK_LEN..];
+    let mut cells = new_room();
+    let count = write_cells(alignment, layout.sections(), blocks, &mut cells, 0);
+    alignment.put(stream, instant, &cells[..count], quality)
 }
 
 /// Offers the cells of data that a layout reads.
@@ -70,9 +102,11 @@ fn put_data<T: Table>(
 {
     words_are_cut();
     let blocks = &payload[OWN_BLOCK_LEN..];
-    let mut cells = new_room();
-    let count = write_cells(alignment, layout.sections(), blocks, &mut cells, 0);
-    alignment.put(stream, instant, &cells[..count], quality)
+    let sections = layout.sections();
+    if are_in_force(alignment, sections) {
+        return alignment.put_parts(stream, instant, sections, blocks, quality);
+    }
+    put_some(alignment, layout, stream, instant, quality, payload)
 }
 
 /// Answers data of a node under its layout, and takes it where it comes in time.

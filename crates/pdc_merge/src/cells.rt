@@ -7,28 +7,13 @@ ghost use Rattle.pdc_cfg.specs.Shape.{word_count_of};
 ghost use Rattle.pdc_table.specs.Taking.{body_cells_of};
 ghost use Rattle.pdc_align.specs.Calls.{column_in};
 ghost use Rattle.pdc_align.specs.Slot.{count_in};
-ghost use Rattle.pdc_merge.specs.Cells.{blocks_len, cell_in, cells_in, has_count};
+ghost use Rattle.pdc_merge.specs.Cells.{are_in_force, blocks_len, cell_in, cells_in, has_count};
 ghost use Rattle.pdc_merge.specs.declared.held_layout.HeldSection.{HeldSection as HeldSectionData};
 
 use crate::held_layout::HeldSection;
 use pdc_align::Alignment;
-use pdc_arrival::words_are_cut;
-use pdc_block::Body;
-use pdc_cfg::Shape;
-use pdc_life::MAX_PMUS;
+use pdc_block::{Body, words_are_cut};
 use pdc_table::Table;
-
-/// Room for the cells of a frame, each a block, lent from the payload, with its column.
-pub type CellRoom<'a> = [(usize, Body<'a>); MAX_PMUS];
-
-/// Room in which no cell was written yet.
-pub fn new_room<'a>() -> CellRoom<'a> {
-    let blank = Body {
-        shape: Shape::default(),
-        bytes: &[0; 6],
-    };
-    [(0, blank); MAX_PMUS]
-}
 
 /// Whether the section in force has this count.
 fn has_count(in_force: Option<u16>, count: u16) -> bool
@@ -37,6 +22,20 @@ fn has_count(in_force: Option<u16>, count: u16) -> bool
     match in_force {
         Some(in_force) => count == in_force,
         None => false,
+    }
+}
+
+/// Whether the count of each section is in force.
+pub fn are_in_force<T: Table>(alignment: &Alignment<T>, sections: &[HeldSection]) -> bool
+    requires { AllByRecursion (λ (s : HeldSectionData). s.column < length alignment.now.state.columns) sections.now }
+    ensures { result ≡ are_in_force alignment.now.state sections.now }
+{
+    match sections.split_first() {
+        Some((first, later)) => {
+            has_count(alignment.count_in_force(first.column), first.count)
+                && are_in_force(alignment, later)
+        }
+        None => true,
     }
 }
 

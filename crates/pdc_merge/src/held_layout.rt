@@ -10,6 +10,7 @@ use arrayvec::ArrayVec;
 use pdc_arrival::{ColumnSection, Stamp};
 use pdc_cfg::Shape;
 use pdc_life::MAX_PMUS;
+use pdc_table::Part;
 use std::marker::Model;
 
 /// What is kept of a section: where the words of its block go.
@@ -21,6 +22,22 @@ pub struct HeldSection {
     pub shape: Shape,
     /// Its count.
     pub count: u16,
+}
+
+impl Part for HeldSection {
+    ghost column_of = { λ section. section.column };
+
+    ghost shape_of = { λ section. section.shape };
+
+    #[inline]
+    fn column(&self) -> usize {
+        self.column
+    }
+
+    #[inline]
+    fn shape(&self) -> Shape {
+        self.shape
+    }
 }
 
 /// What is kept of a layout: its stamp, and its sections in their order. The bytes of the sections are held beside their columns.

@@ -14,7 +14,7 @@ use Rattle.pdc_life.specs.Given.{Given}
 use Rattle.pdc_life.specs.Life.{Answer, Entry, section_in_force}
 use Rattle.pdc_life.specs.Merger.{HeldLayout, is_in_force, merged_cells, merged_data_answer, own_words, payload_len}
 use Rattle.pdc_life.specs.Node.{cell_under}
-use Rattle.pdc_arrival.specs.Words.{WordsAreCut}
+use Rattle.pdc_block.specs.Laws.{WordsAreCut}
 
 -- the cell of the first section, and those of the others
 pub merged_step : WordsAreCut → (g : Given) (E : List Entry) (quality : ℕ) (part : ℕ × SectionFields) (parts : List (ℕ × SectionFields)) (n : ℕ) (front back blocks : List ℕ) → n ≡ word_count_of part.1.shape

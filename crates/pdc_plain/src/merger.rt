@@ -16,9 +16,8 @@ ghost use Rattle.pdc_plain.specs.Views.{layout_view};
 use crate::held_layout::HeldLayout;
 use crate::layouts::{has_count_conflict, held_layout};
 use crate::time_tag::TimeTag;
-use pdc_arrival::{
-    Arrival, ColumnSection, OWN_BLOCK_LEN, Stamp, bears, body, layout_answer, words_are_cut,
-};
+use pdc_arrival::{Arrival, ColumnSection, OWN_BLOCK_LEN, Stamp, bears, body, layout_answer};
+use pdc_block::words_are_cut;
 use pdc_cfg::SectionView;
 use pdc_life::{Outcome, Refusal};
 use pdc_plain_steps::{

@@ -1,7 +1,7 @@
 -- A new table, and lists in which all elements are the same.
 use Rattle.std.proofs.Common.{◌≡◌, ℕ, ◌<◌, ◌≤◌, Bool, true, false, cond, eqb, List, [], ◌∷◌, length, get_or, replicate, map, None, take, ap, refl, ◌∙◌, arith, zero, suc}
 use Rattle.std.proofs.lemmas.List.{take-replicate}
-use Rattle.std.specs.List.{All}
+use Rattle.std.specs.List.{All, AllByRecursion}
 use Rattle.pdc_row.specs.CellView.{BlockView, CellView}
 use Rattle.pdc_table.specs.Content.{stream_count}
 use Rattle.pdc_table.specs.Taking.{cells_in, with_cell}
@@ -28,6 +28,11 @@ pub columns_exist : {B : Type 0} → (view : B → BlockView) (columns quality :
 columns_exist view columns quality [] h k d l = absurd (omega arith)
 columns_exist view columns quality (b ∷ bs) h zero d l = h zero (d.0, record { block = view d.1; quality = quality }) (omega arith)
 columns_exist view columns quality (b ∷ bs) h (suc k) d l = columns_exist view columns quality bs (λ j e m. h (suc j) e (omega arith)) k d (omega arith)
+
+-- and all of them are below, one after the other
+pub each_exists : (columns : ℕ) (cells : List (ℕ × CellView)) → All (λ (cell : ℕ × CellView). cell.0 < columns) cells → AllByRecursion (λ (cell : ℕ × CellView). cell.0 < columns) cells
+each_exists columns [] h = tt
+each_exists columns (cell ∷ cells) h = (h zero cell (omega arith), each_exists columns cells (λ j e m. h (suc j) e (omega arith)))
 
 -- a column whose lanes were both emptied is empty
 pub emptied : (columns : List ColumnView) → map (with_cell 1 None) (map (with_cell 0 None) columns) ≡ replicate (length columns) empty_column

@@ -9,9 +9,11 @@ pub mod HeldNear
 pub mod Keeps
 pub mod OpenRowParts
 pub mod Highest
+pub mod CutParts
 pub mod Remainders
 pub mod RingAges
 pub mod RingClosed
+pub mod RingCopied
 pub mod RingKept
 pub mod RingPut
 pub mod RingRows

@@ -8,7 +8,7 @@ use Rattle.std.proofs.lemmas.List.{length-map, length-set}
 use Rattle.pdc_row.specs.CellView.{CellView}
 use Rattle.pdc_table.specs.Closing.{aged}
 use Rattle.pdc_table.specs.Layout.{LayoutView}
-use Rattle.pdc_table.specs.RingRows.{at_age, base_row, changed, closed_rows, met_row, older, row_in, rows_in, with_ages}
+use Rattle.pdc_table.specs.RingRows.{StandAbove, at_age, base_row, changed, closed_rows, met_row, older, row_in, rows_in, with_ages}
 use Rattle.pdc_table.specs.Steps.{answer_at, disagreements_in, is_taken}
 use Rattle.pdc_table.specs.Taking.{with_frame}
 use Rattle.pdc_table.specs.Content.{HasPlaces}
@@ -137,12 +137,18 @@ aged_each Q q places ages e a n d l =
     let len : length (with_ages places ages) ≡ length places = aged_length places ages (length places) refl e in
     subst Q (sym (aged_at places ages n d (omega arith) e)) (q (get_or ages n 0) (get_or places n d) (a n d (omega arith)))
 
+aged_stand : (last window : ℕ) (places : List OpenRowView) (ages : List ℕ) → length ages ≡ length places → StandAbove last window places → StandAbove last window (with_ages places ages)
+aged_stand last window places ages e a n l =
+    let len : length (with_ages places ages) ≡ length places = aged_length places ages (length places) refl e in
+    subst (λ (row : OpenRowView). last < row.instant → row.instant % window ≡ n) (sym (aged_at places ages n (blank_row 0 0 0) (omega arith) e)) (a n (omega arith))
+
 pub aged_ring : (window last s k : ℕ) (places : List OpenRowView) (ages : List ℕ) (is : List ℕ) → 0 < window → length ages ≡ window → IsRing window last s k places is → IsRing window last s k (with_ages places ages) is
 aged_ring window last s k places ages is h e r = record {
   size = aged_length places ages window r.size e;
   each = aged_each (HasPlaces s k) (λ a row p. record { taken = p.taken; columns = p.columns }) places ages (e ∙ sym r.size) r.each;
   placed = aged_placed places ages window is h r.size e r.placed;
   known = aged_each (IsKnown last is) (λ a row p. p) places ages (e ∙ sym r.size) r.known;
+  stand = aged_stand last window places ages (e ∙ sym r.size) r.stand;
 }
 
 pub kept_by : (f : OpenRowView → OpenRowView) → ((row : OpenRowView) → (f row).instant ≡ row.instant) → (window last s k : ℕ) → ((row : OpenRowView) → HasPlaces s k row → HasPlaces s k (f row)) → (places now : List OpenRowView) (is seen : List ℕ) → 0 < window → seen ≡ is → now ≡ changed f window seen places → IsRing window last s k places is → IsRing window last s k now is

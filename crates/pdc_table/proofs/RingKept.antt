@@ -11,13 +11,13 @@ use Rattle.pdc_row.specs.Rising.{Rises, AreBelow, place}
 use Rattle.pdc_row.specs.RisingLaws.{RisingLaws, Below, At, Above}
 use Rattle.pdc_table.specs.Content.{Content, HasPlaces, IsContent, streams_of}
 use Rattle.pdc_table.specs.Placing.{row_at, with_row}
-use Rattle.pdc_table.specs.RingRows.{base_row, changed, met_row, row_in, rows_in}
+use Rattle.pdc_table.specs.RingRows.{StandAbove, base_row, changed, met_row, row_in, rows_in}
 use Rattle.pdc_table.specs.Steps.{answer_at, is_taken}
 use Rattle.pdc_table.specs.Taking.{with_frame}
 use Rattle.pdc_table.specs.Views.{OpenRowView, blank_row}
 use Rattle.pdc_table.specs.declared.outcome.PutOutcome.{PutOutcome}
 use Rattle.pdc_table.proofs.Keeps.{places-blank, places-frame}
-use Rattle.pdc_table.proofs.RingRows.{AreApartBut, ArePlaced, IsApart, apart_but, changed-each, changed-length, changed-placed, met_is, placed-drop, put_row, row_else, row_here, set-each}
+use Rattle.pdc_table.proofs.RingRows.{AreApartBut, ArePlaced, IsApart, apart_but, changed-each, changed-length, changed-placed, changed-stand, met_is, placed-drop, put_row, row_else, row_here, set-each, set-stand}
 
 -- a row of an instant above the last is that of an open one
 abbrev pub IsKnown : ℕ → List ℕ → OpenRowView → Type 0
@@ -28,6 +28,7 @@ pub record IsRing (window last streams width : ℕ) (places : List OpenRowView) 
   pub each : All (HasPlaces streams width) places
   pub placed : ArePlaced places window is
   pub known : All (IsKnown last is) places
+  pub stand : StandAbove last window places
 
 pub ring_changed : (f : OpenRowView → OpenRowView) → ((row : OpenRowView) → (f row).instant ≡ row.instant) → (window last s k : ℕ) → ((row : OpenRowView) → HasPlaces s k row → HasPlaces s k (f row)) → (places : List OpenRowView) (is : List ℕ) → 0 < window → IsRing window last s k places is → IsRing window last s k (changed f window is places) is
 ring_changed f g window last s k q places is h r = record {
@@ -35,6 +36,7 @@ ring_changed f g window last s k q places is h r = record {
   each = changed-each (HasPlaces s k) f q window is places h r.size r.each;
   placed = changed-placed f g window is places h r.size is r.placed;
   known = changed-each (IsKnown last is) f (λ row n. subst (λ m. last < m → list_any (λ i. eqb i m) is ≡ true) (sym (g row)) n) window is places h r.size r.known;
+  stand = changed-stand f g last window is places h r.size r.stand;
 }
 
 any_behind : (n m : ℕ) (is : List ℕ) → AreBelow m (take n is) → list_any (λ i. eqb i m) is ≡ true → list_any (λ i. eqb i m) (drop n is) ≡ true
@@ -132,6 +134,7 @@ module _ (R : RisingLaws) where
     known = λ j d l m.
         any_behind n (get_or places j d).instant is (R.below_higher (greatest last (take n is) + 1) (get_or places j d).instant (take n is) (omega arith) (R.below_greatest last (take n is)))
         (r.known j d l (omega (arith, R.greatest_ge last (take n is))));
+    stand = λ j l m. r.stand j l (omega (arith, R.greatest_ge last (take n is)));
   }
 
   any_placed : (i : ℕ) (is : List ℕ) → list_any (λ j. eqb j i) (place i is) ≡ true
@@ -178,6 +181,7 @@ module _ (R : RisingLaws) where
     placed = placed_put places window i last row is h r.size q rise a r.placed;
     known = set-each (IsKnown last (place i is)) places (i % window) row (λ m. subst (λ n. list_any (λ j. eqb j n) (place i is) ≡ true) (sym q) (any_placed i is))
         (λ j d l m. any_still (get_or places j d).instant i is (r.known j d l m));
+    stand = set-stand last window places (i % window) row (λ m. ap (λ n. n % window) q) r.stand;
   }
 
   open_is : (window last s k i : ℕ) (places : List OpenRowView) (is : List ℕ) → 0 < window → last < i → Rises last is → IsRing window last s k places is → (if eqb (row_in places window i).instant i then is else place i is) ≡ place i is

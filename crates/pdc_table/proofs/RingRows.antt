@@ -15,7 +15,7 @@ use Rattle.pdc_row.specs.RisingLaws.{RisingLaws, AreAllNear, Below, At, Above}
 use Rattle.pdc_table.specs.Closing.{closing, is_due, staying}
 use Rattle.pdc_table.specs.OpenInstants.{instants_of}
 use Rattle.pdc_table.specs.Placing.{row_at, with_row}
-use Rattle.pdc_table.specs.RingRows.{changed, met_row, row_in, rows_in}
+use Rattle.pdc_table.specs.RingRows.{StandAbove, changed, met_row, row_in, rows_in}
 use Rattle.pdc_table.specs.Views.{OpenRowView, blank_row}
 use Rattle.pdc_table.specs.declared.wait_rule.WaitRule.{WaitRule}
 use Rattle.pdc_table.proofs.Closes.{back_is, front_is, front_length}
@@ -82,6 +82,20 @@ changed-each Q f q window [] places h e a = a
 changed-each Q f q window (i ∷ is) places h e a =
     changed-each Q f q window is (set places (i % window) (f (row_in places window i))) h (length-set places (i % window) (f (row_in places window i)) ∙ e)
     (set-each Q places (i % window) (f (row_in places window i)) (q (row_in places window i) (a (i % window) (blank_row 0 0 0) (omega (arith, mod-lt i h)))) a)
+
+-- rows above an instant that stand at their places
+
+pub set-stand : (last window : ℕ) (places : List OpenRowView) (k : ℕ) (row : OpenRowView) → (last < row.instant → row.instant % window ≡ k) → StandAbove last window places → StandAbove last window (set places k row)
+set-stand last window places k row q a n l m = elim (cases_eq n k) [
+  | inl e ↦ subst (λ (r : OpenRowView). last < r.instant → r.instant % window ≡ n) (sym (get_or-set_at places k n row (blank_row 0 0 0) e (omega (arith, length-set places k row)))) (λ x. q x ∙ sym e) m
+  | inr d ↦ subst (λ (r : OpenRowView). last < r.instant → r.instant % window ≡ n) (sym (get_or-set_other places k n row (blank_row 0 0 0) d)) (a n (omega (arith, length-set places k row))) m
+]
+
+pub changed-stand : (f : OpenRowView → OpenRowView) → ((row : OpenRowView) → (f row).instant ≡ row.instant) → (last window : ℕ) (is : List ℕ) (places : List OpenRowView) → 0 < window → length places ≡ window → StandAbove last window places → StandAbove last window (changed f window is places)
+changed-stand f g last window [] places h e a = a
+changed-stand f g last window (i ∷ is) places h e a =
+    changed-stand f g last window is (set places (i % window) (f (row_in places window i))) h (length-set places (i % window) (f (row_in places window i)) ∙ e)
+    (set-stand last window places (i % window) (f (row_in places window i)) (λ m. ap (λ n. n % window) (g (row_in places window i)) ∙ a (i % window) (omega (arith, mod-lt i h)) (subst (λ n. last < n) (g (row_in places window i)) m)) a)
 
 changed-instant : (f : OpenRowView → OpenRowView) → ((row : OpenRowView) → (f row).instant ≡ row.instant) → (window : ℕ) (is : List ℕ) (places : List OpenRowView) (j : ℕ) → 0 < window → length places ≡ window → (row_in (changed f window is places) window j).instant ≡ (row_in places window j).instant
 changed-instant f g window [] places j h e = refl

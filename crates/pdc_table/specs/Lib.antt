@@ -8,6 +8,7 @@ pub mod KeptRow
 pub mod Layout
 pub mod OpenInstants
 pub mod OpenRowParts
+pub mod Parts
 pub mod Placing
 pub mod Ring
 pub mod RingRows

@@ -7,7 +7,7 @@ use Rattle.pdc_table.specs.Content.{Content, HasPlaces, IsContent, streams_of}
 use Rattle.pdc_table.specs.TableView.{TableView}
 use Rattle.pdc_table.specs.Views.{OpenRowView}
 use Rattle.pdc_table.specs.declared.ring_table.RingTable.TheInside.{Inside}
-use Rattle.pdc_table.specs.RingRows.{closed_rows, rows_in, row_in, with_ages}
+use Rattle.pdc_table.specs.RingRows.{StandAbove, closed_rows, rows_in, row_in, with_ages}
 
 abbrev pub content_of : Inside → Content
 content_of t = record {
@@ -30,7 +30,7 @@ view_of t = record {
 
 -- There is a place for each instant of the window, and room for each instant that can be held. At the place of an instant that
 -- is held stands its row, and of a closed one the layout that it closed under; a row of an instant above the last closed is
--- that of an open one.
+-- that of an open one, and stands at its place.
 pub record IsKept (t : Inside) : Type 0 where
   pub content : IsContent (content_of t)
   pub size : length t.rows.places.items ≡ t.circle.window
@@ -40,5 +40,6 @@ pub record IsKept (t : Inside) : Type 0 where
   pub layouts : length t.closed.layouts.items ≡ t.circle.window
   pub closed_placed : AllByRecursion (λ i. (row_in t.rows.places.items t.circle.window i).instant ≡ i) t.closed.instants.items
   pub known : All (λ (row : OpenRowView). t.closed.last < row.instant → list_any (λ i. i == row.instant) t.rows.open.items ≡ true) t.rows.places.items
+  pub stand : StandAbove t.closed.last t.circle.window t.rows.places.items
   pub room : t.circle.window ≤ vec_capacity t.rows.open
   pub closed_room : t.circle.window ≤ deque_capacity t.closed.instants

@@ -1,5 +1,5 @@
 -- Rows that stand at the places of their instants.
-use Rattle.std.specs.Prelude.{ℕ, ◌+◌, ◌%◌, ◌==◌, List, [], ◌∷◌, length, map, slice_index_or, slice_set, Option, Some, None, if◌then◌else◌}
+use Rattle.std.specs.Prelude.{◌≡◌, ℕ, ◌<◌, ◌+◌, ◌%◌, ◌==◌, List, [], ◌∷◌, length, map, slice_index_or, slice_set, Option, Some, None, if◌then◌else◌}
 use Rattle.std.specs.Option.{unwrap_or}
 use Rattle.pdc_row.specs.RowView.{RowView}
 use Rattle.pdc_table.specs.Closing.{counter}
@@ -33,6 +33,21 @@ abbrev pub changed : (OpenRowView → OpenRowView) → (window : ℕ) → List �
 changed change window [] places = places
 changed change window (i ∷ instants) places =
     changed change window instants (slice_set places (i % window) (change (row_in places window i)))
+
+-- a row of an instant above this one stands at the place of its instant
+abbrev pub StandAbove : (last window : ℕ) → List OpenRowView → Type 0
+StandAbove last window places =
+    (k : ℕ) → k < length places → last < (slice_index_or places k (blank_row 0 0 0)).instant → (slice_index_or places k (blank_row 0 0 0)).instant % window ≡ k
+
+-- the row as one of no instant: an instant that is held is above 0
+abbrev pub without_instant : OpenRowView → OpenRowView
+without_instant row = record row { instant = 0 }
+
+-- the places after what others have at that of each of these instants was copied to it
+abbrev pub copied : {A : Type 0} → (default : A) → (window : ℕ) → List ℕ → (others places : List A) → List A
+copied default window [] others places = places
+copied default window (i ∷ instants) others places =
+    copied default window instants others (slice_set places (i % window) (slice_index_or others (i % window) default))
 
 -- the row at the place, where it is of this instant
 abbrev pub met_row : (i : ℕ) → OpenRowView → Option OpenRowView

@@ -52,7 +52,7 @@ pub fn put_cells<B: Offered>(
 
 /// Puts the block of a cell into its column, in this lane.
 #[inline(always)]
-fn put_one<B: Offered>(
+pub fn put_one<B: Offered>(
     held: &mut [Held],
     first: &mut [Cell],
     second: &mut [Cell],
@@ -160,7 +160,7 @@ pub fn any_other<B: Offered>(
 
 /// Whether the lane of the column holds another block than this; a lane that holds nothing does not.
 #[inline]
-fn holds_other<B: Offered>(
+pub fn holds_other<B: Offered>(
     held: &[Held],
     first: &[Cell],
     second: &[Cell],

@@ -1,8 +1,12 @@
-//! Lists that are copied over others.
+//! Lists that are copied over others, whole or at the places of some instants.
 ghost use Rattle.std.specs.Prelude.{◌≡◌, ◌≤◌, length};
+ghost use Rattle.pdc_table.specs.RingRows.{copied};
 
 use crate::MAX_COLUMNS;
+use crate::circle::Circle;
 use arrayvec::ArrayVec;
+use pdc_row::CopyFrom;
+use std::collections::VecDeque;
 
 /// Makes these the items of a list. Where there were as many before, they are written over, and nothing is emptied first.
 pub fn copy_items<T: Copy + Default + Drop>(kept: &mut ArrayVec<T, MAX_COLUMNS>, items: &[T])
@@ -15,4 +19,33 @@ pub fn copy_items<T: Copy + Default + Drop>(kept: &mut ArrayVec<T, MAX_COLUMNS>,
     }
     kept.clear();
     kept.try_extend_from_slice(items).unwrap();
+}
+
+/// Makes what stands at the places of these instants copies of what others have there.
+pub fn copy_at<T: CopyFrom>(mine: &mut [T], others: &[T], circle: &Circle, instants: &[u64])
+    requires size { length mine.old ≡ circle.now.window }
+    requires others { length others.now ≡ circle.now.window }
+    ensures { (default : T) → mine.new ≡ copied default circle.now.window instants.now others.now mine.old }
+{
+    for instant in instants {
+        let place = circle.place_of(*instant);
+        mine[place].copy_from(&others[place]);
+    }
+}
+
+/// The same for instants that stand in a queue.
+pub fn copy_at_queued<T: CopyFrom>(
+    mine: &mut [T],
+    others: &[T],
+    circle: &Circle,
+    instants: &VecDeque<u64>,
+)
+    requires size { length mine.old ≡ circle.now.window }
+    requires others { length others.now ≡ circle.now.window }
+    ensures { (default : T) → mine.new ≡ copied default circle.now.window instants.now.items others.now mine.old }
+{
+    for index in 0..instants.len() {
+        let place = circle.place_of(instants[index]);
+        mine[place].copy_from(&others[place]);
+    }
 }

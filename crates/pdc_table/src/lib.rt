@@ -10,6 +10,7 @@
 #![tactic(auto)]
 
 mod ages;
+mod blocks;
 mod circle;
 mod closing_layout;
 mod column;
@@ -20,6 +21,7 @@ mod laws;
 mod limits;
 mod open_row;
 mod outcome;
+mod parts;
 mod ring;
 mod ring_closing;
 mod ring_table;
@@ -30,6 +32,7 @@ mod streams;
 mod table_trait;
 mod wait_rule;
 
+pub use blocks::{Blocks, Listed};
 use closing_layout::ClosingLayout;
 use column::Held;
 pub use copied::copy_items;
@@ -41,6 +44,7 @@ pub use laws::{
 pub use limits::{MAX_COLUMNS, MAX_LANES};
 pub use open_row::{OpenRow, Places};
 pub use outcome::PutOutcome;
+pub use parts::{Part, Room, new_room};
 pub use pdc_row::{CopyFrom, DueRow, MAX_WINDOW, MIN_WINDOW, copy_each};
 pub use ring_table::RingTable;
 pub use row_layout::RowLayout;

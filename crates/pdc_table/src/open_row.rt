@@ -1,26 +1,27 @@
 //! The row of an instant that is open.
 ghost use Rattle.std.specs.Prelude.{◌≡◌, ℕ, ◌<◌, ◌≤◌, length, map, false, Some, if◌then◌else◌};
 ghost use Rattle.std.specs.List.{All, list_any};
-ghost use Rattle.pdc_row.specs.CellView.{block_view};
+ghost use Rattle.pdc_row.specs.CellView.{CellView, block_view};
 ghost use Rattle.pdc_row.specs.RowView.{row_view};
-ghost use Rattle.pdc_table.specs.RingRows.{at_age};
+ghost use Rattle.pdc_table.specs.RingRows.{at_age, without_instant};
 ghost use Rattle.pdc_table.specs.Row.{row_of};
 ghost use Rattle.pdc_table.specs.Closing.{all_taken, is_due};
 ghost use Rattle.pdc_table.specs.Steps.{answer_at, disagreements_of, is_taken};
 ghost use Rattle.pdc_table.specs.Layout.{layout_view};
-ghost use Rattle.pdc_table.specs.Taking.{cells_in, conflicts, with_frame, without_column, without_stream};
+ghost use Rattle.pdc_table.specs.Taking.{conflicts, with_frame, without_column, without_stream};
 ghost use Rattle.pdc_table.specs.OpenRowParts.{columns_of};
 ghost use Rattle.pdc_table.specs.Views.{blank_row};
 ghost use Rattle.pdc_table.specs.declared.column.Held.{Held as HeldData};
 
+use crate::blocks::Blocks;
 use crate::column::{NOTHING, forget_all, forget_lane};
-use crate::columns::{any_other, chosen_at, copy_held, disagreements_at, nothings, put_cells};
+use crate::columns::{chosen_at, copy_held, disagreements_at, nothings};
 use crate::copied::copy_items;
 use crate::row_blocks::{WORST_QUALITY, give, make_slot};
 use crate::streams::{all_taken, falses};
 use crate::{Held, MAX_COLUMNS, PutOutcome, RowLayout, WaitRule};
 use arrayvec::ArrayVec;
-use pdc_row::{Block, Cell, CopyFrom, DueRow, Offered};
+use pdc_row::{Block, Cell, CopyFrom, DueRow};
 use std::array;
 use std::marker::Model;
 
@@ -98,6 +99,13 @@ impl OpenRow {
         forget_all(self.held.as_mut_slice());
     }
 
+    /// Makes this a row of no instant.
+    pub(crate) fn leave(&mut self)
+        ensures { self.new ≡ without_instant self.old }
+    {
+        self.instant = 0;
+    }
+
     /// The instant.
     pub fn instant(&self) -> u64
         ensures { result ≡ self.now.instant }
@@ -107,24 +115,17 @@ impl OpenRow {
 
     /// Takes a frame of the stream: its blocks go into their columns, in this lane.
     #[inline(always)]
-    pub fn take<B: Offered>(
-        &mut self,
-        stream: usize,
-        lane: usize,
-        cells: &[(usize, B)],
-        quality: u8,
-    )
+    pub fn take<C: Blocks>(&mut self, stream: usize, lane: usize, blocks: &C, quality: u8)
         requires stream { stream < length self.old.taken }
-        requires columns { All (λ (cell : ℕ × B). cell.0 < length self.old.columns) cells.now }
-        ensures { self.new ≡ with_frame stream lane (cells_in B.view cells.now quality) self.old }
+        requires columns { All (λ (cell : ℕ × CellView). cell.0 < length self.old.columns) (C.cells blocks.now quality) }
+        ensures { self.new ≡ with_frame stream lane (C.cells blocks.now quality) self.old }
     {
         self.taken[stream] = true;
-        put_cells(
+        blocks.put(
             self.held.as_mut_slice(),
             &mut self.first,
             &mut self.second,
             lane,
-            cells,
             quality,
         );
         if lane != 0 {
@@ -134,36 +135,42 @@ impl OpenRow {
 
     /// Takes the frame, unless the stream was taken already: then the first stays.
     #[inline(always)]
-    pub fn offer<B: Offered>(
+    pub fn offer<C: Blocks>(
         &mut self,
         stream: usize,
         lane: usize,
-        cells: &[(usize, B)],
+        blocks: &C,
         quality: u8,
     ) -> PutOutcome
         requires stream { stream < length self.old.taken }
-        requires columns { All (λ (cell : ℕ × B). cell.0 < length self.old.columns) cells.now }
-        ensures answer { result ≡ answer_at (Some self.old) stream lane (cells_in B.view cells.now quality) }
-        ensures row { self.new ≡ (if is_taken (answer_at (Some self.old) stream lane (cells_in B.view cells.now quality))
-            then with_frame stream lane (cells_in B.view cells.now quality) self.old else self.old) }
+        requires columns { All (λ (cell : ℕ × CellView). cell.0 < length self.old.columns) (C.cells blocks.now quality) }
+        ensures answer { result ≡ answer_at (Some self.old) stream lane (C.cells blocks.now quality) }
+        ensures row { self.new ≡ (if is_taken (answer_at (Some self.old) stream lane (C.cells blocks.now quality))
+            then with_frame stream lane (C.cells blocks.now quality) self.old else self.old) }
     {
         if self.taken[stream] {
-            return if self.conflicts(lane, cells) {
+            return if self.conflicts(lane, blocks, quality) {
                 PutOutcome::Conflict
             } else {
                 PutOutcome::Duplicate
             };
         }
-        self.take(stream, lane, cells, quality);
+        self.take(stream, lane, blocks, quality);
         PutOutcome::Taken
     }
 
     /// Whether some of these blocks differs from what this lane of its column holds.
-    pub(crate) fn conflicts<B: Offered>(&self, lane: usize, cells: &[(usize, B)]) -> bool
-        requires { All (λ (cell : ℕ × B). cell.0 < length self.now.columns) cells.now }
-        ensures { (quality : ℕ) → result ≡ conflicts lane (cells_in B.view cells.now quality) self.now.columns }
+    pub(crate) fn conflicts<C: Blocks>(&self, lane: usize, blocks: &C, quality: u8) -> bool
+        requires { All (λ (cell : ℕ × CellView). cell.0 < length self.now.columns) (C.cells blocks.now quality) }
+        ensures { result ≡ conflicts lane (C.cells blocks.now quality) self.now.columns }
     {
-        any_other(self.held.as_slice(), &self.first, &self.second, lane, cells)
+        blocks.conflict(
+            self.held.as_slice(),
+            &self.first,
+            &self.second,
+            lane,
+            quality,
+        )
     }
 
     /// Forgets what was taken of a stream: with one lane its own column, with two its lane of each column.

@@ -4,23 +4,26 @@
 //! window 8, open 13 14 18     place  0  1  2  3  4  5  6  7
 //!                             row          18       13 14
 //! ```
-ghost use Rattle.std.specs.Prelude.{◌≡◌, ℕ, ◌+◌, ◌%◌, ◌==◌, ◌<◌, ◌≤◌, ◌++◌, [], length, nat_lt, replicate, IfOk, slice_set, true, vec_len, if◌then◌else◌};
+ghost use Rattle.std.specs.Prelude.{◌≡◌, ℕ, ◌+◌, ◌%◌, ◌==◌, ◌<◌, ◌≤◌, ◌++◌, [], length, map, nat_lt, replicate, IfOk, slice_set, true, vec_len, if◌then◌else◌};
 ghost use Rattle.std.specs.List.{All, AllByRecursion, list_all, list_any, prefix_len, slice_get};
 ghost use Rattle.std.specs.Vec.{vec_capacity};
+ghost use Rattle.pdc_row.specs.CellView.{CellView};
 ghost use Rattle.pdc_row.specs.Rising.{AreNear, Rises, highest_of, is_near, place};
 ghost use Rattle.pdc_table.specs.Closing.{counter, is_due};
 ghost use Rattle.pdc_table.specs.Layout.{layout_view};
-ghost use Rattle.pdc_table.specs.RingRows.{base_row, changed, met_row, row_in, rows_in, with_ages};
+ghost use Rattle.pdc_table.specs.RingRows.{base_row, changed, copied, met_row, row_in, rows_in, with_ages, without_instant};
 ghost use Rattle.pdc_table.specs.Steps.{answer_at, disagreements_in, is_taken};
-ghost use Rattle.pdc_table.specs.Taking.{cells_in, with_frame, without_column, without_stream};
+ghost use Rattle.pdc_table.specs.Taking.{with_frame, without_column, without_stream};
 ghost use Rattle.pdc_table.specs.Views.{OpenRowView, blank_row};
 
 use crate::ages::Ages;
+use crate::blocks::Blocks;
 use crate::circle::Circle;
+use crate::copied::{copy_at, copy_at_queued};
 use crate::front::is_near;
 use crate::open_row::{OpenRow, Places};
 use crate::{MAX_COLUMNS, PutOutcome, RowLayout, WaitRule};
-use pdc_row::{Offered, copy_each, numbers_rise};
+use pdc_row::numbers_rise;
 use std::alloc::{AllocError, Global};
 use std::collections::VecDeque;
 
@@ -126,6 +129,43 @@ pub fn drop_column(places: &mut Vec<OpenRow>, circle: &Circle, open: &[u64], col
     }
 }
 
+/// Makes rows those of no instant: all, or else the open ones.
+pub fn leave(places: &mut Vec<OpenRow>, circle: &Circle, open: &[u64], is_all: bool)
+    requires size { length places.old.items ≡ circle.now.window }
+    ensures items { places.new.items ≡ (if is_all then map without_instant places.old.items
+        else changed without_instant circle.now.window open.now places.old.items) }
+    ensures capacity { vec_capacity places.new ≡ vec_capacity places.old }
+{
+    if is_all {
+        leave_all(places);
+    } else {
+        leave_open(places, circle, open);
+    }
+}
+
+/// Makes each row that of no instant.
+#[inline(never)]
+fn leave_all(places: &mut Vec<OpenRow>)
+    ensures items { places.new.items ≡ map without_instant places.old.items }
+    ensures capacity { vec_capacity places.new ≡ vec_capacity places.old }
+{
+    for row in places.iter_mut() {
+        row.leave();
+    }
+}
+
+/// Makes the row of each open instant that of none.
+fn leave_open(places: &mut Vec<OpenRow>, circle: &Circle, open: &[u64])
+    requires size { length places.old.items ≡ circle.now.window }
+    ensures items { places.new.items ≡ changed without_instant circle.now.window open.now places.old.items }
+    ensures capacity { vec_capacity places.new ≡ vec_capacity places.old }
+{
+    for instant in open {
+        let place = circle.place_of(*instant);
+        places[place].leave();
+    }
+}
+
 /// How many open instants stand below this one.
 fn rank(open: &[u64], instant: u64) -> usize
     requires { Rises 0 open.now }
@@ -178,30 +218,34 @@ impl Rows {
         })
     }
 
-    /// Makes these the rows of another ring of as many places.
-    pub fn copy(&mut self, other: &Rows)
-        requires places { length self.old.places.items ≡ length other.now.places.items }
+    /// Makes the open rows, and those of closed instants, those of another ring of as many places. What stands at other places stays.
+    pub fn copy(&mut self, other: &Rows, circle: &Circle, closed: &VecDeque<u64>)
+        requires size { length self.old.places.items ≡ circle.now.window }
+        requires places { length other.now.places.items ≡ circle.now.window }
         requires ages { length self.old.ages.items ≡ length other.now.ages.items }
         requires room { length other.now.open.items ≤ vec_capacity self.old.open }
-        ensures places { self.new.places.items ≡ other.now.places.items }
+        ensures places { self.new.places.items ≡ copied (blank_row 0 0 0) circle.now.window closed.now.items other.now.places.items
+            (copied (blank_row 0 0 0) circle.now.window other.now.open.items other.now.places.items self.old.places.items) }
         ensures ages { self.new.ages.items ≡ other.now.ages.items }
         ensures open { self.new.open.items ≡ other.now.open.items }
         ensures ages_capacity { self.new.ages.capacity ≡ self.old.ages.capacity }
         ensures capacity { vec_capacity self.new.places ≡ vec_capacity self.old.places }
         ensures open_capacity { vec_capacity self.new.open ≡ vec_capacity self.old.open }
     {
-        copy_each(self.places.as_mut_slice(), other.places.as_slice());
+        let others = other.places.as_slice();
+        copy_at(self.places.as_mut_slice(), others, circle, &other.open);
+        copy_at_queued(self.places.as_mut_slice(), others, circle, closed);
         self.ages.copy(&other.ages);
         copy_open(&mut self.open, other.open.as_slice());
     }
 
     /// Takes a frame of a stream for the instant of the circle, unless the stream was taken there.
-    pub fn take<B: Offered>(
+    pub fn take<C: Blocks>(
         &mut self,
         here: &Circle,
         stream: usize,
         lane: usize,
-        cells: &[(usize, B)],
+        blocks: &C,
         quality: u8,
     ) -> PutOutcome
         requires size { length self.old.places.items ≡ here.now.window }
@@ -211,12 +255,12 @@ impl Rows {
         requires room { ((row_in self.old.places.items here.now.window here.now.instant).instant ≡ here.now.instant → ⊥)
             → vec_len self.old.open < vec_capacity self.old.open }
         requires stream { stream < length (row_in self.old.places.items here.now.window here.now.instant).taken }
-        requires columns { All (λ (cell : ℕ × B). cell.0 < length (row_in self.old.places.items here.now.window here.now.instant).columns) cells.now }
+        requires columns { All (λ (cell : ℕ × CellView). cell.0 < length (row_in self.old.places.items here.now.window here.now.instant).columns) (C.cells blocks.now quality) }
         ensures answer { result ≡ answer_at (met_row here.now.instant (row_in self.old.places.items here.now.window here.now.instant)) stream lane
-            (cells_in B.view cells.now quality) }
+            (C.cells blocks.now quality) }
         ensures places { self.new.places.items ≡ (if is_taken result
             then slice_set self.old.places.items (here.now.instant % here.now.window)
-            (with_frame stream lane (cells_in B.view cells.now quality) (base_row here.now.instant (row_in self.old.places.items here.now.window here.now.instant)))
+            (with_frame stream lane (C.cells blocks.now quality) (base_row here.now.instant (row_in self.old.places.items here.now.window here.now.instant)))
             else self.old.places.items) }
         ensures ages { self.new.ages.items ≡ (if (row_in self.old.places.items here.now.window here.now.instant).instant == here.now.instant
             then self.old.ages.items else slice_set self.old.ages.items (here.now.instant % here.now.window) 0) }
@@ -232,7 +276,7 @@ impl Rows {
             self.ages.begin(here.place);
             open_instant(&mut self.open, here.instant);
         }
-        row.offer(stream, lane, cells, quality)
+        row.offer(stream, lane, blocks, quality)
     }
 }
 

@@ -10,14 +10,15 @@ ghost use Rattle.pdc_table.specs.Closing.{closing, counter, staying};
 ghost use Rattle.pdc_table.specs.KeptRow.{popped_into};
 ghost use Rattle.pdc_table.specs.Layout.{layout_view};
 ghost use Rattle.pdc_table.specs.OpenInstants.{instants_of};
-ghost use Rattle.pdc_table.specs.RingRows.{closed_rows, laid, no_layout, row_in, rows_in, with_ages};
+ghost use Rattle.pdc_table.specs.RingRows.{closed_rows, copied, laid, no_layout, row_in, rows_in, with_ages};
 ghost use Rattle.pdc_table.specs.Steps.{disagreements_in};
 
 use crate::circle::Circle;
+use crate::copied::copy_at_queued;
 use crate::ring::{Rows, count_disagreements, count_due};
 use crate::{ClosingLayout, RowLayout, WaitRule};
 use arrayvec::ArrayVec;
-use pdc_row::{DueRow, copy_each};
+use pdc_row::DueRow;
 use std::alloc::{AllocError, Global};
 use std::collections::VecDeque;
 
@@ -107,19 +108,21 @@ impl Closed {
         })
     }
 
-    /// Makes this what is closed of another ring of as many places.
-    pub fn copy(&mut self, other: &Closed)
-        requires layouts { length self.old.layouts.items ≡ length other.now.layouts.items }
+    /// Makes this what is closed of another ring of as many places. A layout at whose place no closed row stands stays.
+    pub fn copy(&mut self, other: &Closed, circle: &Circle)
+        requires size { length self.old.layouts.items ≡ circle.now.window }
+        requires layouts { length other.now.layouts.items ≡ circle.now.window }
         requires room { deque_len other.now.instants ≤ deque_capacity self.old.instants }
         ensures instants { self.new.instants.items ≡ other.now.instants.items }
-        ensures layouts { self.new.layouts.items ≡ other.now.layouts.items }
+        ensures layouts { self.new.layouts.items ≡ copied no_layout circle.now.window other.now.instants.items other.now.layouts.items self.old.layouts.items }
         ensures last { self.new.last ≡ other.now.last }
         ensures disagree { self.new.disagree ≡ other.now.disagree }
         ensures layouts_capacity { vec_capacity self.new.layouts ≡ vec_capacity self.old.layouts }
         ensures capacity { deque_capacity self.new.instants ≡ deque_capacity self.old.instants }
     {
         copy_closed(&mut self.instants, &other.instants);
-        copy_each(self.layouts.as_mut_slice(), other.layouts.as_slice());
+        let others = other.layouts.as_slice();
+        copy_at_queued(self.layouts.as_mut_slice(), others, circle, &other.instants);
         self.last = other.last;
         self.disagree = other.disagree;
     }

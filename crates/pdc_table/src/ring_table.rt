@@ -2,11 +2,12 @@
 ghost use Rattle.std.specs.Prelude.{◌≡◌};
 ghost use Rattle.pdc_table.specs.Content.{HasSizesOf, IsContent, IsPut};
 ghost use Rattle.pdc_table.specs.Steps.{after_put, put_answer};
-ghost use Rattle.pdc_table.specs.Taking.{cells_in};
 
+use crate::blocks::{Blocks, Listed};
 use crate::circle::Circle;
 use crate::copied::copy_items;
 use crate::open_row::Places;
+use crate::parts::{Cut, Part};
 use crate::ring::Rows;
 use crate::ring_closing::Closed;
 use crate::streams::{falses, lane_of, stream_count};
@@ -14,7 +15,7 @@ use crate::{
     MAX_COLUMNS, PutOutcome, RowLayout, Table, WaitRule, remove_front, ring, ring_closing,
 };
 use arrayvec::ArrayVec;
-use pdc_row::{Block, Body, DueRow, Offered, numbers_rise};
+use pdc_row::{Block, Body, DueRow, numbers_rise};
 use std::alloc::{AllocError, Global};
 use std::marker::Model;
 
@@ -45,16 +46,16 @@ impl Model for RingTable {
 
 impl RingTable {
     /// Offers a frame of a stream: [`Table::put`], wherever the words of its blocks lie.
-    fn offer<B: Offered>(
+    fn offer<C: Blocks>(
         &mut self,
         stream: usize,
         instant: u64,
-        cells: &[(usize, B)],
+        blocks: &C,
         quality: u8,
     ) -> PutOutcome
-        requires { IsPut self.old.content stream (cells_in B.view cells.now quality) }
-        ensures answer { result ≡ put_answer self.old.content stream instant (cells_in B.view cells.now quality) }
-        ensures content { self.new.content ≡ after_put self.old.content stream instant (cells_in B.view cells.now quality) }
+        requires { IsPut self.old.content stream (C.cells blocks.now quality) }
+        ensures answer { result ≡ put_answer self.old.content stream instant (C.cells blocks.now quality) }
+        ensures content { self.new.content ≡ after_put self.old.content stream instant (C.cells blocks.now quality) }
         ensures disagreements { self.new.disagreements ≡ self.old.disagreements }
         ensures sizes { HasSizesOf self.old.content self.new.content }
         ensures memory { self.new.memory ≡ self.old.memory }
@@ -75,7 +76,7 @@ impl RingTable {
         let lane = lane_of(self.lanes, stream);
         let RingTable { circle, rows, .. } = self;
         *circle = here;
-        rows.take(&here, stream, lane, cells, quality)
+        rows.take(&here, stream, lane, blocks, quality)
     }
 }
 
@@ -117,8 +118,17 @@ impl Table for RingTable {
         self.lanes = other.lanes;
         copy_items(&mut self.required, other.required.as_slice());
         self.circle = other.circle;
-        self.rows.copy(&other.rows);
-        self.closed.copy(&other.closed);
+        // What is not copied stays, and is of no instant above the last closed.
+        let is_later = self.closed.last > other.closed.last;
+        ring::leave(
+            &mut self.rows.places,
+            &other.circle,
+            &self.rows.open,
+            is_later,
+        );
+        self.rows
+            .copy(&other.rows, &other.circle, &other.closed.instants);
+        self.closed.copy(&other.closed, &other.circle);
     }
 
     fn put(
@@ -128,7 +138,7 @@ impl Table for RingTable {
         cells: &[(usize, Block)],
         quality: u8,
     ) -> PutOutcome {
-        self.offer(stream, instant, cells, quality)
+        self.offer(stream, instant, &Listed { cells }, quality)
     }
 
     fn put_bodies(
@@ -138,7 +148,18 @@ impl Table for RingTable {
         cells: &[(usize, Body<'_>)],
         quality: u8,
     ) -> PutOutcome {
-        self.offer(stream, instant, cells, quality)
+        self.offer(stream, instant, &Listed { cells }, quality)
+    }
+
+    fn put_parts<P: Part>(
+        &mut self,
+        stream: usize,
+        instant: u64,
+        parts: &[P],
+        bytes: &[u8],
+        quality: u8,
+    ) -> PutOutcome {
+        self.offer(stream, instant, &Cut { parts, bytes }, quality)
     }
 
     fn require(&mut self, stream: usize, is_required: bool) {

@@ -1,13 +1,16 @@
 //! What every table promises, however it is kept.
-ghost use Rattle.std.specs.Prelude.{◌≡◌, ℕ, ◌<◌, ◌≤◌, false, List, map, IfOk, option_map};
+ghost use Rattle.std.specs.Prelude.{◌≡◌, ℕ, ◌<◌, ◌≤◌, false, List, length, map, IfOk, option_map};
 ghost use Rattle.std.specs.List.{AllByRecursion};
 ghost use Rattle.pdc_row.specs.RowView.{RowView, row_view};
+ghost use Rattle.pdc_row.specs.pdc_block.Block.{words_in};
 ghost use Rattle.pdc_table.specs.Content.{Content, HasSizesOf, HaveLayoutShapes, IsContent, IsPut, new_content, streams_of};
 ghost use Rattle.pdc_table.specs.KeptRow.{popped_into};
 ghost use Rattle.pdc_table.specs.Layout.{layout_view};
+ghost use Rattle.pdc_table.specs.Parts.{cut_cells, parts_len};
 ghost use Rattle.pdc_table.specs.Steps.{after_drop_column, after_drop_stream, after_pop, after_put, after_require, after_tick, closed_by, disagreements_after, next_answer, pop_answer, put_answer, shape_of, shapes_given, tick_answer};
 ghost use Rattle.pdc_table.specs.Taking.{body_cells_of, cells_of};
 
+use crate::parts::{Part, cut_bodies, new_room};
 use crate::{MAX_COLUMNS, MAX_LANES, MAX_WINDOW, MIN_WINDOW, PutOutcome, RowLayout, WaitRule};
 use pdc_row::{Block, Body, DueRow};
 use std::alloc::{AllocError, Global};
@@ -81,6 +84,30 @@ pub trait Table: Drop {
         ensures sizes { HasSizesOf (content self.old) (content self.new) }
         ensures memory { memory self.new ≡ memory self.old }
         ensures well_formed { IsContent (content self.new) };
+
+    /// As `put_bodies`, with blocks that lie one after the other in these bytes, of which each part tells the column and the shape.
+    fn put_parts<P: Part>(
+        &mut self,
+        stream: usize,
+        instant: u64,
+        parts: &[P],
+        bytes: &[u8],
+        quality: u8,
+    ) -> PutOutcome
+        requires put { IsPut (content self.old) stream (cut_cells P.column_of P.shape_of parts.now quality (words_in bytes.now)) }
+        requires size { length bytes.now ≡ parts_len P.shape_of parts.now }
+        requires few { length parts.now ≤ MAX_COLUMNS }
+        ensures answer { result ≡ put_answer (content self.old) stream instant (cut_cells P.column_of P.shape_of parts.now quality (words_in bytes.now)) }
+        ensures content { content self.new ≡ after_put (content self.old) stream instant (cut_cells P.column_of P.shape_of parts.now quality (words_in bytes.now)) }
+        ensures disagreements { disagreements self.new ≡ disagreements self.old }
+        ensures sizes { HasSizesOf (content self.old) (content self.new) }
+        ensures memory { memory self.new ≡ memory self.old }
+        ensures well_formed { IsContent (content self.new) }
+    {
+        let mut bodies = new_room();
+        let count = cut_bodies(parts, bytes, &mut bodies, 0);
+        self.put_bodies(stream, instant, &bodies[..count], quality)
+    }
 
     /// Makes this the table that the other one is, which has its sizes.
     fn copy_from(&mut self, other: &Self)

@@ -10,7 +10,7 @@ ghost use Rattle.pdc_table.specs.Taking.{cells_in, with_frame, without_column, w
 ghost use Rattle.pdc_table.specs.Views.{blank_row};
 
 use pdc_row::{CopyFrom, DueRow, Offered};
-use pdc_table::{MAX_COLUMNS, OpenRow, Places, PutOutcome, RowLayout, WaitRule};
+use pdc_table::{Listed, MAX_COLUMNS, OpenRow, Places, PutOutcome, RowLayout, WaitRule};
 use std::marker::Model;
 
 /// The row of an instant that is open, and the ticks since its first take.
@@ -61,7 +61,7 @@ impl AgedRow {
         requires columns { All (λ (cell : ℕ × B). cell.0 < length self.old.columns) cells.now }
         ensures { self.new ≡ with_frame stream lane (cells_in B.view cells.now quality) self.old }
     {
-        self.row.take(stream, lane, cells, quality);
+        self.row.take(stream, lane, &Listed { cells }, quality);
     }
 
     /// Takes the frame, unless the stream was taken already: then the first stays.
@@ -78,7 +78,7 @@ impl AgedRow {
         ensures row { self.new ≡ (if is_taken (answer_at (Some self.old) stream lane (cells_in B.view cells.now quality))
             then with_frame stream lane (cells_in B.view cells.now quality) self.old else self.old) }
     {
-        self.row.offer(stream, lane, cells, quality)
+        self.row.offer(stream, lane, &Listed { cells }, quality)
     }
 
     /// Forgets what was taken of a stream: with one lane its own column, with two its lane of each column.

@@ -3,8 +3,8 @@ use Rattle.pdc_table.specs.Views.{OpenRowView}
 use Rattle.pdc_table.proofs.OpenRowParts.{columns_seen}
 use Rattle.pdc_table.proofs.open_row.OpenRow.conflicts.Goals as goal
 
-pub any_other-requires-clause-columns : goal.any_other-requires-clause-columns
-any_other-requires-clause-columns g c = λ k d h.
+pub conflict-requires-clause-columns : goal.conflict-requires-clause-columns
+conflict-requires-clause-columns g c = λ k d h.
     omega (
       arith,
       c.requires k d h,

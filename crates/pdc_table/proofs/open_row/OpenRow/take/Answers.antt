@@ -3,8 +3,8 @@ use Rattle.pdc_table.specs.Views.{OpenRowView}
 use Rattle.pdc_table.proofs.OpenRowParts.{columns_seen}
 use Rattle.pdc_table.proofs.open_row.OpenRow.take.Goals as goal
 
-pub put_cells-requires-clause-columns : goal.put_cells-requires-clause-columns
-put_cells-requires-clause-columns g c = λ k d h.
+pub put-requires-clause-columns : goal.put-requires-clause-columns
+put-requires-clause-columns g c = λ k d h.
     omega (
       arith,
       c.requires.columns k d h,

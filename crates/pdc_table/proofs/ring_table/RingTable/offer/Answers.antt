@@ -2,6 +2,7 @@ use Rattle.std.proofs.Common.{arith, eqb, ◌≡◌, ◌<◌, ◌∙◌, ap, ℕ
 use Rattle.std.specs.List.{All, list_all}
 use Rattle.std.proofs.lemmas.Bool.{ne_eqb}
 use Rattle.std.proofs.lemmas.List.{length-map}
+use Rattle.pdc_row.specs.CellView.{CellView}
 use Rattle.pdc_row.specs.Rising.{AreNear, Rises, is_near, place}
 use Rattle.pdc_table.specs.Content.{HasPlaces, lane_of, streams_of}
 use Rattle.pdc_table.specs.Placing.{row_at, with_row}
@@ -10,8 +11,7 @@ use Rattle.pdc_table.specs.Ring.{content_of}
 use Rattle.pdc_table.specs.RingRows.{base_row, closed_rows, met_row, row_in, rows_in, with_ages}
 use Rattle.pdc_table.specs.Steps.{after_put, after_take, answer_at, fresh_row, is_near_all, is_taken, put_answer}
 use Rattle.pdc_table.specs.TableView.{TableView}
-use Rattle.pdc_table.specs.Taking.{cells_in, with_frame}
-use Rattle.pdc_table.proofs.Blank.{columns_exist}
+use Rattle.pdc_table.specs.Taking.{with_frame}
 use Rattle.pdc_table.proofs.Keeps.{has_room, keeps-offered}
 use Rattle.pdc_table.proofs.RingAges.{aged_answer, aged_closed, aged_placed, aged_put, aged_ring, aged_row, ages_kept}
 use Rattle.pdc_table.proofs.RingClosed.{near_closed, ring_held, written_closed, written_placed}
@@ -38,14 +38,14 @@ far g c =
 
 pub returns-then-not-is_in_window-clause-answer : goal.returns-then-not-is_in_window-clause-answer
 returns-then-not-is_in_window-clause-answer g c =
-    put_far (content_of c.self.inside) c.args.stream c.args.instant (cells_in g.B.Offered.view c.args.cells.now c.args.quality) c.if-instant-self.false (far g c)
-    ∙ ap (λ (t : TableView). put_answer t.content c.args.stream c.args.instant (cells_in g.B.Offered.view c.args.cells.now c.args.quality)) c.self.view_is
+    put_far (content_of c.self.inside) c.args.stream c.args.instant (g.C.Blocks.cells c.args.blocks.now c.args.quality) c.if-instant-self.false (far g c)
+    ∙ ap (λ (t : TableView). put_answer t.content c.args.stream c.args.instant (g.C.Blocks.cells c.args.blocks.now c.args.quality)) c.self.view_is
 
 pub returns-then-not-is_in_window-clause-content : goal.returns-then-not-is_in_window-clause-content
 returns-then-not-is_in_window-clause-content g c =
-    far_content c.args.self.now.content c.args.stream c.args.instant (cells_in g.B.Offered.view c.args.cells.now c.args.quality)
-    (put_far (content_of c.self.inside) c.args.stream c.args.instant (cells_in g.B.Offered.view c.args.cells.now c.args.quality) c.if-instant-self.false (far g c)
-    ∙ ap (λ (t : TableView). put_answer t.content c.args.stream c.args.instant (cells_in g.B.Offered.view c.args.cells.now c.args.quality)) c.self.view_is)
+    far_content c.args.self.now.content c.args.stream c.args.instant (g.C.Blocks.cells c.args.blocks.now c.args.quality)
+    (put_far (content_of c.self.inside) c.args.stream c.args.instant (g.C.Blocks.cells c.args.blocks.now c.args.quality) c.if-instant-self.false (far g c)
+    ∙ ap (λ (t : TableView). put_answer t.content c.args.stream c.args.instant (g.C.Blocks.cells c.args.blocks.now c.args.quality)) c.self.view_is)
 
 pub take-requires-clause-rising : goal.take-requires-clause-rising
 take-requires-clause-rising g c =
@@ -59,7 +59,7 @@ take-requires-clause-room g c n =
     ∙ sym c.if-not-is_in_window.ensures in
     let ring : IsRing c.self.inside.circle.window c.self.inside.closed.last (streams_of (content_of c.self.inside)) c.self.inside.columns (with_ages c.self.inside.rows.places.items c.self.inside.rows.ages.items) c.self.inside.rows.open.items =
     aged_ring c.self.inside.circle.window c.self.inside.closed.last (streams_of (content_of c.self.inside)) c.self.inside.columns c.self.inside.rows.places.items c.self.inside.rows.ages.items c.self.inside.rows.open.items (omega (arith, c.self.invariant.content.window_least)) c.self.invariant.ages
-    (record { size = c.self.invariant.size; each = c.self.invariant.each; placed = c.self.invariant.placed; known = c.self.invariant.known }) in
+    (record { size = c.self.invariant.size; each = c.self.invariant.each; placed = c.self.invariant.placed; known = c.self.invariant.known; stand = c.self.invariant.stand }) in
     let least : 0 < c.self.inside.circle.window = omega (arith, c.self.invariant.content.window_least) in
     let none : row_at c.args.instant (rows_in (with_ages c.self.inside.rows.places.items c.self.inside.rows.ages.items) c.self.inside.circle.window c.self.inside.rows.open.items) ≡ None =
     met_in c.self.inside.circle.window c.self.inside.closed.last (streams_of (content_of c.self.inside)) c.self.inside.columns c.args.instant (with_ages c.self.inside.rows.places.items c.self.inside.rows.ages.items) c.self.inside.rows.open.items least c.if-instant-self.false ring
@@ -71,13 +71,13 @@ take-requires-clause-room g c n =
 pub take-requires-clause-columns : goal.take-requires-clause-columns
 take-requires-clause-columns g c k d l =
     let ring : IsRing c.self.inside.circle.window c.self.inside.closed.last (streams_of (content_of c.self.inside)) c.self.inside.columns c.self.inside.rows.places.items c.self.inside.rows.open.items =
-    record { size = c.self.invariant.size; each = c.self.invariant.each; placed = c.self.invariant.placed; known = c.self.invariant.known } in
+    record { size = c.self.invariant.size; each = c.self.invariant.each; placed = c.self.invariant.placed; known = c.self.invariant.known; stand = c.self.invariant.stand } in
     let least : 0 < c.self.inside.circle.window = omega (arith, c.self.invariant.content.window_least) in
     let sized : HasPlaces (streams_of (content_of c.self.inside)) c.self.inside.columns (row_in c.self.inside.rows.places.items c.self.inside.circle.window c.args.instant) =
     sized_in c.self.inside.circle.window c.self.inside.closed.last (streams_of (content_of c.self.inside)) c.self.inside.columns c.args.instant c.self.inside.rows.places.items c.self.inside.rows.open.items least ring in
-    let columns : All (λ (cell : ℕ × g.row.B.Denot). cell.0 < c.self.inside.columns) c.args.cells.now =
-    subst (λ (t : TableView). All (λ (cell : ℕ × g.row.B.Denot). cell.0 < t.content.columns) c.args.cells.now) (sym c.self.view_is)
-    (columns_exist g.B.Offered.view c.args.self.now.content.columns c.args.quality c.args.cells.now c.requires.columns_exist) in
+    let columns : All (λ (cell : ℕ × CellView). cell.0 < c.self.inside.columns) (g.C.Blocks.cells c.args.blocks.now c.args.quality) =
+    subst (λ (t : TableView). All (λ (cell : ℕ × CellView). cell.0 < t.content.columns) (g.C.Blocks.cells c.args.blocks.now c.args.quality)) (sym c.self.view_is)
+    c.requires.columns_exist in
     omega (arith, columns k d l, sized.columns)
 
 -- the put, as the code makes it
@@ -87,43 +87,43 @@ near g c =
     ap (list_all (is_near c.self.inside.circle.window c.args.instant)) (sym (ring_held (content_of c.self.inside) (with_ages c.self.inside.rows.places.items c.self.inside.rows.ages.items) c.self.inside.closed.layouts.items c.self.inside.closed.instants.items c.self.inside.rows.open.items c.self.inside.rows.open.items refl (aged_placed c.self.inside.rows.places.items c.self.inside.rows.ages.items c.self.inside.circle.window c.self.inside.closed.instants.items (omega (arith, c.self.invariant.content.window_least)) c.self.invariant.size c.self.invariant.ages c.self.invariant.closed_placed) (aged_placed c.self.inside.rows.places.items c.self.inside.rows.ages.items c.self.inside.circle.window c.self.inside.rows.open.items (omega (arith, c.self.invariant.content.window_least)) c.self.invariant.size c.self.invariant.ages c.self.invariant.placed) refl refl))
     ∙ sym c.if-not-is_in_window.ensures
 
-into : (g : given.Over) (c : goal.After-take g) → IsPutInto c.self.inside.circle.window c.self.inside.closed.last (streams_of (content_of c.self.inside)) c.self.inside.columns c.args.instant c.args.stream (lane_of (content_of c.self.inside) c.args.stream) (cells_in g.B.Offered.view c.args.cells.now c.args.quality) c.self.inside.rows.places.items c.self.inside.rows.open.items c.take.result c.take.new.self.places.items c.take.new.self.open.items
+into : (g : given.Over) (c : goal.After-take g) → IsPutInto c.self.inside.circle.window c.self.inside.closed.last (streams_of (content_of c.self.inside)) c.self.inside.columns c.args.instant c.args.stream (lane_of (content_of c.self.inside) c.args.stream) (g.C.Blocks.cells c.args.blocks.now c.args.quality) c.self.inside.rows.places.items c.self.inside.rows.open.items c.take.result c.take.new.self.places.items c.take.new.self.open.items
 into g c = record {
-  ring = record { size = c.self.invariant.size; each = c.self.invariant.each; placed = c.self.invariant.placed; known = c.self.invariant.known };
+  ring = record { size = c.self.invariant.size; each = c.self.invariant.each; placed = c.self.invariant.placed; known = c.self.invariant.known; stand = c.self.invariant.stand };
   least = omega (arith, c.self.invariant.content.window_least);
   above = c.if-instant-self.false;
   rising = (near_open c.numbers_rise.ensures (content_of c.self.inside) (with_ages c.self.inside.rows.places.items c.self.inside.rows.ages.items) c.self.inside.rows.open.items (aged_placed c.self.inside.rows.places.items c.self.inside.rows.ages.items c.self.inside.circle.window c.self.inside.rows.open.items (omega (arith, c.self.invariant.content.window_least)) c.self.invariant.size c.self.invariant.ages c.self.invariant.placed) c.self.invariant.content).0;
   apart = near_apart c.numbers_rise.ensures c.self.inside.circle.window c.args.instant c.self.inside.closed.instants.items c.self.inside.rows.open.items
       (sym c.if-not-is_in_window.ensures);
-  answered = c.take.ensures.answer ∙ ap (λ l. answer_at (met_row c.args.instant (row_in c.self.inside.rows.places.items c.self.inside.circle.window c.args.instant)) c.args.stream l (cells_in g.B.Offered.view c.args.cells.now c.args.quality)) c.lane_of-lane.ensures;
+  answered = c.take.ensures.answer ∙ ap (λ l. answer_at (met_row c.args.instant (row_in c.self.inside.rows.places.items c.self.inside.circle.window c.args.instant)) c.args.stream l (g.C.Blocks.cells c.args.blocks.now c.args.quality)) c.lane_of-lane.ensures;
   written = c.take.ensures.places
-      ∙ ap (λ l. if is_taken c.take.result then set c.self.inside.rows.places.items (c.args.instant % c.self.inside.circle.window) (with_frame c.args.stream l (cells_in g.B.Offered.view c.args.cells.now c.args.quality) (base_row c.args.instant (row_in c.self.inside.rows.places.items c.self.inside.circle.window c.args.instant))) else c.self.inside.rows.places.items) c.lane_of-lane.ensures;
+      ∙ ap (λ l. if is_taken c.take.result then set c.self.inside.rows.places.items (c.args.instant % c.self.inside.circle.window) (with_frame c.args.stream l (g.C.Blocks.cells c.args.blocks.now c.args.quality) (base_row c.args.instant (row_in c.self.inside.rows.places.items c.self.inside.circle.window c.args.instant))) else c.self.inside.rows.places.items) c.lane_of-lane.ensures;
   opened = c.take.ensures.open;
 }
 
 -- the same of the rows with their ages
-aged_into : (g : given.Over) (c : goal.After-take g) → IsPutInto c.self.inside.circle.window c.self.inside.closed.last (streams_of (content_of c.self.inside)) c.self.inside.columns c.args.instant c.args.stream (lane_of (content_of c.self.inside) c.args.stream) (cells_in g.B.Offered.view c.args.cells.now c.args.quality) (with_ages c.self.inside.rows.places.items c.self.inside.rows.ages.items) c.self.inside.rows.open.items c.take.result (with_ages c.take.new.self.places.items c.take.new.self.ages.items) c.take.new.self.open.items
+aged_into : (g : given.Over) (c : goal.After-take g) → IsPutInto c.self.inside.circle.window c.self.inside.closed.last (streams_of (content_of c.self.inside)) c.self.inside.columns c.args.instant c.args.stream (lane_of (content_of c.self.inside) c.args.stream) (g.C.Blocks.cells c.args.blocks.now c.args.quality) (with_ages c.self.inside.rows.places.items c.self.inside.rows.ages.items) c.self.inside.rows.open.items c.take.result (with_ages c.take.new.self.places.items c.take.new.self.ages.items) c.take.new.self.open.items
 aged_into g c =
-    let p : IsPutInto c.self.inside.circle.window c.self.inside.closed.last (streams_of (content_of c.self.inside)) c.self.inside.columns c.args.instant c.args.stream (lane_of (content_of c.self.inside) c.args.stream) (cells_in g.B.Offered.view c.args.cells.now c.args.quality) c.self.inside.rows.places.items c.self.inside.rows.open.items c.take.result c.take.new.self.places.items c.take.new.self.open.items = into g c in
+    let p : IsPutInto c.self.inside.circle.window c.self.inside.closed.last (streams_of (content_of c.self.inside)) c.self.inside.columns c.args.instant c.args.stream (lane_of (content_of c.self.inside) c.args.stream) (g.C.Blocks.cells c.args.blocks.now c.args.quality) c.self.inside.rows.places.items c.self.inside.rows.open.items c.take.result c.take.new.self.places.items c.take.new.self.open.items = into g c in
     record {
       ring = aged_ring c.self.inside.circle.window c.self.inside.closed.last (streams_of (content_of c.self.inside)) c.self.inside.columns c.self.inside.rows.places.items c.self.inside.rows.ages.items c.self.inside.rows.open.items p.least c.self.invariant.ages p.ring;
       least = p.least;
       above = p.above;
       rising = p.rising;
       apart = p.apart;
-      answered = p.answered ∙ aged_answer c.self.inside.rows.places.items c.self.inside.rows.ages.items c.self.inside.circle.window c.args.instant c.args.stream (lane_of (content_of c.self.inside) c.args.stream) (cells_in g.B.Offered.view c.args.cells.now c.args.quality) p.least c.self.invariant.size c.self.invariant.ages;
-      written = aged_put c.self.inside.circle.window c.args.instant c.args.stream (lane_of (content_of c.self.inside) c.args.stream) (cells_in g.B.Offered.view c.args.cells.now c.args.quality) c.self.inside.rows.places.items c.take.new.self.places.items c.self.inside.rows.ages.items c.take.new.self.ages.items c.take.result
+      answered = p.answered ∙ aged_answer c.self.inside.rows.places.items c.self.inside.rows.ages.items c.self.inside.circle.window c.args.instant c.args.stream (lane_of (content_of c.self.inside) c.args.stream) (g.C.Blocks.cells c.args.blocks.now c.args.quality) p.least c.self.invariant.size c.self.invariant.ages;
+      written = aged_put c.self.inside.circle.window c.args.instant c.args.stream (lane_of (content_of c.self.inside) c.args.stream) (g.C.Blocks.cells c.args.blocks.now c.args.quality) c.self.inside.rows.places.items c.take.new.self.places.items c.self.inside.rows.ages.items c.take.new.self.ages.items c.take.result
           p.least c.self.invariant.size c.self.invariant.ages p.answered p.written c.take.ensures.ages;
       opened = p.opened ∙ ap (λ n. if eqb n c.args.instant then c.self.inside.rows.open.items else place c.args.instant c.self.inside.rows.open.items) (sym (ap (λ (row : OpenRowView). row.instant) (aged_row c.self.inside.rows.places.items c.self.inside.rows.ages.items c.self.inside.circle.window c.args.instant p.least c.self.invariant.size c.self.invariant.ages)));
     }
 
-answered : (g : given.Over) (c : goal.After-take g) → c.take.result ≡ put_answer (content_of c.self.inside) c.args.stream c.args.instant (cells_in g.B.Offered.view c.args.cells.now c.args.quality)
+answered : (g : given.Over) (c : goal.After-take g) → c.take.result ≡ put_answer (content_of c.self.inside) c.args.stream c.args.instant (g.C.Blocks.cells c.args.blocks.now c.args.quality)
 answered g c =
-    let p : IsPutInto c.self.inside.circle.window c.self.inside.closed.last (streams_of (content_of c.self.inside)) c.self.inside.columns c.args.instant c.args.stream (lane_of (content_of c.self.inside) c.args.stream) (cells_in g.B.Offered.view c.args.cells.now c.args.quality) (with_ages c.self.inside.rows.places.items c.self.inside.rows.ages.items) c.self.inside.rows.open.items c.take.result (with_ages c.take.new.self.places.items c.take.new.self.ages.items) c.take.new.self.open.items = aged_into g c in
+    let p : IsPutInto c.self.inside.circle.window c.self.inside.closed.last (streams_of (content_of c.self.inside)) c.self.inside.columns c.args.instant c.args.stream (lane_of (content_of c.self.inside) c.args.stream) (g.C.Blocks.cells c.args.blocks.now c.args.quality) (with_ages c.self.inside.rows.places.items c.self.inside.rows.ages.items) c.self.inside.rows.open.items c.take.result (with_ages c.take.new.self.places.items c.take.new.self.ages.items) c.take.new.self.open.items = aged_into g c in
     p.answered
-    ∙ ap (λ o. answer_at o c.args.stream (lane_of (content_of c.self.inside) c.args.stream) (cells_in g.B.Offered.view c.args.cells.now c.args.quality))
+    ∙ ap (λ o. answer_at o c.args.stream (lane_of (content_of c.self.inside) c.args.stream) (g.C.Blocks.cells c.args.blocks.now c.args.quality))
     (sym (met_in c.self.inside.circle.window c.self.inside.closed.last (streams_of (content_of c.self.inside)) c.self.inside.columns c.args.instant (with_ages c.self.inside.rows.places.items c.self.inside.rows.ages.items) c.self.inside.rows.open.items p.least p.above p.ring))
-    ∙ sym (put_near (content_of c.self.inside) c.args.stream c.args.instant (cells_in g.B.Offered.view c.args.cells.now c.args.quality) c.if-instant-self.false (near g c))
+    ∙ sym (put_near (content_of c.self.inside) c.args.stream c.args.instant (g.C.Blocks.cells c.args.blocks.now c.args.quality) c.if-instant-self.false (near g c))
 
 -- the place is that of no closed instant
 apart : (g : given.Over) (c : goal.After-take g) → IsApart c.self.inside.circle.window c.args.instant c.self.inside.closed.instants.items
@@ -132,10 +132,10 @@ apart g c =
     (sym c.if-not-is_in_window.ensures) c.self.invariant.content
 
 written : (g : given.Over) (c : goal.After-take g) → c.take.new.self.places.items ≡ (if is_taken c.take.result
-    then set c.self.inside.rows.places.items (c.args.instant % c.self.inside.circle.window) (with_frame c.args.stream (lane_of (content_of c.self.inside) c.args.stream) (cells_in g.B.Offered.view c.args.cells.now c.args.quality) (base_row c.args.instant (row_in c.self.inside.rows.places.items c.self.inside.circle.window c.args.instant)))
+    then set c.self.inside.rows.places.items (c.args.instant % c.self.inside.circle.window) (with_frame c.args.stream (lane_of (content_of c.self.inside) c.args.stream) (g.C.Blocks.cells c.args.blocks.now c.args.quality) (base_row c.args.instant (row_in c.self.inside.rows.places.items c.self.inside.circle.window c.args.instant)))
     else c.self.inside.rows.places.items)
 written g c =
-    let p : IsPutInto c.self.inside.circle.window c.self.inside.closed.last (streams_of (content_of c.self.inside)) c.self.inside.columns c.args.instant c.args.stream (lane_of (content_of c.self.inside) c.args.stream) (cells_in g.B.Offered.view c.args.cells.now c.args.quality) c.self.inside.rows.places.items c.self.inside.rows.open.items c.take.result c.take.new.self.places.items c.take.new.self.open.items = into g c in
+    let p : IsPutInto c.self.inside.circle.window c.self.inside.closed.last (streams_of (content_of c.self.inside)) c.self.inside.columns c.args.instant c.args.stream (lane_of (content_of c.self.inside) c.args.stream) (g.C.Blocks.cells c.args.blocks.now c.args.quality) c.self.inside.rows.places.items c.self.inside.rows.open.items c.take.result c.take.new.self.places.items c.take.new.self.open.items = into g c in
     p.written
 
 ages_size : (g : given.Over) (c : goal.After-take g) → length c.take.new.self.ages.items ≡ c.self.inside.circle.window
@@ -144,7 +144,7 @@ ages_size g c =
 
 kept : (g : given.Over) (c : goal.After-take g) → IsRing c.self.inside.circle.window c.self.inside.closed.last (streams_of (content_of c.self.inside)) c.self.inside.columns c.take.new.self.places.items c.take.new.self.open.items
 kept g c =
-    put_kept c.numbers_rise.ensures c.self.inside.circle.window c.self.inside.closed.last (streams_of (content_of c.self.inside)) c.self.inside.columns c.args.instant c.args.stream (lane_of (content_of c.self.inside) c.args.stream) (cells_in g.B.Offered.view c.args.cells.now c.args.quality) c.self.inside.rows.places.items c.self.inside.rows.open.items c.take.result c.take.new.self.places.items c.take.new.self.open.items (into g c)
+    put_kept c.numbers_rise.ensures c.self.inside.circle.window c.self.inside.closed.last (streams_of (content_of c.self.inside)) c.self.inside.columns c.args.instant c.args.stream (lane_of (content_of c.self.inside) c.args.stream) (g.C.Blocks.cells c.args.blocks.now c.args.quality) c.self.inside.rows.places.items c.self.inside.rows.open.items c.take.result c.take.new.self.places.items c.take.new.self.open.items (into g c)
 
 size : (g : given.Over) (c : goal.After-take g) → length c.take.new.self.places.items ≡ c.self.inside.circle.window
 size g c =
@@ -156,7 +156,7 @@ closed g c =
     aged_closed c.take.new.self.places.items c.take.new.self.ages.items c.self.inside.closed.layouts.items c.self.inside.circle.window c.self.inside.closed.instants.items (omega (arith, c.self.invariant.content.window_least)) (size g c) (ages_size g c)
     ∙ ap (λ ps. closed_rows ps c.self.inside.closed.layouts.items c.self.inside.circle.window c.self.inside.closed.instants.items) (written g c)
     ∙ written_closed c.self.inside.rows.places.items c.self.inside.closed.layouts.items c.self.inside.circle.window c.args.instant
-    (with_frame c.args.stream (lane_of (content_of c.self.inside) c.args.stream) (cells_in g.B.Offered.view c.args.cells.now c.args.quality) (base_row c.args.instant (row_in c.self.inside.rows.places.items c.self.inside.circle.window c.args.instant)))
+    (with_frame c.args.stream (lane_of (content_of c.self.inside) c.args.stream) (g.C.Blocks.cells c.args.blocks.now c.args.quality) (base_row c.args.instant (row_in c.self.inside.rows.places.items c.self.inside.circle.window c.args.instant)))
     c.self.inside.closed.instants.items (is_taken c.take.result) (apart g c)
     ∙ sym (aged_closed c.self.inside.rows.places.items c.self.inside.rows.ages.items c.self.inside.closed.layouts.items c.self.inside.circle.window c.self.inside.closed.instants.items (omega (arith, c.self.invariant.content.window_least)) c.self.invariant.size c.self.invariant.ages)
 
@@ -164,36 +164,36 @@ stands : (g : given.Over) (c : goal.After-take g) → ArePlaced c.take.new.self.
 stands g c =
     subst (λ ps. ArePlaced ps c.self.inside.circle.window c.self.inside.closed.instants.items) (sym (written g c))
     (written_placed c.self.inside.rows.places.items c.self.inside.circle.window c.args.instant
-    (with_frame c.args.stream (lane_of (content_of c.self.inside) c.args.stream) (cells_in g.B.Offered.view c.args.cells.now c.args.quality) (base_row c.args.instant (row_in c.self.inside.rows.places.items c.self.inside.circle.window c.args.instant)))
+    (with_frame c.args.stream (lane_of (content_of c.self.inside) c.args.stream) (g.C.Blocks.cells c.args.blocks.now c.args.quality) (base_row c.args.instant (row_in c.self.inside.rows.places.items c.self.inside.circle.window c.args.instant)))
     c.self.inside.closed.instants.items (is_taken c.take.result) (apart g c) c.self.invariant.closed_placed)
 
 rows : (g : given.Over) (c : goal.After-take g) → rows_in (with_ages c.take.new.self.places.items c.take.new.self.ages.items) c.self.inside.circle.window c.take.new.self.open.items ≡ (if is_taken c.take.result
-    then with_row (with_frame c.args.stream (lane_of (content_of c.self.inside) c.args.stream) (cells_in g.B.Offered.view c.args.cells.now c.args.quality)) (fresh_row (content_of c.self.inside) c.args.instant) (rows_in (with_ages c.self.inside.rows.places.items c.self.inside.rows.ages.items) c.self.inside.circle.window c.self.inside.rows.open.items)
+    then with_row (with_frame c.args.stream (lane_of (content_of c.self.inside) c.args.stream) (g.C.Blocks.cells c.args.blocks.now c.args.quality)) (fresh_row (content_of c.self.inside) c.args.instant) (rows_in (with_ages c.self.inside.rows.places.items c.self.inside.rows.ages.items) c.self.inside.circle.window c.self.inside.rows.open.items)
     else rows_in (with_ages c.self.inside.rows.places.items c.self.inside.rows.ages.items) c.self.inside.circle.window c.self.inside.rows.open.items)
 rows g c =
-    put_rows c.numbers_rise.ensures c.self.inside.circle.window c.self.inside.closed.last (streams_of (content_of c.self.inside)) c.self.inside.columns c.args.instant c.args.stream (lane_of (content_of c.self.inside) c.args.stream) (cells_in g.B.Offered.view c.args.cells.now c.args.quality) (with_ages c.self.inside.rows.places.items c.self.inside.rows.ages.items) c.self.inside.rows.open.items c.take.result (with_ages c.take.new.self.places.items c.take.new.self.ages.items) c.take.new.self.open.items (aged_into g c)
+    put_rows c.numbers_rise.ensures c.self.inside.circle.window c.self.inside.closed.last (streams_of (content_of c.self.inside)) c.self.inside.columns c.args.instant c.args.stream (lane_of (content_of c.self.inside) c.args.stream) (g.C.Blocks.cells c.args.blocks.now c.args.quality) (with_ages c.self.inside.rows.places.items c.self.inside.rows.ages.items) c.self.inside.rows.open.items c.take.result (with_ages c.take.new.self.places.items c.take.new.self.ages.items) c.take.new.self.open.items (aged_into g c)
 
 pub returns-clause-answer : goal.returns-clause-answer
-returns-clause-answer g c = answered g c ∙ ap (λ (t : TableView). put_answer t.content c.args.stream c.args.instant (cells_in g.B.Offered.view c.args.cells.now c.args.quality)) c.self.view_is
+returns-clause-answer g c = answered g c ∙ ap (λ (t : TableView). put_answer t.content c.args.stream c.args.instant (g.C.Blocks.cells c.args.blocks.now c.args.quality)) c.self.view_is
 
 pub returns-clause-content : goal.returns-clause-content
 returns-clause-content g c =
     ap (λ rs. record (content_of c.self.inside) { open_rows = rows_in (with_ages c.take.new.self.places.items c.take.new.self.ages.items) c.self.inside.circle.window c.take.new.self.open.items; closed = rs }) (closed g c)
     ∙ ap (λ rs. record (content_of c.self.inside) { open_rows = rs }) (rows g c)
-    ∙ put_content (is_taken c.take.result) (content_of c.self.inside) (with_row (with_frame c.args.stream (lane_of (content_of c.self.inside) c.args.stream) (cells_in g.B.Offered.view c.args.cells.now c.args.quality)) (fresh_row (content_of c.self.inside) c.args.instant) (rows_in (with_ages c.self.inside.rows.places.items c.self.inside.rows.ages.items) c.self.inside.circle.window c.self.inside.rows.open.items))
-    ∙ ap (λ a. if is_taken a then after_take (content_of c.self.inside) c.args.stream c.args.instant (cells_in g.B.Offered.view c.args.cells.now c.args.quality) else content_of c.self.inside) (answered g c)
-    ∙ ap (λ (t : TableView). after_put t.content c.args.stream c.args.instant (cells_in g.B.Offered.view c.args.cells.now c.args.quality)) c.self.view_is
+    ∙ put_content (is_taken c.take.result) (content_of c.self.inside) (with_row (with_frame c.args.stream (lane_of (content_of c.self.inside) c.args.stream) (g.C.Blocks.cells c.args.blocks.now c.args.quality)) (fresh_row (content_of c.self.inside) c.args.instant) (rows_in (with_ages c.self.inside.rows.places.items c.self.inside.rows.ages.items) c.self.inside.circle.window c.self.inside.rows.open.items))
+    ∙ ap (λ a. if is_taken a then after_take (content_of c.self.inside) c.args.stream c.args.instant (g.C.Blocks.cells c.args.blocks.now c.args.quality) else content_of c.self.inside) (answered g c)
+    ∙ ap (λ (t : TableView). after_put t.content c.args.stream c.args.instant (g.C.Blocks.cells c.args.blocks.now c.args.quality)) c.self.view_is
 
 pub returns-clause-well_formed : goal.returns-clause-well_formed
 returns-clause-well_formed g c =
-    rw (rows g c, closed g c) (keeps-offered c.numbers_rise.ensures (content_of c.self.inside) (is_taken c.take.result) c.args.stream (lane_of (content_of c.self.inside) c.args.stream) c.args.instant (cells_in g.B.Offered.view c.args.cells.now c.args.quality) c.if-instant-self.false (near g c) c.self.invariant.content)
+    rw (rows g c, closed g c) (keeps-offered c.numbers_rise.ensures (content_of c.self.inside) (is_taken c.take.result) c.args.stream (lane_of (content_of c.self.inside) c.args.stream) c.args.instant (g.C.Blocks.cells c.args.blocks.now c.args.quality) c.if-instant-self.false (near g c) c.self.invariant.content)
 
 pub invariant_of-self : goal.invariant_of-self
 invariant_of-self g c =
     let ring : IsRing c.self.inside.circle.window c.self.inside.closed.last (streams_of (content_of c.self.inside)) c.self.inside.columns c.take.new.self.places.items c.take.new.self.open.items =
-    put_kept c.numbers_rise.ensures c.self.inside.circle.window c.self.inside.closed.last (streams_of (content_of c.self.inside)) c.self.inside.columns c.args.instant c.args.stream (lane_of (content_of c.self.inside) c.args.stream) (cells_in g.B.Offered.view c.args.cells.now c.args.quality) c.self.inside.rows.places.items c.self.inside.rows.open.items c.take.result c.take.new.self.places.items c.take.new.self.open.items (into g c) in
+    put_kept c.numbers_rise.ensures c.self.inside.circle.window c.self.inside.closed.last (streams_of (content_of c.self.inside)) c.self.inside.columns c.args.instant c.args.stream (lane_of (content_of c.self.inside) c.args.stream) (g.C.Blocks.cells c.args.blocks.now c.args.quality) c.self.inside.rows.places.items c.self.inside.rows.open.items c.take.result c.take.new.self.places.items c.take.new.self.open.items (into g c) in
     record {
-      content = rw (rows g c, closed g c) (keeps-offered c.numbers_rise.ensures (content_of c.self.inside) (is_taken c.take.result) c.args.stream (lane_of (content_of c.self.inside) c.args.stream) c.args.instant (cells_in g.B.Offered.view c.args.cells.now c.args.quality) c.if-instant-self.false (near g c) c.self.invariant.content);
+      content = rw (rows g c, closed g c) (keeps-offered c.numbers_rise.ensures (content_of c.self.inside) (is_taken c.take.result) c.args.stream (lane_of (content_of c.self.inside) c.args.stream) c.args.instant (g.C.Blocks.cells c.args.blocks.now c.args.quality) c.if-instant-self.false (near g c) c.self.invariant.content);
       size = ring.size;
       each = ring.each;
       placed = ring.placed;
@@ -201,6 +201,7 @@ invariant_of-self g c =
       layouts = c.self.invariant.layouts;
       closed_placed = stands g c;
       known = ring.known;
+      stand = ring.stand;
       room = rw c.take.ensures.open_capacity c.self.invariant.room;
       closed_room = c.self.invariant.closed_room;
     }

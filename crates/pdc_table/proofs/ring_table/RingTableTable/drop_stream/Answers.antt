@@ -34,7 +34,7 @@ invariant_of-self c =
     let ring : IsRing c.self.inside.circle.window c.self.inside.closed.last (streams_of (content_of c.self.inside)) c.self.inside.columns c.drop_stream.new.places.items c.self.inside.rows.open.items =
     kept_by (without_stream c.self.inside.lanes c.args.stream) (λ r. refl) c.self.inside.circle.window c.self.inside.closed.last (streams_of (content_of c.self.inside)) c.self.inside.columns (λ r. places-without_stream c.self.inside.lanes c.args.stream (streams_of (content_of c.self.inside)) c.self.inside.columns r)
     c.self.inside.rows.places.items c.drop_stream.new.places.items c.self.inside.rows.open.items c.deref.result.now (omega (arith, c.self.invariant.content.window_least)) c.deref.ensures.value c.drop_stream.ensures.items
-    (record { size = c.self.invariant.size; each = c.self.invariant.each; placed = c.self.invariant.placed; known = c.self.invariant.known }) in
+    (record { size = c.self.invariant.size; each = c.self.invariant.each; placed = c.self.invariant.placed; known = c.self.invariant.known; stand = c.self.invariant.stand }) in
     record {
       content = rw (rows c, closed c) (keeps-drop_stream (content_of c.self.inside) c.args.stream c.self.invariant.content);
       size = ring.size;
@@ -45,6 +45,7 @@ invariant_of-self c =
       closed_placed = changed_stand (without_stream c.self.inside.lanes c.args.stream) (λ r. refl) (content_of c.self.inside) c.self.inside.rows.places.items c.drop_stream.new.places.items c.self.inside.closed.instants.items c.self.inside.rows.open.items c.deref.result.now
           c.deref.ensures.value c.drop_stream.ensures.items c.self.invariant.size c.self.invariant.closed_placed c.self.invariant.content;
       known = ring.known;
+      stand = ring.stand;
       room = c.self.invariant.room;
       closed_room = c.self.invariant.closed_room;
     }

@@ -27,6 +27,7 @@ invariant_of-self c = record {
   layouts = c.self.invariant.layouts;
   closed_placed = rw c.pop_into.ensures.rest (placed-less c.self.inside.rows.places.items c.self.inside.circle.window c.self.inside.closed.instants.items c.self.invariant.closed_placed);
   known = c.self.invariant.known;
+  stand = c.self.invariant.stand;
   room = c.self.invariant.room;
   closed_room = rw c.pop_into.ensures.capacity c.self.invariant.closed_room;
 }

@@ -110,7 +110,7 @@ pub invariant_of-self : goal.invariant_of-self
 invariant_of-self c =
     let ring : IsRing c.self.inside.circle.window c.close_due-count.new.self.last (streams_of (content_of c.self.inside)) c.self.inside.columns c.self.inside.rows.places.items c.remove_front.new.items.items =
     rw (c.close_due-count.ensures.front, c.remove_front.ensures.items) (ring_closed c.numbers_rise.ensures c.self.inside.circle.window c.self.inside.closed.last (streams_of (content_of c.self.inside)) c.self.inside.columns c.close_due-count.result c.self.inside.rows.places.items c.self.inside.rows.open.items
-    (record { size = c.self.invariant.size; each = c.self.invariant.each; placed = c.self.invariant.placed; known = c.self.invariant.known })) in
+    (record { size = c.self.invariant.size; each = c.self.invariant.each; placed = c.self.invariant.placed; known = c.self.invariant.known; stand = c.self.invariant.stand })) in
     record {
       content = subst IsContent (sym (content c)) (keeps-tick c.numbers_rise.ensures (content_of c.self.inside) c.args.rule (layout_view c.args.layout.now) c.self.invariant.content);
       size = ring.size;
@@ -120,6 +120,7 @@ invariant_of-self c =
       layouts = ap length c.close_due-count.ensures.layouts ∙ laid-length (layout_view c.args.layout.now) c.self.inside.circle.window (take c.close_due-count.result c.self.inside.rows.open.items) c.self.inside.closed.layouts.items ∙ c.self.invariant.layouts;
       closed_placed = rw c.close_due-count.ensures.closed (placed_more c.self.inside.rows.places.items c.self.inside.circle.window c.close_due-count.result c.self.inside.closed.instants.items c.self.inside.rows.open.items c.self.invariant.closed_placed c.self.invariant.placed);
       known = ring.known;
+      stand = ring.stand;
       room = rw c.remove_front.ensures.capacity c.self.invariant.room;
       closed_room = rw c.close_due-count.ensures.capacity c.self.invariant.closed_room;
     }

@@ -1,0 +1,16 @@
+-- Blocks that lie one after the other in the bytes of a payload (this profile).
+use Rattle.std.specs.Prelude.{ℕ, ◌*◌, List, [], ◌∷◌, drop, sum_by, take}
+use Rattle.pdc_row.specs.pdc_cfg.Shape.{word_count_of}
+use Rattle.pdc_row.specs.pdc_cfg.declared.shape.Shape.{Shape}
+use Rattle.pdc_row.specs.CellView.{CellView}
+
+-- the bytes of blocks of these shapes
+abbrev pub parts_len : {P : Type 0} → (P → Shape) → List P → ℕ
+parts_len shape parts = sum_by (λ p. 2 * word_count_of (shape p)) parts
+
+-- the cells that they make, cut one after the other, each with the column of its part
+abbrev pub cut_cells : {P : Type 0} → (column : P → ℕ) (shape : P → Shape) → List P → (quality : ℕ) (words : List ℕ) → List (ℕ × CellView)
+cut_cells column shape [] quality words = []
+cut_cells column shape (p ∷ parts) quality words =
+    (column p, record { block = record { shape = shape p; words = take (word_count_of (shape p)) words }; quality = quality })
+    ∷ cut_cells column shape parts quality (drop (word_count_of (shape p)) words)
