@@ -1,5 +1,6 @@
 -- The words that bytes write.
-use Rattle.std.proofs.Common.{◌≡◌, ℕ, ◌+◌, ◌*◌, List, [], ◌∷◌, ◌++◌, get_or, length, ◌<◌, refl, sym, ap, ◌∙◌, arith, zero, suc}
+use Rattle.std.proofs.Common.{◌≡◌, ℕ, ◌+◌, ◌*◌, List, [], ◌∷◌, ◌++◌, drop, get_or, length, ◌<◌, ◌≤◌, refl, sym, ap, take, ◌∙◌, arith, zero, suc}
+use Rattle.std.proofs.lemmas.List.{length-take-le, take-append-drop}
 use Rattle.pdc_cfg.specs.pdc_frame.Bytes.{AreBytes, word_at}
 use Rattle.pdc_cfg.specs.pdc_frame.Parts.{WordsAreTheirBytes}
 use Rattle.pdc_block.proofs.Words.{length-bytes_of_words, same_words}
@@ -68,3 +69,9 @@ words_in_append n [] back even = refl
 words_in_append n (byte ∷ []) back even = absurd (omega (arith, even))
 words_in_append zero (high ∷ low ∷ front) back even = absurd (omega (arith, even))
 words_in_append (suc n) (high ∷ low ∷ front) back even = ap (λ (words : List ℕ). (256 * high + low) ∷ words) (words_in_append n front back (omega (arith, even)))
+
+-- the words of bytes that are cut behind so many words
+pub words_in_two : (n : ℕ) (bytes front back : List ℕ) → 2 * n ≤ length bytes → front ≡ take (2 * n) bytes → back ≡ drop (2 * n) bytes
+    → words_in front ++ words_in back ≡ words_in bytes
+words_in_two n bytes front back room f b = rw (f, b)
+    (sym (words_in_append n (take (2 * n) bytes) (drop (2 * n) bytes) (length-take-le (2 * n) bytes room)) ∙ ap words_in (take-append-drop (2 * n) bytes))

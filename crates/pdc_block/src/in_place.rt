@@ -11,15 +11,20 @@ pub const WORDS_AT_ONCE: usize = 8;
 /// As many as fill one of 8 bytes.
 const FEW_AT_ONCE: usize = 4;
 
+/// So many words and more are worth the call of a copy: most blocks are shorter.
+const WORTH_A_CALL: usize = 32;
+
 /// Makes these the words of a block. Where there were as many before, they are written over.
 pub fn set_words(kept: &mut ArrayVec<u16, MAX_WORDS>, words: &[u16])
     requires { length words.now ≤ MAX_WORDS }
     ensures { kept.new.items ≡ words.now }
 {
-    if kept.len() == words.len() {
+    if kept.len() != words.len() {
+        replace(kept, words);
+    } else if words.len() < WORTH_A_CALL {
         write_over(kept.as_mut_slice(), words);
     } else {
-        replace(kept, words);
+        copy_over(kept.as_mut_slice(), words);
     }
 }
 
@@ -33,10 +38,20 @@ fn replace(kept: &mut ArrayVec<u16, MAX_WORDS>, words: &[u16])
     kept.try_extend_from_slice(words).unwrap();
 }
 
-/// Writes the words over these, sixteen at a step, and the last in steps of fixed numbers: most blocks are too short to be worth the
-/// call of a copy.
-fn write_over(kept: &mut [u16], words: &[u16])
+/// Writes the words over these by a copy, in a call of its own.
+#[inline(never)]
+fn copy_over(kept: &mut [u16], words: &[u16])
     requires { length words.now ≡ length kept.old }
+    ensures { kept.new ≡ words.now }
+{
+    kept.copy_from_slice(words);
+}
+
+/// Writes fewer than thirty-two words over these: sixteen at once, and the last in steps of fixed numbers.
+#[inline(always)]
+fn write_over(kept: &mut [u16], words: &[u16])
+    requires size { length words.now ≡ length kept.old }
+    requires some { length words.now < 32 }
     ensures { kept.new ≡ words.now }
 {
     if words.len() < 2 * WORDS_AT_ONCE {
@@ -46,7 +61,7 @@ fn write_over(kept: &mut [u16], words: &[u16])
     let (front, behind) = kept.split_at_mut(2 * WORDS_AT_ONCE);
     let (words, left) = words.split_at(2 * WORDS_AT_ONCE);
     write_sixteen(front, words);
-    write_over(behind, left);
+    write_some(behind, left);
 }
 
 /// Writes sixteen words over these, in two steps.
@@ -173,9 +188,39 @@ pub fn new_words(count: usize, bytes: &[u8]) -> ArrayVec<u16, MAX_WORDS>
     words
 }
 
-/// Writes the words that the bytes write over these, sixteen at a step, then eight, then four, and the last one by one.
+/// Writes the words that the bytes write over these, thirty-two at a step, then sixteen, eight and four, and the last one by one.
 pub fn read_into(words: &mut [u16], bytes: &[u8])
     requires { length bytes.now ≡ 2 * length words.old }
+    ensures { words.new ≡ words_in bytes.now }
+{
+    if words.len() < 4 * WORDS_AT_ONCE {
+        read_behind(words, bytes);
+        return;
+    }
+    let (front, behind) = words.split_at_mut(4 * WORDS_AT_ONCE);
+    let (bytes, left) = bytes.split_at(8 * WORDS_AT_ONCE);
+    read_thirty_two(front, bytes);
+    read_into(behind, left);
+}
+
+/// Writes thirty-two words that the bytes write over these.
+#[inline(always)]
+fn read_thirty_two(words: &mut [u16], bytes: &[u8])
+    requires words { length words.old ≡ 32 }
+    requires bytes { length bytes.now ≡ 64 }
+    ensures { words.new ≡ words_in bytes.now }
+{
+    let (front, behind) = words.split_at_mut(2 * WORDS_AT_ONCE);
+    let (first, second) = bytes.split_at(4 * WORDS_AT_ONCE);
+    read_sixteen(front, first);
+    read_sixteen(behind, second);
+}
+
+/// Writes fewer than thirty-two words that the bytes write over these: sixteen at once, and the last ones.
+#[inline(always)]
+fn read_behind(words: &mut [u16], bytes: &[u8])
+    requires size { length bytes.now ≡ 2 * length words.old }
+    requires some { length words.old < 32 }
     ensures { words.new ≡ words_in bytes.now }
 {
     if words.len() < 2 * WORDS_AT_ONCE {
@@ -185,7 +230,7 @@ pub fn read_into(words: &mut [u16], bytes: &[u8])
     let (front, behind) = words.split_at_mut(2 * WORDS_AT_ONCE);
     let (bytes, left) = bytes.split_at(4 * WORDS_AT_ONCE);
     read_sixteen(front, bytes);
-    read_into(behind, left);
+    read_some(behind, left);
 }
 
 /// Writes sixteen words that the bytes write over these, in two steps.

@@ -92,9 +92,40 @@ pub fn append_words<B: Buffer>(words: &[u16], out: &mut B)
     append_last(&words[at..], out);
 }
 
-/// Writes the words over these bytes, each with its high byte first: sixteen at a step, then eight, and the last ones one by one.
+/// Writes the words over these bytes, each with its high byte first: thirty-two at a step, then sixteen and eight, and the last ones one
+/// by one.
 fn write_words(words: &[u16], bytes: &mut [u8])
     requires { length bytes.old ≡ 2 * length words.now }
+    ensures { bytes.new ≡ bytes_of_words words.now }
+{
+    if words.len() < 4 * WORDS_AT_ONCE {
+        write_behind(words, bytes);
+        return;
+    }
+    let (front, behind) = words.split_at(4 * WORDS_AT_ONCE);
+    let (place, left) = bytes.split_at_mut(8 * WORDS_AT_ONCE);
+    write_thirty_two(front, place);
+    write_words(behind, left);
+}
+
+/// Writes thirty-two words over these bytes.
+#[inline(always)]
+fn write_thirty_two(words: &[u16], bytes: &mut [u8])
+    requires words { length words.now ≡ 32 }
+    requires bytes { length bytes.old ≡ 64 }
+    ensures { bytes.new ≡ bytes_of_words words.now }
+{
+    let (first, second) = words.split_at(2 * WORDS_AT_ONCE);
+    let (front, behind) = bytes.split_at_mut(4 * WORDS_AT_ONCE);
+    write_sixteen(first, front);
+    write_sixteen(second, behind);
+}
+
+/// Writes fewer than thirty-two words over these bytes: sixteen at once, and the last ones.
+#[inline(always)]
+fn write_behind(words: &[u16], bytes: &mut [u8])
+    requires size { length bytes.old ≡ 2 * length words.now }
+    requires some { length words.now < 32 }
     ensures { bytes.new ≡ bytes_of_words words.now }
 {
     if words.len() < 2 * WORDS_AT_ONCE {
@@ -104,7 +135,7 @@ fn write_words(words: &[u16], bytes: &mut [u8])
     let (front, behind) = words.split_at(2 * WORDS_AT_ONCE);
     let (place, left) = bytes.split_at_mut(4 * WORDS_AT_ONCE);
     write_sixteen(front, place);
-    write_words(behind, left);
+    write_some(behind, left);
 }
 
 /// Writes sixteen words over these bytes, in two steps.
@@ -124,48 +155,86 @@ fn write_sixteen(words: &[u16], bytes: &mut [u8])
 #[inline(always)]
 fn write_some(words: &[u16], bytes: &mut [u8])
     requires size { length bytes.old ≡ 2 * length words.now }
+    requires some { length words.now < 16 }
     ensures { bytes.new ≡ bytes_of_words words.now }
 {
     if words.len() < WORDS_AT_ONCE {
-        write_last(words, bytes);
+        write_few(words, bytes);
         return;
     }
     let (front, behind) = words.split_at(WORDS_AT_ONCE);
     let (place, left) = bytes.split_at_mut(2 * WORDS_AT_ONCE);
     place.copy_from_slice(&eight_words(front, 0));
     if !behind.is_empty() {
-        write_last(behind, left);
+        write_few(behind, left);
     }
 }
 
-/// Writes fewer than eight words over these bytes: four at once, and the last ones one by one. A call of its own, so that the steps before
-/// it need few registers.
+/// Writes fewer than eight words over these bytes: four without a test between them, and the last ones one by one. A call of its own, so
+/// that the steps before it need few registers.
 #[inline(never)]
-fn write_last(words: &[u16], bytes: &mut [u8])
+fn write_few(words: &[u16], bytes: &mut [u8])
     requires size { length bytes.old ≡ 2 * length words.now }
+    requires few { length words.now < 8 }
     ensures { bytes.new ≡ bytes_of_words words.now }
 {
     if words.len() < 4 {
-        write_each(words, bytes);
+        write_last(words, bytes);
         return;
     }
     let (front, behind) = words.split_at(4);
     let (place, left) = bytes.split_at_mut(8);
-    place.copy_from_slice(&four_words(front, 0));
-    write_each(behind, left);
+    write_four(front, place);
+    write_last(behind, left);
 }
 
-/// Writes the words over these bytes one by one.
-fn write_each(words: &[u16], bytes: &mut [u8])
-    requires { length bytes.old ≡ 2 * length words.now }
+/// Writes four words over these bytes.
+#[inline(always)]
+fn write_four(words: &[u16], bytes: &mut [u8])
+    requires words { length words.now ≡ 4 }
+    requires bytes { length bytes.old ≡ 8 }
     ensures { bytes.new ≡ bytes_of_words words.now }
 {
-    let Some((word, behind)) = words.split_first() else {
+    let (front, behind) = words.split_at(2);
+    let (place, left) = bytes.split_at_mut(4);
+    write_two(front, place);
+    write_two(behind, left);
+}
+
+/// Writes two words over these bytes.
+#[inline(always)]
+fn write_two(words: &[u16], bytes: &mut [u8])
+    requires words { length words.now ≡ 2 }
+    requires bytes { length bytes.old ≡ 4 }
+    ensures { bytes.new ≡ bytes_of_words words.now }
+{
+    let (place, left) = bytes.split_at_mut(2);
+    place.copy_from_slice(&words[0].to_be_bytes());
+    left.copy_from_slice(&words[1].to_be_bytes());
+}
+
+/// Writes fewer than four words over these bytes, one by one.
+#[inline(always)]
+fn write_last(words: &[u16], bytes: &mut [u8])
+    requires size { length bytes.old ≡ 2 * length words.now }
+    requires few { length words.now < 4 }
+    ensures { bytes.new ≡ bytes_of_words words.now }
+{
+    let Some((first, words)) = words.split_first() else {
         return;
     };
-    let (place, left) = bytes.split_at_mut(2);
-    place.copy_from_slice(&word.to_be_bytes());
-    write_each(behind, left);
+    let (place, bytes) = bytes.split_at_mut(2);
+    place.copy_from_slice(&first.to_be_bytes());
+    let Some((second, words)) = words.split_first() else {
+        return;
+    };
+    let (place, bytes) = bytes.split_at_mut(2);
+    place.copy_from_slice(&second.to_be_bytes());
+    let Some((third, _)) = words.split_first() else {
+        return;
+    };
+    let (place, _) = bytes.split_at_mut(2);
+    place.copy_from_slice(&third.to_be_bytes());
 }
 
 /// The bytes that the blocks take, one after the other: 6 to 214 each.

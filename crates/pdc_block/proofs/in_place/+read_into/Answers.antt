@@ -1,15 +1,8 @@
-use Rattle.std.proofs.Common.{List, ℕ, ◌++◌, ap, arith, sym, take, ◌∙◌}
-use Rattle.std.proofs.lemmas.List.{take-append-drop}
-use Rattle.pdc_block.specs.Block.{words_in}
-use Rattle.pdc_block.proofs.Bodies.{words_in_append}
+use Rattle.std.proofs.Common.{arith}
+use Rattle.pdc_block.proofs.Bodies.{words_in_two}
 use Rattle.pdc_block.proofs.in_place.+read_into.Goals as goal
 
 pub returns : goal.returns
-returns t c =
-    let front : List ℕ = c.split_at.result.0.now in
-    let back : List ℕ = c.split_at.result.1.now in
-    ap (λ (words : List ℕ). words ++ c.read_into.new.words) c.read_sixteen.ensures ∙ ap (λ (words : List ℕ). words_in front ++ words) c.read_into.ensures
-    ∙ sym (words_in_append 16 front back (omega (arith, c.split_at.ensures.front_len)))
-    ∙ ap (λ (bytes : List ℕ). words_in (bytes ++ back)) c.split_at.ensures.front
-    ∙ ap (λ (bytes : List ℕ). words_in (take 32 c.args.bytes.now ++ bytes)) c.split_at.ensures.back
-    ∙ ap words_in (take-append-drop 32 c.args.bytes.now)
+returns t c = rw (c.read_thirty_two.ensures, c.read_into.ensures)
+    (words_in_two 32 c.args.bytes.now c.split_at.result.0.now c.split_at.result.1.now (omega (arith, c.if-words.false, c.requires))
+    c.split_at.ensures.front c.split_at.ensures.back)
