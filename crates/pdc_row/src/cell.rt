@@ -16,6 +16,8 @@ pub struct Cell {
     quality: u8,
     /// Whether the block is any other than the absent block of its shape.
     has_data: bool,
+    /// How many words the block has.
+    count: u8,
     /// The words of the block stand in front.
     words: [u16; MAX_WORDS],
 }
@@ -32,8 +34,10 @@ impl Model for Cell {
       quality = cell.quality;
     } };
 
-    ghost invariant = { λ cell. cell.has_data
-        ≡ is_present (record { shape = cell.shape; words = take (word_count_of cell.shape) cell.words }) };
+    ghost invariant = { λ cell. record {
+      present : cell.has_data ≡ is_present (record { shape = cell.shape; words = take (word_count_of cell.shape) cell.words });
+      counted : cell.count ≡ word_count_of cell.shape;
+    } };
 }
 
 impl Cell {
@@ -51,6 +55,7 @@ impl Cell {
             },
             quality: 0,
             has_data: true,
+            count: 3,
             words: [0; MAX_WORDS],
         }
     }
@@ -61,9 +66,11 @@ impl Cell {
         ensures { self.new ≡ record { block = B.view block.now; quality = quality } }
     {
         let shape = block.shape();
+        let count = shape.word_count();
         self.shape = shape;
         self.quality = quality;
-        let words = &mut self.words[..shape.word_count()];
+        self.count = count as u8;
+        let words = &mut self.words[..count];
         block.write_words(words);
         self.has_data = are_present(shape, words);
     }
@@ -73,7 +80,7 @@ impl Cell {
         ensures words { result.now ≡ self.now.block.words }
         ensures count { length result.now ≡ word_count_of self.now.block.shape }
     {
-        &self.words[..self.shape.word_count()]
+        &self.words[..usize::from(self.count)]
     }
 
     /// Makes the block a copy of this one.
@@ -111,8 +118,7 @@ impl Cell {
         if other.shape != self.shape {
             return false;
         }
-        let count = self.shape.word_count();
-        are_same(&self.words[..count], &other.words[..count])
+        are_same(self.words(), other.words())
     }
 }
 
@@ -122,6 +128,7 @@ impl CopyFrom for Cell {
         self.shape = other.shape;
         self.quality = other.quality;
         self.has_data = other.has_data;
+        self.count = other.count;
         let words = other.words();
         self.words[..words.len()].copy_from_slice(words);
     }
