@@ -21,8 +21,18 @@ pub fn make_slot(blocks: &mut ArrayVec<Block, MAX_COLUMNS>, count: usize)
     ensures held { take count blocks.new.items ≡ take count blocks.old.items }
 {
     if count == blocks.len() {
-        blocks.push(Block::default());
+        push_slot(blocks);
     }
+}
+
+/// Makes one slot more: seldom, and so a call of its own.
+#[inline(never)]
+fn push_slot(blocks: &mut ArrayVec<Block, MAX_COLUMNS>)
+    requires room { length blocks.old.items < MAX_COLUMNS }
+    ensures slot { length blocks.new.items ≡ length blocks.old.items + 1 }
+    ensures held { take (length blocks.old.items) blocks.new.items ≡ blocks.old.items }
+{
+    blocks.push(Block::default());
 }
 
 /// Writes the block of a column of this shape behind so many blocks: that of the cell that is given, else the absent one. It answers
