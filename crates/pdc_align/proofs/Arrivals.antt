@@ -11,15 +11,16 @@ use Rattle.pdc_arrival.specs.pdc_row.RisingLaws.{RisingLaws}
 use Rattle.pdc_arrival.specs.pdc_row.RowView.{row_instants}
 use Rattle.pdc_table.specs.Calls.{BlocksStandInTheirColumns}
 use Rattle.pdc_table.specs.Closing.{counter}
-use Rattle.pdc_table.specs.Content.{Content, HaveOwnColumns, IsPut, NoneIsOf, lane_of, stream_count}
+use Rattle.pdc_table.specs.Content.{Content, HaveOwnColumns, IsPut, NoneIsOf, lane_of}
+use Rattle.pdc_table.specs.pdc_open_row.Streams.{stream_count}
 use Rattle.pdc_table.specs.OpenInstants.{instants_of}
 use Rattle.pdc_table.specs.Placing.{row_at}
-use Rattle.pdc_table.specs.Steps.{after_take, answer_at, is_near_all, put_answer}
+use Rattle.pdc_table.specs.Steps.{after_take, is_near_all, put_answer}
+use Rattle.pdc_table.specs.pdc_open_row.Taking.{answer_at, cell_in, conflicts, holds_other, with_frame}
 use Rattle.pdc_table.specs.Steps as table
-use Rattle.pdc_table.specs.Taking.{cell_in, conflicts, holds_other, with_frame}
-use Rattle.pdc_table.specs.Views.{ColumnView, OpenRowView, empty_column}
-use Rattle.pdc_table.specs.declared.outcome.PutOutcome.{PutOutcome}
-use Rattle.pdc_table.specs.declared.outcome.PutOutcome.TheVariants as put
+use Rattle.pdc_table.specs.pdc_open_row.Views.{ColumnView, OpenRowView, empty_column}
+use Rattle.pdc_table.specs.pdc_open_row.declared.outcome.PutOutcome.{PutOutcome}
+use Rattle.pdc_table.specs.pdc_open_row.declared.outcome.PutOutcome.TheVariants as put
 use Rattle.pdc_arrival.specs.pdc_life.declared.outcome.Outcome.{Outcome}
 use Rattle.pdc_arrival.specs.pdc_life.declared.outcome.Outcome.TheVariants.{Refused, Taken}
 use Rattle.pdc_arrival.specs.pdc_life.declared.outcome.Refusal.TheVariants.{Ahead, Late, OutOfWindow}

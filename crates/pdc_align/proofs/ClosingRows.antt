@@ -9,15 +9,17 @@ use Rattle.pdc_arrival.specs.pdc_cfg.declared.shape.Shape.{Shape}
 use Rattle.pdc_arrival.specs.pdc_row.CellView.{BlockView, CellView}
 use Rattle.pdc_arrival.specs.pdc_row.Quality.{quality_of}
 use Rattle.pdc_arrival.specs.pdc_row.RowView.{RowView}
-use Rattle.pdc_table.specs.Chosen.{chosen_of}
-use Rattle.pdc_table.specs.Closing.{aged, all_taken, counter, closing, staying}
+use Rattle.pdc_table.specs.pdc_open_row.Chosen.{chosen_of}
+use Rattle.pdc_table.specs.Closing.{aged, counter, closing, staying}
+use Rattle.pdc_table.specs.pdc_open_row.Due.{all_taken}
 use Rattle.pdc_table.specs.Closing as table
+use Rattle.pdc_table.specs.pdc_open_row.Due as waiting
 use Rattle.pdc_table.specs.Content.{ColumnHasShape, HasShape, HaveShapes}
-use Rattle.pdc_table.specs.Row.{blocks_at, blocks_of, qualities_at, qualities_of}
-use Rattle.pdc_table.specs.Row as closed
+use Rattle.pdc_table.specs.pdc_open_row.Row.{blocks_at, blocks_of, qualities_at, qualities_of}
+use Rattle.pdc_table.specs.pdc_open_row.Row as closed
 use Rattle.pdc_table.specs.Steps.{closing_of, staying_of}
-use Rattle.pdc_table.specs.Views.{ColumnView, OpenRowView}
-use Rattle.pdc_table.specs.declared.wait_rule.WaitRule.{WaitRule}
+use Rattle.pdc_table.specs.pdc_open_row.Views.{ColumnView, OpenRowView}
+use Rattle.pdc_table.specs.pdc_open_row.declared.wait_rule.WaitRule.{WaitRule}
 use Rattle.pdc_arrival.specs.pdc_life.declared.timing.WaitKind.{WaitKind}
 use Rattle.pdc_arrival.specs.pdc_life.declared.timing.WaitKind.TheVariants.{Absolute, Relative}
 use Rattle.pdc_arrival.specs.pdc_life.Cells.{CellsAreOfSections}
@@ -122,25 +124,25 @@ same_age wait ticks h = elim (cases_lt (ticks + 1) wait) [
   | inr m ↦ le-leb wait (counter (counter ticks + 1)) (omega (arith, h, m)) ∙ sym (le-leb wait (ticks + 1) m)
 ]
 
-pub over_same : (kind : WaitKind) (wait ticks now i : ℕ) → wait < 2 ^ 64 → table.is_over (rule_of kind wait now) (counter (counter ticks + 1)) i ≡ is_over kind wait (ticks + 1) now i
+pub over_same : (kind : WaitKind) (wait ticks now i : ℕ) → wait < 2 ^ 64 → waiting.is_over (rule_of kind wait now) (counter (counter ticks + 1)) i ≡ is_over kind wait (ticks + 1) now i
 over_same Relative wait ticks now i h = same_age wait ticks h
 over_same Absolute wait ticks now i h = elim (cases_lt now wait) [
   | inl l ↦ (let e : leb wait now ≡ false = lt-leb wait now l in rw e (sym (lt-leb (i + wait) now (omega (arith, l)))))
   | inr m ↦ (let e : leb wait now ≡ true = le-leb wait now m in rw e (same_limit i wait now m))
 ]
 
-due_same : (g : Given) (E : List Entry) (now i : ℕ) → g.wait < 2 ^ 64 → table.is_due (map (is_required g E) (streams_of g)) (rule_of g.wait_kind g.wait now) (aged (open_row_of g E i)) ≡ is_due g E now i
+due_same : (g : Given) (E : List Entry) (now i : ℕ) → g.wait < 2 ^ 64 → waiting.is_due (map (is_required g E) (streams_of g)) (rule_of g.wait_kind g.wait now) (aged (open_row_of g E i)) ≡ is_due g E now i
 due_same g E now i h =
-    ap (λ b. b || table.is_over (rule_of g.wait_kind g.wait now) (counter (counter (age_of E i) + 1)) i) (all_taken_is (is_required g E) (λ s. is_some (take_of g E s i)) (streams_of g))
+    ap (λ b. b || waiting.is_over (rule_of g.wait_kind g.wait now) (counter (counter (age_of E i) + 1)) i) (all_taken_is (is_required g E) (λ s. is_some (take_of g E s i)) (streams_of g))
     ∙ ap (λ b. list_all (is_not_awaited g E i) (streams_of g) || b) (over_same g.wait_kind g.wait (age_of E i) now i h)
 
 -- ---- the same close and stay
 
-closes_same : (required : List Bool) (rule : WaitRule) (due : ℕ → Bool) (f : ℕ → OpenRowView) (i : ℕ) → ((j : ℕ) → table.is_due required rule (f j) ≡ due j) → ((j : ℕ) → (f j).instant ≡ j) → (is : List ℕ) → list_all (λ (r : OpenRowView). not (nat_le r.instant i) || table.is_due required rule r) (map f is) ≡ closes due is i
+closes_same : (required : List Bool) (rule : WaitRule) (due : ℕ → Bool) (f : ℕ → OpenRowView) (i : ℕ) → ((j : ℕ) → waiting.is_due required rule (f j) ≡ due j) → ((j : ℕ) → (f j).instant ≡ j) → (is : List ℕ) → list_all (λ (r : OpenRowView). not (nat_le r.instant i) || waiting.is_due required rule r) (map f is) ≡ closes due is i
 closes_same required rule due f i h e [] = refl
 closes_same required rule due f i h e (j ∷ js) =
-    ap (λ b. (not (nat_le (f j).instant i) || b) && list_all (λ (r : OpenRowView). not (nat_le r.instant i) || table.is_due required rule r) (map f js)) (h j)
-    ∙ ap (λ n. (not (nat_le n i) || due j) && list_all (λ (r : OpenRowView). not (nat_le r.instant i) || table.is_due required rule r) (map f js)) (e j)
+    ap (λ b. (not (nat_le (f j).instant i) || b) && list_all (λ (r : OpenRowView). not (nat_le r.instant i) || waiting.is_due required rule r) (map f js)) (h j)
+    ∙ ap (λ n. (not (nat_le n i) || due j) && list_all (λ (r : OpenRowView). not (nat_le r.instant i) || waiting.is_due required rule r) (map f js)) (e j)
     ∙ ap (λ b. (not (nat_le j i) || due j) && b) (closes_same required rule due f i h e js)
 
 -- the open instant with this tick counted

@@ -3,7 +3,7 @@ use Rattle.std.proofs.Common.{◌≡◌, ◌≢◌, ℕ, ◌≤◌, Bool, true, 
 use Rattle.std.proofs.lemmas.Bool.{eqb-false, eqb-true, ltb-true, ne_eqb}
 use Rattle.pdc_arrival.specs.pdc_row.Rising.{Rises, place}
 use Rattle.pdc_table.specs.Placing.{row_at, with_row}
-use Rattle.pdc_table.specs.Views.{OpenRowView, blank_row}
+use Rattle.pdc_table.specs.pdc_open_row.Views.{OpenRowView, blank_row}
 use Rattle.pdc_arrival.specs.pdc_life.Given.{Given}
 use Rattle.pdc_arrival.specs.pdc_life.Life.{Entry}
 use Rattle.pdc_align.specs.State.{open_row_of}

@@ -8,9 +8,10 @@ use Rattle.std.proofs.lemmas.List.FromFn.{get_or-map-range_with_len, length-map-
 use Rattle.pdc_arrival.specs.pdc_row.CellView.{CellView}
 use Rattle.pdc_table.specs.Calls.{BlocksStandInTheirColumns}
 use Rattle.pdc_table.specs.Closing.{counter}
-use Rattle.pdc_table.specs.Content.{HaveOwnColumns, stream_count}
-use Rattle.pdc_table.specs.Taking.{given_for, with_cell, with_cells, with_frame, with_given}
-use Rattle.pdc_table.specs.Views.{ColumnView, empty_column}
+use Rattle.pdc_table.specs.Content.{HaveOwnColumns}
+use Rattle.pdc_table.specs.pdc_open_row.Streams.{stream_count}
+use Rattle.pdc_table.specs.pdc_open_row.Taking.{given_for, with_cell, with_cells, with_frame, with_given}
+use Rattle.pdc_table.specs.pdc_open_row.Views.{ColumnView, empty_column}
 use Rattle.pdc_arrival.specs.pdc_life.declared.outcome.Outcome.TheVariants.{Taken}
 use Rattle.pdc_arrival.specs.pdc_life.Arrival.{Data}
 use Rattle.pdc_arrival.specs.pdc_life.Given.{Given, columns_of, streams_of}

@@ -6,7 +6,7 @@ use Rattle.std.proofs.lemmas.List.{ext_get_or, length-map}
 use Rattle.std.proofs.lemmas.List.FromFn.{get_or-map-range_with_len, length-map-range_with_len}
 use Rattle.std.proofs.lemmas.Simd.{map-map}
 use Rattle.pdc_arrival.specs.pdc_cfg.Section.{SectionFields}
-use Rattle.pdc_table.specs.Row.{row_of}
+use Rattle.pdc_table.specs.pdc_open_row.Row.{row_of}
 use Rattle.pdc_table.specs.Steps.{after_tick, closed_by, closing_of}
 use Rattle.pdc_arrival.specs.pdc_life.Answer.{has_change, is_ready, ready_columns, tick_answer}
 use Rattle.pdc_arrival.specs.pdc_life.Given.{Given, columns_of, count_for}

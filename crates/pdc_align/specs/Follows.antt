@@ -4,7 +4,7 @@ use Rattle.std.specs.List.{AllByRecursion}
 use Rattle.pdc_arrival.specs.pdc_row.CellView.{CellView}
 use Rattle.pdc_table.specs.Content.{HaveLayoutShapes, IsPut}
 use Rattle.pdc_table.specs.Steps.{after_pop, after_take, after_tick, closed_by, put_answer}
-use Rattle.pdc_table.specs.declared.outcome.PutOutcome.{PutOutcome}
+use Rattle.pdc_table.specs.pdc_open_row.declared.outcome.PutOutcome.{PutOutcome}
 use Rattle.pdc_arrival.specs.pdc_life.declared.outcome.Outcome.{Outcome}
 use Rattle.pdc_arrival.specs.pdc_life.declared.outcome.Outcome.TheVariants.{Refused, Taken}
 use Rattle.pdc_arrival.specs.pdc_life.declared.outcome.Refusal.TheVariants.{Ahead, Conflict, Duplicate, Late, OutOfWindow}

@@ -4,11 +4,11 @@ use Rattle.pdc_arrival.specs.pdc_cfg.Section.{SectionFields}
 use Rattle.pdc_arrival.specs.pdc_cfg.declared.shape.Shape.{Shape}
 use Rattle.pdc_table.specs.Closing.{counter}
 use Rattle.pdc_table.specs.Content.{Content}
-use Rattle.pdc_table.specs.Layout.{LayoutView}
+use Rattle.pdc_table.specs.pdc_open_row.Layout.{LayoutView}
 use Rattle.pdc_table.specs.Steps.{after_drop_column, after_drop_stream, after_require}
-use Rattle.pdc_table.specs.Views.{ColumnView, OpenRowView}
-use Rattle.pdc_table.specs.declared.wait_rule.WaitRule.{WaitRule}
-use Rattle.pdc_table.specs.declared.wait_rule.WaitRule.TheVariants.{Ticks, Until}
+use Rattle.pdc_table.specs.pdc_open_row.Views.{ColumnView, OpenRowView}
+use Rattle.pdc_table.specs.pdc_open_row.declared.wait_rule.WaitRule.{WaitRule}
+use Rattle.pdc_table.specs.pdc_open_row.declared.wait_rule.WaitRule.TheVariants.{Ticks, Until}
 use Rattle.pdc_arrival.specs.pdc_life.Given.{Given, columns_of, streams_of}
 use Rattle.pdc_arrival.specs.pdc_life.Life.{Entry, age_of, changes, last_of, open_instants, section_in_force, take_of, waiting}
 use Rattle.pdc_arrival.specs.pdc_life.Row.{first_cell, is_required, second_cell}

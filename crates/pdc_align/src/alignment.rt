@@ -6,7 +6,7 @@ ghost use Rattle.pdc_arrival.specs.pdc_cfg.Section.{fields_of_view};
 ghost use Rattle.pdc_arrival.specs.pdc_row.RowView.{RowView, row_view};
 ghost use Rattle.pdc_table.specs.Content.{HasSizesOf, IsContent};
 ghost use Rattle.pdc_table.specs.KeptRow.{popped_into};
-ghost use Rattle.pdc_table.specs.Layout.{layout_view};
+ghost use Rattle.pdc_table.specs.pdc_open_row.Layout.{layout_view};
 ghost use Rattle.pdc_table.specs.Steps as table;
 ghost use Rattle.pdc_arrival.specs.Views.{section_part};
 ghost use Rattle.pdc_arrival.specs.declared.arrival.ColumnSection.{ColumnSection as ColumnSectionData};

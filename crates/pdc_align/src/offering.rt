@@ -2,8 +2,8 @@
 ghost use Rattle.std.specs.Prelude.{◌≡◌, ◌≤◌, length};
 ghost use Rattle.pdc_arrival.specs.pdc_block.Block.{words_in};
 ghost use Rattle.pdc_table.specs.Content.{IsPut};
-ghost use Rattle.pdc_table.specs.Parts.{cut_cells, parts_len};
-ghost use Rattle.pdc_table.specs.Taking.{body_cells_of};
+ghost use Rattle.pdc_table.specs.pdc_open_row.Parts.{cut_cells, parts_len};
+ghost use Rattle.pdc_table.specs.pdc_open_row.Taking.{body_cells_of};
 ghost use Rattle.pdc_align.specs.Align.{Unchanged};
 ghost use Rattle.pdc_align.specs.Calls.{after_data, put_outcome};
 ghost use Rattle.pdc_align.specs.Follows.{told_by};

@@ -4,20 +4,20 @@ use Rattle.std.specs.List.{slice_get}
 use Rattle.std.specs.Option.{option_to_list}
 use Rattle.std.proofs.lemmas.List.{map-append}
 use Rattle.std.proofs.lemmas.Bool.{false≢true, leb-false}
-use Rattle.pdc_row.specs.CellView.{CellView}
-use Rattle.pdc_row.specs.Quality.{greatest}
-use Rattle.pdc_row.specs.Rising.{Rises, AreBelow}
-use Rattle.pdc_row.specs.RowView.{row_instants, RowView}
-use Rattle.pdc_row.specs.RisingLaws.{RisingLaws}
+use Rattle.pdc_open_row.specs.pdc_row.CellView.{CellView}
+use Rattle.pdc_open_row.specs.pdc_row.Quality.{greatest}
+use Rattle.pdc_open_row.specs.pdc_row.Rising.{Rises, AreBelow}
+use Rattle.pdc_open_row.specs.pdc_row.RowView.{RowView, row_instants}
+use Rattle.pdc_open_row.specs.pdc_row.RisingLaws.{RisingLaws}
 use Rattle.pdc_table.specs.Calls.{Call, Put, Require, Tick, DropStream, DropColumn, Pop, after, after_all, closed_at, closed_in, popped_at, popped_in}
 use Rattle.pdc_table.specs.Content.{Content, lane_of}
 use Rattle.pdc_table.specs.OpenInstants.{instants_of}
 use Rattle.pdc_table.specs.Placing.{row_at}
-use Rattle.pdc_table.specs.Steps.{after_put, after_take, answer_at, closing_of, first_cause, fresh_row, is_near_all, is_taken, put_answer, staying_of}
-use Rattle.pdc_table.specs.Taking.{with_frame, without_stream, without_column}
-use Rattle.pdc_table.specs.declared.outcome.PutOutcome.{PutOutcome}
-use Rattle.pdc_table.specs.declared.outcome.PutOutcome.TheVariants.{Taken}
-use Rattle.pdc_table.specs.declared.wait_rule.WaitRule.{WaitRule}
+use Rattle.pdc_table.specs.Steps.{after_put, after_take, closing_of, first_cause, fresh_row, is_near_all, put_answer, staying_of}
+use Rattle.pdc_open_row.specs.Taking.{answer_at, is_taken, with_frame, without_column, without_stream}
+use Rattle.pdc_open_row.specs.declared.outcome.PutOutcome.{PutOutcome}
+use Rattle.pdc_open_row.specs.declared.outcome.PutOutcome.TheVariants.{Taken}
+use Rattle.pdc_open_row.specs.declared.wait_rule.WaitRule.{WaitRule}
 use Rattle.pdc_table.proofs.Keeps.{closed_stayed, instants-map, instants-row_of, instants-with_row}
 
 -- the open instants rise above the last

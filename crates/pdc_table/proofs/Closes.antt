@@ -2,11 +2,12 @@
 use Rattle.std.proofs.Common.{◌≡◌, ℕ, ◌+◌, ◌<◌, ◌≤◌, Bool, true, false, cond, not, ◌&&◌, leb, List, [], ◌∷◌, length, take, drop, filter, refl, sym, ◌∙◌, ap, arith, suc, rules}
 use Rattle.std.specs.List.{prefix_len}
 use Rattle.std.proofs.lemmas.List.Folds.{length-prefix_len}
-use Rattle.pdc_row.specs.Rising.{Rises}
+use Rattle.pdc_open_row.specs.pdc_row.Rising.{Rises}
 use Rattle.pdc_table.specs.OpenInstants.{instants_of}
-use Rattle.pdc_table.specs.Closing.{is_due, closes, closing, staying}
-use Rattle.pdc_table.specs.Views.{OpenRowView}
-use Rattle.pdc_table.specs.declared.wait_rule.WaitRule.{WaitRule}
+use Rattle.pdc_table.specs.Closing.{closes, closing, staying}
+use Rattle.pdc_open_row.specs.Due.{is_due}
+use Rattle.pdc_open_row.specs.Views.{OpenRowView}
+use Rattle.pdc_open_row.specs.declared.wait_rule.WaitRule.{WaitRule}
 
 and_true : (b : Bool) → (b && true) ≡ b
 and_true true = refl

@@ -4,19 +4,22 @@ use Rattle.std.specs.List.{AllByRecursion, list_all, range_with_len}
 use Rattle.std.proofs.lemmas.Bool.{cases_eq, eq-eqb, ne_eqb}
 use Rattle.std.proofs.lemmas.Grind.{get_or-set_at}
 use Rattle.std.proofs.lemmas.List.{get_or-replicate, get_or-set_other, length-replicate, length-set}
-use Rattle.pdc_row.specs.Rising.{Rises}
-use Rattle.pdc_row.specs.RowView.{row_instants}
-use Rattle.pdc_row.specs.RisingLaws.{RisingLaws}
+use Rattle.pdc_open_row.specs.pdc_row.Rising.{Rises}
+use Rattle.pdc_open_row.specs.pdc_row.RowView.{row_instants}
+use Rattle.pdc_open_row.specs.pdc_row.RisingLaws.{RisingLaws}
 use Rattle.pdc_table.specs.Calls.{AreAllowed, Call, Put, Require, Tick, DropStream, DropColumn, Pop, after_all}
-use Rattle.pdc_table.specs.Closing.{aged, all_taken, closes, counter, is_due}
-use Rattle.pdc_table.specs.Content.{Content, new_content, stream_count, streams_of}
+use Rattle.pdc_table.specs.Closing.{aged, closes, counter}
+use Rattle.pdc_open_row.specs.Due.{all_taken, is_due}
+use Rattle.pdc_table.specs.Content.{Content, new_content, streams_of}
+use Rattle.pdc_open_row.specs.Streams.{stream_count}
 use Rattle.pdc_table.specs.Histories.{closing_after, is_awaited, is_due_after, is_taken_since, open_row_after, ticks_since_take}
-use Rattle.pdc_table.specs.Layout.{LayoutView}
+use Rattle.pdc_open_row.specs.Layout.{LayoutView}
 use Rattle.pdc_table.specs.OpenInstants.{instants_of}
 use Rattle.pdc_table.specs.Placing.{row_at}
-use Rattle.pdc_table.specs.Steps.{after_take, closed_by, closing_of, is_taken, put_answer}
-use Rattle.pdc_table.specs.Views.{OpenRowView}
-use Rattle.pdc_table.specs.declared.wait_rule.WaitRule.{WaitRule}
+use Rattle.pdc_table.specs.Steps.{after_take, closed_by, closing_of, put_answer}
+use Rattle.pdc_open_row.specs.Taking.{is_taken}
+use Rattle.pdc_open_row.specs.Views.{OpenRowView}
+use Rattle.pdc_open_row.specs.declared.wait_rule.WaitRule.{WaitRule}
 use Rattle.pdc_table.proofs.CallLaws.{IsAbove, above_all}
 use Rattle.pdc_table.proofs.Follows.{follows, streams_same}
 use Rattle.pdc_table.proofs.Keeps.{instants-row_of}

@@ -2,18 +2,19 @@
 use Rattle.std.proofs.Common.{◌≡◌, ℕ, ◌<◌, ◌≤◌, Bool, true, false, not, ◌&&◌, ◌||◌, if◌then◌else◌, eqb, leb, ltb, List, [], ◌∷◌, get_or, refl, sym, ◌∙◌, ap, subst, arith, inl, inr, Option, Some, None, option_map}
 use Rattle.std.specs.Option.{IfSome, is_some, unwrap_or}
 use Rattle.std.proofs.lemmas.Bool.{cases_eq, cases_Bool, cases_lt, eq-eqb, ne_eqb, and_left, and_right, lt-ltb, le-ltb}
-use Rattle.pdc_row.specs.CellView.{CellView}
-use Rattle.pdc_row.specs.RisingLaws.{RisingLaws}
+use Rattle.pdc_open_row.specs.pdc_row.CellView.{CellView}
+use Rattle.pdc_open_row.specs.pdc_row.RisingLaws.{RisingLaws}
 use Rattle.pdc_table.specs.Calls.{AreAllowed, Call, Put, Require, Tick, DropStream, DropColumn, Pop, after_all}
 use Rattle.pdc_table.specs.Closing.{aged}
-use Rattle.pdc_table.specs.Content.{Content, IsPut, lane_of, stream_count, streams_of}
+use Rattle.pdc_table.specs.Content.{Content, IsPut, lane_of, streams_of}
+use Rattle.pdc_open_row.specs.Streams.{stream_count}
 use Rattle.pdc_table.specs.Histories.{is_take, open_row_after, was_taken}
-use Rattle.pdc_table.specs.Layout.{LayoutView}
+use Rattle.pdc_open_row.specs.Layout.{LayoutView}
 use Rattle.pdc_table.specs.Placing.{row_at}
-use Rattle.pdc_table.specs.Steps.{after_take, answer_at, fresh_row, is_near_all, is_taken, put_answer}
-use Rattle.pdc_table.specs.Taking.{with_frame, without_column, without_stream}
-use Rattle.pdc_table.specs.Views.{OpenRowView, blank_row}
-use Rattle.pdc_table.specs.declared.wait_rule.WaitRule.{WaitRule}
+use Rattle.pdc_table.specs.Steps.{after_take, fresh_row, is_near_all, put_answer}
+use Rattle.pdc_open_row.specs.Taking.{answer_at, is_taken, with_frame, without_column, without_stream}
+use Rattle.pdc_open_row.specs.Views.{OpenRowView, blank_row}
+use Rattle.pdc_open_row.specs.declared.wait_rule.WaitRule.{WaitRule}
 use Rattle.pdc_table.proofs.CallLaws.{IsAbove, above_all, last_step}
 use Rattle.pdc_table.proofs.RowAt.{row_above, row_at-map, row_of_fresh, row_of_other, row_of_tick}
 use Rattle.pdc_table.proofs.Told.{Follows, HasSizes, IsTold, base_told, column_told, drop_told, frame_told, free_at, quiet_call, quiet_put, sizes_all, taken_at_row, tick_told}

@@ -2,10 +2,10 @@
 use Rattle.std.proofs.Common.{◌≡◌, ◌≢◌, ℕ, ◌<◌, true, false, eqb, List, [], ◌∷◌, length, get_or, set, refl, sym, ◌∙◌, ap, subst, if◌then◌else◌, arith, rules, inl, inr, Some, None, length-set}
 use Rattle.std.proofs.lemmas.Bool.{cases_eq}
 use Rattle.std.proofs.lemmas.List.{get_or-set_same, get_or-set_other}
-use Rattle.pdc_row.specs.CellView.{CellView}
+use Rattle.pdc_open_row.specs.pdc_row.CellView.{CellView}
 use Rattle.pdc_table.specs.Content.{HaveOwnColumns, NoneIsOf}
-use Rattle.pdc_table.specs.Taking.{given_for, with_cell, with_cells, with_given}
-use Rattle.pdc_table.specs.Views.{ColumnView, empty_column}
+use Rattle.pdc_open_row.specs.Taking.{given_for, with_cell, with_cells, with_given}
+use Rattle.pdc_open_row.specs.Views.{ColumnView, empty_column}
 
 eqb_yes : (m n : ℕ) → m ≡ n → eqb m n ≡ true
 eqb_yes m n h = search rules

@@ -2,8 +2,8 @@
 use Rattle.std.proofs.Common.{◌≡◌, ℕ, ◌+◌, ◌<◌, ◌≤◌, ◌++◌, true, ◌&&◌, ◌||◌, eqb, ltb, List, [], ◌∷◌, refl, sym, ◌∙◌, ap, subst, arith, inl, inr}
 use Rattle.std.specs.List.{list_all, list_any}
 use Rattle.std.proofs.lemmas.Bool.{cases_Bool, cases_eq, false≢true, lt-ltb, ne_eqb}
-use Rattle.pdc_row.specs.Rising.{Rises, AreBelow, AreNear, is_near}
-use Rattle.pdc_row.specs.RisingLaws.{RisingLaws}
+use Rattle.pdc_open_row.specs.pdc_row.Rising.{Rises, AreBelow, AreNear, is_near}
+use Rattle.pdc_open_row.specs.pdc_row.RisingLaws.{RisingLaws}
 
 near_both : (window i j : ℕ) → i < j + window → j < i + window → is_near window i j ≡ true
 near_both window i j h k = ap (λ b. b && ltb j (i + window)) (lt-ltb i (j + window) h) ∙ lt-ltb j (i + window) k

@@ -2,11 +2,11 @@
 use Rattle.std.proofs.Common.{◌≡◌, ℕ, ◌-◌, ◌<◌, List, [], ◌∷◌, ◌++◌, length, get_or, map, refl, sym, ◌∙◌, ap, arith, suc, true, false, ltb, rules, Some}
 use Rattle.std.specs.List.{slice_get}
 use Rattle.std.proofs.lemmas.Bool.{false≢true}
-use Rattle.pdc_row.specs.Rising.{highest_of}
+use Rattle.pdc_open_row.specs.pdc_row.Rising.{highest_of}
 use Rattle.pdc_table.specs.OpenInstants.{instants_of}
-use Rattle.pdc_row.specs.RowView.{row_view, row_instants}
-use Rattle.pdc_row.specs.declared.due_row.DueRow.{DueRow}
-use Rattle.pdc_table.specs.Views.{OpenRowView}
+use Rattle.pdc_open_row.specs.pdc_row.RowView.{row_view, row_instants}
+use Rattle.pdc_open_row.specs.pdc_row.declared.due_row.DueRow.{DueRow}
+use Rattle.pdc_open_row.specs.Views.{OpenRowView}
 
 lower : (m n : ℕ) → m < n → ltb m n ≡ true
 lower m n h = search rules

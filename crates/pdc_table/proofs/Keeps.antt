@@ -3,25 +3,26 @@ use Rattle.std.proofs.Common.{◌≡◌, ℕ, ◌+◌, ◌<◌, ◌≤◌, Bool,
 use Rattle.std.specs.List.{prefix_len, AllByRecursion}
 use Rattle.std.proofs.lemmas.List.{map-append, take-append-drop, length-map, length-replicate, length-set}
 use Rattle.std.proofs.lemmas.List.Sums.{count_by-le-length, length-filter}
-use Rattle.pdc_row.specs.pdc_cfg.declared.shape.Shape.{Shape}
-use Rattle.pdc_row.specs.CellView.{CellView, is_present}
-use Rattle.pdc_row.specs.Chosen.{present_of, first_of, block_or_absent}
-use Rattle.pdc_row.specs.Quality.{greatest}
-use Rattle.pdc_row.specs.Rising.{Rises, AreBelow, AreNear, place}
-use Rattle.pdc_row.specs.RowView.{row_instants, RowView}
-use Rattle.pdc_table.specs.Chosen.{block_in}
-use Rattle.pdc_table.specs.Closing.{aged, is_due, closes, closing, staying}
+use Rattle.pdc_open_row.specs.pdc_cfg.declared.shape.Shape.{Shape}
+use Rattle.pdc_open_row.specs.pdc_row.CellView.{CellView, is_present}
+use Rattle.pdc_open_row.specs.pdc_row.Chosen.{present_of, first_of, block_or_absent}
+use Rattle.pdc_open_row.specs.pdc_row.Quality.{greatest}
+use Rattle.pdc_open_row.specs.pdc_row.Rising.{Rises, AreBelow, AreNear, place}
+use Rattle.pdc_open_row.specs.pdc_row.RowView.{RowView, row_instants}
+use Rattle.pdc_open_row.specs.Chosen.{block_in}
+use Rattle.pdc_table.specs.Closing.{aged, closes, closing, staying}
+use Rattle.pdc_open_row.specs.Due.{is_due}
 use Rattle.pdc_table.specs.Content.{Content, IsContent, HasPlaces, HaveLayoutShapes, HasShape, HaveShapes, held_instants, streams_of}
-use Rattle.pdc_table.specs.Layout.{LayoutView}
+use Rattle.pdc_open_row.specs.Layout.{LayoutView}
 use Rattle.pdc_table.specs.OpenInstants.{instants_of}
 use Rattle.pdc_table.specs.Placing.{row_at, with_row}
-use Rattle.pdc_table.specs.Row.{row_of, blocks_of}
+use Rattle.pdc_open_row.specs.Row.{row_of, blocks_of}
 use Rattle.pdc_table.specs.Steps.{after_drop_column, after_drop_stream, after_pop, after_require, after_tick, closing_of, closed_by, fresh_row, is_near_all, shape_of, shapes_given, staying_of}
-use Rattle.pdc_table.specs.Taking.{with_cell, with_cells, with_frame, without_stream, without_column}
-use Rattle.pdc_table.specs.Views.{ColumnView, OpenRowView, blank_row, empty_column}
-use Rattle.pdc_table.specs.declared.wait_rule.WaitRule.{WaitRule}
+use Rattle.pdc_open_row.specs.Taking.{with_cell, with_cells, with_frame, without_stream, without_column}
+use Rattle.pdc_open_row.specs.Views.{ColumnView, OpenRowView, blank_row, empty_column}
+use Rattle.pdc_open_row.specs.declared.wait_rule.WaitRule.{WaitRule}
 use Rattle.pdc_table.proofs.Closes.{closing-front, staying-back}
-use Rattle.pdc_row.specs.RisingLaws.{RisingLaws, Below, At, Above}
+use Rattle.pdc_open_row.specs.pdc_row.RisingLaws.{RisingLaws, Below, At, Above}
 
 -- a change that keeps each row's instant keeps the list of them
 pub instants-map : (f : OpenRowView → OpenRowView) → ((r : OpenRowView) → (f r).instant ≡ r.instant) → (rows : List OpenRowView) → instants_of (map f rows) ≡ instants_of rows

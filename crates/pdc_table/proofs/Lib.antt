@@ -1,5 +1,4 @@
 pub mod AgesKept
-pub mod Blank
 pub mod CallLaws
 pub mod Due
 pub mod Follows
@@ -7,9 +6,7 @@ pub mod Given
 pub mod Closes
 pub mod HeldNear
 pub mod Keeps
-pub mod OpenRowParts
 pub mod Highest
-pub mod CutParts
 pub mod Remainders
 pub mod RingAges
 pub mod RingClosed
@@ -18,6 +15,5 @@ pub mod RingKept
 pub mod RingPut
 pub mod RingRows
 pub mod RowAt
-pub mod RowSteps
-pub mod TakenParts
 pub mod Told
+pub use Rattle.pdc_open_row.proofs as pdc_open_row

@@ -5,15 +5,15 @@ use Rattle.std.specs.List.{All}
 use Rattle.std.specs.Option.{unwrap_or}
 use Rattle.std.proofs.lemmas.Bool.{false≢true}
 use Rattle.std.proofs.lemmas.List.{length-map, length-set}
-use Rattle.pdc_row.specs.CellView.{CellView}
+use Rattle.pdc_open_row.specs.pdc_row.CellView.{CellView}
 use Rattle.pdc_table.specs.Closing.{aged}
-use Rattle.pdc_table.specs.Layout.{LayoutView}
-use Rattle.pdc_table.specs.RingRows.{StandAbove, at_age, base_row, changed, closed_rows, met_row, older, row_in, rows_in, with_ages}
-use Rattle.pdc_table.specs.Steps.{answer_at, disagreements_in, is_taken}
-use Rattle.pdc_table.specs.Taking.{with_frame}
+use Rattle.pdc_open_row.specs.Layout.{LayoutView}
+use Rattle.pdc_table.specs.RingRows.{StandAbove, base_row, changed, closed_rows, met_row, older, row_in, rows_in, with_ages}
+use Rattle.pdc_open_row.specs.Views.{OpenRowView, at_age, blank_row}
+use Rattle.pdc_table.specs.Steps.{disagreements_in}
+use Rattle.pdc_open_row.specs.Taking.{answer_at, is_taken, with_frame}
 use Rattle.pdc_table.specs.Content.{HasPlaces}
-use Rattle.pdc_table.specs.declared.outcome.PutOutcome.{PutOutcome}
-use Rattle.pdc_table.specs.Views.{OpenRowView, blank_row}
+use Rattle.pdc_open_row.specs.declared.outcome.PutOutcome.{PutOutcome}
 use Rattle.pdc_table.proofs.RingKept.{IsKnown, IsRing, ring_changed}
 use Rattle.pdc_table.proofs.RingRows.{ArePlaced}
 

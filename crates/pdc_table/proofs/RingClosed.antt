@@ -5,15 +5,15 @@ use Rattle.std.specs.List.{AllByRecursion, list_all, slice_get}
 use Rattle.std.proofs.lemmas.Bool.{cases_eq}
 use Rattle.std.proofs.lemmas.Grind.{get_or-set_at}
 use Rattle.std.proofs.lemmas.List.{get_or-set_same, get_or-set_other, length-set}
-use Rattle.pdc_row.specs.Rising.{Rises, AreBelow, AreNear, is_near}
-use Rattle.pdc_row.specs.RisingLaws.{RisingLaws, AreAllNear}
-use Rattle.pdc_row.specs.RowView.{RowView, row_instants}
+use Rattle.pdc_open_row.specs.pdc_row.Rising.{Rises, AreBelow, AreNear, is_near}
+use Rattle.pdc_open_row.specs.pdc_row.RisingLaws.{RisingLaws, AreAllNear}
+use Rattle.pdc_open_row.specs.pdc_row.RowView.{RowView, row_instants}
 use Rattle.pdc_table.specs.Content.{Content, IsContent, held_instants}
-use Rattle.pdc_table.specs.Layout.{LayoutView}
+use Rattle.pdc_open_row.specs.Layout.{LayoutView}
 use Rattle.pdc_table.specs.OpenInstants.{instants_of}
 use Rattle.pdc_table.specs.RingRows.{changed, closed_rows, laid, layout_in, no_layout, rows_in}
-use Rattle.pdc_table.specs.Row.{row_of}
-use Rattle.pdc_table.specs.Views.{OpenRowView}
+use Rattle.pdc_open_row.specs.Row.{row_of}
+use Rattle.pdc_open_row.specs.Views.{OpenRowView}
 use Rattle.pdc_table.proofs.RingKept.{placed_rest}
 use Rattle.pdc_table.proofs.RingRows.{ArePlaced, IsApart, apart_higher, apart_pair, changed-else, changed-placed, instants_in, placed-drop, placed-take, row_else}
 

@@ -5,17 +5,16 @@ use Rattle.std.specs.List.{All, list_any}
 use Rattle.std.specs.Option.{unwrap_or}
 use Rattle.std.proofs.lemmas.Bool.{cases_eq, cases_Bool, eq-eqb, ne_eqb, false≢true}
 use Rattle.std.proofs.lemmas.List.{length-set}
-use Rattle.pdc_row.specs.CellView.{CellView}
-use Rattle.pdc_row.specs.Quality.{greatest}
-use Rattle.pdc_row.specs.Rising.{Rises, AreBelow, place}
-use Rattle.pdc_row.specs.RisingLaws.{RisingLaws, Below, At, Above}
+use Rattle.pdc_open_row.specs.pdc_row.CellView.{CellView}
+use Rattle.pdc_open_row.specs.pdc_row.Quality.{greatest}
+use Rattle.pdc_open_row.specs.pdc_row.Rising.{Rises, AreBelow, place}
+use Rattle.pdc_open_row.specs.pdc_row.RisingLaws.{RisingLaws, Below, At, Above}
 use Rattle.pdc_table.specs.Content.{Content, HasPlaces, IsContent, streams_of}
 use Rattle.pdc_table.specs.Placing.{row_at, with_row}
 use Rattle.pdc_table.specs.RingRows.{StandAbove, base_row, changed, met_row, row_in, rows_in}
-use Rattle.pdc_table.specs.Steps.{answer_at, is_taken}
-use Rattle.pdc_table.specs.Taking.{with_frame}
-use Rattle.pdc_table.specs.Views.{OpenRowView, blank_row}
-use Rattle.pdc_table.specs.declared.outcome.PutOutcome.{PutOutcome}
+use Rattle.pdc_open_row.specs.Taking.{answer_at, is_taken, with_frame}
+use Rattle.pdc_open_row.specs.Views.{OpenRowView, blank_row}
+use Rattle.pdc_open_row.specs.declared.outcome.PutOutcome.{PutOutcome}
 use Rattle.pdc_table.proofs.Keeps.{places-blank, places-frame}
 use Rattle.pdc_table.proofs.RingRows.{AreApartBut, ArePlaced, IsApart, apart_but, changed-each, changed-length, changed-placed, changed-stand, met_is, placed-drop, put_row, row_else, row_here, set-each, set-stand}
 

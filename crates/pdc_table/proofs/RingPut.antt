@@ -1,12 +1,13 @@
 -- What a put of a ring answers, and what it makes of the content.
 use Rattle.std.proofs.Common.{◌≡◌, ℕ, ◌<◌, Bool, true, false, not, if◌then◌else◌, List, refl, sym, ◌∙◌, ap}
 use Rattle.std.proofs.lemmas.Bool.{lt-leb}
-use Rattle.pdc_row.specs.CellView.{CellView}
+use Rattle.pdc_open_row.specs.pdc_row.CellView.{CellView}
 use Rattle.pdc_table.specs.Content.{Content, lane_of}
 use Rattle.pdc_table.specs.Placing.{row_at}
-use Rattle.pdc_table.specs.Steps.{after_put, after_take, answer_at, first_cause, is_near_all, is_taken, put_answer}
-use Rattle.pdc_table.specs.Views.{OpenRowView}
-use Rattle.pdc_table.specs.declared.outcome.PutOutcome.TheVariants.{OutOfWindow}
+use Rattle.pdc_table.specs.Steps.{after_put, after_take, first_cause, is_near_all, put_answer}
+use Rattle.pdc_open_row.specs.Taking.{answer_at, is_taken}
+use Rattle.pdc_open_row.specs.Views.{OpenRowView}
+use Rattle.pdc_open_row.specs.declared.outcome.PutOutcome.TheVariants.{OutOfWindow}
 
 pub put_far : (c : Content) (stream instant : ℕ) (cells : List (ℕ × CellView)) → c.last < instant → is_near_all c instant ≡ false → OutOfWindow ≡ put_answer c stream instant cells
 put_far c stream instant cells h e =

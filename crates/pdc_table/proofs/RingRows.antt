@@ -8,16 +8,17 @@ use Rattle.std.proofs.lemmas.Bool.{cases_eq, cases_lt, eq-eqb, ne_eqb, false≢t
 use Rattle.std.proofs.lemmas.Grind.{get_or-set_at}
 use Rattle.std.proofs.lemmas.List.{drop-map, take-map, get_or_default, get_or-set_same, get_or-set_other, length-set}
 use Rattle.std.proofs.lemmas.List.Sums.{prefix_len_is}
-use Rattle.pdc_row.specs.Rising.{Rises, AreBelow, AreNear, is_near, place}
-use Rattle.pdc_row.specs.RowView.{row_instants}
+use Rattle.pdc_open_row.specs.pdc_row.Rising.{Rises, AreBelow, AreNear, is_near, place}
+use Rattle.pdc_open_row.specs.pdc_row.RowView.{row_instants}
 use Rattle.pdc_table.specs.Content.{Content, IsContent}
-use Rattle.pdc_row.specs.RisingLaws.{RisingLaws, AreAllNear, Below, At, Above}
-use Rattle.pdc_table.specs.Closing.{closing, is_due, staying}
+use Rattle.pdc_open_row.specs.pdc_row.RisingLaws.{RisingLaws, AreAllNear, Below, At, Above}
+use Rattle.pdc_table.specs.Closing.{closing, staying}
+use Rattle.pdc_open_row.specs.Due.{is_due}
 use Rattle.pdc_table.specs.OpenInstants.{instants_of}
 use Rattle.pdc_table.specs.Placing.{row_at, with_row}
 use Rattle.pdc_table.specs.RingRows.{StandAbove, changed, met_row, row_in, rows_in}
-use Rattle.pdc_table.specs.Views.{OpenRowView, blank_row}
-use Rattle.pdc_table.specs.declared.wait_rule.WaitRule.{WaitRule}
+use Rattle.pdc_open_row.specs.Views.{OpenRowView, blank_row}
+use Rattle.pdc_open_row.specs.declared.wait_rule.WaitRule.{WaitRule}
 use Rattle.pdc_table.proofs.Closes.{back_is, front_is, front_length}
 use Rattle.pdc_table.proofs.RowAt.{beyond, here, row_above}
 

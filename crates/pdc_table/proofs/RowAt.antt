@@ -2,16 +2,16 @@
 use Rattle.std.proofs.Common.{◌≡◌, ◌≢◌, ℕ, ◌+◌, ◌<◌, ◌≤◌, Bool, true, false, cond, eqb, ltb, List, [], ◌∷◌, ◌++◌, map, refl, sym, ◌∙◌, ap, arith, rules, inl, inr, Option, Some, None, option_map}
 use Rattle.std.specs.Option.{unwrap_or}
 use Rattle.std.proofs.lemmas.Bool.{cases_eq, eq-eqb, ne_eqb}
-use Rattle.pdc_row.specs.Quality.{greatest}
-use Rattle.pdc_row.specs.Rising.{Rises, AreBelow}
-use Rattle.pdc_row.specs.RisingLaws.{RisingLaws, Below, At, Above}
+use Rattle.pdc_open_row.specs.pdc_row.Quality.{greatest}
+use Rattle.pdc_open_row.specs.pdc_row.Rising.{Rises, AreBelow}
+use Rattle.pdc_open_row.specs.pdc_row.RisingLaws.{RisingLaws, Below, At, Above}
 use Rattle.pdc_table.specs.Closing.{aged}
 use Rattle.pdc_table.specs.Content.{Content}
 use Rattle.pdc_table.specs.OpenInstants.{instants_of}
 use Rattle.pdc_table.specs.Placing.{row_at, with_row}
 use Rattle.pdc_table.specs.Steps.{closing_of, staying_of}
-use Rattle.pdc_table.specs.Views.{OpenRowView}
-use Rattle.pdc_table.specs.declared.wait_rule.WaitRule.{WaitRule}
+use Rattle.pdc_open_row.specs.Views.{OpenRowView}
+use Rattle.pdc_open_row.specs.declared.wait_rule.WaitRule.{WaitRule}
 use Rattle.pdc_table.proofs.Keeps.{aged_rise, front_back}
 
 map_chosen : (b : Bool) (f : OpenRowView → OpenRowView) (x : OpenRowView) (o : Option OpenRowView) → cond b (Some (f x)) (option_map f o) ≡ option_map f (cond b (Some x) o)

@@ -5,17 +5,17 @@ use Rattle.std.specs.List.{All}
 use Rattle.std.proofs.lemmas.Bool.{cases_eq, cases_Bool, eq-eqb, ne_eqb, eqb-true, false≢true, or_left, or_parts, and_from, and_left, and_right}
 use Rattle.std.proofs.lemmas.Grind.{get_or-set_at}
 use Rattle.std.proofs.lemmas.List.{get_or-map, get_or-replicate, get_or-set_other}
-use Rattle.pdc_row.specs.CellView.{CellView}
-use Rattle.pdc_row.specs.Chosen.{first_of}
+use Rattle.pdc_open_row.specs.pdc_row.CellView.{CellView}
+use Rattle.pdc_open_row.specs.pdc_row.Chosen.{first_of}
 use Rattle.pdc_table.specs.Calls.{Call, Put, Require, Tick, DropStream, DropColumn, Pop, after, after_all}
 use Rattle.pdc_table.specs.Closing.{aged, counter}
 use Rattle.pdc_table.specs.Content.{Content, HasPlaces, HaveOwnColumns, lane_of, streams_of}
 use Rattle.pdc_table.specs.Histories.{first_put, given_by, is_drop_in, is_drop_of, is_of_stream, is_take, is_taken_since, ticks_since_take, was_taken}
-use Rattle.pdc_table.specs.Steps.{after_take, answer_at, first_cause, is_taken, put_answer}
-use Rattle.pdc_table.specs.Taking.{cell_in, conflicts, given_for, with_cell, with_cells, with_frame, with_given, without_column, without_stream}
-use Rattle.pdc_table.specs.Views.{ColumnView, OpenRowView, blank_row, empty_column}
-use Rattle.pdc_table.specs.declared.outcome.PutOutcome.{PutOutcome}
-use Rattle.pdc_table.specs.declared.outcome.PutOutcome.TheVariants.{Conflict, Duplicate, Taken}
+use Rattle.pdc_table.specs.Steps.{after_take, first_cause, put_answer}
+use Rattle.pdc_open_row.specs.Taking.{answer_at, cell_in, conflicts, given_for, is_taken, with_cell, with_cells, with_frame, with_given, without_column, without_stream}
+use Rattle.pdc_open_row.specs.Views.{ColumnView, OpenRowView, blank_row, empty_column}
+use Rattle.pdc_open_row.specs.declared.outcome.PutOutcome.{PutOutcome}
+use Rattle.pdc_open_row.specs.declared.outcome.PutOutcome.TheVariants.{Conflict, Duplicate, Taken}
 use Rattle.pdc_table.proofs.Given.{stands}
 use Rattle.pdc_table.proofs.Keeps.{places-blank, places-frame, places-without_column, places-without_stream}
 

@@ -1,16 +1,16 @@
 -- Whole lists of calls of a table, the newest first, by the definitions of each call (this profile).
 use Rattle.std.specs.Prelude.{◌≡◌, ℕ, ◌<◌, ◌++◌, Bool, List, [], ◌∷◌, length, slice_index_or}
 use Rattle.std.specs.Option.{option_to_list}
-use Rattle.pdc_row.specs.CellView.{CellView}
-use Rattle.pdc_row.specs.RowView.{RowView, row_instants}
-use Rattle.pdc_row.specs.Rising.{Rises, AreBelow}
+use Rattle.pdc_open_row.specs.pdc_row.CellView.{CellView}
+use Rattle.pdc_open_row.specs.pdc_row.RowView.{RowView, row_instants}
+use Rattle.pdc_open_row.specs.pdc_row.Rising.{Rises, AreBelow}
 use Rattle.pdc_table.specs.Content.{Content, HaveOwnColumns, IsPut, new_content, streams_of}
-use Rattle.pdc_table.specs.Layout.{LayoutView}
+use Rattle.pdc_open_row.specs.Layout.{LayoutView}
 use Rattle.pdc_table.specs.Steps.{after_put, after_require, after_tick, after_drop_stream, after_drop_column, after_pop, closed_by, pop_answer, put_answer}
-use Rattle.pdc_table.specs.Taking.{given_for, with_cells, with_given}
-use Rattle.pdc_table.specs.Views.{ColumnView, empty_column}
-use Rattle.pdc_table.specs.declared.outcome.PutOutcome.TheVariants.{Taken}
-use Rattle.pdc_table.specs.declared.wait_rule.WaitRule.{WaitRule}
+use Rattle.pdc_open_row.specs.Taking.{given_for, with_cells, with_given}
+use Rattle.pdc_open_row.specs.Views.{ColumnView, empty_column}
+use Rattle.pdc_open_row.specs.declared.outcome.PutOutcome.TheVariants.{Taken}
+use Rattle.pdc_open_row.specs.declared.wait_rule.WaitRule.{WaitRule}
 
 -- one call
 pub data Call : Type 0 where

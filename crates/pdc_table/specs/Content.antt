@@ -1,14 +1,15 @@
 -- What a table contains, however it is kept (this profile).
 use Rattle.std.specs.Prelude.{◌≡◌, ◌≢◌, ℕ, ◌+◌, ◌<◌, ◌≤◌, ◌++◌, ◌==◌, Bool, false, if◌then◌else◌, List, [], ◌∷◌, length, replicate, Option, Some, None}
 use Rattle.std.specs.List.{All, AllByRecursion}
-use Rattle.pdc_row.specs.pdc_cfg.declared.shape.Shape.{Shape}
-use Rattle.pdc_row.specs.CellView.{CellView}
-use Rattle.pdc_row.specs.RowView.{RowView, row_instants}
-use Rattle.pdc_row.specs.Rising.{Rises, AreBelow, AreNear}
+use Rattle.pdc_open_row.specs.pdc_cfg.declared.shape.Shape.{Shape}
+use Rattle.pdc_open_row.specs.pdc_row.CellView.{CellView}
+use Rattle.pdc_open_row.specs.pdc_row.RowView.{RowView, row_instants}
+use Rattle.pdc_open_row.specs.pdc_row.Rising.{Rises, AreBelow, AreNear}
 use Rattle.pdc_table.specs.OpenInstants.{instants_of}
-use Rattle.pdc_table.specs.Layout.{LayoutView}
-use Rattle.pdc_table.specs.Views.{ColumnView, OpenRowView}
-use Rattle.pdc_table.specs.declared.limits.TheConstants.{MAX_COLUMNS}
+use Rattle.pdc_open_row.specs.Layout.{LayoutView}
+use Rattle.pdc_open_row.specs.Streams.{stream_count}
+use Rattle.pdc_open_row.specs.Views.{ColumnView, OpenRowView}
+use Rattle.pdc_open_row.specs.declared.limits.TheConstants.{MAX_COLUMNS}
 
 pub record Content : Type 0 where
   -- what is fixed: the window, how many columns there are, and one lane or two
@@ -23,10 +24,6 @@ pub record Content : Type 0 where
   pub closed : List RowView
   -- the greatest instant closed, at first the floor
   pub last : ℕ
-
--- With one lane each stream writes its own column; with two there are two streams, and each writes its lane.
-abbrev pub stream_count : (columns lanes : ℕ) → ℕ
-stream_count columns lanes = if lanes == 1 then columns else 2
 
 abbrev pub new_content : (window columns lanes floor : ℕ) → Content
 new_content window columns lanes floor = record {

@@ -1,19 +1,20 @@
 -- What a table contains, told by the calls on it, the newest first (this profile).
 use Rattle.std.specs.Prelude.{◌≡◌, ℕ, ◌+◌, ◌<◌, ◌==◌, Bool, false, ◌&&◌, ◌||◌, not, if◌then◌else◌, nat_le, nat_lt, List, [], ◌∷◌, filter, Option, None, IfSome, is_some, slice_index_or}
 use Rattle.std.specs.List.{list_all, range_with_len}
-use Rattle.pdc_row.specs.CellView.{CellView}
-use Rattle.pdc_row.specs.Chosen.{first_of}
-use Rattle.pdc_row.specs.RowView.{row_instants}
+use Rattle.pdc_open_row.specs.pdc_row.CellView.{CellView}
+use Rattle.pdc_open_row.specs.pdc_row.Chosen.{first_of}
+use Rattle.pdc_open_row.specs.pdc_row.RowView.{row_instants}
 use Rattle.pdc_table.specs.Calls.{AreAllowed, Call, Put, Require, Tick, DropStream, DropColumn, after_all}
-use Rattle.pdc_table.specs.Closing.{counter, is_over}
+use Rattle.pdc_table.specs.Closing.{counter}
+use Rattle.pdc_open_row.specs.Due.{is_over}
 use Rattle.pdc_table.specs.Content.{Content, lane_of, new_content, streams_of}
-use Rattle.pdc_table.specs.Layout.{LayoutView}
+use Rattle.pdc_open_row.specs.Layout.{LayoutView}
 use Rattle.pdc_table.specs.OpenInstants.{instants_of}
 use Rattle.pdc_table.specs.Placing.{row_at}
-use Rattle.pdc_table.specs.Steps.{closed_by, is_taken, put_answer}
-use Rattle.pdc_table.specs.Taking.{cell_in, given_for}
-use Rattle.pdc_table.specs.Views.{OpenRowView, empty_column}
-use Rattle.pdc_table.specs.declared.wait_rule.WaitRule.{WaitRule}
+use Rattle.pdc_table.specs.Steps.{closed_by, put_answer}
+use Rattle.pdc_open_row.specs.Taking.{cell_in, given_for, is_taken}
+use Rattle.pdc_open_row.specs.Views.{OpenRowView, empty_column}
+use Rattle.pdc_open_row.specs.declared.wait_rule.WaitRule.{WaitRule}
 
 -- at this content the call is a put for the instant, and it is taken
 abbrev pub is_take : Content → (i : ℕ) → Call → Bool

@@ -1,7 +1,7 @@
 -- A row that a caller keeps, and pops into (this profile).
 use Rattle.std.specs.Prelude.{Bool, true, false, Option, Some, None}
-use Rattle.pdc_row.specs.RowView.{RowView, row_view}
-use Rattle.pdc_row.specs.declared.due_row.DueRow.{DueRow}
+use Rattle.pdc_open_row.specs.pdc_row.RowView.{RowView, row_view}
+use Rattle.pdc_open_row.specs.pdc_row.declared.due_row.DueRow.{DueRow}
 
 -- the row that was popped into the one that is kept, where there was one
 abbrev pub popped_into : Bool → DueRow → Option RowView

@@ -1,19 +1,13 @@
 pub mod AgesView
 pub mod Calls
-pub mod Chosen
 pub mod Closing
 pub mod Content
 pub mod Histories
 pub mod KeptRow
-pub mod Layout
 pub mod OpenInstants
-pub mod OpenRowParts
-pub mod Parts
 pub mod Placing
 pub mod Ring
 pub mod RingRows
-pub mod Row
 pub mod Steps
 pub mod TableView
-pub mod Taking
-pub mod Views
+pub use Rattle.pdc_open_row.specs as pdc_open_row

@@ -1,7 +1,7 @@
 -- The row of an instant among rows in rising order.
 use Rattle.std.specs.Prelude.{◌≡◌, ℕ, ◌<◌, ◌≤◌, ◌==◌, nat_lt, if◌then◌else◌, List, [], ◌∷◌, length, insert, slice_index_or, slice_set, Option, Some, None}
 use Rattle.std.specs.List.{prefix_len}
-use Rattle.pdc_table.specs.Views.{OpenRowView}
+use Rattle.pdc_open_row.specs.Views.{OpenRowView}
 
 -- the row of this instant, if there is one
 abbrev pub row_at : ℕ → List OpenRowView → Option OpenRowView

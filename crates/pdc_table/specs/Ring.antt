@@ -5,7 +5,7 @@ use Rattle.std.specs.Vec.{vec_capacity}
 use Rattle.std.specs.VecDeque.{deque_capacity}
 use Rattle.pdc_table.specs.Content.{Content, HasPlaces, IsContent, streams_of}
 use Rattle.pdc_table.specs.TableView.{TableView}
-use Rattle.pdc_table.specs.Views.{OpenRowView}
+use Rattle.pdc_open_row.specs.Views.{OpenRowView}
 use Rattle.pdc_table.specs.declared.ring_table.RingTable.TheInside.{Inside}
 use Rattle.pdc_table.specs.RingRows.{StandAbove, closed_rows, rows_in, row_in, with_ages}
 

@@ -1,15 +1,11 @@
 -- Rows that stand at the places of their instants.
 use Rattle.std.specs.Prelude.{◌≡◌, ℕ, ◌<◌, ◌+◌, ◌%◌, ◌==◌, List, [], ◌∷◌, length, map, slice_index_or, slice_set, Option, Some, None, if◌then◌else◌}
 use Rattle.std.specs.Option.{unwrap_or}
-use Rattle.pdc_row.specs.RowView.{RowView}
+use Rattle.pdc_open_row.specs.pdc_row.RowView.{RowView}
 use Rattle.pdc_table.specs.Closing.{counter}
-use Rattle.pdc_table.specs.Layout.{LayoutView}
-use Rattle.pdc_table.specs.Row.{row_of}
-use Rattle.pdc_table.specs.Views.{OpenRowView, blank_row}
-
--- the row with this age in place of its own
-abbrev pub at_age : ℕ → OpenRowView → OpenRowView
-at_age age row = record row { age = age }
+use Rattle.pdc_open_row.specs.Layout.{LayoutView}
+use Rattle.pdc_open_row.specs.Row.{row_of}
+use Rattle.pdc_open_row.specs.Views.{OpenRowView, at_age, blank_row}
 
 -- the rows with these ages, one for each, in place of their own
 abbrev pub with_ages : List OpenRowView → List ℕ → List OpenRowView
@@ -38,10 +34,6 @@ changed change window (i ∷ instants) places =
 abbrev pub StandAbove : (last window : ℕ) → List OpenRowView → Type 0
 StandAbove last window places =
     (k : ℕ) → k < length places → last < (slice_index_or places k (blank_row 0 0 0)).instant → (slice_index_or places k (blank_row 0 0 0)).instant % window ≡ k
-
--- the row as one of no instant: an instant that is held is above 0
-abbrev pub without_instant : OpenRowView → OpenRowView
-without_instant row = record row { instant = 0 }
 
 -- the places after what others have at that of each of these instants was copied to it
 abbrev pub copied : {A : Type 0} → (default : A) → (window : ℕ) → List ℕ → (others places : List A) → List A

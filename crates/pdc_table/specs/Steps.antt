@@ -1,29 +1,23 @@
 -- What each call of a table answers, and what it makes of the content (this profile).
-use Rattle.std.specs.Prelude.{ℕ, ◌+◌, ◌++◌, nat_le, Bool, true, false, not, if◌then◌else◌, List, [], ◌∷◌, length, map, drop, Option, Some, None, option_map, slice_set, slice_index_or}
+use Rattle.std.specs.Prelude.{ℕ, ◌+◌, ◌++◌, nat_le, Bool, not, if◌then◌else◌, List, [], ◌∷◌, length, map, drop, Option, Some, None, option_map, slice_set}
 use Rattle.std.specs.List.{list_all, slice_get}
-use Rattle.pdc_row.specs.pdc_cfg.declared.shape.Shape.{Shape}
-use Rattle.pdc_row.specs.CellView.{BlockView, CellView}
-use Rattle.pdc_row.specs.Quality.{greatest}
-use Rattle.pdc_row.specs.Rising.{is_near}
-use Rattle.pdc_row.specs.RowView.{RowView}
-use Rattle.pdc_table.specs.Chosen.{disagrees}
-use Rattle.pdc_table.specs.Row.{row_of}
+use Rattle.pdc_open_row.specs.pdc_cfg.declared.shape.Shape.{Shape}
+use Rattle.pdc_open_row.specs.pdc_row.CellView.{BlockView, CellView}
+use Rattle.pdc_open_row.specs.pdc_row.Quality.{greatest}
+use Rattle.pdc_open_row.specs.pdc_row.Rising.{is_near}
+use Rattle.pdc_open_row.specs.pdc_row.RowView.{RowView}
+use Rattle.pdc_open_row.specs.Chosen.{disagreements_of}
+use Rattle.pdc_open_row.specs.Row.{row_of}
 use Rattle.pdc_table.specs.OpenInstants.{instants_of}
 use Rattle.pdc_table.specs.Closing.{aged, closing, staying, counter}
 use Rattle.pdc_table.specs.Placing.{row_at, with_row}
-use Rattle.pdc_table.specs.Taking.{conflicts, with_frame, without_stream, without_column}
+use Rattle.pdc_open_row.specs.Taking.{answer_at, is_taken, with_frame, without_stream, without_column}
 use Rattle.pdc_table.specs.Content.{Content, lane_of, held_instants, streams_of}
-use Rattle.pdc_table.specs.Layout.{LayoutView}
-use Rattle.pdc_table.specs.Views.{ColumnView, OpenRowView, blank_row}
-use Rattle.pdc_table.specs.declared.wait_rule.WaitRule.{WaitRule}
-use Rattle.pdc_table.specs.declared.outcome.PutOutcome.{PutOutcome}
-use Rattle.pdc_table.specs.declared.outcome.PutOutcome.TheVariants.{Taken, Late, OutOfWindow, Duplicate, Conflict}
-
--- what a frame is answered at an instant whose row is this: the first to be taken stays
-abbrev pub answer_at : Option OpenRowView → (stream lane : ℕ) → List (ℕ × CellView) → PutOutcome
-answer_at None stream lane cells = Taken
-answer_at (Some row) stream lane cells =
-    if slice_index_or row.taken stream false then (if conflicts lane cells row.columns then Conflict else Duplicate) else Taken
+use Rattle.pdc_open_row.specs.Layout.{LayoutView}
+use Rattle.pdc_open_row.specs.Views.{OpenRowView, blank_row}
+use Rattle.pdc_open_row.specs.declared.wait_rule.WaitRule.{WaitRule}
+use Rattle.pdc_open_row.specs.declared.outcome.PutOutcome.{PutOutcome}
+use Rattle.pdc_open_row.specs.declared.outcome.PutOutcome.TheVariants.{Late, OutOfWindow}
 
 -- the first cause that holds
 abbrev pub first_cause : (late far : Bool) → PutOutcome → PutOutcome
@@ -37,10 +31,6 @@ abbrev pub put_answer : Content → (stream instant : ℕ) → List (ℕ × Cell
 put_answer c stream instant cells =
     first_cause (nat_le instant c.last) (not (is_near_all c instant))
     (answer_at (row_at instant c.open_rows) stream (lane_of c stream) cells)
-
-abbrev pub is_taken : PutOutcome → Bool
-is_taken Taken = true
-is_taken _ = false
 
 -- a row for this instant in which nothing was taken
 abbrev pub fresh_row : Content → (instant : ℕ) → OpenRowView
@@ -70,18 +60,7 @@ staying_of c rule = staying c.required rule (map aged c.open_rows)
 abbrev pub closed_by : Content → WaitRule → LayoutView → List RowView
 closed_by c rule layout = map (row_of layout) (closing_of c rule)
 
--- one for a column with a shape whose lanes disagree
-abbrev pub disagreement_at : Option Shape → ColumnView → ℕ
-disagreement_at None column = 0
-disagreement_at (Some shape) column = if disagrees column then 1 else 0
-
--- how many columns with a shape have lanes that disagree
-abbrev pub disagreements_of : List (Option Shape) → List ColumnView → ℕ
-disagreements_of [] columns = 0
-disagreements_of (shape ∷ shapes) [] = 0
-disagreements_of (shape ∷ shapes) (column ∷ columns) = disagreement_at shape column + disagreements_of shapes columns
-
--- the same, added up over rows
+-- how many columns with a shape have lanes that disagree, added up over rows
 abbrev pub disagreements_in : LayoutView → List OpenRowView → ℕ
 disagreements_in layout [] = 0
 disagreements_in layout (row ∷ rows) = disagreements_of layout.shapes row.columns + disagreements_in layout rows

@@ -1,10 +1,10 @@
 //! The layout that a row closed under.
 ghost use Rattle.std.specs.Prelude.{◌≡◌};
-ghost use Rattle.pdc_table.specs.Layout.{layout_view};
+ghost use Rattle.pdc_open_row.specs.Layout.{layout_view};
 
 use crate::RowLayout;
 use arrayvec::ArrayVec;
-use pdc_row::CopyFrom;
+use pdc_open_row::CopyFrom;
 use std::marker::Model;
 
 /// A copy of the layout that a row closed under.
@@ -14,7 +14,7 @@ pub struct ClosingLayout {
 }
 
 impl Model for ClosingLayout {
-    ghost use Rattle.pdc_table.specs.Layout.{LayoutView, layout_view};
+    ghost use Rattle.pdc_open_row.specs.Layout.{LayoutView, layout_view};
 
     ghost Value = { LayoutView };
 

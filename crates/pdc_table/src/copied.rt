@@ -1,25 +1,10 @@
-//! Lists that are copied over others, whole or at the places of some instants.
-ghost use Rattle.std.specs.Prelude.{◌≡◌, ◌≤◌, length};
+//! Lists that are copied over others at the places of some instants.
+ghost use Rattle.std.specs.Prelude.{◌≡◌, length};
 ghost use Rattle.pdc_table.specs.RingRows.{copied};
 
-use crate::MAX_COLUMNS;
 use crate::circle::Circle;
-use arrayvec::ArrayVec;
-use pdc_row::CopyFrom;
+use pdc_open_row::CopyFrom;
 use std::collections::VecDeque;
-
-/// Makes these the items of a list. Where there were as many before, they are written over, and nothing is emptied first.
-pub fn copy_items<T: Copy + Default + Drop>(kept: &mut ArrayVec<T, MAX_COLUMNS>, items: &[T])
-    requires { length items.now ≤ MAX_COLUMNS }
-    ensures { kept.new.items ≡ items.now }
-{
-    if kept.len() == items.len() {
-        kept.as_mut_slice().copy_from_slice(items);
-        return;
-    }
-    kept.clear();
-    kept.try_extend_from_slice(items).unwrap();
-}
 
 /// Makes what stands at the places of these instants copies of what others have there.
 pub fn copy_at<T: CopyFrom>(mine: &mut [T], others: &[T], circle: &Circle, instants: &[u64])

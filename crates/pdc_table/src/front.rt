@@ -1,7 +1,7 @@
 //! The instants that are held: whether they are near, and those in front that go.
 ghost use Rattle.std.specs.Prelude.{◌≡◌, ◌≤◌, drop, vec_len};
 ghost use Rattle.std.specs.Vec.{vec_capacity};
-ghost use Rattle.pdc_row.specs.Rising.{is_near_any};
+ghost use Rattle.pdc_open_row.specs.pdc_row.Rising.{is_near_any};
 
 /// Removes so many items from the front.
 pub fn remove_front<T: Drop>(items: &mut Vec<T>, count: usize)

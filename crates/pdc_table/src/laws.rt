@@ -2,7 +2,7 @@
 ghost use Rattle.pdc_table.specs.Calls.{BlocksStandInTheirColumns, InstantsCloseOnce, NothingIsPutBelowClosed, RowsComeOutOnce, RowsComeOutRising};
 ghost use Rattle.pdc_table.specs.Histories.{AgesAreTicks, CellsAreFirstPuts, InstantsOpenWhereTaken, RowsCloseWhereDue};
 
-use pdc_row::numbers_rise;
+use pdc_open_row::numbers_rise;
 
 /// Over every list of calls on a new table, the rows come out in strictly rising order, above the floor; an instant closes at most
 /// once; each row that closed came out once or waits, in the order of closing; and what is taken is for an instant above the floor

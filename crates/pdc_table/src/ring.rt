@@ -7,23 +7,22 @@
 ghost use Rattle.std.specs.Prelude.{◌≡◌, ℕ, ◌+◌, ◌%◌, ◌==◌, ◌<◌, ◌≤◌, ◌++◌, [], length, map, nat_lt, replicate, IfOk, slice_set, true, vec_len, if◌then◌else◌};
 ghost use Rattle.std.specs.List.{All, AllByRecursion, list_all, list_any, prefix_len, slice_get};
 ghost use Rattle.std.specs.Vec.{vec_capacity};
-ghost use Rattle.pdc_row.specs.CellView.{CellView};
-ghost use Rattle.pdc_row.specs.Rising.{AreNear, Rises, highest_of, is_near, place};
-ghost use Rattle.pdc_table.specs.Closing.{counter, is_due};
-ghost use Rattle.pdc_table.specs.Layout.{layout_view};
-ghost use Rattle.pdc_table.specs.RingRows.{base_row, changed, copied, met_row, row_in, rows_in, with_ages, without_instant};
-ghost use Rattle.pdc_table.specs.Steps.{answer_at, disagreements_in, is_taken};
-ghost use Rattle.pdc_table.specs.Taking.{with_frame, without_column, without_stream};
-ghost use Rattle.pdc_table.specs.Views.{OpenRowView, blank_row};
+ghost use Rattle.pdc_open_row.specs.pdc_row.CellView.{CellView};
+ghost use Rattle.pdc_open_row.specs.pdc_row.Rising.{AreNear, Rises, highest_of, is_near, place};
+ghost use Rattle.pdc_table.specs.Closing.{counter};
+ghost use Rattle.pdc_open_row.specs.Due.{is_due};
+ghost use Rattle.pdc_open_row.specs.Layout.{layout_view};
+ghost use Rattle.pdc_table.specs.RingRows.{base_row, changed, copied, met_row, row_in, rows_in, with_ages};
+ghost use Rattle.pdc_open_row.specs.Views.{OpenRowView, blank_row, without_instant};
+ghost use Rattle.pdc_table.specs.Steps.{disagreements_in};
+ghost use Rattle.pdc_open_row.specs.Taking.{answer_at, is_taken, with_frame, without_column, without_stream};
 
 use crate::ages::Ages;
-use crate::blocks::Blocks;
 use crate::circle::Circle;
 use crate::copied::{copy_at, copy_at_queued};
 use crate::front::is_near;
-use crate::open_row::{OpenRow, Places};
 use crate::{MAX_COLUMNS, PutOutcome, RowLayout, WaitRule};
-use pdc_row::numbers_rise;
+use pdc_open_row::{Blocks, OpenRow, Places, numbers_rise};
 use std::alloc::{AllocError, Global};
 use std::collections::VecDeque;
 

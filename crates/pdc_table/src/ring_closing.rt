@@ -3,12 +3,12 @@ ghost use Rattle.std.specs.Prelude.{◌≡◌, ◌+◌, ◌≤◌, ◌++◌, [],
 ghost use Rattle.std.specs.List.{AllByRecursion, slice_get};
 ghost use Rattle.std.specs.Vec.{vec_capacity};
 ghost use Rattle.std.specs.VecDeque.{deque_capacity, deque_len};
-ghost use Rattle.pdc_row.specs.Quality.{greatest};
-ghost use Rattle.pdc_row.specs.Rising.{Rises};
-ghost use Rattle.pdc_row.specs.RowView.{row_view};
+ghost use Rattle.pdc_open_row.specs.pdc_row.Quality.{greatest};
+ghost use Rattle.pdc_open_row.specs.pdc_row.Rising.{Rises};
+ghost use Rattle.pdc_open_row.specs.pdc_row.RowView.{row_view};
 ghost use Rattle.pdc_table.specs.Closing.{closing, counter, staying};
 ghost use Rattle.pdc_table.specs.KeptRow.{popped_into};
-ghost use Rattle.pdc_table.specs.Layout.{layout_view};
+ghost use Rattle.pdc_open_row.specs.Layout.{layout_view};
 ghost use Rattle.pdc_table.specs.OpenInstants.{instants_of};
 ghost use Rattle.pdc_table.specs.RingRows.{closed_rows, copied, laid, no_layout, row_in, rows_in, with_ages};
 ghost use Rattle.pdc_table.specs.Steps.{disagreements_in};
@@ -18,7 +18,7 @@ use crate::copied::copy_at_queued;
 use crate::ring::{Rows, count_disagreements, count_due};
 use crate::{ClosingLayout, RowLayout, WaitRule};
 use arrayvec::ArrayVec;
-use pdc_row::DueRow;
+use pdc_open_row::DueRow;
 use std::alloc::{AllocError, Global};
 use std::collections::VecDeque;
 

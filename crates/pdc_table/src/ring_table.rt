@@ -3,19 +3,17 @@ ghost use Rattle.std.specs.Prelude.{◌≡◌};
 ghost use Rattle.pdc_table.specs.Content.{HasSizesOf, IsContent, IsPut};
 ghost use Rattle.pdc_table.specs.Steps.{after_put, put_answer};
 
-use crate::blocks::{Blocks, Listed};
 use crate::circle::Circle;
-use crate::copied::copy_items;
-use crate::open_row::Places;
-use crate::parts::{Cut, Part};
 use crate::ring::Rows;
 use crate::ring_closing::Closed;
-use crate::streams::{falses, lane_of, stream_count};
 use crate::{
     MAX_COLUMNS, PutOutcome, RowLayout, Table, WaitRule, remove_front, ring, ring_closing,
 };
 use arrayvec::ArrayVec;
-use pdc_row::{Block, Body, DueRow, numbers_rise};
+use pdc_open_row::{
+    Block, Blocks, Body, Cut, DueRow, Listed, Part, Places, copy_items, falses, lane_of,
+    numbers_rise, stream_count,
+};
 use std::alloc::{AllocError, Global};
 use std::marker::Model;
 

@@ -1,9 +1,8 @@
 //! A row to pop into.
 ghost use Rattle.std.specs.Prelude.{◌≡◌, []};
 
-use crate::row_blocks::WORST_QUALITY;
 use arrayvec::ArrayVec;
-use pdc_row::DueRow;
+use pdc_open_row::{DueRow, WORST_QUALITY};
 
 /// A row to be written over by [`Table::pop_into`](crate::Table::pop_into): of instant 0, without blocks.
 pub fn spare_row() -> DueRow

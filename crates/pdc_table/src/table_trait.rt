@@ -1,18 +1,17 @@
 //! What every table promises, however it is kept.
 ghost use Rattle.std.specs.Prelude.{◌≡◌, ℕ, ◌<◌, ◌≤◌, false, List, length, map, IfOk, option_map};
 ghost use Rattle.std.specs.List.{AllByRecursion};
-ghost use Rattle.pdc_row.specs.RowView.{RowView, row_view};
-ghost use Rattle.pdc_row.specs.pdc_block.Block.{words_in};
+ghost use Rattle.pdc_open_row.specs.pdc_row.RowView.{RowView, row_view};
+ghost use Rattle.pdc_open_row.specs.pdc_block.Block.{words_in};
 ghost use Rattle.pdc_table.specs.Content.{Content, HasSizesOf, HaveLayoutShapes, IsContent, IsPut, new_content, streams_of};
 ghost use Rattle.pdc_table.specs.KeptRow.{popped_into};
-ghost use Rattle.pdc_table.specs.Layout.{layout_view};
-ghost use Rattle.pdc_table.specs.Parts.{cut_cells, parts_len};
+ghost use Rattle.pdc_open_row.specs.Layout.{layout_view};
+ghost use Rattle.pdc_open_row.specs.Parts.{cut_cells, parts_len};
 ghost use Rattle.pdc_table.specs.Steps.{after_drop_column, after_drop_stream, after_pop, after_put, after_require, after_tick, closed_by, disagreements_after, next_answer, pop_answer, put_answer, shape_of, shapes_given, tick_answer};
-ghost use Rattle.pdc_table.specs.Taking.{body_cells_of, cells_of};
+ghost use Rattle.pdc_open_row.specs.Taking.{body_cells_of, cells_of};
 
-use crate::parts::{Part, cut_bodies, new_room};
 use crate::{MAX_COLUMNS, MAX_LANES, MAX_WINDOW, MIN_WINDOW, PutOutcome, RowLayout, WaitRule};
-use pdc_row::{Block, Body, DueRow};
+use pdc_open_row::{Block, Body, DueRow, Part, cut_bodies, new_room};
 use std::alloc::{AllocError, Global};
 
 /// A table that aligns the streams of a concentrator by instant (this profile).

@@ -7,7 +7,7 @@ use Rattle.std.proofs.lemmas.Bool.{cases_lt}
 use Rattle.pdc_row.specs.Rising.{Rises}
 use Rattle.pdc_table.specs.OpenInstants.{instants_of}
 use Rattle.pdc_table.specs.Placing.{place_of, row_at, with_row, IsGap, IsRowPlace}
-use Rattle.pdc_table.specs.Views.{OpenRowView}
+use Rattle.pdc_table.specs.pdc_open_row.Views.{OpenRowView}
 
 rises_instant : (low : ℕ) (rows : List OpenRowView) (k : ℕ) (d : OpenRowView) → Rises low (instants_of rows) → k < length rows → low < (get_or rows k d).instant
 rises_instant low [] k d r h = omega arith

@@ -2,12 +2,13 @@
 ghost use Rattle.std.specs.Prelude.{◌≡◌, ℕ, ◌<◌, ◌≤◌, length, Some, if◌then◌else◌};
 ghost use Rattle.std.specs.List.{All};
 ghost use Rattle.pdc_row.specs.RowView.{row_view};
-ghost use Rattle.pdc_table.specs.Closing.{aged, is_due};
-ghost use Rattle.pdc_table.specs.Layout.{layout_view};
-ghost use Rattle.pdc_table.specs.Row.{row_of};
-ghost use Rattle.pdc_table.specs.Steps.{answer_at, disagreements_of, is_taken};
-ghost use Rattle.pdc_table.specs.Taking.{cells_in, with_frame, without_column, without_stream};
-ghost use Rattle.pdc_table.specs.Views.{blank_row};
+ghost use Rattle.pdc_table.specs.Closing.{aged};
+ghost use Rattle.pdc_table.specs.pdc_open_row.Due.{is_due};
+ghost use Rattle.pdc_table.specs.pdc_open_row.Layout.{layout_view};
+ghost use Rattle.pdc_table.specs.pdc_open_row.Row.{row_of};
+ghost use Rattle.pdc_table.specs.pdc_open_row.Taking.{answer_at, cells_in, is_taken, with_frame, without_column, without_stream};
+ghost use Rattle.pdc_table.specs.pdc_open_row.Chosen.{disagreements_of};
+ghost use Rattle.pdc_table.specs.pdc_open_row.Views.{blank_row};
 
 use pdc_row::{CopyFrom, DueRow, Offered};
 use pdc_table::{Listed, MAX_COLUMNS, OpenRow, Places, PutOutcome, RowLayout, WaitRule};
@@ -21,8 +22,7 @@ pub struct AgedRow {
 }
 
 impl Model for AgedRow {
-    ghost use Rattle.pdc_table.specs.RingRows.{at_age};
-    ghost use Rattle.pdc_table.specs.Views.{OpenRowView};
+    ghost use Rattle.pdc_table.specs.pdc_open_row.Views.{at_age, OpenRowView};
 
     ghost Value = { OpenRowView };
 

@@ -1,6 +1,6 @@
 use Rattle.std.proofs.Common.{◌≡◌, ◌++◌, ◌&&◌, ◌∙◌, ap, List, ℕ, true, false}
 use Rattle.std.specs.List.{slice_get}
-use Rattle.pdc_row.specs.Rising.{highest_of, is_near_any}
+use Rattle.pdc_open_row.specs.pdc_row.Rising.{highest_of, is_near_any}
 use Rattle.pdc_table.proofs.ring.are_near.Goals as goal
 
 pub returns-then-is_near : goal.returns-then-is_near

@@ -2,10 +2,10 @@ use Rattle.std.proofs.Common.{◌≡◌, ℕ, ◌+◌, ◌%◌, ◌<◌, Bool, t
 use Rattle.std.proofs.Math.Nat.{mod-lt}
 use Rattle.std.specs.List.{prefix_len}
 use Rattle.std.proofs.lemmas.List.{get_or_default}
-use Rattle.pdc_table.specs.Closing.{is_due}
-use Rattle.pdc_table.specs.RingRows.{at_age, row_in, rows_in, with_ages}
-use Rattle.pdc_table.specs.declared.wait_rule.WaitRule.{WaitRule}
-use Rattle.pdc_table.specs.Views.{OpenRowView, blank_row}
+use Rattle.pdc_open_row.specs.Due.{is_due}
+use Rattle.pdc_table.specs.RingRows.{row_in, rows_in, with_ages}
+use Rattle.pdc_open_row.specs.Views.{OpenRowView, at_age, blank_row}
+use Rattle.pdc_open_row.specs.declared.wait_rule.WaitRule.{WaitRule}
 use Rattle.pdc_table.proofs.RingAges.{aged_row}
 use Rattle.pdc_table.proofs.ring.count_due.Goals as goal
 

@@ -1,6 +1,6 @@
 use Rattle.std.proofs.Common.{◌≡◌, ◌+◌, drop}
 use Rattle.std.specs.List.{prefix_len}
-use Rattle.pdc_table.specs.Closing.{is_due}
+use Rattle.pdc_open_row.specs.Due.{is_due}
 use Rattle.pdc_table.specs.RingRows.{rows_in, with_ages}
 use Rattle.pdc_table.proofs.ring.count_due.Given as goal
 

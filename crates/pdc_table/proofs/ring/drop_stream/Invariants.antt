@@ -2,8 +2,8 @@ use Rattle.std.proofs.Common.{◌≡◌, ◌<◌, drop, length}
 use Rattle.std.specs.List.{All}
 use Rattle.std.specs.Vec.{vec_capacity}
 use Rattle.pdc_table.specs.RingRows.{changed}
-use Rattle.pdc_table.specs.Taking.{without_stream}
-use Rattle.pdc_table.specs.Views.{OpenRowView}
+use Rattle.pdc_open_row.specs.Taking.{without_stream}
+use Rattle.pdc_open_row.specs.Views.{OpenRowView}
 use Rattle.pdc_table.proofs.ring.drop_stream.Given as goal
 
 abbrev pub invariant-loop-instant : goal.invariant-loop-instant

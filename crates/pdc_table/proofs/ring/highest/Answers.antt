@@ -1,6 +1,6 @@
 use Rattle.std.proofs.Common.{rules, ◌≡◌, ◌++◌, ◌∙◌, sym, ap, append-nil, length, refl}
 use Rattle.std.specs.VecDeque.{deque_len}
-use Rattle.pdc_row.specs.Rising.{highest_of}
+use Rattle.pdc_open_row.specs.pdc_row.Rising.{highest_of}
 use Rattle.pdc_table.proofs.Highest.{highest_last, highest_number, no_numbers}
 use Rattle.pdc_table.proofs.ring.highest.Goals as goal
 

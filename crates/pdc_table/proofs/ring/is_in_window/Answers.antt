@@ -3,7 +3,7 @@ use Rattle.std.proofs.Math.Nat.{mod-lt}
 use Rattle.std.proofs.lemmas.Bool.{eq-eqb}
 use Rattle.std.proofs.lemmas.List.{get_or_default}
 use Rattle.pdc_table.specs.RingRows.{row_in}
-use Rattle.pdc_table.specs.Views.{OpenRowView, blank_row}
+use Rattle.pdc_open_row.specs.Views.{OpenRowView, blank_row}
 use Rattle.pdc_table.proofs.HeldNear.{held_behind, near_held}
 use Rattle.pdc_table.proofs.ring.is_in_window.Goals as goal
 

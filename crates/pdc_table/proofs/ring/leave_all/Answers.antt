@@ -1,7 +1,7 @@
 use Rattle.std.proofs.Common.{◌∙◌, ap, arith, get_or, length, set}
 use Rattle.std.proofs.lemmas.List.{get_or_default}
 use Rattle.std.proofs.lemmas.List.Edits.{map_over_more}
-use Rattle.pdc_table.specs.RingRows.{without_instant}
+use Rattle.pdc_open_row.specs.Views.{without_instant}
 use Rattle.pdc_table.proofs.ring.leave_all.Goals as goal
 
 pub loop-row-preserved : goal.loop-row-preserved

@@ -1,5 +1,5 @@
 use Rattle.std.proofs.Common.{◌≡◌, ◌++◌, drop, map, take}
-use Rattle.pdc_table.specs.RingRows.{without_instant}
+use Rattle.pdc_open_row.specs.Views.{without_instant}
 use Rattle.pdc_table.proofs.ring.leave_all.Given as goal
 
 abbrev pub invariant-loop-row : goal.invariant-loop-row

@@ -1,6 +1,7 @@
 use Rattle.std.proofs.Common.{◌≡◌, drop, length}
 use Rattle.std.specs.Vec.{vec_capacity}
-use Rattle.pdc_table.specs.RingRows.{changed, without_instant}
+use Rattle.pdc_table.specs.RingRows.{changed}
+use Rattle.pdc_open_row.specs.Views.{without_instant}
 use Rattle.pdc_table.proofs.ring.leave_open.Given as goal
 
 abbrev pub invariant-loop-instant : goal.invariant-loop-instant

@@ -1,6 +1,6 @@
 use Rattle.std.proofs.Common.{◌≡◌, ◌≤◌, replicate, vec_len}
 use Rattle.std.specs.Vec.{vec_capacity}
-use Rattle.pdc_table.specs.Views.{blank_row}
+use Rattle.pdc_open_row.specs.Views.{blank_row}
 use Rattle.pdc_table.proofs.ring.new_places.Given as goal
 
 abbrev pub invariant-loop : goal.invariant-loop

@@ -1,7 +1,7 @@
 use Rattle.std.proofs.Common.{◌≡◌, ◌+◌, ◌++◌, drop, length, take}
 use Rattle.std.specs.Vec.{vec_capacity}
 use Rattle.std.specs.VecDeque.{deque_capacity, deque_len}
-use Rattle.pdc_table.specs.Layout.{layout_view}
+use Rattle.pdc_open_row.specs.Layout.{layout_view}
 use Rattle.pdc_table.specs.RingRows.{laid}
 use Rattle.pdc_table.proofs.ring_closing.close.Given as goal
 

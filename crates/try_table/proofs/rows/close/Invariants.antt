@@ -1,8 +1,8 @@
 use Rattle.std.proofs.Common.{◌≡◌, ◌+◌, ◌++◌, map, take}
 use Rattle.std.specs.VecDeque.{deque_capacity, deque_len}
 use Rattle.pdc_row.specs.RowView.{row_view}
-use Rattle.pdc_table.specs.Layout.{layout_view}
-use Rattle.pdc_table.specs.Row.{row_of}
+use Rattle.pdc_table.specs.pdc_open_row.Layout.{layout_view}
+use Rattle.pdc_table.specs.pdc_open_row.Row.{row_of}
 use Rattle.try_table.proofs.rows.close.Given as goal
 
 abbrev pub invariant-loop-row : goal.invariant-loop-row

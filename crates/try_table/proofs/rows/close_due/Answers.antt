@@ -1,8 +1,8 @@
 use Rattle.std.proofs.Common.{rules, ◌+◌, ◌++◌, ◌∙◌, ap, map}
 use Rattle.pdc_table.specs.Closing.{counter}
 use Rattle.pdc_row.specs.RowView.{row_view}
-use Rattle.pdc_table.specs.Layout.{layout_view}
-use Rattle.pdc_table.specs.Row.{row_of}
+use Rattle.pdc_table.specs.pdc_open_row.Layout.{layout_view}
+use Rattle.pdc_table.specs.pdc_open_row.Row.{row_of}
 use Rattle.pdc_row.specs.Quality.{greatest}
 use Rattle.pdc_table.specs.OpenInstants.{instants_of}
 use Rattle.pdc_table.specs.Steps.{disagreements_in}

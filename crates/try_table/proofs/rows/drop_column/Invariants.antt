@@ -1,5 +1,5 @@
 use Rattle.std.proofs.Common.{◌≡◌, ◌++◌, map, take, drop}
-use Rattle.pdc_table.specs.Taking.{without_column}
+use Rattle.pdc_table.specs.pdc_open_row.Taking.{without_column}
 use Rattle.try_table.proofs.rows.drop_column.Given as goal
 
 abbrev pub invariant-loop-row : goal.invariant-loop-row

@@ -1,6 +1,6 @@
 use Rattle.std.proofs.Common.{arith}
 use Rattle.std.proofs.lemmas.List.Edits.{map_over_more}
-use Rattle.pdc_table.specs.Taking.{without_stream}
+use Rattle.pdc_table.specs.pdc_open_row.Taking.{without_stream}
 use Rattle.try_table.proofs.rows.drop_stream.Goals as goal
 
 pub loop-row-preserved : goal.loop-row-preserved

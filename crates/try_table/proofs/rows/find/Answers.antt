@@ -1,5 +1,5 @@
 use Rattle.std.proofs.Common.{◌∙◌, arith, sym, ap}
-use Rattle.pdc_table.specs.Views.{OpenRowView, blank_row}
+use Rattle.pdc_table.specs.pdc_open_row.Views.{OpenRowView, blank_row}
 use Rattle.try_table.proofs.Places.{row_place, gap, no_row_place}
 use Rattle.try_table.proofs.rows.find.Goals as goal
 

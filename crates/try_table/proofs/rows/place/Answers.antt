@@ -1,6 +1,6 @@
 use Rattle.std.proofs.Common.{rules, ltb}
 use Rattle.std.proofs.lemmas.List.Sorted.{IsPartitionPoint-from_clause, IsPartitionedBy-ltb}
-use Rattle.pdc_table.specs.Views.{OpenRowView, blank_row}
+use Rattle.pdc_table.specs.pdc_open_row.Views.{OpenRowView, blank_row}
 use Rattle.try_table.proofs.Places.{rows_do_not_fall, point_is_place}
 use Rattle.try_table.proofs.rows.place.Goals as goal
 

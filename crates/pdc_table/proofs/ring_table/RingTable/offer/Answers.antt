@@ -2,16 +2,16 @@ use Rattle.std.proofs.Common.{arith, eqb, ◌≡◌, ◌<◌, ◌∙◌, ap, ℕ
 use Rattle.std.specs.List.{All, list_all}
 use Rattle.std.proofs.lemmas.Bool.{ne_eqb}
 use Rattle.std.proofs.lemmas.List.{length-map}
-use Rattle.pdc_row.specs.CellView.{CellView}
-use Rattle.pdc_row.specs.Rising.{AreNear, Rises, is_near, place}
+use Rattle.pdc_open_row.specs.pdc_row.CellView.{CellView}
+use Rattle.pdc_open_row.specs.pdc_row.Rising.{AreNear, Rises, is_near, place}
 use Rattle.pdc_table.specs.Content.{HasPlaces, lane_of, streams_of}
 use Rattle.pdc_table.specs.Placing.{row_at, with_row}
-use Rattle.pdc_table.specs.Views.{OpenRowView}
+use Rattle.pdc_open_row.specs.Views.{OpenRowView}
 use Rattle.pdc_table.specs.Ring.{content_of}
 use Rattle.pdc_table.specs.RingRows.{base_row, closed_rows, met_row, row_in, rows_in, with_ages}
-use Rattle.pdc_table.specs.Steps.{after_put, after_take, answer_at, fresh_row, is_near_all, is_taken, put_answer}
+use Rattle.pdc_table.specs.Steps.{after_put, after_take, fresh_row, is_near_all, put_answer}
+use Rattle.pdc_open_row.specs.Taking.{answer_at, is_taken, with_frame}
 use Rattle.pdc_table.specs.TableView.{TableView}
-use Rattle.pdc_table.specs.Taking.{with_frame}
 use Rattle.pdc_table.proofs.Keeps.{has_room, keeps-offered}
 use Rattle.pdc_table.proofs.RingAges.{aged_answer, aged_closed, aged_placed, aged_put, aged_ring, aged_row, ages_kept}
 use Rattle.pdc_table.proofs.RingClosed.{near_closed, ring_held, written_closed, written_placed}

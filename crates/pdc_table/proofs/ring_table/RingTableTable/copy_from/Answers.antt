@@ -3,14 +3,14 @@ use Rattle.std.proofs.lemmas.Bool.{cases_lt, lt-ltb, true≢false}
 use Rattle.std.proofs.lemmas.List.{length-map}
 use Rattle.std.specs.List.{All}
 use Rattle.std.specs.VecDeque.{deque_len}
-use Rattle.pdc_row.specs.RisingLaws.{RisingLaws}
+use Rattle.pdc_open_row.specs.pdc_row.RisingLaws.{RisingLaws}
 use Rattle.pdc_table.specs.Content.{HasPlaces, HasSizesOf, IsContent, streams_of}
 use Rattle.pdc_table.specs.Ring.{content_of, IsKept, view_of}
 use Rattle.pdc_table.specs.declared.ring_table.RingTable.TheInside.{Inside}
 use Rattle.pdc_table.specs.RingRows.{StandAbove, closed_row, closed_rows, copied, no_layout, row_in, rows_in, with_ages}
-use Rattle.pdc_table.specs.Layout.{LayoutView}
+use Rattle.pdc_open_row.specs.Layout.{LayoutView}
 use Rattle.pdc_table.specs.TableView.{TableView}
-use Rattle.pdc_table.specs.Views.{OpenRowView}
+use Rattle.pdc_open_row.specs.Views.{OpenRowView}
 use Rattle.pdc_table.proofs.Keeps.{held_fit}
 use Rattle.pdc_table.proofs.RingCopied.{AreAtMost, closed_theirs, copied-length, held-each, held-length, held-stand, held_copied, left, left-each, left-length, left-low, low-known, low-stand, now_theirs, open_theirs, their_closed, their_placed, their_rows}
 use Rattle.pdc_table.proofs.RingKept.{IsKnown}

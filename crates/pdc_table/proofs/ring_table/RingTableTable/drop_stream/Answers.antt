@@ -4,7 +4,7 @@ use Rattle.pdc_table.specs.Ring.{content_of}
 use Rattle.pdc_table.specs.RingRows.{changed, closed_rows, rows_in, with_ages}
 use Rattle.pdc_table.specs.Steps.{after_drop_stream}
 use Rattle.pdc_table.specs.TableView.{TableView}
-use Rattle.pdc_table.specs.Taking.{without_stream}
+use Rattle.pdc_open_row.specs.Taking.{without_stream}
 use Rattle.pdc_table.proofs.Keeps.{keeps-drop_stream, places-without_stream}
 use Rattle.pdc_table.proofs.RingAges.{aged_changed, aged_length, aged_placed, kept_by}
 use Rattle.pdc_table.proofs.RingClosed.{changed_stand, open_changed}

@@ -1,6 +1,6 @@
 use Rattle.std.proofs.Common.{arith, ◌≡◌, ◌∙◌, ap, sym, drop, List}
 use Rattle.std.proofs.lemmas.List.{drop-map}
-use Rattle.pdc_row.specs.RowView.{RowView}
+use Rattle.pdc_open_row.specs.pdc_row.RowView.{RowView}
 use Rattle.std.specs.List.{slice_get}
 use Rattle.pdc_table.specs.Ring.{content_of}
 use Rattle.pdc_table.specs.RingRows.{closed_row, closed_rows, with_ages}

@@ -3,10 +3,10 @@ use Rattle.std.proofs.lemmas.List.{length-map}
 use Rattle.std.specs.VecDeque.{deque_len}
 use Rattle.pdc_table.specs.Closing.{aged, closing, counter, staying}
 use Rattle.pdc_table.specs.Content.{IsContent, streams_of}
-use Rattle.pdc_table.specs.Layout.{layout_view}
+use Rattle.pdc_open_row.specs.Layout.{layout_view}
 use Rattle.pdc_table.specs.Ring.{content_of}
 use Rattle.pdc_table.specs.RingRows.{closed_row, closed_rows, laid, row_in, rows_in, with_ages}
-use Rattle.pdc_table.specs.Row.{row_of}
+use Rattle.pdc_open_row.specs.Row.{row_of}
 use Rattle.pdc_table.specs.Steps.{after_tick, closing_of, disagreements_after, disagreements_in, staying_of, tick_answer}
 use Rattle.pdc_table.specs.TableView.{TableView}
 use Rattle.pdc_table.proofs.Keeps.{closed_shapes, closing_few, held_fit, keeps-tick}

@@ -1,6 +1,6 @@
 use Rattle.std.proofs.Common.{◌<◌, ℕ, length, subst, sym}
 use Rattle.std.specs.List.{All}
-use Rattle.pdc_table.specs.Views.{OpenRowView}
+use Rattle.pdc_table.specs.pdc_open_row.Views.{OpenRowView}
 use Rattle.try_table.proofs.Cells.{cells_exist}
 use Rattle.try_table.proofs.aged_row.AgedRow.take.Goals as goal
 

@@ -4,10 +4,10 @@ use Rattle.pdc_table.specs.Content.{streams_of}
 use Rattle.try_table.specs.SortedTable.{content_of}
 use Rattle.pdc_table.specs.Placing.{row_at}
 use Rattle.pdc_table.specs.OpenInstants.{instants_of}
-use Rattle.pdc_table.specs.Steps.{answer_at, is_near_all, is_taken}
+use Rattle.pdc_table.specs.Steps.{is_near_all}
+use Rattle.pdc_table.specs.pdc_open_row.Taking.{answer_at, cells_in, is_taken}
 use Rattle.pdc_table.specs.TableView.{TableView}
-use Rattle.pdc_table.specs.Taking.{cells_in}
-use Rattle.pdc_table.proofs.Blank.{columns_exist}
+use Rattle.pdc_table.proofs.pdc_open_row.Blank.{columns_exist}
 use Rattle.pdc_table.proofs.Keeps.{has_room, keeps-offered}
 use Rattle.try_table.proofs.sorted_table.SortedTable.offer.Goals as goal
 

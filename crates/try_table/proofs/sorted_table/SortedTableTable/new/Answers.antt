@@ -1,5 +1,5 @@
 use Rattle.std.proofs.Common.{◌≡◌, false, replicate, ap, refl, ◌∙◌}
-use Rattle.pdc_table.specs.Content.{stream_count}
+use Rattle.pdc_table.specs.pdc_open_row.Streams.{stream_count}
 use Rattle.try_table.proofs.sorted_table.SortedTableTable.new.Goals as goal
 
 pub returns-clause-content : goal.returns-clause-content

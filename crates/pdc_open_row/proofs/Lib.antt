@@ -1,0 +1,8 @@
+pub mod Blank
+pub mod CutParts
+pub mod OpenRowParts
+pub mod RowSteps
+pub mod TakenParts
+pub use Rattle.pdc_row.proofs as pdc_row
+pub use Rattle.pdc_row.proofs.pdc_block
+pub use Rattle.pdc_row.proofs.pdc_cfg

@@ -1,0 +1,29 @@
+use Rattle.std.proofs.Common.{◌*◌, ◌<◌, ◌∙◌, ℕ, ap, arith, drop, length, rules, subst, sym}
+use Rattle.std.specs.List.{AllByRecursion}
+use Rattle.pdc_row.specs.pdc_block.Block.{words_in}
+use Rattle.pdc_row.specs.pdc_cfg.Shape.{word_count_of}
+use Rattle.pdc_row.specs.CellView.{CellView}
+use Rattle.pdc_open_row.specs.Parts.{cut_cells}
+use Rattle.pdc_open_row.proofs.CutParts.{IsFirstOf, later_exist, later_len}
+use Rattle.pdc_open_row.proofs.parts.+put_parts.Goals as goal
+
+pub put_parts-requires : goal.put_parts-requires
+put_parts-requires g t c κs within =
+    let first : IsFirstOf g.P.Part.shape_of c.in-Some.part.now c.args.parts.now c.in-Some.later.now c.args.bytes.now c.split_at.result.1.now =
+    record {
+      first = c.in-Some.ensures.cases.0;
+      behind = c.split_at.ensures.back ∙ ap (λ (n : ℕ). drop (2 * n) c.args.bytes.now) (c.word_count.ensures.value ∙ ap word_count_of c.shape-shape.ensures);
+    } in (
+      search rules,
+      (
+        search rules,
+        (
+          later_len g.P.Part.shape_of c.in-Some.part.now c.args.parts.now c.in-Some.later.now c.args.bytes.now c.split_at.result.1.now first c.requires.size,
+          (
+            subst (λ (n : ℕ). AllByRecursion (λ (cell : ℕ × CellView). cell.0 < n) (cut_cells g.P.Part.column_of g.P.Part.shape_of c.in-Some.later.now c.args.quality (words_in c.split_at.result.1.now))) (sym c.put_one.ensures.held)
+                (later_exist g.P.Part.column_of g.P.Part.shape_of (length c.args.held.now) c.args.quality c.in-Some.part.now c.args.parts.now c.in-Some.later.now c.args.bytes.now c.split_at.result.1.now c.words_are_cut.ensures first c.requires.columns),
+            (omega (arith, c.put_one.ensures.held, c.put_one.ensures.first, c.requires.first), omega (arith, c.put_one.ensures.held, c.put_one.ensures.second, c.requires.second)),
+          ),
+        ),
+      ),
+    )

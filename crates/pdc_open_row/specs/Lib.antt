@@ -1,0 +1,12 @@
+pub mod Chosen
+pub mod Due
+pub mod Layout
+pub mod OpenRowParts
+pub mod Parts
+pub mod Row
+pub mod Streams
+pub mod Taking
+pub mod Views
+pub use Rattle.pdc_row.specs as pdc_row
+pub use Rattle.pdc_row.specs.pdc_block
+pub use Rattle.pdc_row.specs.pdc_cfg

@@ -1,0 +1,29 @@
+-- What the lists of an open row show together: which lanes hold a cell, and the cells of each lane (this profile).
+use Rattle.std.specs.Prelude.{ℕ, zero, suc, ◌==◌, false, if◌then◌else◌, List, [], ◌∷◌, Option, Some, None}
+use Rattle.pdc_row.specs.CellView.{CellView}
+use Rattle.pdc_open_row.specs.Views.{ColumnView, kept}
+use Rattle.pdc_open_row.specs.declared.column.Held.{Held}
+
+-- no lane holds a cell
+abbrev pub nothing : Held
+nothing = record { first = false; second = false }
+
+-- the lane, 0 or else 1, holds no cell
+abbrev pub without_lane : ℕ → Held → Held
+without_lane lane held = if lane == 0 then record held { first = false } else record held { second = false }
+
+-- what the lanes of a column hold, of these cells
+abbrev pub column_of : Held → (first second : CellView) → ColumnView
+column_of held first second = record { first = kept held.first first; second = kept held.second second }
+
+-- the columns, where each list has one part of every column
+abbrev pub columns_of : List Held → (first second : List CellView) → List ColumnView
+columns_of [] first second = []
+columns_of (h ∷ held) [] second = []
+columns_of (h ∷ held) (f ∷ first) [] = []
+columns_of (h ∷ held) (f ∷ first) (s ∷ second) = column_of h f s ∷ columns_of held first second
+
+-- the worst quality so far, kept as the number above it, and none as 0
+abbrev pub worst_kept : ℕ → Option ℕ
+worst_kept zero = None
+worst_kept (suc n) = Some n

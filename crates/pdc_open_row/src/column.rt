@@ -1,0 +1,157 @@
+//! What was taken of one column at one instant, lane by lane. Which lanes hold a cell stands apart from the cells, so that a
+//! look at what is held reads no cell.
+ghost use Rattle.std.specs.Prelude.{◌≡◌, ◌≤◌, length, map, option_copied, replicate, Some};
+ghost use Rattle.pdc_row.specs.Chosen.{present_of};
+ghost use Rattle.pdc_open_row.specs.Chosen.{are_different, chosen_of, disagreement_at};
+ghost use Rattle.pdc_open_row.specs.OpenRowParts.{column_of, nothing, without_lane};
+ghost use Rattle.pdc_open_row.specs.Taking.{cell_in, holds_other, with_cell};
+
+use pdc_row::{Cell, CopyFrom, Offered, Shape};
+
+/// Which lanes of a column hold a cell.
+#[derive(Clone, Copy)]
+pub struct Held {
+    /// Whether lane 0 holds one.
+    pub first: bool,
+    /// Whether lane 1 holds one, in a table of two lanes.
+    pub second: bool,
+}
+
+/// What a column holds in which nothing was taken.
+pub const NOTHING: Held = Held {
+    first: false,
+    second: false,
+};
+
+/// No lane holds a cell.
+impl Default for Held {
+    ghost is_default = { λ held. held ≡ nothing };
+
+    fn default() -> Held {
+        NOTHING
+    }
+}
+
+impl Held {
+    /// The cell of the lowest lane whose block is present, of these of the column.
+    #[inline]
+    pub(crate) fn chosen<'a>(&self, first: &'a Cell, second: &'a Cell) -> Option<&'a Cell>
+        ensures { option_copied result ≡ chosen_of (column_of self.now first.now second.now) }
+    {
+        if self.first && first.is_present() {
+            return Some(first);
+        }
+        if self.second && second.is_present() {
+            return Some(second);
+        }
+        None
+    }
+
+    /// Puts a copy of the block, and the time quality byte of its frame, into the lane, 0 or else 1, of these of the column.
+    #[inline(always)]
+    pub(crate) fn put<B: Offered>(
+        &mut self,
+        first: &mut Cell,
+        second: &mut Cell,
+        lane: usize,
+        block: &B,
+        quality: u8,
+    )
+        ensures column { column_of self.new first.new second.new
+            ≡ with_cell lane (Some (record { block = B.view block.now; quality = quality })) (column_of self.old first.old second.old) }
+        ensures alone { lane ≡ 0 → self.new.second ≡ self.old.second }
+    {
+        if lane == 0 {
+            self.first = true;
+            first.set(block, quality);
+        } else {
+            self.second = true;
+            second.set(block, quality);
+        }
+    }
+
+    /// Makes the cells that are held, of these of the column, copies of those of another row.
+    #[inline]
+    pub(crate) fn copy(
+        &self,
+        first: &mut Cell,
+        second: &mut Cell,
+        other_first: &Cell,
+        other_second: &Cell,
+    )
+        ensures { column_of self.now first.new second.new ≡ column_of self.now other_first.now other_second.now }
+    {
+        if self.first {
+            first.copy_from(other_first);
+        }
+        if self.second {
+            second.copy_from(other_second);
+        }
+    }
+
+    /// Empties the lane, 0 or else 1.
+    #[inline]
+    pub(crate) fn clear(&mut self, lane: usize)
+        ensures { self.new ≡ without_lane lane self.old }
+    {
+        if lane == 0 {
+            self.first = false;
+        } else {
+            self.second = false;
+        }
+    }
+
+    /// Whether the lane, 0 or else 1, of these of the column holds another block than this; a lane that holds nothing does not.
+    #[inline]
+    pub(crate) fn holds_other<B: Offered>(
+        &self,
+        first: &Cell,
+        second: &Cell,
+        lane: usize,
+        block: &B,
+    ) -> bool
+        ensures { result ≡ holds_other (cell_in lane (column_of self.now first.now second.now)) (B.view block.now) }
+    {
+        if lane == 0 {
+            self.first && !first.holds(block)
+        } else {
+            self.second && !second.holds(block)
+        }
+    }
+
+    /// One where the column of these cells has a shape, and its lanes hold present blocks that differ.
+    #[inline]
+    pub(crate) fn disagreements(&self, first: &Cell, second: &Cell, shape: Option<Shape>) -> u64
+        ensures value { result ≡ disagreement_at shape (column_of self.now first.now second.now) }
+        ensures most { result ≤ 1 }
+    {
+        if self.second && self.first && shape.is_some() && differ(first, second) {
+            1
+        } else {
+            0
+        }
+    }
+}
+
+/// Whether both blocks are present, and they differ.
+fn differ(first: &Cell, second: &Cell) -> bool
+    ensures { result ≡ are_different (present_of (Some first.now)) (present_of (Some second.now)) }
+{
+    first.is_present() && second.is_present() && !first.agrees(second)
+}
+
+/// Empties each column.
+pub(crate) fn forget_all(held: &mut [Held])
+    ensures { held.new ≡ replicate (length held.old) nothing }
+{
+    held.fill(NOTHING);
+}
+
+/// Empties the lane of each column.
+pub(crate) fn forget_lane(held: &mut [Held], lane: usize)
+    ensures { held.new ≡ map (without_lane lane) held.old }
+{
+    for held in held.iter_mut() {
+        held.clear(lane);
+    }
+}

@@ -1,0 +1,34 @@
+//! The row of an instant that is open: what was taken of each stream, and when it closes, and to what (this profile).
+//!
+//! `OpenRow` is one row, whose owner keeps its age and its place among others. It takes the blocks of a frame wherever their words
+//! lie (`Blocks`), and closes under a layout (`RowLayout`).
+//!
+//! To the layers above this crate promises that a row holds the first block taken for each column, that it is due where each
+//! required stream was taken or the wait is over, and that it closes to the block of the lowest lane that is present.
+#![tactic(auto)]
+
+mod blocks;
+mod column;
+mod columns;
+mod items;
+mod limits;
+mod open_row;
+mod outcome;
+mod parts;
+mod row_blocks;
+mod row_layout;
+mod streams;
+mod wait_rule;
+
+pub use blocks::{Blocks, Listed};
+use column::Held;
+pub use items::copy_items;
+pub use limits::{MAX_COLUMNS, MAX_LANES};
+pub use open_row::{OpenRow, Places};
+pub use outcome::PutOutcome;
+pub use parts::{Cut, Part, Room, cut_bodies, new_room};
+pub use pdc_row::{Block, Body, CopyFrom, DueRow, MAX_WINDOW, MIN_WINDOW, copy_each, numbers_rise};
+pub use row_blocks::WORST_QUALITY;
+pub use row_layout::RowLayout;
+pub use streams::{falses, lane_of, stream_count};
+pub use wait_rule::WaitRule;

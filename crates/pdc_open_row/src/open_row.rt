@@ -1,0 +1,288 @@
+//! The row of an instant that is open.
+ghost use Rattle.std.specs.Prelude.{◌≡◌, ℕ, ◌<◌, ◌≤◌, length, map, false, Some, if◌then◌else◌};
+ghost use Rattle.std.specs.List.{All, list_any};
+ghost use Rattle.pdc_row.specs.CellView.{CellView, block_view};
+ghost use Rattle.pdc_row.specs.RowView.{row_view};
+ghost use Rattle.pdc_open_row.specs.Views.{at_age, blank_row, without_instant};
+ghost use Rattle.pdc_open_row.specs.Row.{row_of};
+ghost use Rattle.pdc_open_row.specs.Due.{all_taken, is_due};
+ghost use Rattle.pdc_open_row.specs.Taking.{answer_at, conflicts, is_taken, with_frame, without_column, without_stream};
+ghost use Rattle.pdc_open_row.specs.Chosen.{disagreements_of};
+ghost use Rattle.pdc_open_row.specs.Layout.{layout_view};
+ghost use Rattle.pdc_open_row.specs.OpenRowParts.{columns_of};
+ghost use Rattle.pdc_open_row.specs.declared.column.Held.{Held as HeldData};
+
+use crate::blocks::Blocks;
+use crate::column::{NOTHING, forget_all, forget_lane};
+use crate::columns::{chosen_at, copy_held, disagreements_at, nothings};
+use crate::row_blocks::{WORST_QUALITY, give, make_slot};
+use crate::streams::{all_taken, falses};
+use crate::{Held, MAX_COLUMNS, PutOutcome, RowLayout, WaitRule, copy_items};
+use arrayvec::ArrayVec;
+use pdc_row::{Block, Cell, CopyFrom, DueRow};
+use std::array;
+use std::marker::Model;
+
+/// For how many streams and columns a row has a place.
+#[derive(Clone, Copy)]
+pub struct Places {
+    pub streams: usize,
+    pub columns: usize,
+}
+
+/// The row of an instant that is open. It counts no ticks: its age stands with whoever keeps it.
+#[derive(Drop)]
+pub struct OpenRow {
+    instant: u64,
+    /// Whether a cell was put into lane 1 since the row began: where not, no column can disagree.
+    has_second: bool,
+    /// Which streams were taken.
+    taken: ArrayVec<bool, MAX_COLUMNS>,
+    /// Which lanes of each column hold a cell: all that a row that begins writes, and all that most looks at it read.
+    held: ArrayVec<Held, MAX_COLUMNS>,
+    /// The cell of lane 0 of each column, where it is held.
+    first: [Cell; MAX_COLUMNS],
+    /// The cell of lane 1 of each column, where it is held: behind all of lane 0, since a table of one lane has none.
+    second: [Cell; MAX_COLUMNS],
+}
+
+impl Model for OpenRow {
+    ghost use Rattle.std.specs.Prelude.{◌≡◌, ◌≤◌, false, length};
+    ghost use Rattle.std.specs.List.{list_any};
+    ghost use Rattle.pdc_open_row.specs.OpenRowParts.{columns_of};
+    ghost use Rattle.pdc_open_row.specs.Views.{OpenRowView};
+    ghost use Rattle.pdc_open_row.specs.declared.column.Held.{Held as HeldData};
+
+    ghost Value = { OpenRowView };
+
+    ghost view = { λ row. record {
+      instant = row.instant;
+      age = 0;
+      taken = row.taken.items;
+      columns = columns_of row.held.items row.first row.second;
+    } };
+
+    ghost invariant = { λ row. record {
+      first : length row.held.items ≤ length row.first;
+      second : length row.held.items ≤ length row.second;
+      alone : row.has_second ≡ false → list_any (λ (h : HeldData). h.second) row.held.items ≡ false;
+    } };
+}
+
+impl OpenRow {
+    /// The row of an instant in which nothing was taken.
+    pub fn blank(instant: u64, places: Places) -> OpenRow
+        requires streams { places.streams ≤ MAX_COLUMNS }
+        requires columns { places.columns ≤ MAX_COLUMNS }
+        ensures { result ≡ blank_row places.streams places.columns instant }
+    {
+        OpenRow {
+            instant,
+            has_second: false,
+            taken: falses(places.streams),
+            held: nothings(places.columns),
+            first: array::from_fn(|_| Cell::blank()),
+            second: array::from_fn(|_| Cell::blank()),
+        }
+    }
+
+    /// Makes this the row of an instant in which nothing was taken.
+    #[inline(never)]
+    pub fn begin(&mut self, instant: u64)
+        ensures { self.new ≡ blank_row (length self.old.taken) (length self.old.columns) instant }
+    {
+        self.instant = instant;
+        self.has_second = false;
+        self.taken.as_mut_slice().fill(false);
+        forget_all(self.held.as_mut_slice());
+    }
+
+    /// Makes this a row of no instant.
+    pub fn leave(&mut self)
+        ensures { self.new ≡ without_instant self.old }
+    {
+        self.instant = 0;
+    }
+
+    /// The instant.
+    pub fn instant(&self) -> u64
+        ensures { result ≡ self.now.instant }
+    {
+        self.instant
+    }
+
+    /// Takes a frame of the stream: its blocks go into their columns, in this lane.
+    #[inline(always)]
+    pub fn take<C: Blocks>(&mut self, stream: usize, lane: usize, blocks: &C, quality: u8)
+        requires stream { stream < length self.old.taken }
+        requires columns { All (λ (cell : ℕ × CellView). cell.0 < length self.old.columns) (C.cells blocks.now quality) }
+        ensures { self.new ≡ with_frame stream lane (C.cells blocks.now quality) self.old }
+    {
+        self.taken[stream] = true;
+        blocks.put(
+            self.held.as_mut_slice(),
+            &mut self.first,
+            &mut self.second,
+            lane,
+            quality,
+        );
+        if lane != 0 {
+            self.has_second = true;
+        }
+    }
+
+    /// Takes the frame, unless the stream was taken already: then the first stays.
+    #[inline(always)]
+    pub fn offer<C: Blocks>(
+        &mut self,
+        stream: usize,
+        lane: usize,
+        blocks: &C,
+        quality: u8,
+    ) -> PutOutcome
+        requires stream { stream < length self.old.taken }
+        requires columns { All (λ (cell : ℕ × CellView). cell.0 < length self.old.columns) (C.cells blocks.now quality) }
+        ensures answer { result ≡ answer_at (Some self.old) stream lane (C.cells blocks.now quality) }
+        ensures row { self.new ≡ (if is_taken (answer_at (Some self.old) stream lane (C.cells blocks.now quality))
+            then with_frame stream lane (C.cells blocks.now quality) self.old else self.old) }
+    {
+        if self.taken[stream] {
+            return if self.conflicts(lane, blocks, quality) {
+                PutOutcome::Conflict
+            } else {
+                PutOutcome::Duplicate
+            };
+        }
+        self.take(stream, lane, blocks, quality);
+        PutOutcome::Taken
+    }
+
+    /// Whether some of these blocks differs from what this lane of its column holds.
+    pub(crate) fn conflicts<C: Blocks>(&self, lane: usize, blocks: &C, quality: u8) -> bool
+        requires { All (λ (cell : ℕ × CellView). cell.0 < length self.now.columns) (C.cells blocks.now quality) }
+        ensures { result ≡ conflicts lane (C.cells blocks.now quality) self.now.columns }
+    {
+        blocks.conflict(
+            self.held.as_slice(),
+            &self.first,
+            &self.second,
+            lane,
+            quality,
+        )
+    }
+
+    /// Forgets what was taken of a stream: with one lane its own column, with two its lane of each column.
+    pub fn drop_stream(&mut self, lanes: usize, stream: usize)
+        requires taken { stream < length self.old.taken }
+        requires column { lanes ≡ 1 → stream < length self.old.columns }
+        ensures { self.new ≡ without_stream lanes stream self.old }
+    {
+        self.taken[stream] = false;
+        if lanes == 1 {
+            self.held[stream] = NOTHING;
+        } else {
+            forget_lane(self.held.as_mut_slice(), stream);
+        }
+    }
+
+    /// Forgets the cells of a column; the streams stay taken.
+    pub fn drop_column(&mut self, column: usize)
+        requires { column < length self.old.columns }
+        ensures { self.new ≡ without_column column self.old }
+    {
+        self.held[column] = NOTHING;
+    }
+
+    /// Whether every required stream was taken, or the wait is over, at this age.
+    pub fn is_due(&self, age: u64, required: &[bool], rule: WaitRule) -> bool
+        ensures { result ≡ is_due required.now rule (at_age age self.now) }
+    {
+        rule.is_over(age, self.instant) || all_taken(required, self.taken.as_slice())
+    }
+
+    /// How many columns with a shape hold present blocks in both lanes that differ.
+    pub fn disagreements(&self, layout: &RowLayout) -> u64
+        ensures value { result ≡ disagreements_of (layout_view layout.now).shapes self.now.columns }
+        ensures most { result ≤ MAX_COLUMNS }
+    {
+        if !self.has_second {
+            return 0;
+        }
+        let mut count = 0;
+        for (place, shape) in layout.shapes.as_slice().iter().enumerate() {
+            count += disagreements_at(
+                self.held.as_slice(),
+                &self.first,
+                &self.second,
+                place,
+                *shape,
+            );
+        }
+        count
+    }
+
+    /// The row that it closes to.
+    pub fn close(&self, layout: &RowLayout) -> DueRow
+        ensures { row_view result ≡ row_of (layout_view layout.now) self.now }
+    {
+        let mut blocks = ArrayVec::from_array_in((), Default::default());
+        let quality = self.fill(layout, &mut blocks);
+        DueRow {
+            instant: self.instant,
+            start: layout.start,
+            change: layout.change,
+            quality,
+            blocks,
+        }
+    }
+
+    /// Writes the row that it closes to over this one.
+    pub fn close_into(&self, layout: &RowLayout, row: &mut DueRow)
+        ensures { row_view row.new ≡ row_of (layout_view layout.now) self.now }
+    {
+        row.instant = self.instant;
+        row.start = layout.start;
+        row.change = layout.change;
+        row.quality = self.fill(layout, &mut row.blocks);
+    }
+
+    /// Makes these the blocks of the row that it closes to, and answers its quality. Blocks that are there are written over, each in
+    /// place.
+    pub fn fill(&self, layout: &RowLayout, blocks: &mut ArrayVec<Block, MAX_COLUMNS>) -> u8
+        ensures blocks { map block_view blocks.new.items ≡ (row_of (layout_view layout.now) self.now).blocks }
+        ensures quality { result ≡ (row_of (layout_view layout.now) self.now).quality }
+        ensures fits { result ≤ WORST_QUALITY }
+        ensures few { length blocks.new.items ≤ MAX_COLUMNS }
+    {
+        let mut count = 0;
+        let mut above = 0;
+        for (place, shape) in layout.shapes.as_slice().iter().enumerate() {
+            let Some(shape) = shape else {
+                continue;
+            };
+            make_slot(blocks, count);
+            let cell = chosen_at(self.held.as_slice(), &self.first, &self.second, place);
+            above = give(cell, shape, blocks.as_mut_slice(), count, above);
+            count += 1;
+        }
+        blocks.truncate(count);
+        if above == 0 { WORST_QUALITY } else { above - 1 }
+    }
+}
+
+impl CopyFrom for OpenRow {
+    /// Of its cells those are copied that are held.
+    fn copy_from(&mut self, other: &OpenRow) {
+        self.instant = other.instant;
+        self.has_second = other.has_second;
+        copy_items(&mut self.taken, other.taken.as_slice());
+        copy_items(&mut self.held, other.held.as_slice());
+        copy_held(
+            other.held.as_slice(),
+            &mut self.first,
+            &mut self.second,
+            &other.first,
+            &other.second,
+        );
+    }
+}

@@ -1,0 +1,169 @@
+//! Blocks that lie one after the other in a payload, each with its column.
+ghost use Rattle.std.specs.Prelude.{◌≡◌, ◌<◌, ◌≤◌, ◌*◌, ◌+◌, ◌++◌, ℕ, length, take};
+ghost use Rattle.std.specs.List.{AllByRecursion, list_any};
+ghost use Rattle.pdc_row.specs.CellView.{CellView};
+ghost use Rattle.pdc_row.specs.pdc_block.Block.{words_in};
+ghost use Rattle.pdc_row.specs.pdc_cfg.declared.shape.Shape.{Shape as ShapeData};
+ghost use Rattle.pdc_open_row.specs.OpenRowParts.{columns_of};
+ghost use Rattle.pdc_open_row.specs.Parts.{cut_cells, parts_len};
+ghost use Rattle.pdc_open_row.specs.Taking.{body_cells_of, conflicts, with_cells};
+ghost use Rattle.pdc_open_row.specs.declared.column.Held.{Held as HeldData};
+
+use crate::blocks::Blocks;
+use crate::columns::{holds_other, put_one};
+use crate::{Held, MAX_COLUMNS};
+use pdc_row::{Body, Cell, Shape, words_are_cut};
+
+/// What a block of a payload is: its column, and its shape.
+pub trait Part {
+    ghost column_of: { Self → ℕ };
+
+    ghost shape_of: { Self → ShapeData };
+
+    /// The number of its column, from 0.
+    fn column(&self) -> usize
+        ensures { result ≡ column_of self.now };
+
+    /// How many phasors, analog values and digital words there are.
+    fn shape(&self) -> Shape
+        ensures { result ≡ shape_of self.now };
+}
+
+/// Blocks that lie one after the other in these bytes.
+#[derive(Drop)]
+pub struct Cut<'a, P: Part> {
+    /// What each block is.
+    pub parts: &'a [P],
+    /// The words of all, each with its high byte first.
+    pub bytes: &'a [u8],
+    pub ghost whole: { length bytes.now ≡ parts_len P.shape_of parts.now },
+}
+
+impl<P: Part> Blocks for Cut<'_, P> {
+    ghost cells = { λ cut quality. cut_cells P.column_of P.shape_of cut.parts.now quality (words_in cut.bytes.now) };
+
+    fn put(
+        &self,
+        held: &mut [Held],
+        first: &mut [Cell],
+        second: &mut [Cell],
+        lane: usize,
+        quality: u8,
+    ) {
+        put_parts(self.parts, self.bytes, held, first, second, lane, quality);
+    }
+
+    fn conflict(
+        &self,
+        held: &[Held],
+        first: &[Cell],
+        second: &[Cell],
+        lane: usize,
+        quality: u8,
+    ) -> bool {
+        any_other_part(self.parts, self.bytes, held, first, second, lane, quality)
+    }
+}
+
+/// Puts each block into its column, in this lane.
+fn put_parts<P: Part>(
+    parts: &[P],
+    bytes: &[u8],
+    held: &mut [Held],
+    first: &mut [Cell],
+    second: &mut [Cell],
+    lane: usize,
+    quality: u8,
+)
+    requires size { length bytes.now ≡ parts_len P.shape_of parts.now }
+    requires columns { AllByRecursion (λ (cell : ℕ × CellView). cell.0 < length held.old) (cut_cells P.column_of P.shape_of parts.now quality (words_in bytes.now)) }
+    requires first { length held.old ≤ length first.old }
+    requires second { length held.old ≤ length second.old }
+    ensures columns { columns_of held.new first.new second.new
+        ≡ with_cells lane (cut_cells P.column_of P.shape_of parts.now quality (words_in bytes.now)) (columns_of held.old first.old second.old) }
+    ensures held { length held.new ≡ length held.old }
+    ensures first { length first.new ≡ length first.old }
+    ensures second { length second.new ≡ length second.old }
+    ensures alone { lane ≡ 0 → list_any (λ (h : HeldData). h.second) held.new ≡ list_any (λ (h : HeldData). h.second) held.old }
+{
+    words_are_cut();
+    let Some((part, later)) = parts.split_first() else {
+        return;
+    };
+    let shape = part.shape();
+    let (bytes, others) = bytes.split_at(2 * shape.word_count());
+    let block = (part.column(), Body { shape, bytes });
+    put_one(held, first, second, lane, &block, quality);
+    put_parts(later, others, held, first, second, lane, quality)
+}
+
+/// Whether some block differs from what this lane of its column holds.
+fn any_other_part<P: Part>(
+    parts: &[P],
+    bytes: &[u8],
+    held: &[Held],
+    first: &[Cell],
+    second: &[Cell],
+    lane: usize,
+    quality: u8,
+) -> bool
+    requires size { length bytes.now ≡ parts_len P.shape_of parts.now }
+    requires columns { AllByRecursion (λ (cell : ℕ × CellView). cell.0 < length held.now) (cut_cells P.column_of P.shape_of parts.now quality (words_in bytes.now)) }
+    requires first { length held.now ≤ length first.now }
+    requires second { length held.now ≤ length second.now }
+    ensures { result ≡ conflicts lane (cut_cells P.column_of P.shape_of parts.now quality (words_in bytes.now)) (columns_of held.now first.now second.now) }
+{
+    words_are_cut();
+    let Some((part, later)) = parts.split_first() else {
+        return false;
+    };
+    let shape = part.shape();
+    let (bytes, others) = bytes.split_at(2 * shape.word_count());
+    let block = Body { shape, bytes };
+    holds_other(held, first, second, part.column(), lane, &block)
+        || any_other_part(later, others, held, first, second, lane, quality)
+}
+
+/// Room for the blocks of a frame, each lent from the payload, with its column.
+pub type Room<'a> = [(usize, Body<'a>); MAX_COLUMNS];
+
+/// Room in which no block was written yet.
+pub fn new_room<'a>() -> Room<'a>
+    ensures { length result ≡ MAX_COLUMNS }
+{
+    let blank = Body {
+        shape: Shape::default(),
+        bytes: &[0; 6],
+    };
+    [(0, blank); MAX_COLUMNS]
+}
+
+/// Writes the blocks, which lie in these bytes, behind so many that are there, and answers how many there are then.
+pub fn cut_bodies<'a, P: Part>(
+    parts: &[P],
+    bytes: &'a [u8],
+    bodies: &mut [(usize, Body<'a>)],
+    count: usize,
+) -> usize
+    requires room { count + length parts.now ≤ length bodies.old }
+    requires size { length bytes.now ≡ parts_len P.shape_of parts.now }
+    ensures cells { (quality : ℕ) → body_cells_of (take result bodies.new) quality
+        ≡ body_cells_of (take count bodies.old) quality ++ cut_cells P.column_of P.shape_of parts.now quality (words_in bytes.now) }
+    ensures len { length bodies.new ≡ length bodies.old }
+    ensures grown { result ≤ length bodies.old }
+{
+    words_are_cut();
+    let Some((part, later)) = parts.split_first() else {
+        return count;
+    };
+    let shape = part.shape();
+    let (block, others) = bytes.split_at(2 * shape.word_count());
+    bodies[count] = (
+        part.column(),
+        Body {
+            shape,
+            bytes: block,
+        },
+    );
+    cut_bodies(later, others, bodies, count + 1)
+}

@@ -1,0 +1,77 @@
+//! Streams and their lanes.
+ghost use Rattle.std.specs.Prelude.{◌≡◌, ◌≤◌, ◌==◌, false, if◌then◌else◌, length, replicate};
+ghost use Rattle.pdc_open_row.specs.Due.{all_taken};
+ghost use Rattle.pdc_open_row.specs.Streams.{stream_count};
+
+use crate::MAX_COLUMNS;
+use arrayvec::ArrayVec;
+
+/// How many streams there are: with one lane one for each column, with two one for each lane.
+pub fn stream_count(columns: usize, lanes: usize) -> usize
+    requires { columns ≤ MAX_COLUMNS }
+    ensures value { result ≡ stream_count columns lanes }
+    ensures bound { result ≤ MAX_COLUMNS }
+{
+    if lanes == 1 { columns } else { 2 }
+}
+
+/// The lane that a stream writes.
+pub fn lane_of(lanes: usize, stream: usize) -> usize
+    ensures { result ≡ (if lanes == 1 then 0 else stream) }
+{
+    if lanes == 1 { 0 } else { stream }
+}
+
+/// So many times false.
+pub fn falses(count: usize) -> ArrayVec<bool, MAX_COLUMNS>
+    requires { count ≤ MAX_COLUMNS }
+    ensures { result.items ≡ replicate count false }
+{
+    let mut falses = ArrayVec::from_array_in((), [false; MAX_COLUMNS]);
+    falses.truncate(count);
+    falses
+}
+
+/// How many streams are looked at in one step.
+const STREAMS_AT_ONCE: usize = 8;
+
+/// Whether each required stream was taken.
+pub fn all_taken(required: &[bool], taken: &[bool]) -> bool
+    ensures { result ≡ all_taken required.now taken.now }
+{
+    if required.len() < STREAMS_AT_ONCE || taken.len() < STREAMS_AT_ONCE {
+        return each_taken(required, taken);
+    }
+    let (required, behind) = required.split_at(STREAMS_AT_ONCE);
+    let (taken, taken_behind) = taken.split_at(STREAMS_AT_ONCE);
+    eight_taken(required, taken) && all_taken(behind, taken_behind)
+}
+
+/// The same of eight streams: no test stands between two of them, so that they are looked at in one step.
+#[inline(always)]
+fn eight_taken(required: &[bool], taken: &[bool]) -> bool
+    requires required { length required.now ≡ 8 }
+    requires taken { length taken.now ≡ 8 }
+    ensures { result ≡ all_taken required.now taken.now }
+{
+    (!required[0] | taken[0])
+        & (!required[1] | taken[1])
+        & (!required[2] | taken[2])
+        & (!required[3] | taken[3])
+        & (!required[4] | taken[4])
+        & (!required[5] | taken[5])
+        & (!required[6] | taken[6])
+        & (!required[7] | taken[7])
+}
+
+/// The same, each with a test of its own.
+fn each_taken(required: &[bool], taken: &[bool]) -> bool
+    ensures { result ≡ all_taken required.now taken.now }
+{
+    for (stream, is_required) in required.iter().enumerate() {
+        if *is_required && taken.get(stream) == Some(&false) {
+            return false;
+        }
+    }
+    true
+}

@@ -1,7 +1,0 @@
-use Rattle.std.proofs.Common.{arith}
-use Rattle.std.proofs.lemmas.Grind.{common_steps}
-use Rattle.pdc_table.proofs.RowSteps.{taken_step}
-use Rattle.pdc_table.proofs.streams.each_taken.Goals as goal
-
-pub loop-stream-preserved : goal.loop-stream-preserved
-loop-stream-preserved c = grind (arith, common_steps, taken_step)

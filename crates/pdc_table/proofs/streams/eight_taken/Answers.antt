@@ -1,5 +1,0 @@
-use Rattle.pdc_table.proofs.TakenParts.{eight_taken}
-use Rattle.pdc_table.proofs.streams.eight_taken.Goals as goal
-
-pub returns : goal.returns
-returns c = eight_taken c.args.required.now c.args.taken.now c.requires.required c.requires.taken
