@@ -4,7 +4,6 @@ use super::same::is;
 use pdc_block::{BodyFault, cut, read_body};
 use pdc_cfg::{MAX_SECTIONS, Shape};
 use std::process::Abort;
-use std::test::Fail;
 
 const ONE_PHASOR: Shape = Shape {
     phasors: 1,
@@ -18,15 +17,14 @@ const BODY_11: [u8; 10] = [0x00, 0x00, 0x39, 0x2B, 0x00, 0x00, 0x09, 0xC4, 0x00,
 const WORDS_11: [u16; 5] = [0, 14635, 0, 2500, 0];
 
 #[test]
-fn one_body(rt: HostRuntime) -> Result<(), Fail> {
-    let block = read_body(ONE_PHASOR, &BODY_11)?;
+fn one_body(rt: HostRuntime) {
+    let block = read_body(ONE_PHASOR, &BODY_11).expect(&rt, "a block");
     is!(&rt; block.words(), WORDS_11.as_slice());
     is!(&rt; block.shape, ONE_PHASOR);
-    is!(&rt; block.clone()?.words(), WORDS_11.as_slice());
+    is!(&rt; block.clone().expect(&rt, "a block").words(), WORDS_11.as_slice());
     for len in 0..10 {
         is!(&rt; read_body(ONE_PHASOR, &BODY_11[..len]).err(), Some(BodyFault::WrongLength));
     }
-    Ok(())
 }
 
 /// Two blocks, of five words and of three.
@@ -37,9 +35,7 @@ const TWO_BLOCKS: [u8; 16] = [
 /// The words of each block into which the shapes cut the payload.
 fn are_cut(rt: &impl Abort, shapes: &[Shape], payload: &[u8], wanted: &[&[u16]]) {
     assert!(rt; shapes.len() <= MAX_SECTIONS);
-    let Ok(blocks) = cut(shapes, payload) else {
-        panic!(rt; "the shapes do not cut it");
-    };
+    let blocks = cut(shapes, payload).expect(rt, "the shapes cut it");
     is!(rt; blocks.len(), wanted.len());
     for (block, words) in blocks.iter().zip(wanted) {
         is!(rt; block.words(), *words);

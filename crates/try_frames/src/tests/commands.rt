@@ -22,16 +22,16 @@ fn command_read(rt: HostRuntime) -> Result<(), Fail> {
 }
 
 #[test]
-fn command_written(rt: HostRuntime) -> Result<(), Fail> {
+fn command_written(rt: HostRuntime) {
     let mut out = Vec::new(rt.alloc());
     write_command(
         StreamId { value: 201 },
         1_149_577_200,
         Command::SendCfg2,
         &mut out,
-    )?;
+    )
+    .expect(&rt, "memory");
     is!(&rt; out.as_slice(), SEND_CFG2.as_slice());
-    Ok(())
 }
 
 /// What a command frame with this payload carries.
@@ -78,15 +78,14 @@ fn faults_in_order(rt: HostRuntime) {
 }
 
 #[test]
-fn header_written_and_read(rt: HostRuntime) -> Result<(), Fail> {
+fn header_written_and_read(rt: HostRuntime) {
     let mut out = Vec::new(rt.alloc());
-    write_header(StreamId { value: 201 }, 0, b"PDC 00201", &mut out)?;
+    write_header(StreamId { value: 201 }, 0, b"PDC 00201", &mut out).expect(&rt, "memory");
     is!(&rt; out.len(), 25);
-    let frame = read_frame(&out)?;
+    let frame = read_frame(&out).expect(&rt, "a frame");
     is!(&rt; frame.kind, Kind::HeaderFrame);
     is!(&rt; frame.id.value, 201);
     is!(&rt; read_header(&frame), Ok(b"PDC 00201".as_slice()));
-    Ok(())
 }
 
 #[test]
@@ -98,12 +97,15 @@ fn command_and_header_stand_apart(rt: HostRuntime) {
 }
 
 #[test]
-fn fault_texts(rt: HostRuntime) -> Result<(), Fail> {
-    let alloc = rt.alloc();
-    is!(&rt; CommandFault::WrongKind.to_string(alloc)?.as_str(), "N1 WrongKind");
-    is!(&rt; CommandFault::Cut.to_string(alloc)?.as_str(), "N2 Cut");
-    is!(&rt; CommandFault::UnknownCommand.to_string(alloc)?.as_str(), "N3 UnknownCommand");
-    Ok(())
+fn fault_texts(rt: HostRuntime) {
+    for (fault, text) in [
+        (CommandFault::WrongKind, "N1 WrongKind"),
+        (CommandFault::Cut, "N2 Cut"),
+        (CommandFault::UnknownCommand, "N3 UnknownCommand"),
+    ] {
+        let found = fault.to_string(rt.alloc()).expect(&rt, "memory");
+        is!(&rt; found.as_str(), text);
+    }
 }
 
 /// A command that is written and read back. The prover sees that no arm is left out and that the commands are equal, by

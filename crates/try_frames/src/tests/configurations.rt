@@ -5,7 +5,6 @@ use pdc_cfg::{CfgFault, SectionView, read_config};
 use pdc_frame::{Frame, Kind, MAX_PAYLOAD, StreamId, read_frame};
 use std::alloc::{AllocError, Global};
 use std::process::Abort;
-use std::test::Fail;
 
 /// A configuration of one PMU, 11, whose names and factors are zeros: TIME_BASE 1000000, 50 frames a second, count 1.
 fn payload(alloc: Global, format: u8, phasors: u8, rest: usize) -> Result<Vec<u8>, AllocError> {
@@ -41,29 +40,32 @@ fn is_largest_section(rt: &impl Abort, view: &SectionView) {
 }
 
 /// The configuration of this frame.
-fn is_largest(rt: &impl Abort, frame: &Frame) -> Result<(), Fail> {
-    let config = read_config(frame)?;
+fn is_largest(rt: &impl Abort, frame: &Frame) {
+    let config = read_config(frame).expect(rt, "a configuration");
     is!(rt; (config.flags, config.time_base, config.rate), (0, 1_000_000, 50));
     is!(rt; config.sections.len(), 1);
     let section = config.sections.as_slice()[0].to_section();
     is_largest_section(rt, &section.view());
-    is!(rt; section.clone()?.bytes.len(), 3390);
-    Ok(())
+    is!(rt; section.clone().expect(rt, "memory").bytes.len(), 3390);
 }
 
 #[test]
-fn largest_configuration(rt: HostRuntime) -> Result<(), Fail> {
-    let bytes = largest_frame(rt.alloc())?;
+fn largest_configuration(rt: HostRuntime) {
+    let bytes = largest_frame(rt.alloc()).expect(&rt, "memory");
     is!(&rt; bytes.len(), 3414);
-    is_largest(&rt, &read_frame(&bytes)?)
+    is_largest(&rt, &read_frame(&bytes).expect(&rt, "a frame"));
 }
 
-/// Why this configuration is refused, if it is.
-fn fault_of(format: u8, phasors: u8, rest: usize, alloc: Global) -> Result<Option<CfgFault>, Fail> {
-    let payload = payload(alloc, format, phasors, rest)?;
-    if payload.len() > MAX_PAYLOAD {
-        return Err(Fail::from("no frame has so long a payload"));
-    }
+/// The configuration is refused for this cause, if for any.
+fn is_refused(
+    rt: &(impl Abort + AllocGlobal),
+    format: u8,
+    phasors: u8,
+    rest: usize,
+    wanted: Option<CfgFault>,
+) {
+    let payload = payload(rt.alloc(), format, phasors, rest).expect(rt, "memory");
+    assert!(rt; payload.len() <= MAX_PAYLOAD);
     let frame = Frame {
         kind: Kind::Cfg2,
         version: 2,
@@ -73,18 +75,16 @@ fn fault_of(format: u8, phasors: u8, rest: usize, alloc: Global) -> Result<Optio
         frac: 0,
         payload: &payload,
     };
-    Ok(read_config(&frame).err())
+    is!(rt; read_config(&frame).err(), wanted);
 }
 
 #[test]
-fn a_step_beyond(rt: HostRuntime) -> Result<(), Fail> {
-    let alloc = rt.alloc();
+fn a_step_beyond(rt: HostRuntime) {
     let wide = LARGEST_REST + 20;
-    is!(&rt; fault_of(0, 32, LARGEST_REST, alloc)?, None);
-    is!(&rt; fault_of(0, 33, wide, alloc)?, Some(CfgFault::TooMany));
-    is!(&rt; fault_of(2, 32, LARGEST_REST, alloc)?, Some(CfgFault::FloatFormat));
-    is!(&rt; fault_of(2, 33, wide, alloc)?, Some(CfgFault::TooMany));
-    is!(&rt; fault_of(0, 32, LARGEST_REST - 1, alloc)?, Some(CfgFault::Cut));
-    is!(&rt; fault_of(0, 32, LARGEST_REST + 1, alloc)?, Some(CfgFault::Cut));
-    Ok(())
+    is_refused(&rt, 0, 32, LARGEST_REST, None);
+    is_refused(&rt, 0, 33, wide, Some(CfgFault::TooMany));
+    is_refused(&rt, 2, 32, LARGEST_REST, Some(CfgFault::FloatFormat));
+    is_refused(&rt, 2, 33, wide, Some(CfgFault::TooMany));
+    is_refused(&rt, 0, 32, LARGEST_REST - 1, Some(CfgFault::Cut));
+    is_refused(&rt, 0, 32, LARGEST_REST + 1, Some(CfgFault::Cut));
 }

@@ -7,7 +7,6 @@ use arrayvec::ArrayVec;
 use pdc_frame::*;
 use std::alloc::{AllocError, Global};
 use std::process::Abort;
-use std::test::*;
 
 /// A frame of id 0.
 const RESERVED_ID: [u8; 16] = [
@@ -42,7 +41,7 @@ fn frame_faults(rt: HostRuntime) {
 }
 
 #[test]
-fn fault_texts(rt: HostRuntime) -> Result<(), Fail> {
+fn fault_texts(rt: HostRuntime) {
     for (fault, text) in [
         (FrameFault::Short, "F1 Short"),
         (FrameFault::BadSync, "F2 BadSync"),
@@ -50,14 +49,14 @@ fn fault_texts(rt: HostRuntime) -> Result<(), Fail> {
         (FrameFault::BadCheck, "F4 BadCheck"),
         (FrameFault::BadId, "F5 BadId"),
     ] {
-        is!(&rt; fault.to_string(rt.alloc())?.as_str(), text);
+        let found = fault.to_string(rt.alloc()).expect(&rt, "memory");
+        is!(&rt; found.as_str(), text);
     }
-    Ok(())
 }
 
 #[test]
-fn fields_of_a_command(rt: HostRuntime) -> Result<(), Fail> {
-    let frame = read_frame(&DATA_ON).ok().ok_or("it is a frame")?;
+fn fields_of_a_command(rt: HostRuntime) {
+    let frame = read_frame(&DATA_ON).expect(&rt, "a frame");
     is!(&rt; frame.kind, Kind::CommandFrame);
     is!(&rt; frame.version, 1);
     is!(&rt; frame.id.value, 7734);
@@ -65,18 +64,16 @@ fn fields_of_a_command(rt: HostRuntime) -> Result<(), Fail> {
     is!(&rt; frame.quality, 0x0F);
     is!(&rt; frame.frac, 770_000);
     is!(&rt; frame.payload, [0, 2].as_slice());
-    Ok(())
 }
 
 #[test]
-fn written_where_the_room_is_fixed(rt: HostRuntime) -> Result<(), Fail> {
-    let frame = read_frame(&DATA_11).ok().ok_or("it is a frame")?;
+fn written_where_the_room_is_fixed(rt: HostRuntime) {
+    let frame = read_frame(&DATA_11).expect(&rt, "a frame");
     let mut out = ArrayVec::<u8, 51>::new();
-    write_frame(&frame, &mut out)?;
+    write_frame(&frame, &mut out).expect(&rt, "memory");
     is!(&rt; out.as_slice(), DATA_11.as_slice());
     is!(&rt; write_frame(&frame, &mut out), Err(AllocError));
     is!(&rt; out.as_slice(), DATA_11.as_slice());
-    Ok(())
 }
 
 /// The bytes in pieces of so many.
@@ -91,35 +88,33 @@ fn in_pieces(alloc: Global, bytes: &[u8], len: usize) -> Result<Vec<Vec<u8>>, Al
 }
 
 /// The frames in these pieces are the configuration and the data.
-fn are_both(rt: &impl Abort, alloc: Global, pieces: &[Vec<u8>]) -> Result<(), Fail> {
-    let (frames, fault) = frames_of(alloc, pieces)?;
+fn are_both(rt: &impl Abort, alloc: Global, pieces: &[Vec<u8>]) {
+    let (frames, fault) = frames_of(alloc, pieces).expect(rt, "memory");
     is!(rt; fault, None);
     is!(rt; frames.len(), 2);
     is!(rt; frames.first().map(Vec::as_slice), Some(CONFIG_11.as_slice()));
     is!(rt; frames.last().map(Vec::as_slice), Some(DATA_11.as_slice()));
-    Ok(())
 }
 
 #[test]
-fn joined_frames_in_pieces(rt: HostRuntime) -> Result<(), Fail> {
-    let stream = joined(rt.alloc(), &CONFIG_11, &DATA_11)?;
+fn joined_frames_in_pieces(rt: HostRuntime) {
+    let stream = joined(rt.alloc(), &CONFIG_11, &DATA_11).expect(&rt, "memory");
     for len in [1, 7, 100] {
-        are_both(&rt, rt.alloc(), &in_pieces(rt.alloc(), &stream, len)?)?;
+        let pieces = in_pieces(rt.alloc(), &stream, len).expect(&rt, "memory");
+        are_both(&rt, rt.alloc(), &pieces);
     }
-    Ok(())
 }
 
 #[test]
-fn fields_of_a_stream(rt: HostRuntime) -> Result<(), Fail> {
-    let stream = joined(rt.alloc(), &DATA_11, &DATA_ON)?;
-    let mut framer = Framer::new(rt.alloc())?;
+fn fields_of_a_stream(rt: HostRuntime) {
+    let stream = joined(rt.alloc(), &DATA_11, &DATA_ON).expect(&rt, "memory");
+    let mut framer = Framer::new(rt.alloc()).expect(&rt, "memory");
     let (taken, step) = framer.feed(&stream);
     is!(&rt; (taken, step), (26, Step::Whole));
     if step == Step::Whole {
         is!(&rt; framer.fields().kind, Kind::DataFrame);
         is!(&rt; framer.fields().payload, &DATA_11[14..24]);
     }
-    Ok(())
 }
 
 /// The place of a byte in a frame, what stands there instead, how many of its bytes show the fault, and which it is.
@@ -137,9 +132,9 @@ const FAULTS: [(usize, u8, usize, FrameFault); 10] = [
 ];
 
 #[test]
-fn faults_in_a_stream(rt: HostRuntime) -> Result<(), Fail> {
+fn faults_in_a_stream(rt: HostRuntime) {
     for (place, byte, shown, fault) in FAULTS {
-        let mut framer = Framer::new(rt.alloc())?;
+        let mut framer = Framer::new(rt.alloc()).expect(&rt, "memory");
         is!(&rt; framer.feed(&CONFIG_11), (74, Step::Whole));
         is!(&rt; framer.frame(), CONFIG_11.as_slice());
         let mut off = DATA_11;
@@ -150,26 +145,23 @@ fn faults_in_a_stream(rt: HostRuntime) -> Result<(), Fail> {
         is!(&rt; framer.feed(&DATA_11), (0, Step::Bad(fault)));
         is!(&rt; framer.feed(&[]), (0, Step::Bad(fault)));
     }
-    Ok(())
 }
 
 #[test]
-fn reserved_id_in_a_stream(rt: HostRuntime) -> Result<(), Fail> {
-    let mut framer = Framer::new(rt.alloc())?;
+fn reserved_id_in_a_stream(rt: HostRuntime) {
+    let mut framer = Framer::new(rt.alloc()).expect(&rt, "memory");
     is!(&rt; framer.feed(&RESERVED_ID[..15]), (15, Step::More));
     is!(&rt; framer.feed(&[]), (0, Step::More));
     is!(&rt; framer.feed(&RESERVED_ID[15..]), (1, Step::Bad(FrameFault::BadId)));
-    Ok(())
 }
 
 #[test]
-fn a_fault_ends_the_frames(rt: HostRuntime) -> Result<(), Fail> {
-    let mut pieces = Vec::new(rt.alloc());
-    pieces.push(joined(rt.alloc(), &DATA_11, &[0xAA, 0x02, 0x00])?)?;
-    pieces.push(joined(rt.alloc(), &[0x0F, 0x00], &DATA_11)?)?;
-    let (frames, fault) = frames_of(rt.alloc(), &pieces)?;
+fn a_fault_ends_the_frames(rt: HostRuntime) {
+    let first = joined(rt.alloc(), &DATA_11, &[0xAA, 0x02, 0x00]).expect(&rt, "memory");
+    let second = joined(rt.alloc(), &[0x0F, 0x00], &DATA_11).expect(&rt, "memory");
+    let pieces = [first, second];
+    let (frames, fault) = frames_of(rt.alloc(), &pieces).expect(&rt, "memory");
     is!(&rt; fault, Some(FrameFault::Short));
     is!(&rt; frames.len(), 1);
     is!(&rt; frames.first().map(Vec::as_slice), Some(DATA_11.as_slice()));
-    Ok(())
 }

@@ -2,8 +2,8 @@
 //! and framers, sessions, clients and the ring of recent frames, which reserve their room once. The contracts say that such a call fails only
 //! for want of memory; here it really happens, and what the smallest heap holds works.
 mod falling;
-mod makers;
-mod recent_frames;
+mod line;
 mod same;
-mod streams;
+mod sizes;
+mod smallest;
 mod writers;

@@ -83,10 +83,10 @@ impl Write for Full {
 
 /// What was whole before the reader failed is printed.
 #[test]
-fn a_reader_that_fails(rt: HostRuntime) -> Result<(), Fail> {
+fn a_reader_that_fails(rt: HostRuntime) {
     let alloc = rt.alloc();
-    let mut input = String::from_str(alloc, CONFIG_11)?;
-    input.push_str("\nAA02")?;
+    let mut input = String::from_str(alloc, CONFIG_11).expect(&rt, "memory");
+    input.push_str("\nAA02").expect(&rt, "memory");
     let mut reader = FailsAfter {
         bytes: input.as_bytes(),
         interrupted: false,
@@ -95,7 +95,6 @@ fn a_reader_that_fails(rt: HostRuntime) -> Result<(), Fail> {
     let outcome = run_show(alloc, &mut reader, &mut printed);
     is!(&rt; printed.as_slice(), CONFIG_11_LINES.as_bytes());
     is!(&rt; matches!(outcome, Err(ShowFault::Read(_))), true);
-    Ok(())
 }
 
 #[test]
@@ -121,15 +120,14 @@ fn fails_with_room(alloc: Global, input: &str, room: usize) -> bool {
 
 /// A failed write ends the run wherever it comes.
 #[test]
-fn a_writer_that_fails(rt: HostRuntime) -> Result<(), Fail> {
-    let mut input = String::from_str(rt.alloc(), CONFIG_11)?;
-    input.push_str("\nxx\nAA\n")?;
+fn a_writer_that_fails(rt: HostRuntime) {
+    let mut input = String::from_str(rt.alloc(), CONFIG_11).expect(&rt, "memory");
+    input.push_str("\nxx\nAA\n").expect(&rt, "memory");
     let lines = 44 + 58 + 16 + 9;
     for room in 0..lines {
         is!(&rt; fails_with_room(rt.alloc(), &input, room), true);
     }
     is!(&rt; fails_with_room(rt.alloc(), &input, lines), false);
-    Ok(())
 }
 
 /// What was printed is flushed before each read: this reader gives a byte a read.
@@ -168,7 +166,7 @@ fn is_refused(rt: &impl Abort, alloc: Global, line: &[u8], wanted: &str) {
 
 /// The longest frame has 131070 digits. A line that is longer is refused for what all of its digits would be refused for.
 #[test]
-fn lines_as_long_as_the_longest_frame_and_longer(rt: HostRuntime) -> Result<(), Fail> {
+fn lines_as_long_as_the_longest_frame_and_longer(rt: HostRuntime) {
     let alloc = rt.alloc();
     let cases = [
         ("AA42FFFF", 65_531, "\n", "F4 BadCheck\n"),
@@ -181,8 +179,7 @@ fn lines_as_long_as_the_longest_frame_and_longer(rt: HostRuntime) -> Result<(), 
         ("AA42FFFF", 90_000, "\r0\n", "line 1: not hex\n"),
     ];
     for (head, zeros, end, wanted) in cases {
-        let line = long_line(alloc, head, zeros, end)?;
+        let line = long_line(alloc, head, zeros, end).expect(&rt, "memory");
         is_refused(&rt, alloc, &line, wanted);
     }
-    Ok(())
 }

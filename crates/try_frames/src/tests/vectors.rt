@@ -1,5 +1,10 @@
 //! Worked frames, byte for byte. Their check words were computed bit by bit by another program.
 
+use pdc_frame::StreamId;
+
+/// The stream of PMU 11.
+pub const ID_11: StreamId = StreamId { value: 11 };
+
 /// CFG-2 of PMU 11.
 pub const CONFIG_11: [u8; 74] = [
     0xAA, 0x32, 0x00, 0x4A, 0x00, 0x0B, 0x44, 0x85, 0x27, 0xF0, 0x00, 0x00, 0x00, 0x00, 0x00, 0x0F,

@@ -4,7 +4,7 @@ use super::same::is;
 use pdc_watch::{Three, Watch};
 use pdc_watch_data::json_of;
 use std::alloc::{AllocError, Global};
-use std::test::Fail;
+use std::process::Abort;
 
 const NOTHING: &str = "{\"nowMs\":2500,\"begunMs\":1000,\"rate\":50,\"untilMs\":1600,\"streams\":[\
 {\"name\":\"A\",\"address\":\"a:1\",\"connected\":false,\"alive\":false,\"sinceMs\":1000,\"start\":0,\"change\":0,\"lastMs\":null,\
@@ -23,10 +23,20 @@ fn addresses(alloc: Global) -> Result<Three<String>, AllocError> {
     })
 }
 
+/// This is shown of it.
+fn is_shown(
+    rt: &(impl Abort + AllocGlobal),
+    watch: &Watch,
+    addresses: &Three<String>,
+    wanted: &str,
+) {
+    let text = json_of(rt.alloc(), watch, addresses, 2500).expect(rt, "memory");
+    is!(rt; text.as_slice(), wanted.as_bytes());
+}
+
 #[test]
-fn nothing_known_yet(rt: HostRuntime) -> Result<(), Fail> {
-    let watch = Watch::new(rt.alloc(), 50, 1000)?;
-    let text = json_of(rt.alloc(), &watch, &addresses(rt.alloc())?, 2500)?;
-    is!(&rt; text.as_slice(), NOTHING.as_bytes());
-    Ok(())
+fn nothing_known_yet(rt: HostRuntime) {
+    let watch = Watch::new(rt.alloc(), 50, 1000).expect(&rt, "memory");
+    let addresses = addresses(rt.alloc()).expect(&rt, "memory");
+    is_shown(&rt, &watch, &addresses, NOTHING);
 }

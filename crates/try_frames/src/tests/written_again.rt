@@ -39,7 +39,7 @@ fn frames_written_again(rt: HostRuntime) {
 }
 
 /// Whether the configuration of these bytes was read and written.
-fn write_config_again<B: Buffer>(bytes: &[u8], out: &mut B) -> bool {
+pub fn write_config_again<B: Buffer>(bytes: &[u8], out: &mut B) -> bool {
     let Ok(frame) = read_frame(bytes) else {
         return false;
     };
