@@ -45,6 +45,17 @@ fn ask(client: &mut Pdc<Line>, alloc: Global, word: &str) -> Result<String, Allo
     }
 }
 
+/// What ending a client is answered, and what was written.
+fn quit_text(
+    alloc: Global,
+    answer: Result<(), ClientFault>,
+    written: &[u8],
+) -> Result<String, AllocError> {
+    let answer = done(alloc, answer)?;
+    let written = hex_of(alloc, written)?;
+    format!(in alloc; "{answer} {written}")
+}
+
 impl ClientPlayer {
     /// With nothing to read, and no client yet.
     pub fn new(alloc: Global) -> ClientPlayer {
@@ -55,12 +66,8 @@ impl ClientPlayer {
     }
 
     /// Adds what reads give.
-    fn add_input(
-        &mut self,
-        alloc: Global,
-        times: &str,
-        digits: &str,
-    ) -> Result<&'static str, AllocError> {
+    fn add_input(&mut self, alloc: Global, rest: &str) -> Result<&'static str, AllocError> {
+        let (times, digits) = rest.split_once(' ').unwrap_or((rest, ""));
         let (Ok(times), Ok(bytes)) = (times.parse::<usize>(), hex::decode(alloc, digits)) else {
             return Ok(NO_CALL);
         };
@@ -94,15 +101,31 @@ impl ClientPlayer {
         }
     }
 
+    /// Sets the line, or begins a client over it.
+    fn set(&mut self, alloc: Global, word: &str, rest: &str) -> Result<&'static str, AllocError> {
+        match word {
+            "line" => {
+                self.line = Line::new(alloc);
+                Ok("ok")
+            }
+            "input" => self.add_input(alloc, rest),
+            "pieces" | "interrupted" | "fails_after" => Ok(self.set_line(word, rest)),
+            "closed" => {
+                self.line.is_closed = true;
+                Ok("ok")
+            }
+            "client" => self.begin(alloc, rest),
+            _ => Ok(NO_CALL),
+        }
+    }
+
     /// Ends the client.
     fn quit(&mut self, alloc: Global) -> Result<String, AllocError> {
         let Some(client) = self.client.take() else {
             return NO_CALL.to_string(alloc);
         };
         let (line, answer) = client.quit();
-        let answer = done(alloc, answer)?;
-        let written = hex_of(alloc, &line.written)?;
-        format!(in alloc; "{answer} {written}")
+        quit_text(alloc, answer, &line.written)
     }
 }
 
@@ -110,26 +133,12 @@ impl Player for ClientPlayer {
     fn play(&mut self, alloc: Global, call: &str) -> Result<String, AllocError> {
         let (word, rest) = call.split_once(' ').unwrap_or((call, ""));
         match word {
-            "line" => {
-                self.line = Line::new(alloc);
-                "ok".to_string(alloc)
-            }
-            "input" => {
-                let (times, digits) = rest.split_once(' ').unwrap_or((rest, ""));
-                self.add_input(alloc, times, digits)?.to_string(alloc)
-            }
-            "pieces" | "interrupted" | "fails_after" => self.set_line(word, rest).to_string(alloc),
-            "closed" => {
-                self.line.is_closed = true;
-                "ok".to_string(alloc)
-            }
-            "client" => self.begin(alloc, rest)?.to_string(alloc),
             "config" | "header" | "get" | "start" | "stop" => match &mut self.client {
                 Some(client) => ask(client, alloc, word),
                 None => NO_CALL.to_string(alloc),
             },
             "quit" => self.quit(alloc),
-            _ => NO_CALL.to_string(alloc),
+            _ => self.set(alloc, word, rest)?.to_string(alloc),
         }
     }
 }

@@ -35,12 +35,22 @@ use std::alloc::Global;
 use std::io;
 use std::process::ExitCode;
 use std::rt::Files;
-use try_script::{Frames, Played, Stage, play_script};
+use try_script::{Frames, Played, Player, Stage, play_script};
 
 /// The players, and the frames that scripts call by name.
 #[derive(Drop)]
 struct Trials {
     frames: Frames,
+}
+
+/// Plays a script with a player of its own.
+fn play_by<P: Player + Drop>(
+    rt: &(impl Files + AllocGlobal + Eprint),
+    alloc: Global,
+    script: &str,
+    mut player: P,
+) -> io::Result<Played> {
+    play_script(rt, alloc, script, &mut player)
 }
 
 impl Stage for Trials {
@@ -52,16 +62,13 @@ impl Stage for Trials {
         script: &str,
     ) -> io::Result<Played> {
         match player {
-            "settings" => play_script(rt, alloc, script, &mut SettingsPlayer::new(alloc)),
-            "session" => play_script(rt, alloc, script, &mut SessionPlayer::new(alloc)),
-            "recent" => play_script(rt, alloc, script, &mut RecentPlayer::new(alloc)?),
-            "client" => play_script(rt, alloc, script, &mut ClientPlayer::new(alloc)),
-            "pmu" => play_script(rt, alloc, script, &mut PmuPlayer::new()),
+            "settings" => play_by(rt, alloc, script, SettingsPlayer::new(alloc)),
+            "session" => play_by(rt, alloc, script, SessionPlayer::new(alloc)),
+            "recent" => play_by(rt, alloc, script, RecentPlayer::new(alloc)?),
+            "client" => play_by(rt, alloc, script, ClientPlayer::new(alloc)),
+            "pmu" => play_by(rt, alloc, script, PmuPlayer::new()),
             "names" => self.frames.read(rt, alloc, script),
-            "sent" => {
-                let mut player = SentPlayer::new(alloc, &self.frames)?;
-                play_script(rt, alloc, script, &mut player)
-            }
+            "sent" => play_by(rt, alloc, script, SentPlayer::new(alloc, &self.frames)?),
             _ => Ok(Played::of(false)),
         }
     }

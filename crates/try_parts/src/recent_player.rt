@@ -34,6 +34,12 @@ impl RecentPlayer {
         })
     }
 
+    /// Begins another ring.
+    fn begin(&mut self, alloc: Global) -> Result<&'static str, AllocError> {
+        self.frames = Frames::new(alloc)?;
+        Ok("ok")
+    }
+
     /// Pushes one frame.
     fn push(
         &mut self,
@@ -98,10 +104,7 @@ impl Player for RecentPlayer {
         let (word, rest) = call.split_once(' ').unwrap_or((call, ""));
         let (first, second) = rest.split_once(' ').unwrap_or((rest, ""));
         match word {
-            "new" => {
-                self.frames = Frames::new(alloc)?;
-                "ok".to_string(alloc)
-            }
+            "new" => self.begin(alloc)?.to_string(alloc),
             "push" => self.push(alloc, first, second)?.to_string(alloc),
             "pushes" => self.push_all(alloc, first, second)?.to_string(alloc),
             "after" => self.after(alloc, first),

@@ -45,9 +45,10 @@ impl<'a> SentPlayer<'a> {
         })
     }
 
-    /// A PMU sends these bytes.
-    fn send(&mut self, alloc: Global, bytes: &[u8]) -> Result<String, AllocError> {
-        done(alloc, self.sent.send(bytes))
+    /// Begins anew.
+    fn begin(&mut self, alloc: Global) -> Result<&'static str, AllocError> {
+        self.sent = Sent::new(alloc, node(PLAIN_TIMING, false))?;
+        Ok("ok")
     }
 
     /// Another one sends them.
@@ -74,7 +75,7 @@ impl<'a> SentPlayer<'a> {
             return NO_CALL.to_string(alloc);
         };
         match word {
-            "send" => self.send(alloc, bytes),
+            "send" => done(alloc, self.sent.send(bytes)),
             "others" => self.send_of_others(alloc, bytes),
             "has" if self.sent.has(bytes) => "yes".to_string(alloc),
             "has" => "no".to_string(alloc),
@@ -87,10 +88,7 @@ impl Player for SentPlayer<'_> {
     fn play(&mut self, alloc: Global, call: &str) -> Result<String, AllocError> {
         let (word, rest) = call.split_once(' ').unwrap_or((call, ""));
         match word {
-            "new" => {
-                *self = SentPlayer::new(alloc, self.frames)?;
-                "ok".to_string(alloc)
-            }
+            "new" => self.begin(alloc)?.to_string(alloc),
             "len" => self.sent.len().to_string(alloc),
             "get" => self.frame_text(alloc, rest),
             _ => self.play_frame(alloc, word, rest),

@@ -42,7 +42,8 @@ impl SessionPlayer {
     }
 
     /// Tells what replies are made of.
-    fn serve(&mut self, alloc: Global, soc: &str, text: &str) -> Result<&'static str, AllocError> {
+    fn serve(&mut self, alloc: Global, rest: &str) -> Result<&'static str, AllocError> {
+        let (soc, text) = rest.split_once(' ').unwrap_or((rest, ""));
         let Ok(soc) = soc.parse::<u32>() else {
             return Ok(NO_CALL);
         };
@@ -134,6 +135,17 @@ impl SessionPlayer {
         }
     }
 
+    /// Sets what replies are made of, begins a session, or tells whether data is on.
+    fn set(&mut self, alloc: Global, word: &str, rest: &str) -> Result<&'static str, AllocError> {
+        match word {
+            "serve" => self.serve(alloc, rest),
+            "layout" => Ok(self.keep_layout(alloc, rest)),
+            "session" => self.begin(alloc, rest),
+            "on" => Ok(self.on()),
+            _ => Ok(NO_CALL),
+        }
+    }
+
     /// How many frames were ignored.
     fn ignored(&self, alloc: Global) -> Result<String, AllocError> {
         match &self.session {
@@ -147,18 +159,11 @@ impl Player for SessionPlayer {
     fn play(&mut self, alloc: Global, call: &str) -> Result<String, AllocError> {
         let (word, rest) = call.split_once(' ').unwrap_or((call, ""));
         match word {
-            "serve" => {
-                let (soc, text) = rest.split_once(' ').unwrap_or((rest, ""));
-                self.serve(alloc, soc, text)?.to_string(alloc)
-            }
-            "layout" => self.keep_layout(alloc, rest).to_string(alloc),
-            "session" => self.begin(alloc, rest)?.to_string(alloc),
             "feed" => self.feed_in(alloc, rest, usize::MAX),
             "feed_bytes" => self.feed_in(alloc, rest, 1),
             "feed_in_100" => self.feed_in_100(alloc, rest),
-            "on" => self.on().to_string(alloc),
             "ignored" => self.ignored(alloc),
-            _ => NO_CALL.to_string(alloc),
+            _ => self.set(alloc, word, rest)?.to_string(alloc),
         }
     }
 }
