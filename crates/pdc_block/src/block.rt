@@ -69,6 +69,7 @@ impl Block {
     }
 
     /// Makes this the block of this shape and these words, in place.
+    #[inline(always)]
     pub fn set(&mut self, shape: Shape, words: &[u16])
         requires { length words.now ≡ word_count_of shape }
         ensures shape { self.new.shape ≡ shape }

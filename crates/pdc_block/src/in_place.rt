@@ -15,6 +15,7 @@ const FEW_AT_ONCE: usize = 4;
 const WORTH_A_CALL: usize = 32;
 
 /// Makes these the words of a block. Where there were as many before, they are written over.
+#[inline(always)]
 pub fn set_words(kept: &mut ArrayVec<u16, MAX_WORDS>, words: &[u16])
     requires { length words.now ≤ MAX_WORDS }
     ensures { kept.new.items ≡ words.now }

@@ -1,5 +1,5 @@
 //! Blocks, written as the payload of a data frame.
-ghost use Rattle.std.specs.Prelude.{◌≡◌, ◌+◌, ◌*◌, ◌<◌, ◌≤◌, ◌++◌, drop, map, take, length, sum_by, IsOk, OnOk, OnErr};
+ghost use Rattle.std.specs.Prelude.{◌≡◌, ◌+◌, ◌*◌, ◌<◌, ◌≤◌, ◌++◌, ◌∷◌, [], drop, map, take, length, sum_by, IsOk, OnOk, OnErr};
 ghost use Rattle.pdc_block.specs.Block.{IsCut, words_of, shape_of, body_len_of, bytes_of_words, bytes_of_blocks};
 
 use crate::block::Block;
@@ -188,53 +188,59 @@ fn write_few(words: &[u16], bytes: &mut [u8])
     write_last(behind, left);
 }
 
-/// Writes four words over these bytes.
+/// Writes four words over these bytes: all are read before one is written, so that they are turned and moved in one step.
 #[inline(always)]
 fn write_four(words: &[u16], bytes: &mut [u8])
     requires words { length words.now ≡ 4 }
     requires bytes { length bytes.old ≡ 8 }
     ensures { bytes.new ≡ bytes_of_words words.now }
 {
-    let (front, behind) = words.split_at(2);
-    let (place, left) = bytes.split_at_mut(4);
-    write_two(front, place);
-    write_two(behind, left);
+    let (a, b, c, d) = (words[0], words[1], words[2], words[3]);
+    let (front, behind) = bytes.split_at_mut(4);
+    write_two(a, b, front);
+    write_two(c, d, behind);
 }
 
-/// Writes two words over these bytes.
+/// Writes these two words over these bytes.
 #[inline(always)]
-fn write_two(words: &[u16], bytes: &mut [u8])
-    requires words { length words.now ≡ 2 }
-    requires bytes { length bytes.old ≡ 4 }
-    ensures { bytes.new ≡ bytes_of_words words.now }
+fn write_two(first: u16, second: u16, bytes: &mut [u8])
+    requires { length bytes.old ≡ 4 }
+    ensures { bytes.new ≡ bytes_of_words (first ∷ second ∷ []) }
 {
-    let (place, left) = bytes.split_at_mut(2);
-    place.copy_from_slice(&words[0].to_be_bytes());
-    left.copy_from_slice(&words[1].to_be_bytes());
+    let (front, behind) = bytes.split_at_mut(2);
+    front.copy_from_slice(&first.to_be_bytes());
+    behind.copy_from_slice(&second.to_be_bytes());
 }
 
-/// Writes fewer than four words over these bytes, one by one.
+/// Writes fewer than four words over these bytes: two at once, and the last one.
 #[inline(always)]
 fn write_last(words: &[u16], bytes: &mut [u8])
     requires size { length bytes.old ≡ 2 * length words.now }
     requires few { length words.now < 4 }
     ensures { bytes.new ≡ bytes_of_words words.now }
 {
-    let Some((first, words)) = words.split_first() else {
+    if words.len() < 2 {
+        write_one(words, bytes);
         return;
-    };
-    let (place, bytes) = bytes.split_at_mut(2);
-    place.copy_from_slice(&first.to_be_bytes());
-    let Some((second, words)) = words.split_first() else {
-        return;
-    };
-    let (place, bytes) = bytes.split_at_mut(2);
-    place.copy_from_slice(&second.to_be_bytes());
-    let Some((third, _)) = words.split_first() else {
-        return;
-    };
-    let (place, _) = bytes.split_at_mut(2);
-    place.copy_from_slice(&third.to_be_bytes());
+    }
+    let (first, second) = (words[0], words[1]);
+    let (front, behind) = bytes.split_at_mut(4);
+    write_two(first, second, front);
+    write_one(&words[2..], behind);
+}
+
+/// Writes one word, or none, over these bytes.
+#[inline(always)]
+fn write_one(words: &[u16], bytes: &mut [u8])
+    requires size { length bytes.old ≡ 2 * length words.now }
+    requires few { length words.now < 2 }
+    ensures { bytes.new ≡ bytes_of_words words.now }
+{
+    if words.len() == 1 {
+        let [high, low] = words[0].to_be_bytes();
+        bytes[0] = high;
+        bytes[1] = low;
+    }
 }
 
 /// The bytes that the blocks take, one after the other: 6 to 214 each.
