@@ -1,9 +1,7 @@
 -- One more column of a row, one more stream, or one more block of a frame.
-use Rattle.std.proofs.Common.{◌≡◌, ℕ, ◌+◌, ◌<◌, Bool, true, false, not, ◌||◌, ◌&&◌, List, [], ◌∷◌, ◌++◌, length, get_or, set, drop, refl, Option, Some, None, append_assoc, append-nil, ap, sym, ◌∙◌, arith, suc, inl, inr, add-one, drop-cons}
+use Rattle.std.proofs.Common.{◌≡◌, ℕ, ◌+◌, ◌<◌, Bool, true, false, not, ◌||◌, ◌&&◌, List, [], ◌∷◌, ◌++◌, length, get_or, set, drop, refl, Option, Some, None, append_assoc, ap, sym, ◌∙◌, arith, suc, inl, inr, add-one, drop-cons}
 use Rattle.std.proofs.lemmas.Bool.{cases_lt}
-use Rattle.std.specs.List.{refill}
-use Rattle.std.proofs.lemmas.List.{drop_all, get_or_past, take_all}
-use Rattle.pdc_row.specs.pdc_block.declared.block.Block.{Block}
+use Rattle.std.proofs.lemmas.List.{drop_all, get_or_past}
 use Rattle.pdc_row.specs.pdc_cfg.declared.shape.Shape.{Shape}
 use Rattle.pdc_row.specs.CellView.{BlockView}
 use Rattle.pdc_open_row.specs.Row.{blocks_at, blocks_of, qualities_at, qualities_of}
@@ -73,7 +71,3 @@ blocks_more os cs i front next all h e k =
     ap (λ bs. bs ++ blocks_of (drop (i + 1) os) (drop (i + 1) cs)) e
     ∙ append_assoc front (blocks_at (get_or os i None) (get_or cs i empty_column)) (blocks_of (drop (i + 1) os) (drop (i + 1) cs))
     ∙ ap (λ bs. front ++ bs) (sym (blocks_step os cs i h)) ∙ k
-
--- as many blocks again, in place of those that were there
-pub refilled : (n : ℕ) (xs ws : List Block) → n ≡ length xs → length ws ≡ n → refill n xs ws ≡ ws
-refilled n xs ws e k = rw (drop_all (length ws) xs (omega arith), append-nil ws) (take_all n ws (omega arith))

@@ -21,8 +21,8 @@ taken_cut (suc n) (r ∷ rs) (t ∷ ts) h k =
     ∙ sym (and_again (not r || t) (all_taken (take n rs) (take n ts)) (all_taken (drop n rs) (drop n ts)))
 
 -- what the two parts say is what the whole says
-pub taken_parts : (b c : Bool) (rs ts rf tf rb tb : List Bool) → 8 ≤ length rs → 8 ≤ length ts → rf ≡ take 8 rs → tf ≡ take 8 ts → rb ≡ drop 8 rs → tb ≡ drop 8 ts → b ≡ all_taken rf tf → c ≡ all_taken rb tb → (b && c) ≡ all_taken rs ts
-taken_parts b c rs ts rf tf rb tb h k fr ft br bt e f = rw (e, f, fr, ft, br, bt) (sym (taken_cut 8 rs ts h k))
+pub taken_parts : (n : ℕ) (b c : Bool) (rs ts rf tf rb tb : List Bool) → n ≤ length rs → n ≤ length ts → rf ≡ take n rs → tf ≡ take n ts → rb ≡ drop n rs → tb ≡ drop n ts → b ≡ all_taken rf tf → c ≡ all_taken rb tb → (b && c) ≡ all_taken rs ts
+taken_parts n b c rs ts rf tf rb tb h k fr ft br bt e f = rw (e, f, fr, ft, br, bt) (sym (taken_cut n rs ts h k))
 
 -- the streams below this one, one after the other
 abbrev pub taken_to : ℕ → List Bool → List Bool → Bool

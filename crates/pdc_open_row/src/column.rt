@@ -1,6 +1,6 @@
 //! What was taken of one column at one instant, lane by lane. Which lanes hold a cell stands apart from the cells, so that a
 //! look at what is held reads no cell.
-ghost use Rattle.std.specs.Prelude.{◌≡◌, ◌≤◌, length, map, option_copied, replicate, Some};
+ghost use Rattle.std.specs.Prelude.{◌≡◌, ◌≤◌, IfSome, length, map, option_copied, replicate, Some};
 ghost use Rattle.pdc_row.specs.Chosen.{present_of};
 ghost use Rattle.pdc_open_row.specs.Chosen.{are_different, chosen_of, disagreement_at};
 ghost use Rattle.pdc_open_row.specs.OpenRowParts.{column_of, nothing, without_lane};
@@ -45,6 +45,18 @@ impl Held {
             return Some(second);
         }
         None
+    }
+
+    /// The cell of lane 0, where it is held and its block is present, of these of the column.
+    #[inline(always)]
+    pub(crate) fn first_present<'a>(&self, first: &'a Cell, _second: &Cell) -> Option<&'a Cell>
+        ensures { IfSome result (λ cell. Some cell.now ≡ chosen_of (column_of self.now first.now _second.now)) }
+    {
+        if self.first && first.is_present() {
+            Some(first)
+        } else {
+            None
+        }
     }
 
     /// Puts a copy of the block, and the time quality byte of its frame, into the lane, 0 or else 1, of these of the column.

@@ -1,5 +1,5 @@
 //! The columns of a row, as the lists that the row keeps of them: which lanes hold a cell, and the cells of each lane.
-ghost use Rattle.std.specs.Prelude.{◌≡◌, ℕ, ◌<◌, ◌≤◌, Some, length, option_copied, replicate, false, slice_index_or, slice_set};
+ghost use Rattle.std.specs.Prelude.{◌≡◌, ℕ, ◌<◌, ◌≤◌, IfSome, Some, length, option_copied, replicate, false, slice_index_or, slice_set};
 ghost use Rattle.std.specs.List.{All, list_any};
 ghost use Rattle.pdc_open_row.specs.Chosen.{chosen_of, disagreement_at};
 ghost use Rattle.pdc_open_row.specs.Taking.{cell_in, cells_in, conflicts, holds_other, with_cell, with_cells};
@@ -216,4 +216,22 @@ pub fn chosen_at<'a>(
     } else {
         None
     }
+}
+
+/// The cell of lane 0 of the column at this place, where it is held and its block is present: then it is what the column gives, whatever
+/// lane 1 holds.
+#[inline(always)]
+#[tactic(auto, using(crate::proofs::OpenRowParts::column_at))]
+pub fn first_at<'a>(
+    held: &[Held],
+    first: &'a [Cell],
+    second: &[Cell],
+    place: usize,
+) -> Option<&'a Cell>
+    requires place { place < length held.now }
+    requires first { length held.now ≤ length first.now }
+    requires second { length held.now ≤ length second.now }
+    ensures { IfSome result (λ cell. Some cell.now ≡ chosen_of (slice_index_or (columns_of held.now first.now second.now) place empty_column)) }
+{
+    held[place].first_present(&first[place], &second[place])
 }

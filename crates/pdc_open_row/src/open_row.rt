@@ -1,25 +1,26 @@
 //! The row of an instant that is open.
-ghost use Rattle.std.specs.Prelude.{◌≡◌, ℕ, ◌<◌, ◌≤◌, length, map, false, Some, if◌then◌else◌};
+ghost use Rattle.std.specs.Prelude.{◌≡◌, ℕ, ◌+◌, ◌<◌, ◌≤◌, ◌++◌, drop, length, map, take, false, Some, if◌then◌else◌};
 ghost use Rattle.std.specs.List.{All, list_any};
 ghost use Rattle.pdc_row.specs.CellView.{CellView, block_view};
 ghost use Rattle.pdc_row.specs.RowView.{row_view};
+ghost use Rattle.pdc_row.specs.Quality.{quality_of, worst_of};
 ghost use Rattle.pdc_open_row.specs.Views.{at_age, blank_row, without_instant};
-ghost use Rattle.pdc_open_row.specs.Row.{row_of};
+ghost use Rattle.pdc_open_row.specs.Row.{blocks_of, qualities_of, row_of};
 ghost use Rattle.pdc_open_row.specs.Due.{all_taken, is_due};
 ghost use Rattle.pdc_open_row.specs.Taking.{answer_at, conflicts, is_taken, with_frame, without_column, without_stream};
 ghost use Rattle.pdc_open_row.specs.Chosen.{disagreements_of};
 ghost use Rattle.pdc_open_row.specs.Layout.{layout_view};
-ghost use Rattle.pdc_open_row.specs.OpenRowParts.{columns_of};
+ghost use Rattle.pdc_open_row.specs.OpenRowParts.{columns_of, worst_kept};
 ghost use Rattle.pdc_open_row.specs.declared.column.Held.{Held as HeldData};
 
 use crate::blocks::Blocks;
 use crate::column::{NOTHING, forget_all, forget_lane};
-use crate::columns::{chosen_at, copy_held, disagreements_at, nothings};
+use crate::columns::{chosen_at, copy_held, disagreements_at, first_at, nothings};
 use crate::row_blocks::{WORST_QUALITY, give, make_slot};
 use crate::streams::{all_taken, falses};
 use crate::{Held, MAX_COLUMNS, PutOutcome, RowLayout, WaitRule, copy_items};
 use arrayvec::ArrayVec;
-use pdc_row::{Block, Cell, CopyFrom, DueRow};
+use pdc_row::{Block, Cell, CopyFrom, DueRow, Shape};
 use std::array;
 use std::marker::Model;
 
@@ -28,6 +29,17 @@ use std::marker::Model;
 pub struct Places {
     pub streams: usize,
     pub columns: usize,
+}
+
+/// How far a row is written that closes.
+#[derive(Clone, Copy)]
+struct Written {
+    /// The next column.
+    place: usize,
+    /// How many blocks are written.
+    count: usize,
+    /// The number above the worst quality of those that are present: 0 where there is none.
+    above: u32,
 }
 
 /// The row of an instant that is open. It counts no ticks: its age stands with whoever keeps it.
@@ -246,6 +258,101 @@ impl OpenRow {
         row.quality = self.fill(layout, &mut row.blocks);
     }
 
+    /// Writes the blocks of the next columns over these, up to a column that is out of the common: one without a shape, one whose lane 0
+    /// holds no present block, or one behind the last of these blocks.
+    #[inline(always)]
+    fn give_front(&self, shapes: &[Option<Shape>], blocks: &mut [Block], from: Written) -> Written
+        requires place { from.place ≤ length shapes.now }
+        requires count { from.count ≤ length blocks.old }
+        requires few { from.count ≤ from.place }
+        requires above { from.above ≤ WORST_QUALITY + 1 }
+        ensures on { from.place ≤ result.place }
+        ensures columns { result.place ≤ length shapes.now }
+        ensures held { result.count ≤ length blocks.new }
+        ensures few { result.count ≤ result.place }
+        ensures len { length blocks.new ≡ length blocks.old }
+        ensures blocks { map block_view (take result.count blocks.new) ++ blocks_of (drop result.place shapes.now) (drop result.place self.now.columns)
+            ≡ map block_view (take from.count blocks.old) ++ blocks_of (drop from.place shapes.now) (drop from.place self.now.columns) }
+        ensures quality { worst_of (worst_kept result.above) (qualities_of (drop result.place shapes.now) (drop result.place self.now.columns))
+            ≡ worst_of (worst_kept from.above) (qualities_of (drop from.place shapes.now) (drop from.place self.now.columns)) }
+        ensures fits { result.above ≤ WORST_QUALITY + 1 }
+    {
+        let held = self.held.as_slice();
+        let columns = shapes.len().min(held.len()).min(MAX_COLUMNS);
+        let left = columns
+            .saturating_sub(from.place)
+            .min(blocks.len() - from.count);
+        let mut count = from.count;
+        let mut above = from.above;
+        for place in from.place..from.place + left {
+            let Some(shape) = &shapes[place] else {
+                return Written {
+                    place,
+                    count,
+                    above,
+                };
+            };
+            let Some(cell) = first_at(held, &self.first, &self.second, place) else {
+                return Written {
+                    place,
+                    count,
+                    above,
+                };
+            };
+            above = give(Some(cell), shape, blocks, count, above);
+            count += 1;
+        }
+        Written {
+            place: from.place + left,
+            count,
+            above,
+        }
+    }
+
+    /// Writes the block of the next column, whatever it holds, if it has a shape. A call of its own, since most columns do not need it.
+    #[inline(never)]
+    fn give_next(
+        &self,
+        shapes: &[Option<Shape>],
+        blocks: &mut ArrayVec<Block, MAX_COLUMNS>,
+        from: Written,
+    ) -> Written
+        requires place { from.place < length shapes.now }
+        requires most { length shapes.now ≤ MAX_COLUMNS }
+        requires count { from.count ≤ length blocks.old.items }
+        requires few { from.count ≤ from.place }
+        requires above { from.above ≤ WORST_QUALITY + 1 }
+        ensures on { result.place ≡ from.place + 1 }
+        ensures held { result.count ≤ length blocks.new.items }
+        ensures few { result.count ≤ result.place }
+        ensures blocks { map block_view (take result.count blocks.new.items) ++ blocks_of (drop result.place shapes.now) (drop result.place self.now.columns)
+            ≡ map block_view (take from.count blocks.old.items) ++ blocks_of (drop from.place shapes.now) (drop from.place self.now.columns) }
+        ensures quality { worst_of (worst_kept result.above) (qualities_of (drop result.place shapes.now) (drop result.place self.now.columns))
+            ≡ worst_of (worst_kept from.above) (qualities_of (drop from.place shapes.now) (drop from.place self.now.columns)) }
+        ensures fits { result.above ≤ WORST_QUALITY + 1 }
+    {
+        let Written {
+            place,
+            count,
+            above,
+        } = from;
+        let Some(shape) = &shapes[place] else {
+            return Written {
+                place: place + 1,
+                count,
+                above,
+            };
+        };
+        make_slot(blocks, count);
+        let cell = chosen_at(self.held.as_slice(), &self.first, &self.second, place);
+        let above = give(cell, shape, blocks.as_mut_slice(), count, above);
+        Written {
+            place: place + 1,
+            count: count + 1,
+            above,
+        }
+    }
+
     /// Makes these the blocks of the row that it closes to, and answers its quality. Blocks that are there are written over, each in
     /// place.
     pub fn fill(&self, layout: &RowLayout, blocks: &mut ArrayVec<Block, MAX_COLUMNS>) -> u8
@@ -254,19 +361,24 @@ impl OpenRow {
         ensures fits { result ≤ WORST_QUALITY }
         ensures few { length blocks.new.items ≤ MAX_COLUMNS }
     {
-        let mut count = 0;
-        let mut above = 0;
-        for (place, shape) in layout.shapes.as_slice().iter().enumerate() {
-            let Some(shape) = shape else {
-                continue;
-            };
-            make_slot(blocks, count);
-            let cell = chosen_at(self.held.as_slice(), &self.first, &self.second, place);
-            above = give(cell, shape, blocks.as_mut_slice(), count, above);
-            count += 1;
+        let shapes = layout.shapes.as_slice();
+        let mut written = Written {
+            place: 0,
+            count: 0,
+            above: 0,
+        };
+        while written.place < shapes.len() {
+            written = self.give_front(shapes, blocks.as_mut_slice(), written);
+            if written.place < shapes.len() {
+                written = self.give_next(shapes, blocks, written);
+            }
         }
-        blocks.truncate(count);
-        if above == 0 { WORST_QUALITY } else { above - 1 }
+        blocks.truncate(written.count);
+        if written.above == 0 {
+            WORST_QUALITY
+        } else {
+            (written.above - 1) as u8
+        }
     }
 }
 

@@ -37,8 +37,14 @@ fn push_slot(blocks: &mut ArrayVec<Block, MAX_COLUMNS>)
 
 /// Writes the block of a column of this shape behind so many blocks: that of the cell that is given, else the absent one. It answers
 /// the number above the worst quality so far with its own, if it is present: 0 where there is none so far.
-#[inline]
-pub fn give(cell: Option<&Cell>, shape: &Shape, blocks: &mut [Block], count: usize, above: u8) -> u8
+#[inline(always)]
+pub fn give(
+    cell: Option<&Cell>,
+    shape: &Shape,
+    blocks: &mut [Block],
+    count: usize,
+    above: u32,
+) -> u32
     requires room { count < length blocks.old }
     requires above { above ≤ WORST_QUALITY + 1 }
     ensures blocks { map block_view (take (count + 1) blocks.new) ≡ map block_view (take count blocks.old)
@@ -62,13 +68,13 @@ pub fn give(cell: Option<&Cell>, shape: &Shape, blocks: &mut [Block], count: usi
 
 /// The number above the worst quality so far, where this one is given too.
 #[inline]
-fn worse(above: u8, quality: u8) -> u8
+fn worse(above: u32, quality: u8) -> u32
     requires above { above ≤ WORST_QUALITY + 1 }
     requires quality { quality ≤ WORST_QUALITY }
     ensures value { (ns : List ℕ) → worst_of (worst_kept result) ns ≡ worst_of (worst_kept above) (quality ∷ ns) }
     ensures fits { result ≤ WORST_QUALITY + 1 }
 {
-    above.max(quality + 1)
+    above.max(u32::from(quality) + 1)
 }
 
 /// Makes this the absent block of the shape. A call of its own, so that the way without it makes no place for a copy of the shape.

@@ -32,11 +32,26 @@ pub fn falses(count: usize) -> ArrayVec<bool, MAX_COLUMNS>
     falses
 }
 
-/// How many streams are looked at in one step.
+/// How many streams are looked at in one step of 8 bytes.
 const STREAMS_AT_ONCE: usize = 8;
+
+/// How many are looked at in one step of 16 bytes: as many as there are at most.
+const MOST_AT_ONCE: usize = 16;
 
 /// Whether each required stream was taken.
 pub fn all_taken(required: &[bool], taken: &[bool]) -> bool
+    ensures { result ≡ all_taken required.now taken.now }
+{
+    if required.len() < MOST_AT_ONCE || taken.len() < MOST_AT_ONCE {
+        return some_taken(required, taken);
+    }
+    let (required, behind) = required.split_at(MOST_AT_ONCE);
+    let (taken, taken_behind) = taken.split_at(MOST_AT_ONCE);
+    sixteen_taken(required, taken) && some_taken(behind, taken_behind)
+}
+
+/// The same of fewer streams: eight at a step, and the last ones.
+fn some_taken(required: &[bool], taken: &[bool]) -> bool
     ensures { result ≡ all_taken required.now taken.now }
 {
     if required.len() < STREAMS_AT_ONCE || taken.len() < STREAMS_AT_ONCE {
@@ -44,7 +59,19 @@ pub fn all_taken(required: &[bool], taken: &[bool]) -> bool
     }
     let (required, behind) = required.split_at(STREAMS_AT_ONCE);
     let (taken, taken_behind) = taken.split_at(STREAMS_AT_ONCE);
-    eight_taken(required, taken) && all_taken(behind, taken_behind)
+    eight_taken(required, taken) && some_taken(behind, taken_behind)
+}
+
+/// The same of sixteen streams, in one step.
+#[inline(always)]
+fn sixteen_taken(required: &[bool], taken: &[bool]) -> bool
+    requires required { length required.now ≡ 16 }
+    requires taken { length taken.now ≡ 16 }
+    ensures { result ≡ all_taken required.now taken.now }
+{
+    let (required, behind) = required.split_at(STREAMS_AT_ONCE);
+    let (taken, taken_behind) = taken.split_at(STREAMS_AT_ONCE);
+    eight_taken(required, taken) & eight_taken(behind, taken_behind)
 }
 
 /// The same of eight streams: no test stands between two of them, so that they are looked at in one step.

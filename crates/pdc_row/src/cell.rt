@@ -84,6 +84,7 @@ impl Cell {
     }
 
     /// Makes the block a copy of this one.
+    #[inline(always)]
     pub fn copy_to(&self, block: &mut Block)
         ensures { block_view block.new ≡ self.now.block }
     {
