@@ -67,7 +67,9 @@ pub fn read_frame<C: CheckWord>(bytes: &[u8]) -> Result<Frame<'_>, Refusal> {
         return Err(Refusal::SizeMismatch);
     }
     let end = bytes.len() - 2;
-    if word(bytes, end) != C::of(&bytes[..end]) {
+    // It is computed first: the end of a long frame, asked for before all that stands in front of it, would be waited for.
+    let check = C::of(&bytes[..end]);
+    if word(bytes, end) != check {
         return Err(Refusal::BadCheck);
     }
     let id = word(bytes, 4);

@@ -107,7 +107,9 @@ pub fn read_frame(bytes: &[u8]) -> Result<Frame<'_>, FrameFault>
         return Err(FrameFault::SizeMismatch);
     }
     let check_place = bytes.len() - CHECK_LEN;
-    if read_word(bytes, check_place) != check_word(&bytes[..check_place]) {
+    // It is computed first: the end of a long frame, asked for before all that stands in front of it, would be waited for.
+    let check = check_word(&bytes[..check_place]);
+    if read_word(bytes, check_place) != check {
         return Err(FrameFault::BadCheck);
     }
     let id = read_word(bytes, ID_PLACE);
