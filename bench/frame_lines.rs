@@ -2,6 +2,7 @@
 
 use crate::check::{ByShifts, ByTables};
 use crate::lines::{BESIDE, Line, Mode, Side, each, head, name_of, shape};
+use crate::paths::Frames;
 use crate::plain::Shape;
 use crate::traffic::{RATE, TIME_BASE, pmu_configuration, pmu_data};
 use crate::{ours, paths};
@@ -10,12 +11,20 @@ use std::hint::black_box;
 /// The rounds of a line whose steps are counted: so many that what comes once, before the first round, is no part of them.
 const COUNTED: u32 = 1000;
 
-/// Enough rounds for some milliseconds on frames of this length.
+/// How many frames lie one behind the other where they are read.
+const FRAMES: u32 = 8;
+
+/// Enough rounds for some milliseconds on frames of this length, as many as those that are read together fill.
 fn rounds_for(len: usize, mode: &Mode) -> u32 {
     match mode {
-        Mode::Timed { .. } => (20_000_000 / (len as u32 + 200)).max(1_000),
+        Mode::Timed { .. } => (20_000_000 / (len as u32 + 200)).max(1_000) / FRAMES * FRAMES,
         Mode::Counted => COUNTED,
     }
+}
+
+/// The frames with these numbers, which are of one length.
+fn one_behind_the_other(frame: impl Fn(u16) -> Vec<u8>) -> Vec<u8> {
+    (1..=FRAMES as u16).flat_map(frame).collect()
 }
 
 fn check_words(mode: &mut Mode) {
@@ -44,20 +53,24 @@ fn check_words(mode: &mut Mode) {
 fn configurations(mode: &mut Mode, shape: Shape) {
     let bytes = pmu_configuration(shape, 11, 1);
     let count = rounds_for(bytes.len(), mode);
-    let reading = |read: fn(&[u8]) -> u64| {
-        let bytes = &bytes;
-        Side::new(move || each(count, || read(black_box(bytes))))
+    let several = one_behind_the_other(|number| pmu_configuration(shape, 11, number));
+    let reading = |read: fn(Frames, u32) -> u64| {
+        let frames = Frames {
+            bytes: &several,
+            len: bytes.len(),
+        };
+        Side::new(move || read(black_box(frames), count / FRAMES))
     };
     let others = vec![
-        reading(paths::read_config::<ByTables>),
-        reading(paths::read_config::<ByShifts>),
+        reading(paths::read_configs::<ByTables>),
+        reading(paths::read_configs::<ByShifts>),
     ];
     let name = format!("read configuration | {}", name_of(shape));
     Line {
         name,
         count,
         counted: COUNTED,
-        ours: reading(ours::read_config),
+        ours: reading(ours::read_configs),
         others,
     }
     .take(mode);
@@ -83,17 +96,20 @@ fn configurations(mode: &mut Mode, shape: Shape) {
 fn data_frames(mode: &mut Mode, shape: Shape) {
     let bytes = pmu_data(shape, 11, 1);
     let count = rounds_for(bytes.len(), mode);
-    let reading = |read: fn(&[u8], Shape, u32, u32) -> u64| {
-        let bytes = &bytes;
+    let several = one_behind_the_other(|number| pmu_data(shape, 11, number.into()));
+    let reading = |read: fn(Frames, Shape, u32, u32, u32) -> u64| {
+        let frames = Frames {
+            bytes: &several,
+            len: bytes.len(),
+        };
         Side::new(move || {
-            each(count, || {
-                read(
-                    black_box(bytes),
-                    shape,
-                    black_box(TIME_BASE),
-                    black_box(RATE),
-                )
-            })
+            read(
+                black_box(frames),
+                shape,
+                black_box(TIME_BASE),
+                black_box(RATE),
+                count / FRAMES,
+            )
         })
     };
     let others = vec![

@@ -1,5 +1,6 @@
 //! The proved side: the static library `bench_cores`.
 
+use crate::paths::Frames;
 use crate::plain::Shape;
 use crate::script::Script;
 
@@ -7,15 +8,22 @@ mod library {
     // A slice is a pointer and a length.
     unsafe extern "C" {
         pub fn dagluwis_check_word(bytes: *const u8, len: usize) -> u16;
-        pub fn dagluwis_read_config(bytes: *const u8, len: usize) -> u64;
+        pub fn dagluwis_read_configs(
+            frames: *const u8,
+            frames_len: usize,
+            len: usize,
+            rounds: u32,
+        ) -> u64;
         pub fn dagluwis_read_data(
-            bytes: *const u8,
+            frames: *const u8,
+            frames_len: usize,
             len: usize,
             phasors: u8,
             analogs: u8,
             digitals: u8,
             time_base: u32,
             rate: u32,
+            rounds: u32,
         ) -> u64;
         pub fn dagluwis_write_config(bytes: *const u8, len: usize, rounds: u32) -> u64;
         pub fn dagluwis_write_data(
@@ -77,11 +85,13 @@ pub fn check_word(bytes: &[u8]) -> u16 {
     unsafe { library::dagluwis_check_word(bytes.as_ptr(), bytes.len()) }
 }
 
-pub fn read_config(bytes: &[u8]) -> u64 {
-    unsafe { library::dagluwis_read_config(bytes.as_ptr(), bytes.len()) }
+pub fn read_configs(frames: Frames, rounds: u32) -> u64 {
+    let Frames { bytes, len } = frames;
+    unsafe { library::dagluwis_read_configs(bytes.as_ptr(), bytes.len(), len, rounds) }
 }
 
-pub fn read_data(bytes: &[u8], shape: Shape, time_base: u32, rate: u32) -> u64 {
+pub fn read_data(frames: Frames, shape: Shape, time_base: u32, rate: u32, rounds: u32) -> u64 {
+    let Frames { bytes, len } = frames;
     let Shape {
         phasors,
         analogs,
@@ -91,11 +101,13 @@ pub fn read_data(bytes: &[u8], shape: Shape, time_base: u32, rate: u32) -> u64 {
         library::dagluwis_read_data(
             bytes.as_ptr(),
             bytes.len(),
+            len,
             phasors,
             analogs,
             digitals,
             time_base,
             rate,
+            rounds,
         )
     }
 }

@@ -9,8 +9,29 @@ pub fn check_word<C: CheckWord>(bytes: &[u8]) -> u16 {
     C::of(bytes)
 }
 
-#[inline(never)]
-pub fn read_config<C: CheckWord>(bytes: &[u8]) -> u64 {
+/// Frames of one length that lie one behind the other.
+#[derive(Clone, Copy)]
+pub struct Frames<'a> {
+    pub bytes: &'a [u8],
+    pub len: usize,
+}
+
+impl Frames<'_> {
+    /// Reads them from the first to the last, so many times, and mixes what each says. One frame alone, read again and again, a compiler
+    /// might read once.
+    #[inline]
+    fn each(self, rounds: u32, said: impl Fn(&[u8]) -> u64) -> u64 {
+        (0..rounds).fold(0, |mixed, _| {
+            let frames = self.bytes.chunks(self.len);
+            frames.fold(mixed, |mixed: u64, bytes| {
+                mixed.rotate_left(1) ^ said(bytes)
+            })
+        })
+    }
+}
+
+#[inline]
+fn said_by_config<C: CheckWord>(bytes: &[u8]) -> u64 {
     let Ok(frame) = plain::read_frame::<C>(bytes) else {
         return 0;
     };
@@ -25,9 +46,13 @@ pub fn read_config<C: CheckWord>(bytes: &[u8]) -> u64 {
     mixed
 }
 
-/// The time base and the rate come with the call, as they come from a configuration: with constants no division would be left.
 #[inline(never)]
-pub fn read_data<C: CheckWord>(bytes: &[u8], shape: Shape, time_base: u32, rate: u32) -> u64 {
+pub fn read_configs<C: CheckWord>(frames: Frames, rounds: u32) -> u64 {
+    frames.each(rounds, said_by_config::<C>)
+}
+
+#[inline]
+fn said_by_data<C: CheckWord>(bytes: &[u8], shape: Shape, time_base: u32, rate: u32) -> u64 {
     let Ok(frame) = plain::read_frame::<C>(bytes) else {
         return 0;
     };
@@ -39,6 +64,20 @@ pub fn read_data<C: CheckWord>(bytes: &[u8], shape: Shape, time_base: u32, rate:
     };
     body.words()
         .fold(instant, |mixed, word| mixed ^ u64::from(word))
+}
+
+/// The time base and the rate come with the call, as they come from a configuration: with constants no division would be left.
+#[inline(never)]
+pub fn read_data<C: CheckWord>(
+    frames: Frames,
+    shape: Shape,
+    time_base: u32,
+    rate: u32,
+    rounds: u32,
+) -> u64 {
+    frames.each(rounds, |bytes| {
+        said_by_data::<C>(bytes, shape, time_base, rate)
+    })
 }
 
 /// The number mixed with the last byte.

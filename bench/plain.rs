@@ -45,6 +45,15 @@ fn long(bytes: &[u8], place: usize) -> u32 {
     ])
 }
 
+/// Whether the check word is that of all before it, which is computed first: the end of a long frame, asked for before all that stands in
+/// front of it, would be waited for. A call of its own, which leaves the merger more registers.
+#[inline(never)]
+fn is_checked<C: CheckWord>(bytes: &[u8]) -> bool {
+    let (front, last) = bytes.split_at(bytes.len() - 2);
+    let check = C::of(front);
+    last == check.to_be_bytes()
+}
+
 #[inline]
 pub fn read_frame<C: CheckWord>(bytes: &[u8]) -> Result<Frame<'_>, Refusal> {
     if bytes.len() < OVERHEAD {
@@ -67,9 +76,7 @@ pub fn read_frame<C: CheckWord>(bytes: &[u8]) -> Result<Frame<'_>, Refusal> {
         return Err(Refusal::SizeMismatch);
     }
     let end = bytes.len() - 2;
-    // It is computed first: the end of a long frame, asked for before all that stands in front of it, would be waited for.
-    let check = C::of(&bytes[..end]);
-    if word(bytes, end) != check {
+    if !is_checked::<C>(bytes) {
         return Err(Refusal::BadCheck);
     }
     let id = word(bytes, 4);
