@@ -1,6 +1,7 @@
 //! Lines of the tables: what is run on each side, and how its times are taken and printed.
 
 use crate::plain::Shape;
+use std::collections::VecDeque;
 use std::time::Instant;
 
 /// Some work, which gives a number that depends on all of it.
@@ -62,10 +63,39 @@ pub fn counted(work: &mut Work) -> u64 {
 
 /// How the lines are taken.
 pub enum Mode {
-    /// So many turns are timed; the steps of the processor were counted before, and stand in the order of the work.
-    Timed { turns: usize, steps: Vec<u64> },
+    /// So many turns are timed.
+    Timed {
+        turns: usize,
+        /// The steps of the processor, which were counted before, in the order of the work.
+        steps: VecDeque<u64>,
+        times: Times,
+    },
     /// Steps are counted.
     Counted,
+}
+
+/// The times of all turns, those of other builds among them: for each line and side, in order, nanoseconds of each turn.
+#[derive(Default)]
+pub struct Times {
+    /// Those that were taken before.
+    pub before: VecDeque<Vec<f64>>,
+    /// Those of before and of this run.
+    pub all: Vec<Vec<f64>>,
+    /// Whether more are to come: then no table is printed.
+    pub are_more_to_come: bool,
+}
+
+impl Times {
+    /// Adds the times of the sides of a line, and answers them with those of before.
+    fn add(&mut self, sides: Vec<Vec<f64>>) -> &[Vec<f64>] {
+        let first = self.all.len();
+        for times in sides {
+            let mut all = self.before.pop_front().unwrap_or_default();
+            all.extend(times);
+            self.all.push(all);
+        }
+        &self.all[first..]
+    }
 }
 
 impl<'a> Line<'a> {
@@ -102,11 +132,19 @@ impl<'a> Line<'a> {
     pub fn take(&mut self, mode: &mut Mode) {
         match mode {
             Mode::Counted => self.count_steps(),
-            Mode::Timed { turns, steps } => {
+            Mode::Timed {
+                turns,
+                steps,
+                times,
+            } => {
                 self.compare();
-                let times = self.take_turns(*turns);
+                let taken = self.take_turns(*turns);
                 let steps = self.steps(steps);
-                self.print(&times, &steps);
+                let is_last = !times.are_more_to_come;
+                let all = times.add(taken);
+                if is_last {
+                    self.print(all, &steps);
+                }
             }
         }
     }
@@ -126,16 +164,10 @@ impl<'a> Line<'a> {
     }
 
     /// For each side its steps for each frame, datagram or put, taken from the front of those that were counted.
-    fn steps(&mut self, counted: &mut Vec<u64>) -> Vec<Option<f64>> {
+    fn steps(&mut self, counted: &mut VecDeque<u64>) -> Vec<Option<f64>> {
         let count = f64::from(self.counted);
         let sides: Vec<_> = self.sides().map(|side| side.opening.is_some()).collect();
-        let mut next = || {
-            if counted.is_empty() {
-                None
-            } else {
-                Some(counted.remove(0))
-            }
-        };
+        let mut next = || counted.pop_front();
         let mut steps = Vec::new();
         for is_opened in sides {
             let opening = if is_opened { next() } else { Some(0) };
@@ -205,7 +237,9 @@ pub fn each(rounds: u32, mut one: impl FnMut() -> u64) -> u64 {
 
 /// Prints the head of a table, where it is timed: so many columns of names, and those of numbers.
 pub fn head(mode: &Mode, names: &[&str], numbers: &[&str]) {
-    if let Mode::Timed { .. } = mode {
+    if let Mode::Timed { times, .. } = mode
+        && !times.are_more_to_come
+    {
         let titles = [names, numbers].concat().join(" | ");
         let (left, right) = ("---|".repeat(names.len()), "---:|".repeat(numbers.len()));
         println!("\n| {titles} |\n|{left}{right}");
