@@ -1,3 +1,4 @@
+pub mod Alike
 pub mod Blank
 pub mod CutParts
 pub mod OpenRowParts

@@ -1,10 +1,12 @@
 //! What was taken of one column at one instant, lane by lane. Which lanes hold a cell stands apart from the cells, so that a
 //! look at what is held reads no cell.
-ghost use Rattle.std.specs.Prelude.{◌≡◌, ◌≤◌, IfSome, length, map, option_copied, replicate, Some};
+ghost use Rattle.std.specs.Prelude.{◌≡◌, ◌≤◌, IfSome, length, map, option_map, replicate, Some};
+ghost use Rattle.pdc_row.specs.CellView.{CellView, same_block};
 ghost use Rattle.pdc_row.specs.Chosen.{present_of};
 ghost use Rattle.pdc_open_row.specs.Chosen.{are_different, chosen_of, disagreement_at};
-ghost use Rattle.pdc_open_row.specs.OpenRowParts.{column_of, nothing, without_lane};
+ghost use Rattle.pdc_open_row.specs.OpenRowParts.{chosen_view, column_of, nothing, second_of, without_lane};
 ghost use Rattle.pdc_open_row.specs.Taking.{cell_in, holds_other, with_cell};
+ghost use Rattle.pdc_open_row.specs.Views.{kept};
 
 use pdc_row::{Cell, CopyFrom, Offered, Shape};
 
@@ -15,12 +17,24 @@ pub struct Held {
     pub first: bool,
     /// Whether lane 1 holds one, in a table of two lanes.
     pub second: bool,
+    /// Whether the block of lane 1, where it holds one, stands in the cell of lane 0: it was found to be the same.
+    pub alike: bool,
+}
+
+/// What a column gives.
+#[derive(Clone, Copy)]
+pub(crate) struct Chosen<'a> {
+    /// The cell that has the block.
+    pub cell: &'a Cell,
+    /// The time quality byte of the frame of the lane that gives it.
+    pub quality: u8,
 }
 
 /// What a column holds in which nothing was taken.
 pub const NOTHING: Held = Held {
     first: false,
     second: false,
+    alike: false,
 };
 
 /// No lane holds a cell.
@@ -33,27 +47,45 @@ impl Default for Held {
 }
 
 impl Held {
-    /// The cell of the lowest lane whose block is present, of these of the column.
+    /// The cell of lane 1, where that is held: its quality, and its block wherever it stands.
+    #[inline(always)]
+    fn second_of<'a>(&self, first: &'a Cell, second: &'a Cell) -> Chosen<'a>
+        ensures { chosen_view result ≡ second_of self.now first.now second.now }
+    {
+        Chosen {
+            cell: if self.alike { first } else { second },
+            quality: second.quality(),
+        }
+    }
+
+    /// The block of the lowest lane whose block is present, of these cells of the column.
     #[inline]
-    pub(crate) fn chosen<'a>(&self, first: &'a Cell, second: &'a Cell) -> Option<&'a Cell>
-        ensures { option_copied result ≡ chosen_of (column_of self.now first.now second.now) }
+    pub(crate) fn chosen<'a>(&self, first: &'a Cell, second: &'a Cell) -> Option<Chosen<'a>>
+        ensures { option_map chosen_view result ≡ chosen_of (column_of self.now first.now second.now) }
     {
         if self.first && first.is_present() {
-            return Some(first);
+            return Some(Chosen {
+                cell: first,
+                quality: first.quality(),
+            });
         }
-        if self.second && second.is_present() {
+        let second = self.second_of(first, second);
+        if self.second && second.cell.is_present() {
             return Some(second);
         }
         None
     }
 
-    /// The cell of lane 0, where it is held and its block is present, of these of the column.
+    /// The block of lane 0, where it is held and present, of these cells of the column.
     #[inline(always)]
-    pub(crate) fn first_present<'a>(&self, first: &'a Cell, _second: &Cell) -> Option<&'a Cell>
-        ensures { IfSome result (λ cell. Some cell.now ≡ chosen_of (column_of self.now first.now _second.now)) }
+    pub(crate) fn first_present<'a>(&self, first: &'a Cell, _second: &Cell) -> Option<Chosen<'a>>
+        ensures { IfSome result (λ chosen. Some (chosen_view chosen) ≡ chosen_of (column_of self.now first.now _second.now)) }
     {
         if self.first && first.is_present() {
-            Some(first)
+            Some(Chosen {
+                cell: first,
+                quality: first.quality(),
+            })
         } else {
             None
         }
@@ -74,12 +106,44 @@ impl Held {
         ensures alone { lane ≡ 0 → self.new.second ≡ self.old.second }
     {
         if lane == 0 {
+            self.make_way(first, second, block);
             self.first = true;
             first.set(block, quality);
         } else {
             self.second = true;
-            second.set(block, quality);
+            if self.first && first.holds(block) {
+                self.alike = true;
+                second.set_quality(quality);
+            } else {
+                self.alike = false;
+                second.set(block, quality);
+            }
         }
+    }
+
+    /// Keeps what lane 1 holds, before this block comes into the cell of lane 0.
+    #[inline(always)]
+    fn make_way<B: Offered>(&mut self, first: &Cell, second: &mut Cell, block: &B)
+        ensures second { (cell : CellView) → cell.block ≡ B.view block.now
+            → kept self.new.second (second_of self.new cell second.new) ≡ kept self.old.second (second_of self.old first.now second.old) }
+        ensures held { self.new.second ≡ self.old.second }
+    {
+        if self.second {
+            self.meet(first, second, block);
+        }
+    }
+
+    /// The same where lane 1 holds a cell: its block stands in its own cell, and may be the same. A call of its own, since a table of one
+    /// lane never makes it.
+    #[inline(never)]
+    fn meet<B: Offered>(&mut self, first: &Cell, second: &mut Cell, block: &B)
+        ensures held { self.new ≡ record self.old { alike = same_block (second_of self.old first.now second.old).block (B.view block.now) } }
+        ensures second { second.new ≡ second_of self.old first.now second.old }
+    {
+        if self.alike {
+            second.set_block(first);
+        }
+        self.alike = second.holds(block);
     }
 
     /// Makes the cells that are held, of these of the column, copies of those of another row.
@@ -93,10 +157,12 @@ impl Held {
     )
         ensures { column_of self.now first.new second.new ≡ column_of self.now other_first.now other_second.now }
     {
-        if self.first {
+        if self.first || self.alike {
             first.copy_from(other_first);
         }
-        if self.second {
+        if self.alike {
+            second.set_quality(other_second.quality());
+        } else if self.second {
             second.copy_from(other_second);
         }
     }
@@ -127,7 +193,7 @@ impl Held {
         if lane == 0 {
             self.first && !first.holds(block)
         } else {
-            self.second && !second.holds(block)
+            self.second && !self.second_of(first, second).cell.holds(block)
         }
     }
 
@@ -137,7 +203,7 @@ impl Held {
         ensures value { result ≡ disagreement_at shape (column_of self.now first.now second.now) }
         ensures most { result ≤ 1 }
     {
-        if self.second && self.first && shape.is_some() && differ(first, second) {
+        if !self.alike && self.second && self.first && shape.is_some() && differ(first, second) {
             1
         } else {
             0

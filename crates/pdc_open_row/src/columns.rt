@@ -1,13 +1,13 @@
 //! The columns of a row, as the lists that the row keeps of them: which lanes hold a cell, and the cells of each lane.
-ghost use Rattle.std.specs.Prelude.{◌≡◌, ℕ, ◌<◌, ◌≤◌, IfSome, Some, length, option_copied, replicate, false, slice_index_or, slice_set};
+ghost use Rattle.std.specs.Prelude.{◌≡◌, ℕ, ◌<◌, ◌≤◌, IfSome, Some, length, option_map, replicate, false, slice_index_or, slice_set};
 ghost use Rattle.std.specs.List.{All, list_any};
 ghost use Rattle.pdc_open_row.specs.Chosen.{chosen_of, disagreement_at};
 ghost use Rattle.pdc_open_row.specs.Taking.{cell_in, cells_in, conflicts, holds_other, with_cell, with_cells};
-ghost use Rattle.pdc_open_row.specs.OpenRowParts.{columns_of, nothing};
+ghost use Rattle.pdc_open_row.specs.OpenRowParts.{chosen_view, columns_of, nothing};
 ghost use Rattle.pdc_open_row.specs.Views.{empty_column};
 ghost use Rattle.pdc_open_row.specs.declared.column.Held.{Held as HeldData};
 
-use crate::column::NOTHING;
+use crate::column::{Chosen, NOTHING};
 use crate::{Held, MAX_COLUMNS};
 use arrayvec::ArrayVec;
 use pdc_row::{Cell, Offered, Shape};
@@ -198,7 +198,7 @@ pub fn disagreements_at(
     }
 }
 
-/// The cell that the column at this place gives; past the last column there is none.
+/// What the column at this place gives; past the last column there is nothing.
 #[inline]
 #[tactic(auto, using(crate::proofs::OpenRowParts::column_at, crate::proofs::OpenRowParts::column_past))]
 pub fn chosen_at<'a>(
@@ -206,10 +206,10 @@ pub fn chosen_at<'a>(
     first: &'a [Cell],
     second: &'a [Cell],
     place: usize,
-) -> Option<&'a Cell>
+) -> Option<Chosen<'a>>
     requires first { length held.now ≤ length first.now }
     requires second { length held.now ≤ length second.now }
-    ensures { option_copied result ≡ chosen_of (slice_index_or (columns_of held.now first.now second.now) place empty_column) }
+    ensures { option_map chosen_view result ≡ chosen_of (slice_index_or (columns_of held.now first.now second.now) place empty_column) }
 {
     if place < held.len() {
         held[place].chosen(&first[place], &second[place])
@@ -218,8 +218,8 @@ pub fn chosen_at<'a>(
     }
 }
 
-/// The cell of lane 0 of the column at this place, where it is held and its block is present: then it is what the column gives, whatever
-/// lane 1 holds.
+/// The block of lane 0 of the column at this place, where it is held and present: then it is what the column gives, whatever lane 1
+/// holds.
 #[inline(always)]
 #[tactic(auto, using(crate::proofs::OpenRowParts::column_at))]
 pub fn first_at<'a>(
@@ -227,11 +227,11 @@ pub fn first_at<'a>(
     first: &'a [Cell],
     second: &[Cell],
     place: usize,
-) -> Option<&'a Cell>
+) -> Option<Chosen<'a>>
     requires place { place < length held.now }
     requires first { length held.now ≤ length first.now }
     requires second { length held.now ≤ length second.now }
-    ensures { IfSome result (λ cell. Some cell.now ≡ chosen_of (slice_index_or (columns_of held.now first.now second.now) place empty_column)) }
+    ensures { IfSome result (λ chosen. Some (chosen_view chosen) ≡ chosen_of (slice_index_or (columns_of held.now first.now second.now) place empty_column)) }
 {
     held[place].first_present(&first[place], &second[place])
 }

@@ -292,14 +292,14 @@ impl OpenRow {
                     above,
                 };
             };
-            let Some(cell) = first_at(held, &self.first, &self.second, place) else {
+            let Some(chosen) = first_at(held, &self.first, &self.second, place) else {
                 return Written {
                     place,
                     count,
                     above,
                 };
             };
-            above = give(Some(cell), shape, blocks, count, above);
+            above = give(Some(chosen), shape, blocks, count, above);
             count += 1;
         }
         Written {
@@ -344,8 +344,8 @@ impl OpenRow {
             };
         };
         make_slot(blocks, count);
-        let cell = chosen_at(self.held.as_slice(), &self.first, &self.second, place);
-        let above = give(cell, shape, blocks.as_mut_slice(), count, above);
+        let chosen = chosen_at(self.held.as_slice(), &self.first, &self.second, place);
+        let above = give(chosen, shape, blocks.as_mut_slice(), count, above);
         Written {
             place: place + 1,
             count: count + 1,

@@ -1,14 +1,15 @@
 //! The blocks of a row, and the worst quality of them, as the row is written column after column.
-ghost use Rattle.std.specs.Prelude.{◌≡◌, ℕ, ◌+◌, ◌<◌, ◌≤◌, ◌++◌, ◌∷◌, List, length, map, [], option_map, option_copied, take, Some};
+ghost use Rattle.std.specs.Prelude.{◌≡◌, ℕ, ◌+◌, ◌<◌, ◌≤◌, ◌++◌, ◌∷◌, List, length, map, [], option_map, take, Some};
 ghost use Rattle.std.specs.Option.{option_to_list};
 ghost use Rattle.pdc_row.specs.CellView.{absent_view, block_view};
 ghost use Rattle.pdc_row.specs.Chosen.{block_or_absent};
 ghost use Rattle.pdc_row.specs.Quality.{time_quality_of, worst_of};
-ghost use Rattle.pdc_open_row.specs.OpenRowParts.{worst_kept};
+ghost use Rattle.pdc_open_row.specs.OpenRowParts.{chosen_view, worst_kept};
 
 use crate::MAX_COLUMNS;
+use crate::column::Chosen;
 use arrayvec::ArrayVec;
-use pdc_row::{Block, Cell, Shape, set_absent};
+use pdc_row::{Block, Shape, set_absent};
 
 /// The worst time quality. A row in which no block is present has it.
 pub const WORST_QUALITY: u8 = 15;
@@ -35,11 +36,11 @@ fn push_slot(blocks: &mut ArrayVec<Block, MAX_COLUMNS>)
     blocks.push(Block::default());
 }
 
-/// Writes the block of a column of this shape behind so many blocks: that of the cell that is given, else the absent one. It answers
+/// Writes the block of a column of this shape behind so many blocks: that which is given, else the absent one. It answers
 /// the number above the worst quality so far with its own, if it is present: 0 where there is none so far.
 #[inline(always)]
 pub fn give(
-    cell: Option<&Cell>,
+    chosen: Option<Chosen<'_>>,
     shape: &Shape,
     blocks: &mut [Block],
     count: usize,
@@ -48,16 +49,16 @@ pub fn give(
     requires room { count < length blocks.old }
     requires above { above ≤ WORST_QUALITY + 1 }
     ensures blocks { map block_view (take (count + 1) blocks.new) ≡ map block_view (take count blocks.old)
-        ++ block_or_absent shape.now (option_copied cell.entry) ∷ [] }
+        ++ block_or_absent shape.now (option_map chosen_view chosen.entry) ∷ [] }
     ensures len { length blocks.new ≡ length blocks.old }
     ensures quality { (ns : List ℕ) → worst_of (worst_kept result) ns ≡ worst_of (worst_kept above)
-        (option_to_list (option_map time_quality_of (option_copied cell.entry)) ++ ns) }
+        (option_to_list (option_map time_quality_of (option_map chosen_view chosen.entry)) ++ ns) }
     ensures fits { result ≤ WORST_QUALITY + 1 }
 {
-    match cell {
-        Some(cell) => {
-            cell.copy_to(&mut blocks[count]);
-            worse(above, cell.time_quality())
+    match chosen {
+        Some(chosen) => {
+            chosen.cell.copy_to(&mut blocks[count]);
+            worse(above, chosen.quality % 16)
         }
         None => {
             give_absent(&mut blocks[count], shape);

@@ -20,6 +20,10 @@ and_assoc : (a b c : Bool) → ((a && b) && c) ≡ (a && (b && c))
 and_assoc true b c = refl
 and_assoc false b c = refl
 
+twice : (a b c : Bool) → (b && c) ≡ c → ((a && b) && (a && c)) ≡ (a && c)
+twice true b c e = e
+twice false b c e = refl
+
 -- the front, and what stands behind it
 pub joined : (n : ℕ) (xs ys : List ℕ) → length xs ≡ length ys
     → (pointwise nat_eq (take n xs) (take n ys) && pointwise nat_eq (drop n xs) (drop n ys)) ≡ pointwise nat_eq xs ys
@@ -30,3 +34,23 @@ joined (suc n) (x ∷ xs) [] e = absurd (omega (arith, e))
 joined (suc n) (x ∷ xs) (y ∷ ys) e =
     and_assoc (nat_eq x y) (pointwise nat_eq (take n xs) (take n ys)) (pointwise nat_eq (drop n xs) (drop n ys))
     ∙ ap (λ b. nat_eq x y && b) (joined n xs ys (omega (arith, e)))
+
+-- a front and an end that overlap, or touch, are all
+whole : (k : ℕ) (xs ys : List ℕ) → length xs ≡ length ys
+    → (pointwise nat_eq (take k xs) (take k ys) && pointwise nat_eq xs ys) ≡ pointwise nat_eq xs ys
+whole zero xs ys e = refl
+whole (suc k) [] [] e = refl
+whole (suc k) [] (y ∷ ys) e = absurd (omega (arith, e))
+whole (suc k) (x ∷ xs) [] e = absurd (omega (arith, e))
+whole (suc k) (x ∷ xs) (y ∷ ys) e = twice (nat_eq x y) (pointwise nat_eq (take k xs) (take k ys)) (pointwise nat_eq xs ys) (whole k xs ys (omega (arith, e)))
+
+pub overlapped : (j k : ℕ) (xs ys : List ℕ) → j ≤ k → length xs ≡ length ys
+    → (pointwise nat_eq (take k xs) (take k ys) && pointwise nat_eq (drop j xs) (drop j ys)) ≡ pointwise nat_eq xs ys
+overlapped zero k xs ys l e = whole k xs ys e
+overlapped (suc j) zero xs ys l e = absurd (omega (arith, l))
+overlapped (suc j) (suc k) [] [] l e = refl
+overlapped (suc j) (suc k) [] (y ∷ ys) l e = absurd (omega (arith, e))
+overlapped (suc j) (suc k) (x ∷ xs) [] l e = absurd (omega (arith, e))
+overlapped (suc j) (suc k) (x ∷ xs) (y ∷ ys) l e =
+    and_assoc (nat_eq x y) (pointwise nat_eq (take k xs) (take k ys)) (pointwise nat_eq (drop j xs) (drop j ys))
+    ∙ ap (λ b. nat_eq x y && b) (overlapped j k xs ys (omega (arith, l)) (omega (arith, e)))

@@ -1,9 +1,8 @@
 //! A block that was taken.
-ghost use Rattle.std.specs.Prelude.{◌≡◌, ◌%◌, length};
+ghost use Rattle.std.specs.Prelude.{◌≡◌, length};
 ghost use Rattle.pdc_block.specs.pdc_cfg.Shape.{word_count_of};
 
 use crate::present::are_present;
-use crate::same::are_same;
 use crate::{CopyFrom, Offered};
 use pdc_block::{Block, MAX_WORDS, Shape};
 use std::marker::Model;
@@ -91,11 +90,30 @@ impl Cell {
         block.set(self.shape, self.words());
     }
 
-    /// The time quality, the low nibble of the byte: greater is worse.
-    pub fn time_quality(&self) -> u8
-        ensures { result ≡ self.now.quality % 16 }
+    /// The time quality byte of its frame.
+    #[inline(always)]
+    pub fn quality(&self) -> u8
+        ensures { result ≡ self.now.quality }
     {
-        self.quality % 16
+        self.quality
+    }
+
+    /// Makes this the time quality byte; the block stays.
+    #[inline(always)]
+    pub fn set_quality(&mut self, quality: u8)
+        ensures { self.new ≡ record self.old { quality = quality } }
+    {
+        self.quality = quality;
+    }
+
+    /// Makes the block a copy of that of the other cell; the quality stays.
+    #[inline(never)]
+    pub fn set_block(&mut self, other: &Cell)
+        ensures { self.new ≡ record self.old { block = other.now.block } }
+    {
+        let quality = self.quality;
+        self.copy_from(other);
+        self.quality = quality;
     }
 
     /// Whether the block is any other than the absent block of its shape.
@@ -116,10 +134,7 @@ impl Cell {
     pub fn agrees(&self, other: &Cell) -> bool
         ensures { result ≡ same_block self.now.block other.now.block }
     {
-        if other.shape != self.shape {
-            return false;
-        }
-        are_same(self.words(), other.words())
+        self.shape == other.shape && self.words() == other.words()
     }
 }
 

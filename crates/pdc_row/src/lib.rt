@@ -13,7 +13,7 @@ mod laws;
 mod limits;
 mod offered;
 mod present;
-mod same;
+mod written;
 
 pub use cell::Cell;
 pub use copied::{CopyFrom, copy_each};

@@ -1,10 +1,10 @@
 //! A block that is offered to a table, wherever its words lie.
 ghost use Rattle.std.specs.Prelude.{◌≡◌, length, nat_eq};
 ghost use Rattle.std.specs.Cmp.Lexicographic.{pointwise};
-ghost use Rattle.pdc_block.specs.Block.{words_in};
 ghost use Rattle.pdc_block.specs.pdc_cfg.Shape.{word_count_of};
 ghost use Rattle.pdc_row.specs.CellView.{BlockView};
 
+use crate::written::are_written;
 use pdc_block::{Block, Body, Shape};
 
 /// A block that is offered to a table: kept in a [`Block`], or lent from the payload that brought it, as a [`Body`]. Its words are
@@ -64,20 +64,8 @@ impl Offered for Body<'_> {
         Body::write_words(self, words);
     }
 
+    #[inline]
     fn has_words(&self, words: &[u16]) -> bool {
-        have_words(self, words)
+        are_written(words, self.bytes)
     }
-}
-
-/// Whether these are the words of the body.
-fn have_words(body: &Body<'_>, words: &[u16]) -> bool
-    requires { length words.now ≡ word_count_of body.now.shape }
-    ensures { result ≡ pointwise nat_eq words.now (words_in body.now.bytes.now) }
-{
-    for (place, word) in words.iter().enumerate() {
-        if *word != body.word(place) {
-            return false;
-        }
-    }
-    true
 }

@@ -51,7 +51,7 @@ returns-clause-quality c =
     ∙ ap (λ (r : OpenRowView). r.columns) c.self.view_is in
     let rest : List _ = qualities_of (drop (place + 1) c.args.shapes.now) (drop (place + 1) c.args.self.now.columns) in
     c.give-above.ensures.quality rest
-    ∙ ap (λ o. worst_of (worst_kept c.args.from.above) (option_to_list (option_map time_quality_of o) ++ rest)) c.chosen_at-cell.ensures
+    ∙ ap (λ o. worst_of (worst_kept c.args.from.above) (option_to_list (option_map time_quality_of o) ++ rest)) c.chosen_at-chosen.ensures
     ∙ ap (λ cs. worst_of (worst_kept c.args.from.above) (qualities_at (Some c.in-Some.shape) (get_or cs place empty_column) ++ rest)) columns
     ∙ ap (λ o. worst_of (worst_kept c.args.from.above) (qualities_at o (get_or c.args.self.now.columns place empty_column) ++ rest)) shape
     ∙ ap (worst_of (worst_kept c.args.from.above)) (sym (qualities_step c.args.shapes.now c.args.self.now.columns place c.requires.place))

@@ -1,0 +1,11 @@
+use Rattle.std.proofs.Common.{◌≡◌, ◌∙◌, refl, sym}
+use Rattle.std.proofs.lemmas.Bool.{ne_eqb}
+use Rattle.pdc_row.proofs.SameBlocks.{block_is}
+use Rattle.pdc_open_row.proofs.column.Held.put.Goals as goal
+
+-- what is the same in lane 0 stands there
+pub returns-then-holds-clause-column : goal.returns-then-holds-clause-column
+returns-then-holds-clause-column g c =
+    let same : c.args.first.now.block ≡ g.B.Offered.view c.args.block.now =
+    block_is c.args.first.now.block (g.B.Offered.view c.args.block.now) (sym c.holds.ensures ∙ c.if-holds.true) in
+    rw (c.set_quality.ensures, ne_eqb c.args.lane 0 c.if-lane-eq0.false, ← same) refl

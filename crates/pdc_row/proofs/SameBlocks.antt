@@ -1,0 +1,22 @@
+-- Blocks that are the same.
+use Rattle.std.proofs.Common.{◌≡◌, ◌&&◌, true, nat_eq, sym}
+use Rattle.std.specs.Cmp.Lexicographic.{pointwise, same_text}
+use Rattle.std.proofs.lemmas.Bool.{and_parts, eqb-true}
+use Rattle.pdc_block.proofs.pdc_cfg.Shapes.{same_shape as one_shape}
+use Rattle.pdc_block.specs.pdc_cfg.declared.shape.Shape.{Shape}
+use Rattle.pdc_row.specs.CellView.{BlockView, same_block, same_shape}
+
+-- shapes whose numbers are the same
+shape_is : (a b : Shape) → same_shape a b ≡ true → a ≡ b
+shape_is a b e =
+    let numbers = and_parts (nat_eq a.phasors b.phasors && nat_eq a.analogs b.analogs) (nat_eq a.digitals b.digitals) e in
+    let first = and_parts (nat_eq a.phasors b.phasors) (nat_eq a.analogs b.analogs) numbers.0 in
+    one_shape a b (eqb-true a.phasors b.phasors first.0) (eqb-true a.analogs b.analogs first.1) (eqb-true a.digitals b.digitals numbers.1)
+
+-- what is found the same is the same
+pub block_is : (a b : BlockView) → same_block a b ≡ true → a ≡ b
+block_is a b e =
+    let parts = and_parts (same_shape a.shape b.shape) (pointwise nat_eq a.words b.words) e in
+    let shape : a.shape ≡ b.shape = shape_is a.shape b.shape parts.0 in
+    let words : a.words ≡ b.words = same_text a.words b.words (sym parts.1) in
+    λ i. record { shape = shape i; words = words i }
