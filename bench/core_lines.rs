@@ -216,6 +216,8 @@ const REFUSED: (&str, Beside) = ("one datagram in ten refused", Beside::Refused)
 const TWICE: (&str, Beside) = ("one in twenty twice", Beside::Twice);
 const ABSENT: (&str, Beside) = ("one PMU in four absent", Beside::Absent);
 const LATE: (&str, Beside) = ("the second node a tick late", Beside::Late);
+const SECOND_FIRST: (&str, Beside) = ("the second node first", Beside::SecondFirst);
+const DIFFER: (&str, Beside) = ("one block in four differs", Beside::Differ);
 
 /// Each cause of refusal is told apart alike.
 fn compare_refusals() {
@@ -255,6 +257,6 @@ pub fn mergers(mode: &mut Mode) {
         "the merger of two nodes",
         &shapes,
         merger,
-        &[REFUSED, TWICE, ABSENT, LATE],
+        &[REFUSED, TWICE, ABSENT, LATE, SECOND_FIRST, DIFFER],
     );
 }

@@ -32,6 +32,10 @@ pub enum Beside {
     Absent,
     /// The second node is a tick late.
     Late,
+    /// The frame of the second node comes first.
+    SecondFirst,
+    /// One block in four of the second node differs from that of the first, in its last byte.
+    Differ,
 }
 
 fn frame(kind: Kind, id: u16, soc: u32, frac: u32, payload: &[u8]) -> Vec<u8> {
@@ -112,22 +116,26 @@ pub fn pmu_data(shape: Shape, id: u16, instant: u32) -> Vec<u8> {
     data(id, instant, &block(shape, instant, u32::from(id)))
 }
 
-/// The data frame of a node of 16 PMUs under its layout with this change number; with absent PMUs, one in four is so.
+/// The data frame of a node of 16 PMUs under its layout with this change number; with absent PMUs, one in four is so, and with blocks that
+/// differ, one in four of the second node has another last byte.
 pub fn node_data(shapes: &[Shape], id: u16, instant: u32, change: u32, beside: Beside) -> Vec<u8> {
     let mut payload = vec![0; OWN_BLOCK_LEN];
     payload[6..10].copy_from_slice(&1_u32.to_be_bytes());
     payload[10..].copy_from_slice(&change.to_be_bytes());
     for (number, shape) in shapes.iter().enumerate() {
         let mut bytes = block(*shape, instant, number as u32);
-        if beside == Beside::Absent && is_absent(number) {
+        if beside == Beside::Absent && is_fourth(number) {
             put_absent(&mut bytes, *shape);
+        }
+        if beside == Beside::Differ && is_fourth(number) && id == NODES[1] {
+            *bytes.last_mut().expect("a block has words") ^= 1;
         }
         payload.extend(bytes);
     }
     data(id, instant, &payload)
 }
 
-fn is_absent(pmu: usize) -> bool {
+fn is_fourth(pmu: usize) -> bool {
     pmu % 4 == 3
 }
 
@@ -204,7 +212,7 @@ pub fn node_run(shapes: &[Shape], instants: u32, beside: Beside) -> Run {
         let is_middle = instant == instants / 2;
         for (stream, (id, shape)) in (1..).zip(shapes).enumerate() {
             let is_left_out =
-                beside == Beside::Absent && is_absent(stream) || is_middle && stream == last;
+                beside == Beside::Absent && is_fourth(stream) || is_middle && stream == last;
             if !is_left_out {
                 sender.send(stream, &pmu_data(*shape, id, instant));
             }
@@ -247,12 +255,18 @@ pub fn merger_run(shapes: &[Shape], instants: u32, beside: Beside) -> Run {
             beside,
         );
         let second = |instant| node_data(shapes, NODES[1], instant, changes(instant), beside);
-        sender.send(0, &first);
+        let is_second_first = beside == Beside::SecondFirst && instant != middle;
+        if !is_second_first {
+            sender.send(0, &first);
+        }
         match beside {
             Beside::Late if instant > 1 => sender.send(1, &second(instant - 1)),
             Beside::Late => {}
             _ if instant != middle => sender.send(1, &second(instant)),
             _ => {}
+        }
+        if is_second_first {
+            sender.send(0, &first);
         }
         if instant == middle {
             for (stream, id) in NODES.into_iter().enumerate() {

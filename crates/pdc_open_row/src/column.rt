@@ -105,24 +105,45 @@ impl Held {
             ≡ with_cell lane (Some (record { block = B.view block.now; quality = quality })) (column_of self.old first.old second.old) }
         ensures alone { lane ≡ 0 → self.new.second ≡ self.old.second }
     {
+        if lane == 0 && !self.second {
+            self.first = true;
+            first.set(block, quality);
+        } else {
+            self.put_beside(first, second, lane, block, quality);
+        }
+    }
+
+    /// The same where the other lane may hold a cell. A call of its own, since a table of one lane never makes it.
+    #[inline(never)]
+    fn put_beside<B: Offered>(
+        &mut self,
+        first: &mut Cell,
+        second: &mut Cell,
+        lane: usize,
+        block: &B,
+        quality: u8,
+    )
+        ensures column { column_of self.new first.new second.new
+            ≡ with_cell lane (Some (record { block = B.view block.now; quality = quality })) (column_of self.old first.old second.old) }
+        ensures alone { lane ≡ 0 → self.new.second ≡ self.old.second }
+    {
         if lane == 0 {
             self.make_way(first, second, block);
             self.first = true;
             first.set(block, quality);
+            return;
+        }
+        self.second = true;
+        if self.first && first.holds(block) {
+            self.alike = true;
+            second.set_quality(quality);
         } else {
-            self.second = true;
-            if self.first && first.holds(block) {
-                self.alike = true;
-                second.set_quality(quality);
-            } else {
-                self.alike = false;
-                second.set(block, quality);
-            }
+            self.alike = false;
+            second.set(block, quality);
         }
     }
 
-    /// Keeps what lane 1 holds, before this block comes into the cell of lane 0.
-    #[inline(always)]
+    /// Keeps what lane 1 holds, before this block comes into the cell of lane 0: its block goes into its own cell, and may be the same.
     fn make_way<B: Offered>(&mut self, first: &Cell, second: &mut Cell, block: &B)
         ensures second { (cell : CellView) → cell.block ≡ B.view block.now
             → kept self.new.second (second_of self.new cell second.new) ≡ kept self.old.second (second_of self.old first.now second.old) }
@@ -133,9 +154,7 @@ impl Held {
         }
     }
 
-    /// The same where lane 1 holds a cell: its block stands in its own cell, and may be the same. A call of its own, since a table of one
-    /// lane never makes it.
-    #[inline(never)]
+    /// The same where lane 1 holds a cell.
     fn meet<B: Offered>(&mut self, first: &Cell, second: &mut Cell, block: &B)
         ensures held { self.new ≡ record self.old { alike = same_block (second_of self.old first.now second.old).block (B.view block.now) } }
         ensures second { second.new ≡ second_of self.old first.now second.old }

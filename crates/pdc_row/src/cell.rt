@@ -124,6 +124,7 @@ impl Cell {
     }
 
     /// Whether the block has this shape and these words.
+    #[inline(always)]
     pub fn holds<B: Offered>(&self, block: &B) -> bool
         ensures { result ≡ same_block self.now.block (B.view block.now) }
     {

@@ -10,8 +10,11 @@ use std::sync::atomic::{AtomicU64, Ordering};
 use std::time::{Duration, Instant, SystemTime};
 use std::{io, thread};
 
-/// How long a read waits for a consumer, and how long nobody is looked for after nobody came, in milliseconds.
+/// How long a read waits for a consumer, in milliseconds.
 const TURN: u64 = 20;
+
+/// How long nobody is looked for after nobody came, in milliseconds: each of the threads that serve looks by itself, and each look wakes it.
+const LOOK: u64 = 100;
 
 /// How long a write waits for a consumer that does not read, in milliseconds.
 const WRITE_LIMIT: u64 = 1000;
@@ -99,7 +102,7 @@ where
                 serve_one(rt, alloc, recent, &mut stream);
                 present.fetch_sub(1, Ordering::Relaxed);
             }
-            Err(_) => thread::sleep(rt, Duration::from_millis(TURN)),
+            Err(_) => thread::sleep(rt, Duration::from_millis(LOOK)),
         }
     }
     unreachable!()

@@ -1,4 +1,4 @@
-use Rattle.std.proofs.Common.{ℕ, ◌≡◌, ◌+◌, ◌++◌, ◌∙◌, List, Option, None, Some, ap, append-nil, drop, get_or, map, refl, sym, take}
+use Rattle.std.proofs.Common.{ℕ, ◌≡◌, ◌+◌, ◌<◌, ◌++◌, ◌∙◌, List, Option, None, Some, ap, append-nil, drop, get_or, length, map, refl, sym, take}
 use Rattle.std.specs.Prelude.{option_map}
 use Rattle.std.specs.Option.{option_to_list}
 use Rattle.std.proofs.lemmas.List.{get_or_default}
@@ -15,13 +15,17 @@ no_shape : (o : Option Shape) → ((s : Shape) → o ≡ Some s → ⊥) → o �
 no_shape None none = refl
 no_shape (Some s) none = absurd (none s refl)
 
+-- what is read at a place, and is no shape
+none_at : (shapes : List (Option Shape)) (place : ℕ) (o : Option Shape) → place < length shapes → o ≡ get_or shapes place o → ((s : Shape) → o ≡ Some s → ⊥)
+    → get_or shapes place None ≡ None
+none_at shapes place o l e none = sym (e ∙ get_or_default shapes place o None l) ∙ no_shape o none
+
 -- a column without a shape gives nothing
 pub returns-in_default-clause-blocks : goal.returns-in_default-clause-blocks
 returns-in_default-clause-blocks c =
     let place : ℕ = c.args.from.place in
     let shape : get_or c.args.shapes.now place None ≡ None =
-    sym (c.index-shapes-place.is ∙ get_or_default c.args.shapes.now place c.index-shapes-place.result None c.requires.place)
-    ∙ no_shape c.index-shapes-place.result c.in_default.not-Some in
+    none_at c.args.shapes.now place c.index-shapes-place.result c.requires.place c.index-shapes-place.is c.in_default.not-Some in
     let front : List _ = map block_view (take c.args.from.count c.args.blocks.now.items) in
     let column : ColumnView = get_or c.args.self.now.columns place empty_column in
     blocks_more c.args.shapes.now c.args.self.now.columns place front front
@@ -32,8 +36,7 @@ pub returns-in_default-clause-quality : goal.returns-in_default-clause-quality
 returns-in_default-clause-quality c =
     let place : ℕ = c.args.from.place in
     let shape : get_or c.args.shapes.now place None ≡ None =
-    sym (c.index-shapes-place.is ∙ get_or_default c.args.shapes.now place c.index-shapes-place.result None c.requires.place)
-    ∙ no_shape c.index-shapes-place.result c.in_default.not-Some in
+    none_at c.args.shapes.now place c.index-shapes-place.result c.requires.place c.index-shapes-place.is c.in_default.not-Some in
     let column : ColumnView = get_or c.args.self.now.columns place empty_column in
     let rest : List _ = qualities_of (drop (place + 1) c.args.shapes.now) (drop (place + 1) c.args.self.now.columns) in
     ap (λ o. worst_of (worst_kept c.args.from.above) (qualities_at o column ++ rest)) (sym shape)
