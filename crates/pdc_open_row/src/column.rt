@@ -113,8 +113,8 @@ impl Held {
         }
     }
 
-    /// The same where the other lane may hold a cell. A call of its own, since a table of one lane never makes it.
-    #[inline(never)]
+    /// The same where the other lane may hold a cell.
+    #[inline(always)]
     fn put_beside<B: Offered>(
         &mut self,
         first: &mut Cell,
@@ -144,6 +144,7 @@ impl Held {
     }
 
     /// Keeps what lane 1 holds, before this block comes into the cell of lane 0: its block goes into its own cell, and may be the same.
+    #[inline(always)]
     fn make_way<B: Offered>(&mut self, first: &Cell, second: &mut Cell, block: &B)
         ensures second { (cell : CellView) → cell.block ≡ B.view block.now
             → kept self.new.second (second_of self.new cell second.new) ≡ kept self.old.second (second_of self.old first.now second.old) }
@@ -155,6 +156,7 @@ impl Held {
     }
 
     /// The same where lane 1 holds a cell.
+    #[inline(always)]
     fn meet<B: Offered>(&mut self, first: &Cell, second: &mut Cell, block: &B)
         ensures held { self.new ≡ record self.old { alike = same_block (second_of self.old first.now second.old).block (B.view block.now) } }
         ensures second { second.new ≡ second_of self.old first.now second.old }

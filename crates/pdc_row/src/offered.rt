@@ -64,7 +64,7 @@ impl Offered for Body<'_> {
         Body::write_words(self, words);
     }
 
-    #[inline]
+    #[inline(always)]
     fn has_words(&self, words: &[u16]) -> bool {
         are_written(words, self.bytes)
     }

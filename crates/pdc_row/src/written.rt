@@ -10,6 +10,7 @@ const WORDS_AT_ONCE: usize = 16;
 
 /// Whether the bytes write these words, each with its high byte first: sixteen at a step, and the last sixteen at once, some of which the step
 /// before them may have compared.
+#[inline(never)]
 pub fn are_written(words: &[u16], bytes: &[u8]) -> bool
     requires { length bytes.now ≡ 2 * length words.now }
     ensures { result ≡ pointwise nat_eq words.now (words_in bytes.now) }
