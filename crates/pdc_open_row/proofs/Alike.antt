@@ -3,15 +3,15 @@ use Rattle.std.proofs.Common.{◌≡◌, ◌∙◌, Bool, true, false, ap, cond,
 use Rattle.pdc_row.proofs.SameBlocks.{block_is}
 use Rattle.pdc_row.specs.CellView.{BlockView, CellView, same_block}
 use Rattle.pdc_open_row.specs.OpenRowParts.{second_of}
-use Rattle.pdc_open_row.specs.Views.{kept}
 use Rattle.pdc_open_row.specs.declared.column.Held.{Held}
 
-stays_where : (is_same : Bool) (cell first : CellView) → (is_same ≡ true → cell.block ≡ first.block) → cond is_same (record cell { block = first.block }) cell ≡ cell
-stays_where true cell first same = ap (λ block. record cell { block = block }) (sym (same refl))
-stays_where false cell first same = refl
+stays_where : (is_same : Bool) (own first : BlockView) → (is_same ≡ true → own ≡ first) → cond is_same first own ≡ own
+stays_where true own first same = sym (same refl)
+stays_where false own first same = refl
 
 -- it is the one of its own cell, where the two were found the same
-pub stays : (held : Held) (cell first : CellView) (block : BlockView) → first.block ≡ block
-    → kept held.second (second_of (record held { alike = same_block cell.block block }) first cell) ≡ kept held.second cell
-stays held cell first block e =
-    ap (kept held.second) (stays_where (same_block cell.block block) cell first (λ same. block_is cell.block block same ∙ sym e))
+pub stays : (held : Held) (own block : BlockView) (first second : CellView) → first.block ≡ block → second.block ≡ own
+    → second_of (record held { alike = same_block own block }) first second ≡ record { block = own; quality = held.quality }
+stays held own block first second e is =
+    ap (λ b. record { block = b; quality = held.quality })
+    (ap (cond (same_block own block) first.block) is ∙ stays_where (same_block own block) own first.block (λ same. block_is own block same ∙ sym e))

@@ -7,7 +7,7 @@ use Rattle.pdc_open_row.specs.declared.column.Held.{Held}
 
 -- no lane holds a cell
 abbrev pub nothing : Held
-nothing = record { first = false; second = false; alike = false }
+nothing = record { first = false; second = false; alike = false; quality = 0 }
 
 -- the lane, 0 or else 1, holds no cell
 abbrev pub without_lane : ℕ → Held → Held
@@ -15,7 +15,7 @@ without_lane lane held = if lane == 0 then record held { first = false } else re
 
 -- the cell of lane 1, of these cells: its block may stand in that of lane 0
 abbrev pub second_of : Held → (first second : CellView) → CellView
-second_of held first second = if held.alike then record second { block = first.block } else second
+second_of held first second = record { block = if held.alike then first.block else second.block; quality = held.quality }
 
 -- what a column gives: the block of a cell, and the quality of the lane that gives it
 abbrev pub chosen_view : Chosen → CellView

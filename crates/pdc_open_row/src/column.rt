@@ -17,8 +17,10 @@ pub struct Held {
     pub first: bool,
     /// Whether lane 1 holds one, in a table of two lanes.
     pub second: bool,
-    /// Whether the block of lane 1, where it holds one, stands in the cell of lane 0: it was found to be the same.
+    /// Whether the block of lane 1, where it holds one, stands in the cell of lane 0, since it was found to be the same: else it stands in its own.
     pub alike: bool,
+    /// The time quality byte of the frame of lane 1.
+    pub quality: u8,
 }
 
 /// What a column gives.
@@ -35,6 +37,7 @@ pub const NOTHING: Held = Held {
     first: false,
     second: false,
     alike: false,
+    quality: 0,
 };
 
 /// No lane holds a cell.
@@ -54,7 +57,7 @@ impl Held {
     {
         Chosen {
             cell: if self.alike { first } else { second },
-            quality: second.quality(),
+            quality: self.quality,
         }
     }
 
@@ -134,9 +137,9 @@ impl Held {
             return;
         }
         self.second = true;
+        self.quality = quality;
         if self.first && first.holds(block) {
             self.alike = true;
-            second.set_quality(quality);
         } else {
             self.alike = false;
             second.set(block, quality);
@@ -159,10 +162,10 @@ impl Held {
     #[inline(always)]
     fn meet<B: Offered>(&mut self, first: &Cell, second: &mut Cell, block: &B)
         ensures held { self.new ≡ record self.old { alike = same_block (second_of self.old first.now second.old).block (B.view block.now) } }
-        ensures second { second.new ≡ second_of self.old first.now second.old }
+        ensures second { second.new.block ≡ (second_of self.old first.now second.old).block }
     {
         if self.alike {
-            second.set_block(first);
+            second.copy_from(first);
         }
         self.alike = second.holds(block);
     }
@@ -181,9 +184,7 @@ impl Held {
         if self.first || self.alike {
             first.copy_from(other_first);
         }
-        if self.alike {
-            second.set_quality(other_second.quality());
-        } else if self.second {
+        if self.second && !self.alike {
             second.copy_from(other_second);
         }
     }

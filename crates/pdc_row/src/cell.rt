@@ -98,24 +98,6 @@ impl Cell {
         self.quality
     }
 
-    /// Makes this the time quality byte; the block stays.
-    #[inline(always)]
-    pub fn set_quality(&mut self, quality: u8)
-        ensures { self.new ≡ record self.old { quality = quality } }
-    {
-        self.quality = quality;
-    }
-
-    /// Makes the block a copy of that of the other cell; the quality stays.
-    #[inline(never)]
-    pub fn set_block(&mut self, other: &Cell)
-        ensures { self.new ≡ record self.old { block = other.now.block } }
-    {
-        let quality = self.quality;
-        self.copy_from(other);
-        self.quality = quality;
-    }
-
     /// Whether the block is any other than the absent block of its shape.
     pub fn is_present(&self) -> bool
         ensures { result ≡ is_present self.now.block }

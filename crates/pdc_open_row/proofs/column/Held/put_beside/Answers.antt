@@ -8,4 +8,4 @@ pub returns-then-holds-clause-column : goal.returns-then-holds-clause-column
 returns-then-holds-clause-column g c =
     let same : c.args.first.now.block ≡ g.B.Offered.view c.args.block.now =
     block_is c.args.first.now.block (g.B.Offered.view c.args.block.now) (sym c.holds.ensures ∙ c.if-holds.true) in
-    rw (c.set_quality.ensures, ne_eqb c.args.lane 0 c.if-lane-eq0.false, ← same) refl
+    rw (ne_eqb c.args.lane 0 c.if-lane-eq0.false, ← same) refl
