@@ -167,6 +167,12 @@ second_kept [] i x y l e = absurd (omega arith)
 second_kept (h ∷ hs) zero x y l e = ap (λ b. b || any_second hs) e
 second_kept (h ∷ hs) (suc i) x y l e = ap (λ b. h.second || b) (second_kept hs i x y (omega arith) e)
 
+-- with nothing in lane 1, each column has nothing there
+pub none_second : (hs : List Held) (i : ℕ) (x : Held) → i < length hs → any_second hs ≡ false → (get_or hs i x).second ≡ false
+none_second [] i x l e = absurd (omega arith)
+none_second (h ∷ hs) zero x l e = (or_parts h.second (any_second hs) e).0
+none_second (h ∷ hs) (suc i) x l e = none_second hs i x (omega arith) (or_parts h.second (any_second hs) e).1
+
 -- with nothing in lane 1, no column disagrees
 alone : (shape : Option Shape) (h : Held) (f s : CellView) → h.second ≡ false → disagreement_at shape (column_of h f s) ≡ 0
 alone None h f s e = refl

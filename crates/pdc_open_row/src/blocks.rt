@@ -1,5 +1,5 @@
 //! The blocks of a frame, as they are put into a row, wherever their words lie.
-ghost use Rattle.std.specs.Prelude.{◌≡◌, ◌<◌, ◌≤◌, ℕ, List, length};
+ghost use Rattle.std.specs.Prelude.{◌≡◌, ◌<◌, ◌≤◌, ℕ, List, false, length, true};
 ghost use Rattle.std.specs.List.{All, list_any};
 ghost use Rattle.pdc_row.specs.CellView.{CellView};
 ghost use Rattle.pdc_open_row.specs.OpenRowParts.{columns_of};
@@ -15,7 +15,8 @@ pub trait Blocks {
     // The cells that they make, with the time quality byte of the frame.
     ghost cells: { Self → ℕ → List (ℕ × CellView) };
 
-    /// Puts copies of them into their columns, in this lane.
+    /// Puts copies of them into their columns, in this lane. They are alone where it is known that the lane is 0, and that no column holds a
+    /// cell in lane 1.
     fn put(
         &self,
         held: &mut [Held],
@@ -23,10 +24,12 @@ pub trait Blocks {
         second: &mut [Cell],
         lane: usize,
         quality: u8,
+        is_alone: bool,
     )
         requires columns { All (λ (cell : ℕ × CellView). cell.0 < length held.old) (cells self.now quality) }
         requires first { length held.old ≤ length first.old }
         requires second { length held.old ≤ length second.old }
+        requires alone { is_alone ≡ true → (lane ≡ 0) × (list_any (λ (h : HeldData). h.second) held.old ≡ false) }
         ensures columns { columns_of held.new first.new second.new ≡ with_cells lane (cells self.now quality) (columns_of held.old first.old second.old) }
         ensures held { length held.new ≡ length held.old }
         ensures first { length first.new ≡ length first.old }
@@ -66,8 +69,9 @@ impl<B: Offered> Blocks for Listed<'_, B> {
         second: &mut [Cell],
         lane: usize,
         quality: u8,
+        is_alone: bool,
     ) {
-        put_cells(held, first, second, lane, self.cells, quality);
+        put_cells(held, first, second, lane, self.cells, quality, is_alone);
     }
 
     fn conflict(

@@ -1,6 +1,6 @@
 //! What was taken of one column at one instant, lane by lane. Which lanes hold a cell stands apart from the cells, so that a
 //! look at what is held reads no cell.
-ghost use Rattle.std.specs.Prelude.{◌≡◌, ◌≤◌, IfSome, length, map, option_map, replicate, Some};
+ghost use Rattle.std.specs.Prelude.{◌≡◌, ◌≤◌, IfSome, false, length, map, option_map, replicate, true, Some};
 ghost use Rattle.pdc_row.specs.CellView.{CellView, same_block};
 ghost use Rattle.pdc_row.specs.Chosen.{present_of};
 ghost use Rattle.pdc_open_row.specs.Chosen.{are_different, chosen_of, disagreement_at};
@@ -94,7 +94,8 @@ impl Held {
         }
     }
 
-    /// Puts a copy of the block, and the time quality byte of its frame, into the lane, 0 or else 1, of these of the column.
+    /// Puts a copy of the block, and the time quality byte of its frame, into the lane, 0 or else 1, of these of the column. It is alone
+    /// where it is known that it goes into lane 0, and that lane 1 holds nothing.
     #[inline(always)]
     pub(crate) fn put<B: Offered>(
         &mut self,
@@ -103,12 +104,14 @@ impl Held {
         lane: usize,
         block: &B,
         quality: u8,
+        is_alone: bool,
     )
+        requires { is_alone ≡ true → (lane ≡ 0) × (self.old.second ≡ false) }
         ensures column { column_of self.new first.new second.new
             ≡ with_cell lane (Some (record { block = B.view block.now; quality = quality })) (column_of self.old first.old second.old) }
         ensures alone { lane ≡ 0 → self.new.second ≡ self.old.second }
     {
-        if lane == 0 && !self.second {
+        if is_alone {
             self.first = true;
             first.set(block, quality);
         } else {

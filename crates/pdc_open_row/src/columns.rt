@@ -1,5 +1,5 @@
 //! The columns of a row, as the lists that the row keeps of them: which lanes hold a cell, and the cells of each lane.
-ghost use Rattle.std.specs.Prelude.{◌≡◌, ℕ, ◌<◌, ◌≤◌, IfSome, Some, length, option_map, replicate, false, slice_index_or, slice_set};
+ghost use Rattle.std.specs.Prelude.{◌≡◌, ℕ, ◌<◌, ◌≤◌, IfSome, Some, length, option_map, replicate, false, true, slice_index_or, slice_set};
 ghost use Rattle.std.specs.List.{All, list_any};
 ghost use Rattle.pdc_open_row.specs.Chosen.{chosen_of, disagreement_at};
 ghost use Rattle.pdc_open_row.specs.Taking.{cell_in, cells_in, conflicts, holds_other, with_cell, with_cells};
@@ -22,7 +22,8 @@ pub fn nothings(count: usize) -> ArrayVec<Held, MAX_COLUMNS>
     nothings
 }
 
-/// Puts the blocks into their columns, in this lane: most frames bring one.
+/// Puts the blocks into their columns, in this lane: most frames bring one. They are alone where it is known that the lane is 0, and that no
+/// column holds a cell in lane 1.
 #[inline(always)]
 pub fn put_cells<B: Offered>(
     held: &mut [Held],
@@ -31,10 +32,12 @@ pub fn put_cells<B: Offered>(
     lane: usize,
     cells: &[(usize, B)],
     quality: u8,
+    is_alone: bool,
 )
     requires columns { All (λ (cell : ℕ × B). cell.0 < length held.old) cells.now }
     requires first { length held.old ≤ length first.old }
     requires second { length held.old ≤ length second.old }
+    requires alone { is_alone ≡ true → (lane ≡ 0) × (list_any (λ (h : HeldData). h.second) held.old ≡ false) }
     ensures columns { columns_of held.new first.new second.new
         ≡ with_cells lane (cells_in B.view cells.now quality) (columns_of held.old first.old second.old) }
     ensures held { length held.new ≡ length held.old }
@@ -43,9 +46,9 @@ pub fn put_cells<B: Offered>(
     ensures alone { lane ≡ 0 → list_any (λ (h : HeldData). h.second) held.new ≡ list_any (λ (h : HeldData). h.second) held.old }
 {
     if let [cell] = cells {
-        put_one(held, first, second, lane, cell, quality);
+        put_one(held, first, second, lane, cell, quality, is_alone);
     } else {
-        put_each(held, first, second, lane, cells, quality);
+        put_each(held, first, second, lane, cells, quality, is_alone);
     }
 }
 
@@ -58,10 +61,12 @@ pub fn put_one<B: Offered>(
     lane: usize,
     cell: &(usize, B),
     quality: u8,
+    is_alone: bool,
 )
     requires column { cell.now.0 < length held.old }
     requires first { length held.old ≤ length first.old }
     requires second { length held.old ≤ length second.old }
+    requires alone { is_alone ≡ true → (lane ≡ 0) × (list_any (λ (h : HeldData). h.second) held.old ≡ false) }
     ensures columns { columns_of held.new first.new second.new ≡ slice_set (columns_of held.old first.old second.old) cell.now.0
         (with_cell lane (Some (record { block = B.view cell.now.1; quality = quality })) (slice_index_or (columns_of held.old first.old second.old) cell.now.0 empty_column)) }
     ensures held { length held.new ≡ length held.old }
@@ -76,6 +81,7 @@ pub fn put_one<B: Offered>(
         lane,
         block,
         quality,
+        is_alone,
     );
 }
 
@@ -88,10 +94,12 @@ fn put_each<B: Offered>(
     lane: usize,
     cells: &[(usize, B)],
     quality: u8,
+    is_alone: bool,
 )
     requires columns { All (λ (cell : ℕ × B). cell.0 < length held.old) cells.now }
     requires first { length held.old ≤ length first.old }
     requires second { length held.old ≤ length second.old }
+    requires alone { is_alone ≡ true → (lane ≡ 0) × (list_any (λ (h : HeldData). h.second) held.old ≡ false) }
     ensures columns { columns_of held.new first.new second.new
         ≡ with_cells lane (cells_in B.view cells.now quality) (columns_of held.old first.old second.old) }
     ensures held { length held.new ≡ length held.old }
@@ -106,6 +114,7 @@ fn put_each<B: Offered>(
             lane,
             block,
             quality,
+            is_alone,
         );
     }
 }

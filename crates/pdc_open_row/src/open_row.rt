@@ -16,7 +16,7 @@ ghost use Rattle.pdc_open_row.specs.declared.column.Held.{Held as HeldData};
 use crate::blocks::Blocks;
 use crate::column::{NOTHING, forget_all, forget_lane};
 use crate::columns::{chosen_at, copy_held, disagreements_at, first_at, nothings};
-use crate::row_blocks::{WORST_QUALITY, give, make_slot};
+use crate::row_blocks::{WORST_QUALITY, Written, give, make_slot};
 use crate::streams::{all_taken, falses};
 use crate::{Held, MAX_COLUMNS, PutOutcome, RowLayout, WaitRule, copy_items};
 use arrayvec::ArrayVec;
@@ -29,17 +29,6 @@ use std::marker::Model;
 pub struct Places {
     pub streams: usize,
     pub columns: usize,
-}
-
-/// How far a row is written that closes.
-#[derive(Clone, Copy)]
-struct Written {
-    /// The next column.
-    place: usize,
-    /// How many blocks are written.
-    count: usize,
-    /// The number above the worst quality of those that are present: 0 where there is none.
-    above: u32,
 }
 
 /// The row of an instant that is open. It counts no ticks: its age stands with whoever keeps it.
@@ -137,6 +126,7 @@ impl OpenRow {
             &mut self.second,
             lane,
             quality,
+            lane == 0 && !self.has_second,
         );
         if lane != 0 {
             self.has_second = true;

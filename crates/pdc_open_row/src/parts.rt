@@ -1,5 +1,5 @@
 //! Blocks that lie one after the other in a payload, each with its column.
-ghost use Rattle.std.specs.Prelude.{◌≡◌, ◌<◌, ◌≤◌, ◌*◌, ◌+◌, ◌++◌, ℕ, length, take};
+ghost use Rattle.std.specs.Prelude.{◌≡◌, ◌<◌, ◌≤◌, ◌*◌, ◌+◌, ◌++◌, ℕ, false, length, take, true};
 ghost use Rattle.std.specs.List.{AllByRecursion, list_any};
 ghost use Rattle.pdc_row.specs.CellView.{CellView};
 ghost use Rattle.pdc_row.specs.pdc_block.Block.{words_in};
@@ -49,8 +49,11 @@ impl<P: Part> Blocks for Cut<'_, P> {
         second: &mut [Cell],
         lane: usize,
         quality: u8,
+        is_alone: bool,
     ) {
-        put_parts(self.parts, self.bytes, held, first, second, lane, quality);
+        put_parts(
+            self.parts, self.bytes, held, first, second, lane, quality, is_alone,
+        );
     }
 
     fn conflict(
@@ -74,11 +77,13 @@ fn put_parts<P: Part>(
     second: &mut [Cell],
     lane: usize,
     quality: u8,
+    is_alone: bool,
 )
     requires size { length bytes.now ≡ parts_len P.shape_of parts.now }
     requires columns { AllByRecursion (λ (cell : ℕ × CellView). cell.0 < length held.old) (cut_cells P.column_of P.shape_of parts.now quality (words_in bytes.now)) }
     requires first { length held.old ≤ length first.old }
     requires second { length held.old ≤ length second.old }
+    requires alone { is_alone ≡ true → (lane ≡ 0) × (list_any (λ (h : HeldData). h.second) held.old ≡ false) }
     ensures columns { columns_of held.new first.new second.new
         ≡ with_cells lane (cut_cells P.column_of P.shape_of parts.now quality (words_in bytes.now)) (columns_of held.old first.old second.old) }
     ensures held { length held.new ≡ length held.old }
@@ -93,8 +98,8 @@ fn put_parts<P: Part>(
     let shape = part.shape();
     let (bytes, others) = bytes.split_at(2 * shape.word_count());
     let block = (part.column(), Body { shape, bytes });
-    put_one(held, first, second, lane, &block, quality);
-    put_parts(later, others, held, first, second, lane, quality)
+    put_one(held, first, second, lane, &block, quality, is_alone);
+    put_parts(later, others, held, first, second, lane, quality, is_alone)
 }
 
 /// Whether some block differs from what this lane of its column holds.

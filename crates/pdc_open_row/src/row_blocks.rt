@@ -14,6 +14,17 @@ use pdc_row::{Block, Shape, set_absent};
 /// The worst time quality. A row in which no block is present has it.
 pub const WORST_QUALITY: u8 = 15;
 
+/// How far a row is written that closes.
+#[derive(Clone, Copy)]
+pub struct Written {
+    /// The next column.
+    pub place: usize,
+    /// How many blocks are written.
+    pub count: usize,
+    /// The number above the worst quality of those that are present: 0 where there is none.
+    pub above: u32,
+}
+
 /// Makes a slot behind so many blocks, where there is none.
 pub fn make_slot(blocks: &mut ArrayVec<Block, MAX_COLUMNS>, count: usize)
     requires held { count ≤ length blocks.old.items }

@@ -22,7 +22,13 @@ put_parts-requires g t c κs within =
           (
             subst (λ (n : ℕ). AllByRecursion (λ (cell : ℕ × CellView). cell.0 < n) (cut_cells g.P.Part.column_of g.P.Part.shape_of c.in-Some.later.now c.args.quality (words_in c.split_at.result.1.now))) (sym c.put_one.ensures.held)
                 (later_exist g.P.Part.column_of g.P.Part.shape_of (length c.args.held.now) c.args.quality c.in-Some.part.now c.args.parts.now c.in-Some.later.now c.args.bytes.now c.split_at.result.1.now c.words_are_cut.ensures first c.requires.columns),
-            (omega (arith, c.put_one.ensures.held, c.put_one.ensures.first, c.requires.first), omega (arith, c.put_one.ensures.held, c.put_one.ensures.second, c.requires.second)),
+            (
+              omega (arith, c.put_one.ensures.held, c.put_one.ensures.first, c.requires.first),
+              (
+                omega (arith, c.put_one.ensures.held, c.put_one.ensures.second, c.requires.second),
+                λ e. ((c.requires.alone e).0, c.put_one.ensures.alone (c.requires.alone e).0 ∙ (c.requires.alone e).1),
+              ),
+            ),
           ),
         ),
       ),
