@@ -3,15 +3,15 @@ ghost use Rattle.std.specs.Prelude.{◌≡◌, ◌<◌, IfOk};
 ghost use Rattle.pdc_publisher.specs.Publisher.{output_in};
 
 use pdc_core::Core;
+use pdc_frame::SECONDS;
 use pdc_life::MAX_PMUS;
 use pdc_mark::ModelMark;
 use pdc_merge::Merger;
 use pdc_node::Node;
-use pdc_output::Output;
 use pdc_publisher::{Published, Publisher, spare_frame};
+use pdc_row::Output;
 use pdc_settings::{MergerSettings, NodeSettings};
 use pdc_table::{DueRow, RingTable, spare_row};
-use pdc_tag::SECONDS;
 use std::alloc::{AllocError, Global};
 
 /// All counts may be adopted.

@@ -1,11 +1,10 @@
 //! From bytes to values.
 ghost use Rattle.std.specs.Prelude.{◌≤◌, ◌<◌};
-ghost use Rattle.pdc_tag.specs.declared.limits.TheConstants.{COUNT_LIMIT, MAX_RATE};
+ghost use Rattle.pdc_frame.specs.declared.tag_limits.TheConstants.{COUNT_LIMIT, MAX_RATE};
 
 use pdc_block::Body;
 use pdc_cfg::{ConfigView, MAX_ANALOGS, MAX_DIGITALS, MAX_PHASORS, Shape, read_config};
-use pdc_frame::{check_word, read_frame};
-use pdc_tag::{COUNT_LIMIT, MAX_RATE, instant};
+use pdc_frame::{COUNT_LIMIT, MAX_RATE, check_word, instant, read_frame};
 
 /// The shape of these numbers, where they are within the limits.
 pub(crate) fn shape_of(phasors: u8, analogs: u8, digitals: u8) -> Option<Shape> {

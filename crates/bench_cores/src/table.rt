@@ -6,7 +6,7 @@ use pdc_block::Body;
 use pdc_cfg::Shape;
 use pdc_table::{DueRow, RingTable, RowLayout, Table, WaitRule, spare_row};
 use std::alloc::{AllocError, Global};
-use try_table::SortedTable;
+use try_script::SortedTable;
 
 const STREAMS: usize = 16;
 

@@ -4,13 +4,13 @@ ghost use Rattle.pdc_publisher.specs.Publisher.{output_in};
 
 use crate::frames::{FLOOR, Frames};
 use pdc_core::Core;
+use pdc_frame::SECONDS;
 use pdc_life::{MAX_PMUS, Settings};
 use pdc_mark::ModelMark;
 use pdc_node::{Node, copy_of};
-use pdc_output::Output;
 use pdc_publisher::Publisher;
+use pdc_row::Output;
 use pdc_table::RingTable;
-use pdc_tag::SECONDS;
 use std::alloc::Global;
 
 /// All counts may be adopted.

@@ -1,7 +1,6 @@
 //! The frames of sixteen PMUs.
 
-use pdc_frame::{Frame, Kind, StreamId, write_frame};
-use pdc_tag::tag_of;
+use pdc_frame::{Frame, Kind, StreamId, tag_of, write_frame};
 use std::alloc::Global;
 
 /// How many PMUs there are; their streams are 11 to 26.

@@ -4,8 +4,8 @@ use Rattle.std.specs.Prelude.{◌≡◌, ℕ, List, [], ◌∷◌, ◌++◌, Opt
 use Rattle.std.proofs.Common.{arith}
 use Rattle.pdc_arrival.specs.pdc_cfg.Section.{SectionFields}
 use Rattle.pdc_arrival.specs.pdc_cfg.declared.shape.Shape.{Shape}
-use Rattle.pdc_arrival.specs.pdc_output.declared.output.Output.{Output}
-use Rattle.pdc_arrival.specs.pdc_output.declared.output.Nominal.TheVariants.{Hz50}
+use Rattle.pdc_arrival.specs.pdc_row.declared.output.Output.{Output}
+use Rattle.pdc_arrival.specs.pdc_row.declared.output.Nominal.TheVariants.{Hz50}
 use Rattle.pdc_arrival.specs.pdc_row.CellView.{BlockView, CellView}
 use Rattle.pdc_arrival.specs.pdc_row.RowView.{RowView}
 use Rattle.pdc_table.specs.Content.{Content}

@@ -6,7 +6,7 @@ use Rattle.std.proofs.lemmas.List.{ext_get_or, get_or-set_other, get_or-set_same
 use Rattle.std.proofs.lemmas.Simd.{map-map}
 use Rattle.std.proofs.lemmas.List.FromFn.{get_or-map-range_with_len, length-map-range_with_len}
 use Rattle.pdc_arrival.specs.pdc_cfg.Section.{SectionFields}
-use Rattle.pdc_arrival.specs.pdc_output.declared.output.Output.{Output}
+use Rattle.pdc_arrival.specs.pdc_row.declared.output.Output.{Output}
 use Rattle.pdc_arrival.specs.pdc_row.CellView.{CellView}
 use Rattle.pdc_arrival.specs.pdc_row.Rising.{Rises}
 use Rattle.pdc_table.specs.Content.{IsPut}

@@ -4,9 +4,9 @@ use Rattle.std.proofs.Common.{arith}
 use Rattle.pdc_arrival.specs.pdc_block.Block.{bytes_of_words}
 use Rattle.pdc_arrival.specs.pdc_cfg.declared.shape.Shape.{Shape}
 use Rattle.pdc_arrival.specs.pdc_cfg.Section.{SectionFields}
-use Rattle.pdc_arrival.specs.pdc_output.declared.output.Output.{Output}
-use Rattle.pdc_arrival.specs.pdc_output.declared.output.Nominal.TheVariants.{Hz50}
-use Rattle.pdc_arrival.specs.pdc_output.Layout.{own_block}
+use Rattle.pdc_arrival.specs.pdc_row.declared.output.Output.{Output}
+use Rattle.pdc_arrival.specs.pdc_row.declared.output.Nominal.TheVariants.{Hz50}
+use Rattle.pdc_arrival.specs.pdc_row.Layout.{own_block}
 use Rattle.pdc_arrival.specs.pdc_row.CellView.{BlockView, CellView}
 use Rattle.pdc_arrival.specs.pdc_row.RowView.{RowView}
 use Rattle.pdc_table.specs.Content.{Content}

@@ -2,8 +2,8 @@
 use Rattle.std.proofs.Common.{◌≡◌, ℕ, List, ap, ◌∙◌}
 use Rattle.std.specs.List.{filter_map, range_with_len}
 use Rattle.pdc_arrival.specs.pdc_cfg.Section.{SectionFields}
-use Rattle.pdc_arrival.specs.pdc_output.declared.output.Output.{Output}
-use Rattle.pdc_arrival.specs.pdc_output.Layout.{layout_wire_of}
+use Rattle.pdc_arrival.specs.pdc_row.declared.output.Output.{Output}
+use Rattle.pdc_arrival.specs.pdc_row.Layout.{layout_wire_of}
 use Rattle.pdc_arrival.specs.pdc_life.Given.{Given}
 use Rattle.pdc_arrival.specs.pdc_life.Life.{Entry, changes, section_in_force}
 use Rattle.pdc_arrival.specs.pdc_life.Published.{layout_wire}

@@ -3,8 +3,8 @@ use Rattle.std.specs.Prelude.{◌≡◌, ℕ, ◌+◌, true, false, List, [], �
 use Rattle.std.proofs.Common.{arith}
 use Rattle.pdc_arrival.specs.pdc_cfg.declared.shape.Shape.{Shape}
 use Rattle.pdc_arrival.specs.pdc_cfg.Section.{SectionFields}
-use Rattle.pdc_arrival.specs.pdc_output.declared.output.Output.{Output}
-use Rattle.pdc_arrival.specs.pdc_output.declared.output.Nominal.TheVariants.{Hz50}
+use Rattle.pdc_arrival.specs.pdc_row.declared.output.Output.{Output}
+use Rattle.pdc_arrival.specs.pdc_row.declared.output.Nominal.TheVariants.{Hz50}
 use Rattle.pdc_arrival.specs.pdc_life.declared.timing.WaitKind.TheVariants.{Relative}
 use Rattle.pdc_arrival.specs.pdc_life.Answer.{ReadStep, ToArrive, ToTick, life_from}
 use Rattle.pdc_arrival.specs.pdc_life.Arrival.{Layout}

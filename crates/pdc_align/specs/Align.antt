@@ -1,7 +1,7 @@
 -- What the alignment of a concentrator keeps of a life: a function of the life (this profile).
 use Rattle.std.specs.Prelude.{◌≡◌, ℕ, ◌+◌, Bool, true, false, List, [], ◌∷◌, length, map, Option, None, Some}
 use Rattle.pdc_arrival.specs.pdc_cfg.Section.{SectionFields}
-use Rattle.pdc_arrival.specs.pdc_output.declared.output.Output.{Output}
+use Rattle.pdc_arrival.specs.pdc_row.declared.output.Output.{Output}
 use Rattle.pdc_table.specs.Content.{Content}
 use Rattle.pdc_arrival.specs.pdc_life.Given.{Given, columns_of, count_for}
 use Rattle.pdc_arrival.specs.pdc_life.Arrival.{Arrival}

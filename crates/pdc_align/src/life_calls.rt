@@ -1,7 +1,7 @@
 //! The calls of an alignment, said of every life that it stands for: each is a step, and the laws by which the step follows the life.
 ghost use Rattle.std.specs.Prelude.{◌≡◌, ◌<◌, ◌≤◌, [], ◌∷◌, ℕ, List, IfOk, IfSome, Option, false, length, map, option_map};
 ghost use Rattle.std.specs.List.{All};
-ghost use Rattle.pdc_arrival.specs.pdc_output.declared.output.Output.{Output};
+ghost use Rattle.pdc_arrival.specs.pdc_row.declared.output.Output.{Output};
 ghost use Rattle.pdc_arrival.specs.pdc_block.Block.{words_in};
 ghost use Rattle.pdc_arrival.specs.pdc_row.RowView.{RowView, row_view};
 ghost use Rattle.pdc_table.specs.Content.{IsPut};

@@ -12,7 +12,7 @@ use Rattle.pdc_pipe.specs.declared.message.Message.{Message}
 use Rattle.pdc_pipe.specs.declared.message.Message.TheVariants.{Data, Layout, End}
 use Rattle.pdc_hub.specs.Replay.{InSomeLife, Lives, number_in}
 use Rattle.pdc_hub.specs.declared.fault.HubFault.{HubFault}
-use Rattle.pdc_output.specs.declared.output.Output.{Output}
+use Rattle.pdc_row.specs.declared.output.Output.{Output}
 use Rattle.pdc_row.specs.RowView.{RowView}
 use Rattle.pdc_aligner.specs.Sequence.{AreData, HasPutData, HasPutRow, IsPopped}
 use Rattle.pdc_aligner.specs.Turns.{AreStored, AreTurns, HasGiven, HasPut, HasTurned, IsAligned, IsAnswered, NoneFalls, Turn, has_adopted, is_told, nows_of, second_at, turn_at}

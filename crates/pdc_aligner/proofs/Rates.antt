@@ -5,7 +5,7 @@ use Rattle.std.proofs.Props.{props}
 use Rattle.pdc_life.specs.Given.{Given}
 use Rattle.pdc_life.specs.Life.{Entry}
 use Rattle.pdc_life.specs.Published.{layout_wire}
-use Rattle.pdc_tag.specs.declared.limits.TheConstants.{SECONDS}
+use Rattle.pdc_frame.specs.declared.tag_limits.TheConstants.{SECONDS}
 use Rattle.pdc_hub.specs.Replay.{InSomeLife, Lives}
 use Rattle.pdc_pipe.specs.Layout.{IsOfSomeLayout}
 use Rattle.pdc_ports.specs.declared.numbered.Numbered.{Numbered}

@@ -4,7 +4,7 @@ use Rattle.pdc_hub.specs.Replay.{InSomeLife, Lives}
 use Rattle.pdc_hub.specs.declared.fault.HubFault.{HubFault}
 use Rattle.pdc_life.specs.Answer.{pop_answer}
 use Rattle.pdc_life.specs.Given.{Given}
-use Rattle.pdc_output.specs.declared.output.Output.{Output}
+use Rattle.pdc_row.specs.declared.output.Output.{Output}
 use Rattle.pdc_publisher.specs.Published.{IsRowFrame}
 use Rattle.pdc_publisher.specs.declared.published.Published.{Published}
 use Rattle.pdc_row.specs.RowView.{RowView}

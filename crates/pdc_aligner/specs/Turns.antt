@@ -8,7 +8,7 @@ use Rattle.pdc_life.specs.Published.{layout_wire}
 use Rattle.pdc_pipe.specs.declared.message.LayoutFrame.{LayoutFrame}
 use Rattle.pdc_pipe.specs.declared.message.Message.{Message}
 use Rattle.pdc_pipe.specs.declared.message.Message.TheVariants.{Layout, End}
-use Rattle.pdc_output.specs.declared.output.Output.{Output}
+use Rattle.pdc_row.specs.declared.output.Output.{Output}
 use Rattle.pdc_hub.specs.Replay.{InSomeLife, Lives}
 use Rattle.pdc_hub.specs.declared.fault.HubFault.{HubFault}
 use Rattle.pdc_aligner.specs.Sequence.{HasPutData}

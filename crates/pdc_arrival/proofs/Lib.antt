@@ -4,9 +4,7 @@ pub mod OwnStamp
 mod Counting
 mod Worked
 pub use Rattle.pdc_life.proofs as pdc_life
-pub use Rattle.pdc_life.proofs.pdc_output
 pub use Rattle.pdc_life.proofs.pdc_row
 pub use Rattle.pdc_life.proofs.pdc_block
 pub use Rattle.pdc_life.proofs.pdc_cfg
 pub use Rattle.pdc_life.proofs.pdc_frame
-pub use Rattle.pdc_life.proofs.pdc_tag

@@ -1,8 +1,8 @@
 -- The masks of an own section tell its stamp.
 use Rattle.std.proofs.Common.{◌≡◌, ℕ, ◌+◌, ◌*◌, ◌^◌, ◌<◌, List, drop, ap, sym, ◌∙◌, arith}
 use Rattle.pdc_life.specs.pdc_frame.Bytes.{word_at}
-use Rattle.pdc_life.specs.pdc_output.declared.output.Nominal.{Nominal}
-use Rattle.pdc_life.specs.pdc_output.Layout.{own_bytes}
+use Rattle.pdc_life.specs.pdc_row.declared.output.Nominal.{Nominal}
+use Rattle.pdc_life.specs.pdc_row.Layout.{own_bytes}
 
 -- the number whose halves stand at two places behind the names
 abbrev pub long_behind : ℕ → ℕ → List ℕ → ℕ

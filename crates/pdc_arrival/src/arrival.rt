@@ -13,7 +13,7 @@ pub struct Stamp {
 
 impl Stamp {
     ghost use Rattle.std.specs.Prelude.{◌≡◌};
-    ghost use Rattle.pdc_life.specs.pdc_output.Layout.{stamp_words};
+    ghost use Rattle.pdc_life.specs.pdc_row.Layout.{stamp_words};
 
     /// The start number and the change number, each as two words with the high one first, as own sections and own blocks carry
     /// them.

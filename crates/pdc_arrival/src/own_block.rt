@@ -3,8 +3,8 @@ ghost use Rattle.std.specs.Prelude.{◌≡◌, ◌*◌, drop, length, nat_eq};
 ghost use Rattle.std.specs.Cmp.Lexicographic.{pointwise};
 ghost use Rattle.pdc_life.specs.pdc_block.Block.{words_in, words_of};
 ghost use Rattle.pdc_life.specs.pdc_cfg.Shape.{word_count_of};
-ghost use Rattle.pdc_life.specs.pdc_output.Layout.{stamp_words};
-ghost use Rattle.pdc_life.specs.pdc_output.declared.row_frame.TheConstants.{OWN_BLOCK_LEN};
+ghost use Rattle.pdc_life.specs.pdc_row.Layout.{stamp_words};
+ghost use Rattle.pdc_life.specs.pdc_row.declared.row_frame.TheConstants.{OWN_BLOCK_LEN};
 
 use crate::arrival::Stamp;
 use pdc_life::{Block, Body, OWN_BLOCK_LEN, Shape, bodies_are_their_words, read_body};

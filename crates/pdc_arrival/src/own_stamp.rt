@@ -1,7 +1,7 @@
 //! The own section of a node, which tells the stamp of its layout.
 ghost use Rattle.std.specs.Prelude.{◌≡◌, ◌+◌, ◌*◌, ◌↔◌, ◌⊎◌, IsTrue, MatchOption, drop, length};
 ghost use Rattle.pdc_life.specs.pdc_frame.Bytes.{word_at};
-ghost use Rattle.pdc_life.specs.pdc_output.Layout.{own_bytes};
+ghost use Rattle.pdc_life.specs.pdc_row.Layout.{own_bytes};
 ghost use Rattle.pdc_life.specs.Arrival.{Stamp as StampFields};
 ghost use Rattle.pdc_life.specs.MergerReading.{IsOwn};
 ghost use Rattle.pdc_arrival.specs.Views.{stamp_view};

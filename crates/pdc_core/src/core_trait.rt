@@ -16,7 +16,7 @@ ghost use Rattle.pdc_align.specs.pdc_arrival.Views.{arrival_view};
 ghost use Rattle.pdc_align.specs.pdc_row.Rising.{AreBelow};
 ghost use Rattle.pdc_align.specs.pdc_row.RowView.{RowView, row_instants, row_view};
 ghost use Rattle.pdc_align.specs.pdc_table.KeptRow.{popped_into};
-ghost use Rattle.pdc_align.specs.pdc_tag.declared.limits.TheConstants.{SECONDS};
+ghost use Rattle.pdc_align.specs.pdc_frame.declared.tag_limits.TheConstants.{SECONDS};
 
 use crate::{CoreStep, KeptArrival, Reads, Reply};
 use pdc_align::{Arrival, Buffer, Counts, DueRow, MAX_PMUS, Outcome, Ticked};

@@ -2,7 +2,7 @@
 ghost use Rattle.std.specs.Prelude.{◌≡◌, ℕ, [], IfOk, List};
 ghost use Rattle.pdc_align.specs.pdc_life.Given.{Given};
 ghost use Rattle.pdc_align.specs.pdc_life.Life.{Entry};
-ghost use Rattle.pdc_align.specs.pdc_output.declared.output.Output.{Output as OutputData};
+ghost use Rattle.pdc_align.specs.pdc_row.declared.output.Output.{Output as OutputData};
 
 use crate::core_trait::Core;
 use pdc_align::{MAX_PMUS, Output};

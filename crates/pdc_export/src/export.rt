@@ -128,6 +128,28 @@ impl Export {
     }
 }
 
+/// Reads by pieces of at most this many bytes up to the end, and writes what each line says.
+fn export_lines<E: Eprint, R: Read, W: Write>(
+    rt: &E,
+    export: &mut Export,
+    piece: &mut [u8],
+    reader: &mut R,
+    writer: &mut W,
+) -> Result<Shown, ExportFault> {
+    for _ in 0..MAX_READS {
+        let len = match reader.read(piece) {
+            Ok(len) => len,
+            Err(error) if error.kind() == ErrorKind::Interrupted => continue,
+            Err(error) => return Err(ExportFault::Read(error)),
+        };
+        if len == 0 {
+            return export.end(rt, writer);
+        }
+        export.feed(rt, &piece[..len], writer)?;
+    }
+    Err(ExportFault::TooLong)
+}
+
 /// Reads lines of hexadecimal, one frame a line, and writes what each frame says as JSON or CSV. It holds one line at a time, and goes on after a
 /// line that is refused. What was written is flushed before each read, so that it can stand behind a live source. Of a line that gives no
 /// row it tells on standard error.
@@ -144,16 +166,5 @@ pub fn run_export<E: Eprint, R: Read, W: Write>(
 ) -> Result<Shown, ExportFault> {
     let mut export = Export::new(alloc, format)?;
     let mut piece = vec![in alloc; 0u8; PIECE_LEN].map_err(|_| ExportFault::Memory)?;
-    for _ in 0..MAX_READS {
-        let len = match reader.read(piece.as_mut_slice()) {
-            Ok(len) => len,
-            Err(error) if error.kind() == ErrorKind::Interrupted => continue,
-            Err(error) => return Err(ExportFault::Read(error)),
-        };
-        if len == 0 {
-            return export.end(rt, writer);
-        }
-        export.feed(rt, &piece[..len], writer)?;
-    }
-    Err(ExportFault::TooLong)
+    export_lines(rt, &mut export, piece.as_mut_slice(), reader, writer)
 }

@@ -6,8 +6,7 @@ ghost use Rattle.json.specs.Token.{string};
 use json::Writer;
 use pdc_block::Block;
 use pdc_cfg::{ConfigView, SectionView};
-use pdc_command::Command;
-use pdc_frame::Frame;
+use pdc_frame::{Command, Frame};
 use pdc_values::{
     Channel, Field, Kind, Phasor, Quantity, Template, append_count, append_whole, channels_of,
     fixed_of, nominal_frequency, station_name,
@@ -30,6 +29,16 @@ pub fn quoted(alloc: Global, text: &str) -> Result<Vec<u8>, AllocError>
     Ok(writer.into_inner())
 }
 
+/// Adds a text as JSON, with its quotes.
+fn add_quoted(alloc: Global, template: &mut Template, text: &str) -> Result<(), AllocError> {
+    template.text(quoted(alloc, text)?.as_slice())
+}
+
+/// Appends a text as JSON, with its quotes.
+fn append_quoted(alloc: Global, text: &str, out: &mut Vec<u8>) -> Result<(), AllocError> {
+    out.extend_from_slice(quoted(alloc, text)?.as_slice())
+}
+
 /// Adds a member's name, behind a comma where it is not the first.
 fn add_name(
     alloc: Global,
@@ -40,7 +49,7 @@ fn add_name(
     if !is_first {
         template.text(b",")?;
     }
-    template.text(quoted(alloc, name)?.as_slice())?;
+    add_quoted(alloc, template, name)?;
     template.text(b":")
 }
 
@@ -86,16 +95,25 @@ fn add_members(
     template.text(b"}")
 }
 
+/// Adds the name of a PMU, as JSON.
+fn add_station(
+    alloc: Global,
+    template: &mut Template,
+    section: &SectionView,
+) -> Result<(), AllocError> {
+    let name = station_name(alloc, section)?;
+    add_quoted(alloc, template, name.as_str())
+}
+
 /// Adds the PMU's name and id, STAT, the frequency and its rate of change.
 fn add_head(
     alloc: Global,
     template: &mut Template,
     section: &SectionView,
 ) -> Result<(), AllocError> {
-    let name = station_name(alloc, section)?;
     let fixed = fixed_of(section);
     template.text(b"{\"pmu\":")?;
-    template.text(quoted(alloc, name.as_str())?.as_slice())?;
+    add_station(alloc, template, section)?;
     template.text(b",\"id\":")?;
     template.count(u64::from(section.source))?;
     template.places(&[
@@ -106,6 +124,23 @@ fn add_head(
     ])
 }
 
+/// Adds the object of a block of this section, which has these channels.
+fn add_block(
+    alloc: Global,
+    template: &mut Template,
+    section: &SectionView,
+    channels: &[Channel],
+) -> Result<(), AllocError> {
+    add_head(alloc, template, section)?;
+    template.text(b",\"phasors\":")?;
+    add_members(alloc, template, channels, &[Kind::Voltage, Kind::Current])?;
+    template.text(b",\"analogs\":")?;
+    add_members(alloc, template, channels, &[Kind::Analog])?;
+    template.text(b",\"digitals\":")?;
+    add_members(alloc, template, channels, &[Kind::Digital])?;
+    template.text(b"}")
+}
+
 /// The object of a block of this section.
 ///
 /// # Errors
@@ -114,19 +149,7 @@ fn add_head(
 pub fn block_template(alloc: Global, section: &SectionView) -> Result<Template, AllocError> {
     let channels = channels_of(alloc, section)?;
     let mut template = Template::new(alloc, ABSENT);
-    add_head(alloc, &mut template, section)?;
-    template.text(b",\"phasors\":")?;
-    add_members(
-        alloc,
-        &mut template,
-        channels.as_slice(),
-        &[Kind::Voltage, Kind::Current],
-    )?;
-    template.text(b",\"analogs\":")?;
-    add_members(alloc, &mut template, channels.as_slice(), &[Kind::Analog])?;
-    template.text(b",\"digitals\":")?;
-    add_members(alloc, &mut template, channels.as_slice(), &[Kind::Digital])?;
-    template.text(b"}")?;
+    add_block(alloc, &mut template, section, channels.as_slice())?;
     Ok(template)
 }
 
@@ -194,7 +217,7 @@ fn append_channel(
 ) -> Result<(), AllocError> {
     out.extend_from_slice(separator)?;
     out.extend_from_slice(b"{\"name\":")?;
-    out.extend_from_slice(quoted(alloc, channel.label.as_str())?.as_slice())?;
+    append_quoted(alloc, channel.label.as_str(), out)?;
     let kind: &[u8] = match channel.quantity.kind() {
         Kind::Voltage => b",\"kind\":\"voltage\"}",
         Kind::Current => b",\"kind\":\"current\"}",
@@ -204,28 +227,46 @@ fn append_channel(
     out.extend_from_slice(kind)
 }
 
+/// Appends the name of a PMU, as JSON.
+fn append_station(
+    alloc: Global,
+    section: &SectionView,
+    out: &mut Vec<u8>,
+) -> Result<(), AllocError> {
+    let name = station_name(alloc, section)?;
+    append_quoted(alloc, name.as_str(), out)
+}
+
+/// Appends the objects of the channels of a section.
+fn append_channels(
+    alloc: Global,
+    channels: &[Channel],
+    out: &mut Vec<u8>,
+) -> Result<(), AllocError> {
+    let mut separator: &[u8] = b",\"channels\":[";
+    if channels.is_empty() {
+        out.extend_from_slice(separator)?;
+    }
+    for channel in channels {
+        append_channel(alloc, channel, separator, out)?;
+        separator = b",";
+    }
+    out.extend_from_slice(b"]}")
+}
+
 /// Appends the object of a section.
 fn append_section(
     alloc: Global,
     section: &SectionView,
     out: &mut Vec<u8>,
 ) -> Result<(), AllocError> {
-    let name = station_name(alloc, section)?;
-    let channels = channels_of(alloc, section)?;
     out.extend_from_slice(b"{\"pmu\":")?;
-    out.extend_from_slice(quoted(alloc, name.as_str())?.as_slice())?;
+    append_station(alloc, section, out)?;
     append_member(b",\"id\":", i64::from(section.source), out)?;
     append_member(b",\"count\":", i64::from(section.count), out)?;
     append_member(b",\"nominal\":", i64::from(nominal_frequency(section)), out)?;
-    let mut separator: &[u8] = b",\"channels\":[";
-    if channels.is_empty() {
-        out.extend_from_slice(separator)?;
-    }
-    for channel in channels.iter() {
-        append_channel(alloc, channel, separator, out)?;
-        separator = b",";
-    }
-    out.extend_from_slice(b"]}")
+    let channels = channels_of(alloc, section)?;
+    append_channels(alloc, channels.as_slice(), out)
 }
 
 /// Appends the rest of the object of a configuration, whose beginning is there.
@@ -257,7 +298,7 @@ pub fn append_config(
 pub fn append_header(alloc: Global, text: &[u8], out: &mut Vec<u8>) -> Result<(), AllocError> {
     let text = String::from_utf8_lossy(alloc, text)?;
     out.extend_from_slice(b",\"text\":")?;
-    out.extend_from_slice(quoted(alloc, text.as_str())?.as_slice())?;
+    append_quoted(alloc, text.as_str(), out)?;
     out.extend_from_slice(b"}\n")
 }
 
@@ -299,6 +340,6 @@ pub fn append_refusal(
     out.extend_from_slice(b"{\"kind\":\"refused\",\"line\":")?;
     append_count(number, out)?;
     out.extend_from_slice(b",\"refusal\":")?;
-    out.extend_from_slice(quoted(alloc, refusal)?.as_slice())?;
+    append_quoted(alloc, refusal, out)?;
     out.extend_from_slice(b"}\n")
 }

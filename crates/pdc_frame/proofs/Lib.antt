@@ -11,3 +11,7 @@ pub mod Splitting
 pub mod Readings
 pub mod Framed
 pub mod LongSteps
+pub mod NearestLemmas
+pub mod SlotLemmas
+pub mod TagLemmas
+pub mod CommandReadings

@@ -4,3 +4,8 @@ pub mod Frame
 pub mod Parts
 pub mod Stream
 pub mod Texts
+pub mod Nearest
+pub mod Slot
+pub mod Instant
+pub mod Tag
+pub mod Command

@@ -1,34 +1,54 @@
-//! Frames of IEEE C37.118.2-2011: the fields that every message has (6.2), its check word (annex B), and the frames of a
-//! stream of bytes.
+//! Frames of IEEE C37.118.2-2011: the fields that every message has (6.2), its check word (annex B), the frames of a
+//! stream of bytes, and the two kinds of messages that are small: commands (6.6) and headers (6.5).
 //!
 //! To the layers above this crate promises that the bytes of a frame and its fields say the same: what is read is
 //! spelled so, what is spelled so is read with exactly those fields, and what is written is that spelling. A stream is
-//! cut into its frames in one way, in whatever pieces it comes.
+//! cut into its frames in one way, in whatever pieces it comes. A frame carries one command or text, or has one fault.
 //!
-//! Begin with [`Frame`], whose type keeps the ranges of its fields. A [`Framer`] finds the frames of a stream, and a
-//! [`Buffer`] is what frames are appended to.
+//! Begin with [`Frame`], whose type keeps the ranges of its fields. A [`Framer`] finds the frames of a stream, a
+//! [`Buffer`] is what frames are appended to, and a [`Command`] is what a sender of data is told.
+//!
+//! A frame says when it was measured by a second (SOC) and a count of parts of it (FRACSEC, of `TIME_BASE` parts a
+//! second; 6.2). An *instant* is the number of the frame since SOC 0 at a fixed rate. What is said of nearness and of tags
+//! that belong to no frame is this profile's rule: `instant` gives the instant of the grid point nearest to a tag, if the
+//! tag is less than one count off it, and the instant of the tag that `tag_of` gives is the instant again.
+//!
+//! A call of a law, as of `frames_are_written_in_parts`, does nothing: the proof of the function around it cites the law.
 #![tactic(auto)]
 
 mod buffer;
+mod command;
+mod command_fault;
+mod command_laws;
 mod crc;
 mod crc_behind;
 mod fault;
 mod frame;
 mod framer;
+mod header;
 mod id;
 mod laws;
 mod limits;
+mod nearest;
 mod reading;
+mod slots;
 mod step;
 mod stream;
+mod tag_laws;
+mod tag_limits;
+mod tags;
 mod words;
 mod writing;
 
 pub use buffer::Buffer;
+pub use command::{COMMAND_SIZE, Command, read_command, write_command};
+pub use command_fault::CommandFault;
+pub use command_laws::{commands_are_read_in_one_way, headers_are_read_in_one_way};
 pub use crc::check_word;
 pub use fault::FrameFault;
 pub use frame::{Frame, Kind};
 pub use framer::Framer;
+pub use header::{MAX_TEXT, read_header, write_header};
 pub use id::StreamId;
 pub use laws::{
     check_word_is_the_remainder, frames_are_read_in_one_way, frames_are_written_in_parts,
@@ -38,7 +58,11 @@ pub use limits::{
     CHECK_LEN, HEADER_LEN, MAX_FRAC, MAX_ID, MAX_PAYLOAD, MAX_SIZE, MAX_VERSION, OVERHEAD,
 };
 pub use reading::read_frame;
+pub use slots::{instant, slot};
 pub use step::Step;
 pub use stream::frames_of;
+pub use tag_laws::{instant_is_nearest, slot_is_nearest, tag_comes_back, tag_is_nearest};
+pub use tag_limits::{COUNT_LIMIT, MAX_RATE, SECONDS};
+pub use tags::tag_of;
 pub use words::{read_long, read_word};
 pub use writing::{begin_frame, end_frame, write_ends, write_frame};

@@ -1,7 +1,7 @@
 -- Data of an owner that was sent is cut under the layout of its stamp into genuine blocks, and in no other way.
 use Rattle.std.proofs.Common.{[], ◌%◌, ◌*◌, ◌++◌, ◌+◌, ◌/◌, ◌<◌, ◌^◌, ◌∙◌, ◌∷◌, ◌≡◌, ap, arith, get_or, length, List, map, refl, Some, subst, suc, sym, ℕ}
 use Rattle.pdc_history.proofs.Names.{AllByRecursion, append_assoc, AreGenuineBlocks, AreWords, BlockLaws, bytes_of_blocks, bytes_of_words, Cfg2, closed, Contains, DataFrame, Entry, Fields, FrameLaws, Given, given_in, Happened, HasGenuineFrames, IsCut, IsCutOf, IsCutUnder, IsData, IsFrame, IsFramedRow, IsGenuineData, IsGenuineRow, IsHistory, IsInstant, IsLayoutUnder, IsMade, IsPublishedData, life_of, LifeLaws, output_of, own_block, published, published_at, PublishedWereSent, Publishes, row_fields, row_payload, RowView, SectionFields, seen_in, sent, Shape, Stamp, stream_from, to_be_bytes, w16, Who, wire_of, words_in, words_of_row, World}
-use Rattle.pdc_history.proofs.{Blocks.{blocks_stay, change_of, closed_at, ClosedAt, cut_then, genuine_then, IsGenuineAt, IsSourced, under_were_sent}, Layouts.{layout_at, layouts_are_one, same_stamp, sections_at, stamp_at}, Lists.{appended, element, head_of, mapped, tail_of}, Lives.{run_in}, Moments.{before, sent_now, stays_sent}, Sent.{AsLayout, AsRow, framed_row, layout_fields, owned, published_closed, row_frame, start_fits}}
+use Rattle.pdc_history.proofs.{Blocks.{blocks_stay, change_of, closed_at, ClosedAt, cut_then, genuine_then, IsGenuineAt, IsSourced, under_were_sent}, Layouts.{layout_at, layouts_are_one, same_stamp, sections_at, stamp_at}, Lists.{appended, element, head_of, mapped, tail_of}, Lives.{run_in}, Moments.{before, sent_now, stays_sent}, Senders.{AsLayout, AsRow, framed_row, layout_fields, owned, published_closed, row_frame, start_fits}}
 
 -- ---- the own block tells the stamp
 

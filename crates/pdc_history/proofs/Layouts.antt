@@ -1,7 +1,7 @@
 -- Under a stamp there is one layout, that of each life and moment with this stamp.
 use Rattle.std.proofs.Common.{[], ◌++◌, ◌<◌, ◌^◌, ◌∙◌, ◌∷◌, ◌≡◌, ap, arith, Bool, cond, false, filter, inl, inr, length, List, None, Option, refl, Some, subst, sym, true, ℕ}
 use Rattle.pdc_history.proofs.Names.{◌⊎◌, append-nil, append_assoc, Cfg2, changes, columns_of, ConfigFields, Contains, DataFrame, Entry, entry_at, false≢true, Fields, filter_map, FrameLaws, Given, given_by, given_in, Happened, Hz50, Hz60, is_adoption, IsConfig, IsFrame, IsHistory, IsLayoutSent, IsLayoutUnder, IsMade, IsOwn, IsRun, kind_of, layout_payload_of, layout_wire, LayoutsAreOne, life_of, LifeLaws, Nominal, opened_with, Output, output_of, own_bytes, row_fields, RowView, SectionFields, sections_in_force, seen_in, Stamp, Stored, Tick, Ticks, Who, with_entry, World}
-use Rattle.pdc_history.proofs.{Lists.{head_of, tail_of}, Made.{tick_ticks}, Moments.{before, given_then, is_itself, Moment, moment, sent_now, stays_sent, then}, Order.{after, same_given}, Sent.{AsLayout, AsRow, few_columns, layout_fields, owned, start_fits, tick_run}}
+use Rattle.pdc_history.proofs.{Lists.{head_of, tail_of}, Made.{tick_ticks}, Moments.{before, given_then, is_itself, Moment, moment, sent_now, stays_sent, then}, Order.{after, same_given}, Senders.{AsLayout, AsRow, few_columns, layout_fields, owned, start_fits, tick_run}}
 
 -- ---- two moments of a history
 

@@ -17,9 +17,16 @@ pub mod One
 pub mod Order
 pub mod Rows
 pub mod RowsAt
-pub mod Sent
+pub mod Senders
 pub mod Stored
 pub mod Vectors
 pub mod Worked
 pub mod WorkedFaults
 pub mod WorkedHistory
+pub mod Descent
+pub mod Keeping
+pub mod Lookups
+pub mod Pieces
+pub mod Streams
+pub mod Tellings
+pub mod Worlds

@@ -1,7 +1,7 @@
 -- A PMU sent one body for one instant, and one section under one count; and PMUs are told by their streams and sources.
 use Rattle.std.proofs.Common.{[], ◌&&◌, ◌∙◌, ◌∷◌, ◌≡◌, ap, arith, Bool, false, inl, inr, List, map, not, option_map, refl, rules, Some, subst, suc, sym, true, zero, ℕ}
 use Rattle.pdc_history.proofs.Names.{◌==◌, ◌||◌, ◌⊎◌, are_distinct, ConfigFields, Contains, Contains-append_cases, false≢true, Fields, FrameLaws, given_in, Happened, IsConfig, IsData, IsFrame, IsHistory, IsOneBody, IsOneSection, IsValid, life_of, LifeLaws, list_any, output_of, Pmu, PmusSendTheirOwn, row_fields, same_Some, SectionFields, Sends, sent, sent_at, slice_get, slice_get-map, stream_of, World}
-use Rattle.pdc_history.proofs.{Lists.{head_of, none_there}, Sent.{ByPublish, BySend, ByTick, layout_fields, no_pmu_is_own, sent_as, SentAs}}
+use Rattle.pdc_history.proofs.{Lists.{head_of, none_there}, Senders.{ByPublish, BySend, ByTick, layout_fields, no_pmu_is_own, sent_as, SentAs}}
 
 -- ---- distinct numbers stand at one place each
 

@@ -2,7 +2,7 @@
 -- and an absolute wait beside a relative one. What arrives is given as read.
 use Rattle.std.proofs.Common.{arith}
 use Rattle.pdc_frame.specs.CheckWord.{check_word_of}
-use Rattle.pdc_tag.specs.{Nearest.{nearest_of}, Tag.{tag_of}}
+use Rattle.pdc_frame.specs.{Nearest.{nearest_of}, Tag.{tag_of}}
 use Rattle.pdc_history.specs.Event.{Send}
 use Rattle.pdc_history.proofs.Names.{[], ◌++◌, ◌+◌, ◌∷◌, ◌≡◌, A, Absolute, Answered, Arrive, B, Began, body_3, body_4, Bool, Bring, bytes_of_words, Candidate, Closed, Data, Do, e1, e2, e3, e4, Entry, Event, false, Gave, Happened, history_from, Late, Layout, length, life_of, List, M, map, mark_of, None, o1, o3, OfPublish, OfStart, OfTick, Outcome, own_block, past_lives, Publish, published, refl, Refused, Relative, replicate, RowView, section_11, section_11_two, SectionFields, Sends, sent, SentAs, slice_get, Some, StaleCount, Stop, StopDuring, Store, Stored, Taken, TickAt, Told, told_of, true, WaitKind, Who, words_in, World, ℕ}
 use Rattle.pdc_history.proofs.Vectors.{fields_11, fields_12, merger, node, one_phasor}

@@ -1,7 +1,7 @@
 -- The worked script is a history: its premises hold, so what is proved of all histories is proved of something.
 use Rattle.std.proofs.Common.{[], ◌&&◌, ◌++◌, ◌+◌, ◌<◌, ◌^◌, ◌∙◌, ◌∷◌, ◌≡◌, ap, arith, Bool, drop, false, get_or, inr, length, List, None, refl, rules, Some, suc, sym, take, true, zero, ℕ}
 use Rattle.pdc_frame.specs.CheckWord.{check_word_of}
-use Rattle.pdc_tag.specs.{Instant.{instant_of}, Nearest.{nearest_of}, Slot.{slot_of}}
+use Rattle.pdc_frame.specs.{Instant.{instant_of}, Nearest.{nearest_of}, Slot.{slot_of}}
 use Rattle.pdc_history.proofs.Names.{◌-◌, ◌≢◌, A, AllByRecursion, AreBytes, B, body_3, body_4, cast_signed, Cfg2, ConfigFields, Data, DataFrame, Do, e1, e2, e3, e4, Event, EventsMakeHistories, false≢true, Fields, first_mark, Fits, FrameLaws, Happened, history_from, is_same, IsConfig, IsData, IsFrame, IsHistory, IsSection, IsValid, Kind, Layout, list_all, M, MayAllHappen, MayBegin, MayCome, MaySend, nat_lt, output_of, Pmu, Publish, section_11, section_12, SectionFields, Sends, Stop, Stream, stream_of, w16, Who}
 use Rattle.pdc_history.proofs.{Lists.{element, not_in_none}, Vectors.{fields_11, fields_12, pmu_11, pmu_12}, Worked.{data_11, sends, tick, to_11, to_12, to_the_tick, W}}
 

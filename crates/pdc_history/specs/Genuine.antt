@@ -3,7 +3,7 @@ use Rattle.std.specs.{List.{AllByRecursion, Contains, slice_get}, Prelude.{â—Œâ‰
 use Rattle.pdc_cfg.specs.Section.{SectionFields}
 use Rattle.pdc_block.specs.AbsentBlock.{absent_of}
 use Rattle.pdc_row.specs.RowView.{RowView}
-use Rattle.pdc_output.specs.Layout.{row_payload, wire_of}
+use Rattle.pdc_row.specs.Layout.{row_payload, wire_of}
 use Rattle.pdc_life.specs.{Arrival.{Stamp}, Merger.{held_layout, HeldLayout}, Reading.{IsData}}
 use Rattle.pdc_history.specs.{Frames.{AreGenuineBlocks, IsCutOf, IsLayoutUnder, SectionWasSent, stream_from}, History.{IsHistory}, Seen.{OfHistories, Seen, seen_in, stream_in}, World.{A, B, Happened, life_of, M, output_of, published, sent, Who, World}}
 

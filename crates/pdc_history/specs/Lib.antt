@@ -11,3 +11,10 @@ pub mod Play
 pub mod Pmus
 pub mod Seen
 pub mod World
+pub mod Chains
+pub mod SentFrames
+pub mod Histories
+pub mod Index
+pub mod Sent
+pub mod Told
+pub mod Handed

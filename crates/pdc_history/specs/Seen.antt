@@ -1,6 +1,6 @@
 -- What a reader of the streams sees: the settings, and the frames that were ever sent (this profile).
 use Rattle.std.specs.Prelude.{List, ℕ}
-use Rattle.pdc_output.specs.declared.output.Output.{Output}
+use Rattle.pdc_row.specs.declared.output.Output.{Output}
 use Rattle.pdc_life.specs.{CoreKind.{output_under}, declared.given.Settings.{Settings}, declared.merging.MergerSettings.{MergerSettings}, Reading.{Stream}}
 use Rattle.pdc_history.specs.{History.{IsHistory}, World.{Happened, kind_among, sent, Who, World}}
 

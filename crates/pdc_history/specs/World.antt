@@ -2,7 +2,7 @@
 -- what followed from it (this profile). All else is recursion over that list: each definition speaks of what had happened before.
 use Rattle.std.specs.Prelude.{[], ◌++◌, ◌∷◌, Bool, false, if◌then◌else◌, List, None, Option, option_map, Some, true, ℕ}
 use Rattle.pdc_row.specs.RowView.{RowView}
-use Rattle.pdc_output.specs.{declared.output.Output.{Output}, Layout.{wire_of}}
+use Rattle.pdc_row.specs.{declared.output.Output.{Output}, Layout.{wire_of}}
 use Rattle.pdc_mark.specs.{declared.stored.Stored.{Stored}, Stored.{with_counts, with_due, with_waiting}}
 use Rattle.pdc_life.specs.{Answer.{waiting_counts}, CoreKind.{CoreKind, given_of, OfMerger, OfNode, output_under}, declared.given.Settings.{Settings}, declared.merging.MergerSettings.{MergerSettings}, Given.{Given}, Life.{Entry, is_adoption, Pop, Tick}, Published.{layout_wire}}
 

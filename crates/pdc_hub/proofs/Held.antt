@@ -11,7 +11,7 @@ use Rattle.pdc_life.specs.Arrival.{Arrival}
 use Rattle.pdc_life.specs.Given.{Given}
 use Rattle.pdc_life.specs.Life.{Entry}
 use Rattle.pdc_row.specs.declared.due_row.DueRow.{DueRow}
-use Rattle.pdc_tag.specs.declared.limits.TheConstants.{SECONDS}
+use Rattle.pdc_frame.specs.declared.tag_limits.TheConstants.{SECONDS}
 use Rattle.pdc_hub.specs.Replay.{Follows, InSomeLife, Lives, Replays, Sayings, WasRead, number_after, number_in}
 use Rattle.pdc_hub.proofs.Replays.{grown, here, in_some_life}
 

@@ -11,7 +11,7 @@ ghost use Rattle.pdc_hub.specs.Counted.{CountsAtLeast, HasSameAmounts, HasSamePa
 ghost use Rattle.pdc_hub.specs.Faults.{IsOfDelivery};
 ghost use Rattle.pdc_hub.specs.Pops.{HasPoppedNone, HasPoppedOne, IsPop};
 ghost use Rattle.pdc_hub.specs.Replay.{Follows, InSomeLife, WasRead, number_in, since};
-ghost use Rattle.pdc_tag.specs.declared.limits.TheConstants.{SECONDS};
+ghost use Rattle.pdc_frame.specs.declared.tag_limits.TheConstants.{SECONDS};
 
 use crate::fault::HubFault;
 use crate::ledgers::{ConfiguredIn, Ledgers, RefusedIn, TakenIn, TopIn};

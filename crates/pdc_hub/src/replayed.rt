@@ -9,7 +9,7 @@ ghost use Rattle.pdc_life.specs.Given.{Given};
 ghost use Rattle.pdc_life.specs.Life.{Entry, changes};
 ghost use Rattle.pdc_hub.specs.Pops.{IsPop};
 ghost use Rattle.pdc_hub.specs.Replay.{Follows, Replays, WasRead, number_after, since};
-ghost use Rattle.pdc_tag.specs.declared.limits.TheConstants.{SECONDS};
+ghost use Rattle.pdc_frame.specs.declared.tag_limits.TheConstants.{SECONDS};
 
 use crate::naming::Naming;
 use pdc_core::{Core, CoreStep, KeptArrival, Ticked};

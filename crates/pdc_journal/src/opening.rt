@@ -2,8 +2,8 @@
 
 use crate::measured::Measured;
 use crate::tags::Tags;
+use pdc_frame::COUNT_LIMIT;
 use pdc_ports::Outcome;
-use pdc_tag::COUNT_LIMIT;
 use std::sync::Wait;
 
 /// Where SOC and FRACSEC stand in a frame (C37.118.2-2011, table 2).

@@ -1,8 +1,8 @@
 //! How the time tags of a stream are read.
 ghost use Rattle.std.specs.Prelude.{◌≤◌, ◌<◌};
-ghost use Rattle.pdc_tag.specs.declared.limits.TheConstants.{COUNT_LIMIT, MAX_RATE};
+ghost use Rattle.pdc_frame.specs.declared.tag_limits.TheConstants.{COUNT_LIMIT, MAX_RATE};
 
-use pdc_tag::{COUNT_LIMIT, MAX_RATE, instant};
+use pdc_frame::{COUNT_LIMIT, MAX_RATE, instant};
 
 /// How the time tags of a stream are read: its frames a second, and the counts of FRACSEC in a second.
 #[derive(Clone, Copy, Debug)]

@@ -31,9 +31,7 @@ pub mod WorkedExact
 pub mod WorkedMerger
 pub mod WorkedOrder
 pub mod Worst
-pub use Rattle.pdc_output.proofs as pdc_output
-pub use Rattle.pdc_output.proofs.pdc_tag
-pub use Rattle.pdc_output.proofs.pdc_row
-pub use Rattle.pdc_output.proofs.pdc_block
-pub use Rattle.pdc_output.proofs.pdc_cfg
-pub use Rattle.pdc_output.proofs.pdc_frame
+pub use Rattle.pdc_row.proofs as pdc_row
+pub use Rattle.pdc_row.proofs.pdc_frame
+pub use Rattle.pdc_row.proofs.pdc_block
+pub use Rattle.pdc_row.proofs.pdc_cfg

@@ -1,6 +1,6 @@
 -- Bytes say one thing: those that arrive from a node at the merger, and so those of a PMU.
 use Rattle.pdc_life.proofs.Names.{[], ◌==◌, ◌||◌, ◌∙◌, ◌∷◌, ◌≡◌, AllByRecursion, ap, AreOfTable, Arrival, BadOwnBlock, BadTag, Bool, BytesRefused, cast_unsigned, ConfigFields, Data, eqb, false≢true, HasSections, Hz50, Hz60, inl, inr, IsOwn, Layout, List, list_any, map, MergedNode, MergerSettings, NoConfiguration, NoFrame, None, none-some, not, OfMerger, OfNode, own_bytes, OwnSectionsTellStamps, ReadsFrom, ReadsOnce, refl, rules, same_Some, SectionFields, slice_get, Some, Stamp, stream_from, subst, suc, sym, true, UnknownSource, w16, WrongId, WrongKind, WrongRate, WrongTimeBase, zero, ℕ}
-use Rattle.pdc_output.specs.declared.output.Nominal.{Nominal}
+use Rattle.pdc_row.specs.declared.output.Nominal.{Nominal}
 use Rattle.pdc_life.specs.Distinct.{are_distinct}
 use Rattle.pdc_life.proofs.Lists.{both, by_cases, heads}
 use Rattle.pdc_life.proofs.OneReading.{node_reads_once}

@@ -10,28 +10,28 @@ pub use Rattle.std.specs.Cmp.Lexicographic.{other_text, pointwise, same_text}
 pub use Rattle.std.specs.Int.{cast_signed, cast_unsigned, to_be_bytes, w16, w32}
 pub use Rattle.std.specs.List.{AllByRecursion, cons_option, Contains, filter_map, find, flat_map, list_all, list_any, range_with_len, slice_get}
 pub use Rattle.std.specs.Prelude.{if◌then◌else◌, nat_eq, nat_le, sum}
-pub use Rattle.pdc_output.specs.Laws.{LayoutsAreFrames, OwnSectionsTellStamps, RowsAreCut, RowsAreFrames, words_of_row}
-pub use Rattle.pdc_output.specs.Layout.{layout_fields_of, layout_payload_of, own_block, own_bytes, row_payload, stamp_words}
-pub use Rattle.pdc_output.specs.declared.output.Nominal.TheVariants.{Hz50, Hz60}
-pub use Rattle.pdc_output.specs.pdc_block.Block.{AreOfShapes, AreWords, bytes_of_blocks, bytes_of_words, IsBody, IsCut, words_in}
-pub use Rattle.pdc_output.specs.pdc_block.Laws.{WordsOfBytes}
-pub use Rattle.pdc_output.specs.pdc_cfg.Config.{ConfigFields, IsConfig, IsPayloadFault, payload_of}
-pub use Rattle.pdc_output.specs.pdc_cfg.Section.{IsSection, SectionFields}
-pub use Rattle.pdc_output.specs.pdc_cfg.Shape.{word_count_of}
-pub use Rattle.pdc_output.specs.pdc_cfg.declared.fault.CfgFault.TheVariants.{Cut, FloatFormat, TooMany, WrongKind}
-pub use Rattle.pdc_output.specs.pdc_cfg.declared.shape.Shape.{Shape}
-pub use Rattle.pdc_output.specs.pdc_frame.Bytes.{AreBytes}
-unfoldable pub use Rattle.pdc_output.specs.pdc_frame.CheckWord.{check_word_of}
-pub use Rattle.pdc_output.specs.pdc_frame.Frame.{Fields, IsFirstFault, IsFrame}
-pub use Rattle.pdc_output.specs.pdc_row.CellView.{absent_of, absent_view, BlockView, CellView, is_present}
-pub use Rattle.pdc_output.specs.pdc_row.Chosen.{block_or_absent, first_of, present_of}
-pub use Rattle.pdc_output.specs.pdc_row.Quality.{greatest, quality_of, time_quality_of}
-pub use Rattle.pdc_output.specs.pdc_row.Rising.{AreBelow, is_near, place, Rises, rising}
-pub use Rattle.pdc_output.specs.pdc_row.RisingLaws.{RisingLaws}
-pub use Rattle.pdc_output.specs.pdc_row.RowView.{row_instants, RowView}
-pub use Rattle.pdc_output.specs.pdc_tag.Instant.{instant_of, IsInstant}
-unfoldable pub use Rattle.pdc_output.specs.pdc_tag.Nearest.{nearest_of}
-unfoldable pub use Rattle.pdc_output.specs.pdc_tag.Tag.{tag_of}
+pub use Rattle.pdc_row.specs.Laws.{LayoutsAreFrames, OwnSectionsTellStamps, RowsAreCut, RowsAreFrames, words_of_row}
+pub use Rattle.pdc_row.specs.Layout.{layout_fields_of, layout_payload_of, own_block, own_bytes, row_payload, stamp_words}
+pub use Rattle.pdc_row.specs.declared.output.Nominal.TheVariants.{Hz50, Hz60}
+pub use Rattle.pdc_row.specs.pdc_block.Block.{AreOfShapes, AreWords, bytes_of_blocks, bytes_of_words, IsBody, IsCut, words_in}
+pub use Rattle.pdc_row.specs.pdc_block.Laws.{WordsOfBytes}
+pub use Rattle.pdc_row.specs.pdc_cfg.Config.{ConfigFields, IsConfig, IsPayloadFault, payload_of}
+pub use Rattle.pdc_row.specs.pdc_cfg.Section.{IsSection, SectionFields}
+pub use Rattle.pdc_row.specs.pdc_cfg.Shape.{word_count_of}
+pub use Rattle.pdc_row.specs.pdc_cfg.declared.fault.CfgFault.TheVariants.{Cut, FloatFormat, TooMany, WrongKind}
+pub use Rattle.pdc_row.specs.pdc_cfg.declared.shape.Shape.{Shape}
+pub use Rattle.pdc_row.specs.pdc_frame.Bytes.{AreBytes}
+unfoldable pub use Rattle.pdc_row.specs.pdc_frame.CheckWord.{check_word_of}
+pub use Rattle.pdc_row.specs.pdc_frame.Frame.{Fields, IsFirstFault, IsFrame}
+pub use Rattle.pdc_row.specs.CellView.{absent_of, absent_view, BlockView, CellView, is_present}
+pub use Rattle.pdc_row.specs.Chosen.{block_or_absent, first_of, present_of}
+pub use Rattle.pdc_row.specs.Quality.{greatest, quality_of, time_quality_of}
+pub use Rattle.pdc_row.specs.Rising.{AreBelow, is_near, place, Rises, rising}
+pub use Rattle.pdc_row.specs.RisingLaws.{RisingLaws}
+pub use Rattle.pdc_row.specs.RowView.{row_instants, RowView}
+pub use Rattle.pdc_row.specs.pdc_frame.Instant.{instant_of, IsInstant}
+unfoldable pub use Rattle.pdc_row.specs.pdc_frame.Nearest.{nearest_of}
+unfoldable pub use Rattle.pdc_row.specs.pdc_frame.Tag.{tag_of}
 pub use Rattle.pdc_life.specs.Answer.{again_answer, answer_in_time, answered, bare, first_cause, has_change, is_newer, is_other, is_ready, IsLife, IsReadStep, life_from, outcome_in_time, ReadStep, ready_columns, Rules, Step, step_of, steps_of, tick_answer, ToArrive, ToPop, ToTick, waiting_counts}
 pub use Rattle.pdc_life.specs.Arrival.{Arrival, BytesRefused, Data, Layout, Stamp}
 pub use Rattle.pdc_life.specs.CoreKind.{CoreKind, given_of, IsLifeOf, OfMerger, OfNode, ReadsAs, rules_of, Says, SenderOf}

@@ -1,7 +1,7 @@
 -- What is taken at a node is sound.
 use Rattle.pdc_life.proofs.Names.{[], if◌then◌else◌, ◌*◌, ◌+◌, ◌<◌, ◌==◌, ◌∙◌, ◌∷◌, ◌≡◌, ◌≤◌, AllByRecursion, Answer, answer_in_time, ap, AreBytes, AreSound, AreWords, arith, Arrival, Arrive, Bool, BytesRefused, Candidate, cases_lt, cell_under, CellView, cond, count_for, CountConflict, Data, Entry, false, false≢true, Given, given_of, HaveColumns, held_section, inl, inr, is_taken, IsData, IsInstant, IsInTime, IsLife, IsOfSectionInForce, IsSection, IsSound, IsValid, Known, Layout, length, length-range_with_len, List, ltb, nat_eq, node_answer, None, OfNode, Option, Outcome, Pmu, pointwise, range_with_len, refl, Refused, Rules, Says, section_after, section_answer, section_in_force, SectionFields, Settings, slice_get_within, Some, StaleCount, Stream, stream_of, streams_of, subst, sym, Taken, true, word_count_of, words_in, WordsOfBytes, ℕ}
 use Rattle.std.proofs.Math.Nat.{mul-le-mul_right}
-use Rattle.pdc_output.specs.pdc_tag.Slot.{IsSlot}
+use Rattle.pdc_row.specs.pdc_frame.Slot.{IsSlot}
 use Rattle.pdc_life.proofs.InTime.{node_cells, node_gives, taken_cells}
 
 pub not_either : (b : Bool) (o q : Outcome) → is_taken o ≡ false → is_taken q ≡ false → is_taken (cond b o q) ≡ false

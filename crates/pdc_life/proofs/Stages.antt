@@ -1,9 +1,9 @@
 -- What bytes say of a stream is found in stages, of the frame, of its kind and of its configuration, and each stage has one input: so they
 -- say one thing.
 use Rattle.pdc_life.proofs.Names.{◌↔◌, ◌∙◌, ◌≡◌, ◌≢◌, ◌⊎◌, Arrival, BadTag, BytesRefused, ConfigFields, Data, Fields, HasConfig, HasNoInstant, inl, inr, instant_of, IsBroken, IsConfig, IsData, IsFirstFault, IsForeign, IsFrame, IsInstant, IsOfStream, IsOtherKind, IsPayloadFault, List, NoConfiguration, NoFrame, refl, same_Some, Some, Stream, subst, sym, WrongId, WrongKind, ℕ}
-use Rattle.pdc_output.specs.pdc_cfg.declared.fault.CfgFault.{CfgFault}
-use Rattle.pdc_output.specs.pdc_frame.declared.fault.FrameFault.{FrameFault}
-use Rattle.pdc_output.specs.pdc_frame.declared.frame.Kind.TheVariants.{Cfg2, DataFrame}
+use Rattle.pdc_row.specs.pdc_cfg.declared.fault.CfgFault.{CfgFault}
+use Rattle.pdc_row.specs.pdc_frame.declared.fault.FrameFault.{FrameFault}
+use Rattle.pdc_row.specs.pdc_frame.declared.frame.Kind.TheVariants.{Cfg2, DataFrame}
 
 -- what the laws of frames, of configurations and of instants say
 pub record ReadOnce : Type 0 where

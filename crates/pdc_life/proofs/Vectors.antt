@@ -1,6 +1,6 @@
 -- The PMUs, sections and outputs of the worked lives, whose frames stand in the definitions.
 use Rattle.pdc_life.proofs.Names.{◌<◌, ◌≤◌, arith, false, Hz50, List, Pmu, SectionFields, Shape, ℕ}
-use Rattle.pdc_output.specs.declared.output.Output.{Output}
+use Rattle.pdc_row.specs.declared.output.Output.{Output}
 use Rattle.pdc_life.specs.Vectors.{section_12, section_13}
 
 abbrev pub one_phasor : Shape

@@ -14,7 +14,7 @@ use Rattle.pdc_life.specs.declared.merging.MergedNode.{MergedNode}
 use Rattle.pdc_life.specs.declared.merging.MergerSettings.{MergerSettings}
 use Rattle.pdc_life.specs.declared.pmu.Pmu.{Pmu}
 use Rattle.pdc_life.specs.declared.timing.Timing.{Timing}
-use Rattle.pdc_output.specs.declared.output.Output.{Output}
+use Rattle.pdc_row.specs.declared.output.Output.{Output}
 
 -- a node or the merger, with its settings
 pub data CoreKind : Type 0 where

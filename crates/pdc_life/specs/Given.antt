@@ -1,7 +1,7 @@
 -- What is given to a life (this profile).
 use Rattle.std.specs.Prelude.{if◌then◌else◌, ◌==◌}
 use Rattle.pdc_life.specs.Names.{List, range_with_len, slice_index_or, ℕ}
-use Rattle.pdc_output.specs.declared.output.Output.{Output}
+use Rattle.pdc_row.specs.declared.output.Output.{Output}
 use Rattle.pdc_life.specs.declared.timing.WaitKind.{WaitKind}
 
 -- What does not change in a life, and what it begins with. Of settings a life needs no more than this: with one lane there is a

@@ -29,9 +29,7 @@ pub mod Tagged
 pub mod Texts
 pub mod Vectors
 pub mod Views
-pub use Rattle.pdc_output.specs as pdc_output
-pub use Rattle.pdc_output.specs.pdc_tag
-pub use Rattle.pdc_output.specs.pdc_row
-pub use Rattle.pdc_output.specs.pdc_block
-pub use Rattle.pdc_output.specs.pdc_cfg
-pub use Rattle.pdc_output.specs.pdc_frame
+pub use Rattle.pdc_row.specs as pdc_row
+pub use Rattle.pdc_row.specs.pdc_frame
+pub use Rattle.pdc_row.specs.pdc_block
+pub use Rattle.pdc_row.specs.pdc_cfg

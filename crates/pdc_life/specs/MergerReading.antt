@@ -1,8 +1,8 @@
 -- What the bytes say that arrive from a node at the merger: all that needs no memory of what came before (this profile).
 use Rattle.std.specs.Prelude.{◌+◌, ◌<◌, ◌^◌, ◌∷◌, ◌≡◌, ◌⊎◌}
 use Rattle.pdc_life.specs.Names.{[], AllByRecursion, ConfigFields, List, map, None, own_bytes, Rises, SectionFields, slice_get, Some, WrongKind, ℕ}
-use Rattle.pdc_output.specs.declared.output.Nominal.TheVariants.{Hz50, Hz60}
-use Rattle.pdc_output.specs.pdc_frame.Frame as frame
+use Rattle.pdc_row.specs.declared.output.Nominal.TheVariants.{Hz50, Hz60}
+use Rattle.pdc_row.specs.pdc_frame.Frame as frame
 use Rattle.pdc_life.specs.Arrival.{Arrival, Stamp, BytesRefused, Data, Layout}
 use Rattle.pdc_life.specs.Reading.{Stream, HasBase, HasNoInstant, HasOtherRate, HasOtherTimeBase, IsBroken, IsData, IsForeign, IsOtherKind}
 use Rattle.pdc_life.specs.declared.merging.MergedNode.{MergedNode}

@@ -1,7 +1,7 @@
 -- What the bytes say that arrive for a PMU: all that needs no memory of what came before (this profile).
 use Rattle.std.specs.Prelude.{◌∷◌, ◌≡◌, ◌≢◌, ◌⊎◌}
 use Rattle.pdc_life.specs.Names.{[], ConfigFields, Cut, FloatFormat, length, List, None, SectionFields, TooMany, WrongKind, ℕ}
-use Rattle.pdc_output.specs.pdc_frame.Frame as frame
+use Rattle.pdc_row.specs.pdc_frame.Frame as frame
 use Rattle.pdc_life.specs.Arrival.{Arrival, BytesRefused, Data, Layout}
 use Rattle.pdc_life.specs.Reading.{Stream, HasBase, HasConfig, HasNoInstant, HasOtherRate, HasOtherTimeBase, IsBroken, IsData, IsForeign, IsOtherKind}
 use Rattle.pdc_life.specs.declared.given.Settings.{Settings}

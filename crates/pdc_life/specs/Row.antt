@@ -1,7 +1,7 @@
 -- When an open instant closes, and the row that it closes to (this profile).
 use Rattle.std.specs.Prelude.{if◌then◌else◌, ◌+◌, ◌==◌, ◌||◌}
 use Rattle.pdc_life.specs.Names.{BlockView, Bool, CellView, filter, filter_map, is_some, List, list_all, map, nat_le, None, not, Option, option_map, quality_of, RowView, SectionFields, Some, time_quality_of, true, ℕ}
-use Rattle.pdc_output.specs.pdc_row.Chosen.{block_or_absent, first_of, present_of}
+use Rattle.pdc_row.specs.Chosen.{block_or_absent, first_of, present_of}
 use Rattle.pdc_life.specs.Given.{Given, columns_of, streams_of}
 use Rattle.pdc_life.specs.Life.{Entry, age_of, cell_of, changes, open_instants, section_in_force, take_of}
 use Rattle.pdc_life.specs.declared.timing.WaitKind.{WaitKind}

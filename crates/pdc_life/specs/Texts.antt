@@ -1,7 +1,7 @@
 -- The text of each answer to an arrival (this profile): a refusal is its code and its name.
 use Rattle.pdc_life.specs.Names.{codes, List, ℕ}
-use Rattle.pdc_output.specs.pdc_cfg.Texts.{cfg_fault}
-use Rattle.pdc_output.specs.pdc_frame.Texts.{frame_fault}
+use Rattle.pdc_row.specs.pdc_cfg.Texts.{cfg_fault}
+use Rattle.pdc_row.specs.pdc_frame.Texts.{frame_fault}
 use Rattle.pdc_life.specs.declared.outcome.Outcome.{Outcome}
 use Rattle.pdc_life.specs.declared.outcome.Outcome.TheVariants.{Taken, Candidate, Known, Refused}
 use Rattle.pdc_life.specs.declared.outcome.Refusal.{Refusal}

@@ -3,12 +3,12 @@ ghost use Rattle.std.specs.Prelude.{◌<◌, ◌≤◌, ◌∷◌, IsTrue, lengt
 ghost use Rattle.std.specs.List.{list_all};
 ghost use Rattle.pdc_life.specs.Distinct.{are_distinct};
 ghost use Rattle.pdc_life.specs.declared.pmu.Pmu.{Pmu as PmuData};
-ghost use Rattle.pdc_output.specs.pdc_row.declared.limits.TheConstants.{MAX_PMUS};
+ghost use Rattle.pdc_row.specs.declared.limits.TheConstants.{MAX_PMUS};
 
 use crate::pmu::Pmu;
 use crate::timing::Timing;
 use arrayvec::ArrayVec;
-use pdc_output::{MAX_PMUS, Output};
+use pdc_row::{MAX_PMUS, Output};
 
 /// The settings of a node, as far as its answers depend on them (this profile).
 #[derive(Debug, Drop)]

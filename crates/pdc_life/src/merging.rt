@@ -1,14 +1,14 @@
 //! What is fixed in a life of the merger.
 ghost use Rattle.std.specs.Prelude.{◌<◌, ◌≤◌, ◌&&◌, ◌∷◌, IsTrue, length, nat_le, nat_lt};
 ghost use Rattle.std.specs.List.{list_all};
-ghost use Rattle.pdc_output.specs.pdc_frame.declared.limits.TheConstants.{MAX_ID};
-ghost use Rattle.pdc_output.specs.pdc_tag.declared.limits.TheConstants.{COUNT_LIMIT};
+ghost use Rattle.pdc_row.specs.pdc_frame.declared.limits.TheConstants.{MAX_ID};
+ghost use Rattle.pdc_row.specs.pdc_frame.declared.tag_limits.TheConstants.{COUNT_LIMIT};
 ghost use Rattle.pdc_life.specs.Distinct.{are_distinct};
-ghost use Rattle.pdc_output.specs.pdc_row.declared.limits.TheConstants.{MAX_PMUS};
+ghost use Rattle.pdc_row.specs.declared.limits.TheConstants.{MAX_PMUS};
 
 use crate::timing::Timing;
 use arrayvec::ArrayVec;
-use pdc_output::{MAX_PMUS, Output, StreamId};
+use pdc_row::{MAX_PMUS, Output, StreamId};
 
 /// A node whose stream the merger takes.
 #[derive(Clone, Copy, Debug)]

@@ -2,7 +2,7 @@
 ghost use Rattle.std.specs.Prelude.{◌≡◌};
 ghost use Rattle.pdc_life.specs.Texts.{outcome_of, refusal};
 
-use pdc_output::{CfgFault, FrameFault};
+use pdc_row::{CfgFault, FrameFault};
 
 /// What an arrival is answered.
 #[derive(Clone, Copy, Debug, PartialEq, Eq)]

@@ -1,9 +1,9 @@
 //! What a node is told of a PMU.
 ghost use Rattle.std.specs.Prelude.{◌<◌, ◌≤◌};
-ghost use Rattle.pdc_output.specs.pdc_frame.declared.limits.TheConstants.{MAX_ID};
-ghost use Rattle.pdc_output.specs.pdc_tag.declared.limits.TheConstants.{COUNT_LIMIT};
+ghost use Rattle.pdc_row.specs.pdc_frame.declared.limits.TheConstants.{MAX_ID};
+ghost use Rattle.pdc_row.specs.pdc_frame.declared.tag_limits.TheConstants.{COUNT_LIMIT};
 
-use pdc_output::StreamId;
+use pdc_row::StreamId;
 
 /// A PMU whose stream a node takes.
 #[derive(Clone, Copy, Debug)]

@@ -1,8 +1,8 @@
 //! What bytes say that arrived for a PMU.
 ghost use Rattle.std.specs.Prelude.{◌≡◌, ℕ, List};
-ghost use Rattle.pdc_output.specs.pdc_frame.Frame.{fields_of};
-ghost use Rattle.pdc_output.specs.pdc_frame.declared.frame.Kind.TheVariants.{DataFrame, Cfg2};
-ghost use Rattle.pdc_output.specs.pdc_cfg.Config.{config_fields_of};
+ghost use Rattle.pdc_row.specs.pdc_frame.Frame.{fields_of};
+ghost use Rattle.pdc_row.specs.pdc_frame.declared.frame.Kind.TheVariants.{DataFrame, Cfg2};
+ghost use Rattle.pdc_row.specs.pdc_cfg.Config.{config_fields_of};
 ghost use Rattle.pdc_life.specs.NodeReading.{Reads, stream_of};
 ghost use Rattle.pdc_life.specs.Reading.{HasConfig, IsOfStream};
 ghost use Rattle.pdc_life.specs.Views.{arrival_view};
@@ -10,9 +10,7 @@ ghost use Rattle.pdc_life.specs.Views.{arrival_view};
 use crate::given::Settings;
 use crate::outcome::Refusal;
 use crate::pmu::Pmu;
-use pdc_output::{
-    CfgFault, ConfigView, Frame, Kind, SectionView, instant, read_config, read_frame,
-};
+use pdc_row::{CfgFault, ConfigView, Frame, Kind, SectionView, instant, read_config, read_frame};
 
 /// What bytes say that arrived for a PMU, whatever came before.
 #[derive(Clone, Copy, Debug)]

@@ -1,6 +1,6 @@
 //! How long instants are held.
 ghost use Rattle.std.specs.Prelude.{◌≤◌};
-ghost use Rattle.pdc_output.specs.pdc_row.declared.limits.TheConstants.{MAX_WINDOW, MIN_WINDOW};
+ghost use Rattle.pdc_row.specs.declared.limits.TheConstants.{MAX_WINDOW, MIN_WINDOW};
 ghost use Rattle.pdc_life.specs.declared.limits.TheConstants.{MAX_AHEAD, MAX_WAIT};
 
 /// What the wait of an open instant is counted in.

@@ -8,7 +8,7 @@ use Rattle.std.proofs.lemmas.List.Sums.{sum_by-cons}
 use Rattle.pdc_block.specs.Block.{words_in}
 use Rattle.pdc_cfg.specs.Section.{SectionFields}
 use Rattle.pdc_cfg.specs.Shape.{word_count_of}
-use Rattle.pdc_output.specs.Layout.{stamp_words}
+use Rattle.pdc_row.specs.Layout.{stamp_words}
 use Rattle.pdc_row.specs.CellView.{CellView}
 use Rattle.pdc_life.specs.Answer.{answer_in_time, bare}
 use Rattle.pdc_arrival.specs.Stamps.{stamp_of}

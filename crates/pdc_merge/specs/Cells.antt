@@ -5,7 +5,7 @@ use Rattle.std.specs.Cmp.Lexicographic.{pointwise}
 use Rattle.pdc_cfg.specs.Section.{SectionFields}
 use Rattle.pdc_cfg.specs.Shape.{word_count_of}
 use Rattle.pdc_row.specs.CellView.{CellView}
-use Rattle.pdc_output.specs.Layout.{stamp_words}
+use Rattle.pdc_row.specs.Layout.{stamp_words}
 use Rattle.pdc_life.specs.declared.outcome.Refusal.{Refusal}
 use Rattle.pdc_life.specs.declared.outcome.Refusal.TheVariants.{OtherStamp, WrongLength}
 use Rattle.pdc_life.specs.Merger.{differs_from, own_words}
@@ -13,7 +13,7 @@ use Rattle.pdc_align.specs.Align.{State}
 use Rattle.pdc_align.specs.Calls.{column_in}
 use Rattle.pdc_merge.specs.Held.{LayoutView}
 use Rattle.pdc_merge.specs.declared.held_layout.HeldSection.{HeldSection}
-use Rattle.pdc_output.specs.declared.row_frame.TheConstants.{OWN_BLOCK_LEN}
+use Rattle.pdc_row.specs.declared.row_frame.TheConstants.{OWN_BLOCK_LEN}
 
 -- the section in force has this count
 abbrev pub has_count : Option SectionFields → (count : ℕ) → Bool

@@ -6,7 +6,7 @@ use crate::merger::Merger;
 use arrayvec::ArrayVec;
 use pdc_core::{Core, Opens};
 use pdc_life::{MAX_PMUS, MergerSettings};
-use pdc_output::Output;
+use pdc_row::Output;
 use pdc_table::Table;
 use std::alloc::{AllocError, Global};
 

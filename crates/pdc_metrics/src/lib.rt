@@ -2,15 +2,21 @@
 //!
 //! [`serve_metrics`] is the one call: it serves them until the run ends. [`Metered`] is what they are read from; nobody who takes or sends
 //! frames waits for who asks.
+//!
+//! [`serve_many`] is the HTTP server below it, of many connections on one thread, none of which waits for another; the page of a pair is
+//! served by it too. What a request is and how it is answered is the kit's `http_server`; a peer that says nothing, says it slowly or does
+//! not read is left after three seconds, and the one after the 256th waits until one of them has gone.
 #![tactic(auto)]
 
 mod families;
+mod http_serving;
 mod metered;
 mod report;
 mod serving;
 mod site;
 mod time;
 
+pub use http_serving::serve_many;
 pub use metered::Metered;
 pub use report::metrics_text;
 pub use serving::serve_metrics;

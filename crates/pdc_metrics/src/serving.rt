@@ -1,8 +1,8 @@
 //! Serving the counters.
 
+use crate::http_serving::serve_many;
 use crate::metered::Metered;
 use crate::site::Site;
-use pdc_http::serve_many;
 use std::alloc::Global;
 use std::hash::RandomState;
 use std::io;

@@ -6,7 +6,7 @@ use Rattle.std.proofs.lemmas.List.{length-drop}
 use Rattle.pdc_block.specs.Block.{words_in}
 use Rattle.pdc_cfg.specs.Section.{SectionFields}
 use Rattle.pdc_cfg.specs.Shape.{word_count_of}
-use Rattle.pdc_output.specs.Layout.{stamp_words}
+use Rattle.pdc_row.specs.Layout.{stamp_words}
 use Rattle.pdc_life.specs.Answer.{answer_in_time, bare}
 use Rattle.pdc_life.specs.declared.outcome.Outcome.TheVariants.{Refused}
 use Rattle.pdc_life.specs.declared.outcome.Refusal.TheVariants.{OtherStamp, WrongLength}

@@ -2,7 +2,7 @@
 ghost use Rattle.std.specs.Prelude.{◌≡◌, ◌++◌, ◌*◌, ◌^◌, ◌<◌, IfOk, OnErr, OnOk, map};
 ghost use Rattle.std.specs.List.{All};
 ghost use Rattle.pdc_row.specs.RowView.{row_instants, row_view};
-ghost use Rattle.pdc_output.specs.pdc_tag.declared.limits.TheConstants.{SECONDS};
+ghost use Rattle.pdc_row.specs.pdc_frame.declared.tag_limits.TheConstants.{SECONDS};
 ghost use Rattle.pdc_life.specs.Answer.{waiting_counts};
 ghost use Rattle.pdc_life.specs.Life.{changes, closed, popped};
 ghost use Rattle.pdc_life.specs.Published.{layout_wire, published};

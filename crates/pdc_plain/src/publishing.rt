@@ -2,15 +2,14 @@
 ghost use Rattle.std.specs.Prelude.{◌≡◌, ◌<◌, ◌*◌, ◌^◌, ◌++◌, IfOk, OnErr, OnOk, map};
 ghost use Rattle.std.specs.List.{All};
 ghost use Rattle.pdc_row.specs.RowView.{row_instants, row_view};
-ghost use Rattle.pdc_output.specs.Layout.{wire_of};
-ghost use Rattle.pdc_output.specs.pdc_tag.declared.limits.TheConstants.{SECONDS};
+ghost use Rattle.pdc_row.specs.Layout.{wire_of};
+ghost use Rattle.pdc_row.specs.pdc_frame.declared.tag_limits.TheConstants.{SECONDS};
 ghost use Rattle.pdc_life.specs.Life.{changes, closed, popped};
 ghost use Rattle.pdc_life.specs.Published.{layout_wire, published};
 ghost use Rattle.pdc_plain_steps.specs.Views.{given_view, life_view};
 
-use pdc_output::{Output, append_layout, append_row};
 use pdc_plain_steps::{Answered, Given, append, changes, sections_in_force};
-use pdc_row::DueRow;
+use pdc_row::{DueRow, Output, append_layout, append_row};
 use std::alloc::{AllocError, Global};
 
 /// The rows that closed, the first to close first.

@@ -3,7 +3,7 @@ ghost use Rattle.std.specs.Prelude.{◌≤◌};
 ghost use Rattle.pdc_life.specs.pdc_row.declared.limits.TheConstants.{MAX_PMUS};
 
 use pdc_life::{MAX_PMUS, WaitKind};
-use pdc_output::Output;
+use pdc_row::Output;
 
 /// All that a life needs to know of settings, and what it begins with.
 #[derive(Clone, Copy, Debug)]

@@ -4,11 +4,11 @@ use Rattle.std.proofs.lemmas.List.{append-nil, take-append-drop}
 use Rattle.std.specs.Prelude.{min, unwrap_or}
 use Rattle.std.specs.Io.KnownBytes.{Appends, Consumes, IsAtEnd, Keeps}
 use Rattle.std.specs.Str.Lines.{strip_carriage_return}
-use Rattle.pdc_event.specs.declared.fault.Fault.{Fault}
-use Rattle.pdc_event.specs.declared.reply.Reply.{Reply}
+use Rattle.pdc_history.specs.declared.event_fault.Fault.{Fault}
+use Rattle.pdc_history.specs.declared.reply.Reply.{Reply}
 use Rattle.pdc_history.specs.Asked.{Asked}
-use Rattle.pdc_play_lines.specs.Line.{asked_of_line}
-use Rattle.pdc_play_lines.specs.Printed.{fault_line, line_of}
+use Rattle.pdc_play.specs.Line.{asked_of_line}
+use Rattle.pdc_play.specs.Printed.{fault_line, line_of}
 use Rattle.pdc_play.specs.Run.{Comes, EndsHere, HasEnded, HasEndedEarly, PlaysOn, ReadsOn, Refuses, Replies, Stands}
 use Rattle.pdc_play.specs.Script.{Ends, EndsBy, EndsEarly, HasPlayed, IsNextLine, IsOneLine, counted, events_in, events_of, frame_of, spelled}
 use Rattle.pdc_play.specs.declared.ending.Ending.{Ending}

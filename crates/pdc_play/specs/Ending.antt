@@ -1,6 +1,6 @@
 -- How a script ends, and with which exit status (this profile).
 use Rattle.std.specs.Prelude.{ℕ}
-use Rattle.pdc_event.specs.declared.fault.Fault.TheVariants as fault
+use Rattle.pdc_history.specs.declared.event_fault.Fault.TheVariants as fault
 use Rattle.pdc_play.specs.declared.ending.Ending.{Ending}
 use Rattle.pdc_play.specs.declared.ending.Ending.TheVariants.{Played, NotAnEvent, Refused}
 

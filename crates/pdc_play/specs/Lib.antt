@@ -1,3 +1,11 @@
 pub mod Ending
 pub mod Run
 pub mod Script
+pub mod Line
+pub mod Number
+pub mod Printed
+pub mod Word
+pub mod Written
+pub mod Seen
+pub mod Told
+pub mod Roles

@@ -1,10 +1,10 @@
 -- A run of a script (this profile): where it stands behind the bytes that were read, and what comes of more.
 use Rattle.std.specs.Prelude.{◌≡◌, ℕ, List, ◌++◌, length, Option, None, Some, Result, Ok, Err}
 use Rattle.std.specs.Io.KnownBytes.{Appends, Consumes, IsAtEnd}
-use Rattle.pdc_event.specs.declared.fault.Fault.{Fault}
-use Rattle.pdc_event.specs.declared.reply.Reply.{Reply}
+use Rattle.pdc_history.specs.declared.event_fault.Fault.{Fault}
+use Rattle.pdc_history.specs.declared.reply.Reply.{Reply}
 use Rattle.pdc_history.specs.Asked.{Asked}
-use Rattle.pdc_play_lines.specs.Printed.{fault_line, line_of}
+use Rattle.pdc_play.specs.Printed.{fault_line, line_of}
 use Rattle.pdc_play.specs.Script.{AreLines, Ends, EndsBy, HasPlayed, IsOneLine, PlaysText, counted, events_in, frame_of, spelled}
 use Rattle.pdc_play.specs.declared.ending.Ending.{Ending}
 use Rattle.pdc_play.specs.declared.ending.Ending.TheVariants as ending

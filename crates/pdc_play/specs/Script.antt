@@ -3,12 +3,12 @@
 use Rattle.std.specs.Prelude.{◌≡◌, ◌⊎◌, ℕ, ◌+◌, ◌-◌, ◌^◌, ◌<◌, ◌==◌, min, Bool, false, List, [], ◌∷◌, ◌++◌, length, Option, None, Some, unwrap_or}
 use Rattle.std.specs.List.{list_any}
 use Rattle.std.specs.Str.Lines.{strip_carriage_return}
-use Rattle.pdc_event.specs.declared.fault.Fault.{Fault}
-use Rattle.pdc_event.specs.declared.reply.Reply.{Reply}
-use Rattle.pdc_event.specs.declared.reply.Reply.TheVariants.{Published}
+use Rattle.pdc_history.specs.declared.event_fault.Fault.{Fault}
+use Rattle.pdc_history.specs.declared.reply.Reply.{Reply}
+use Rattle.pdc_history.specs.declared.reply.Reply.TheVariants.{Published}
 use Rattle.pdc_history.specs.Asked.{Asked}
-use Rattle.pdc_play_lines.specs.Line.{asked_of_line}
-use Rattle.pdc_play_lines.specs.Printed.{fault_line, line_of, not_an_event}
+use Rattle.pdc_play.specs.Line.{asked_of_line}
+use Rattle.pdc_play.specs.Printed.{fault_line, line_of, not_an_event}
 use Rattle.pdc_play.specs.declared.ending.Ending.{Ending}
 use Rattle.pdc_play.specs.declared.ending.Ending.TheVariants as ending
 

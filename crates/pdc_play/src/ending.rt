@@ -1,7 +1,7 @@
 //! How a script ends.
 ghost use Rattle.std.specs.Prelude.{◌≡◌};
 
-use pdc_event::Fault;
+use pdc_history::Fault;
 
 /// How a script ends.
 #[derive(Clone, Copy, Debug, PartialEq, Eq)]

@@ -1,12 +1,12 @@
 //! Who plays events.
 ghost use Rattle.std.specs.Prelude.{◌≡◌, ℕ, List, Option, IfOk, IfErr};
 ghost use Rattle.std.specs.Option.{option_copied};
-ghost use Rattle.pdc_event.specs.Event.{asked_of};
-ghost use Rattle.pdc_event.specs.declared.fault.Fault.{Fault};
-ghost use Rattle.pdc_event.specs.declared.reply.Reply.{Reply};
+ghost use Rattle.pdc_history.specs.Handed.{asked_of};
+ghost use Rattle.pdc_history.specs.declared.event_fault.Fault.{Fault};
+ghost use Rattle.pdc_history.specs.declared.reply.Reply.{Reply};
 ghost use Rattle.pdc_history.specs.Asked.{Asked};
 
-use pdc_event::{Event, Fault, Reply};
+use pdc_history::{Event, Fault, Reply};
 
 /// Who plays events. After a refused event all is as before it.
 pub trait Plays {

@@ -1,16 +1,18 @@
 //! An event played, and what is printed of it.
 ghost use Rattle.std.specs.Prelude.{◌≡◌, OnOk};
 ghost use Rattle.std.specs.Io.KnownBytes.{Appends};
-ghost use Rattle.pdc_play_lines.specs.Printed.{line_of};
-ghost use Rattle.pdc_play_lines.specs.Written.{asked_in};
+ghost use Rattle.pdc_play.specs.Printed.{line_of};
+ghost use Rattle.pdc_play.specs.Written.{asked_in};
 ghost use Rattle.pdc_play.specs.Run.{Comes, EndsHere, PlaysOn, Refuses, Replies};
 ghost use Rattle.pdc_play.specs.Script.{frame_of};
 
 use crate::ending::Ending;
 use crate::fault::PlayFault;
+use crate::line::{NotRead, read_event};
 use crate::player::Plays;
-use pdc_event::Reply;
-use pdc_play_lines::{NotRead, Written, fault_line, not_an_event_line, read_event, reply_line};
+use crate::printed::{fault_line, not_an_event_line, reply_line};
+use crate::written::Written;
+use pdc_history::Reply;
 use std::alloc::Global;
 use std::io::Write;
 

@@ -1,14 +1,14 @@
 //! A world that does not begin.
 ghost use Rattle.std.specs.Prelude.{◌≡◌, IfOk, OnOk};
 ghost use Rattle.std.specs.Io.KnownBytes.{Appends};
-ghost use Rattle.pdc_play_lines.specs.Printed as printed;
+ghost use Rattle.pdc_play.specs.Printed as printed;
 ghost use Rattle.pdc_play.specs.declared.ending.Ending.TheVariants.{Refused};
 
 use crate::ending::Ending;
 use crate::fault::PlayFault;
+use crate::printed::fault_line;
 use crate::telling::print;
-use pdc_event::Fault;
-use pdc_play_lines::fault_line;
+use pdc_history::Fault;
 use std::alloc::Global;
 use std::io::Write;
 

@@ -2,14 +2,14 @@
 use Rattle.std.proofs.lemmas.Bool.{false≢true}
 use Rattle.std.proofs.Common.{arith, ◌≡◌, ◌*◌, ◌<◌, ◌≤◌, ◌∷◌, ◌++◌, ◌∙◌, [], ap, Err, IsOk, List, Ok, OnOk, Result, ℕ, map, refl, subst, sym}
 use lib.ListN.{length-map}
-use Rattle.pdc_tag.specs.declared.limits.TheConstants.{SECONDS}
+use Rattle.pdc_frame.specs.declared.tag_limits.TheConstants.{SECONDS}
 use Rattle.pdc_row.specs.CellView.{BlockView, block_view}
 use Rattle.pdc_row.specs.RowView.{row_view}
 use Rattle.pdc_row.specs.declared.due_row.DueRow.{DueRow}
 use Rattle.pdc_row.specs.pdc_block.Block.{AreOfShapes}
 use Rattle.pdc_row.specs.pdc_block.declared.block.Block.{Block}
-use Rattle.pdc_output.specs.declared.output.Output.{Output}
-use Rattle.pdc_output.specs.Layout.{wire_of}
+use Rattle.pdc_row.specs.declared.output.Output.{Output}
+use Rattle.pdc_row.specs.Layout.{wire_of}
 use Rattle.pdc_publisher.specs.Published.{Fits, IsRowFrame}
 
 all_shaped : (blocks : List Block) → AreOfShapes (map (λ (b : BlockView). b.shape) (map block_view blocks)) (map (λ (b : BlockView). b.words) (map block_view blocks))

@@ -1,13 +1,13 @@
 -- A published frame (this profile).
 use Rattle.std.specs.Prelude.{◌≡◌, ◌*◌, ◌<◌, ◌≤◌, ℕ, [], List, length, map}
-use Rattle.pdc_tag.specs.declared.limits.TheConstants.{SECONDS}
+use Rattle.pdc_frame.specs.declared.tag_limits.TheConstants.{SECONDS}
 use Rattle.pdc_row.specs.CellView.{BlockView}
 use Rattle.pdc_row.specs.RowView.{RowView}
 use Rattle.pdc_row.specs.pdc_block.Block.{AreOfShapes}
 use Rattle.pdc_row.specs.pdc_cfg.declared.shape.Shape.{Shape}
-use Rattle.pdc_output.specs.declared.output.Output.{Output}
-use Rattle.pdc_output.specs.Laws.{words_of_row}
-use Rattle.pdc_output.specs.Layout.{wire_of}
+use Rattle.pdc_row.specs.declared.output.Output.{Output}
+use Rattle.pdc_row.specs.Laws.{words_of_row}
+use Rattle.pdc_row.specs.Layout.{wire_of}
 use Rattle.pdc_row.specs.declared.limits.TheConstants.{MAX_PMUS}
 
 abbrev pub shapes_of : RowView → List Shape

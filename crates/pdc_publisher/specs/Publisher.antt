@@ -1,7 +1,7 @@
 -- What a publisher keeps (this profile).
 use Rattle.std.specs.Prelude.{ℕ, Bool}
 use Rattle.pdc_mark.specs.declared.mark.Mark.{Ghosts}
-use Rattle.pdc_output.specs.declared.output.Output.{Output}
+use Rattle.pdc_row.specs.declared.output.Output.{Output}
 use Rattle.pdc_publisher.specs.declared.publisher.Publisher.{Publisher}
 
 -- the mark that it stores into

@@ -1,12 +1,11 @@
 //! A frame that was published.
 ghost use Rattle.std.specs.Prelude.{◌≡◌, ◌*◌, ◌<◌};
-ghost use Rattle.pdc_tag.specs.declared.limits.TheConstants.{SECONDS};
+ghost use Rattle.pdc_frame.specs.declared.tag_limits.TheConstants.{SECONDS};
 ghost use Rattle.pdc_row.specs.RowView.{row_view};
 ghost use Rattle.pdc_publisher.specs.Published.{IsOfSomeRow, IsRowFrame, no_row};
 
 use arrayvec::ArrayVec;
-use pdc_output::{MAX_ROW_LEN, Output, append_row, write_row};
-use pdc_row::DueRow;
+use pdc_row::{DueRow, MAX_ROW_LEN, Output, append_row, write_row};
 
 /// The data frame of a row that was published (this profile; C37.118.2-2011, 6.3).
 #[derive(Drop)]

@@ -1,12 +1,12 @@
 //! The publisher of one concentrator.
 ghost use Rattle.std.specs.Prelude.{◌≡◌, ◌⊎◌, ◌+◌, ◌*◌, ◌<◌, ◌≤◌, ◌++◌, true, false, length, IsTrue, IsErrOf, IfOk, IfErr, OnOk, OnErr};
-ghost use Rattle.pdc_tag.specs.declared.limits.TheConstants.{SECONDS};
+ghost use Rattle.pdc_frame.specs.declared.tag_limits.TheConstants.{SECONDS};
 ghost use Rattle.pdc_disk.specs.Disk.{HasFailed};
 ghost use Rattle.pdc_mark.specs.Counts.{IsGreater, raised_to};
 ghost use Rattle.pdc_mark.specs.Faults.{HasDeviceCause};
 ghost use Rattle.pdc_mark.specs.Stored.{with_instant, with_waiting};
 ghost use Rattle.pdc_row.specs.RowView.{row_view};
-ghost use Rattle.pdc_output.specs.Layout.{wire_of};
+ghost use Rattle.pdc_row.specs.Layout.{wire_of};
 ghost use Rattle.pdc_publisher.specs.Faults.{HandsBack, IsDevice};
 ghost use Rattle.pdc_publisher.specs.Published.{IsRowFrame};
 
@@ -14,8 +14,7 @@ use crate::fault::PublishFault;
 use crate::published::{Published, frame_of, write_over};
 use pdc_frame::Buffer;
 use pdc_mark::{COUNTS, Mark, MarkFault};
-use pdc_output::Output;
-use pdc_row::DueRow;
+use pdc_row::{DueRow, Output};
 
 /// The most instants that settings may reserve ahead.
 pub const MAX_LEAD: u16 = 1000;

@@ -1,6 +1,6 @@
 //! Publishers whose mark can be stopped: a stop falls into a store of the publisher, and its next life begins.
 ghost use Rattle.std.specs.Prelude.{◌≡◌, ◌*◌, ◌<◌, false, if◌then◌else◌};
-ghost use Rattle.pdc_tag.specs.declared.limits.TheConstants.{MAX_RATE, SECONDS};
+ghost use Rattle.pdc_frame.specs.declared.tag_limits.TheConstants.{MAX_RATE, SECONDS};
 ghost use Rattle.pdc_mark.specs.Stops.{Between, InBegin, StopsInRaise, stop_in_reserving};
 ghost use Rattle.pdc_mark.specs.Stored.{with_instant, with_next_start, with_waiting};
 

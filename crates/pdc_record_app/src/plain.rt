@@ -3,7 +3,7 @@
 use crate::{DONE, FAILED, REFUSED};
 use pdc_compare::Entries;
 use pdc_record::Entry;
-use pdc_replay_plain::{MOST_STEPS, NotPlayed, play_plain};
+use pdc_replay::{MOST_STEPS, NotPlayed, play_plain};
 use std::alloc::{AllocError, Global};
 use std::{fs, io};
 

@@ -2,7 +2,7 @@
 
 use crate::seen::SeenRow;
 use arrayvec::ArrayVec;
-use pdc_output::Block;
+use pdc_row::Block;
 use std::io;
 use std::io::Write;
 

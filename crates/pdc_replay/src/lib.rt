@@ -5,12 +5,17 @@
 //! answer as the life does, so a record that is as replayed is the record of that life.
 //!
 //! The promise to the layers above: an entry is passed only where each part of it that can be compared was equal.
+//!
+//! [`play_plain`] plays a short record on the plain program of a life, which asks each definition of the whole list of steps: a second
+//! judgement beside that of the core, whose time grows with the square of the record.
 #![tactic(auto)]
 
 mod agreement;
 mod begins;
+mod comparing;
 mod halt;
 mod player;
+mod playing;
 mod replay;
 mod seen;
 
@@ -18,5 +23,6 @@ pub use agreement::{Disagreement, NAMES, Three, disagreement_of, print_presence}
 pub use begins::{Begins, Unbegun};
 pub use halt::{Difference, Halt, print_halt};
 pub use player::Player;
+pub use playing::{MOST_STEPS, NotPlayed, play_plain};
 pub use replay::Replay;
 pub use seen::{Section, SeenRow};

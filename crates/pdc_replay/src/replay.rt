@@ -10,11 +10,11 @@ use crate::begins::{Begins, Unbegun};
 use crate::halt::{Difference, Halt};
 use crate::seen::{Layout, Section, SeenRow, layout_of};
 use pdc_core::Ticked;
+use pdc_frame::SECONDS;
 use pdc_life::{MAX_PMUS, Outcome};
-use pdc_output::{Output, append_row};
 use pdc_record::{Begun, Entry, What};
+use pdc_row::{Output, append_row};
 use pdc_table::{DueRow, spare_row};
-use pdc_tag::SECONDS;
 use std::alloc::{AllocError, Global};
 
 /// The place of SOC in a frame, in bytes.

@@ -1,7 +1,7 @@
 //! A row that was popped, as it is compared with those of other concentrators.
 
 use arrayvec::ArrayVec;
-use pdc_output::{Block, read_config, read_frame};
+use pdc_row::{Block, read_config, read_frame};
 
 /// What is told of a section: the source that it names, and its count.
 #[derive(Clone, Copy, Debug, Default, PartialEq, Eq)]

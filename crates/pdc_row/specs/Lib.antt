@@ -7,3 +7,5 @@ pub mod RowView
 pub use Rattle.pdc_block.specs as pdc_block
 pub use Rattle.pdc_block.specs.pdc_cfg
 pub use Rattle.pdc_block.specs.pdc_frame
+pub mod Laws
+pub mod Layout

@@ -1,26 +1,37 @@
 //! The row of an instant: a block for each PMU, and how good the clocks were that dated them (this profile).
 //!
 //! Here stand the words that a table of rows, the life of a node and the frames of a concentrator share: what a cell and a
-//! row show, which block is chosen, the quality of a row, and numbers in rising order.
+//! row show, which block is chosen, the quality of a row, and numbers in rising order. And here rows and layouts become the
+//! data and configuration frames that a concentrator publishes.
 //!
-//! To the layers above this crate promises the ranges of a closed row: at most 16 blocks, and a quality of at most 15.
+//! To the layers above this crate promises the ranges of a closed row: at most 16 blocks, and a quality of at most 15; and that
+//! the frame of a row, and that of a layout, is the one that the definitions spell.
 #![tactic(auto)]
 
 mod cell;
 mod copied;
 mod due_row;
 mod laws;
+mod layout_frame;
 mod limits;
 mod offered;
+mod output;
+mod output_laws;
 mod present;
+mod row_frame;
+mod section;
+mod stamp;
 mod written;
 
 pub use cell::Cell;
 pub use copied::{CopyFrom, copy_each};
 pub use due_row::DueRow;
 pub use laws::numbers_rise;
+pub use layout_frame::append_layout;
 pub use limits::{MAX_PMUS, MAX_WINDOW, MIN_WINDOW};
 pub use offered::Offered;
+pub use output::{Nominal, Output};
+pub use output_laws::{layouts_are_frames, own_sections_tell_stamps, rows_are_frames};
 pub use pdc_block::{
     Block, Body, Buffer, CHECK_LEN, CfgFault, ConfigView, Frame, FrameFault, HEADER_LEN, Kind,
     MAX_SECTION_LEN, OVERHEAD, Section, SectionView, Shape, StreamId, append_blocks, append_words,
@@ -28,4 +39,7 @@ pub use pdc_block::{
     frames_are_read_in_one_way, frames_are_written_in_parts, joined_len, read_body, read_config,
     read_frame, read_word, set_absent, words_are_cut, write_blocks, write_config, write_ends,
 };
+pub use pdc_frame::{instant, instant_is_nearest};
 pub use present::is_present;
+pub use row_frame::{MAX_ROW_LEN, OWN_BLOCK_LEN, append_row, write_row};
+pub use section::own_section;

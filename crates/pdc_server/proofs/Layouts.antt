@@ -3,7 +3,7 @@ use Rattle.std.proofs.Common.{◌≡◌, ◌∙◌, ℕ, List, [], ◌++◌, sym
 use Rattle.std.specs.Prelude.{Result, Ok, Err, IsOk, IsOkAnd}
 use Rattle.pdc_frame.specs.Frame.{Fields}
 use Rattle.pdc_cfg.specs.Config.{ConfigFields, IsConfig, IsConfigKind}
-use Rattle.pdc_recent.specs.Stream.{IsLayout, IsLayoutWith, Stream}
+use Rattle.pdc_server.specs.Stream.{IsLayout, IsLayoutWith, Stream}
 
 pub is_ok : {T E : Type 0} (P : T → Type 0) (answer : Result T E) → IsOkAnd answer P → IsOk answer
 is_ok P (Ok x) p = refl

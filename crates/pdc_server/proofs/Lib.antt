@@ -1,3 +1,6 @@
 mod Layouts
 mod Parts
 mod Turns
+mod Givens
+mod Pushes
+mod Keeping

@@ -1,6 +1,6 @@
 -- The text of the header frame (this profile; C37.118.2-2011, 6.3 leaves it free).
 use Rattle.std.specs.Prelude.{◌≡◌, refl, ℕ, ◌/◌, List, [], ◌∷◌}
-use Rattle.pdc_output.specs.Layout.{digit}
+use Rattle.pdc_row.specs.Layout.{digit}
 
 -- "PDC ", and the id with five digits
 abbrev pub header_text : ℕ → List ℕ

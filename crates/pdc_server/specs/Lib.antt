@@ -1,3 +1,6 @@
 pub mod Consumer
 pub mod Header
 pub mod Turn
+pub mod Given
+pub mod Laws
+pub mod Stream

@@ -6,8 +6,8 @@ use Rattle.pdc_session.specs.Served.{IsFed}
 use Rattle.pdc_session.specs.Session.{HasAnswered, SessionView}
 use Rattle.pdc_session.specs.declared.fault.SessionFault.{SessionFault}
 use Rattle.pdc_session.specs.declared.serving.Serving.{Serving}
-use Rattle.pdc_recent.specs.Given.{IsGiven}
-use Rattle.pdc_recent.specs.Stream.{IsLayoutWith, Stream}
+use Rattle.pdc_server.specs.Given.{IsGiven}
+use Rattle.pdc_server.specs.Stream.{IsLayoutWith, Stream}
 use Rattle.pdc_server.specs.Header.{header_text}
 use Rattle.pdc_server.specs.declared.ended.Ended.{Ended}
 use Rattle.pdc_server.specs.declared.ended.Ended.TheVariants.{EndOfStream, Session, Device, NoMemory, Closed}

@@ -5,9 +5,10 @@ ghost use Rattle.pdc_session.specs.Served.{IsNew};
 
 use crate::ended::Ended;
 use crate::hearing::{Question, answer, append_data};
+use crate::naming::Naming;
+use crate::recent::Recent;
 use crate::traffic::{read_once, write_out};
 use pdc_frame::StreamId;
-use pdc_recent::{Naming, Recent};
 use pdc_session::Session;
 use std::alloc::{AllocError, Global};
 use std::io::{Read, Write};

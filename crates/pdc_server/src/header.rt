@@ -1,6 +1,6 @@
 //! The text of the header frame.
 ghost use Rattle.std.specs.Prelude.{◌≡◌, ◌+◌, ◌/◌, ◌%◌};
-ghost use Rattle.pdc_output.specs.Layout.{digit};
+ghost use Rattle.pdc_row.specs.Layout.{digit};
 ghost use Rattle.pdc_server.specs.Header.{header_text};
 
 /// How many bytes the text has.

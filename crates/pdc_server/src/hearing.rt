@@ -1,16 +1,17 @@
 //! What a piece of the consumer's stream is answered.
 ghost use Rattle.std.specs.Prelude.{◌≡◌, ◌≤◌, length, true, false, Some, IfOk, IfErr, OnErr, OnOk};
 ghost use Rattle.pdc_cfg.specs.Config.{config_fields_of};
-ghost use Rattle.pdc_command.specs.declared.header.TheConstants.{MAX_TEXT};
-ghost use Rattle.pdc_recent.specs.Given.{IsGiven};
-ghost use Rattle.pdc_recent.specs.Stream.{IsLayout, IsLayoutWith};
+ghost use Rattle.pdc_frame.specs.declared.header.TheConstants.{MAX_TEXT};
+ghost use Rattle.pdc_server.specs.Given.{IsGiven};
+ghost use Rattle.pdc_server.specs.Stream.{IsLayout, IsLayoutWith};
 ghost use Rattle.pdc_server.specs.Turn.{HasFailed, HasHeard, IsAnswered, IsUnheard, dated_at};
 
 use crate::ended::Ended;
 use crate::header::header_of;
+use crate::naming::Naming;
+use crate::recent::Recent;
 use pdc_cfg::{ConfigView, read_config};
 use pdc_frame::{StreamId, read_frame};
-use pdc_recent::{Naming, Recent};
 use pdc_session::{Serving, Session, SessionFault};
 use std::sync::Wait;
 

@@ -2,20 +2,32 @@
 //! turn (this profile; the commands are those of C37.118.2-2011, table 15).
 //!
 //! [`Consumer`] is the type to look at first: one session over any reader and writer. [`serve`] accepts connections and serves one after
-//! the other.
+//! the other. [`Recent`] has what the concentrator sent last, under one lock, and [`RememberingSink`] keeps it there as it is sent.
 //!
 //! To the layers above this crate promises that in each turn a consumer gets the replies to the commands in what it sent, in order, and
-//! then, while data is on, what `pdc_recent` gives above all that it got before.
+//! then, while data is on, what [`Recent`] gives above all that it got before. Whatever other threads do, that is data frames of the
+//! stream whose time tags tell instants that strictly rise; and the layout that is kept is a CFG-2 frame of the stream. That a reader is
+//! given the frames that were pushed, and no others, is shown by tests.
 #![tactic(auto)]
 
 mod consumer;
 mod ended;
 mod header;
 mod hearing;
+mod laws;
 mod listening;
+mod naming;
+mod recent;
+mod remembered;
+mod remembering_sink;
 mod traffic;
 
 pub use consumer::Consumer;
 pub use ended::Ended;
 pub use header::header_of;
+pub use laws::rows_are_data;
 pub use listening::serve;
+pub use naming::Naming;
+pub use pdc_pipe::{Outlet, Published, Sink, SinkFault};
+pub use recent::Recent;
+pub use remembering_sink::RememberingSink;

@@ -1,6 +1,7 @@
 //! Connections, one after the other.
 use crate::consumer::Consumer;
-use pdc_recent::{Naming, Recent};
+use crate::naming::Naming;
+use crate::recent::Recent;
 use std::alloc::Global;
 use std::io::{Read, Write};
 use std::net::{OpenListener, OpenStream};

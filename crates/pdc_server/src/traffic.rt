@@ -4,7 +4,8 @@ ghost use Rattle.std.specs.Io.KnownBytes.{Appends, Consumes};
 ghost use Rattle.pdc_server.specs.Turn.{IsUnread, IsUnwritten};
 
 use crate::ended::Ended;
-use pdc_recent::{Naming, Recent};
+use crate::naming::Naming;
+use crate::recent::Recent;
 use std::io::{ErrorKind, Read, Write};
 use std::sync::Wait;
 

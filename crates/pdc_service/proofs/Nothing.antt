@@ -8,7 +8,7 @@ use Rattle.pdc_hub.specs.declared.fault.HubFault.TheVariants.{NoMemory}
 use Rattle.pdc_life.specs.Answer.{Rules}
 use Rattle.pdc_life.specs.Given.{Given}
 use Rattle.pdc_mark.specs.declared.stored.Stored.{Stored}
-use Rattle.pdc_output.specs.declared.output.Output.{Output}
+use Rattle.pdc_row.specs.declared.output.Output.{Output}
 use Rattle.pdc_pipe.specs.HandedOn.{HasHandedOn}
 use Rattle.pdc_pipe.specs.declared.senders.Ended.TheVariants.{AlignerGone}
 use Rattle.pdc_ports.specs.Heard.{Heard}

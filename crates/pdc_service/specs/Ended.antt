@@ -6,7 +6,7 @@ use Rattle.pdc_life.specs.Given.{Given}
 use Rattle.pdc_life.specs.declared.merging.MergerSettings.{MergerSettings}
 use Rattle.pdc_life.specs.declared.given.Settings.{Settings}
 use Rattle.pdc_mark.specs.declared.stored.Stored.{Stored}
-use Rattle.pdc_output.specs.declared.output.Output.{Output}
+use Rattle.pdc_row.specs.declared.output.Output.{Output}
 use Rattle.pdc_merge.specs.Merger.{StandsFor as MergerStandsFor}
 use Rattle.pdc_node.specs.Node.{StandsFor}
 use Rattle.pdc_aligner.specs.Device.{HasDevice, Standing}

@@ -1,6 +1,6 @@
 //! A run with consumers beside it.
 ghost use Rattle.std.specs.Prelude.{◌≡◌, Err, IfErr, IfOk, vec_len};
-ghost use Rattle.pdc_recent.specs.Stream.{stream_of};
+ghost use Rattle.pdc_server.specs.Stream.{stream_of};
 ghost use Rattle.pdc_service.specs.Handed.{HasTaken};
 ghost use Rattle.pdc_service.specs.Summed.{AreSums, HaveEach};
 ghost use Rattle.pdc_startup.specs.Begun.{begun_mark};
@@ -16,9 +16,8 @@ use pdc_journal::{AnnouncingSink, CountingSink, Journal, Reporting, RunCounters}
 use pdc_mark::Mark;
 use pdc_metrics::{Metered, serve_metrics};
 use pdc_network::ClockTicker;
-use pdc_recent::{Naming, Recent, RememberingSink};
 use pdc_recording::{RecordedTicker, Series, Shelf, write_record};
-use pdc_server::serve;
+use pdc_server::{Naming, Recent, RememberingSink, serve};
 use pdc_startup::{Begun, Concentrator, Observed, RunOptions, ServiceFault, observe_all, plan_of};
 use pdc_threads::{HubFault, Sink, Source, Totals};
 use std::alloc::Global;

@@ -8,7 +8,7 @@ use Rattle.pdc_frame.specs.declared.step.Step.{Step}
 use Rattle.pdc_frame.specs.declared.step.Step.TheVariants.{More, Whole, Bad}
 use Rattle.pdc_frame.specs.Frame.{Fields, IsFrame}
 use Rattle.pdc_frame.specs.Stream.{Held, HasTaken, IsBad, given_at}
-use Rattle.pdc_command.specs.declared.command.Command.{Command}
+use Rattle.pdc_frame.specs.declared.command.Command.{Command}
 use Rattle.pdc_session.specs.declared.told.Told.{Told}
 use Rattle.pdc_session.specs.declared.serving.Serving.{Serving}
 use Rattle.pdc_session.specs.Session.{AreTold, HasAnswered, HasRoom, Hears, LacksOne, Tells, replies_of, reply_of, told_after, told_after_all}

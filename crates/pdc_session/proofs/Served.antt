@@ -12,8 +12,8 @@ use Rattle.pdc_frame.specs.declared.step.Step.{Step}
 use Rattle.pdc_frame.specs.declared.step.Step.TheVariants.{More, Whole, Bad}
 use Rattle.pdc_frame.specs.Frame.{Fields, IsFrame}
 use Rattle.pdc_frame.specs.Stream.{Held, HasTaken, IsBad, IsWhole, Splits, fault_of, pending_of}
-use Rattle.pdc_command.specs.Command.{IsCommand}
-use Rattle.pdc_command.specs.declared.command.Command.{Command}
+use Rattle.pdc_frame.specs.Command.{IsCommand}
+use Rattle.pdc_frame.specs.declared.command.Command.{Command}
 use Rattle.pdc_session.specs.declared.fault.SessionFault.{SessionFault}
 use Rattle.pdc_session.specs.declared.fault.SessionFault.TheVariants.{BadStream, NoMemory}
 use Rattle.pdc_session.specs.declared.told.Told.{Told}

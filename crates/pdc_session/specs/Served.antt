@@ -6,7 +6,7 @@ use Rattle.pdc_frame.specs.Bytes.{AreBytes}
 use Rattle.pdc_frame.specs.declared.fault.FrameFault.{FrameFault}
 use Rattle.pdc_frame.specs.declared.step.Step.TheVariants.{More}
 use Rattle.pdc_frame.specs.Stream.{Held, HasTaken, IsBad, IsWhole, Splits}
-use Rattle.pdc_command.specs.declared.command.Command.{Command}
+use Rattle.pdc_frame.specs.declared.command.Command.{Command}
 use Rattle.pdc_session.specs.declared.fault.SessionFault.{SessionFault}
 use Rattle.pdc_session.specs.declared.fault.SessionFault.TheVariants.{BadStream, NoMemory}
 use Rattle.pdc_session.specs.declared.told.Told.{Told}

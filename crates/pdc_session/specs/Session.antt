@@ -6,9 +6,9 @@ use Rattle.pdc_frame.specs.Frame.{Fields, IsFrame, spelling_of}
 use Rattle.pdc_frame.specs.Stream.{Held, HasTaken}
 use Rattle.pdc_frame.specs.declared.frame.Kind.TheVariants.{Cfg1, Cfg2}
 use Rattle.pdc_cfg.specs.Config.{config_fields_of, config_frame_of}
-use Rattle.pdc_command.specs.Command.{IsCommand, header_fields}
-use Rattle.pdc_command.specs.declared.command.Command.{Command}
-use Rattle.pdc_command.specs.declared.command.Command.TheVariants.{DataOff, DataOn, SendHeader, SendCfg1, SendCfg2, SendCfg3}
+use Rattle.pdc_frame.specs.Command.{IsCommand, header_fields}
+use Rattle.pdc_frame.specs.declared.command.Command.{Command}
+use Rattle.pdc_frame.specs.declared.command.Command.TheVariants.{DataOff, DataOn, SendHeader, SendCfg1, SendCfg2, SendCfg3}
 use Rattle.pdc_session.specs.declared.fault.SessionFault.{SessionFault}
 use Rattle.pdc_session.specs.declared.told.Told.{Told}
 use Rattle.pdc_session.specs.declared.serving.Serving.{Serving}

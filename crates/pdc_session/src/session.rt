@@ -3,8 +3,8 @@ ghost use Rattle.std.specs.Prelude.{◌≡◌, ◌+◌, ◌<◌, ◌≤◌, ◌+
 ghost use Rattle.pdc_frame.specs.Frame.{fields_of};
 ghost use Rattle.pdc_frame.specs.Stream.{HasTaken, IsBad};
 ghost use Rattle.pdc_frame.specs.declared.step.Step.TheVariants.{More};
-ghost use Rattle.pdc_command.specs.declared.command.Command.{Command};
-ghost use Rattle.pdc_command.specs.declared.header.TheConstants.{MAX_TEXT};
+ghost use Rattle.pdc_frame.specs.declared.command.Command.{Command};
+ghost use Rattle.pdc_frame.specs.declared.header.TheConstants.{MAX_TEXT};
 ghost use Rattle.pdc_session.specs.Served.{IsFed, IsNew};
 ghost use Rattle.pdc_session.specs.Session.{HasAnswered, HasRoom, LacksOne, Tells, told_after, reply_of};
 
@@ -12,8 +12,10 @@ use crate::fault::SessionFault;
 use crate::serving::Serving;
 use crate::told::Told;
 use pdc_cfg::write_config;
-use pdc_command::{Command, read_command, write_header};
-use pdc_frame::{Buffer, Frame, Framer, Kind, Step, StreamId, streams_split_in_one_way};
+use pdc_frame::{
+    Buffer, Command, Frame, Framer, Kind, Step, StreamId, read_command, streams_split_in_one_way,
+    write_header,
+};
 use std::alloc::{AllocError, Allocator, Global};
 use std::marker::Model;
 

@@ -3,10 +3,10 @@ use Rattle.std.specs.Prelude.{◌≡◌, ℕ, Bool, ◌&&◌, List, codes, nat_e
 use Rattle.std.specs.Cmp.Lexicographic.{pointwise}
 use Rattle.toml.specs.Data.{Data, Members, as_str, get_member}
 use Rattle.pdc_frame.specs.declared.limits.TheConstants.{MAX_ID}
-use Rattle.pdc_tag.specs.declared.limits.TheConstants.{MAX_RATE}
-use Rattle.pdc_output.specs.declared.output.Nominal.{Nominal}
-use Rattle.pdc_output.specs.declared.output.Nominal.TheVariants.{Hz50, Hz60}
-use Rattle.pdc_output.specs.declared.output.Output.{Output}
+use Rattle.pdc_frame.specs.declared.tag_limits.TheConstants.{MAX_RATE}
+use Rattle.pdc_row.specs.declared.output.Nominal.{Nominal}
+use Rattle.pdc_row.specs.declared.output.Nominal.TheVariants.{Hz50, Hz60}
+use Rattle.pdc_row.specs.declared.output.Output.{Output}
 use Rattle.pdc_life.specs.declared.timing.WaitKind.{WaitKind}
 use Rattle.pdc_life.specs.declared.timing.WaitKind.TheVariants.{Relative, Absolute}
 use Rattle.pdc_life.specs.declared.limits.TheConstants.{MAX_AHEAD, MAX_WAIT}

@@ -8,11 +8,10 @@ use crate::keys::{number, number_or, value_at};
 use crate::limits::{MAX_PORT, MAX_TIME_BASE};
 use crate::service::Service;
 use crate::wanted::Wanted;
-use pdc_frame::{MAX_ID, StreamId};
+use pdc_frame::{MAX_ID, MAX_RATE, StreamId};
 use pdc_life::{MAX_AHEAD, MAX_WAIT, MAX_WINDOW, MIN_WINDOW, Timing, WaitKind};
-use pdc_output::{Nominal, Output};
 use pdc_publisher::MAX_LEAD;
-use pdc_tag::MAX_RATE;
+use pdc_row::{Nominal, Output};
 use toml::Table;
 
 fn nominal_of(hertz: u64) -> Option<Nominal>

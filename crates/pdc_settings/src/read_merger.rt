@@ -22,7 +22,7 @@ use crate::wanted::Wanted;
 use arrayvec::ArrayVec;
 use pdc_frame::MAX_ID;
 use pdc_life::{MAX_PMUS, MergedNode, Timing};
-use pdc_output::Output;
+use pdc_row::Output;
 use std::alloc::Global;
 use toml::{Table, Value};
 

@@ -20,7 +20,7 @@ use crate::node::NodeSettings;
 use crate::wanted::Wanted;
 use arrayvec::ArrayVec;
 use pdc_life::{MAX_PMUS, Pmu, Settings, Timing};
-use pdc_output::Output;
+use pdc_row::Output;
 use std::alloc::Global;
 use toml::{Table, Value};
 

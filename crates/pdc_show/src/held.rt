@@ -5,8 +5,7 @@ ghost use Rattle.pdc_show.specs.declared.held.HeldSection.{HeldSection as HeldSe
 
 use arrayvec::ArrayVec;
 use pdc_cfg::{ConfigView, Shape};
-use pdc_frame::{Frame, StreamId};
-use pdc_tag::{MAX_RATE, instant};
+use pdc_frame::{Frame, MAX_RATE, StreamId, instant};
 
 /// What is kept of a section.
 #[derive(Clone, Copy, Debug, Default)]

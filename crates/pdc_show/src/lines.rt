@@ -3,8 +3,7 @@
 use crate::held::{Held, HeldSection};
 use pdc_block::Block;
 use pdc_cfg::ConfigView;
-use pdc_command::Command;
-use pdc_frame::{Frame, StreamId};
+use pdc_frame::{Command, Frame, StreamId};
 use std::io;
 use std::io::Write;
 

@@ -2,8 +2,7 @@
 
 use pdc_block::BodyFault;
 use pdc_cfg::CfgFault;
-use pdc_command::CommandFault;
-use pdc_frame::FrameFault;
+use pdc_frame::{CommandFault, FrameFault};
 use thiserror::Error;
 
 /// Why a line's frame is not shown. Each prints as its code and its name.

@@ -7,8 +7,7 @@ use crate::refusal::NotShown;
 use hex::FromHexError;
 use pdc_block::cut;
 use pdc_cfg::read_config;
-use pdc_command::{read_command, read_header};
-use pdc_frame::{Frame, Kind, read_frame};
+use pdc_frame::{Frame, Kind, read_command, read_frame, read_header};
 use std::alloc::{AllocError, AllocFailed, Allocator};
 use std::io;
 use std::io::{ErrorKind, Read, Write};
@@ -194,6 +193,28 @@ impl<A: Allocator + Copy> Show<A> {
     }
 }
 
+/// Reads by pieces of at most this many bytes up to the end, and prints what each line says.
+fn show_lines<R: Read, W: Write, A: Allocator + Copy>(
+    show: &mut Show<A>,
+    piece: &mut [u8],
+    reader: &mut R,
+    writer: &mut W,
+) -> Result<Shown, ShowFault> {
+    for _ in 0..MAX_READS {
+        let len = match reader.read(piece) {
+            Ok(len) => len,
+            Err(error) if error.kind() == ErrorKind::Interrupted => continue,
+            Err(error) => return Err(ShowFault::Read(error)),
+        };
+        if len == 0 {
+            return show.end(writer);
+        }
+        show.feed(&piece[..len], writer)?;
+        writer.flush().map_err(ShowFault::Write)?;
+    }
+    Err(ShowFault::TooLong)
+}
+
 /// Reads lines of hexadecimal, one frame a line, and prints what each frame says. It holds one line at a time, and no more of
 /// it than the longest frame has; it goes on after a line that is refused. What was printed is flushed before each read, so that
 /// it can stand behind a live source.
@@ -208,17 +229,5 @@ pub fn run_show<R: Read, W: Write, A: Allocator + Copy>(
 ) -> Result<Shown, ShowFault> {
     let mut show = Show::new(alloc);
     let mut piece = vec![in alloc; 0u8; PIECE_LEN]?;
-    for _ in 0..MAX_READS {
-        let len = match reader.read(piece.as_mut_slice()) {
-            Ok(len) => len,
-            Err(error) if error.kind() == ErrorKind::Interrupted => continue,
-            Err(error) => return Err(ShowFault::Read(error)),
-        };
-        if len == 0 {
-            return show.end(writer);
-        }
-        show.feed(&piece[..len], writer)?;
-        writer.flush().map_err(ShowFault::Write)?;
-    }
-    Err(ShowFault::TooLong)
+    show_lines(&mut show, piece.as_mut_slice(), reader, writer)
 }

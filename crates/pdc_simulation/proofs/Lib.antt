@@ -1,2 +1,6 @@
 pub mod Runs
 pub mod Taking
+pub mod Configs
+pub mod OneEach
+pub mod Rising
+pub mod Words

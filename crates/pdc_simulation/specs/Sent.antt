@@ -2,8 +2,8 @@
 use Rattle.std.specs.Prelude.{◌≡◌, refl, ◌⊎◌, ℕ, zero, suc, ◌+◌, ◌*◌, ◌/◌, ◌%◌, ◌^◌, ◌-◌, min, nat_eq, nat_lt, Bool, true, false, ◌&&◌, if◌then◌else◌, List, [], ◌∷◌, ◌++◌, length, map, Option, None, Some, IsSomeAnd}
 use Rattle.pdc_cfg.specs.Section.{SectionFields}
 use Rattle.pdc_cfg.specs.Shape.{word_count_of}
-use Rattle.pdc_pmu.specs.Pmu.{PmuView, config_of, data_of, is_later, new_pmu}
-use Rattle.pdc_tag.specs.declared.limits.TheConstants.{SECONDS}
+use Rattle.pdc_simulation.specs.Pmu.{PmuView, config_of, data_of, is_later, new_pmu}
+use Rattle.pdc_frame.specs.declared.tag_limits.TheConstants.{SECONDS}
 use Rattle.pdc_simulation.specs.declared.grid.TheConstants.{WORDS}
 use Rattle.pdc_simulation.specs.declared.begun.TheConstants.{COUNTING_WORDS, TIME_BASE}
 use Rattle.pdc_simulation.specs.declared.handing.TheConstants.{PHASORS}

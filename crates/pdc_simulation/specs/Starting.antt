@@ -1,6 +1,6 @@
 -- A PMU of a run before it sends (this profile).
 use Rattle.std.specs.Prelude.{ℕ, List}
-use Rattle.pdc_pmu.specs.Pmu.{PmuView}
+use Rattle.pdc_simulation.specs.Pmu.{PmuView}
 use Rattle.pdc_simulation.specs.Sent.{IsConfigured, Run, Stands}
 
 -- It stands before its first instant, and this is the frame of its configuration.

@@ -1,6 +1,6 @@
 -- Why a simulation ended early, and what the sink took then (this profile).
 use Rattle.std.specs.Prelude.{◌≡◌, ℕ, List, [], None}
-use Rattle.pdc_pmu.specs.declared.fault.PmuFault.TheVariants as Refused
+use Rattle.pdc_simulation.specs.declared.pmu_fault.PmuFault.TheVariants as Refused
 use Rattle.pdc_ports.specs.Failures.{HasRisen}
 use Rattle.pdc_simulation.specs.Sent.{IsCutShort, Run}
 use Rattle.pdc_simulation.specs.declared.fault.SimulationFault.{SimulationFault}

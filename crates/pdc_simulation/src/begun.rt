@@ -6,10 +6,10 @@ ghost use Rattle.pdc_simulation.specs.Stopped.{IsUnbegun};
 
 use crate::fault::SimulationFault;
 use crate::grid::{WORDS, grid_payload};
+use crate::pmu::Pmu;
 use crate::section::{config_of, payload_of};
 use crate::simulated::Simulated;
 use pdc_cfg::SectionView;
-use pdc_pmu::Pmu;
 use std::alloc::{AllocError, Global};
 
 /// The counts of FRACSEC in a second.

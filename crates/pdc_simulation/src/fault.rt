@@ -1,6 +1,6 @@
 //! Why a simulation ended early.
 
-use pdc_pmu::PmuFault;
+use crate::pmu_fault::PmuFault;
 use std::io;
 use std::net::SocketAddr;
 use thiserror::Error;

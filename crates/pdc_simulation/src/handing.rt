@@ -1,8 +1,8 @@
 //! What a simulated PMU hands to a sink at an instant.
 ghost use Rattle.std.specs.Prelude.{◌≡◌, ◌≤◌, ◌<◌, ◌+◌, ◌*◌, [], ◌∷◌, ℕ, List, true, length, if◌then◌else◌, IfErr, IsSomeAnd, OnErr, OnOk};
 ghost use Rattle.pdc_cfg.specs.Shape.{word_count_of};
-ghost use Rattle.pdc_pmu.specs.Pmu.{after_data, data_of, is_later};
-ghost use Rattle.pdc_tag.specs.declared.limits.TheConstants.{SECONDS};
+ghost use Rattle.pdc_simulation.specs.Pmu.{after_data, data_of, is_later};
+ghost use Rattle.pdc_frame.specs.declared.tag_limits.TheConstants.{SECONDS};
 ghost use Rattle.pdc_simulation.specs.Sent.{AreWords, Stands, TakesMore, data_at, frames_of, is_due, run_of};
 ghost use Rattle.pdc_simulation.specs.Stopped.{IsCause};
 
@@ -10,8 +10,8 @@ use crate::fault::SimulationFault;
 use crate::grid::grid_words;
 use crate::run::Run;
 use crate::sender::Sender;
+use pdc_frame::SECONDS;
 use pdc_ports::{Sink, SinkFault};
-use pdc_tag::SECONDS;
 
 /// The phasors go from 0 up to below this number, and then from 0 again.
 const PHASORS: u32 = 32768;

@@ -1,7 +1,7 @@
 //! A PMU that sends.
 ghost use Rattle.std.specs.Prelude.{◌≡◌};
 
-use pdc_pmu::Pmu;
+use crate::pmu::Pmu;
 use std::alloc::Global;
 
 /// A PMU that sends, with the data frame that it made last: the next one is made in the same room.

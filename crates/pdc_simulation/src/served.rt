@@ -1,6 +1,6 @@
 //! A simulated PMU that waits to be asked.
 ghost use Rattle.std.specs.Prelude.{◌≡◌, ◌≤◌, ◌<◌, length};
-ghost use Rattle.pdc_command.specs.declared.header.TheConstants.{MAX_TEXT};
+ghost use Rattle.pdc_frame.specs.declared.header.TheConstants.{MAX_TEXT};
 
 use pdc_cfg::{ConfigView, read_config};
 use pdc_frame::{StreamId, read_frame};

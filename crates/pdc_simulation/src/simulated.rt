@@ -1,6 +1,6 @@
 //! What is simulated.
 ghost use Rattle.std.specs.Prelude.{◌≡◌, ◌≤◌, ◌<◌};
-ghost use Rattle.pdc_tag.specs.declared.limits.TheConstants.{MAX_RATE};
+ghost use Rattle.pdc_frame.specs.declared.tag_limits.TheConstants.{MAX_RATE};
 
 use crate::outlets::Place;
 use pdc_frame::StreamId;

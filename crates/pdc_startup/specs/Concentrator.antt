@@ -1,6 +1,6 @@
 -- A node or the merger, as its settings describe it (this profile).
 use Rattle.std.specs.Prelude.{ℕ, length}
-use Rattle.pdc_output.specs.declared.output.Output.{Output}
+use Rattle.pdc_row.specs.declared.output.Output.{Output}
 use Rattle.pdc_startup.specs.declared.concentrator.Concentrator.{Concentrator}
 use Rattle.pdc_startup.specs.declared.concentrator.Concentrator.TheVariants.{Merger, Node}
 

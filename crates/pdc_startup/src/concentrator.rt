@@ -4,7 +4,7 @@ ghost use Rattle.pdc_startup.specs.Concentrator.{output_of};
 
 use pdc_frame::StreamId;
 use pdc_journal::Tags;
-use pdc_output::Output;
+use pdc_row::Output;
 use pdc_settings::{MergerSettings, NodeSettings, Service};
 
 /// A node or the merger, as its settings describe it.

@@ -3,7 +3,7 @@ pub use Rattle.std.specs.{List.{AllByRecursion, concat, Contains}, Option.{optio
 pub use Rattle.std.proofs.{lemmas.List.{append-nil, append_assoc, map-append}, lemmas.List.Elements.{Contains-append_cases}, lemmas.List.Folds.{concat-append}}
 pub use Rattle.pdc_row.specs.{declared.due_row.DueRow.{DueRow}, Rising.{AreBelow, Rises}, RowView.{row_instants, row_view, RowView}}
 pub use Rattle.pdc_row.proofs.Rising.{below_append, below_higher, rises_append}
-pub use Rattle.pdc_output.specs.{declared.output.Output.{Output}, Layout.{wire_of}}
+pub use Rattle.pdc_row.specs.{declared.output.Output.{Output}, Layout.{wire_of}}
 pub use Rattle.pdc_mark.specs.Stored.{with_next_start}
 pub use Rattle.pdc_publisher.specs.Publisher.{mark_in}
 pub use Rattle.pdc_life.specs.{Answer.{answered, pop_answer, Rules, ToPop}, Given.{Given}, Life.{Entry, Pop, popped}, Published.{published}}

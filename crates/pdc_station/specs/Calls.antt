@@ -1,7 +1,7 @@
 -- Calls of a core and of the publisher of its mark, one after the other, and the bytes that the publishes append (this profile).
 use Rattle.std.specs.{List.{concat, Contains}, Prelude.{[], ◌++◌, ◌<◌, ◌∷◌, ◌≡◌, List, map, None, Option, Some, ℕ}}
 use Rattle.pdc_row.specs.{Rising.{Rises}, RowView.{row_instants, RowView}}
-use Rattle.pdc_output.specs.Layout.{wire_of}
+use Rattle.pdc_row.specs.Layout.{wire_of}
 use Rattle.pdc_life.specs.{Answer.{answered, pop_answer, Rules, ToArrive, ToPop, ToTick}, Arrival.{Arrival}, Given.{Given}, Life.{Entry, popped}, Published.{published}}
 
 -- Something arrived, or ticked; a pop gave no row; a row was popped and its publish answered Ok; a row was popped and its publish

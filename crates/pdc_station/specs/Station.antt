@@ -1,13 +1,13 @@
 -- What a station keeps, and what stops leave of its mark (this profile).
 use Rattle.std.specs.Prelude.{[], ◌+◌, ◌≡◌, Bool, if◌then◌else◌, List, None, Option, Some, ℕ}
 use Rattle.pdc_row.specs.RowView.{RowView}
-use Rattle.pdc_output.specs.{declared.output.Output.{Output}, Layout.{wire_of}}
+use Rattle.pdc_row.specs.{declared.output.Output.{Output}, Layout.{wire_of}}
 use Rattle.pdc_mark.specs.{declared.stored.Stored.{Stored}, Stops.{Between, InBegin, Stop, stop_in_reserving, StopsInRaise}, Stored.{with_next_start}}
 use Rattle.pdc_life.specs.{Answer.{waiting_counts}, Given.{Given}, Life.{Entry}}
 use Rattle.pdc_history.specs.Event.{due_in, stored_by}
-use Rattle.pdc_event.specs.{declared.act.StopAt.{StopAt}, Event.{store_of}}
-use Rattle.pdc_event.specs.declared.act.StopAt.TheVariants as at
-use Rattle.pdc_event.specs.declared.act.Storing.TheVariants as storing
+use Rattle.pdc_history.specs.{declared.act.StopAt.{StopAt}, Handed.{store_of}}
+use Rattle.pdc_history.specs.declared.act.StopAt.TheVariants as at
+use Rattle.pdc_history.specs.declared.act.Storing.TheVariants as storing
 
 -- the bytes of the row, if there is one
 abbrev pub wire_of_some : Output → Option RowView → List ℕ

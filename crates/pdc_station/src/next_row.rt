@@ -6,11 +6,10 @@ ghost use Rattle.pdc_life.specs.Given.{Given};
 ghost use Rattle.pdc_life.specs.Life.{Entry};
 ghost use Rattle.pdc_row.specs.RowView.{row_view};
 ghost use Rattle.pdc_station.specs.Station.{IsOfSomeLife};
-ghost use Rattle.pdc_tag.specs.declared.limits.TheConstants.{MAX_RATE, SECONDS};
+ghost use Rattle.pdc_frame.specs.declared.tag_limits.TheConstants.{MAX_RATE, SECONDS};
 
 use pdc_core::Opens;
-use pdc_output::Output;
-use pdc_row::DueRow;
+use pdc_row::{DueRow, Output};
 
 /// The next row that waits, and what its frame says of the core. Its instant can be tagged.
 pub(crate) fn next_row<C: Opens>(core: &mut C) -> (Output, Option<DueRow>)

@@ -2,20 +2,19 @@
 ghost use Rattle.std.specs.Prelude.{◌≡◌, ◌+◌, ◌*◌, ◌<◌, ◌≤◌, ◌++◌, IfSome, false, length, option_map};
 ghost use Rattle.pdc_align.specs.Popped.{popped_after};
 ghost use Rattle.pdc_history.specs.World.{reserved};
-ghost use Rattle.pdc_output.specs.declared.row_frame.TheConstants.{MAX_ROW_LEN};
-ghost use Rattle.pdc_output.specs.Layout.{wire_of};
+ghost use Rattle.pdc_row.specs.declared.row_frame.TheConstants.{MAX_ROW_LEN};
+ghost use Rattle.pdc_row.specs.Layout.{wire_of};
 ghost use Rattle.pdc_mark.specs.Stored.{with_instant, with_waiting};
 ghost use Rattle.pdc_publisher.specs.Publisher.{has_failed_in, last_in, lead_in, mark_in, output_in};
 ghost use Rattle.pdc_row.specs.RowView.{row_view};
 ghost use Rattle.pdc_station.specs.Station.{wire_of_some};
-ghost use Rattle.pdc_tag.specs.declared.limits.TheConstants.{SECONDS};
+ghost use Rattle.pdc_frame.specs.declared.tag_limits.TheConstants.{SECONDS};
 
 use pdc_frame::Buffer;
 use pdc_life::MAX_PMUS;
 use pdc_mark::Store;
-use pdc_output::Output;
 use pdc_publisher::{Publisher, spare_frame};
-use pdc_row::DueRow;
+use pdc_row::{DueRow, Output};
 
 /// Publishes a row, and appends its frame. It takes no memory.
 fn publish_row<M: Store, B: Buffer>(

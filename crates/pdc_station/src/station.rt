@@ -6,7 +6,7 @@ ghost use Rattle.pdc_history.specs.World.{reserved};
 ghost use Rattle.pdc_life.specs.Answer.{ToPop, ToTick, answered, pop_answer, tick_answer, waiting_counts};
 ghost use Rattle.pdc_life.specs.Given.{Given};
 ghost use Rattle.pdc_life.specs.Life.{Entry, changes};
-ghost use Rattle.pdc_output.specs.declared.row_frame.TheConstants.{MAX_ROW_LEN};
+ghost use Rattle.pdc_row.specs.declared.row_frame.TheConstants.{MAX_ROW_LEN};
 ghost use Rattle.pdc_publisher.specs.Publisher.{has_failed_in, last_in, lead_in, mark_in, output_in};
 ghost use Rattle.pdc_row.specs.RowView.{row_view};
 ghost use Rattle.pdc_mark.specs.Stored.{with_waiting};
@@ -20,9 +20,8 @@ use pdc_core::Opens;
 use pdc_frame::Buffer;
 use pdc_life::Outcome;
 use pdc_mark::Store;
-use pdc_output::MAX_ROW_LEN;
 use pdc_publisher::Publisher;
-use pdc_row::DueRow;
+use pdc_row::{DueRow, MAX_ROW_LEN};
 use std::alloc::AllocError;
 
 /// A core with the publisher of its mark.

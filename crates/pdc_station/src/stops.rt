@@ -4,13 +4,13 @@ ghost use Rattle.std.specs.Prelude.{◌≡◌, ◌+◌, ◌*◌, ◌<◌, ◌≤
 ghost use Rattle.pdc_mark.specs.Stored.{with_due};
 ghost use Rattle.pdc_publisher.specs.Publisher.{lead_in, mark_in, output_in};
 ghost use Rattle.pdc_station.specs.Station.{FallsAt, HasStopped, IsOfSomeLife, left_by, start_left, stop_in_publish};
-ghost use Rattle.pdc_tag.specs.declared.limits.TheConstants.{MAX_RATE, SECONDS};
+ghost use Rattle.pdc_frame.specs.declared.tag_limits.TheConstants.{MAX_RATE, SECONDS};
 
 use crate::fault::StopFault;
 use crate::next_row::next_instant;
 use crate::station::Station;
 use pdc_core::Opens;
-use pdc_event::{StopAt, Storing};
+use pdc_history::{StopAt, Storing};
 use pdc_life::MAX_PMUS;
 use pdc_mark::{Store, Stored};
 use pdc_publisher::Publisher;

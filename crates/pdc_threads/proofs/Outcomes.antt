@@ -4,7 +4,7 @@ use Rattle.pdc_aligner.specs.Sequence.{HasPutAll, Rises, instants_of}
 use Rattle.pdc_aligner.specs.declared.pace.Pace.{Pace}
 use Rattle.pdc_aligner.specs.Turns.{IsAligned, end_mark}
 use Rattle.pdc_life.specs.Given.{Given}
-use Rattle.pdc_output.specs.declared.output.Output.{Output}
+use Rattle.pdc_row.specs.declared.output.Output.{Output}
 use Rattle.pdc_hub.specs.Received.{Answering}
 use Rattle.pdc_hub.specs.Replay.{Lives}
 use Rattle.pdc_hub.specs.declared.fault.HubFault.TheVariants.{NoMemory}

@@ -9,7 +9,7 @@ use Rattle.pdc_hub.specs.declared.fault.HubFault.{HubFault}
 use Rattle.pdc_life.specs.Given.{Given}
 use Rattle.pdc_mark.specs.declared.mark.Mark.{Ghosts}
 use Rattle.pdc_mark.specs.declared.stored.Stored.{Stored}
-use Rattle.pdc_output.specs.declared.output.Output.{Output}
+use Rattle.pdc_row.specs.declared.output.Output.{Output}
 use Rattle.pdc_pipe.specs.HandedOn.{HasHandedOn, HasSinkCause}
 use Rattle.pdc_ports.specs.Heard.{Heard}
 use Rattle.pdc_publisher.specs.Publisher.{last_in, lead_in, mark_in, output_in}

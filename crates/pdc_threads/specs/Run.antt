@@ -5,7 +5,7 @@ use Rattle.pdc_aligner.specs.Sequence.{Rises, instants_of}
 use Rattle.pdc_aligner.specs.Turns.{HasGiven, IsAligned}
 use Rattle.pdc_aligner.specs.Device.{IsDown, Standing}
 use Rattle.pdc_life.specs.Given.{Given}
-use Rattle.pdc_output.specs.declared.output.Output.{Output}
+use Rattle.pdc_row.specs.declared.output.Output.{Output}
 use Rattle.pdc_mark.specs.declared.stored.Stored.{Stored}
 use Rattle.pdc_hub.specs.declared.fault.HubFault.{HubFault}
 use Rattle.pdc_hub.specs.declared.fault.HubFault.TheVariants.{Device, SinkFault}

@@ -5,7 +5,7 @@ use crate::pmu::Moment;
 use crate::presence::Presence;
 use crate::station::Station;
 use pdc_block::{Frame, read_body};
-use pdc_tag::{COUNT_LIMIT, instant};
+use pdc_frame::{COUNT_LIMIT, instant};
 use std::alloc::{AllocError, Global};
 
 /// What was heard on a stream.

@@ -3,9 +3,8 @@ ghost use Rattle.std.specs.Prelude.{◌≡◌, ◌<◌, ◌≤◌};
 ghost use Rattle.pdc_frame.specs.declared.step.Step.TheVariants.{Whole};
 
 use crate::loading::Session;
-use pdc_client::{Counting, Unread, tell};
-use pdc_command::Command;
-use pdc_frame::{Framer, Step};
+use pdc_frame::{Command, Framer, Step};
+use pdc_session::{Counting, Unread, tell};
 use pdc_watch::{Watch, Who};
 use std::alloc::Global;
 use std::io::ErrorKind;

@@ -3,7 +3,7 @@
 use crate::loading::Session;
 use crate::reader::{Reader, now_ms};
 use crate::site::Site;
-use pdc_http::serve_many;
+use pdc_metrics::serve_many;
 use pdc_watch::{Three, Watch, Who};
 use std::alloc::{AllocError, Global};
 use std::hash::RandomState;

@@ -1,9 +1,9 @@
 -- A stop, as the event that it is and the life that begins behind it.
 use Rattle.std.proofs.Common.{◌+◌, ◌<◌, ◌^◌, ◌↔◌, ◌≡◌, ◌≤◌, ap, arith, Bool, cond, Err, false, IsErrOf, List, nat_lt, None, Option, refl, Some, subst, sym, true, ℕ}
 use Rattle.pdc_world.proofs.Names.{act_of, Asked, due_in, Ends, Fault, fault_of_stop, FaultsMayNotHappen, given_in, Happened, IsFault, IsStepOf, IsWhy, lead_of, left_by, life_of, ltb-false, ltb-true, mark_of, start_left, StartsUsedUp, StopAt, StopFault, store_of, Stored, waiting_counts, Who, with_due, with_next_start, World}
-use Rattle.pdc_event.specs.declared.act.Act.TheVariants as act
-use Rattle.pdc_event.specs.declared.act.StopAt.TheVariants as at
-use Rattle.pdc_event.specs.declared.act.Storing.TheVariants as storing
+use Rattle.pdc_history.specs.declared.act.Act.TheVariants as act
+use Rattle.pdc_history.specs.declared.act.StopAt.TheVariants as at
+use Rattle.pdc_history.specs.declared.act.Storing.TheVariants as storing
 use Rattle.pdc_history.specs.Asked as asked
 use Rattle.pdc_history.specs.Event as event
 use Rattle.pdc_station.specs.declared.fault.StopFault.TheVariants as stop

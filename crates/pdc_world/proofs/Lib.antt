@@ -8,3 +8,15 @@ pub mod Openings
 pub mod Others
 pub mod Own
 pub mod Parts
+pub mod Cuts
+pub mod Genuine
+pub mod Layouts
+pub mod HeadlineNames
+pub mod Reading
+pub mod Rising
+pub mod Rows
+pub mod Sources
+pub mod Stable
+pub mod Told
+pub mod Valid
+pub mod Worlds

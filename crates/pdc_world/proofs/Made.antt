@@ -1,9 +1,9 @@
 -- Acts of one core, as what they make happen.
 use Rattle.std.proofs.Common.{[], ◌++◌, ◌+◌, ◌<◌, ◌^◌, ◌∙◌, ◌∷◌, ◌≡◌, ap, arith, Bool, cond, Err, IfOk, length, List, nat_lt, None, Ok, Option, option_map, refl, Result, Some, subst, sym, ℕ}
-use Rattle.pdc_event.specs.declared.who.Who.{Who as WhoData}
+use Rattle.pdc_history.specs.declared.who.Who.{Who as WhoData}
 use Rattle.pdc_world.proofs.Names.{answered, append-nil, Arrival, Asked, Bring, changes, Comes, CoreKind, Ends, Entry, Fault, frames_with, Given, given_by, given_in, given_of, Happened, HasStopped, Hears, is_itself, IsAct, IsPart, IsReadOf, IsSeat, IsSend, IsStepOf, Keeps, kind_of, layout_wire, layouts_of, lead_of, LedgerView, left_by, life_of, listed_at, listed_with, lt-ltb, mark_of, MayCome, Miss, new_change, Outcome, output_of, PassesBy, Pop, pop_answer, Published, published_as, Publishes, raised, Reply, reserved, RowView, Rules, rules_of, Says, Seat, Sends, sent, sent_at, Stop, StopAt, Stored, Tick, tick_answer, Ticked, ticked_of, Ticks, ToArrive, waiting_counts, Who, who_of, with_next_start, with_waiting, World}
 use Rattle.pdc_world.proofs.{Ended.{asked_to_stop, begun_by, stop_step}, Own.{come_comes, come_ends, come_passes, come_publishes, come_ticks, name_back}}
-use Rattle.pdc_event.specs.declared.reply.Reply.TheVariants as reply
+use Rattle.pdc_history.specs.declared.reply.Reply.TheVariants as reply
 use Rattle.pdc_history.specs.Asked as asked
 use Rattle.pdc_history.specs.Event as event
 

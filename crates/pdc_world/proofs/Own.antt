@@ -1,8 +1,8 @@
 -- What a core has come to, with one thing more that happened to it.
 use Rattle.std.proofs.Common.{[], ◌∷◌, ◌≡◌, List, Option, refl}
-use Rattle.pdc_event.specs.declared.who.Who.{Who as WhoData}
+use Rattle.pdc_history.specs.declared.who.Who.{Who as WhoData}
 use Rattle.pdc_world.proofs.Names.{A, Comes, Ends, Entry, given_by, given_in, Happened, HasCome, lead_of, life_of, mark_of, name_of, PassesBy, Pop, Publishes, reserved, RowView, Seat, Stored, Ticks, Who, who_of, with_counts_of, World}
-use Rattle.pdc_event.specs.declared.who.Who.TheVariants as who
+use Rattle.pdc_history.specs.declared.who.Who.TheVariants as who
 
 pub name_back : (w : WhoData) → name_of (who_of w) ≡ w
 name_back who.A = refl

@@ -2,16 +2,16 @@
 use Rattle.std.specs.Prelude.{[], ◌∷◌, ◌≡◌, ◌≤◌, Bool, IfErr, IfOk, length, List, None, Option, Result, Some, true, ℕ}
 use Rattle.pdc_frame.specs.declared.limits.TheConstants.{MAX_SIZE}
 use Rattle.pdc_row.specs.RowView.{RowView}
-use Rattle.pdc_output.specs.{declared.output.Output.{Output}, Layout.{wire_of}}
+use Rattle.pdc_row.specs.{declared.output.Output.{Output}, Layout.{wire_of}}
 use Rattle.pdc_life.specs.{declared.given.Settings.{Settings}, Given.{Given}, Life.{Entry}, Published.{layout_wire}}
 use Rattle.pdc_history.specs.{Asked.{Asked, Cause, Foreign, IsFault, OtherBody, OtherSection}, History.{IsHistory}, Play.{IsStepOf}, World.{given_in, Happened, is_same, kind_of, lead_of, life_of, mark_of, Sends, sent, Who, World}}
-use Rattle.pdc_sent.specs.{declared.fault.SendFault.{SendFault}, Sent.{IsOfNone}}
-use Rattle.pdc_event.specs.{declared.fault.Fault.{Fault}, declared.fault.Premise.TheVariants.{Genuine, OneBody, OneSection, OneTable}, declared.reply.Published.{Published}, declared.reply.Reply.{Reply}}
+use Rattle.pdc_history.specs.{declared.send_fault.SendFault.{SendFault}, Sent.{IsOfNone}}
+use Rattle.pdc_history.specs.{declared.event_fault.Fault.{Fault}, declared.event_fault.Premise.TheVariants.{Genuine, OneBody, OneSection, OneTable}, declared.reply.Published.{Published}, declared.reply.Reply.{Reply}}
 use Rattle.pdc_station.specs.declared.fault.StopFault.{StopFault}
 use Rattle.pdc_world.specs.{Replies.{listed, published_as, reply_of, whose_is}, Seats.{Seat}, Views.{LedgerView}}
-use Rattle.pdc_event.specs.declared.fault.Fault.TheVariants as fault
+use Rattle.pdc_history.specs.declared.event_fault.Fault.TheVariants as fault
 use Rattle.pdc_history.specs.Asked as asked
-use Rattle.pdc_sent.specs.declared.fault.SendFault.TheVariants as send
+use Rattle.pdc_history.specs.declared.send_fault.SendFault.TheVariants as send
 use Rattle.pdc_station.specs.declared.fault.StopFault.TheVariants as stop
 
 -- What is fixed of the seat is that of this core of the world.

@@ -1,7 +1,7 @@
 -- The histories that a world holds, and what its steps make of them (this profile).
 use Rattle.std.specs.Prelude.{◌++◌, ◌+◌, ◌∷◌, ◌≡◌, length, List}
 use Rattle.pdc_history.specs.{Asked.{Asked}, History.{IsHistory}, Play.{IsPlayOf, IsStepOf}, World.{Happened, kind_of, lead_of, Who, World}}
-use Rattle.pdc_event.specs.{declared.fault.WorldFault.{WorldFault}, declared.reply.Reply.{Reply}}
+use Rattle.pdc_history.specs.{declared.event_fault.WorldFault.{WorldFault}, declared.reply.Reply.{Reply}}
 use Rattle.pdc_world.specs.{Acts.{HasCome, IsWhy, Keeps}, Replies.{reply_of}, Seats.{CoreOf, kind_in, seat_of, station_of}, Views.{StationView, WorldView}}
 
 -- The station of a seat has the settings and the lead of this core of the world, and has come to where the history left it.

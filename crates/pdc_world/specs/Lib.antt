@@ -9,3 +9,8 @@ pub mod Receiver
 pub mod Agreement
 pub mod Opening
 pub mod Room
+pub mod Seen
+pub mod Frames
+pub mod Published
+pub mod Agree
+pub mod Headline

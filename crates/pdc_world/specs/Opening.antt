@@ -3,9 +3,9 @@ use Rattle.std.specs.Prelude.{◌&&◌, ◌-◌, ◌^◌, ◌≡◌, ◌≤◌, 
 use Rattle.pdc_mark.specs.{declared.stored.Stored.{Stored}, Stored.{with_next_start}}
 use Rattle.pdc_life.specs.{declared.given.Settings.{Settings}, declared.merging.MergerSettings.{MergerSettings}}
 use Rattle.pdc_history.specs.{Agree.{MayBegin, SettingsAgree}, World.{first_mark, Who, World}}
-use Rattle.pdc_event.specs.{declared.fault.Fault.{Fault}, declared.fault.Premise.TheVariants.{OneTable}, declared.fault.WorldFault.{WorldFault}}
+use Rattle.pdc_history.specs.{declared.event_fault.Fault.{Fault}, declared.event_fault.Premise.TheVariants.{OneTable}, declared.event_fault.WorldFault.{WorldFault}}
 use Rattle.pdc_world.specs.declared.opening.Leads.{Leads}
-use Rattle.pdc_event.specs.declared.fault.Fault.TheVariants as fault
+use Rattle.pdc_history.specs.declared.event_fault.Fault.TheVariants as fault
 
 -- The world of these settings and leads, over marks that store this. Each first life begins with the next start, which is then stored.
 abbrev pub world_of : (a b : Settings) → MergerSettings → Leads → (of_a of_b of_m : Stored) → World

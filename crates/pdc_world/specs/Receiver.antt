@@ -1,7 +1,7 @@
 -- Which core an event is for (this profile).
 use Rattle.pdc_history.specs.World.{A, Who}
-use Rattle.pdc_event.specs.{declared.event.Event.{Event}, Event.{who_of}}
-use Rattle.pdc_event.specs.declared.event.Event.TheVariants as event
+use Rattle.pdc_history.specs.{declared.event.Event.{Event}, Handed.{who_of}}
+use Rattle.pdc_history.specs.declared.event.Event.TheVariants as event
 
 -- the core that the event is for; that a PMU sends is for none, and concerns none more than A
 abbrev pub core_in : Event → Who

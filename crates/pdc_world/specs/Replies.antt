@@ -2,9 +2,9 @@
 use Rattle.std.specs.Prelude.{[], ◌++◌, ◌∷◌, length, List, None, option_map, Some, ℕ}
 use Rattle.pdc_row.specs.RowView.{RowView}
 use Rattle.pdc_history.specs.{Play.{Answered, Began, Closed, Gave, PassedBy, SentAs, Told, told_of}, World.{A, B, Comes, Ends, Happened, M, PassesBy, Publishes, Sends, sent, Ticks, Who, World}}
-use Rattle.pdc_event.specs.{declared.reply.Published.{Published}, declared.reply.Reply.{Reply}, declared.who.Who.{Who as WhoData}}
-use Rattle.pdc_event.specs.declared.reply.Reply.TheVariants as reply
-use Rattle.pdc_event.specs.declared.who.Who.TheVariants as who
+use Rattle.pdc_history.specs.{declared.reply.Published.{Published}, declared.reply.Reply.{Reply}, declared.who.Who.{Who as WhoData}}
+use Rattle.pdc_history.specs.declared.reply.Reply.TheVariants as reply
+use Rattle.pdc_history.specs.declared.who.Who.TheVariants as who
 
 -- the core, as events and replies name it
 abbrev pub name_of : Who → WhoData

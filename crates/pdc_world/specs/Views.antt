@@ -4,7 +4,7 @@ use Rattle.pdc_mark.specs.declared.stored.Stored.{Stored}
 use Rattle.pdc_life.specs.declared.given.Settings.{Settings}
 use Rattle.pdc_node.specs.Node.{NodeView}
 use Rattle.pdc_merge.specs.Merger.{MergerView}
-use Rattle.pdc_event.specs.declared.reply.Published.{Published}
+use Rattle.pdc_history.specs.declared.reply.Published.{Published}
 
 -- what was sent and published, and the settings by which frames of PMUs are read
 pub record LedgerView : Type 0 where

@@ -1,7 +1,7 @@
 //! What one core is asked.
 ghost use Rattle.std.specs.Prelude.{◌≡◌, IsErrOf, OnErr};
-ghost use Rattle.pdc_event.specs.declared.fault.Fault.TheVariants.{NoMemory};
-ghost use Rattle.pdc_event.specs.Event.{asked_of};
+ghost use Rattle.pdc_history.specs.declared.event_fault.Fault.TheVariants.{NoMemory};
+ghost use Rattle.pdc_history.specs.Handed.{asked_of};
 ghost use Rattle.pdc_station.specs.pdc_publisher.Publisher.{lead_in};
 ghost use Rattle.pdc_world.specs.Acts.{IsMade, IsRefused, IsSomePart};
 ghost use Rattle.pdc_world.specs.Ledger.{ledger_has_room, ledger_view};
@@ -15,7 +15,7 @@ use crate::publishes::publish;
 use crate::sends::send;
 use crate::stops::stop;
 use crate::ticks::tick;
-use pdc_event::{Act, Event, Fault, Reply};
+use pdc_history::{Act, Event, Fault, Reply};
 use pdc_mark::Store;
 use pdc_station::Station;
 use std::alloc::Global;

@@ -3,7 +3,7 @@ ghost use Rattle.std.specs.Prelude.{◌≡◌};
 ghost use Rattle.pdc_world.specs.Agreement.{are_alike, are_free, are_sources, are_three, do_agree, is_free, is_taken_for};
 
 use pdc_life::{MergedNode, MergerSettings, Pmu, Settings};
-use pdc_output::Output;
+use pdc_row::Output;
 
 /// Whether the PMUs have the same streams, TIME_BASEs and sources, in the same order.
 fn have_alike(pmus: &[Pmu], others: &[Pmu]) -> bool

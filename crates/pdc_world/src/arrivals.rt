@@ -1,7 +1,7 @@
 //! Arrivals.
 ghost use Rattle.std.specs.Prelude.{◌≡◌, IsErrOf, OnErr};
-ghost use Rattle.pdc_event.specs.declared.fault.Fault.TheVariants.{NoMemory};
-ghost use Rattle.pdc_event.specs.Event.{who_of};
+ghost use Rattle.pdc_history.specs.declared.event_fault.Fault.TheVariants.{NoMemory};
+ghost use Rattle.pdc_history.specs.Handed.{who_of};
 ghost use Rattle.pdc_history.specs.Asked as asked;
 ghost use Rattle.pdc_station.specs.pdc_publisher.Publisher.{lead_in};
 ghost use Rattle.pdc_world.specs.Acts.{IsMade, IsRefused};
@@ -10,7 +10,7 @@ ghost use Rattle.pdc_world.specs.Ledger.{ledger_view};
 use crate::ledger::Ledger;
 use crate::named::named;
 use crate::plays::{Plays, Sits};
-use pdc_event::{Fault, Premise, Reply, Who};
+use pdc_history::{Fault, Premise, Reply, Who};
 use pdc_mark::Store;
 use pdc_station::Station;
 

@@ -1,15 +1,14 @@
 //! What was sent and published.
 ghost use Rattle.std.specs.Prelude.{◌≡◌, ◌≤◌, ◌<◌, ◌∷◌, ◌++◌, [], IfOk, IsOk, IsTrue, OnErr, OnOk, length, true, vec_capacity, vec_len};
-ghost use Rattle.pdc_event.specs.declared.reply.Published.{Published};
+ghost use Rattle.pdc_history.specs.declared.reply.Published.{Published};
 ghost use Rattle.pdc_frame.specs.declared.limits.TheConstants.{MAX_SIZE};
-ghost use Rattle.pdc_sent.specs.Sent.{IsOfNone};
+ghost use Rattle.pdc_history.specs.Sent.{IsOfNone};
 ghost use Rattle.pdc_world.specs.Ledger.{IsReady, ledger_has_room, ledger_view};
 
 use pdc_core::Core;
-use pdc_event::{Published, Who};
 use pdc_frame::{Buffer, MAX_SIZE};
+use pdc_history::{Published, Sent, Who};
 use pdc_life::Settings;
-use pdc_sent::Sent;
 use std::alloc::{AllocError, Global};
 
 /// What was sent and published, and room to write a frame.

@@ -1,6 +1,6 @@
 //! How a world begins.
 ghost use Rattle.std.specs.Prelude.{◌≡◌, ◌≢◌, [], IfErr, IfOk, nat_lt, true};
-ghost use Rattle.pdc_event.specs.declared.fault.Fault.TheVariants.{StartsUsedUp};
+ghost use Rattle.pdc_history.specs.declared.event_fault.Fault.TheVariants.{StartsUsedUp};
 ghost use Rattle.pdc_mark.specs.Stored.{first_stored};
 ghost use Rattle.pdc_world.specs.Agreement.{do_agree};
 ghost use Rattle.pdc_world.specs.Holds.{Holds};
@@ -9,7 +9,7 @@ ghost use Rattle.pdc_world.specs.Opening.{IsOpeningFault, are_left, world_of};
 use crate::agree::are_agreed;
 use crate::ledger::Ledger;
 use crate::world::World;
-use pdc_event::{Fault, Premise, WorldFault};
+use pdc_history::{Fault, Premise, WorldFault};
 use pdc_life::{MergerSettings, Settings};
 use pdc_mark::{ModelMark, Store};
 use pdc_node::copy_of;

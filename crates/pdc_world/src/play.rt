@@ -1,11 +1,11 @@
 //! Lists of events.
 ghost use Rattle.std.specs.Prelude.{IfErr, List, OnOk, map};
-ghost use Rattle.pdc_event.specs.Event.{asked_of};
+ghost use Rattle.pdc_history.specs.Handed.{asked_of};
 ghost use Rattle.pdc_history.specs.World.{Happened, World as Fixed};
 ghost use Rattle.pdc_world.specs.Holds.{Holds, HoldsSome, IsCutShort, IsPlayed};
 
 use crate::world::World;
-use pdc_event::{Event, WorldFault};
+use pdc_history::{Event, WorldFault};
 use pdc_mark::Store;
 
 impl<S: Store> World<S> {

@@ -1,21 +1,21 @@
 //! Publishes.
 ghost use Rattle.std.specs.Prelude.{◌≡◌, ◌≤◌, ◌<◌, ◌++◌, IfErr, IfSome, IsOk, IsTrue, OnErr, length, option_map, vec_capacity, vec_len};
-ghost use Rattle.pdc_event.specs.declared.fault.Fault.TheVariants.{NoMemory};
-ghost use Rattle.pdc_event.specs.Event.{who_of};
+ghost use Rattle.pdc_history.specs.declared.event_fault.Fault.TheVariants.{NoMemory};
+ghost use Rattle.pdc_history.specs.Handed.{who_of};
 ghost use Rattle.pdc_history.specs.Asked as asked;
 ghost use Rattle.pdc_history.specs.Event.{Publish};
 ghost use Rattle.pdc_station.specs.pdc_publisher.Publisher.{lead_in};
 ghost use Rattle.pdc_world.specs.Acts.{IsMade, IsSomePart, frames_if, listed_with};
 ghost use Rattle.pdc_frame.specs.declared.limits.TheConstants.{MAX_SIZE};
 ghost use Rattle.pdc_row.specs.RowView.{row_view};
-ghost use Rattle.pdc_sent.specs.Sent.{IsOfNone};
+ghost use Rattle.pdc_history.specs.Sent.{IsOfNone};
 ghost use Rattle.pdc_world.specs.Replies.{published_as};
 ghost use Rattle.pdc_world.specs.Ledger.{ledger_has_room, ledger_view};
 
 use crate::known::frames_are_known;
 use crate::ledger::Ledger;
 use crate::plays::{Plays, Sits};
-use pdc_event::{Fault, Published, Reply, Who};
+use pdc_history::{Fault, Published, Reply, Who};
 use pdc_mark::Store;
 use pdc_row::DueRow;
 use pdc_station::Station;

@@ -1,15 +1,13 @@
 //! Sends.
 ghost use Rattle.std.specs.Prelude.{◌≡◌, IfErr, IfOk, IsErrOf, IsTrue, List, OnErr};
-ghost use Rattle.pdc_event.specs.declared.fault.Fault.TheVariants.{NoMemory};
+ghost use Rattle.pdc_history.specs.declared.event_fault.Fault.TheVariants.{NoMemory};
 ghost use Rattle.pdc_history.specs.Asked as asked;
 ghost use Rattle.pdc_history.specs.World.{Happened, World};
 ghost use Rattle.pdc_world.specs.Acts.{IsSend, IsWhy, Keeps, fault_of_send};
 ghost use Rattle.pdc_world.specs.Ledger.{ledger_has_room, ledger_view};
 
 use crate::ledger::Ledger;
-use pdc_event::{Fault, Premise, Reply};
-use pdc_history::asked_is_event_or_fault;
-use pdc_sent::SendFault;
+use pdc_history::{Fault, Premise, Reply, SendFault, asked_is_event_or_fault};
 
 /// The fault of a world that a refused send is.
 fn fault_of(fault: SendFault) -> Fault

@@ -1,8 +1,8 @@
 //! Stops.
 ghost use Rattle.std.specs.Prelude.{◌≡◌, ◌^◌, ◌<◌, OnErr};
-ghost use Rattle.pdc_event.specs.declared.reply.Reply.TheVariants.{Stopped};
-ghost use Rattle.pdc_event.specs.declared.act.Act.TheVariants.{Stop};
-ghost use Rattle.pdc_event.specs.Event.{act_of, who_of};
+ghost use Rattle.pdc_history.specs.declared.reply.Reply.TheVariants.{Stopped};
+ghost use Rattle.pdc_history.specs.declared.act.Act.TheVariants.{Stop};
+ghost use Rattle.pdc_history.specs.Handed.{act_of, who_of};
 ghost use Rattle.pdc_history.specs.Asked as asked;
 ghost use Rattle.pdc_station.specs.pdc_publisher.Publisher.{lead_in, mark_in};
 ghost use Rattle.pdc_world.specs.Acts.{IsMade, IsRefused, fault_of_stop};
@@ -10,8 +10,7 @@ ghost use Rattle.pdc_world.specs.Ledger.{ledger_view};
 
 use crate::ledger::Ledger;
 use crate::plays::{Plays, Sits};
-use pdc_event::{Fault, Reply, StopAt, Who};
-use pdc_history::asked_is_event_or_fault;
+use pdc_history::{Fault, Reply, StopAt, Who, asked_is_event_or_fault};
 use pdc_mark::Store;
 use pdc_station::{Station, StopFault};
 use std::alloc::Global;

@@ -3,8 +3,8 @@ ghost use Rattle.std.specs.Prelude.{◌≡◌, [], ◌∷◌, ◌++◌, IfErr, I
 ghost use Rattle.pdc_life.specs.Given.{Given};
 ghost use Rattle.pdc_life.specs.Life.{Entry};
 ghost use Rattle.pdc_life.specs.Published.{layout_wire};
-ghost use Rattle.pdc_event.specs.declared.fault.Fault.TheVariants.{NoMemory};
-ghost use Rattle.pdc_event.specs.Event.{who_of};
+ghost use Rattle.pdc_history.specs.declared.event_fault.Fault.TheVariants.{NoMemory};
+ghost use Rattle.pdc_history.specs.Handed.{who_of};
 ghost use Rattle.pdc_history.specs.Asked as asked;
 ghost use Rattle.pdc_history.specs.Event.{TickAt};
 ghost use Rattle.pdc_station.specs.pdc_publisher.Publisher.{lead_in};
@@ -15,7 +15,7 @@ use crate::known::frames_are_known;
 use crate::ledger::Ledger;
 use crate::plays::{Plays, Sits};
 use pdc_core::Core;
-use pdc_event::{Fault, Reply, Who};
+use pdc_history::{Fault, Reply, Who};
 use pdc_mark::Store;
 use pdc_station::Station;
 

@@ -1,8 +1,8 @@
 //! A world.
 ghost use Rattle.std.specs.Prelude.{◌≡◌, IfErr, IfOk, IsErrOf, IsOk, IsTrue, List, OnErr, OnOk, length, option_map, true};
 ghost use Rattle.std.specs.List.{slice_get};
-ghost use Rattle.pdc_event.specs.declared.fault.Fault.TheVariants.{NoMemory};
-ghost use Rattle.pdc_event.specs.Event.{asked_of, fault_of};
+ghost use Rattle.pdc_history.specs.declared.event_fault.Fault.TheVariants.{NoMemory};
+ghost use Rattle.pdc_history.specs.Handed.{asked_of, fault_of};
 ghost use Rattle.pdc_history.specs.Asked.{Cause, IsFault};
 ghost use Rattle.pdc_history.specs.World.{Happened, World as Fixed};
 ghost use Rattle.pdc_world.specs.Acts.{IsWhy};
@@ -12,8 +12,7 @@ ghost use Rattle.pdc_world.specs.Room.{HasRoomFor};
 use crate::act::act;
 use crate::ledger::Ledger;
 use crate::receiver::receiver;
-use pdc_event::{Event, Fault, Published, Reply, Who};
-use pdc_history::asked_is_event_or_fault;
+use pdc_history::{Event, Fault, Published, Reply, Who, asked_is_event_or_fault};
 use pdc_mark::Store;
 use pdc_merge::Merger;
 use pdc_node::Node;

@@ -24,11 +24,11 @@ ghost use Rattle.pdc_publisher.specs.Publisher.{output_in};
 
 use crate::scripted::Scripted;
 use crate::{steps, widest};
+use pdc_frame::SECONDS;
 use pdc_life::{MAX_PMUS, Outcome};
 use pdc_mark::ModelMark;
-use pdc_output::Output;
 use pdc_publisher::{MAX_LEAD, Publisher};
-use pdc_tag::SECONDS;
+use pdc_row::Output;
 use std::alloc::{AllocError, Global};
 use try_script::{
     Frames, LifeCall, Player, counts_text, frame_text, life_call, row_text, tick_text,

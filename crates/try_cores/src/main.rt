@@ -25,8 +25,7 @@ use std::io;
 use std::process::ExitCode;
 use std::rt::Files;
 use table_player::TablePlayer;
-use try_script::{Frames, Played, Stage, play_all, play_script};
-use try_table::SortedTable;
+use try_script::{Frames, Played, SortedTable, Stage, play_all, play_script};
 use twins::Twins;
 
 /// What a node is told before a script begins,

@@ -11,8 +11,7 @@
 use crate::table_player::TablePlayer;
 use pdc_table::RingTable;
 use std::alloc::{AllocError, Global};
-use try_script::{Player, numbers};
-use try_table::SortedTable;
+use try_script::{Player, SortedTable, numbers};
 
 /// The answers of a put that the plays should give.
 const KINDS: [&str; 5] = ["Taken", "Late", "OutOfWindow", "Duplicate", "Conflict"];

@@ -3,10 +3,10 @@ ghost use Rattle.std.specs.Prelude.{◌≡◌, ◌<◌, Some, []};
 
 use crate::listed::{Listed, Silent};
 use pdc_core::{Core, Opens, Reads};
+use pdc_frame::SECONDS;
 use pdc_life::MAX_PMUS;
-use pdc_output::{Output, append_row};
 use pdc_recording::{RecordedSource, RecordedTicker, Recording};
-use pdc_tag::SECONDS;
+use pdc_row::{Output, append_row};
 use pdc_threads::{
     Blanks, Did, Hub, Ledgers, Naming, Next, Numbered, Pops, Shares, Source, Ticker,
 };

@@ -15,7 +15,7 @@ ghost use Rattle.std.specs.Prelude.{◌≤◌};
 use arrayvec::ArrayVec;
 use pdc_block::{Block, Stat, absent, is_absent};
 use pdc_cfg::{MAX_ANALOGS, MAX_DIGITALS, MAX_PHASORS, Shape};
-use pdc_tag::{COUNT_LIMIT, MAX_RATE, SECONDS, instant, slot, tag_of};
+use pdc_frame::{COUNT_LIMIT, MAX_RATE, SECONDS, instant, slot, tag_of};
 use std::alloc::{AllocError, Global};
 use try_script::{Player, numbers};
 

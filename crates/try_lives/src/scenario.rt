@@ -1,6 +1,6 @@
 //! Scenarios: a script with the settings of the world on which it is played.
 
-use pdc_play_world::{AnySettings, read_settings};
+use pdc_play::{AnySettings, read_settings};
 use std::alloc::Global;
 use std::rt::Files;
 use std::{fs, io};

@@ -3,9 +3,8 @@
 use crate::scenario::Three;
 use pdc_disk::MemoryDisk;
 use pdc_mark::DiskMark;
-use pdc_output::Output;
-use pdc_play::{Ending, PlayFault};
-use pdc_play_world::{Roles, play_over, play_settings, roles_of_three};
+use pdc_play::{Ending, PlayFault, Roles, play_over, play_settings, roles_of_three};
+use pdc_row::Output;
 use std::alloc::{AllocError, Global};
 use std::io;
 

@@ -15,7 +15,7 @@
 use crate::line::Line;
 use crate::told::{NO_CALL, done, hex_of};
 use crate::words::stream_id;
-use pdc_client::{ClientFault, Pdc};
+use pdc_session::{ClientFault, Pdc};
 use std::alloc::{AllocError, Global};
 use try_script::Player;
 

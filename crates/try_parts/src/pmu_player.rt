@@ -17,10 +17,8 @@ use crate::told::NO_CALL;
 use crate::words::stream_id;
 use arrayvec::ArrayVec;
 use pdc_cfg::{Shape, read_config};
-use pdc_command::MAX_TEXT;
-use pdc_frame::{StreamId, read_frame};
-use pdc_pmu::{Pmu, PmuFault};
-use pdc_tag::{COUNT_LIMIT, MAX_RATE, SECONDS};
+use pdc_frame::{COUNT_LIMIT, MAX_RATE, MAX_TEXT, SECONDS, StreamId, read_frame};
+use pdc_simulation::{Pmu, PmuFault};
 use std::alloc::{AllocError, Global};
 use try_script::Player;
 

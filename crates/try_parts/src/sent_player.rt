@@ -13,7 +13,7 @@
 
 use crate::told::{NO_CALL, done};
 use pdc_frame::MAX_SIZE;
-use pdc_sent::Sent;
+use pdc_history::Sent;
 use std::alloc::{AllocError, Global};
 use try_script::{Frames, PLAIN_TIMING, Player, node};
 

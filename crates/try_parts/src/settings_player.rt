@@ -11,7 +11,7 @@
 //! What is none of these, or where OLD is not found, is answered `no such call`.
 
 use pdc_life::{MergedNode, Pmu, Timing};
-use pdc_output::Output;
+use pdc_row::Output;
 use pdc_settings::{
     Input, MergerSettings, Network, NodeSettings, Service, SettingsFault, is_of_merger,
 };

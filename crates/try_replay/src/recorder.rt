@@ -25,10 +25,10 @@ use crate::comparing::compared_line;
 use crate::lives::{Beginning, Lives};
 use crate::replaying::{changed_text, plain_text, replayed_text};
 use crate::tellers::told_line;
+use pdc_frame::SECONDS;
 use pdc_life::{MAX_PMUS, Outcome};
-use pdc_output::{Output, append_row};
 use pdc_record::{Begun, Entry, What, write_entry};
-use pdc_tag::SECONDS;
+use pdc_row::{Output, append_row};
 use std::alloc::{AllocError, Global};
 use std::mem;
 use try_script::{

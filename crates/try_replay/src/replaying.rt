@@ -1,8 +1,7 @@
 //! What is tried on a record.
 
 use pdc_record::{Entry, read_entry};
-use pdc_replay::{Halt, Player, print_halt};
-use pdc_replay_plain::play_plain;
+use pdc_replay::{Halt, Player, play_plain, print_halt};
 use std::alloc::{AllocError, Global};
 use std::str;
 

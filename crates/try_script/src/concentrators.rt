@@ -7,7 +7,7 @@ use pdc_life::{
     MAX_PMUS, MAX_WAIT, MAX_WINDOW, MIN_WINDOW, MergedNode, MergerSettings, Pmu, Settings,
     StreamId, Timing, WaitKind,
 };
-use pdc_output::{Nominal, Output};
+use pdc_row::{Nominal, Output};
 
 /// How far above now an instant may lie.
 const AHEAD: u64 = 32;

@@ -2,8 +2,8 @@
 
 use crate::network::{connect, is_ended, next_datagram, send};
 use pdc_cfg::read_config;
-use pdc_client::{ClientFault, Pdc};
 use pdc_frame::{StreamId, read_frame};
+use pdc_session::{ClientFault, Pdc};
 use std::alloc::Global;
 use std::io::Write;
 use std::net::{Net, TcpStream, UdpSocket};

@@ -1,6 +1,6 @@
 //! A node with two PMUs and its consumers, over the loopback.
 ghost use Rattle.std.specs.Prelude.{◌≡◌};
-ghost use Rattle.pdc_recent.specs.Stream.{stream_of};
+ghost use Rattle.pdc_server.specs.Stream.{stream_of};
 
 use crate::driving::drive;
 use crate::network::listen;
@@ -8,8 +8,7 @@ use crate::scripted::{Gauges, Paced, Watched};
 use pdc_life::Settings;
 use pdc_mark::ModelMark;
 use pdc_network::{UdpSink, UdpSource};
-use pdc_recent::{Naming, Recent, RememberingSink};
-use pdc_server::serve;
+use pdc_server::{Naming, Recent, RememberingSink, serve};
 use pdc_service::{Begun, Plan, Totals, hand_over, run_node};
 use pdc_settings::NodeSettings;
 use std::alloc::Global;

@@ -1,9 +1,8 @@
 //! A simulated PMU.
 
 use crate::network::next_datagram;
-use pdc_frame::{Kind, StreamId, read_frame};
+use pdc_frame::{Kind, StreamId, instant, read_frame};
 use pdc_simulation::{Place, Simulated, simulate};
-use pdc_tag::instant;
 use std::alloc::Global;
 use std::io;
 use std::net::UdpSocket;

@@ -4,9 +4,8 @@
 use crate::node_a::{TWICE_11, TWICE_12, settings_of};
 use crate::scene::{Played, Scene, run_scene};
 use crate::scripted::Shown;
-use pdc_frame::{Kind, read_frame};
+use pdc_frame::{Kind, instant, read_frame};
 use pdc_mark::{Mark, ModelMark};
-use pdc_tag::instant;
 use pdc_threads::Ran;
 use std::alloc::Global;
 use std::io;

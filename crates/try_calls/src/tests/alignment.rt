@@ -9,7 +9,7 @@ use pdc_block::Body;
 use pdc_cfg::{SectionView, Shape};
 use pdc_life::{MAX_PMUS, Outcome, Refusal, WaitKind};
 use pdc_table::{RingTable, Table};
-use try_table::SortedTable;
+use try_script::SortedTable;
 
 /// Two columns, a wait of 2 ticks, a window of 8, and no more than 32 ahead.
 const PLAN: Plan = Plan {

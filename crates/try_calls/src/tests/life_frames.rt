@@ -8,8 +8,7 @@ use arrayvec::ArrayVec;
 use pdc_block::Block;
 use pdc_cfg::{SectionView, Shape, read_config};
 use pdc_frame::{Frame, Kind, StreamId, read_frame};
-use pdc_output::{MAX_PMUS, Nominal, Output, append_layout, append_row, own_section};
-use pdc_row::DueRow;
+use pdc_row::{DueRow, MAX_PMUS, Nominal, Output, append_layout, append_row, own_section};
 use std::process::Abort;
 
 const ONE_PHASOR: Shape = Shape {

@@ -6,11 +6,11 @@ use arrayvec::ArrayVec;
 use pdc_frame::FrameFault;
 use pdc_life::{MAX_PMUS, Outcome, Pmu, Refusal, Settings, StreamId, Timing, WaitKind};
 use pdc_node::{Core, Node};
-use pdc_output::{Nominal, Output};
+use pdc_row::{Nominal, Output};
 use pdc_table::{RingTable, Table};
 use std::alloc::{AllocError, Global};
 use std::process::Abort;
-use try_table::SortedTable;
+use try_script::SortedTable;
 
 /// What node 201 says of itself.
 const OUTPUT: Output = Output {

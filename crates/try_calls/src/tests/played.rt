@@ -2,7 +2,7 @@
 
 use super::player::Answers;
 use super::same::{is, same};
-use pdc_event::{Fault, Premise};
+use pdc_history::{Fault, Premise};
 use pdc_play::{PlayFault, run_script, tell_unbegun};
 use std::io;
 use std::io::{ErrorKind, Read, Write};

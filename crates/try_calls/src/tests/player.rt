@@ -2,7 +2,7 @@
 ghost use Rattle.std.specs.Prelude.{◌∷◌, [], Some, ⊤};
 
 use pdc_align::Ticked;
-use pdc_event::{Act, Event, Fault, Premise, Published, Reply, StopAt, Storing, Who};
+use pdc_history::{Act, Event, Fault, Premise, Published, Reply, StopAt, Storing, Who};
 use pdc_life::{Outcome, Refusal};
 use pdc_play::Plays;
 

@@ -7,9 +7,8 @@ use arrayvec::ArrayVec;
 use pdc_block::Block;
 use pdc_cfg::Shape;
 use pdc_mark::{Mark, ModelMark};
-use pdc_output::{Nominal, Output, StreamId};
 use pdc_publisher::{PublishFault, Publisher, spare_frame};
-use pdc_row::DueRow;
+use pdc_row::{DueRow, Nominal, Output, StreamId};
 
 /// Node 201: 50 Hz, 50 frames a second and TIME_BASE 1000000.
 const NODE_201: Output = Output {

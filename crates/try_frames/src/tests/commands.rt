@@ -3,8 +3,7 @@ ghost use Rattle.std.specs.Prelude.{◌<◌, ◌≤◌, length};
 
 use super::same::is;
 use super::vectors::DATA_ON;
-use pdc_command::*;
-use pdc_frame::{Frame, Kind, MAX_ID, StreamId, read_frame};
+use pdc_frame::{Frame, Kind, MAX_ID, StreamId, read_frame, *};
 use std::alloc::{AllocError, Global};
 use std::test::*;
 

@@ -1,8 +1,7 @@
 //! What is shown of a pair, as JSON.
 
 use super::same::is;
-use pdc_watch::{Three, Watch};
-use pdc_watch_data::json_of;
+use pdc_watch::{Three, Watch, json_of};
 use std::alloc::{AllocError, Global};
 use std::process::Abort;
 

@@ -1,6 +1,6 @@
 //! What was sent last, under its lock: it is made, a frame is kept, and then the frame and the layout are asked for.
 ghost use Rattle.std.specs.Prelude.{◌≡◌};
-ghost use Rattle.pdc_recent.specs.Stream.{stream_of};
+ghost use Rattle.pdc_server.specs.Stream.{stream_of};
 
 use crate::cores::publishes::{OUTPUT, frame};
 use crate::cores::silent::Silent;
@@ -8,7 +8,7 @@ use crate::trial::{DONE, State, begin, end, of_memory, state_of};
 use crate::vectors::BEFORE;
 use arrayvec::ArrayVec;
 use pdc_life::Output;
-use pdc_recent::{Naming, Outlet, Recent, RememberingSink};
+use pdc_server::{Naming, Outlet, Recent, RememberingSink};
 use std::alloc::Global;
 use std::io;
 use std::marker::Brand;

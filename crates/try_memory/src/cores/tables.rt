@@ -4,7 +4,7 @@ use crate::trial::{DONE, State, Trial, made, make, of_memory};
 use pdc_table::{RingTable, Table};
 use std::alloc::{AllocError, Global};
 use std::io;
-use try_table::SortedTable;
+use try_script::SortedTable;
 
 /// A table that is made, and whether it was.
 #[derive(Drop)]

@@ -1,9 +1,8 @@
 //! What answers are told as.
 
 use crate::trial::{DONE, NO_MEMORY};
-use pdc_client::ClientFault;
-use pdc_pmu::PmuFault;
-use pdc_session::SessionFault;
+use pdc_session::{ClientFault, SessionFault};
+use pdc_simulation::PmuFault;
 
 /// The answer of a session.
 pub fn of_session(answer: Result<(), SessionFault>) -> &'static str {

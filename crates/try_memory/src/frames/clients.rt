@@ -4,7 +4,7 @@ use crate::frames::answers::of_client;
 use crate::frames::line::Line;
 use crate::trial::{DONE, State, Trial, make, of_memory, state_of};
 use crate::vectors::STREAM;
-use pdc_client::Pdc;
+use pdc_session::Pdc;
 use std::alloc::{AllocError, Global};
 use std::io;
 

@@ -2,8 +2,7 @@
 
 use crate::vectors::{CONFIG_11, PAYLOAD, SOC, STREAM, TEXT};
 use arrayvec::ArrayVec;
-use pdc_command::write_header;
-use pdc_frame::{Buffer, Frame, Kind, write_frame};
+use pdc_frame::{Buffer, Frame, Kind, write_frame, write_header};
 use std::alloc::AllocError;
 use std::io;
 use std::io::{Read, Write};

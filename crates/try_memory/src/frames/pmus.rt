@@ -5,9 +5,8 @@ use crate::frames::answers::of_pmu;
 use crate::trial::{NO_CALL, State, Trial, make, state_of};
 use crate::vectors::{BEFORE, CONFIG_11, FIRST, SOC, STREAM, TEXT, WORDS};
 use pdc_cfg::read_config;
-use pdc_frame::read_frame;
-use pdc_pmu::Pmu;
-use pdc_tag::SECONDS;
+use pdc_frame::{SECONDS, read_frame};
+use pdc_simulation::Pmu;
 use std::alloc::{AllocError, Global};
 use std::io;
 

@@ -4,8 +4,7 @@ use crate::trial::{State, Trial, make, of_memory, state_of};
 use crate::vectors::{BEFORE, CONFIG_11, PAYLOAD, SOC, STREAM, TEXT, WORDS};
 use pdc_block::{Block, join};
 use pdc_cfg::{Shape, read_config, write_config};
-use pdc_command::{Command, write_command, write_header};
-use pdc_frame::{Frame, Kind, read_frame, write_frame};
+use pdc_frame::{Command, Frame, Kind, read_frame, write_command, write_frame, write_header};
 use std::alloc::{AllocError, Global};
 use std::io;
 

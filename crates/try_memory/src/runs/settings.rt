@@ -1,6 +1,6 @@
 //! The settings of two nodes with the PMU 11, and of their merger.
 
-use pdc_event::Fault;
+use pdc_history::Fault;
 use pdc_life::{MergerSettings, Settings};
 use pdc_mark::ModelMark;
 use pdc_world::{Leads, World};

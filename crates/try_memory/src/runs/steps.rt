@@ -3,7 +3,7 @@
 use crate::runs::settings::{Given, told};
 use crate::trial::{DONE, State, Trial, make, state_of};
 use crate::vectors::{CONFIG_11, DATA_11, FIRST};
-use pdc_event::{Act, Event, StopAt, Storing, Who};
+use pdc_history::{Act, Event, StopAt, Storing, Who};
 use pdc_mark::ModelMark;
 use pdc_world::World;
 use std::alloc::{AllocError, Global};

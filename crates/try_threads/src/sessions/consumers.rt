@@ -1,14 +1,12 @@
 //! A session in memory, turn by turn.
 ghost use Rattle.std.specs.Prelude.{◌≡◌};
-ghost use Rattle.pdc_recent.specs.Stream.{stream_of};
+ghost use Rattle.pdc_server.specs.Stream.{stream_of};
 
 use crate::sessions::data::{ID, node_a, send_data};
 use crate::sessions::line::Line;
-use pdc_command::{Command, read_header, write_command};
-use pdc_frame::{Kind, read_frame};
-use pdc_output::Output;
-use pdc_recent::{Naming, Recent};
-use pdc_server::Consumer;
+use pdc_frame::{Command, Kind, read_frame, read_header, write_command};
+use pdc_row::Output;
+use pdc_server::{Consumer, Naming, Recent};
 use std::alloc::{AllocError, Global};
 use std::io;
 use std::marker::Brand;
@@ -90,80 +88,86 @@ fn play_commands<N: Naming, R: Wait + Print>(
     rt: &R,
     alloc: Global,
     output: &Output,
+    pair: &mut Pair<N>,
 ) -> io::Result<()>
     requires { N.stream ≡ stream_of output.now }
 {
-    let mut pair = new_pair::<N>(alloc, output)?;
-    turn(rt, alloc, &mut pair, "nothing came")?;
-    command(rt, alloc, &mut pair, "header", Command::SendHeader)?;
-    command(rt, alloc, &mut pair, "configuration", Command::SendCfg2)?;
+    turn(rt, alloc, pair, "nothing came")?;
+    command(rt, alloc, pair, "header", Command::SendHeader)?;
+    command(rt, alloc, pair, "configuration", Command::SendCfg2)?;
     send_data(rt, alloc, &pair.recent, output, ID, 5)?;
-    turn(rt, alloc, &mut pair, "data off")?;
-    command(rt, alloc, &mut pair, "data on", Command::DataOn)?;
+    turn(rt, alloc, pair, "data off")?;
+    command(rt, alloc, pair, "data on", Command::DataOn)?;
     send_data(rt, alloc, &pair.recent, output, ID, 6)?;
     send_data(rt, alloc, &pair.recent, output, ID, 7)?;
-    turn(rt, alloc, &mut pair, "two more")?;
-    turn(rt, alloc, &mut pair, "none more")?;
-    command(rt, alloc, &mut pair, "data off", Command::DataOff)?;
+    turn(rt, alloc, pair, "two more")?;
+    turn(rt, alloc, pair, "none more")?;
+    command(rt, alloc, pair, "data off", Command::DataOff)?;
     send_data(rt, alloc, &pair.recent, output, ID, 8)?;
-    turn(rt, alloc, &mut pair, "data off")?;
-    command(rt, alloc, &mut pair, "data on", Command::DataOn)?;
+    turn(rt, alloc, pair, "data off")?;
+    command(rt, alloc, pair, "data on", Command::DataOn)?;
     let got = pair.consumer.got();
     println!(rt; "  got up to {got}")?;
     pair.line.is_ended = true;
-    turn(rt, alloc, &mut pair, "closed")
+    turn(rt, alloc, pair, "closed")
 }
 
-/// A session that is sent what is no command.
-fn play_stranger<N: Naming, R: Wait + Print>(
+/// How a session ends.
+#[derive(Clone, Copy)]
+enum End {
+    /// It is sent what is no command.
+    Stranger,
+    /// Nothing can be written to it.
+    Closed,
+    /// Its concentrator has ended.
+    Ended,
+    /// It is sent a command, and then what is none.
+    Both,
+}
+
+/// A session that ends so.
+fn play_end<N: Naming, R: Wait + Print>(
+    rt: &R,
+    alloc: Global,
+    pair: &mut Pair<N>,
+    end: End,
+) -> io::Result<()> {
+    match end {
+        End::Stranger => {
+            pair.line.input.extend_from_slice(&[0xAA, 0xAA])?;
+            turn(rt, alloc, pair, "AA AA")
+        }
+        End::Closed => {
+            pair.line.is_closed = true;
+            command(rt, alloc, pair, "a write fails", Command::SendHeader)
+        }
+        End::Ended => {
+            write_command(ID, 0, Command::SendHeader, &mut pair.line.input)?;
+            pair.recent.close(rt);
+            turn(rt, alloc, pair, "the concentrator has ended")
+        }
+        End::Both => {
+            write_command(ID, 0, Command::SendHeader, &mut pair.line.input)?;
+            pair.line.input.extend_from_slice(&[0xAA, 0xAA])?;
+            turn(rt, alloc, pair, "a header is asked for before AA AA")
+        }
+    }
+}
+
+/// A session of this concentrator: what a consumer asks, or an end.
+fn play_one<N: Naming, R: Wait + Print>(
     rt: &R,
     alloc: Global,
     output: &Output,
+    end: Option<End>,
 ) -> io::Result<()>
     requires { N.stream ≡ stream_of output.now }
 {
     let mut pair = new_pair::<N>(alloc, output)?;
-    pair.line.input.extend_from_slice(&[0xAA, 0xAA])?;
-    turn(rt, alloc, &mut pair, "AA AA")
-}
-
-/// A session to which nothing can be written.
-fn play_closed<N: Naming, R: Wait + Print>(rt: &R, alloc: Global, output: &Output) -> io::Result<()>
-    requires { N.stream ≡ stream_of output.now }
-{
-    let mut pair = new_pair::<N>(alloc, output)?;
-    pair.line.is_closed = true;
-    command(rt, alloc, &mut pair, "a write fails", Command::SendHeader)
-}
-
-/// A session whose concentrator has ended.
-fn play_ended<N: Naming, R: Wait + Print>(rt: &R, alloc: Global, output: &Output) -> io::Result<()>
-    requires { N.stream ≡ stream_of output.now }
-{
-    let mut pair = new_pair::<N>(alloc, output)?;
-    write_command(ID, 0, Command::SendHeader, &mut pair.line.input)?;
-    pair.recent.close(rt);
-    turn(rt, alloc, &mut pair, "the concentrator has ended")
-}
-
-/// A session that is sent a command, and then what is none.
-fn play_both<N: Naming, R: Wait + Print>(rt: &R, alloc: Global, output: &Output) -> io::Result<()>
-    requires { N.stream ≡ stream_of output.now }
-{
-    let mut pair = new_pair::<N>(alloc, output)?;
-    write_command(ID, 0, Command::SendHeader, &mut pair.line.input)?;
-    pair.line.input.extend_from_slice(&[0xAA, 0xAA])?;
-    turn(rt, alloc, &mut pair, "a header is asked for before AA AA")
-}
-
-/// How sessions end.
-fn play_ends<N: Naming, R: Wait + Print>(rt: &R, alloc: Global, output: &Output) -> io::Result<()>
-    requires { N.stream ≡ stream_of output.now }
-{
-    play_stranger::<N, R>(rt, alloc, output)?;
-    play_closed::<N, R>(rt, alloc, output)?;
-    play_ended::<N, R>(rt, alloc, output)?;
-    play_both::<N, R>(rt, alloc, output)
+    match end {
+        None => play_commands(rt, alloc, output, &mut pair),
+        Some(end) => play_end(rt, alloc, &mut pair, end),
+    }
 }
 
 /// Sessions of a concentrator with this output.
@@ -171,9 +175,12 @@ fn play_named<N: Naming, R: Wait + Print>(rt: &R, alloc: Global, output: &Output
     requires { N.stream ≡ stream_of output.now }
 {
     println!(rt; "a session in memory")?;
-    play_commands::<N, R>(rt, alloc, output)?;
+    play_one::<N, R>(rt, alloc, output, None)?;
     println!(rt; "ends of sessions")?;
-    play_ends::<N, R>(rt, alloc, output)
+    for end in [End::Stranger, End::Closed, End::Ended, End::Both] {
+        play_one::<N, R>(rt, alloc, output, Some(end))?;
+    }
+    Ok(())
 }
 
 /// Sessions in memory.

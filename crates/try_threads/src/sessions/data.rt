@@ -1,15 +1,14 @@
 //! The data frames of a trial, and how they come to be kept.
 ghost use Rattle.std.specs.Prelude.{◌≡◌, ◌<◌, ◌≤◌};
-ghost use Rattle.pdc_recent.specs.Stream.{stream_of};
+ghost use Rattle.pdc_server.specs.Stream.{stream_of};
 
 use arrayvec::ArrayVec;
 use pdc_frame::StreamId;
 use pdc_mark::ModelMark;
-use pdc_output::{Nominal, Output};
 use pdc_ports::MemorySink;
 use pdc_publisher::{Publisher, spare_frame};
-use pdc_recent::{Naming, Outlet, Published, Recent, RememberingSink};
-use pdc_row::DueRow;
+use pdc_row::{DueRow, Nominal, Output};
+use pdc_server::{Naming, Outlet, Published, Recent, RememberingSink};
 use std::alloc::Global;
 use std::io;
 use std::sync::Wait;

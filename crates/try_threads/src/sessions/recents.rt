@@ -1,11 +1,11 @@
 //! The frames that were sent last.
 ghost use Rattle.std.specs.Prelude.{◌≡◌};
-ghost use Rattle.pdc_recent.specs.Stream.{stream_of};
+ghost use Rattle.pdc_server.specs.Stream.{stream_of};
 
 use crate::sessions::data::{DATA_LEN, ID, START_PLACE, node_a, send_data};
 use pdc_frame::StreamId;
-use pdc_output::Output;
-use pdc_recent::{Naming, Recent};
+use pdc_row::Output;
+use pdc_server::{Naming, Recent};
 use std::alloc::Global;
 use std::io;
 use std::marker::Brand;

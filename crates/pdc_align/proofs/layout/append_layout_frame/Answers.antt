@@ -1,7 +1,7 @@
 use Rattle.std.proofs.Common.{◌≡◌, ◌++◌, ◌∙◌, ◌+◌, ◌≤◌, List, ℕ, ap, length, map, subst}
 use Rattle.std.specs.Prelude.{IsOk, OnOk}
 use Rattle.pdc_arrival.specs.pdc_cfg.Section.{fields_of_view}
-use Rattle.pdc_arrival.specs.pdc_output.Layout.{layout_wire_of}
+use Rattle.pdc_arrival.specs.pdc_row.Layout.{layout_wire_of}
 use Rattle.pdc_arrival.specs.pdc_life.Published.{layout_wire}
 use Rattle.pdc_align.proofs.Wire.{wire_is}
 use Rattle.pdc_align.proofs.layout.append_layout_frame.Goals as goal

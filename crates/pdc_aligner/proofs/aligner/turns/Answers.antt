@@ -1,7 +1,7 @@
 use Rattle.std.proofs.Common.{rules, ◌≡◌, ◌+◌, ◌%◌, ◌==◌, ◌&&◌, ◌||◌, ◌++◌, ◌∷◌, [], ℕ, List, refl, subst}
 use Rattle.pdc_pipe.specs.Writing.{put_by}
 use Rattle.pdc_publisher.specs.Publisher.{mark_in, output_in}
-use Rattle.pdc_output.specs.declared.output.Output.{Output}
+use Rattle.pdc_row.specs.declared.output.Output.{Output}
 use Rattle.pdc_aligner.specs.Sequence.{HasPutData}
 use Rattle.pdc_aligner.specs.Turns.{HasGiven, HasPut}
 use Rattle.pdc_aligner.proofs.Devices.{sound_of, sound_on, sound_same}

@@ -1,7 +1,7 @@
 use Rattle.std.proofs.Common.{rules, arith, ◌≡◌, ◌+◌, List, ap, length, subst}
 use Rattle.pdc_hub.specs.Pops.{popped_by}
 use Rattle.pdc_pipe.specs.Writing.{put_by}
-use Rattle.pdc_output.specs.declared.output.Output.{Output}
+use Rattle.pdc_row.specs.declared.output.Output.{Output}
 use Rattle.pdc_publisher.specs.Publisher.{output_in}
 use Rattle.pdc_row.specs.RowView.{row_view}
 use Rattle.pdc_aligner.specs.Sequence.{HasPutRow, instants_of}

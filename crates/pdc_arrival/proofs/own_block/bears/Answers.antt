@@ -2,7 +2,7 @@ use Rattle.std.proofs.Common.{◌≡◌, ℕ, zero, suc, ◌*◌, List, [], ◌�
 use Rattle.std.specs.List.{slice_index}
 use Rattle.std.specs.Cmp.Lexicographic.{pointwise}
 use Rattle.pdc_life.specs.pdc_block.Block.{words_in}
-use Rattle.pdc_life.specs.pdc_output.Layout.{stamp_words}
+use Rattle.pdc_life.specs.pdc_row.Layout.{stamp_words}
 use Rattle.pdc_arrival.proofs.own_block.bears.Goals as goal
 
 word_count : (n : ℕ) (bytes : List ℕ) → length bytes ≡ 2 * n → length (words_in bytes) ≡ n

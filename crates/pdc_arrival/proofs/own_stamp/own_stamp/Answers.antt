@@ -1,7 +1,7 @@
 use Rattle.std.proofs.Common.{◌≡◌, ◌⊎◌, inl, inr, sym, ◌∙◌}
 use Rattle.std.proofs.lemmas.Bool.{false≢true}
-use Rattle.pdc_life.specs.pdc_output.declared.output.Nominal.TheVariants.{Hz50, Hz60}
-use Rattle.pdc_life.specs.pdc_output.Layout.{own_bytes}
+use Rattle.pdc_life.specs.pdc_row.declared.output.Nominal.TheVariants.{Hz50, Hz60}
+use Rattle.pdc_life.specs.pdc_row.Layout.{own_bytes}
 use Rattle.pdc_arrival.proofs.OwnStamp.{with_its_stamp}
 use Rattle.pdc_arrival.proofs.own_stamp.own_stamp.Goals as goal
 

@@ -1,7 +1,7 @@
 -- As many counts wait as a mark has.
 use Rattle.std.proofs.Common.{◌++◌, ◌-◌, ◌∙◌, ◌≡◌, ◌≤◌, arith, length, length-append, List, map, replicate, ℕ}
 use Rattle.pdc_history.proofs.Names.{cleared_count, Entry, Given, given_in, greatest_count, held_section, kind_of, length-map, length-range_with_len, length-replicate, life_of, range_with_len, WaitingIsWhole}
-use Rattle.pdc_history.proofs.Sent.{few_columns}
+use Rattle.pdc_history.proofs.Senders.{few_columns}
 use Rattle.pdc_history.proofs.laws.waiting_is_whole.Goals as goal
 
 whole : (n : ℕ) (f : ℕ → ℕ) → n ≤ 16 → length (map f (range_with_len 0 n) ++ replicate (16 - n) 0) ≡ 16

@@ -1,7 +1,7 @@
 use Rattle.std.proofs.Common.{◌≡◌, List, [], ◌∷◌, length, map, slice_index_or, ap, arith, rules, sym}
-use Rattle.pdc_output.specs.pdc_cfg.Config.{config_fields_of}
-use Rattle.pdc_output.specs.pdc_cfg.Section.{fields_of_view}
-use Rattle.pdc_output.specs.pdc_cfg.declared.section.SectionView.{SectionView}
+use Rattle.pdc_row.specs.pdc_cfg.Config.{config_fields_of}
+use Rattle.pdc_row.specs.pdc_cfg.Section.{fields_of_view}
+use Rattle.pdc_row.specs.pdc_cfg.declared.section.SectionView.{SectionView}
 use Rattle.pdc_life.proofs.reading.read_section.Goals as goal
 
 -- the only section of a list is its first

@@ -1,7 +1,7 @@
 use Rattle.std.proofs.Common.{◌≡◌, ◌++◌, ◌∙◌, List, ℕ, ap, map, subst}
 use Rattle.std.specs.Prelude.{OnOk}
 use Rattle.pdc_cfg.specs.Section.{SectionFields, fields_of_view}
-use Rattle.pdc_output.specs.Layout.{layout_wire_of}
+use Rattle.pdc_row.specs.Layout.{layout_wire_of}
 use Rattle.pdc_life.specs.Life.{changes}
 use Rattle.pdc_life.specs.Published.{sections_in_force}
 use Rattle.pdc_plain_steps.specs.Views.{given_view, life_view}

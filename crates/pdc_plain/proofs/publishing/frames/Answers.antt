@@ -2,7 +2,7 @@ use Rattle.std.proofs.Common.{◌≡◌, ◌<◌, ◌+◌, ◌∙◌, ◌++◌, 
 use Rattle.std.proofs.lemmas.List.{map-append, take_more}
 use Rattle.pdc_row.specs.RowView.{row_view}
 use Rattle.pdc_row.specs.declared.due_row.DueRow.{DueRow}
-use Rattle.pdc_output.specs.Layout.{wire_of}
+use Rattle.pdc_row.specs.Layout.{wire_of}
 use Rattle.pdc_plain.proofs.publishing.frames.Goals as goal
 
 -- one more frame is that of one more row

@@ -1,7 +1,7 @@
 use Rattle.std.proofs.Common.{◌≡◌, map, take, Vec, ℕ, Global}
 use Rattle.pdc_row.specs.RowView.{row_view}
 use Rattle.pdc_row.specs.declared.due_row.DueRow.{DueRow}
-use Rattle.pdc_output.specs.Layout.{wire_of}
+use Rattle.pdc_row.specs.Layout.{wire_of}
 use Rattle.pdc_plain.proofs.publishing.frames.Given as goal
 
 abbrev pub invariant-loop-row : goal.invariant-loop-row

@@ -3,8 +3,8 @@ use Rattle.std.specs.Prelude.{IfOk}
 use Rattle.std.specs.List.{All}
 use Rattle.pdc_row.specs.RowView.{RowView, row_instants, row_view}
 use Rattle.pdc_row.specs.declared.due_row.DueRow.{DueRow}
-use Rattle.pdc_output.specs.declared.output.Output.{Output}
-use Rattle.pdc_output.specs.Layout.{wire_of}
+use Rattle.pdc_row.specs.declared.output.Output.{Output}
+use Rattle.pdc_row.specs.Layout.{wire_of}
 use Rattle.pdc_life.specs.Published.{published}
 use Rattle.pdc_plain_steps.specs.Views.{given_view, life_view}
 use Rattle.pdc_plain.proofs.publishing.frames_of.Goals as goal

@@ -1,4 +1,4 @@
-use Rattle.pdc_play_lines.specs.Written.{asked_in}
+use Rattle.pdc_play.specs.Written.{asked_in}
 use Rattle.pdc_play.proofs.Playing.{played}
 use Rattle.pdc_play.proofs.telling.play_text.Goals as goal
 

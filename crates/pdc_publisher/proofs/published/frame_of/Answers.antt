@@ -1,6 +1,6 @@
 use Rattle.std.proofs.Common.{ap, arith, length}
 use Rattle.pdc_row.specs.RowView.{row_view}
-use Rattle.pdc_output.specs.Layout.{wire_of}
+use Rattle.pdc_row.specs.Layout.{wire_of}
 use Rattle.pdc_publisher.proofs.Fitting.{appended, framed_of}
 use Rattle.pdc_publisher.proofs.published.frame_of.Goals as goal
 

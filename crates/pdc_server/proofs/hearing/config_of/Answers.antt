@@ -2,7 +2,7 @@ use Rattle.std.proofs.Common.{sym, subst}
 use Rattle.std.proofs.Math.Logic.{∥∥₁_elim, ∥∥₁_map}
 use Rattle.std.proofs.Props.{props}
 use Rattle.pdc_frame.specs.Frame.{fields_of}
-use Rattle.pdc_recent.specs.Stream.{IsLayoutWith}
+use Rattle.pdc_server.specs.Stream.{IsLayoutWith}
 use Rattle.pdc_server.proofs.Layouts.{config_kind, config_spelled, is_ok, of_ok}
 use Rattle.pdc_server.proofs.hearing.config_of.Goals as goal
 

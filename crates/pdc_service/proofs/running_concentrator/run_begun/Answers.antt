@@ -4,7 +4,7 @@ use Rattle.pdc_hub.specs.Replay.{Lives}
 use Rattle.pdc_hub.specs.declared.fault.HubFault.{HubFault}
 use Rattle.pdc_life.specs.Given.{Given}
 use Rattle.pdc_mark.specs.declared.stored.Stored.{Stored}
-use Rattle.pdc_output.specs.declared.output.Output.{Output}
+use Rattle.pdc_row.specs.declared.output.Output.{Output}
 use Rattle.pdc_threads.specs.Run.{HasRunInTurns}
 use Rattle.pdc_threads.specs.declared.telling.Totals.{Totals}
 use Rattle.pdc_publisher.specs.Publisher.{mark_in}

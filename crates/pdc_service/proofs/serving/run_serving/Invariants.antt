@@ -1,4 +1,4 @@
-use Rattle.pdc_recent.specs.Stream.{stream_of}
+use Rattle.pdc_server.specs.Stream.{stream_of}
 use Rattle.pdc_startup.specs.Concentrator.{output_of}
 use Rattle.pdc_service.proofs.serving.run_serving.Given as goal
 

@@ -3,7 +3,7 @@ use Rattle.std.specs.Prelude.{Option, IsSomeAnd, true}
 use Rattle.pdc_cfg.specs.Section.{SectionFields, fields_of_view}
 use Rattle.pdc_cfg.specs.Shape.{word_count_of}
 use Rattle.pdc_cfg.specs.declared.shape.Shape.{Shape}
-use Rattle.pdc_pmu.specs.Pmu.{PmuView, after_config, config_of, is_later, new_pmu}
+use Rattle.pdc_simulation.specs.Pmu.{PmuView, after_config, config_of, is_later, new_pmu}
 use Rattle.pdc_simulation.specs.Sent.{Run, run_of, word_count}
 use Rattle.pdc_simulation.specs.declared.begun.TheConstants.{TIME_BASE}
 use Rattle.pdc_simulation.proofs.begun.configured.Goals as goal

@@ -1,5 +1,5 @@
 use Rattle.std.proofs.Common.{◌∙◌, ◌++◌, [], ◌∷◌, ℕ, List, ap, subst}
-use Rattle.pdc_pmu.specs.Pmu.{data_of}
+use Rattle.pdc_simulation.specs.Pmu.{data_of}
 use Rattle.pdc_simulation.specs.Sent.{TakesMore}
 use Rattle.pdc_simulation.proofs.Taking.{for_ok}
 use Rattle.pdc_simulation.proofs.handing.send_data.Goals as goal

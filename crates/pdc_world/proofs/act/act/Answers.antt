@@ -2,7 +2,7 @@
 use Rattle.std.proofs.Common.{◌∙◌, ◌≡◌, ap, Result, subst, sym}
 use Rattle.pdc_world.proofs.Names.{asked_of, core_in, Event, Fault, IsMade, IsRefused, LedgerView, Reply, Seat}
 use Rattle.pdc_world.proofs.Made.{sent_made}
-use Rattle.pdc_event.specs.declared.event.Event.TheVariants as event
+use Rattle.pdc_history.specs.declared.event.Event.TheVariants as event
 use Rattle.pdc_world.proofs.act.act.Goals as goal
 
 made_of : (e f : Event) (before after : Seat) (old new : LedgerView) (result : Result Reply Fault) → e ≡ f → IsMade (core_in f) (asked_of f) before after old new result

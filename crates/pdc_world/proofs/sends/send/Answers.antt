@@ -1,8 +1,8 @@
 -- A refused send, as a fault of the world.
 use Rattle.std.proofs.Common.{◌&&◌, ◌≡◌, ap, Bool, Err, List, nat_le, nat_lt, refl, subst, sym, true, ℕ}
-use Rattle.pdc_event.specs.declared.fault.Fault.TheVariants.{NoMemory}
+use Rattle.pdc_history.specs.declared.event_fault.Fault.TheVariants.{NoMemory}
 use Rattle.pdc_world.proofs.Names.{and_parts, both_ways, Fault, fault_of_send, FaultsMayNotHappen, Happened, HasCause, IsSentIn, IsWhy, MayBeSent, NoMemory, SendFault, SentView, World}
-use Rattle.pdc_event.specs.declared.fault.Fault.TheVariants as fault
+use Rattle.pdc_history.specs.declared.event_fault.Fault.TheVariants as fault
 use Rattle.pdc_history.specs.Asked as asked
 use Rattle.pdc_history.specs.Event as events
 use Rattle.pdc_world.proofs.sends.send.Goals as goal

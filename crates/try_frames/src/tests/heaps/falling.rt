@@ -6,9 +6,8 @@ use crate::tests::heaps::same::same;
 use crate::tests::heaps::sizes::{BLOCK, CLIENT, FRAMER, LINE, NO_CONFIG, RING, SHOWN, STREAM};
 use crate::tests::vectors::{DATA_11, ID_11};
 use linked_list_allocator::LocalHeap;
-use pdc_client::Pdc;
 use pdc_frame::{Framer, frames_of};
-use pdc_session::{Frames, Session};
+use pdc_session::{Frames, Pdc, Session};
 use pdc_show::{ShowFault, run_show};
 use std::process::Abort;
 

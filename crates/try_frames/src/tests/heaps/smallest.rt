@@ -6,9 +6,8 @@ use crate::tests::heaps::sizes::{BLOCK, CLIENT, FRAMER, RING, STREAM};
 use crate::tests::vectors::{CONFIG_11, DATA_11, DATA_ON, HEADER, ID_11, SEND_HEADER, SOC, TEXT};
 use linked_list_allocator::LocalHeap;
 use pdc_cfg::read_config;
-use pdc_client::Pdc;
 use pdc_frame::{Framer, Step, frames_of, read_frame};
-use pdc_session::{Frames, Serving, Session};
+use pdc_session::{Frames, Pdc, Serving, Session};
 use std::process::Abort;
 
 #[test]

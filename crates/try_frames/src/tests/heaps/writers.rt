@@ -7,8 +7,7 @@ use crate::tests::written_again::write_config_again;
 use linked_list_allocator::LocalHeap;
 use pdc_block::{join, read_body};
 use pdc_cfg::Shape;
-use pdc_command::{Command, write_command, write_header};
-use pdc_frame::{Buffer, Frame, Kind, StreamId, write_frame};
+use pdc_frame::{Buffer, Command, Frame, Kind, StreamId, write_command, write_frame, write_header};
 use std::process::Abort;
 
 /// What stands before the frame.

@@ -1,6 +1,6 @@
 use Rattle.std.specs.Prelude.{[], ◌≡◌}
 use Rattle.std.proofs.lemmas.Result.{IfOk-weaker}
-use Rattle.pdc_arrival.specs.pdc_output.declared.output.Output.{Output}
+use Rattle.pdc_arrival.specs.pdc_row.declared.output.Output.{Output}
 use Rattle.pdc_align.specs.Align.{AlignmentView, HasSizes, StandsFor, given_by}
 use Rattle.pdc_align.specs.Calls.{first_of_plan}
 use Rattle.pdc_align.proofs.Follows.{begins, first_sizes}

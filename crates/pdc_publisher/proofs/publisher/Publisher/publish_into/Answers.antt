@@ -1,6 +1,6 @@
 use Rattle.std.proofs.Common.{subst}
 use Rattle.pdc_row.specs.RowView.{row_view}
-use Rattle.pdc_output.specs.declared.output.Output.{Output}
+use Rattle.pdc_row.specs.declared.output.Output.{Output}
 use Rattle.pdc_publisher.specs.Published.{IsRowFrame}
 use Rattle.pdc_publisher.proofs.publisher.Publisher.publish_into.Goals as goal
 

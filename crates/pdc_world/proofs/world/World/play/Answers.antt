@@ -1,7 +1,7 @@
 -- Events that were played, and one more.
 use Rattle.std.proofs.Common.{[], ◌++◌, ◌+◌, ◌<◌, ◌∙◌, ◌∷◌, ◌≡◌, ◌≤◌, ap, arith, drop, drop-cons, Err, get_or, IfOk, length, List, map, Ok, OnErr, refl, Result, subst, suc, sym, take, ℕ}
 use Rattle.pdc_world.proofs.Names.{Asked, asked_of, Event, Fault, Happened, Holds, IsAnswered, IsCutShort, IsPlayed, IsPlayOf, IsStepOf, IsWhy, length-map, length-take-le, map-append, Reply, take-append-drop, take_all, take_more, World, WorldView}
-use Rattle.pdc_event.specs.declared.event.Event.TheVariants as event
+use Rattle.pdc_history.specs.declared.event.Event.TheVariants as event
 use Rattle.pdc_world.proofs.world.World.play.Goals as goal
 
 play_more : (W : World) (H after : List Happened) (asked : List Asked) (it : Asked) (h : Happened) → IsPlayOf W H asked after → IsStepOf W after it h

@@ -1,7 +1,7 @@
 -- Where there is a cause, its fault is told.
 use Rattle.std.proofs.Common.{◌≡◌, ap, Err, IfErr, IfOk, IsErrOf, List, Ok, Result}
 use Rattle.pdc_world.proofs.Names.{Asked, asked_of, Cause, CausesAreOne, Fault, fault_of, FaultsMayNotHappen, Foreign, Genuine, Happened, IsAnswered, IsFault, IsWhy, OneBody, OneSection, OneTable, OtherBody, OtherSection, Reply, World, WorldView}
-use Rattle.pdc_event.specs.declared.fault.Fault.TheVariants as fault
+use Rattle.pdc_history.specs.declared.event_fault.Fault.TheVariants as fault
 use Rattle.pdc_history.specs.Asked as asked
 use Rattle.pdc_world.proofs.world.World.step.Goals as goal
 

@@ -1,6 +1,6 @@
 use Rattle.std.proofs.Common.{◌≡◌, ◌∙◌, ◌++◌, ap, sym, subst}
 use Rattle.pdc_frame.specs.Frame.{Fields, IsFrame, spelling_of}
-use Rattle.pdc_command.specs.Command.{command_fields}
+use Rattle.pdc_frame.specs.Command.{command_fields}
 use Rattle.try_frames.proofs.tests.commands.read_back.Goals as goal
 
 pub unreachable-requires : goal.unreachable-requires

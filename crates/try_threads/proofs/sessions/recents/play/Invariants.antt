@@ -1,4 +1,4 @@
-use Rattle.pdc_recent.specs.Stream.{stream_of}
+use Rattle.pdc_server.specs.Stream.{stream_of}
 use Rattle.try_threads.proofs.sessions.recents.play.Given as goal
 
 abbrev pub ghosts-play_named : goal.ghosts-play_named

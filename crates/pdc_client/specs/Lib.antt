@@ -1,4 +1,0 @@
-pub mod Client
-pub mod Counted
-pub mod Counting
-pub mod Search

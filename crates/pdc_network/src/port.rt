@@ -1,0 +1,117 @@
+//! Frames at a UDP port.
+ghost use Rattle.std.specs.Prelude.{◌≡◌, ◌≤◌, ◌<◌, ℕ, length};
+
+use crate::since::Since;
+use crate::udp_source::UdpSource;
+use pdc_frame::{Command, StreamId};
+use pdc_journal::Tally;
+use pdc_ports::{Next, Outcome, Refusal, Source};
+use pdc_session::command_frame;
+use std::net::SocketAddr;
+use std::rt::Clock;
+
+/// After how many seconds without data it is asked for again, and after how many without a configuration that is.
+const PATIENCE: u64 = 5;
+
+/// The frames that come to a UDP port. Where its sender is to be asked, it is told by commands from this port to send its configuration
+/// and its data: at the begin, and again after each five seconds in which no data came, or none was taken for want of a configuration.
+#[derive(Drop)]
+pub struct Port<'a, R: Clock> {
+    rt: &'a R,
+    tally: &'a Tally,
+    source: UdpSource,
+    id: StreamId,
+    /// Where the commands go; where there is none, it is not asked for.
+    commands: Option<SocketAddr>,
+    /// Since when it was asked for, or came last; where there is none, it was not asked for yet.
+    asked: Option<Since>,
+}
+
+impl<'a, R: Clock> Port<'a, R> {
+    /// The frames of the stream `id` at this port, with what counts for it, and where its sender takes commands, if it is asked.
+    pub fn new(
+        rt: &'a R,
+        tally: &'a Tally,
+        source: UdpSource,
+        id: StreamId,
+        commands: Option<SocketAddr>,
+    ) -> Port<'a, R> {
+        Port {
+            rt,
+            tally,
+            source,
+            id,
+            commands,
+            asked: None,
+        }
+    }
+
+    /// Whether it is to be asked for again.
+    fn is_due(&self) -> bool {
+        match &self.asked {
+            Some(asked) => asked.is_over(self.rt, PATIENCE),
+            None => true,
+        }
+    }
+
+    /// Tells the sender to send its configuration, and its data.
+    fn ask(&mut self, to: SocketAddr) {
+        let (config, data) = (
+            command_frame(self.id, Command::SendCfg2),
+            command_frame(self.id, Command::DataOn),
+        );
+        let _sent = self.source.send(config.as_slice(), to);
+        let _sent = self.source.send(data.as_slice(), to);
+        self.asked = Some(Since::now(self.rt));
+    }
+
+    /// What comes next.
+    pub fn next(&mut self, buffer: &mut [u8]) -> Next
+        ensures kept { length buffer.new ≡ length buffer.old }
+        ensures datagram { (n : ℕ) → result ≡ Next.Datagram n → n ≤ length buffer.new }
+    {
+        let next = self.source.next(buffer);
+        if let Some(to) = self.commands {
+            match next {
+                Next::Datagram(_) => {}
+                _ => {
+                    if self.is_due() {
+                        self.ask(to);
+                    }
+                }
+            }
+        }
+        if self.source.strangers() > 0 {
+            self.tally.set_strangers(self.source.strangers());
+        }
+        next
+    }
+
+    /// Takes how its last datagram was answered.
+    pub fn answered(&mut self, outcome: Option<Outcome>) {
+        let Some(to) = self.commands else {
+            return;
+        };
+        match outcome {
+            Some(Outcome::Refused(Refusal::NoConfig)) => {
+                if self.is_due() {
+                    self.ask(to);
+                }
+            }
+            _ => self.asked = Some(Since::now(self.rt)),
+        }
+    }
+
+    /// How many bytes its buffer has, where the system tells it.
+    pub fn buffer(&self) -> Option<u32> {
+        self.source.buffer()
+    }
+
+    /// Tells the sender, where it was asked, to send no more.
+    pub fn end(&self) {
+        if let Some(to) = self.commands {
+            let frame = command_frame(self.id, Command::DataOff);
+            let _sent = self.source.send(frame.as_slice(), to);
+        }
+    }
+}

@@ -1,5 +1,0 @@
-use Rattle.pdc_output.proofs.Stamps.{own_sections_tell_stamps}
-use Rattle.pdc_output.proofs.laws.own_sections_tell_stamps.Goals as goal
-
-pub returns : goal.returns
-returns c id other m n start change start' change' a b d e h = own_sections_tell_stamps id other m n start change start' change' a b d e h

@@ -1,0 +1,56 @@
+//! Settings of either kind.
+ghost use Rattle.std.specs.Prelude.{◌≡◌, IfErr, IfOk, IsSomeAnd};
+ghost use Rattle.toml.specs.Parse.{parse_document};
+ghost use Rattle.pdc_settings.specs.Settings.{IsFaultOf};
+ghost use Rattle.pdc_play.specs.Roles.{IsAnyFault, IsAnySettings, roles_of};
+
+use pdc_settings::{MergerSettings, NodeSettings, SettingsFault, is_of_merger};
+use std::alloc::Global;
+
+/// The settings of a node or of the merger.
+#[derive(Debug, Drop)]
+pub enum AnySettings {
+    /// Of a node.
+    Node(NodeSettings),
+    /// Of the merger.
+    Merger(MergerSettings),
+}
+
+/// The settings of two nodes and of the merger.
+#[derive(Debug, Drop)]
+pub struct Roles {
+    /// Of node A.
+    pub a: NodeSettings,
+    /// Of node B.
+    pub b: NodeSettings,
+    /// Of the merger.
+    pub m: MergerSettings,
+}
+
+/// The settings that a text is: those of the merger where it has the key `node`, else those of a node.
+///
+/// # Errors
+///
+/// Why it is none of its kind.
+pub fn read_settings(alloc: Global, text: &str) -> Result<AnySettings, SettingsFault>
+    ensures value { IfOk result (λ settings. IsSomeAnd (parse_document text.now) (λ members. IsAnySettings members settings)) }
+    ensures fault { IfErr result (IsFaultOf IsAnyFault text.now) }
+{
+    if is_of_merger(alloc, text)? {
+        Ok(AnySettings::Merger(MergerSettings::from_toml(alloc, text)?))
+    } else {
+        Ok(AnySettings::Node(NodeSettings::from_toml(alloc, text)?))
+    }
+}
+
+/// Two nodes and a merger, where the three are these in this order.
+pub fn roles_of_three(a: AnySettings, b: AnySettings, m: AnySettings) -> Option<Roles>
+    ensures { result ≡ roles_of a b m }
+{
+    match (a, b, m) {
+        (AnySettings::Node(a), AnySettings::Node(b), AnySettings::Merger(m)) => {
+            Some(Roles { a, b, m })
+        }
+        _ => None,
+    }
+}

@@ -1,3 +1,0 @@
-pub mod Seen
-pub mod Told
-pub mod Roles

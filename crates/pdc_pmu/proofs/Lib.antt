@@ -1,4 +1,0 @@
-pub mod Configs
-pub mod OneEach
-pub mod Rising
-pub mod Words

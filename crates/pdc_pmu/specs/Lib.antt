@@ -1,3 +1,0 @@
-pub mod Pmu
-pub mod Renamed
-pub mod Sent

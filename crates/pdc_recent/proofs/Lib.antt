@@ -1,3 +1,0 @@
-mod Givens
-mod Pushes
-mod Keeping

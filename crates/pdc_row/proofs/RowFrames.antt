@@ -1,0 +1,46 @@
+-- The payload of a row's frame.
+use Rattle.std.proofs.Common.{◌≡◌, inr, ℕ, ◌^◌, ◌<◌, ◌≤◌, List, length, map, refl, sym, subst, ◌∙◌, arith}
+use Rattle.std.specs.Int.{w16, to_be_bytes}
+use Rattle.std.specs.List.{flat_map}
+use Rattle.std.proofs.lemmas.List.Folds.{flat_map-map}
+use Rattle.pdc_row.specs.pdc_frame.Frame.{Fields, Fits, IsFrame}
+use Rattle.pdc_row.specs.pdc_frame.declared.frame.Kind.TheVariants.{DataFrame}
+use Rattle.pdc_frame.specs.Tag.{tag_of}
+use Rattle.pdc_row.specs.pdc_block.declared.block.Block.{Block}
+use Rattle.pdc_row.specs.pdc_block.Block.{bytes_of_words, bytes_of_blocks, words_of}
+use Rattle.pdc_row.specs.CellView.{BlockView, block_view}
+use Rattle.pdc_row.specs.RowView.{RowView}
+use Rattle.pdc_row.specs.declared.output.Output.{Output}
+use Rattle.pdc_row.specs.Layout.{own_block, row_payload, row_fields, wire_of}
+use Rattle.pdc_row.proofs.Bytes.{Bytes, Bytes-append, Bytes-flat_map, Bytes-word}
+
+-- the bytes of blocks, by their words
+pub same_blocks : (blocks : List Block) → bytes_of_blocks (map words_of blocks) ≡ flat_map (λ (b : BlockView). bytes_of_words b.words) (map block_view blocks)
+same_blocks blocks = flat_map-map bytes_of_words words_of blocks ∙ sym (flat_map-map (λ (b : BlockView). bytes_of_words b.words) block_view blocks)
+
+Bytes-words : (words : List ℕ) → Bytes (bytes_of_words words)
+Bytes-words words = Bytes-flat_map (to_be_bytes w16) Bytes-word words
+
+Bytes-row_payload : (row : RowView) → Bytes (row_payload row)
+Bytes-row_payload row =
+    Bytes-append (Bytes-words (own_block row.start row.change)) (Bytes-flat_map (λ (b : BlockView). bytes_of_words b.words) (λ (b : BlockView). Bytes-words b.words) row.blocks)
+
+-- the fields before the payload of a row's frame, for any time tag
+abbrev pub head_of : Output → RowView → ℕ × ℕ → Fields
+head_of output row tag = record { kind = DataFrame; version = 2; id = output.id.value; soc = tag.0; quality = row.quality; frac = tag.1; payload = row_payload row }
+
+-- what a row is on the wire is a frame
+pub row_is_frame : (output : Output) (row : RowView) (tag : ℕ × ℕ) → tag ≡ tag_of row.instant output.time_base output.rate → tag.0 < 2 ^ 32 → tag.1 < output.time_base
+    → row.quality < 2 ^ 8 → length (row_payload row) ≤ 3438 → IsFrame (wire_of output row) (row_fields output row)
+row_is_frame output row tag e soc frac quality size =
+    let fits : Fits (head_of output row tag) = record {
+      version = inr refl;
+      id_low = output.id.low;
+      id_high = omega (arith, output.id.high);
+      soc = soc;
+      quality = quality;
+      frac = omega (arith, frac, output.time_base_high);
+      size = omega (arith, size);
+      bytes = (Bytes-row_payload row).all;
+    } in
+    record { fits = subst (λ (t : ℕ × ℕ). Fits (head_of output row t)) e fits; spelled = refl }

@@ -1,0 +1,175 @@
+//! The data frame of a closed row (this profile; C37.118.2-2011, 6.3).
+ghost use Rattle.std.specs.Prelude.{◌≡◌, ◌+◌, ◌*◌, ◌<◌, ◌≤◌, ◌++◌, [], length, sum_by, IsOk, OnOk, OnErr};
+ghost use Rattle.pdc_row.specs.pdc_frame.Frame.{IsFrame, fields_of};
+ghost use Rattle.pdc_row.specs.pdc_frame.declared.frame.Kind.TheVariants.{DataFrame};
+ghost use Rattle.pdc_row.specs.pdc_block.Block.{bytes_of_words, body_len_of, shape_of};
+ghost use Rattle.pdc_frame.specs.declared.tag_limits.TheConstants.{SECONDS};
+ghost use Rattle.pdc_frame.specs.Tag.{tag_of};
+ghost use Rattle.pdc_row.specs.RowView.{row_view};
+ghost use Rattle.pdc_row.specs.Layout.{own_block, row_payload, row_fields, wire_of};
+
+use crate::due_row::DueRow;
+use crate::output::Output;
+use crate::stamp::stamp_words;
+use arrayvec::ArrayVec;
+use pdc_block::{
+    Buffer, CHECK_LEN, Frame, HEADER_LEN, Kind, OVERHEAD, append_blocks, append_words, begin_frame,
+    end_frame, frames_are_written_in_parts, joined_len, write_blocks, write_ends,
+};
+use pdc_frame::tag_of;
+use std::alloc::AllocError;
+
+/// The bytes of the own block: STAT, FREQ, DFREQ and four digital words.
+pub const OWN_BLOCK_LEN: usize = 14;
+
+/// The most bytes of the payload: the own block, and 16 blocks of the most channels.
+const LONGEST_PAYLOAD: usize = 3438;
+
+/// The most bytes of the data frame of a row.
+pub const MAX_ROW_LEN: usize = LONGEST_PAYLOAD + OVERHEAD;
+
+/// The bytes of the frame's payload.
+fn payload_len(row: &DueRow) -> usize
+    ensures value { result ≡ length (row_payload (row_view row.now)) }
+    ensures blocks { result ≡ OWN_BLOCK_LEN + sum_by (λ block. body_len_of (shape_of block)) row.now.blocks.items }
+    ensures most { result ≤ LONGEST_PAYLOAD }
+{
+    OWN_BLOCK_LEN + joined_len(row.blocks.as_slice())
+}
+
+/// Appends the own block. It takes no memory.
+fn append_own_block<B: Buffer>(start: u32, change: u32, out: &mut B)
+    requires { length (B.content out.old) + OWN_BLOCK_LEN ≤ B.capacity out.old }
+    ensures content { B.content out.new ≡ B.content out.old ++ bytes_of_words (own_block start change) }
+    ensures len { length (B.content out.new) ≡ length (B.content out.old) + OWN_BLOCK_LEN }
+    ensures in_place { B.capacity out.new ≡ B.capacity out.old }
+{
+    append_words(&[0; 3], out);
+    append_words(&stamp_words(start, change), out);
+}
+
+/// Appends the payload: the own block and the blocks of the row. It takes no memory.
+fn append_payload<B: Buffer>(row: &DueRow, out: &mut B)
+    requires { length (B.content out.old) + OWN_BLOCK_LEN + sum_by (λ block. body_len_of (shape_of block)) row.now.blocks.items ≤ B.capacity out.old }
+    ensures content { B.content out.new ≡ B.content out.old ++ row_payload (row_view row.now) }
+    ensures in_place { B.capacity out.new ≡ B.capacity out.old }
+{
+    append_own_block(row.start, row.change, out);
+    append_blocks(row.blocks.as_slice(), out);
+}
+
+/// The fields of the frame, without its payload.
+fn head_of<'a>(output: &'a Output, row: &DueRow) -> Frame<'a>
+    requires { row.now.instant < SECONDS * output.now.rate }
+    ensures fields { fields_of result ≡ record {
+      kind = DataFrame;
+      version = 2;
+      id = output.now.id.value;
+      soc = result.soc;
+      quality = row.now.quality;
+      frac = result.frac;
+      payload = [];
+    } }
+    ensures tag { (result.soc, result.frac) ≡ tag_of row.now.instant output.now.time_base output.now.rate }
+    ensures count { result.frac < output.now.time_base }
+{
+    let (soc, frac) = tag_of(row.instant, output.time_base, u32::from(output.rate));
+    Frame {
+        kind: Kind::DataFrame,
+        version: 2,
+        id: output.id,
+        soc,
+        quality: row.quality,
+        frac,
+        payload: &[],
+    }
+}
+
+/// Appends the data frame of the row: its instant as a time tag, its time quality, the own block with the stamp that the row
+/// closed under, and its blocks. SOC has 32 bits, so the instant is below 2^32 times the rate.
+///
+/// # Errors
+///
+/// [`AllocError`] where `out` has no room and gets none.
+pub fn append_row<B: Buffer>(output: &Output, row: &DueRow, out: &mut B) -> Result<(), AllocError>
+    requires instant { row.now.instant < SECONDS * output.now.rate }
+    // What is appended is the frame,
+    ensures ok { OnOk result (B.content out.new ≡ B.content out.old ++ wire_of output.now (row_view row.now)) }
+    // which is read back with these fields.
+    ensures frame { IsFrame (wire_of output.now (row_view row.now)) (row_fields output.now (row_view row.now)) }
+    // It fails only where there was no room, and then nothing is appended.
+    ensures err { OnErr result ((B.content out.new ≡ B.content out.old) × (B.capacity out.new ≡ B.capacity out.old)) }
+    ensures room { length (B.content out.old) + length (wire_of output.now (row_view row.now)) ≤ B.capacity out.old → IsOk result }
+    // Where there was room, it takes no memory.
+    ensures in_place { length (B.content out.old) + length (wire_of output.now (row_view row.now)) ≤ B.capacity out.old
+        → B.capacity out.new ≡ B.capacity out.old }
+    ensures capacity { B.capacity out.old ≤ B.capacity out.new }
+    // The frame has 3454 bytes at most.
+    ensures most { length (wire_of output.now (row_view row.now)) ≤ MAX_ROW_LEN }
+{
+    frames_are_written_in_parts();
+    let head = head_of(output, row);
+    let start = out.content().len();
+    begin_frame(&head, payload_len(row), out)?;
+    append_payload(row, out);
+    end_frame(start, out);
+    Ok(())
+}
+
+/// Writes the own block over these bytes.
+fn write_own_block(start: u32, change: u32, bytes: &mut [u8])
+    requires { length bytes.old ≡ OWN_BLOCK_LEN }
+    ensures { bytes.new ≡ bytes_of_words (own_block start change) }
+{
+    let [a, b, c, d] = start.to_be_bytes();
+    let [e, f, g, h] = change.to_be_bytes();
+    bytes.copy_from_slice(&[0, 0, 0, 0, 0, 0, a, b, c, d, e, f, g, h]);
+}
+
+/// Writes the payload over these bytes: the own block and the blocks of the row.
+fn write_payload(row: &DueRow, bytes: &mut [u8])
+    requires { length bytes.old ≡ OWN_BLOCK_LEN + sum_by (λ block. body_len_of (shape_of block)) row.now.blocks.items }
+    ensures { bytes.new ≡ row_payload (row_view row.now) }
+{
+    let (own, blocks) = bytes.split_at_mut(OWN_BLOCK_LEN);
+    write_own_block(row.start, row.change, own);
+    write_blocks(row.blocks.as_slice(), blocks);
+}
+
+/// Writes the data frame of the row over these bytes.
+fn write_over(output: &Output, row: &DueRow, bytes: &mut [u8])
+    requires instant { row.now.instant < SECONDS * output.now.rate }
+    requires size { length bytes.old ≡ OWN_BLOCK_LEN + sum_by (λ block. body_len_of (shape_of block)) row.now.blocks.items + OVERHEAD }
+    requires most { length bytes.old ≤ MAX_ROW_LEN }
+    ensures { bytes.new ≡ wire_of output.now (row_view row.now) }
+{
+    let head = head_of(output, row);
+    let len = bytes.len() - OVERHEAD;
+    let (front, rest) = bytes.split_at_mut(HEADER_LEN);
+    let (payload, back) = rest.split_at_mut(len);
+    write_payload(row, payload);
+    write_ends(&head, payload, front, back);
+}
+
+/// Makes them so many bytes, which are to be written over. Seldom, and so a call of its own.
+#[inline(never)]
+fn resize(bytes: &mut ArrayVec<u8, MAX_ROW_LEN>, len: usize)
+    requires { len ≤ MAX_ROW_LEN }
+    ensures { length bytes.new.items ≡ len }
+{
+    *bytes = ArrayVec::from_array_in((), [0; MAX_ROW_LEN]);
+    bytes.truncate(len);
+}
+
+/// Makes these bytes the data frame of the row, as [`append_row`] appends it. Where they are as many as those of the frame, each is written
+/// over once. It takes no memory.
+pub fn write_row(output: &Output, row: &DueRow, bytes: &mut ArrayVec<u8, MAX_ROW_LEN>)
+    requires { row.now.instant < SECONDS * output.now.rate }
+    ensures { bytes.new.items ≡ wire_of output.now (row_view row.now) }
+{
+    let len = payload_len(row) + OVERHEAD;
+    if bytes.len() != len {
+        resize(bytes, len);
+    }
+    write_over(output, row, bytes.as_mut_slice());
+}

@@ -1,6 +1,0 @@
-pub mod Chains
-pub mod Frames
-pub mod Histories
-pub mod Index
-pub mod Sent
-pub mod Told

@@ -1,0 +1,13 @@
+//! What a publisher sends is what is kept: the contract of a function that does nothing but call the laws that it stands on.
+ghost use Rattle.pdc_server.specs.Laws.{RowsAreData};
+
+use pdc_frame::tag_comes_back;
+use pdc_row::rows_are_frames;
+
+/// The frame of a row is a data frame of the row's instant.
+pub fn rows_are_data()
+    ensures { RowsAreData }
+{
+    rows_are_frames();
+    tag_comes_back();
+}

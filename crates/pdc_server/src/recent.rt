@@ -1,0 +1,116 @@
+//! The lock round what was sent last.
+ghost use Rattle.std.specs.Prelude.{◌≡◌, ◌≤◌, ◌<◌, ◌++◌, ℕ, List, OnErr, OnOk, IfOk};
+ghost use Rattle.pdc_server.specs.Given.{IsGiven};
+ghost use Rattle.pdc_server.specs.Stream.{IsData, IsLayout, stream_of};
+
+use crate::naming::Naming;
+use crate::remembered::Remembered;
+use pdc_frame::{Buffer, StreamId};
+use pdc_row::{Output, append_layout};
+use std::alloc::{AllocError, Global};
+use std::sync::{Mutex, Wait};
+
+/// The last 256 data frames of a stream that were sent, and its last layout frame. Each call takes the lock once, and may wait for it; none
+/// holds it for longer than a copy of what is asked for.
+#[derive(Drop)]
+pub struct Recent<N: Naming> {
+    remembered: Mutex<Remembered<N>>,
+    id: StreamId,
+    pub ghost id_is: { id.value ≡ N.stream.id },
+}
+
+/// The layout frame before the first adoption of a life with this start: the own section alone.
+fn first_layout(alloc: Global, output: &Output, start: u32) -> Result<Vec<u8>, AllocError>
+    ensures { IfOk result (λ layout. IsLayout (stream_of output.now) layout.items) }
+{
+    let mut layout = Vec::new(alloc);
+    append_layout(output, start, 0, &[], 0, &mut layout)?;
+    Ok(layout)
+}
+
+impl<N: Naming> Recent<N> {
+    /// No data frame yet. The layout is the own section alone, as before the first adoption of a life with this start.
+    ///
+    /// # Errors
+    ///
+    /// [`AllocError`] where there is no memory for the ring or for the layout frame.
+    pub fn new(alloc: Global, output: &Output, start: u32) -> Result<Recent<N>, AllocError>
+        requires { N.stream ≡ stream_of output.now }
+    {
+        let layout = first_layout(alloc, output, start)?;
+        Ok(Recent {
+            remembered: Mutex::new(Remembered::new(alloc, layout)?),
+            id: output.id,
+        })
+    }
+
+    /// The id of the stream.
+    pub fn id(&self) -> StreamId
+        ensures { result.value ≡ N.stream.id }
+    {
+        self.id
+    }
+
+    /// Keeps a data frame of this instant, if the instant is above all before; the oldest of 256 goes.
+    ///
+    /// # Errors
+    ///
+    /// [`AllocError`] where there is no memory for the frame's bytes. Nothing is kept then.
+    pub fn push<R: Wait>(
+        &self,
+        rt: &R,
+        alloc: Global,
+        instant: u64,
+        bytes: &[u8],
+    ) -> Result<(), AllocError>
+        requires { ∥ IsData N.stream instant bytes.now ∥₁ }
+    {
+        self.remembered.lock(rt).push(alloc, instant, bytes)
+    }
+
+    /// Appends the frames above the instant, in order, and answers the greatest of their instants; the given one where there is none.
+    ///
+    /// # Errors
+    ///
+    /// [`AllocError`] where `out` has no room for them and gets none. `out` is unchanged then.
+    pub fn after<B: Buffer, R: Wait>(
+        &self,
+        rt: &R,
+        instant: u64,
+        out: &mut B,
+    ) -> Result<u64, AllocError>
+        ensures ok { IfOk result (λ answer. IsGiven N.stream instant (B.content out.old) answer (B.content out.new)) }
+        ensures err { OnErr result (B.content out.new ≡ B.content out.old) }
+    {
+        self.remembered.lock(rt).after(instant, out)
+    }
+
+    /// Keeps a layout frame in place of the one before.
+    pub fn keep_layout<R: Wait>(&self, rt: &R, layout: Vec<u8>)
+        requires { IsLayout N.stream layout.items }
+    {
+        self.remembered.lock(rt).keep_layout(layout);
+    }
+
+    /// Appends a copy of the layout frame that was kept last.
+    ///
+    /// # Errors
+    ///
+    /// [`AllocError`] where `out` has no room for it and gets none. `out` is unchanged then.
+    pub fn layout<B: Buffer, R: Wait>(&self, rt: &R, out: &mut B) -> Result<(), AllocError>
+        ensures ok { OnOk result ((frame : List ℕ) × ∥ IsLayout N.stream frame ∥₁ × (B.content out.new ≡ B.content out.old ++ frame)) }
+        ensures err { OnErr result (B.content out.new ≡ B.content out.old) }
+    {
+        self.remembered.lock(rt).layout(out)
+    }
+
+    /// No more is to be kept.
+    pub fn close<R: Wait>(&self, rt: &R) {
+        self.remembered.lock(rt).closed = true;
+    }
+
+    /// Whether no more is to be kept.
+    pub fn closed<R: Wait>(&self, rt: &R) -> bool {
+        self.remembered.lock(rt).closed
+    }
+}

@@ -1,0 +1,130 @@
+//! A sink that keeps what it sent.
+ghost use Rattle.std.specs.Prelude.{◌≡◌, List, true, ℕ};
+ghost use Rattle.pdc_server.specs.Stream.{stream_of};
+
+use crate::laws::rows_are_data;
+use crate::naming::Naming;
+use crate::recent::Recent;
+use pdc_cfg::read_config;
+use pdc_frame::{Kind, read_frame};
+use pdc_pipe::{LayoutFrame, Outlet, Published, Sink, SinkFault};
+use pdc_row::Output;
+use std::alloc::{AllocError, Global};
+use std::sync::Wait;
+use std::sync::atomic::{AtomicU64, Ordering};
+
+/// Sends each frame by another sink, and then keeps it, whether or not it was sent: a data frame under its instant, a layout frame in place
+/// of the one before. What cannot be kept for want of memory is counted, and lost for the readers of what is kept alone.
+///
+/// A data frame says itself of which instant it is and of which stream; a layout frame is read before it is kept. Bytes that do not say what
+/// they are ([`Sink::send`]) are sent and not kept.
+#[derive(Drop)]
+pub struct RememberingSink<'a, N: Naming, K: Sink + Drop, R: Wait> {
+    rt: &'a R,
+    alloc: Global,
+    recent: &'a Recent<N>,
+    output: Output,
+    unkept: &'a AtomicU64,
+    pub inner: K,
+    pub ghost of_stream: { N.stream ≡ stream_of output },
+}
+
+/// Whether both are of one stream: the same id, TIME_BASE and rate.
+fn are_of_one_stream(one: &Output, other: &Output) -> bool
+    ensures { result ≡ true → stream_of one.now ≡ stream_of other.now }
+{
+    one.id.value == other.id.value && one.time_base == other.time_base && one.rate == other.rate
+}
+
+impl<'a, N: Naming, K: Sink + Drop, R: Wait> RememberingSink<'a, N, K, R> {
+    /// A sink that sends by `inner` the frames of a concentrator with this output, keeps them in `recent`, and counts in `unkept` those
+    /// that it cannot keep.
+    pub fn new(
+        rt: &'a R,
+        alloc: Global,
+        recent: &'a Recent<N>,
+        output: Output,
+        unkept: &'a AtomicU64,
+        inner: K,
+    ) -> RememberingSink<'a, N, K, R>
+        requires { N.stream ≡ stream_of output }
+        ensures { result.inner ≡ inner }
+    {
+        RememberingSink {
+            rt,
+            alloc,
+            recent,
+            output,
+            unkept,
+            inner,
+        }
+    }
+
+    /// Keeps a data frame under its instant; one of another stream is passed over.
+    fn keep_data(&self, frame: &Published) -> Result<(), AllocError> {
+        rows_are_data();
+        if !are_of_one_stream(&frame.output, &self.output) {
+            return Ok(());
+        }
+        self.recent
+            .push(self.rt, self.alloc, frame.instant, frame.bytes.as_slice())
+    }
+
+    /// Keeps a layout frame of the stream, which can be read, and tells the concentrator's TIME_BASE and rate; another is passed over.
+    fn keep_layout(&self, bytes: &[u8]) -> Result<(), AllocError> {
+        let Ok(frame) = read_frame(bytes) else {
+            return Ok(());
+        };
+        if frame.id.value != self.output.id.value || frame.kind != Kind::Cfg2 {
+            return Ok(());
+        }
+        let Ok(config) = read_config(&frame) else {
+            return Ok(());
+        };
+        let rate = config.rate.cast_unsigned();
+        if config.time_base != self.output.time_base || rate != self.output.rate {
+            return Ok(());
+        }
+        let copy = Vec::from_slice(self.alloc, bytes)?;
+        self.recent.keep_layout(self.rt, copy);
+        Ok(())
+    }
+
+    /// Counts what could not be kept.
+    fn count(&self, kept: Result<(), AllocError>) {
+        if kept.is_err() {
+            self.unkept.fetch_add(1, Ordering::Relaxed);
+        }
+    }
+}
+
+/// It takes what the other sink takes.
+impl<'a, N: Naming, K: Sink + Drop, R: Wait> Sink for RememberingSink<'a, N, K, R> {
+    ghost took = { λ before now given. K.took before.inner now.inner given };
+
+    ghost nothing = { λ s. K.nothing s.inner };
+
+    ghost failures_of = { λ s. K.failures_of s.inner };
+
+    fn send(&mut self, bytes: &[u8]) -> Result<(), SinkFault> {
+        self.inner.send(bytes)
+    }
+
+    fn failures(&self) -> u64 {
+        self.inner.failures()
+    }
+}
+
+impl<'a, N: Naming, K: Sink + Drop, R: Wait> Outlet for RememberingSink<'a, N, K, R> {
+    fn send_data(&mut self, frame: &Published) -> Result<(), SinkFault> {
+        let sent = self.inner.send(frame.bytes.as_slice());
+        self.count(self.keep_data(frame));
+        sent
+    }
+
+    fn send_layout(&mut self, frame: &LayoutFrame) -> Result<(), SinkFault> {
+        let sent = self.inner.send(frame.bytes.as_slice());
+        self.count(self.keep_layout(frame.bytes.as_slice()));
+        sent
+    }
+}

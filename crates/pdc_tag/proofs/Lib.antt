@@ -1,3 +1,0 @@
-pub mod NearestLemmas
-pub mod SlotLemmas
-pub mod TagLemmas

@@ -1,4 +1,0 @@
-pub mod Nearest
-pub mod Slot
-pub mod Instant
-pub mod Tag

@@ -1,0 +1,168 @@
+//! From what is known to what is shown.
+ghost use Rattle.std.specs.Prelude.{◌≤◌};
+ghost use Rattle.pdc_watch.specs.declared.cell.TheConstants.{MAX_RATE};
+
+use crate::heard::Heard;
+use crate::phasors::{analogs_of, digitals_of, phasors_of};
+use crate::pmu::Pmu;
+use crate::presences::{CELLS, rows_of};
+use crate::shown::{Shown, ShownAgreement, ShownPmu};
+use crate::station::Station;
+use crate::streams::stream_shown;
+use crate::strip::POINTS;
+use crate::watch::Watch;
+use crate::who::Three;
+use serde_json::Error;
+use std::alloc::{AllocError, Global};
+
+/// How far the matrix ends before the newest data, so that all streams have had time to bring it, in tenths of seconds.
+const BEHIND_DATA: u64 = 3;
+
+/// How far it ends before now at most.
+const BEHIND_NOW: u64 = 10;
+
+/// FREQ is in thousandths of a hertz, and DFREQ in hundredths of a hertz a second.
+const MILLI: f64 = 1000.0;
+
+const CENTI: f64 = 100.0;
+
+/// The word as a signed number.
+fn signed_at(words: &[u16], place: usize) -> i16 {
+    words.get(place).copied().unwrap_or(0).cast_signed()
+}
+
+/// The strips of a PMU that end with this fifth of a second: frequency and its change.
+fn strips_of(
+    alloc: Global,
+    pmu: &Pmu,
+    last: u64,
+) -> Result<(Vec<Option<i16>>, Vec<Option<i16>>), AllocError> {
+    let (mut freqs, mut dfreqs) = (Vec::new(alloc), Vec::new(alloc));
+    for place in 1..=POINTS as u64 {
+        let point = pmu
+            .strip
+            .at(last.saturating_add(place).saturating_sub(POINTS as u64));
+        freqs.push(point.map(|point| point.freq))?;
+        dfreqs.push(point.map(|point| point.dfreq))?;
+    }
+    Ok((freqs, dfreqs))
+}
+
+/// What is shown of a PMU.
+fn pmu_shown<'a>(
+    alloc: Global,
+    pmu: &Pmu,
+    station: &'a Station,
+    rate: u32,
+    last: u64,
+) -> Result<ShownPmu<'a>, AllocError>
+    requires { rate ≤ MAX_RATE }
+{
+    let words = pmu.words.as_slice();
+    let freq = 1 + 2 * usize::from(station.shape.phasors);
+    let values = words.get(freq + 2..).unwrap_or(&[]);
+    let digitals = values
+        .get(usize::from(station.shape.analogs)..)
+        .unwrap_or(&[]);
+    let nominal = if station.is_50 { 50u8 } else { 60 };
+    let (deviation_mhz, rocof_chz_per_s) = strips_of(alloc, pmu, last / 2)?;
+    Ok(ShownPmu {
+        source: pmu.source,
+        name: station.name.as_str(),
+        nominal_hz: nominal,
+        last_ms: if pmu.ms > 0 { Some(pmu.ms) } else { None },
+        stat: u32::from(words.first().copied().unwrap_or(0)),
+        frequency_hz: f64::from(nominal) + f64::from(signed_at(words, freq)) / MILLI,
+        rocof_hz_per_s: f64::from(signed_at(words, freq + 1)) / CENTI,
+        presence: rows_of(
+            alloc,
+            &pmu.presence,
+            rate,
+            last.saturating_add(1).saturating_sub(CELLS),
+        )?,
+        phasors: phasors_of(alloc, station, words)?,
+        analogs: analogs_of(alloc, station, values)?,
+        digitals: digitals_of(alloc, station.shape.digitals, digitals)?,
+        deviation_mhz,
+        rocof_chz_per_s,
+    })
+}
+
+/// What a stream's configuration says of this source.
+fn station_in(stations: &[Station], source: u16) -> Option<&Station> {
+    stations.iter().find(|station| station.source == source)
+}
+
+/// What the first configuration of M, A and B that speaks of it says of this source.
+fn station_of(heard: &Three<Heard>, source: u16) -> Option<&Station> {
+    if let Some(station) = station_in(heard.m.stations.as_slice(), source) {
+        return Some(station);
+    }
+    if let Some(station) = station_in(heard.a.stations.as_slice(), source) {
+        return Some(station);
+    }
+    station_in(heard.b.stations.as_slice(), source)
+}
+
+/// The last tenth of a second of the matrix.
+fn last_tenth(newest_ms: u64, now_ms: u64) -> u64 {
+    (newest_ms / 100)
+        .saturating_sub(BEHIND_DATA)
+        .max((now_ms / 100).saturating_sub(BEHIND_NOW))
+}
+
+/// What is shown of all PMUs.
+fn pmus_shown(alloc: Global, watch: &Watch, last: u64) -> Result<Vec<ShownPmu<'_>>, AllocError> {
+    let mut pmus = Vec::new(alloc);
+    for pmu in watch.pmus.as_slice() {
+        if let Some(station) = station_of(&watch.heard, pmu.source) {
+            pmus.push(pmu_shown(alloc, pmu, station, watch.rate, last)?)?;
+        }
+    }
+    Ok(pmus)
+}
+
+/// What is shown now of a pair whose streams come from these addresses.
+fn shown_of<'a>(
+    alloc: Global,
+    watch: &'a Watch,
+    addresses: &'a Three<String>,
+    now_ms: u64,
+) -> Result<Shown<'a>, AllocError> {
+    let rate = watch.rate;
+    let last = last_tenth(watch.newest_ms, now_ms);
+    let heard = &watch.heard;
+    let mut streams = Vec::new(alloc);
+    streams.push(stream_shown(&heard.a, "A", addresses.a.as_str(), rate, now_ms))?;
+    streams.push(stream_shown(&heard.b, "B", addresses.b.as_str(), rate, now_ms))?;
+    streams.push(stream_shown(&heard.m, "M", addresses.m.as_str(), rate, now_ms))?;
+    let agreement = watch.agreement;
+    Ok(Shown {
+        now_ms,
+        begun_ms: watch.begun_ms,
+        rate,
+        until_ms: last.saturating_add(1).saturating_mul(100),
+        streams,
+        pmus: pmus_shown(alloc, watch, last)?,
+        agreement: ShownAgreement {
+            instants: agreement.equal.saturating_add(agreement.different),
+            equal: agreement.equal,
+            different: agreement.different,
+        },
+    })
+}
+
+/// What is shown now of a pair whose streams come from these addresses, as `/data.json` says it.
+///
+/// # Errors
+///
+/// Where there is no memory for it.
+pub fn json_of(
+    alloc: Global,
+    watch: &Watch,
+    addresses: &Three<String>,
+    now_ms: u64,
+) -> Result<Vec<u8>, Error> {
+    let shown = shown_of(alloc, watch, addresses, now_ms)?;
+    serde_json::to_vec(alloc, &shown)
+}

@@ -1,0 +1,37 @@
+//! What is shown of a stream.
+
+use crate::heard::Heard;
+use crate::shown::ShownStream;
+
+/// By how many ms the instant of the last frame lay behind the clock when it came; below zero, before it.
+fn behind(heard: &Heard) -> i64 {
+    heard
+        .came_ms
+        .cast_signed()
+        .saturating_sub(heard.last_ms.cast_signed())
+}
+
+/// What is shown of a stream.
+pub fn stream_shown<'a>(
+    heard: &Heard,
+    name: &'static str,
+    address: &'a str,
+    rate: u32,
+    now_ms: u64,
+) -> ShownStream<'a> {
+    let told = heard.last_ms > 0;
+    ShownStream {
+        name,
+        address,
+        connected: heard.connected,
+        alive: heard.is_alive(rate, now_ms),
+        since_ms: heard.since(rate, now_ms),
+        start: heard.start,
+        change: heard.change,
+        last_ms: if told { Some(heard.last_ms) } else { None },
+        behind_ms: if told { Some(behind(heard)) } else { None },
+        frames_a_second: heard.frames_a_second(now_ms),
+        frames: heard.frames,
+        unread: heard.unread,
+    }
+}

@@ -1,0 +1,10 @@
+use Rattle.std.proofs.Common.{arith}
+use Rattle.std.proofs.lemmas.List.Edits.{map_over_more}
+use Rattle.pdc_table.specs.pdc_open_row.Taking.{without_stream}
+use Rattle.try_script.proofs.rows.drop_stream.Goals as goal
+
+pub loop-row-preserved : goal.loop-row-preserved
+loop-row-preserved c =
+    rw (c.drop_stream.ensures, ← c.row-item.is)
+    (map_over_more (without_stream c.args.lanes c.args.stream) c.deref_mut-row-items.result.now c.loop-row.row-items c.loop-row.row-index c.row-item.result
+    (omega arith) c.loop-row.invariant c.row-item.is)

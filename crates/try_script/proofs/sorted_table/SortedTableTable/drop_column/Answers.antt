@@ -1,0 +1,13 @@
+use Rattle.try_script.specs.SortedTable.{content_of}
+use Rattle.pdc_table.proofs.Keeps.{keeps-drop_column}
+use Rattle.try_script.proofs.sorted_table.SortedTableTable.drop_column.Goals as goal
+
+pub invariant_of-self : goal.invariant_of-self
+invariant_of-self c = record {
+  content = rw c.drop_column.ensures.items (keeps-drop_column (content_of c.self.inside) c.args.column c.self.invariant.content);
+  room = rw c.drop_column.ensures.capacity c.self.invariant.room;
+  closed_room = c.self.invariant.closed_room;
+}
+
+pub returns-clause-well_formed : goal.returns-clause-well_formed
+returns-clause-well_formed c = rw c.drop_column.ensures.items (keeps-drop_column (content_of c.self.inside) c.args.column c.self.invariant.content)
