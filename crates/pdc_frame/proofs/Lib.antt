@@ -11,6 +11,8 @@ pub mod Splitting
 pub mod Readings
 pub mod Framed
 pub mod LongSteps
+pub mod LinearLemmas
+pub mod LaneSteps
 pub mod NearestLemmas
 pub mod SlotLemmas
 pub mod TagLemmas

@@ -17,7 +17,7 @@ whole high low = high * 2 ^ 128 + low
 whole-xor : (a b c d : ℕ) → b < 2 ^ 128 → d < 2 ^ 128 → bit_xor (whole a b) (whole c d) ≡ whole (bit_xor a c) (bit_xor b d)
 whole-xor a b c d b_fits d_fits = xor_block 128 a c b d b_fits d_fits
 
-sixteenth_power : (p : ℕ) → product 80 192 256 p ≡ times_generator (times_generator (times_generator (times_generator (product 20 48 64 (product 40 96 128 p)))))
+pub sixteenth_power : (p : ℕ) → product 80 192 256 p ≡ times_generator (times_generator (times_generator (times_generator (product 20 48 64 (product 40 96 128 p)))))
 sixteenth_power p = sym (product-squared 40 96 128 p) ∙ eighth_power (product 40 96 128 p)
 
 -- the quotient, in halves

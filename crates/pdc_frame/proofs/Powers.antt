@@ -99,7 +99,7 @@ shl-swap j k a = omega arith
 shr-swap : (j k a : ℕ) → a / 2 ^ j / 2 ^ k ≡ a / 2 ^ k / 2 ^ j
 shr-swap j k a = shr-shr a j k ∙ ap (λ (n : ℕ). a / 2 ^ n) (add_comm j k) ∙ sym (shr-shr a k j)
 
-shl-twice : (k a : ℕ) → a * 2 ^ k * 2 ^ k ≡ a * 2 ^ (k + k)
+pub shl-twice : (k a : ℕ) → a * 2 ^ k * 2 ^ k ≡ a * 2 ^ (k + k)
 shl-twice k a = let e : 2 ^ (k + k) ≡ 2 ^ k * 2 ^ k = pow-add 2 k k in rw e (omega arith)
 
 pub product-squared : (i j k a : ℕ) → product i j k (product i j k a) ≡ product (i + i) (j + j) (k + k) a

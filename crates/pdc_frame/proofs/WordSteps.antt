@@ -115,7 +115,7 @@ step_at n state next check at bytes fits le now step =
     (bytes_step state next (fold check_after check (take at bytes)) part (AreBytes-take n (drop at bytes) (AreBytes-drop at bytes fits)) now
     (subst (λ (m : ℕ). IsCongruent (state * 2 ^ (8 * m)) next) (sym len) step))
 
-row_sum : (a m n p r : ℕ) → a * (m * n) + (p * n + r) ≡ (a * m + p) * n + r
+pub row_sum : (a m n p r : ℕ) → a * (m * n) + (p * n + r) ≡ (a * m + p) * n + r
 row_sum a m n p r = omega arith
 
 pub polynomial_of-append : (front rest : List ℕ) → polynomial_of (front ++ rest) ≡ polynomial_of front * 2 ^ (8 * length rest) + polynomial_of rest

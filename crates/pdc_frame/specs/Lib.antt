@@ -1,5 +1,7 @@
 pub mod Bytes
 pub mod CheckWord
+pub mod Linear
+pub mod Lanes
 pub mod Frame
 pub mod Parts
 pub mod Stream
@@ -9,3 +11,4 @@ pub mod Slot
 pub mod Instant
 pub mod Tag
 pub mod Command
+pub mod HeldBytes

@@ -1,7 +1,9 @@
 //! Bytes that frames are appended to.
 ghost use Rattle.std.specs.Prelude.{◌≡◌, ◌+◌, ◌*◌, ◌^◌, ◌<◌, ◌≤◌, ◌++◌, ℕ, List, length, vec_capacity, IsOk, OnOk, OnErr};
+ghost use Rattle.pdc_memory.specs.Asking.{WasRefused};
 
 use arrayvec::ArrayVec;
+use pdc_memory::make_room;
 use std::alloc::{AllocError, Allocator};
 
 /// Bytes that frames are appended to: a `Vec`, whose allocator may give it more room, or an `ArrayVec`, whose room is
@@ -10,8 +12,14 @@ pub trait Buffer {
     // The bytes that it holds,
     ghost content: { Self → List ℕ };
 
-    // and how many it can hold without taking memory.
+    // how many it can hold without taking memory,
     ghost capacity: { Self → ℕ };
+
+    // how many requests for memory it has made,
+    ghost asked: { Self → ℕ };
+
+    // and whether, as it is, its request for so many bytes more was refused.
+    ghost refused: { Self → ℕ → Type 0 };
 
     /// The bytes that it holds.
     fn content(&self) -> &[u8]
@@ -28,20 +36,24 @@ pub trait Buffer {
         ensures room { length (content self.old) + additional ≤ capacity self.old → IsOk result }
         ensures in_place { length (content self.old) + additional ≤ capacity self.old → capacity self.new ≡ capacity self.old }
         ensures err { OnErr result (capacity self.new ≡ capacity self.old) }
-        ensures grown { capacity self.old ≤ capacity self.new };
+        ensures grown { capacity self.old ≤ capacity self.new }
+        ensures refused { OnErr result (refused self.new additional) }
+        ensures unasked { length (content self.old) + additional ≤ capacity self.old → asked self.new ≡ asked self.old };
 
     /// Appends the bytes, for which there is room. It takes no memory.
     fn append_bytes(&mut self, bytes: &[u8])
         requires { length (content self.old) + length bytes.now ≤ capacity self.old }
         ensures bytes { content self.new ≡ content self.old ++ bytes.now }
-        ensures in_place { capacity self.new ≡ capacity self.old };
+        ensures in_place { capacity self.new ≡ capacity self.old }
+        ensures unasked { asked self.new ≡ asked self.old };
 
     /// Appends the bytes, for which there is room: a few, whose number the caller's code tells, so that they are written as numbers. It
     /// takes no memory.
     fn append_few(&mut self, bytes: &[u8])
         requires { length (content self.old) + length bytes.now ≤ capacity self.old }
         ensures bytes { content self.new ≡ content self.old ++ bytes.now }
-        ensures in_place { capacity self.new ≡ capacity self.old };
+        ensures in_place { capacity self.new ≡ capacity self.old }
+        ensures unasked { asked self.new ≡ asked self.old };
 }
 
 /// How many bytes are appended in one step: as many as fill a register.
@@ -84,6 +96,11 @@ impl<A: Allocator> Buffer for Vec<u8, A> {
 
     ghost capacity = { λ v. vec_capacity v };
 
+    // The allocator is the vector's own, and counts nothing.
+    ghost asked = { λ _. 0 };
+
+    ghost refused = { λ _ n. WasRefused n };
+
     #[inline]
     fn content(&self) -> &[u8] {
         self.as_slice()
@@ -91,10 +108,7 @@ impl<A: Allocator> Buffer for Vec<u8, A> {
 
     #[inline]
     fn make_room(&mut self, additional: usize) -> Result<(), AllocError> {
-        if additional <= self.capacity() - self.len() {
-            return Ok(());
-        }
-        self.reserve(additional)
+        make_room(self, additional)
     }
 
     // `extend_from_slice` does not promise that the capacity stays.
@@ -120,6 +134,12 @@ impl<const N: usize> Buffer for ArrayVec<u8, N> {
     ghost content = { λ v. v.items };
 
     ghost capacity = { λ _. N };
+
+    // It asks for none,
+    ghost asked = { λ _. 0 };
+
+    // and there is none to be had.
+    ghost refused = { λ v n. N < length v.items + n };
 
     #[inline]
     fn content(&self) -> &[u8] {

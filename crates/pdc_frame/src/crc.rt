@@ -6,6 +6,8 @@
 ghost use Rattle.std.specs.Prelude.{◌≡◌, ◌+◌, ◌*◌, ◌^◌, ◌≤◌, ◌<◌, ℕ, fold, length, take, drop};
 ghost use Rattle.pdc_frame.specs.CheckWord.{IsCheckWord, IsCongruent, IsRemainder, check_after, check_word_of, high_of_product, polynomial_of};
 
+use crate::lanes::after_blocks;
+
 /// The highest exponent of the generator, x^16 + x^12 + x^5 + 1.
 pub(crate) const DEGREE: u32 = 16;
 
@@ -32,6 +34,9 @@ pub(crate) const WIDE_STEP: usize = 16;
 
 /// The number of bytes of a step.
 pub(crate) const STEP: usize = 8;
+
+/// From so many bytes on, lanes are faster.
+const BLOCKS_FROM: usize = 640;
 
 /// The number of bits of a state.
 pub(crate) const STATE_BITS: usize = 8 * STEP;
@@ -262,6 +267,21 @@ fn check_of_many(bytes: &[u8]) -> u16
     check_of_state(after_rest(narrowed(state), bytes, at))
 }
 
+/// The check word of many bytes, by lanes. A call of its own, so that fewer keep what they need in few registers.
+#[inline(never)]
+fn check_of_blocks(bytes: &[u8]) -> u16
+    requires { LONG_STEP ≤ length bytes.now }
+    ensures remainder { IsCheckWord bytes.now result }
+    ensures value { result ≡ check_word_of bytes.now }
+{
+    let (mut state, mut at) = after_blocks(START, bytes);
+    while bytes.len() - at >= WIDE_STEP {
+        state = wide_moved_up(state) ^ read_wide_step(bytes, at);
+        at += WIDE_STEP;
+    }
+    check_of_state(after_rest(narrowed(state), bytes, at))
+}
+
 /// The check word of the bytes: CRC-CCITT with generator x^16 + x^12 + x^5 + 1, start value FFFF and no final mask
 /// (C37.118.2-2011, annex B).
 pub fn check_word(bytes: &[u8]) -> u16
@@ -270,6 +290,9 @@ pub fn check_word(bytes: &[u8]) -> u16
     // of which there is one.
     ensures value { result ≡ check_word_of bytes.now }
 {
+    if bytes.len() >= BLOCKS_FROM {
+        return check_of_blocks(bytes);
+    }
     if bytes.len() >= LONG_STEP {
         return check_of_many(bytes);
     }

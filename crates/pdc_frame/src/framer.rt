@@ -6,13 +6,13 @@
 //! steps    More      Whole    More            Whole    More
 //! held     4         26       11              26       3 bytes
 //! ```
-ghost use Rattle.std.specs.Prelude.{◌≡◌, ◌+◌, ◌-◌, ◌<◌, ◌≤◌, ◌++◌, ◌⊎◌, ℕ, List, [], length, take, vec_capacity, IfOk, MatchOption};
+ghost use Rattle.std.specs.Prelude.{◌≡◌, ◌+◌, ◌-◌, ◌<◌, ◌≤◌, ◌++◌, ◌⊎◌, ℕ, List, [], length, take, IfOk, MatchOption};
 ghost use Rattle.pdc_frame.specs.Frame.{Fields, Fits, IsFrame, fields_of, spelling_of};
 ghost use Rattle.pdc_frame.specs.Stream.{IsGoing, Shows, IsAt, IsBad, HasTaken, pending_of, given_at};
 
-use crate::buffer::Buffer;
 use crate::fault::FrameFault;
 use crate::frame::Frame;
+use crate::held::HeldBytes;
 use crate::limits::{MAX_SIZE, OVERHEAD, SIZE_PLACE, SYNC_BYTE};
 use crate::reading::{fields_of_whole, is_sync, read_frame};
 use crate::step::Step;
@@ -26,20 +26,20 @@ const SIZE_END: usize = 4;
 /// Finds the frames of a stream, in whatever pieces it comes.
 #[derive(Drop)]
 pub struct Framer<A: Allocator = Global> {
-    held: Vec<u8, A>,
+    held: HeldBytes<A>,
     step: Step,
 }
 
 impl<A: Allocator> Model for Framer<A> {
-    ghost use Rattle.std.specs.Prelude.{◌≤◌, vec_capacity};
+    ghost use Rattle.std.specs.Prelude.{◌≤◌};
     ghost use Rattle.pdc_frame.specs.declared.limits.TheConstants.{MAX_SIZE};
     ghost use Rattle.pdc_frame.specs.Stream.{Held, IsAt};
 
     ghost Value = { Held };
 
-    ghost view = { λ f. record { bytes = f.held.items; step = f.step; room = vec_capacity f.held } };
+    ghost view = { λ f. record { bytes = f.held.items; step = f.step; room = f.held.capacity } };
 
-    ghost invariant = { λ f. record { room : MAX_SIZE ≤ vec_capacity f.held; at : IsAt f.held.items f.step } };
+    ghost invariant = { λ f. record { room : MAX_SIZE ≤ f.held.capacity; at : IsAt f.held.items f.step } };
 }
 
 /// What SYNC and FRAMESIZE say so far.
@@ -58,21 +58,22 @@ fn header_fault(held: &[u8]) -> Option<FrameFault>
 }
 
 /// Takes bytes up to the end of FRAMESIZE.
-fn take_header<A: Allocator>(held: &mut Vec<u8, A>, piece: &[u8]) -> (usize, Step)
-    requires room { MAX_SIZE ≤ vec_capacity held.old }
+fn take_header<A: Allocator>(held: &mut HeldBytes<A>, piece: &[u8]) -> (usize, Step)
+    requires room { MAX_SIZE ≤ held.old.capacity }
     requires going { IsGoing held.old.items }
-    ensures room { vec_capacity held.new ≡ vec_capacity held.old }
+    ensures room { held.new.capacity ≡ held.old.capacity }
     ensures taken { result.0 ≤ length piece.now }
     ensures bytes { held.new.items ≡ held.old.items ++ take result.0 piece.now }
     ensures at { IsAt held.new.items result.1 }
     ensures more { result.1 ≡ Step.More → (result.0 ≡ length piece.now) ⊎ (SIZE_END ≤ length held.new.items) }
     ensures not_whole { result.1 ≡ Step.Whole → ⊥ }
+    ensures some { length held.old.items < SIZE_END → 0 < length piece.now → 0 < result.0 }
 {
     let mut taken = 0;
     while held.len() < SIZE_END && taken < piece.len() {
-        held.push_reserved(piece[taken]);
+        held.push(piece[taken]);
         taken += 1;
-        if let Some(fault) = header_fault(held) {
+        if let Some(fault) = header_fault(held.as_slice()) {
             return (taken, Step::Bad(fault));
         }
     }
@@ -80,37 +81,39 @@ fn take_header<A: Allocator>(held: &mut Vec<u8, A>, piece: &[u8]) -> (usize, Ste
 }
 
 /// Takes bytes up to the end of the frame.
-fn take_rest<A: Allocator>(held: &mut Vec<u8, A>, piece: &[u8]) -> (usize, Step)
-    requires room { MAX_SIZE ≤ vec_capacity held.old }
+fn take_rest<A: Allocator>(held: &mut HeldBytes<A>, piece: &[u8]) -> (usize, Step)
+    requires room { MAX_SIZE ≤ held.old.capacity }
     requires going { IsGoing held.old.items }
     requires header { SIZE_END ≤ length held.old.items }
-    ensures room { vec_capacity held.new ≡ vec_capacity held.old }
+    ensures room { held.new.capacity ≡ held.old.capacity }
     ensures taken { result.0 ≤ length piece.now }
     ensures bytes { held.new.items ≡ held.old.items ++ take result.0 piece.now }
     ensures at { IsAt held.new.items result.1 }
     ensures more { result.1 ≡ Step.More → result.0 ≡ length piece.now }
+    ensures some { 0 < length piece.now → 0 < result.0 }
 {
-    let wanted = usize::from(read_word(held, SIZE_PLACE)) - held.len();
+    let wanted = usize::from(read_word(held.as_slice(), SIZE_PLACE)) - held.len();
     if piece.len() < wanted {
-        held.append_bytes(piece);
+        held.append(piece);
         return (piece.len(), Step::More);
     }
-    held.append_bytes(&piece[..wanted]);
-    match read_frame(held) {
+    held.append(&piece[..wanted]);
+    match read_frame(held.as_slice()) {
         Ok(_) => (wanted, Step::Whole),
         Err(fault) => (wanted, Step::Bad(fault)),
     }
 }
 
 /// Takes bytes up to the end of a frame, of the piece, or the byte that shows a fault.
-fn take_frame<A: Allocator>(held: &mut Vec<u8, A>, piece: &[u8]) -> (usize, Step)
-    requires room { MAX_SIZE ≤ vec_capacity held.old }
+fn take_frame<A: Allocator>(held: &mut HeldBytes<A>, piece: &[u8]) -> (usize, Step)
+    requires room { MAX_SIZE ≤ held.old.capacity }
     requires going { IsGoing held.old.items }
-    ensures room { vec_capacity held.new ≡ vec_capacity held.old }
+    ensures room { held.new.capacity ≡ held.old.capacity }
     ensures taken { result.0 ≤ length piece.now }
     ensures bytes { held.new.items ≡ held.old.items ++ take result.0 piece.now }
     ensures at { IsAt held.new.items result.1 }
     ensures more { result.1 ≡ Step.More → result.0 ≡ length piece.now }
+    ensures some { 0 < length piece.now → 0 < result.0 }
 {
     let (taken, step) = take_header(held, piece);
     if step != Step::More || held.len() < SIZE_END {
@@ -121,10 +124,10 @@ fn take_frame<A: Allocator>(held: &mut Vec<u8, A>, piece: &[u8]) -> (usize, Step
 }
 
 /// The same behind an answer: after a whole frame the next one begins, and a fault stands.
-fn take_next<A: Allocator>(held: &mut Vec<u8, A>, last: Step, piece: &[u8]) -> (usize, Step)
-    requires room { MAX_SIZE ≤ vec_capacity held.old }
+fn take_next<A: Allocator>(held: &mut HeldBytes<A>, last: Step, piece: &[u8]) -> (usize, Step)
+    requires room { MAX_SIZE ≤ held.old.capacity }
     requires at { IsAt held.old.items last }
-    ensures room { vec_capacity held.new ≡ vec_capacity held.old }
+    ensures room { held.new.capacity ≡ held.old.capacity }
     ensures taken { result.0 ≤ length piece.now }
     ensures bytes { held.new.items ≡ pending_of last held.old.items ++ take result.0 piece.now }
     ensures at { IsAt held.new.items result.1 }
@@ -153,7 +156,7 @@ impl<A: Allocator> Framer<A> {
         ensures stream { IfOk result (λ framer. HasTaken [] [] framer) }
     {
         Ok(Framer {
-            held: Vec::with_capacity(alloc, MAX_SIZE)?,
+            held: HeldBytes::with_capacity(alloc, MAX_SIZE)?,
             step: Step::More,
         })
     }
@@ -189,7 +192,7 @@ impl<A: Allocator> Framer<A> {
         requires { self.now.step ≡ Step.Whole }
         ensures { IsFrame self.now.bytes (fields_of result) }
     {
-        fields_of_whole(&self.held)
+        fields_of_whole(self.held.as_slice())
     }
 
     /// The bytes since the end of the last frame; after [`Step::Whole`] and until the next feed, the frame.
@@ -198,6 +201,6 @@ impl<A: Allocator> Framer<A> {
         ensures at { IsAt result.now self.now.step }
     {
         let _ = self.step;
-        &self.held
+        self.held.as_slice()
     }
 }

@@ -5,6 +5,7 @@ ghost use Rattle.std.specs.Int.{w16, to_be_bytes};
 ghost use Rattle.pdc_frame.specs.Bytes.{AreBytes};
 ghost use Rattle.pdc_frame.specs.CheckWord.{IsCheckWord, check_word_of};
 ghost use Rattle.pdc_frame.specs.Frame.{Fields, Fits, header_of, spelling_of, IsFrame, IsFirstFault};
+ghost use Rattle.pdc_frame.specs.Linear.{CheckWordsAreLinear};
 ghost use Rattle.pdc_frame.specs.Parts.{WordsAreTheirBytes, PartsKeepTheirWords};
 ghost use Rattle.pdc_frame.specs.declared.fault.FrameFault.{FrameFault};
 ghost use Rattle.pdc_frame.specs.Stream.{Held, HasTaken, IsRest, Splits, pending_of, fault_of};
@@ -25,6 +26,12 @@ pub fn parts_keep_their_words()
 pub fn check_word_is_the_remainder()
     ensures found { (bytes : List ℕ) → AreBytes bytes → IsCheckWord bytes (check_word_of bytes) }
     ensures only { (bytes : List ℕ) (check : ℕ) → AreBytes bytes → IsCheckWord bytes check → check ≡ check_word_of bytes }
+{}
+
+/// The check words of bytes of one length differ in what follows from the bytes' difference alone, and a difference in front is moved
+/// past the rest.
+pub fn check_words_are_linear()
+    ensures { CheckWordsAreLinear }
 {}
 
 /// A frame is what [`begin_frame`](crate::begin_frame) appends, the payload, and what

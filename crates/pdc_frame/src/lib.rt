@@ -22,11 +22,14 @@ mod command_fault;
 mod command_laws;
 mod crc;
 mod crc_behind;
+mod crc_moved;
 mod fault;
 mod frame;
 mod framer;
 mod header;
+mod held;
 mod id;
+mod lanes;
 mod laws;
 mod limits;
 mod nearest;
@@ -45,14 +48,16 @@ pub use command::{COMMAND_SIZE, Command, read_command, write_command};
 pub use command_fault::CommandFault;
 pub use command_laws::{commands_are_read_in_one_way, headers_are_read_in_one_way};
 pub use crc::check_word;
+pub use crc_moved::{check_word_of_other, moved_past, power_past};
 pub use fault::FrameFault;
 pub use frame::{Frame, Kind};
 pub use framer::Framer;
 pub use header::{MAX_TEXT, read_header, write_header};
 pub use id::StreamId;
 pub use laws::{
-    check_word_is_the_remainder, frames_are_read_in_one_way, frames_are_written_in_parts,
-    parts_keep_their_words, spellings_stand_apart, streams_split_in_one_way, words_are_their_bytes,
+    check_word_is_the_remainder, check_words_are_linear, frames_are_read_in_one_way,
+    frames_are_written_in_parts, parts_keep_their_words, spellings_stand_apart,
+    streams_split_in_one_way, words_are_their_bytes,
 };
 pub use limits::{
     CHECK_LEN, HEADER_LEN, MAX_FRAC, MAX_ID, MAX_PAYLOAD, MAX_SIZE, MAX_VERSION, OVERHEAD,

@@ -118,7 +118,10 @@ pub fn begin_frame<B: Buffer>(
     ensures room { length (B.content out.old) + payload_len + OVERHEAD ≤ B.capacity out.old → IsOk result }
     // Where there was room, it takes no memory.
     ensures in_place { length (B.content out.old) + payload_len + OVERHEAD ≤ B.capacity out.old → B.capacity out.new ≡ B.capacity out.old }
+    ensures unasked { length (B.content out.old) + payload_len + OVERHEAD ≤ B.capacity out.old → B.asked out.new ≡ B.asked out.old }
     ensures capacity { B.capacity out.old ≤ B.capacity out.new }
+    // A request for the whole frame was refused.
+    ensures refused { OnErr result (B.refused out.new (payload_len + OVERHEAD)) }
 {
     let size = payload_len + OVERHEAD;
     let header = header_bytes(head, size as u16);
@@ -135,6 +138,7 @@ pub fn end_frame<B: Buffer>(start: usize, out: &mut B)
     ensures items { B.content out.new ≡ B.content out.old ++ to_be_bytes w16 (check_word_of (drop start (B.content out.old))) }
     ensures len { length (B.content out.new) ≡ length (B.content out.old) + CHECK_LEN }
     ensures in_place { B.capacity out.new ≡ B.capacity out.old }
+    ensures unasked { B.asked out.new ≡ B.asked out.old }
 {
     let check = check_word(&out.content()[start..]);
     out.append_few(&check.to_be_bytes());
@@ -164,7 +168,10 @@ pub fn write_frame<B: Buffer>(frame: &Frame, out: &mut B) -> Result<(), AllocErr
     ensures room { length (B.content out.old) + length (spelling_of (fields_of frame.now)) ≤ B.capacity out.old → IsOk result }
     // Where there was room, it takes no memory.
     ensures in_place { length (B.content out.old) + length (spelling_of (fields_of frame.now)) ≤ B.capacity out.old → B.capacity out.new ≡ B.capacity out.old }
+    ensures unasked { length (B.content out.old) + length (spelling_of (fields_of frame.now)) ≤ B.capacity out.old → B.asked out.new ≡ B.asked out.old }
     ensures capacity { B.capacity out.old ≤ B.capacity out.new }
+    // A request for the whole frame was refused.
+    ensures refused { OnErr result (B.refused out.new (length (spelling_of (fields_of frame.now)))) }
 {
     begin_frame(frame, payload_len(frame.payload), out)?;
     out.append_bytes(frame.payload);

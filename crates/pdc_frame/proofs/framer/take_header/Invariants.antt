@@ -1,10 +1,10 @@
-use Rattle.std.proofs.Common.{◌≡◌, ◌-◌, ◌≤◌, ◌++◌, length, take, vec_capacity}
+use Rattle.std.proofs.Common.{◌≡◌, ◌-◌, ◌≤◌, ◌++◌, length, take}
 use Rattle.pdc_frame.specs.Stream.{IsGoing}
 use Rattle.pdc_frame.proofs.framer.take_header.Given as goal
 
 abbrev pub invariant-loop-held : goal.invariant-loop-held
 invariant-loop-held g l = record {
-  room : vec_capacity l.held ≡ vec_capacity l.initial.held;
+  room : l.held.capacity ≡ l.initial.held.capacity;
   taken : l.taken ≤ length l.piece;
   bytes : l.held.items ≡ l.initial.held.items ++ take l.taken l.piece;
   going : IsGoing l.held.items;

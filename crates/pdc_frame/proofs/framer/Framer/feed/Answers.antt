@@ -1,4 +1,4 @@
-use Rattle.std.proofs.Common.{◌≡◌, ℕ, List, [], ◌++◌, take, subst, sym, ap, ◌∙◌, vec_capacity}
+use Rattle.std.proofs.Common.{◌≡◌, ℕ, List, [], ◌++◌, take, subst, sym, ap, ◌∙◌}
 use Rattle.pdc_frame.specs.Stream.{Held, HasTaken, pending_of}
 use Rattle.pdc_frame.proofs.Streams.{taken_more}
 use Rattle.pdc_frame.proofs.Written.{written_found}
@@ -6,8 +6,8 @@ use Rattle.pdc_frame.proofs.framer.Framer.feed.Goals as goal
 
 pub returns-clause-stream : goal.returns-clause-stream
 returns-clause-stream g c = λ stream frames h.
-    taken_more stream (take c.take_next-taken.result.0 c.args.piece.now) frames (record { bytes = c.self.inside.held.items; step = c.self.inside.step; room = vec_capacity c.self.inside.held })
-    (record { bytes = c.take_next-taken.new.held.items; step = c.take_next-taken.result.1; room = vec_capacity c.take_next-taken.new.held })
+    taken_more stream (take c.take_next-taken.result.0 c.args.piece.now) frames (record { bytes = c.self.inside.held.items; step = c.self.inside.step; room = c.self.inside.held.capacity })
+    (record { bytes = c.take_next-taken.new.held.items; step = c.take_next-taken.result.1; room = c.take_next-taken.new.held.capacity })
     (subst (λ (held : Held). HasTaken stream frames held) (sym c.self.view_is) h) c.take_next-taken.ensures.bytes c.take_next-taken.ensures.at
 
 pub returns-clause-written : goal.returns-clause-written
