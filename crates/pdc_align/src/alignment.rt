@@ -20,6 +20,7 @@ ghost use Rattle.pdc_align.specs.Calls.{column_in, after_hold, after_pop_of, fir
 
 use crate::{Column, Plan, columns};
 use pdc_arrival::{ColumnSection, MAX_PMUS, SectionView, Shape, WaitKind};
+use pdc_memory::Held;
 use pdc_table::{CopyFrom, DueRow, RowLayout, Table, copy_each};
 use std::alloc::{AllocError, Global};
 use std::marker::Model;
@@ -32,7 +33,7 @@ pub struct Alignment<T: Table> {
     pub(crate) ahead: u64,
     pub(crate) current: u64,
     pub(crate) lanes: usize,
-    pub(crate) columns: Vec<Column>,
+    pub(crate) columns: Held<Column>,
     /// The layout under which rows close: the stamp, and the shapes in force.
     pub(crate) layout: RowLayout,
     /// The counts that were cleared last.
@@ -46,7 +47,6 @@ pub struct Alignment<T: Table> {
 
 impl<T: Table> Model for Alignment<T> {
     ghost use Rattle.std.specs.Prelude.{◌≡◌, ◌*◌, ◌∷◌, length, true};
-    ghost use Rattle.std.specs.Vec.{vec_capacity};
     ghost use Rattle.pdc_align.specs.Align.{AlignmentView};
     ghost use Rattle.pdc_align.specs.Kept.{AreQuietAt, shapes_in};
     ghost use Rattle.pdc_align.specs.Popped.{IsPoppedTo};
@@ -65,7 +65,7 @@ impl<T: Table> Model for Alignment<T> {
         columns = a.columns.items;
         content = T.content a.table;
       };
-      memory = vec_capacity a.columns ∷ (2 * length a.columns.items) ∷ T.memory a.table;
+      memory = a.columns.capacity ∷ (2 * length a.columns.items) ∷ T.memory a.table;
       disagreements = T.disagreements a.table;
       popped = a.popped;
     } };
@@ -101,7 +101,7 @@ impl<T: Table> Alignment<T> {
         ensures state { option_map fields_of_view result ≡ (column_in self.now.state column).held }
         ensures life { (g : Given) (E : List Entry) → StandsFor g E self.now.state → option_map fields_of_view result ≡ held_section g E column }
     {
-        self.columns[column].held()
+        self.columns.item(column).held()
     }
 
     /// The section in force for the column.
@@ -110,7 +110,7 @@ impl<T: Table> Alignment<T> {
         ensures state { option_map fields_of_view result ≡ (column_in self.now.state column).in_force }
         ensures life { (g : Given) (E : List Entry) → StandsFor g E self.now.state → option_map fields_of_view result ≡ section_in_force g E column }
     {
-        self.columns[column].in_force()
+        self.columns.item(column).in_force()
     }
 
     /// The count of the section in force for the column. It is looked up without the section.
@@ -118,7 +118,7 @@ impl<T: Table> Alignment<T> {
         requires { column < length self.now.state.columns }
         ensures { result ≡ count_in (column_in self.now.state column).in_force }
     {
-        self.columns[column].count()
+        self.columns.item(column).count()
     }
 
     /// The shape of the section in force for the column. It is looked up without the section.
@@ -126,7 +126,7 @@ impl<T: Table> Alignment<T> {
         requires { column < length self.now.state.columns }
         ensures { (g : Given) (E : List Entry) → StandsFor g E self.now.state → result ≡ shape_in (section_in_force g E column) }
     {
-        self.columns[column].shape()
+        self.columns.item(column).shape()
     }
 
     /// The change number.
@@ -157,7 +157,7 @@ impl<T: Table> Alignment<T> {
         ensures popped { IfOk result (λ a. a.popped ≡ floor) }
     {
         let columns = columns::new_columns(alloc, plan.columns, counts)?;
-        let shapes = columns::shapes(&columns);
+        let shapes = columns::shapes(columns.as_slice());
         Ok(Alignment {
             wait: plan.wait,
             wait_kind: plan.wait_kind,
@@ -204,7 +204,7 @@ impl<T: Table> Alignment<T> {
         ensures state { self.new.state ≡ after_hold self.old.state (map section_part sections.now) }
         ensures unchanged { Unchanged self.old self.new }
     {
-        columns::hold(&mut self.columns, sections);
+        columns::hold(self.columns.as_mut_slice(), sections);
         self.is_quiet = false;
     }
 
@@ -257,7 +257,7 @@ impl<T: Table> Alignment<T> {
         RowLayout {
             start: self.layout.start,
             change: self.layout.change,
-            shapes: columns::shapes(&self.columns),
+            shapes: columns::shapes(self.columns.as_slice()),
         }
     }
 
@@ -265,6 +265,6 @@ impl<T: Table> Alignment<T> {
     pub(crate) fn counts(&self) -> [u16; MAX_PMUS]
         ensures { result ≡ waiting_in self.now.state }
     {
-        columns::waiting(&self.columns)
+        columns::waiting(self.columns.as_slice())
     }
 }

@@ -11,6 +11,7 @@ ghost use Rattle.pdc_align.specs.Calls.{cleared_from, is_ready_in, new_column, r
 use crate::Column;
 use arrayvec::ArrayVec;
 use pdc_arrival::{ColumnSection, MAX_PMUS, Shape};
+use pdc_memory::Held;
 use std::alloc::{AllocError, Global};
 
 /// So many columns for which nothing came, each with its opening count.
@@ -18,13 +19,13 @@ pub fn new_columns(
     alloc: Global,
     count: usize,
     counts: &[u16; MAX_PMUS],
-) -> Result<Vec<Column>, AllocError>
+) -> Result<Held<Column>, AllocError>
     requires { count ≤ MAX_PMUS }
     ensures { IfOk result (λ columns. columns.items ≡ map (new_column counts.now) (range_with_len 0 count)) }
 {
-    let mut columns = Vec::with_capacity(alloc, count)?;
+    let mut columns = Held::with_capacity(alloc, count)?;
     for place in 0..count {
-        columns.push_reserved(Column::new(alloc, counts[place])?);
+        columns.push(Column::new(alloc, counts[place])?);
     }
     Ok(columns)
 }

@@ -5,6 +5,7 @@ ghost use Rattle.pdc_align.specs.Slot.{count_in};
 ghost use Rattle.pdc_align.specs.State.{shape_in};
 
 use pdc_arrival::{Section, SectionView, Shape};
+use pdc_memory::HeldBox;
 use pdc_table::CopyFrom;
 use std::alloc::{AllocError, Global};
 use std::marker::Model;
@@ -15,7 +16,7 @@ use std::marker::Model;
 pub struct Slot {
     count: Option<u16>,
     shape: Option<Shape>,
-    section: Box<Option<Section>>,
+    section: HeldBox<Option<Section>>,
 }
 
 impl Model for Slot {
@@ -38,7 +39,7 @@ impl Slot {
         Ok(Slot {
             count: None,
             shape: None,
-            section: Box::new(alloc, None)?,
+            section: HeldBox::new(alloc, None)?,
         })
     }
 
@@ -46,7 +47,7 @@ impl Slot {
     pub(crate) fn view(&self) -> Option<SectionView<'_>>
         ensures { option_map fields_of_view result ≡ self.now }
     {
-        match &*self.section {
+        match self.section.get() {
             Some(section) => Some(section.view()),
             None => None,
         }
@@ -72,9 +73,9 @@ impl Slot {
     {
         self.count = Some(section.count);
         self.shape = Some(section.shape);
-        match &mut *self.section {
+        match self.section.get_mut() {
             Some(kept) => kept.set(section),
-            None => *self.section = Some(section.to_section()),
+            None => *self.section.get_mut() = Some(section.to_section()),
         }
     }
 }
@@ -86,7 +87,7 @@ impl CopyFrom for Slot {
             None => {
                 self.count = None;
                 self.shape = None;
-                *self.section = None;
+                *self.section.get_mut() = None;
             }
         }
     }

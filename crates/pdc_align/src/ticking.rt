@@ -42,7 +42,7 @@ impl<T: Table> Alignment<T> {
                 used_up: false,
             };
         }
-        let ready = columns::ready(&self.columns);
+        let ready = columns::ready(self.columns.as_slice());
         if self.layout.change == u32::MAX {
             return Ticked {
                 closed,
@@ -98,7 +98,7 @@ impl<T: Table> Alignment<T> {
         if self.is_quiet && self.cleared == *counts {
             return false;
         }
-        let any_ready = columns::clear(&mut self.columns, counts);
+        let any_ready = columns::clear(self.columns.as_mut_slice(), counts);
         self.cleared = *counts;
         self.is_quiet = !any_ready;
         any_ready
@@ -113,9 +113,9 @@ impl<T: Table> Alignment<T> {
         ensures state { self.new.state ≡ after_adopting self.old.state adopted.now }
         ensures unchanged { Unchanged self.old self.new }
     {
-        columns::adopt(&mut self.columns);
+        columns::adopt(self.columns.as_mut_slice());
         adopt_in(&mut self.table, self.lanes, adopted);
-        self.layout.shapes = columns::shapes(&self.columns);
+        self.layout.shapes = columns::shapes(self.columns.as_slice());
         self.is_quiet = false;
         if adopted.is_empty() {
             return None;

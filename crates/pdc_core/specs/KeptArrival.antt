@@ -26,3 +26,9 @@ abbrev pub takes_no_memory : Arrival → Bool
 takes_no_memory (BytesRefused refusal) = true
 takes_no_memory (Data instant quality payload) = nat_le (length payload) 214
 takes_no_memory (Layout stamp sections) = false
+
+-- for how many bytes, or sections, a copy of it asks
+abbrev pub wanted_of : Arrival → ℕ
+wanted_of (BytesRefused refusal) = 0
+wanted_of (Data instant quality payload) = length payload
+wanted_of (Layout stamp sections) = length sections

@@ -1,11 +1,13 @@
 //! What arrived, with its bytes kept: it can be handed on where what was read would not live.
-ghost use Rattle.std.specs.Prelude.{◌≡◌, ◌≤◌, IfOk, IsOk, length, map, true};
-ghost use Rattle.pdc_core.specs.KeptArrival.{kept_part, taken_view, takes_no_memory};
+ghost use Rattle.std.specs.Prelude.{◌≡◌, ◌≤◌, IfOk, IsOk, OnErr, length, map, true};
+ghost use Rattle.pdc_core.specs.KeptArrival.{kept_part, taken_view, takes_no_memory, wanted_of};
+ghost use Rattle.pdc_memory.specs.Asking.{WasRefused};
 ghost use Rattle.pdc_align.specs.pdc_arrival.Views.{arrival_view, section_part};
 
 use crate::{KeptLayout, KeptSection, Payload};
 use arrayvec::ArrayVec;
 use pdc_align::{Arrival, ColumnSection, MAX_PMUS, Refusal};
+use pdc_memory::Held;
 use std::alloc::{AllocError, Global};
 
 /// What bytes said that arrived for a stream.
@@ -27,12 +29,13 @@ pub enum KeptArrival {
 }
 
 /// Copies of the sections.
-fn kept(alloc: Global, sections: &[ColumnSection<'_>]) -> Result<Vec<KeptSection>, AllocError>
-    ensures { IfOk result (λ copies. map kept_part copies.items ≡ map section_part sections.now) }
+fn kept(alloc: Global, sections: &[ColumnSection<'_>]) -> Result<Held<KeptSection>, AllocError>
+    ensures refused { OnErr result (WasRefused (length sections.now)) }
+    ensures copies { IfOk result (λ copies. map kept_part copies.items ≡ map section_part sections.now) }
 {
-    let mut copies = Vec::with_capacity(alloc, sections.len())?;
+    let mut copies = Held::with_capacity(alloc, sections.len())?;
     for part in sections {
-        copies.push_reserved(KeptSection {
+        copies.push(KeptSection {
             column: part.column,
             section: part.section.to_section(),
         });
@@ -63,6 +66,7 @@ impl KeptArrival {
     /// [`AllocError`] where there is no memory. Refused bytes and data of at most 214 bytes take none.
     pub fn keep(alloc: Global, arrival: &Arrival<'_>) -> Result<KeptArrival, AllocError>
         ensures same { IfOk result (λ taken. taken_view taken ≡ arrival_view arrival.now) }
+        ensures refused { OnErr result (WasRefused (wanted_of (arrival_view arrival.now))) }
         ensures in_place { takes_no_memory (arrival_view arrival.now) ≡ true → IsOk result }
     {
         match arrival {

@@ -3,6 +3,7 @@ ghost use Rattle.std.specs.Prelude.{◌≤◌, length};
 ghost use Rattle.pdc_align.specs.pdc_row.declared.limits.TheConstants.{MAX_PMUS};
 
 use pdc_align::{Section, Stamp};
+use pdc_memory::Held;
 
 /// A section of a layout that is kept, beside its column.
 #[derive(Debug, Drop)]
@@ -19,6 +20,6 @@ pub struct KeptLayout {
     /// The stamp, where a node sent it; a PMU's configuration has none.
     pub stamp: Option<Stamp>,
     /// The sections of PMUs, each beside its column, at most 16.
-    pub sections: Vec<KeptSection>,
+    pub sections: Held<KeptSection>,
     pub ghost few: { length sections.items ≤ MAX_PMUS },
 }

@@ -1,8 +1,10 @@
 //! The payload of data that is kept.
-ghost use Rattle.std.specs.Prelude.{◌≡◌, ◌≤◌, IfOk, IsOk, length};
+ghost use Rattle.std.specs.Prelude.{◌≡◌, ◌≤◌, IfOk, IsOk, OnErr, length};
+ghost use Rattle.pdc_memory.specs.Asking.{WasRefused};
 ghost use Rattle.pdc_core.specs.KeptArrival.{bytes_of};
 
 use arrayvec::ArrayVec;
+use pdc_memory::Held;
 use std::alloc::{AllocError, Global};
 
 /// The most bytes of a PMU's data: 107 words.
@@ -14,7 +16,7 @@ pub enum Payload {
     /// At most 214 bytes.
     Short(ArrayVec<u8, SHORT_PAYLOAD>),
     /// More of them.
-    Long(Vec<u8>),
+    Long(Held<u8>),
 }
 
 impl Payload {
@@ -26,14 +28,13 @@ impl Payload {
     pub fn of(alloc: Global, bytes: &[u8]) -> Result<Payload, AllocError>
         ensures value { IfOk result (λ payload. bytes_of payload ≡ bytes.now) }
         ensures short { length bytes.now ≤ 214 → IsOk result }
+        ensures refused { OnErr result (WasRefused (length bytes.now)) }
     {
         let mut short = ArrayVec::new();
         if short.try_extend_from_slice(bytes).is_ok() {
             return Ok(Payload::Short(short));
         }
-        let mut long = Vec::new(alloc);
-        long.extend_from_slice(bytes)?;
-        Ok(Payload::Long(long))
+        Ok(Payload::Long(Held::copy_of(alloc, bytes)?))
     }
 
     /// The bytes.

@@ -1,9 +1,9 @@
 -- Ages that are kept as the counts of ticks at which they were 0.
-use Rattle.std.proofs.Common.{◌≡◌, ℕ, ◌+◌, ◌-◌, ◌<◌, ◌≤◌, ◌^◌, List, [], ◌∷◌, length, get_or, set, map, refl, ap, arith, inl, inr, zero, suc}
-use Rattle.std.specs.List.{All}
+use Rattle.std.proofs.Common.{◌≡◌, ℕ, ◌+◌, ◌-◌, ◌<◌, ◌≤◌, ◌^◌, List, [], ◌∷◌, length, get_or, set, map, refl, ap, sym, ◌∙◌, append-nil, arith, inl, inr, zero, suc}
+use Rattle.std.specs.List.{All, refill}
 use Rattle.std.proofs.lemmas.Bool.{cases_eq}
 use Rattle.std.proofs.lemmas.Grind.{get_or-set_at}
-use Rattle.std.proofs.lemmas.List.{get_or-set_other, length-set}
+use Rattle.std.proofs.lemmas.List.{drop_all, get_or-set_other, length-map, length-set, take_all}
 use Rattle.pdc_table.specs.AgesView.{ages_at, earlier}
 use Rattle.pdc_table.specs.RingRows.{older}
 
@@ -57,3 +57,11 @@ older_back ticks n a h = omega arith
 pub a_tick_earlier : (ticks : ℕ) (since : List ℕ) → ticks ≡ 2 ^ 64 - 1 → AreReached ticks since → ages_at ticks (map earlier since) ≡ map older (ages_at ticks since)
 a_tick_earlier ticks [] h a = refl
 a_tick_earlier ticks (n ∷ ns) h a = rw (older_back ticks n (first_reached ticks n ns a) h, a_tick_earlier ticks ns h (rest_reached ticks n ns a)) refl
+
+-- each of these counts is moved back, where they were lent
+pub moved_back : (since lent new : List ℕ) → lent ≡ since → new ≡ map earlier lent → refill (length since) since new ≡ map earlier since
+moved_back since lent new e h =
+    let len : length (map earlier since) ≡ length since = length-map since earlier in
+    let same : new ≡ map earlier since = h ∙ ap (map earlier) e in
+    ap (refill (length since) since) same
+    ∙ rw (drop_all (length (map earlier since)) since (omega (arith, len)), append-nil (map earlier since)) (take_all (length since) (map earlier since) (omega (arith, len)))

@@ -1,8 +1,6 @@
 -- A table as a ring: each instant has a place, which is its remainder by the window.
 use Rattle.std.specs.Prelude.{◌≡◌, ◌<◌, ◌≤◌, ◌==◌, true, [], ◌∷◌, length}
 use Rattle.std.specs.List.{All, AllByRecursion, list_any}
-use Rattle.std.specs.Vec.{vec_capacity}
-use Rattle.std.specs.VecDeque.{deque_capacity}
 use Rattle.pdc_table.specs.Content.{Content, HasPlaces, IsContent, streams_of}
 use Rattle.pdc_table.specs.TableView.{TableView}
 use Rattle.pdc_open_row.specs.Views.{OpenRowView}
@@ -25,7 +23,7 @@ abbrev pub view_of : Inside → TableView
 view_of t = record {
   content = content_of t;
   disagreements = t.closed.disagree;
-  memory = vec_capacity t.rows.places ∷ t.rows.ages.capacity ∷ vec_capacity t.closed.layouts ∷ vec_capacity t.rows.open ∷ deque_capacity t.closed.instants ∷ [];
+  memory = t.rows.places.capacity ∷ t.rows.ages.capacity ∷ t.closed.layouts.capacity ∷ t.rows.open.capacity ∷ t.closed.instants.capacity ∷ [];
 }
 
 -- There is a place for each instant of the window, and room for each instant that can be held. At the place of an instant that
@@ -41,5 +39,5 @@ pub record IsKept (t : Inside) : Type 0 where
   pub closed_placed : AllByRecursion (λ i. (row_in t.rows.places.items t.circle.window i).instant ≡ i) t.closed.instants.items
   pub known : All (λ (row : OpenRowView). t.closed.last < row.instant → list_any (λ i. i == row.instant) t.rows.open.items ≡ true) t.rows.places.items
   pub stand : StandAbove t.closed.last t.circle.window t.rows.places.items
-  pub room : t.circle.window ≤ vec_capacity t.rows.open
-  pub closed_room : t.circle.window ≤ deque_capacity t.closed.instants
+  pub room : t.circle.window ≤ t.rows.open.capacity
+  pub closed_room : t.circle.window ≤ t.closed.instants.capacity

@@ -1,9 +1,9 @@
 //! The ages of the rows of a ring.
 ghost use Rattle.std.specs.Prelude.{◌≡◌, ◌<◌, length, map, replicate, slice_index_or, slice_set, IfOk};
-ghost use Rattle.std.specs.Vec.{vec_capacity};
 ghost use Rattle.pdc_table.specs.AgesView.{earlier};
 ghost use Rattle.pdc_table.specs.RingRows.{older};
 
+use pdc_memory::Held;
 use std::alloc::{AllocError, Global};
 use std::marker::Model;
 
@@ -13,20 +13,19 @@ pub struct Ages {
     /// How many ticks were counted.
     ticks: u64,
     /// For each place how many there were when its age was 0.
-    since: Vec<u64>,
+    since: Held<u64>,
 }
 
 impl Model for Ages {
     ghost use Rattle.std.specs.Prelude.{◌≤◌};
     ghost use Rattle.std.specs.List.{All};
-    ghost use Rattle.std.specs.Vec.{vec_capacity};
     ghost use Rattle.pdc_table.specs.AgesView.{AgesView, ages_at};
 
     ghost Value = { AgesView };
 
     ghost view = { λ ages. record {
       items = ages_at ages.ticks ages.since.items;
-      capacity = vec_capacity ages.since;
+      capacity = ages.since.capacity;
     } };
 
     ghost invariant = { λ ages. All (λ since. since ≤ ages.ticks) ages.since.items };
@@ -39,7 +38,7 @@ impl Ages {
     {
         Ok(Ages {
             ticks: 0,
-            since: vec![in alloc; 0; count]?,
+            since: Held::filled(alloc, 0, count)?,
         })
     }
 
@@ -61,7 +60,7 @@ impl Ages {
         requires { place < length self.now.items }
         ensures { result ≡ slice_index_or self.now.items place 0 }
     {
-        self.ticks - self.since[place]
+        self.ticks - *self.since.item(place)
     }
 
     /// Makes the age at a place 0.
@@ -71,7 +70,7 @@ impl Ages {
         ensures items { self.new.items ≡ slice_set self.old.items place 0 }
         ensures capacity { self.new.capacity ≡ self.old.capacity }
     {
-        self.since[place] = self.ticks;
+        *self.since.item_mut(place) = self.ticks;
     }
 
     /// Counts one more tick at each place.
@@ -83,18 +82,17 @@ impl Ages {
         if self.ticks < u64::MAX {
             self.ticks += 1;
         } else {
-            move_back(&mut self.since);
+            move_back(self.since.as_mut_slice());
         }
     }
 }
 
 /// Where no tick is left to be counted, each age was 0 a tick earlier.
 #[inline(never)]
-fn move_back(since: &mut Vec<u64>)
-    ensures items { since.new.items ≡ map earlier since.old.items }
-    ensures capacity { vec_capacity since.new ≡ vec_capacity since.old }
+fn move_back(counts: &mut [u64])
+    ensures { counts.new ≡ map earlier counts.old }
 {
-    for since in since.iter_mut() {
+    for since in counts.iter_mut() {
         *since = since.saturating_sub(1);
     }
 }

@@ -22,36 +22,36 @@ use crate::circle::Circle;
 use crate::copied::{copy_at, copy_at_queued};
 use crate::front::is_near;
 use crate::{MAX_COLUMNS, PutOutcome, RowLayout, WaitRule};
+use pdc_memory::{Held, HeldQueue};
 use pdc_open_row::{Blocks, OpenRow, Places, numbers_rise};
 use std::alloc::{AllocError, Global};
-use std::collections::VecDeque;
 
 /// The rows of a ring, and which are open.
 #[derive(Drop)]
 pub struct Rows {
     /// The row of an instant that is held stands at its place.
-    pub places: Vec<OpenRow>,
+    pub places: Held<OpenRow>,
     /// At the same place stands the age of an open row.
     pub ages: Ages,
     /// The open instants, in rising order.
-    pub open: Vec<u64>,
+    pub open: Held<u64>,
 }
 
 /// So many places, in each of which stands a row of no instant.
-fn new_places(alloc: Global, count: usize, sizes: Places) -> Result<Vec<OpenRow>, AllocError>
+fn new_places(alloc: Global, count: usize, sizes: Places) -> Result<Held<OpenRow>, AllocError>
     requires streams { sizes.streams ≤ MAX_COLUMNS }
     requires columns { sizes.columns ≤ MAX_COLUMNS }
     ensures items { IfOk result (λ places. places.items ≡ replicate count (blank_row sizes.streams sizes.columns 0)) }
 {
-    let mut places = Vec::with_capacity(alloc, count)?;
+    let mut places = Held::with_capacity(alloc, count)?;
     for _ in 0..count {
-        places.push_reserved(OpenRow::blank(0, sizes));
+        places.push(OpenRow::blank(0, sizes));
     }
     Ok(places)
 }
 
 /// Whether each held instant is less than the window away.
-fn are_near(open: &[u64], closed: &VecDeque<u64>, window: u64, instant: u64) -> bool
+fn are_near(open: &[u64], closed: &HeldQueue<u64>, window: u64, instant: u64) -> bool
     requires { Rises 0 (closed.now.items ++ open.now) }
     ensures { result ≡ list_all (is_near window instant) (closed.now.items ++ open.now) }
 {
@@ -61,7 +61,7 @@ fn are_near(open: &[u64], closed: &VecDeque<u64>, window: u64, instant: u64) -> 
 }
 
 /// The same for the instant of the circle, where its place may have its row: then it is open, and near all that are held.
-pub fn is_in_window(rows: &Rows, closed: &VecDeque<u64>, here: &Circle) -> bool
+pub fn is_in_window(rows: &Rows, closed: &HeldQueue<u64>, here: &Circle) -> bool
     requires size { length rows.now.places.items ≡ here.now.window }
     requires rising { Rises 0 (closed.now.items ++ rows.now.open.items) }
     requires held_near { AreNear here.now.window (closed.now.items ++ rows.now.open.items) }
@@ -70,12 +70,12 @@ pub fn is_in_window(rows: &Rows, closed: &VecDeque<u64>, here: &Circle) -> bool
     ensures { result ≡ list_all (is_near here.now.window here.now.instant) (closed.now.items ++ rows.now.open.items) }
 {
     numbers_rise();
-    rows.places[here.place].instant() == here.instant
-        || are_near(&rows.open, closed, here.window, here.instant)
+    rows.places.item(here.place).instant() == here.instant
+        || are_near(rows.open.as_slice(), closed, here.window, here.instant)
 }
 
 /// The lowest instant held.
-fn lowest(open: &[u64], closed: &VecDeque<u64>) -> Option<u64>
+fn lowest(open: &[u64], closed: &HeldQueue<u64>) -> Option<u64>
     ensures { result ≡ slice_get (closed.now.items ++ open.now) 0 }
 {
     match closed.front() {
@@ -85,7 +85,7 @@ fn lowest(open: &[u64], closed: &VecDeque<u64>) -> Option<u64>
 }
 
 /// The highest instant held.
-fn highest(open: &[u64], closed: &VecDeque<u64>) -> Option<u64>
+fn highest(open: &[u64], closed: &HeldQueue<u64>) -> Option<u64>
     ensures { result ≡ highest_of (closed.now.items ++ open.now) }
 {
     match (open.last(), closed.back()) {
@@ -97,7 +97,7 @@ fn highest(open: &[u64], closed: &VecDeque<u64>) -> Option<u64>
 
 /// Forgets what was taken of a stream, at each open instant.
 pub fn drop_stream(
-    places: &mut Vec<OpenRow>,
+    places: &mut Held<OpenRow>,
     circle: &Circle,
     open: &[u64],
     lanes: usize,
@@ -107,33 +107,33 @@ pub fn drop_stream(
     requires taken { All (λ (row : OpenRowView). stream < length row.taken) places.old.items }
     requires column { lanes ≡ 1 → All (λ (row : OpenRowView). stream < length row.columns) places.old.items }
     ensures items { places.new.items ≡ changed (without_stream lanes stream) circle.now.window open.now places.old.items }
-    ensures capacity { vec_capacity places.new ≡ vec_capacity places.old }
+    ensures capacity { places.new.capacity ≡ places.old.capacity }
 {
     for instant in open {
         let place = circle.place_of(*instant);
-        places[place].drop_stream(lanes, stream);
+        places.item_mut(place).drop_stream(lanes, stream);
     }
 }
 
 /// Forgets the cells of a column, at each open instant.
-pub fn drop_column(places: &mut Vec<OpenRow>, circle: &Circle, open: &[u64], column: usize)
+pub fn drop_column(places: &mut Held<OpenRow>, circle: &Circle, open: &[u64], column: usize)
     requires size { length places.old.items ≡ circle.now.window }
     requires column { All (λ (row : OpenRowView). column < length row.columns) places.old.items }
     ensures items { places.new.items ≡ changed (without_column column) circle.now.window open.now places.old.items }
-    ensures capacity { vec_capacity places.new ≡ vec_capacity places.old }
+    ensures capacity { places.new.capacity ≡ places.old.capacity }
 {
     for instant in open {
         let place = circle.place_of(*instant);
-        places[place].drop_column(column);
+        places.item_mut(place).drop_column(column);
     }
 }
 
 /// Makes rows those of no instant: all, or else the open ones.
-pub fn leave(places: &mut Vec<OpenRow>, circle: &Circle, open: &[u64], is_all: bool)
+pub fn leave(places: &mut Held<OpenRow>, circle: &Circle, open: &[u64], is_all: bool)
     requires size { length places.old.items ≡ circle.now.window }
     ensures items { places.new.items ≡ (if is_all then map without_instant places.old.items
         else changed without_instant circle.now.window open.now places.old.items) }
-    ensures capacity { vec_capacity places.new ≡ vec_capacity places.old }
+    ensures capacity { places.new.capacity ≡ places.old.capacity }
 {
     if is_all {
         leave_all(places);
@@ -144,24 +144,24 @@ pub fn leave(places: &mut Vec<OpenRow>, circle: &Circle, open: &[u64], is_all: b
 
 /// Makes each row that of no instant.
 #[inline(never)]
-fn leave_all(places: &mut Vec<OpenRow>)
+fn leave_all(places: &mut Held<OpenRow>)
     ensures items { places.new.items ≡ map without_instant places.old.items }
-    ensures capacity { vec_capacity places.new ≡ vec_capacity places.old }
+    ensures capacity { places.new.capacity ≡ places.old.capacity }
 {
-    for row in places.iter_mut() {
-        row.leave();
+    for place in 0..places.len() {
+        places.item_mut(place).leave();
     }
 }
 
 /// Makes the row of each open instant that of none.
-fn leave_open(places: &mut Vec<OpenRow>, circle: &Circle, open: &[u64])
+fn leave_open(places: &mut Held<OpenRow>, circle: &Circle, open: &[u64])
     requires size { length places.old.items ≡ circle.now.window }
     ensures items { places.new.items ≡ changed without_instant circle.now.window open.now places.old.items }
-    ensures capacity { vec_capacity places.new ≡ vec_capacity places.old }
+    ensures capacity { places.new.capacity ≡ places.old.capacity }
 {
     for instant in open {
         let place = circle.place_of(*instant);
-        places[place].leave();
+        places.item_mut(place).leave();
     }
 }
 
@@ -176,27 +176,27 @@ fn rank(open: &[u64], instant: u64) -> usize
 }
 
 /// Puts an instant into its place among rising ones.
-fn open_instant(open: &mut Vec<u64>, instant: u64)
+fn open_instant(open: &mut Held<u64>, instant: u64)
     requires rising { Rises 0 open.old.items }
-    requires room { vec_len open.old < vec_capacity open.old }
+    requires room { length open.old.items < open.old.capacity }
     requires absent { All (λ i. i ≡ instant → ⊥) open.old.items }
     ensures items { open.new.items ≡ place instant open.old.items }
-    ensures capacity { vec_capacity open.new ≡ vec_capacity open.old }
+    ensures capacity { open.new.capacity ≡ open.old.capacity }
 {
     numbers_rise();
-    let at = rank(open, instant);
-    open.insert(at, instant).unwrap();
+    let at = rank(open.as_slice(), instant);
+    open.insert(at, instant);
 }
 
 /// Makes these the open instants, for which there is room.
-fn copy_open(open: &mut Vec<u64>, others: &[u64])
-    requires { length others.now ≤ vec_capacity open.old }
+fn copy_open(open: &mut Held<u64>, others: &[u64])
+    requires { length others.now ≤ open.old.capacity }
     ensures items { open.new.items ≡ others.now }
-    ensures capacity { vec_capacity open.new ≡ vec_capacity open.old }
+    ensures capacity { open.new.capacity ≡ open.old.capacity }
 {
     open.clear();
     for instant in others {
-        open.push_reserved(*instant);
+        open.push(*instant);
     }
 }
 
@@ -208,31 +208,36 @@ impl Rows {
         ensures places { IfOk result (λ rows. rows.places.items ≡ replicate count (blank_row sizes.streams sizes.columns 0)) }
         ensures ages { IfOk result (λ rows. rows.ages.items ≡ replicate count 0) }
         ensures open { IfOk result (λ rows. rows.open.items ≡ []) }
-        ensures room { IfOk result (λ rows. count ≤ vec_capacity rows.open) }
+        ensures room { IfOk result (λ rows. count ≤ rows.open.capacity) }
     {
         Ok(Rows {
             places: new_places(alloc, count, sizes)?,
             ages: Ages::new(alloc, count)?,
-            open: Vec::with_capacity(alloc, count)?,
+            open: Held::with_capacity(alloc, count)?,
         })
     }
 
     /// Makes the open rows, and those of closed instants, those of another ring of as many places. What stands at other places stays.
-    pub fn copy(&mut self, other: &Rows, circle: &Circle, closed: &VecDeque<u64>)
+    pub fn copy(&mut self, other: &Rows, circle: &Circle, closed: &HeldQueue<u64>)
         requires size { length self.old.places.items ≡ circle.now.window }
         requires places { length other.now.places.items ≡ circle.now.window }
         requires ages { length self.old.ages.items ≡ length other.now.ages.items }
-        requires room { length other.now.open.items ≤ vec_capacity self.old.open }
+        requires room { length other.now.open.items ≤ self.old.open.capacity }
         ensures places { self.new.places.items ≡ copied (blank_row 0 0 0) circle.now.window closed.now.items other.now.places.items
             (copied (blank_row 0 0 0) circle.now.window other.now.open.items other.now.places.items self.old.places.items) }
         ensures ages { self.new.ages.items ≡ other.now.ages.items }
         ensures open { self.new.open.items ≡ other.now.open.items }
         ensures ages_capacity { self.new.ages.capacity ≡ self.old.ages.capacity }
-        ensures capacity { vec_capacity self.new.places ≡ vec_capacity self.old.places }
-        ensures open_capacity { vec_capacity self.new.open ≡ vec_capacity self.old.open }
+        ensures capacity { self.new.places.capacity ≡ self.old.places.capacity }
+        ensures open_capacity { self.new.open.capacity ≡ self.old.open.capacity }
     {
         let others = other.places.as_slice();
-        copy_at(self.places.as_mut_slice(), others, circle, &other.open);
+        copy_at(
+            self.places.as_mut_slice(),
+            others,
+            circle,
+            other.open.as_slice(),
+        );
         copy_at_queued(self.places.as_mut_slice(), others, circle, closed);
         self.ages.copy(&other.ages);
         copy_open(&mut self.open, other.open.as_slice());
@@ -252,7 +257,7 @@ impl Rows {
         requires rising { Rises 0 self.old.open.items }
         requires placed { AllByRecursion (λ i. (row_in self.old.places.items here.now.window i).instant ≡ i) self.old.open.items }
         requires room { ((row_in self.old.places.items here.now.window here.now.instant).instant ≡ here.now.instant → ⊥)
-            → vec_len self.old.open < vec_capacity self.old.open }
+            → length self.old.open.items < self.old.open.capacity }
         requires stream { stream < length (row_in self.old.places.items here.now.window here.now.instant).taken }
         requires columns { All (λ (cell : ℕ × CellView). cell.0 < length (row_in self.old.places.items here.now.window here.now.instant).columns) (C.cells blocks.now quality) }
         ensures answer { result ≡ answer_at (met_row here.now.instant (row_in self.old.places.items here.now.window here.now.instant)) stream lane
@@ -266,10 +271,10 @@ impl Rows {
         ensures open { self.new.open.items ≡ (if (row_in self.old.places.items here.now.window here.now.instant).instant == here.now.instant
             then self.old.open.items else place here.now.instant self.old.open.items) }
         ensures ages_capacity { self.new.ages.capacity ≡ self.old.ages.capacity }
-        ensures capacity { vec_capacity self.new.places ≡ vec_capacity self.old.places }
-        ensures open_capacity { vec_capacity self.new.open ≡ vec_capacity self.old.open }
+        ensures capacity { self.new.places.capacity ≡ self.old.places.capacity }
+        ensures open_capacity { self.new.open.capacity ≡ self.old.open.capacity }
     {
-        let row = &mut self.places[here.place];
+        let row = self.places.item_mut(here.place);
         if row.instant() != here.instant {
             row.begin(here.instant);
             self.ages.begin(here.place);
@@ -289,7 +294,11 @@ pub fn count_due(rows: &Rows, circle: &Circle, required: &[bool], rule: WaitRule
     let mut count = 0;
     for instant in rows.open.as_slice() {
         let place = circle.place_of(*instant);
-        if !rows.places[place].is_due(rows.ages.at(place), required, rule) {
+        if !rows
+            .places
+            .item(place)
+            .is_due(rows.ages.at(place), required, rule)
+        {
             return count;
         }
         count += 1;
@@ -311,7 +320,7 @@ pub fn count_disagreements(
     let mut count = so_far;
     for instant in due {
         let place = circle.place_of(*instant);
-        count = count.saturating_add(rows.places[place].disagreements(layout));
+        count = count.saturating_add(rows.places.item(place).disagreements(layout));
     }
     count
 }

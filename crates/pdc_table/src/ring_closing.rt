@@ -2,7 +2,6 @@
 ghost use Rattle.std.specs.Prelude.{◌≡◌, ◌+◌, ◌≤◌, ◌++◌, [], drop, false, length, option_map, replicate, IfOk, take, vec_len};
 ghost use Rattle.std.specs.List.{AllByRecursion, slice_get};
 ghost use Rattle.std.specs.Vec.{vec_capacity};
-ghost use Rattle.std.specs.VecDeque.{deque_capacity, deque_len};
 ghost use Rattle.pdc_open_row.specs.pdc_row.Quality.{greatest};
 ghost use Rattle.pdc_open_row.specs.pdc_row.Rising.{Rises};
 ghost use Rattle.pdc_open_row.specs.pdc_row.RowView.{row_view};
@@ -18,17 +17,17 @@ use crate::copied::copy_at_queued;
 use crate::ring::{Rows, count_disagreements, count_due};
 use crate::{ClosingLayout, RowLayout, WaitRule};
 use arrayvec::ArrayVec;
+use pdc_memory::{Held, HeldQueue};
 use pdc_open_row::DueRow;
 use std::alloc::{AllocError, Global};
-use std::collections::VecDeque;
 
 /// What is closed of a ring and was not popped, and what every closing adds to.
 #[derive(Drop)]
 pub struct Closed {
     /// The closed instants that were not popped, in rising order: their rows stay at their places.
-    pub instants: VecDeque<u64>,
+    pub instants: HeldQueue<u64>,
     /// At the same place stands the layout that a closed row closed under.
-    pub layouts: Vec<ClosingLayout>,
+    pub layouts: Held<ClosingLayout>,
     /// The greatest instant closed, at first the floor.
     pub last: u64,
     /// The count of disagreements.
@@ -36,35 +35,35 @@ pub struct Closed {
 }
 
 /// So many places for the layouts of closed rows.
-fn new_layouts(alloc: Global, count: usize) -> Result<Vec<ClosingLayout>, AllocError>
+fn new_layouts(alloc: Global, count: usize) -> Result<Held<ClosingLayout>, AllocError>
     ensures items { IfOk result (λ layouts. layouts.items ≡ replicate count no_layout) }
 {
-    let mut layouts = Vec::with_capacity(alloc, count)?;
+    let mut layouts = Held::with_capacity(alloc, count)?;
     for _ in 0..count {
-        layouts.push_reserved(ClosingLayout::blank());
+        layouts.push(ClosingLayout::blank());
     }
     Ok(layouts)
 }
 
 /// Closes these instants under a layout, in order: their rows stay at their places.
 fn close(
-    layouts: &mut Vec<ClosingLayout>,
+    layouts: &mut Held<ClosingLayout>,
     circle: &Circle,
     due: &[u64],
     layout: &RowLayout,
-    closed: &mut VecDeque<u64>,
+    closed: &mut HeldQueue<u64>,
 )
     requires size { length layouts.old.items ≡ circle.now.window }
-    requires room { deque_len closed.old + length due.now ≤ deque_capacity closed.old }
+    requires room { length closed.old.items + length due.now ≤ closed.old.capacity }
     ensures layouts { layouts.new.items ≡ laid (layout_view layout.now) circle.now.window due.now layouts.old.items }
     ensures items { closed.new.items ≡ closed.old.items ++ due.now }
-    ensures layouts_capacity { vec_capacity layouts.new ≡ vec_capacity layouts.old }
-    ensures capacity { deque_capacity closed.new ≡ deque_capacity closed.old }
+    ensures layouts_capacity { layouts.new.capacity ≡ layouts.old.capacity }
+    ensures capacity { closed.new.capacity ≡ closed.old.capacity }
 {
     for instant in due {
         let place = circle.place_of(*instant);
-        layouts[place].set(layout);
-        closed.push_back_reserved(*instant);
+        layouts.item_mut(place).set(layout);
+        closed.push_back(*instant);
     }
 }
 
@@ -80,14 +79,14 @@ fn greatest(due: &[u64], last: u64) -> u64
 }
 
 /// Makes these the closed instants, for which there is room.
-fn copy_closed(closed: &mut VecDeque<u64>, others: &VecDeque<u64>)
-    requires { deque_len others.now ≤ deque_capacity closed.old }
+fn copy_closed(closed: &mut HeldQueue<u64>, others: &HeldQueue<u64>)
+    requires { length others.now.items ≤ closed.old.capacity }
     ensures items { closed.new.items ≡ others.now.items }
-    ensures capacity { deque_capacity closed.new ≡ deque_capacity closed.old }
+    ensures capacity { closed.new.capacity ≡ closed.old.capacity }
 {
     closed.clear();
     for place in 0..others.len() {
-        closed.push_back_reserved(others[place]);
+        closed.push_back(*others.item(place));
     }
 }
 
@@ -95,13 +94,13 @@ impl Closed {
     /// Nothing closed above the floor, with room for so many rows.
     pub fn new(alloc: Global, count: usize, floor: u64) -> Result<Closed, AllocError>
         ensures instants { IfOk result (λ closed. closed.instants.items ≡ []) }
-        ensures room { IfOk result (λ closed. count ≤ deque_capacity closed.instants) }
+        ensures room { IfOk result (λ closed. count ≤ closed.instants.capacity) }
         ensures layouts { IfOk result (λ closed. closed.layouts.items ≡ replicate count no_layout) }
         ensures last { IfOk result (λ closed. closed.last ≡ floor) }
         ensures disagree { IfOk result (λ closed. closed.disagree ≡ 0) }
     {
         Ok(Closed {
-            instants: VecDeque::with_capacity(alloc, count)?,
+            instants: HeldQueue::with_capacity(alloc, count)?,
             layouts: new_layouts(alloc, count)?,
             last: floor,
             disagree: 0,
@@ -112,13 +111,13 @@ impl Closed {
     pub fn copy(&mut self, other: &Closed, circle: &Circle)
         requires size { length self.old.layouts.items ≡ circle.now.window }
         requires layouts { length other.now.layouts.items ≡ circle.now.window }
-        requires room { deque_len other.now.instants ≤ deque_capacity self.old.instants }
+        requires room { length other.now.instants.items ≤ self.old.instants.capacity }
         ensures instants { self.new.instants.items ≡ other.now.instants.items }
         ensures layouts { self.new.layouts.items ≡ copied no_layout circle.now.window other.now.instants.items other.now.layouts.items self.old.layouts.items }
         ensures last { self.new.last ≡ other.now.last }
         ensures disagree { self.new.disagree ≡ other.now.disagree }
-        ensures layouts_capacity { vec_capacity self.new.layouts ≡ vec_capacity self.old.layouts }
-        ensures capacity { deque_capacity self.new.instants ≡ deque_capacity self.old.instants }
+        ensures layouts_capacity { self.new.layouts.capacity ≡ self.old.layouts.capacity }
+        ensures capacity { self.new.instants.capacity ≡ self.old.instants.capacity }
     {
         copy_closed(&mut self.instants, &other.instants);
         let others = other.layouts.as_slice();
@@ -142,7 +141,7 @@ impl Closed {
         requires layouts_size { length self.old.layouts.items ≡ circle.now.window }
         requires rising { Rises self.old.last rows.now.open.items }
         requires placed { AllByRecursion (λ i. (row_in (with_ages rows.now.places.items rows.now.ages.items) circle.now.window i).instant ≡ i) rows.now.open.items }
-        requires room { deque_len self.old.instants + vec_len rows.now.open ≤ deque_capacity self.old.instants }
+        requires room { length self.old.instants.items + length rows.now.open.items ≤ self.old.instants.capacity }
         ensures answer { result ≡ length (closing required.now rule (rows_in (with_ages rows.now.places.items rows.now.ages.items) circle.now.window rows.now.open.items)) }
         ensures bound { result ≤ length rows.now.open.items }
         ensures staying { rows_in (with_ages rows.now.places.items rows.now.ages.items) circle.now.window (drop result rows.now.open.items)
@@ -156,11 +155,11 @@ impl Closed {
             (instants_of (closing required.now rule (rows_in (with_ages rows.now.places.items rows.now.ages.items) circle.now.window rows.now.open.items))) }
         ensures disagree { self.new.disagree ≡ counter (self.old.disagree + disagreements_in (layout_view layout.now)
             (closing required.now rule (rows_in (with_ages rows.now.places.items rows.now.ages.items) circle.now.window rows.now.open.items))) }
-        ensures layouts_capacity { vec_capacity self.new.layouts ≡ vec_capacity self.old.layouts }
-        ensures capacity { deque_capacity self.new.instants ≡ deque_capacity self.old.instants }
+        ensures layouts_capacity { self.new.layouts.capacity ≡ self.old.layouts.capacity }
+        ensures capacity { self.new.instants.capacity ≡ self.old.instants.capacity }
     {
         let count = count_due(rows, circle, required, rule);
-        let due = &rows.open[..count];
+        let due = &rows.open.as_slice()[..count];
         close(&mut self.layouts, circle, due, layout, &mut self.instants);
         self.last = greatest(due, self.last);
         self.disagree = count_disagreements(rows, circle, due, layout, self.disagree);
@@ -169,7 +168,7 @@ impl Closed {
 }
 
 /// The lowest closed instant.
-pub fn first(closed: &VecDeque<u64>) -> Option<u64>
+pub fn first(closed: &HeldQueue<u64>) -> Option<u64>
     ensures { result ≡ slice_get closed.now.items 0 }
 {
     closed.front().copied()
@@ -181,17 +180,17 @@ pub fn pop(
     rows: &Rows,
     layouts: &[ClosingLayout],
     circle: &Circle,
-    closed: &mut VecDeque<u64>,
+    closed: &mut HeldQueue<u64>,
 ) -> Option<DueRow>
     requires size { length rows.now.places.items ≡ circle.now.window }
     requires layouts_size { length layouts.now ≡ circle.now.window }
     ensures row { option_map row_view result ≡ slice_get (closed_rows rows.now.places.items layouts.now circle.now.window closed.old.items) 0 }
     ensures rest { closed.new.items ≡ drop 1 closed.old.items }
-    ensures capacity { deque_capacity closed.new ≡ deque_capacity closed.old }
+    ensures capacity { closed.new.capacity ≡ closed.old.capacity }
 {
     let instant = closed.pop_front()?;
     let place = circle.place_of(instant);
-    let open_row = &rows.places[place];
+    let open_row = rows.places.item(place);
     let layout = layouts[place].layout();
     let mut row = DueRow {
         instant: open_row.instant(),
@@ -209,7 +208,7 @@ pub fn pop_into(
     rows: &Rows,
     layouts: &[ClosingLayout],
     circle: &Circle,
-    closed: &mut VecDeque<u64>,
+    closed: &mut HeldQueue<u64>,
     row: &mut DueRow,
 ) -> bool
     requires size { length rows.now.places.items ≡ circle.now.window }
@@ -217,12 +216,14 @@ pub fn pop_into(
     ensures row { popped_into result row.new ≡ slice_get (closed_rows rows.now.places.items layouts.now circle.now.window closed.old.items) 0 }
     ensures none { result ≡ false → row.new ≡ row.old }
     ensures rest { closed.new.items ≡ drop 1 closed.old.items }
-    ensures capacity { deque_capacity closed.new ≡ deque_capacity closed.old }
+    ensures capacity { closed.new.capacity ≡ closed.old.capacity }
 {
     let Some(instant) = closed.pop_front() else {
         return false;
     };
     let place = circle.place_of(instant);
-    rows.places[place].close_into(layouts[place].layout(), row);
+    rows.places
+        .item(place)
+        .close_into(layouts[place].layout(), row);
     true
 }

@@ -6,9 +6,7 @@ ghost use Rattle.pdc_table.specs.Steps.{after_put, put_answer};
 use crate::circle::Circle;
 use crate::ring::Rows;
 use crate::ring_closing::Closed;
-use crate::{
-    MAX_COLUMNS, PutOutcome, RowLayout, Table, WaitRule, remove_front, ring, ring_closing,
-};
+use crate::{MAX_COLUMNS, PutOutcome, RowLayout, Table, WaitRule, ring, ring_closing};
 use arrayvec::ArrayVec;
 use pdc_open_row::{
     Block, Blocks, Body, Cut, DueRow, Listed, Part, Places, copy_items, falses, lane_of,
@@ -121,7 +119,7 @@ impl Table for RingTable {
         ring::leave(
             &mut self.rows.places,
             &other.circle,
-            &self.rows.open,
+            self.rows.open.as_slice(),
             is_later,
         );
         self.rows
@@ -175,7 +173,7 @@ impl Table for RingTable {
         } = self;
         rows.ages.grow_older();
         let count = closed.close_due(rows, circle, required.as_slice(), rule, layout);
-        remove_front(&mut rows.open, count);
+        rows.open.remove_front(count);
         count as u32
     }
 
@@ -187,13 +185,19 @@ impl Table for RingTable {
             rows,
             ..
         } = self;
-        ring::drop_stream(&mut rows.places, circle, &rows.open, *lanes, stream);
+        ring::drop_stream(
+            &mut rows.places,
+            circle,
+            rows.open.as_slice(),
+            *lanes,
+            stream,
+        );
     }
 
     fn drop_column(&mut self, column: usize) {
         numbers_rise();
         let RingTable { circle, rows, .. } = self;
-        ring::drop_column(&mut rows.places, circle, &rows.open, column);
+        ring::drop_column(&mut rows.places, circle, rows.open.as_slice(), column);
     }
 
     fn pop_due(&mut self) -> Option<DueRow> {
@@ -204,7 +208,12 @@ impl Table for RingTable {
             closed,
             ..
         } = self;
-        ring_closing::pop(rows, &closed.layouts, circle, &mut closed.instants)
+        ring_closing::pop(
+            rows,
+            closed.layouts.as_slice(),
+            circle,
+            &mut closed.instants,
+        )
     }
 
     fn pop_into(&mut self, row: &mut DueRow) -> bool {
@@ -215,7 +224,13 @@ impl Table for RingTable {
             closed,
             ..
         } = self;
-        ring_closing::pop_into(rows, &closed.layouts, circle, &mut closed.instants, row)
+        ring_closing::pop_into(
+            rows,
+            closed.layouts.as_slice(),
+            circle,
+            &mut closed.instants,
+            row,
+        )
     }
 
     fn next_due(&self) -> Option<u64> {

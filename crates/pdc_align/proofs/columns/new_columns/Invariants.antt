@@ -1,6 +1,5 @@
-use Rattle.std.proofs.Common.{◌≡◌, ◌≤◌, map, vec_len}
+use Rattle.std.proofs.Common.{◌≡◌, ◌≤◌, length, map}
 use Rattle.std.specs.List.{range_with_len}
-use Rattle.std.specs.Vec.{vec_capacity}
 use Rattle.pdc_align.specs.Calls.{new_column}
 use Rattle.pdc_align.proofs.columns.new_columns.Given as goal
 
@@ -8,6 +7,6 @@ use Rattle.pdc_align.proofs.columns.new_columns.Given as goal
 abbrev pub invariant-loop-place : goal.invariant-loop-place
 invariant-loop-place l = record {
   items : l.columns.items ≡ map (new_column l.counts) (range_with_len 0 l.place);
-  len : vec_len l.columns ≡ l.place;
-  room : l.count ≤ vec_capacity l.columns;
+  len : length l.columns.items ≡ l.place;
+  room : l.count ≤ l.columns.capacity;
 }

@@ -1,10 +1,9 @@
 use Rattle.std.proofs.Common.{◌≡◌, take}
-use Rattle.std.specs.Vec.{vec_capacity}
 use Rattle.pdc_table.proofs.ring.copy_open.Given as goal
 
 -- as many as were looked at stand in the list
 abbrev pub invariant-loop-instant : goal.invariant-loop-instant
 invariant-loop-instant l = record {
   items : l.open.items ≡ take l.instant-index l.others;
-  capacity : vec_capacity l.open ≡ vec_capacity l.initial.open;
+  capacity : l.open.capacity ≡ l.initial.open.capacity;
 }

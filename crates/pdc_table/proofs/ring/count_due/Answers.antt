@@ -35,14 +35,14 @@ loop-instant-preserved c = record {
   counted = omega arith;
   left = goes_on _ _ _ _ _
       (prefix_step (is_due c.args.required.now c.args.rule) (with_ages c.args.rows.now.places.items c.args.rows.now.ages.items) c.args.circle.now.window c.as_slice-instant-items.result.now c.loop-instant.instant-index c.loop-instant-test.true)
-      c.loop-instant.invariant.left (due_at c.args.required.now c.args.rule c.args.rows.now.places.items c.args.rows.now.ages.items c.args.circle.now.window (get_or c.as_slice-instant-items.result.now c.loop-instant.instant-index 0) c.place_of-place.result c.at.result c.index.result.now c.is_due.result
-      c.args.circle.now.least c.requires.size c.requires.ages_size c.place_of-place.ensures.value c.index.ensures c.at.ensures c.is_due.ensures ∙ c.if-not-is_due.false);
+      c.loop-instant.invariant.left (due_at c.args.required.now c.args.rule c.args.rows.now.places.items c.args.rows.now.ages.items c.args.circle.now.window (get_or c.as_slice-instant-items.result.now c.loop-instant.instant-index 0) c.place_of-place.result c.at.result c.item.result.now c.is_due.result
+      c.args.circle.now.least c.requires.size c.requires.ages_size c.place_of-place.ensures.value c.item.ensures c.at.ensures c.is_due.ensures ∙ c.if-not-is_due.false);
 }
 
 pub returns-then-not-is_due-clause-count : goal.returns-then-not-is_due-clause-count
 returns-then-not-is_due-clause-count c =
     ends _ _ _ _ _
     (prefix_step (is_due c.args.required.now c.args.rule) (with_ages c.args.rows.now.places.items c.args.rows.now.ages.items) c.args.circle.now.window c.as_slice-instant-items.result.now c.loop-instant.instant-index c.loop-instant-test.true)
-    c.loop-instant.invariant.left (due_at c.args.required.now c.args.rule c.args.rows.now.places.items c.args.rows.now.ages.items c.args.circle.now.window (get_or c.as_slice-instant-items.result.now c.loop-instant.instant-index 0) c.place_of-place.result c.at.result c.index.result.now c.is_due.result
-    c.args.circle.now.least c.requires.size c.requires.ages_size c.place_of-place.ensures.value c.index.ensures c.at.ensures c.is_due.ensures ∙ c.if-not-is_due.true)
+    c.loop-instant.invariant.left (due_at c.args.required.now c.args.rule c.args.rows.now.places.items c.args.rows.now.ages.items c.args.circle.now.window (get_or c.as_slice-instant-items.result.now c.loop-instant.instant-index 0) c.place_of-place.result c.at.result c.item.result.now c.is_due.result
+    c.args.circle.now.least c.requires.size c.requires.ages_size c.place_of-place.ensures.value c.item.ensures c.at.ensures c.is_due.ensures ∙ c.if-not-is_due.true)
     ∙ ap (λ is. prefix_len (is_due c.args.required.now c.args.rule) (rows_in (with_ages c.args.rows.now.places.items c.args.rows.now.ages.items) c.args.circle.now.window is)) c.as_slice-instant-items.ensures.value

@@ -1,6 +1,5 @@
 use Rattle.std.proofs.Common.{◌≡◌, ◌<◌, drop, length}
 use Rattle.std.specs.List.{All}
-use Rattle.std.specs.Vec.{vec_capacity}
 use Rattle.pdc_table.specs.RingRows.{changed}
 use Rattle.pdc_open_row.specs.Taking.{without_column}
 use Rattle.pdc_open_row.specs.Views.{OpenRowView}
@@ -11,5 +10,5 @@ invariant-loop-instant l = record {
   left : changed (without_column l.column) l.circle.window (drop l.instant-index l.open) l.places.items ≡ changed (without_column l.column) l.circle.window l.open l.initial.places.items;
   size : length l.places.items ≡ l.circle.window;
   columns : All (λ (row : OpenRowView). l.column < length row.columns) l.places.items;
-  capacity : vec_capacity l.places ≡ vec_capacity l.initial.places;
+  capacity : l.places.capacity ≡ l.initial.places.capacity;
 }

@@ -1,6 +1,5 @@
 use Rattle.std.proofs.Common.{◌≡◌, ◌<◌, drop, length}
 use Rattle.std.specs.List.{All}
-use Rattle.std.specs.Vec.{vec_capacity}
 use Rattle.pdc_table.specs.RingRows.{changed}
 use Rattle.pdc_open_row.specs.Taking.{without_stream}
 use Rattle.pdc_open_row.specs.Views.{OpenRowView}
@@ -12,5 +11,5 @@ invariant-loop-instant l = record {
   size : length l.places.items ≡ l.circle.window;
   taken : All (λ (row : OpenRowView). l.stream < length row.taken) l.places.items;
   columns : l.lanes ≡ 1 → All (λ (row : OpenRowView). l.stream < length row.columns) l.places.items;
-  capacity : vec_capacity l.places ≡ vec_capacity l.initial.places;
+  capacity : l.places.capacity ≡ l.initial.places.capacity;
 }

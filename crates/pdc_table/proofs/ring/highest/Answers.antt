@@ -1,5 +1,4 @@
 use Rattle.std.proofs.Common.{rules, ◌≡◌, ◌++◌, ◌∙◌, sym, ap, append-nil, length, refl}
-use Rattle.std.specs.VecDeque.{deque_len}
 use Rattle.pdc_open_row.specs.pdc_row.Rising.{highest_of}
 use Rattle.pdc_table.proofs.Highest.{highest_last, highest_number, no_numbers}
 use Rattle.pdc_table.proofs.ring.highest.Goals as goal
@@ -10,7 +9,7 @@ returns-in-Some-default c =
 
 pub returns-in-None-Some : goal.returns-in-None-Some
 returns-in-None-Some c =
-    let len : deque_len c.args.closed.now ≡ length c.args.closed.now.items = search rules in
+    let len : length c.args.closed.now.items ≡ length c.args.closed.now.items = search rules in
     sym (ap (λ ns. highest_of (c.args.closed.now.items ++ ns)) (no_numbers c.args.open.now c.in-None-Some.ensures.item.0)
     ∙ ap highest_of (append-nil c.args.closed.now.items)
-    ∙ highest_last c.args.closed.now.items c.in-None-Some.instant.now (deque_len c.args.closed.now) len (c.in-None-Some.ensures'.variant.0 refl) c.in-None-Some.ensures'.lookup)
+    ∙ highest_last c.args.closed.now.items c.in-None-Some.instant.now (length c.args.closed.now.items) len (c.in-None-Some.ensures'.variant.0 refl) c.in-None-Some.ensures'.lookup)

@@ -9,9 +9,9 @@ use Rattle.pdc_table.proofs.ring.is_in_window.Goals as goal
 
 pub returns-then-instant-here : goal.returns-then-instant-here
 returns-then-instant-here c =
-    let row : c.index.result.now ≡ row_in c.args.rows.now.places.items c.args.here.now.window c.args.here.now.instant =
-    c.index.ensures
-    ∙ get_or_default c.args.rows.now.places.items c.args.here.now.place c.index.result.now (blank_row 0 0 0)
+    let row : c.item.result.now ≡ row_in c.args.rows.now.places.items c.args.here.now.window c.args.here.now.instant =
+    c.item.ensures
+    ∙ get_or_default c.args.rows.now.places.items c.args.here.now.place c.item.result.now (blank_row 0 0 0)
     (omega (arith, c.args.here.now.known, mod-lt c.args.here.now.instant c.args.here.now.least, c.requires.size))
     ∙ ap (λ k. get_or c.args.rows.now.places.items k (blank_row 0 0 0)) c.args.here.now.known in
     let here : (row_in c.args.rows.now.places.items c.args.here.now.window c.args.here.now.instant).instant ≡ c.args.here.now.instant =

@@ -1,5 +1,4 @@
 use Rattle.std.proofs.Common.{◌≡◌, drop, length}
-use Rattle.std.specs.Vec.{vec_capacity}
 use Rattle.pdc_table.specs.RingRows.{changed}
 use Rattle.pdc_open_row.specs.Views.{without_instant}
 use Rattle.pdc_table.proofs.ring.leave_open.Given as goal
@@ -8,5 +7,5 @@ abbrev pub invariant-loop-instant : goal.invariant-loop-instant
 invariant-loop-instant l = record {
   left : changed without_instant l.circle.window (drop l.instant-index l.open) l.places.items ≡ changed without_instant l.circle.window l.open l.initial.places.items;
   size : length l.places.items ≡ l.circle.window;
-  capacity : vec_capacity l.places ≡ vec_capacity l.initial.places;
+  capacity : l.places.capacity ≡ l.initial.places.capacity;
 }

@@ -1,6 +1,4 @@
 use Rattle.std.proofs.Common.{◌≡◌, ◌+◌, ◌++◌, drop, length, take}
-use Rattle.std.specs.Vec.{vec_capacity}
-use Rattle.std.specs.VecDeque.{deque_capacity, deque_len}
 use Rattle.pdc_open_row.specs.Layout.{layout_view}
 use Rattle.pdc_table.specs.RingRows.{laid}
 use Rattle.pdc_table.proofs.ring_closing.close.Given as goal
@@ -10,7 +8,7 @@ invariant-loop-instant l = record {
   left : laid (layout_view l.layout) l.circle.window (drop l.instant-index l.due) l.layouts.items ≡ laid (layout_view l.layout) l.circle.window l.due l.initial.layouts.items;
   size : length l.layouts.items ≡ l.circle.window;
   items : l.closed.items ≡ l.initial.closed.items ++ take l.instant-index l.due;
-  len : deque_len l.closed ≡ deque_len l.initial.closed + l.instant-index;
-  layouts_capacity : vec_capacity l.layouts ≡ vec_capacity l.initial.layouts;
-  capacity : deque_capacity l.closed ≡ deque_capacity l.initial.closed;
+  len : length l.closed.items ≡ length l.initial.closed.items + l.instant-index;
+  layouts_capacity : l.layouts.capacity ≡ l.initial.layouts.capacity;
+  capacity : l.closed.capacity ≡ l.initial.closed.capacity;
 }

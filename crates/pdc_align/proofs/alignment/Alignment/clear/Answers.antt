@@ -10,15 +10,15 @@ invariant_of-self g c =
     let old = c.self.inside.columns.items in
     let new = c.clear-any_ready.new.columns in
     let counts = c.args.counts.now in
-    let whole : refill c.self.inside.columns.len old new ≡ new =
-    rewritten c.self.inside.columns.len old c.deref_mut.result.now new c.deref_mut.ensures.value c.deref_mut.ensures.len c.clear-any_ready.auto.columns in
-    let cleared : refill c.self.inside.columns.len old new ≡ cleared_from 0 counts old =
-    whole ∙ c.clear-any_ready.ensures.columns ∙ ap (cleared_from 0 counts) c.deref_mut.ensures.value in
+    let whole : refill (length c.self.inside.columns.items) old new ≡ new =
+    rewritten (length c.self.inside.columns.items) old c.as_mut_slice.result.now new c.as_mut_slice.ensures.value c.as_mut_slice.ensures.len c.clear-any_ready.auto.columns in
+    let cleared : refill (length c.self.inside.columns.items) old new ≡ cleared_from 0 counts old =
+    whole ∙ c.clear-any_ready.ensures.columns ∙ ap (cleared_from 0 counts) c.as_mut_slice.ensures.value in
     record {
       well_formed = c.self.invariant.well_formed;
-      each = ap length whole ∙ c.clear-any_ready.auto.columns ∙ ap length c.deref_mut.ensures.value ∙ c.self.invariant.each;
+      each = ap length whole ∙ c.clear-any_ready.auto.columns ∙ ap length c.as_mut_slice.ensures.value ∙ c.self.invariant.each;
       lanes = c.self.invariant.lanes;
       gone = c.self.invariant.gone;
       shapes = c.self.invariant.shapes ∙ sym (ap shapes_in cleared ∙ shapes_cleared 0 counts old);
-      quiet = quiet_after counts old (refill c.self.inside.columns.len old new) c.clear-any_ready.result cleared (c.clear-any_ready.ensures.ready ∙ ap (list_any is_ready_in) (sym whole));
+      quiet = quiet_after counts old (refill (length c.self.inside.columns.items) old new) c.clear-any_ready.result cleared (c.clear-any_ready.ensures.ready ∙ ap (list_any is_ready_in) (sym whole));
     }

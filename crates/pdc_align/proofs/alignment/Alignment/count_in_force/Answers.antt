@@ -9,5 +9,5 @@ pub returns : goal.returns
 returns g c =
     c.count.ensures
     ∙ ap (λ (x : ColumnState). count_in x.in_force)
-    (get_or_read c.args.self.now.state.columns c.args.column c.index.result.now c.requires
-    (c.index.ensures ∙ ap (λ (a : AlignmentView). get_or a.state.columns c.args.column c.index.result.now) c.self.view_is) no_column)
+    (get_or_read c.args.self.now.state.columns c.args.column c.item.result.now c.requires
+    (c.item.ensures ∙ ap (λ (a : AlignmentView). get_or a.state.columns c.args.column c.item.result.now) c.self.view_is) no_column)

@@ -9,13 +9,13 @@ pub returns-clause-state : goal.returns-clause-state
 returns-clause-state g c =
     c.held.ensures
     ∙ ap (λ (x : ColumnState). x.held)
-    (get_or_read c.args.self.now.state.columns c.args.column c.index.result.now c.requires
-    (c.index.ensures ∙ ap (λ (a : AlignmentView). get_or a.state.columns c.args.column c.index.result.now) c.self.view_is) no_column)
+    (get_or_read c.args.self.now.state.columns c.args.column c.item.result.now c.requires
+    (c.item.ensures ∙ ap (λ (a : AlignmentView). get_or a.state.columns c.args.column c.item.result.now) c.self.view_is) no_column)
 
 pub returns-clause-life : goal.returns-clause-life
 returns-clause-life g c life E stands =
     c.held.ensures
     ∙ ap (λ (x : ColumnState). x.held)
-    (c.index.ensures
-    ∙ ap (λ (a : AlignmentView). get_or a.state.columns c.args.column c.index.result.now) c.self.view_is
-    ∙ column_at life E c.args.self.now.state c.args.column c.index.result.now stands c.requires)
+    (c.item.ensures
+    ∙ ap (λ (a : AlignmentView). get_or a.state.columns c.args.column c.item.result.now) c.self.view_is
+    ∙ column_at life E c.args.self.now.state c.args.column c.item.result.now stands c.requires)

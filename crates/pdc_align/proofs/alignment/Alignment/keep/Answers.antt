@@ -11,13 +11,13 @@ invariant_of-self g c =
     let old = c.self.inside.columns.items in
     let new = c.hold.new.columns in
     let parts = map section_part c.args.sections.now in
-    let whole : refill c.self.inside.columns.len old new ≡ new =
-    rewritten c.self.inside.columns.len old c.deref_mut.result.now new c.deref_mut.ensures.value c.deref_mut.ensures.len c.hold.auto.columns in
+    let whole : refill (length c.self.inside.columns.items) old new ≡ new =
+    rewritten (length c.self.inside.columns.items) old c.as_mut_slice.result.now new c.as_mut_slice.ensures.value c.as_mut_slice.ensures.len c.hold.auto.columns in
     record {
       well_formed = c.self.invariant.well_formed;
-      each = ap length whole ∙ c.hold.auto.columns ∙ ap length c.deref_mut.ensures.value ∙ c.self.invariant.each;
+      each = ap length whole ∙ c.hold.auto.columns ∙ ap length c.as_mut_slice.ensures.value ∙ c.self.invariant.each;
       lanes = c.self.invariant.lanes;
       gone = c.self.invariant.gone;
-      shapes = c.self.invariant.shapes ∙ sym (ap shapes_in (whole ∙ c.hold.ensures ∙ ap (with_sections parts) c.deref_mut.ensures.value) ∙ shapes_held parts old);
+      shapes = c.self.invariant.shapes ∙ sym (ap shapes_in (whole ∙ c.hold.ensures ∙ ap (with_sections parts) c.as_mut_slice.ensures.value) ∙ shapes_held parts old);
       quiet = λ e. absurd (true≢false (sym e));
     }

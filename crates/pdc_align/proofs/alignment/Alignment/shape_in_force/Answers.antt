@@ -8,6 +8,6 @@ pub returns : goal.returns
 returns g c life E stands =
     c.shape.ensures
     ∙ ap (λ (x : ColumnState). shape_in x.in_force)
-    (c.index.ensures
-    ∙ ap (λ (a : AlignmentView). get_or a.state.columns c.args.column c.index.result.now) c.self.view_is
-    ∙ column_at life E c.args.self.now.state c.args.column c.index.result.now stands c.requires)
+    (c.item.ensures
+    ∙ ap (λ (a : AlignmentView). get_or a.state.columns c.args.column c.item.result.now) c.self.view_is
+    ∙ column_at life E c.args.self.now.state c.args.column c.item.result.now stands c.requires)

@@ -20,7 +20,7 @@ returns-clause-staying c =
     refl c.count_due-count.ensures.count c.requires.rising c.requires.placed
 
 pub returns-clause-closed : goal.returns-clause-closed
-returns-clause-closed c = c.close.ensures.items ∙ ap (λ is. c.args.self.now.instants.items ++ take c.count_due-count.result is) c.deref.ensures.value
+returns-clause-closed c = c.close.ensures.items ∙ ap (λ is. c.args.self.now.instants.items ++ take c.count_due-count.result is) c.as_slice.ensures.value
 
 pub returns-clause-due_rows : goal.returns-clause-due_rows
 returns-clause-due_rows c =
@@ -28,12 +28,12 @@ returns-clause-due_rows c =
     refl c.count_due-count.ensures.count c.requires.rising c.requires.placed
 
 pub returns-clause-front : goal.returns-clause-front
-returns-clause-front c = c.greatest-self.ensures ∙ ap (λ is. greatest c.args.self.now.last (take c.count_due-count.result is)) c.deref.ensures.value
+returns-clause-front c = c.greatest-self.ensures ∙ ap (λ is. greatest c.args.self.now.last (take c.count_due-count.result is)) c.as_slice.ensures.value
 
 pub returns-clause-last : goal.returns-clause-last
 returns-clause-last c =
     c.greatest-self.ensures
-    ∙ ap (λ is. greatest c.args.self.now.last (take c.count_due-count.result is)) c.deref.ensures.value
+    ∙ ap (λ is. greatest c.args.self.now.last (take c.count_due-count.result is)) c.as_slice.ensures.value
     ∙ ap (greatest c.args.self.now.last) (sym (instants_in (with_ages c.args.rows.now.places.items c.args.rows.now.ages.items) c.args.circle.now.window (take c.count_due-count.result c.args.rows.now.open.items) (placed-take (with_ages c.args.rows.now.places.items c.args.rows.now.ages.items) c.args.circle.now.window c.count_due-count.result c.args.rows.now.open.items c.requires.placed)))
     ∙ ap (λ rows. greatest c.args.self.now.last (instants_of rows))
     (front_in c.args.required.now c.args.rule c.args.self.now.last (with_ages c.args.rows.now.places.items c.args.rows.now.ages.items) c.args.circle.now.window c.args.rows.now.open.items c.args.rows.now.open.items c.count_due-count.result
@@ -42,7 +42,7 @@ returns-clause-last c =
 pub returns-clause-disagree : goal.returns-clause-disagree
 returns-clause-disagree c =
     c.count_disagreements-self.ensures
-    ∙ ap (λ is. counter (c.args.self.now.disagree + disagreements_in (layout_view c.args.layout.now) (rows_in c.args.rows.now.places.items c.args.circle.now.window (take c.count_due-count.result is)))) c.deref.ensures.value
+    ∙ ap (λ is. counter (c.args.self.now.disagree + disagreements_in (layout_view c.args.layout.now) (rows_in c.args.rows.now.places.items c.args.circle.now.window (take c.count_due-count.result is)))) c.as_slice.ensures.value
     ∙ ap (λ n. counter (c.args.self.now.disagree + n)) (sym (aged_disagreements c.args.rows.now.places.items c.args.rows.now.ages.items (layout_view c.args.layout.now) c.args.circle.now.window (take c.count_due-count.result c.args.rows.now.open.items) c.args.circle.now.least c.requires.size c.requires.ages_size))
     ∙ ap (λ rows. counter (c.args.self.now.disagree + disagreements_in (layout_view c.args.layout.now) rows))
     (front_in c.args.required.now c.args.rule c.args.self.now.last (with_ages c.args.rows.now.places.items c.args.rows.now.ages.items) c.args.circle.now.window c.args.rows.now.open.items c.args.rows.now.open.items c.count_due-count.result

@@ -2,7 +2,6 @@ use Rattle.std.proofs.Common.{rules, arith, ◌≡◌, ◌<◌, ◌≤◌, ◌+�
 use Rattle.std.proofs.lemmas.Bool.{cases_lt, lt-ltb, true≢false}
 use Rattle.std.proofs.lemmas.List.{length-map}
 use Rattle.std.specs.List.{All}
-use Rattle.std.specs.VecDeque.{deque_len}
 use Rattle.pdc_open_row.specs.pdc_row.RisingLaws.{RisingLaws}
 use Rattle.pdc_table.specs.Content.{HasPlaces, HasSizesOf, IsContent, streams_of}
 use Rattle.pdc_table.specs.Ring.{content_of, IsKept, view_of}
@@ -118,7 +117,7 @@ places : (c : goal.After-copy-2) → c.copy.new.self.places.items ≡ after c.se
 places c =
     c.copy.ensures.places
     ∙ ap (held_copied c.other.inside.circle.window c.other.inside.rows.open.items c.other.inside.closed.instants.items c.other.inside.rows.places.items)
-    (c.leave.ensures.items ∙ ap (λ is. left (ltb c.other.inside.closed.last c.self.inside.closed.last) c.other.inside.circle.window is c.self.inside.rows.places.items) c.deref.ensures.value)
+    (c.leave.ensures.items ∙ ap (λ is. left (ltb c.other.inside.closed.last c.self.inside.closed.last) c.other.inside.circle.window is c.self.inside.rows.places.items) c.as_slice-2.ensures.value)
 
 rows : (c : goal.After-copy-2) → rows_in (with_ages c.copy.new.self.places.items c.copy.new.self.ages.items) c.other.inside.circle.window c.copy.new.self.open.items ≡ rows_in (with_ages c.other.inside.rows.places.items c.other.inside.rows.ages.items) c.other.inside.circle.window c.other.inside.rows.open.items
 rows c = rw (places c, c.copy.ensures.ages, c.copy.ensures.open) (rows_after c.self.inside c.other.inside c.self.invariant c.other.invariant (have_sizes c))
@@ -143,7 +142,7 @@ pub copy-requires-clause-size : goal.copy-requires-clause-size
 copy-requires-clause-size c =
     let h : HaveSizes c.self.inside c.other.inside = sizes c.self.inside c.other.inside c.args.self.now c.args.other.now c.self.view_is c.other.view_is c.requires in
     ap length c.leave.ensures.items
-    ∙ left-length (ltb c.other.inside.closed.last c.self.inside.closed.last) c.other.inside.circle.window c.deref.result.now c.self.inside.rows.places.items
+    ∙ left-length (ltb c.other.inside.closed.last c.self.inside.closed.last) c.other.inside.circle.window c.as_slice-2.result.now c.self.inside.rows.places.items
     ∙ c.self.invariant.size ∙ h.window
 
 pub copy-requires-clause-room : goal.copy-requires-clause-room
@@ -154,7 +153,7 @@ copy-requires-clause-room c =
 pub copy-requires-2-clause-room : goal.copy-requires-2-clause-room
 copy-requires-2-clause-room c =
     let h : HaveSizes c.self.inside c.other.inside = sizes c.self.inside c.other.inside c.args.self.now c.args.other.now c.self.view_is c.other.view_is c.requires in
-    let closed : deque_len c.other.inside.closed.instants ≡ length c.other.inside.closed.instants.items = search rules in
+    let closed : length c.other.inside.closed.instants.items ≡ length c.other.inside.closed.instants.items = search rules in
     omega (arith, fits c.numbers_rise.ensures c.other.inside c.other.invariant, h.window, c.self.invariant.closed_room)
 
 pub invariant_of-self : goal.invariant_of-self

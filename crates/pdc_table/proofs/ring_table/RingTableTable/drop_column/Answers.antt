@@ -13,27 +13,27 @@ use Rattle.pdc_table.proofs.RingRows.{changed-open}
 use Rattle.pdc_table.proofs.ring_table.RingTableTable.drop_column.Goals as goal
 
 -- the rows with their ages
-now : (c : goal.After-drop_column) → (with_ages c.drop_column.new.places.items c.self.inside.rows.ages.items) ≡ changed (without_column c.args.column) c.self.inside.circle.window c.deref.result.now (with_ages c.self.inside.rows.places.items c.self.inside.rows.ages.items)
+now : (c : goal.After-drop_column) → (with_ages c.drop_column.new.places.items c.self.inside.rows.ages.items) ≡ changed (without_column c.args.column) c.self.inside.circle.window c.as_slice.result.now (with_ages c.self.inside.rows.places.items c.self.inside.rows.ages.items)
 now c =
     ap (λ ps. with_ages ps c.self.inside.rows.ages.items) c.drop_column.ensures.items
-    ∙ aged_changed (without_column c.args.column) (λ a r. refl) c.self.inside.circle.window c.deref.result.now c.self.inside.rows.places.items c.self.inside.rows.ages.items (omega (arith, c.self.invariant.content.window_least)) c.self.invariant.size c.self.invariant.ages
+    ∙ aged_changed (without_column c.args.column) (λ a r. refl) c.self.inside.circle.window c.as_slice.result.now c.self.inside.rows.places.items c.self.inside.rows.ages.items (omega (arith, c.self.invariant.content.window_least)) c.self.invariant.size c.self.invariant.ages
 
 rows : (c : goal.After-drop_column) → rows_in (with_ages c.drop_column.new.places.items c.self.inside.rows.ages.items) c.self.inside.circle.window c.self.inside.rows.open.items ≡ map (without_column c.args.column) (rows_in (with_ages c.self.inside.rows.places.items c.self.inside.rows.ages.items) c.self.inside.circle.window c.self.inside.rows.open.items)
 rows c =
-    changed-open c.numbers_rise.ensures (without_column c.args.column) (content_of c.self.inside) (with_ages c.self.inside.rows.places.items c.self.inside.rows.ages.items) (with_ages c.drop_column.new.places.items c.self.inside.rows.ages.items) c.self.inside.rows.open.items c.deref.result.now
-    c.deref.ensures.value (now c) (aged_length c.self.inside.rows.places.items c.self.inside.rows.ages.items c.self.inside.circle.window c.self.invariant.size c.self.invariant.ages) (aged_placed c.self.inside.rows.places.items c.self.inside.rows.ages.items c.self.inside.circle.window c.self.inside.rows.open.items (omega (arith, c.self.invariant.content.window_least)) c.self.invariant.size c.self.invariant.ages c.self.invariant.placed) c.self.invariant.content
+    changed-open c.numbers_rise.ensures (without_column c.args.column) (content_of c.self.inside) (with_ages c.self.inside.rows.places.items c.self.inside.rows.ages.items) (with_ages c.drop_column.new.places.items c.self.inside.rows.ages.items) c.self.inside.rows.open.items c.as_slice.result.now
+    c.as_slice.ensures.value (now c) (aged_length c.self.inside.rows.places.items c.self.inside.rows.ages.items c.self.inside.circle.window c.self.invariant.size c.self.invariant.ages) (aged_placed c.self.inside.rows.places.items c.self.inside.rows.ages.items c.self.inside.circle.window c.self.inside.rows.open.items (omega (arith, c.self.invariant.content.window_least)) c.self.invariant.size c.self.invariant.ages c.self.invariant.placed) c.self.invariant.content
 
 -- the closed rows stay
 closed : (c : goal.After-drop_column) → closed_rows (with_ages c.drop_column.new.places.items c.self.inside.rows.ages.items) c.self.inside.closed.layouts.items c.self.inside.circle.window c.self.inside.closed.instants.items ≡ closed_rows (with_ages c.self.inside.rows.places.items c.self.inside.rows.ages.items) c.self.inside.closed.layouts.items c.self.inside.circle.window c.self.inside.closed.instants.items
 closed c =
-    open_changed c.numbers_rise.ensures (without_column c.args.column) (content_of c.self.inside) (with_ages c.self.inside.rows.places.items c.self.inside.rows.ages.items) (with_ages c.drop_column.new.places.items c.self.inside.rows.ages.items) c.self.inside.closed.layouts.items c.self.inside.closed.instants.items c.self.inside.rows.open.items c.deref.result.now
-    c.deref.ensures.value (now c) (aged_placed c.self.inside.rows.places.items c.self.inside.rows.ages.items c.self.inside.circle.window c.self.inside.closed.instants.items (omega (arith, c.self.invariant.content.window_least)) c.self.invariant.size c.self.invariant.ages c.self.invariant.closed_placed) (aged_placed c.self.inside.rows.places.items c.self.inside.rows.ages.items c.self.inside.circle.window c.self.inside.rows.open.items (omega (arith, c.self.invariant.content.window_least)) c.self.invariant.size c.self.invariant.ages c.self.invariant.placed) c.self.invariant.content
+    open_changed c.numbers_rise.ensures (without_column c.args.column) (content_of c.self.inside) (with_ages c.self.inside.rows.places.items c.self.inside.rows.ages.items) (with_ages c.drop_column.new.places.items c.self.inside.rows.ages.items) c.self.inside.closed.layouts.items c.self.inside.closed.instants.items c.self.inside.rows.open.items c.as_slice.result.now
+    c.as_slice.ensures.value (now c) (aged_placed c.self.inside.rows.places.items c.self.inside.rows.ages.items c.self.inside.circle.window c.self.inside.closed.instants.items (omega (arith, c.self.invariant.content.window_least)) c.self.invariant.size c.self.invariant.ages c.self.invariant.closed_placed) (aged_placed c.self.inside.rows.places.items c.self.inside.rows.ages.items c.self.inside.circle.window c.self.inside.rows.open.items (omega (arith, c.self.invariant.content.window_least)) c.self.invariant.size c.self.invariant.ages c.self.invariant.placed) c.self.invariant.content
 
 pub invariant_of-self : goal.invariant_of-self
 invariant_of-self c =
     let ring : IsRing c.self.inside.circle.window c.self.inside.closed.last (streams_of (content_of c.self.inside)) c.self.inside.columns c.drop_column.new.places.items c.self.inside.rows.open.items =
     kept_by (without_column c.args.column) (λ r. refl) c.self.inside.circle.window c.self.inside.closed.last (streams_of (content_of c.self.inside)) c.self.inside.columns (λ r. places-without_column c.args.column (streams_of (content_of c.self.inside)) c.self.inside.columns r)
-    c.self.inside.rows.places.items c.drop_column.new.places.items c.self.inside.rows.open.items c.deref.result.now (omega (arith, c.self.invariant.content.window_least)) c.deref.ensures.value c.drop_column.ensures.items
+    c.self.inside.rows.places.items c.drop_column.new.places.items c.self.inside.rows.open.items c.as_slice.result.now (omega (arith, c.self.invariant.content.window_least)) c.as_slice.ensures.value c.drop_column.ensures.items
     (record { size = c.self.invariant.size; each = c.self.invariant.each; placed = c.self.invariant.placed; known = c.self.invariant.known; stand = c.self.invariant.stand }) in
     record {
       content = rw (rows c, closed c) (keeps-drop_column (content_of c.self.inside) c.args.column c.self.invariant.content);
@@ -42,8 +42,8 @@ invariant_of-self c =
       placed = ring.placed;
       ages = c.self.invariant.ages;
       layouts = c.self.invariant.layouts;
-      closed_placed = changed_stand (without_column c.args.column) (λ r. refl) (content_of c.self.inside) c.self.inside.rows.places.items c.drop_column.new.places.items c.self.inside.closed.instants.items c.self.inside.rows.open.items c.deref.result.now
-          c.deref.ensures.value c.drop_column.ensures.items c.self.invariant.size c.self.invariant.closed_placed c.self.invariant.content;
+      closed_placed = changed_stand (without_column c.args.column) (λ r. refl) (content_of c.self.inside) c.self.inside.rows.places.items c.drop_column.new.places.items c.self.inside.closed.instants.items c.self.inside.rows.open.items c.as_slice.result.now
+          c.as_slice.ensures.value c.drop_column.ensures.items c.self.invariant.size c.self.invariant.closed_placed c.self.invariant.content;
       known = ring.known;
       stand = ring.stand;
       room = c.self.invariant.room;

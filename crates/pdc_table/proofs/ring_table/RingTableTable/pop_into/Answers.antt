@@ -35,7 +35,7 @@ invariant_of-self c = record {
 pub returns-clause-answer : goal.returns-clause-answer
 returns-clause-answer c =
     c.pop_into.ensures.row
-    ∙ ap (λ (rows : List RowView). slice_get rows 0) (ap (λ ls. closed_rows c.self.inside.rows.places.items ls c.self.inside.circle.window c.self.inside.closed.instants.items) c.deref.ensures.value
+    ∙ ap (λ (rows : List RowView). slice_get rows 0) (ap (λ ls. closed_rows c.self.inside.rows.places.items ls c.self.inside.circle.window c.self.inside.closed.instants.items) c.as_slice.ensures.value
     ∙ sym (aged_closed c.self.inside.rows.places.items c.self.inside.rows.ages.items c.self.inside.closed.layouts.items c.self.inside.circle.window c.self.inside.closed.instants.items (omega (arith, c.self.invariant.content.window_least)) c.self.invariant.size c.self.invariant.ages))
     ∙ ap (λ (t : TableView). pop_answer t.content) c.self.view_is
 

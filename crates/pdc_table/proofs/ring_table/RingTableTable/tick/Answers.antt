@@ -1,6 +1,5 @@
 use Rattle.std.proofs.Common.{rules, arith, ◌≡◌, ◌≤◌, ◌+◌, ◌++◌, ◌∙◌, ap, length, map, refl, subst, sym, take, vec_len}
 use Rattle.std.proofs.lemmas.List.{length-map}
-use Rattle.std.specs.VecDeque.{deque_len}
 use Rattle.pdc_table.specs.Closing.{aged, closing, counter, staying}
 use Rattle.pdc_table.specs.Content.{IsContent, streams_of}
 use Rattle.pdc_open_row.specs.Layout.{layout_view}
@@ -30,8 +29,8 @@ close_due-count-requires-clause-placed c =
 pub close_due-count-requires-clause-room : goal.close_due-count-requires-clause-room
 close_due-count-requires-clause-room c =
     let fit : length (closed_rows (with_ages c.self.inside.rows.places.items c.self.inside.rows.ages.items) c.self.inside.closed.layouts.items c.self.inside.circle.window c.self.inside.closed.instants.items) + length (rows_in (with_ages c.self.inside.rows.places.items c.self.inside.rows.ages.items) c.self.inside.circle.window c.self.inside.rows.open.items) ≤ c.self.inside.circle.window = held_fit c.numbers_rise.ensures (content_of c.self.inside) c.self.invariant.content in
-    let opened : vec_len c.self.inside.rows.open ≡ length c.self.inside.rows.open.items = search rules in
-    let closed : deque_len c.self.inside.closed.instants ≡ length c.self.inside.closed.instants.items = search rules in
+    let opened : length c.self.inside.rows.open.items ≡ length c.self.inside.rows.open.items = search rules in
+    let closed : length c.self.inside.closed.instants.items ≡ length c.self.inside.closed.instants.items = search rules in
     omega (arith, c.self.invariant.closed_room, length-map c.self.inside.closed.instants.items (closed_row (with_ages c.self.inside.rows.places.items c.self.inside.rows.ages.items) c.self.inside.closed.layouts.items c.self.inside.circle.window), length-map c.self.inside.rows.open.items (row_in (with_ages c.self.inside.rows.places.items c.self.inside.rows.ages.items) c.self.inside.circle.window))
 
 -- the rows that the code looks at are those before, each a tick older
@@ -45,7 +44,7 @@ closes c =
     ap (λ rs. closing rs c.args.rule (rows_in (with_ages c.self.inside.rows.places.items c.grow_older.new.self.items) c.self.inside.circle.window c.self.inside.rows.open.items)) c.as_slice.ensures.value
     ∙ ap (closing c.self.inside.required.items c.args.rule) (rows c)
 
-stays : (c : goal.After-remove_front) → rows_in (with_ages c.self.inside.rows.places.items c.grow_older.new.self.items) c.self.inside.circle.window c.remove_front.new.items.items ≡ staying_of (content_of c.self.inside) c.args.rule
+stays : (c : goal.After-remove_front) → rows_in (with_ages c.self.inside.rows.places.items c.grow_older.new.self.items) c.self.inside.circle.window c.remove_front.new.self.items ≡ staying_of (content_of c.self.inside) c.args.rule
 stays c =
     ap (rows_in (with_ages c.self.inside.rows.places.items c.grow_older.new.self.items) c.self.inside.circle.window) c.remove_front.ensures.items ∙ c.close_due-count.ensures.staying
     ∙ ap (λ rs. staying rs c.args.rule (rows_in (with_ages c.self.inside.rows.places.items c.grow_older.new.self.items) c.self.inside.circle.window c.self.inside.rows.open.items)) c.as_slice.ensures.value
@@ -76,7 +75,7 @@ more c =
     ∙ ap (λ rs. closed_rows (with_ages c.self.inside.rows.places.items c.self.inside.rows.ages.items) c.self.inside.closed.layouts.items c.self.inside.circle.window c.self.inside.closed.instants.items ++ map (row_of (layout_view c.args.layout.now)) rs) (due c)
 
 content : (c : goal.After-remove_front) → record (content_of c.self.inside) {
-  open_rows = rows_in (with_ages c.self.inside.rows.places.items c.grow_older.new.self.items) c.self.inside.circle.window c.remove_front.new.items.items;
+  open_rows = rows_in (with_ages c.self.inside.rows.places.items c.grow_older.new.self.items) c.self.inside.circle.window c.remove_front.new.self.items;
   closed = closed_rows (with_ages c.self.inside.rows.places.items c.grow_older.new.self.items) c.close_due-count.new.self.layouts.items c.self.inside.circle.window c.close_due-count.new.self.instants.items;
   last = c.close_due-count.new.self.last;
 } ≡ after_tick (content_of c.self.inside) c.args.rule (layout_view c.args.layout.now)
@@ -108,7 +107,7 @@ returns-clause-well_formed c = subst IsContent (sym (content c)) (keeps-tick c.n
 
 pub invariant_of-self : goal.invariant_of-self
 invariant_of-self c =
-    let ring : IsRing c.self.inside.circle.window c.close_due-count.new.self.last (streams_of (content_of c.self.inside)) c.self.inside.columns c.self.inside.rows.places.items c.remove_front.new.items.items =
+    let ring : IsRing c.self.inside.circle.window c.close_due-count.new.self.last (streams_of (content_of c.self.inside)) c.self.inside.columns c.self.inside.rows.places.items c.remove_front.new.self.items =
     rw (c.close_due-count.ensures.front, c.remove_front.ensures.items) (ring_closed c.numbers_rise.ensures c.self.inside.circle.window c.self.inside.closed.last (streams_of (content_of c.self.inside)) c.self.inside.columns c.close_due-count.result c.self.inside.rows.places.items c.self.inside.rows.open.items
     (record { size = c.self.invariant.size; each = c.self.invariant.each; placed = c.self.invariant.placed; known = c.self.invariant.known; stand = c.self.invariant.stand })) in
     record {
