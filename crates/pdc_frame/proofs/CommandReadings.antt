@@ -1,8 +1,8 @@
 -- A frame carries one command or has one fault, and the same of header texts.
 use Rattle.std.proofs.Common.{◌≡◌, ℕ, ◌^◌, ◌<◌, List, length, refl, sym, ap, ◌∙◌, arith}
-use Rattle.pdc_frame.specs.Bytes.{word_at}
+use Rattle.pdc_words.specs.Bytes.{word_at}
 use Rattle.pdc_frame.specs.Frame.{Fields}
-use Rattle.pdc_frame.specs.Parts.{WordsAreTheirBytes}
+use Rattle.pdc_words.specs.Parts.{WordsAreTheirBytes}
 use Rattle.pdc_frame.specs.declared.command.Command.{Command}
 use Rattle.pdc_frame.specs.declared.command.Command.TheVariants.{DataOff, DataOn, SendHeader, SendCfg1, SendCfg2, SendCfg3}
 use Rattle.pdc_frame.specs.declared.command_fault.CommandFault.{CommandFault}

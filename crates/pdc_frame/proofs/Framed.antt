@@ -2,14 +2,14 @@
 use Rattle.std.proofs.Common.{◌≡◌, ◌⊎◌, inl, inr, ℕ, ◌+◌, ◌*◌, ◌^◌, ◌<◌, ◌≤◌, List, ◌∷◌, ◌++◌, length, drop, refl, ap, ◌∙◌, append_assoc, arith, length-append}
 use Rattle.std.proofs.Math.Seq.{drop-append_seam}
 use Rattle.std.specs.Int.{w16, w32, to_be_bytes}
-use Rattle.pdc_frame.specs.CheckWord.{check_word_of}
+use Rattle.pdc_words.specs.CheckWord.{check_word_of}
 use Rattle.std.proofs.lemmas.Bool.{cases_lt}
 use Rattle.pdc_frame.specs.declared.frame.Frame.{Frame}
-use Rattle.pdc_frame.specs.Bytes.{AreBytes}
+use Rattle.pdc_words.specs.Bytes.{AreBytes}
 use Rattle.pdc_frame.specs.Frame.{Fields, fields_of, number_of, header_of, before_check, spelling_of, IsFrame}
 use Rattle.pdc_frame.specs.declared.frame.Kind.{Kind}
 use Rattle.pdc_frame.specs.declared.frame.Kind.TheVariants.{DataFrame, HeaderFrame, Cfg1, Cfg2, CommandFrame, Cfg3}
-use Rattle.pdc_frame.proofs.Cells.{AreBytes-cons, AreBytes-append, word_bytes, long_bytes}
+use Rattle.pdc_words.proofs.Cells.{AreBytes-cons, AreBytes-append, word_bytes, long_bytes}
 
 -- what stands before a payload, the payload, and CHK over both
 pub framed : (old header payload middle new : List ℕ) (start : ℕ) → start ≡ length old → middle ≡ (old ++ header) ++ payload → new ≡ middle ++ to_be_bytes w16 (check_word_of (drop start middle))

@@ -1,7 +1,3 @@
-pub mod Polynomials
-pub mod Powers
-pub mod WordSteps
-pub mod Cells
 pub mod Places
 pub mod Spellings
 pub mod Wholes
@@ -10,10 +6,9 @@ pub mod Written
 pub mod Splitting
 pub mod Readings
 pub mod Framed
-pub mod LongSteps
-pub mod LinearLemmas
-pub mod LaneSteps
 pub mod NearestLemmas
 pub mod SlotLemmas
 pub mod TagLemmas
 pub mod CommandReadings
+pub use Rattle.pdc_words.proofs.Cells
+pub use Rattle.pdc_words.proofs.Polynomials

@@ -4,11 +4,11 @@ use Rattle.std.proofs.Math.Seq.{take-append_seam, take-append-add, get_or-append
 use Rattle.std.proofs.lemmas.List.{take-append-drop, drop_all, length-take, get_or-append-add}
 use Rattle.std.specs.Int.{w16, w32, to_be_bytes}
 use Rattle.pdc_frame.specs.declared.frame.Kind.{Kind}
-use Rattle.pdc_frame.specs.Bytes.{AreBytes, word_at, long_at}
-use Rattle.pdc_frame.specs.CheckWord.{check_word_of}
+use Rattle.pdc_words.specs.Bytes.{AreBytes, word_at, long_at}
+use Rattle.pdc_words.specs.CheckWord.{check_word_of}
 use Rattle.pdc_frame.specs.Frame.{Fields, fields_in, number_of, before_check, spelling_of, IsFrame, IsChecked, check_in}
-use Rattle.pdc_frame.proofs.Polynomials.{IsCheckWord-check_word_of}
-use Rattle.pdc_frame.proofs.Cells.{cells_from, drop-cells_from, word_cells, long_cells, AreBytes-take, AreBytes-drop}
+use Rattle.pdc_words.proofs.Polynomials.{IsCheckWord-check_word_of}
+use Rattle.pdc_words.proofs.Cells.{cells_from, drop-cells_from, word_cells, long_cells, AreBytes-take, AreBytes-drop}
 
 -- the fields stand in their places
 pub record ArePlaces (bytes : List ℕ) (f : Fields) : Type 0 where

@@ -5,9 +5,9 @@ use Rattle.std.proofs.lemmas.List.{append_cancel_left}
 use Rattle.std.specs.Int.{w16, w32, to_be_bytes}
 use Rattle.pdc_frame.specs.declared.frame.Kind.{Kind}
 use Rattle.pdc_frame.specs.declared.frame.Kind.TheVariants.{DataFrame, HeaderFrame, Cfg1, Cfg2, CommandFrame, Cfg3}
-use Rattle.pdc_frame.specs.CheckWord.{check_word_of}
+use Rattle.pdc_words.specs.CheckWord.{check_word_of}
 use Rattle.pdc_frame.specs.Frame.{Fields, Fits, number_of, before_check, spelling_of}
-use Rattle.pdc_frame.proofs.Cells.{word_value, long_value}
+use Rattle.pdc_words.proofs.Cells.{word_value, long_value}
 
 -- a kind is known by its number
 number_of-injective : (k l : Kind) → number_of k ≡ number_of l → k ≡ l

@@ -11,11 +11,11 @@ use Rattle.pdc_frame.specs.declared.fault.FrameFault.{FrameFault}
 use Rattle.pdc_frame.specs.declared.fault.FrameFault.TheVariants.{Short, BadSync, BadCheck, BadId}
 use Rattle.pdc_frame.specs.declared.step.Step.{Step}
 use Rattle.pdc_frame.specs.declared.step.Step.TheVariants.{More, Whole, Bad}
-use Rattle.pdc_frame.specs.Bytes.{AreBytes, word_at}
-use Rattle.pdc_frame.specs.CheckWord.{check_word_of}
+use Rattle.pdc_words.specs.Bytes.{AreBytes, word_at}
+use Rattle.pdc_words.specs.CheckWord.{check_word_of}
 use Rattle.pdc_frame.specs.Frame.{fields_in, number_of, IsSync, IsSized, IsChecked, check_in}
 use Rattle.pdc_frame.specs.Stream.{IsGoing, IsWhole, IsAt, Splits}
-use Rattle.pdc_frame.proofs.Cells.{word_at-take, AreBytes-take, AreBytes-drop}
+use Rattle.pdc_words.proofs.Cells.{word_at-take, AreBytes-take, AreBytes-drop}
 use Rattle.pdc_frame.proofs.Places.{IsFrame-checked}
 use Rattle.pdc_frame.proofs.Streams.{going-nil}
 

@@ -11,10 +11,10 @@ use Rattle.pdc_frame.specs.declared.fault.FrameFault.{FrameFault}
 use Rattle.pdc_frame.specs.declared.fault.FrameFault.TheVariants.{Short, BadSync, SizeMismatch, BadCheck, BadId}
 use Rattle.pdc_frame.specs.declared.step.Step.{Step}
 use Rattle.pdc_frame.specs.declared.step.Step.TheVariants.{More, Whole, Bad}
-use Rattle.pdc_frame.specs.Bytes.{word_at}
+use Rattle.pdc_words.specs.Bytes.{word_at}
 use Rattle.pdc_frame.specs.Frame.{Fields, IsFrame, IsSync, IsSized}
 use Rattle.pdc_frame.specs.Stream.{IsGoing, IsWhole, IsCause, IsAt, IsBad, Held, HasTaken, GoesOn, IsRest, Splits, pending_of, fault_of, given_at}
-use Rattle.pdc_frame.proofs.Cells.{word_at-append, two_takes}
+use Rattle.pdc_words.proofs.Cells.{word_at-append, two_takes}
 use Rattle.pdc_frame.proofs.Wholes.{whole-sized, whole-checked, id-spelled}
 
 -- ---- a front of a frame, of bytes that go on, of bytes that show a fault

@@ -4,11 +4,11 @@ use Rattle.std.specs.Prelude.{slice_index}
 use Rattle.std.specs.Int.{w16, to_be_bytes}
 use Rattle.pdc_frame.specs.declared.frame.Kind.{Kind}
 use Rattle.pdc_frame.specs.declared.frame.Kind.TheVariants.{DataFrame, HeaderFrame, Cfg1, Cfg2, CommandFrame, Cfg3}
-use Rattle.pdc_frame.specs.Bytes.{AreBytes, word_at}
-use Rattle.pdc_frame.specs.CheckWord.{check_word_of}
+use Rattle.pdc_words.specs.Bytes.{AreBytes, word_at}
+use Rattle.pdc_words.specs.CheckWord.{check_word_of}
 use Rattle.pdc_frame.specs.Frame.{Fields, Fits, fields_in, number_of, before_check, spelling_of, IsFrame, IsSync, IsSized, IsChecked}
 use Rattle.pdc_frame.specs.Stream.{IsWhole}
-use Rattle.pdc_frame.proofs.Cells.{AreBytes-cons, AreBytes-append}
+use Rattle.pdc_words.proofs.Cells.{AreBytes-cons, AreBytes-append}
 use Rattle.pdc_frame.proofs.Places.{check-spelled, IsFrame-checked}
 use Rattle.pdc_frame.proofs.Framed.{length-spelling_of}
 

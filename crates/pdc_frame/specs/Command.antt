@@ -3,7 +3,7 @@
 use Rattle.std.specs.Prelude.{◌≡◌, ◌≢◌, ℕ, List, length}
 use Rattle.std.specs.Int.{w16, to_be_bytes}
 use Rattle.pdc_frame.specs.declared.frame.Kind.TheVariants.{CommandFrame, HeaderFrame}
-use Rattle.pdc_frame.specs.Bytes.{word_at}
+use Rattle.pdc_words.specs.Bytes.{word_at}
 use Rattle.pdc_frame.specs.Frame.{Fields}
 use Rattle.pdc_frame.specs.declared.command.Command.{Command}
 use Rattle.pdc_frame.specs.declared.command.Command.TheVariants.{DataOff, DataOn, SendHeader, SendCfg1, SendCfg2, SendCfg3}

@@ -7,8 +7,8 @@ use Rattle.pdc_frame.specs.declared.frame.Kind.TheVariants.{DataFrame, HeaderFra
 use Rattle.pdc_frame.specs.declared.frame.Frame.{Frame}
 use Rattle.pdc_frame.specs.declared.fault.FrameFault.{FrameFault}
 use Rattle.pdc_frame.specs.declared.fault.FrameFault.TheVariants.{Short, BadSync, SizeMismatch, BadCheck, BadId}
-use Rattle.pdc_frame.specs.Bytes.{AreBytes, word_at, long_at}
-use Rattle.pdc_frame.specs.CheckWord.{check_word_of}
+use Rattle.pdc_words.specs.Bytes.{AreBytes, word_at, long_at}
+use Rattle.pdc_words.specs.CheckWord.{check_word_of}
 
 -- bits 6 to 4 of the second byte of SYNC
 abbrev pub number_of : Kind → ℕ

@@ -1,9 +1,4 @@
-pub mod Bytes
-pub mod CheckWord
-pub mod Linear
-pub mod Lanes
 pub mod Frame
-pub mod Parts
 pub mod Stream
 pub mod Texts
 pub mod Nearest
@@ -12,3 +7,8 @@ pub mod Instant
 pub mod Tag
 pub mod Command
 pub mod HeldBytes
+pub use Rattle.pdc_words.specs.Bytes
+pub use Rattle.pdc_words.specs.CheckWord
+pub use Rattle.pdc_words.specs.Linear
+pub use Rattle.pdc_words.specs.Lanes
+pub use Rattle.pdc_words.specs.Parts

@@ -6,7 +6,7 @@ use Rattle.pdc_frame.specs.declared.fault.FrameFault.{FrameFault}
 use Rattle.pdc_frame.specs.declared.fault.FrameFault.TheVariants.{Short, BadSync, SizeMismatch, BadCheck, BadId}
 use Rattle.pdc_frame.specs.declared.step.Step.{Step}
 use Rattle.pdc_frame.specs.declared.step.Step.TheVariants.{More, Whole, Bad}
-use Rattle.pdc_frame.specs.Bytes.{word_at}
+use Rattle.pdc_words.specs.Bytes.{word_at}
 use Rattle.pdc_frame.specs.Frame.{Fields, IsFrame, IsSync, IsFirstFault}
 
 -- A frame may go on from these bytes: as far as they go they are SYNC and a FRAMESIZE that has room for the fields,

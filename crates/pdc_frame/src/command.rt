@@ -9,8 +9,8 @@ use crate::command_fault::CommandFault;
 use crate::frame::{Frame, Kind};
 use crate::id::StreamId;
 use crate::laws::frames_are_written_in_parts;
-use crate::words::read_word;
 use crate::writing::write_frame;
+use pdc_words::read_word;
 use std::alloc::AllocError;
 
 /// The bytes of a command frame.

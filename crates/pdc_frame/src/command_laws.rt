@@ -5,7 +5,7 @@ ghost use Rattle.pdc_frame.specs.declared.command.Command.{Command};
 ghost use Rattle.pdc_frame.specs.declared.command_fault.CommandFault.{CommandFault};
 ghost use Rattle.pdc_frame.specs.Command.{IsCommand, IsFirstFault, IsHeader, IsHeaderFault};
 
-use crate::laws::words_are_their_bytes;
+use pdc_words::words_are_their_bytes;
 
 /// A frame carries one command or has one fault, and never both.
 pub fn commands_are_read_in_one_way()

@@ -16,7 +16,7 @@ use crate::held::HeldBytes;
 use crate::limits::{MAX_SIZE, OVERHEAD, SIZE_PLACE, SYNC_BYTE};
 use crate::reading::{fields_of_whole, is_sync, read_frame};
 use crate::step::Step;
-use crate::words::read_word;
+use pdc_words::read_word;
 use std::alloc::{AllocError, Allocator, Global};
 use std::marker::Model;
 

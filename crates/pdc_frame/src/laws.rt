@@ -2,37 +2,13 @@
 ghost use Rattle.std.specs.Prelude.{◌≡◌, ◌+◌, ◌++◌, ℕ, List, [], Option, None, length, drop, map, flat_map};
 ghost use Rattle.std.specs.List.{All};
 ghost use Rattle.std.specs.Int.{w16, to_be_bytes};
-ghost use Rattle.pdc_frame.specs.Bytes.{AreBytes};
-ghost use Rattle.pdc_frame.specs.CheckWord.{IsCheckWord, check_word_of};
+ghost use Rattle.pdc_words.specs.Bytes.{AreBytes};
+ghost use Rattle.pdc_words.specs.CheckWord.{check_word_of};
 ghost use Rattle.pdc_frame.specs.Frame.{Fields, Fits, header_of, spelling_of, IsFrame, IsFirstFault};
-ghost use Rattle.pdc_frame.specs.Linear.{CheckWordsAreLinear};
-ghost use Rattle.pdc_frame.specs.Parts.{WordsAreTheirBytes, PartsKeepTheirWords};
 ghost use Rattle.pdc_frame.specs.declared.fault.FrameFault.{FrameFault};
 ghost use Rattle.pdc_frame.specs.Stream.{Held, HasTaken, IsRest, Splits, pending_of, fault_of};
 
 use crate::limits::OVERHEAD;
-
-/// A word and its bytes say the same: what was written is read, and what is read is written again.
-pub fn words_are_their_bytes()
-    ensures { WordsAreTheirBytes }
-{}
-
-/// A part of bytes has the bytes and the words that stand there in the whole.
-pub fn parts_keep_their_words()
-    ensures { PartsKeepTheirWords }
-{}
-
-/// Bytes have one check word, and `check_word_of` computes it.
-pub fn check_word_is_the_remainder()
-    ensures found { (bytes : List ℕ) → AreBytes bytes → IsCheckWord bytes (check_word_of bytes) }
-    ensures only { (bytes : List ℕ) (check : ℕ) → AreBytes bytes → IsCheckWord bytes check → check ≡ check_word_of bytes }
-{}
-
-/// The check words of bytes of one length differ in what follows from the bytes' difference alone, and a difference in front is moved
-/// past the rest.
-pub fn check_words_are_linear()
-    ensures { CheckWordsAreLinear }
-{}
 
 /// A frame is what [`begin_frame`](crate::begin_frame) appends, the payload, and what
 /// [`end_frame`](crate::end_frame) appends.

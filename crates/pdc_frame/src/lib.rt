@@ -20,16 +20,12 @@ mod buffer;
 mod command;
 mod command_fault;
 mod command_laws;
-mod crc;
-mod crc_behind;
-mod crc_moved;
 mod fault;
 mod frame;
 mod framer;
 mod header;
 mod held;
 mod id;
-mod lanes;
 mod laws;
 mod limits;
 mod nearest;
@@ -40,27 +36,27 @@ mod stream;
 mod tag_laws;
 mod tag_limits;
 mod tags;
-mod words;
 mod writing;
 
 pub use buffer::Buffer;
 pub use command::{COMMAND_SIZE, Command, read_command, write_command};
 pub use command_fault::CommandFault;
 pub use command_laws::{commands_are_read_in_one_way, headers_are_read_in_one_way};
-pub use crc::check_word;
-pub use crc_moved::{check_word_of_other, moved_past, power_past};
 pub use fault::FrameFault;
 pub use frame::{Frame, Kind};
 pub use framer::Framer;
 pub use header::{MAX_TEXT, read_header, write_header};
 pub use id::StreamId;
 pub use laws::{
-    check_word_is_the_remainder, check_words_are_linear, frames_are_read_in_one_way,
-    frames_are_written_in_parts, parts_keep_their_words, spellings_stand_apart,
-    streams_split_in_one_way, words_are_their_bytes,
+    frames_are_read_in_one_way, frames_are_written_in_parts, spellings_stand_apart,
+    streams_split_in_one_way,
 };
 pub use limits::{
     CHECK_LEN, HEADER_LEN, MAX_FRAC, MAX_ID, MAX_PAYLOAD, MAX_SIZE, MAX_VERSION, OVERHEAD,
+};
+pub use pdc_words::{
+    check_word, check_word_is_the_remainder, check_word_of_other, check_words_are_linear,
+    moved_past, parts_keep_their_words, power_past, read_long, read_word, words_are_their_bytes,
 };
 pub use reading::read_frame;
 pub use slots::{instant, slot};
@@ -69,5 +65,4 @@ pub use stream::frames_of;
 pub use tag_laws::{instant_is_nearest, slot_is_nearest, tag_comes_back, tag_is_nearest};
 pub use tag_limits::{COUNT_LIMIT, MAX_RATE, SECONDS};
 pub use tags::tag_of;
-pub use words::{read_long, read_word};
 pub use writing::{begin_frame, end_frame, write_ends, write_frame};

@@ -1,10 +1,9 @@
 //! The fields of a frame, read from its bytes.
 ghost use Rattle.std.specs.Prelude.{◌≡◌, ◌+◌, ◌*◌, ◌<◌, ◌≤◌, ◌⊎◌, length, IfOk, IfErr, IsOkAnd, MatchOption, IsTrue, ◌↔◌};
-ghost use Rattle.pdc_frame.specs.Bytes.{word_at};
+ghost use Rattle.pdc_words.specs.Bytes.{word_at};
 ghost use Rattle.pdc_frame.specs.Frame.{Fields, fields_of, fields_in, number_of, IsFrame, IsSync, IsFirstFault};
 ghost use Rattle.pdc_frame.specs.Stream.{IsWhole};
 
-use crate::crc::check_word;
 use crate::fault::FrameFault;
 use crate::frame::{Frame, Kind};
 use crate::id::StreamId;
@@ -12,7 +11,7 @@ use crate::limits::{
     CHECK_LEN, FRACSEC_PLACE, HEADER_LEN, ID_PLACE, MAX_FRAC, MAX_ID, MAX_SIZE, MAX_VERSION,
     OVERHEAD, SIZE_PLACE, SOC_PLACE, SYNC_BYTE,
 };
-use crate::words::{read_long, read_word};
+use pdc_words::{check_word, read_long, read_word};
 
 /// The kind with this number.
 fn kind_of(number: u8) -> Option<Kind>

@@ -1,19 +1,18 @@
 //! The bytes of a frame, written from its fields.
 ghost use Rattle.std.specs.Prelude.{◌≡◌, ◌+◌, ◌^◌, ◌<◌, ◌≤◌, ◌++◌, length, drop, OnOk, OnErr, IsOk};
 ghost use Rattle.std.specs.Int.{w16, to_be_bytes};
-ghost use Rattle.pdc_frame.specs.Bytes.{AreBytes};
-ghost use Rattle.pdc_frame.specs.CheckWord.{check_word_of, polynomial_of};
+ghost use Rattle.pdc_words.specs.Bytes.{AreBytes};
+ghost use Rattle.pdc_words.specs.CheckWord.{check_word_of, polynomial_of};
 ghost use Rattle.pdc_frame.specs.Frame.{Fits, fields_of, number_of, header_of, spelling_of, IsFrame};
 
 use crate::buffer::Buffer;
-use crate::crc::check_word;
-use crate::crc_behind::check_word_behind;
 use crate::frame::{Frame, Kind};
 use crate::limits::{
     CHECK_LEN, FRACSEC_PLACE, HEADER_LEN, ID_PLACE, MAX_PAYLOAD, OVERHEAD, SIZE_PLACE, SOC_PLACE,
     SYNC_BYTE,
 };
 use byteorder::{BigEndian, ByteOrder};
+use pdc_words::{check_word, check_word_behind};
 use std::alloc::AllocError;
 
 /// Bits 6 to 4 of the second byte of SYNC.

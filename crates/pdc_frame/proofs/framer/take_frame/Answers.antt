@@ -1,4 +1,4 @@
-use Rattle.pdc_frame.proofs.Cells.{two_takes}
+use Rattle.pdc_words.proofs.Cells.{two_takes}
 use Rattle.pdc_frame.proofs.framer.take_frame.Goals as goal
 
 pub returns-clause-bytes : goal.returns-clause-bytes

@@ -1,6 +1,6 @@
 use Rattle.std.proofs.Common.{◌≡◌, ℕ, List, length, arith, sym, ◌∙◌, subst}
 use Rattle.std.specs.Prelude.{slice_index}
-use Rattle.pdc_frame.specs.Bytes.{AreBytes, word_at}
+use Rattle.pdc_words.specs.Bytes.{AreBytes, word_at}
 use Rattle.pdc_frame.specs.Frame.{IsFrame, IsSync, IsChecked}
 use Rattle.pdc_frame.proofs.Places.{check-spelled, IsFrame-checked}
 use Rattle.pdc_frame.proofs.Wholes.{sync_of}

@@ -1,5 +1,0 @@
-use Rattle.pdc_frame.proofs.Powers.{check_of_state_remainder}
-use Rattle.pdc_frame.proofs.crc.check_of_state.Goals as goal
-
-pub returns : goal.returns
-returns c = check_of_state_remainder c.args.state c.quotient-half.result c.quotient-half.ensures

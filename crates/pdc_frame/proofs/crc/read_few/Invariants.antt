@@ -1,6 +1,0 @@
-use Rattle.std.proofs.Common.{◌≡◌, take}
-use Rattle.pdc_frame.specs.CheckWord.{polynomial_of}
-use Rattle.pdc_frame.proofs.crc.read_few.Given as goal
-
-abbrev pub invariant-loop-byte : goal.invariant-loop-byte
-invariant-loop-byte l = l.number ≡ polynomial_of (take l.byte-index l.bytes)

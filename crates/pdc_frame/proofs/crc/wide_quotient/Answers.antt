@@ -1,6 +1,0 @@
-use Rattle.std.proofs.Common.{arith}
-use Rattle.pdc_frame.proofs.Powers.{quotient_found}
-use Rattle.pdc_frame.proofs.crc.wide_quotient.Goals as goal
-
-pub returns : goal.returns
-returns c = quotient_found 32 88 128 c.args.state c.ranges.state.fits (omega arith) (omega arith) (omega arith)

@@ -1,0 +1,5 @@
+pub mod Bytes
+pub mod CheckWord
+pub mod Linear
+pub mod Lanes
+pub mod Parts
