@@ -7,6 +7,7 @@ import re
 import shutil
 import signal
 import subprocess
+import sys
 import tempfile
 import time
 
@@ -125,7 +126,9 @@ class Room:
     """A folder, ports and programs, which all go when it is left."""
 
     def __init__(self):
-        self.path = tempfile.mkdtemp(prefix="pdc-test-")
+        # In the short form a store is to take no longer where a disk is busy.
+        is_short = "--quick" in sys.argv and os.access("/dev/shm", os.W_OK)
+        self.path = tempfile.mkdtemp(prefix="pdc-test-", dir="/dev/shm" if is_short else None)
         self.ports = Ports()
         self.programs = []
 

@@ -33,24 +33,37 @@ class Reader(threading.Thread):
     def __init__(self, port, *onwards, host=HOST, rate=50):
         super().__init__(daemon=True)
         self.socket = datagrams(host, port)
-        self.onwards, self.rate, self.frames, self.times, self.instants, self.is_closed = onwards, rate, [], [], [], False
+        self.onwards, self.rate, self.frames, self.times, self.instants, self.layout = onwards, rate, [], [], [], None
         self.start()
 
     def run(self):
-        while not self.is_closed:
-            try:
-                frame = self.socket.recv(65536)
-            except OSError:
-                return
+        while True:
+            frame = self.socket.recv(65536)
             for port in self.onwards:
                 self.socket.sendto(frame, (HOST, port))
-            self.frames.append(frame)
             self.times.append(time.time())
+            self.frames.append(frame)
             if kind_of(frame) == DATA:
                 self.instants.append(instant_of(frame, self.rate))
+            else:
+                self.layout = frame
 
     def rows(self):
         return rows_of(list(self.frames), self.rate)
+
+    def latest(self):
+        """The row that came last, if one did."""
+        layout, frame = self.layout, self.frames[-1] if self.frames else b""
+        return rows_of([layout, frame], self.rate)[0] if layout and frame and kind_of(frame) == DATA else None
+
+    def present(self, count, limit=30):
+        """Waits until a row comes with so many blocks present."""
+
+        def came():
+            row = self.latest()
+            return row and len(row.present()) >= count
+
+        until(f"a row has {count} blocks present", came, limit)
 
     def delays(self):
         """How many seconds behind its instant each data frame came."""
