@@ -37,7 +37,7 @@ def until(what, condition, limit=30, more=lambda: ""):
             return found
         if time.monotonic() > end:
             fail(f"after {limit} s it is not so that {what}\n{more()}".strip())
-        time.sleep(0.02)
+        time.sleep(0.05)
 
 
 def sleep_to(moment):

@@ -27,6 +27,28 @@ def datagrams(host=HOST, port=None, buffer=1 << 24):
     return it
 
 
+def queues():
+    """Of each UDP port of this machine's IPv4: how many bytes wait there to be read, and how many datagrams were dropped since it was opened."""
+    found = {}
+    with open("/proc/net/udp", encoding="ascii") as it:
+        for words in map(str.split, list(it)[1:]):
+            port = int(words[1].split(":")[1], 16)
+            waiting, dropped = found.get(port, (0, 0))
+            found[port] = waiting + int(words[4].split(":")[1], 16), dropped + int(words[12])
+    return found
+
+
+def until_read(ports, most=60000, limit=60):
+    """Waits until no more bytes than these wait at any of the ports, so that what is sent next is not dropped."""
+    until("what was sent is read", lambda: all(queues().get(it, (0, 0))[0] <= most for it in ports), limit)
+
+
+def dropped(ports):
+    """How many datagrams were dropped at these ports since they were opened."""
+    found = queues()
+    return sum(found.get(it, (0, 0))[1] for it in ports)
+
+
 class Reader(threading.Thread):
     """Takes the frames that come to a UDP port, each with the time at which it came, and sends them on to other ports, if there are any."""
 
