@@ -55,7 +55,7 @@ class Program:
         with open(self.out, "wb") as out, open(self.err, "wb") as err:
             given = {"stdin": subprocess.DEVNULL, "stdout": out, "stderr": err, "cwd": room, **more}
             self.process = subprocess.Popen(words, **given)
-        self.begun = time.monotonic()
+        self.begun, self.used = time.monotonic(), 0.0
 
     @property
     def pid(self):
@@ -76,7 +76,7 @@ class Program:
         return self.text(self.out)
 
     def is_running(self):
-        return self.process.poll() is None
+        return not self.has_ended()
 
     def says(self, pattern, limit=30):
         """Waits until standard error has this pattern, and returns what was found."""
@@ -89,20 +89,35 @@ class Program:
 
         return until(f"{self.name} tells {pattern!r}", found, limit, lambda: self.said[-2000:])
 
+    def adopts(self, devices, limit=30):
+        """Waits until a node or the merger has adopted a configuration of each of these PMUs, under the count that it has."""
+
+        def adopted():
+            lines = [line for line in self.said.splitlines() if "layout adopted" in line]
+            return all(any(re.search(rf"PMU {it.ident} count={it.count}\b", line) for line in lines) for it in devices)
+
+        until(f"{self.name} has adopted each configuration", adopted, limit, lambda: self.said[-2000:])
+        return self
+
     def begins(self, limit=30):
         """Waits until a node or the merger has told that it begins."""
         self.says(" begins: ", limit)
         return self
 
     def end(self, limit=60, status=0):
-        """Waits for its end, which is to be of this status, and returns what it printed."""
-        try:
-            self.process.wait(limit)
-        except subprocess.TimeoutExpired:
-            fail(f"{self.name} has not ended after {limit} s:\n{self.said[-2000:]}")
+        """Waits for its end, which is to be of this status, and returns what it printed. What it took of processors is in `used` then."""
+        until(f"{self.name} has ended", self.has_ended, limit, lambda: self.said[-2000:])
         if status is not None and self.process.returncode != status:
             fail(f"{self.name} ended with status {self.process.returncode}, not {status}:\n{self.printed[-2000:]}{self.said[-2000:]}")
         return self.printed
+
+    def has_ended(self):
+        if self.process.returncode is None:
+            pid, status, used = os.wait4(self.pid, os.WNOHANG)
+            if pid:
+                self.process.returncode = os.waitstatus_to_exitcode(status)
+                self.used = (used.ru_utime + used.ru_stime) / (time.monotonic() - self.begun)
+        return self.process.returncode is not None
 
     def totals(self, limit=60):
         """The counters of a node's or the merger's end: taken, refused and published."""

@@ -27,6 +27,14 @@ def datagrams(host=HOST, port=None, buffer=1 << 24):
     return it
 
 
+def configure(places):
+    """Sends the configuration of each device to its ports."""
+    with datagrams() as out:
+        for device, ports in places:
+            for port in ports:
+                out.sendto(device.configuration(), (HOST, port))
+
+
 def queues():
     """Of each UDP port of this machine's IPv4: how many bytes wait there to be read, and how many datagrams were dropped since it was opened."""
     found = {}
@@ -106,28 +114,22 @@ class Devices(threading.Thread):
         # (a device, and the ports that it sends to)
         self.places, self.leaves = places, leaves
         self.rate = places[0][0].rate
-        self.first = int((time.time() + 0.5) * self.rate) if first is None else first
+        self.first = int((time.time() + 1) * self.rate) if first is None else first
         self.last = None if seconds is None else self.first + int(seconds * self.rate) - 1
         self.next = self.first
         self.is_over = False
         self.socket = socket.socket(socket.AF_INET, socket.SOCK_DGRAM)
         self.start()
 
-    def configure(self):
-        for device, ports in self.places:
-            frame = device.configuration()
-            for port in ports:
-                self.socket.sendto(frame, (HOST, port))
-
     def run(self):
         # A node adopts a configuration at a tick, so what is to be taken comes after one.
-        sleep_to(self.first / self.rate - 0.3)
-        self.configure()
+        sleep_to(self.first / self.rate - 0.5)
+        configure(self.places)
         while not self.is_over and (self.last is None or self.next <= self.last):
             instant = self.next
             sleep_to(instant / self.rate)
             if instant > self.first and (instant - self.first) % self.rate == 0:
-                self.configure()
+                configure(self.places)
             for device, ports in self.places:
                 if not self.leaves(device.ident, instant):
                     frame = device.data(instant)
