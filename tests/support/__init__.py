@@ -35,4 +35,4 @@ from .frames import (
 from .ports import Ports
 from .programs import PDC, RECORD, TOP, WATCH, Program, Room, settings
 from .script import Failed, fail, script, skip, sleep_to, until
-from .sockets import HOST, Consumer, Devices, Reader, Server, configure, datagrams, dropped, queues, until_read
+from .sockets import HOST, Consumer, Devices, Reader, Server, configure, counters, datagrams, dropped, queues, until_read

@@ -5,6 +5,7 @@ import contextlib
 import socket
 import threading
 import time
+import urllib.request
 
 from .frames import DATA, DATA_ON, HEADER, SEND_CFG2, SEND_HEADER, command, instant_of, kind_of, rows_of, split
 from .script import fail, sleep_to, until
@@ -55,6 +56,13 @@ def dropped(ports):
     """How many datagrams were dropped at these ports since they were opened."""
     found = queues()
     return sum(found.get(it, (0, 0))[1] for it in ports)
+
+
+def counters(port):
+    """The counters that a node or the merger serves at this port, by their names and labels."""
+    with urllib.request.urlopen(f"http://{HOST}:{port}/metrics", timeout=30) as answer:
+        lines = answer.read().decode().splitlines()
+    return {name: float(value) for name, _, value in (it.rpartition(" ") for it in lines if not it.startswith("#"))}
 
 
 class Reader(threading.Thread):
