@@ -18,7 +18,6 @@ from .frames import (
     TIME_BASE,
     Device,
     Shape,
-    Unfit,
     command,
     configuration,
     data,

@@ -5,6 +5,8 @@ import dataclasses
 import struct
 import time
 
+from .script import fail
+
 TIME_BASE = 1000000
 DATA, HEADER, CFG1, CFG2, COMMAND = range(5)
 DATA_OFF, DATA_ON, SEND_HEADER, SEND_CFG1, SEND_CFG2 = range(1, 6)
@@ -145,10 +147,6 @@ class Row:
         return [it for it in self.blocks if not self.is_absent(it)]
 
 
-class Unfit(Exception):
-    """A data frame that is not of its layout's length."""
-
-
 def rows_of(frames, rate, time_base=TIME_BASE):
     """The data frames among these, each under the layout that came last before it; those before the first one are left out."""
     found, shapes = [], None
@@ -157,7 +155,7 @@ def rows_of(frames, rate, time_base=TIME_BASE):
             shapes = {source: shape for source, shape, _ in sections_of(frame)[1:]}
         elif kind_of(frame) == DATA and shapes is not None:
             if len(frame) != 16 + OWN + sum(it.block for it in shapes.values()):
-                raise Unfit(f"a data frame of {len(frame)} bytes under a layout of {len(shapes)} PMUs")
+                fail(f"a data frame of {len(frame)} bytes under a layout of {len(shapes)} PMUs")
             at, blocks = 14 + OWN, {}
             for source, shape in shapes.items():
                 blocks[source] = frame[at : at + shape.block]
