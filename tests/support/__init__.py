@@ -31,6 +31,7 @@ from .frames import (
     split,
     tag,
 )
+from .pair import IDENTS, NAMES, Pair
 from .ports import Ports
 from .programs import PDC, RECORD, TOP, WATCH, Program, Room, settings
 from .script import Failed, fail, script, skip, sleep_to, until
