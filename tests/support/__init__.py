@@ -36,3 +36,4 @@ from .ports import Ports
 from .programs import PDC, RECORD, TOP, WATCH, Program, Room, settings
 from .script import Failed, fail, script, skip, sleep_to, until
 from .sockets import HOST, Consumer, Devices, Reader, Server, configure, counters, datagrams, dropped, queues, until_read
+from .watched import Watched
