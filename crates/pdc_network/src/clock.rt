@@ -1,39 +1,33 @@
-//! Ticks by the system's clock.
-ghost use Rattle.std.specs.Prelude.{◌≡◌, ◌≤◌, ◌*◌, ◌/◌, ◌^◌, ◌<◌};
+//! Ticks by a clock.
+ghost use Rattle.std.specs.Prelude.{◌≡◌, ℕ, List, map};
+ghost use Rattle.pdc_network.specs.Instants.{instant_of};
 
+use crate::deadlines::NANOSECONDS;
+use crate::metronome::Timepiece;
 use pdc_ports::Ticker;
-use std::rt::Clock;
 use std::sync::atomic::{AtomicBool, Ordering};
-use std::thread;
-use std::time::{Duration, SystemTime};
 
-/// The nanoseconds in a second.
-const NANOSECONDS: u64 = 1_000_000_000;
-
-/// Sleeps for the length of a frame, and then gives the instant that the system's clock shows. It ends after a number of ticks, where one
-/// is given, and where the clock cannot be read; then it sets a flag.
+/// Waits for the next deadline, and then gives the instant that the clock shows. It ends after a number of ticks, where one is given, and
+/// where the clock cannot be read; then it sets a flag.
 #[derive(Drop)]
-pub struct ClockTicker<'a, C: Clock + Drop> {
-    clock: C,
+pub struct ClockTicker<'a, T: Timepiece + Drop> {
+    time: T,
     rate: u16,
     /// How many ticks are left; without end where there is none.
     left: Option<u32>,
     is_unreadable: &'a AtomicBool,
-    pub ghost rate_low: { 1 ≤ rate },
 }
 
-impl<'a, C: Clock + Drop> ClockTicker<'a, C> {
-    /// So many ticks, at so many frames in a second, or ticks without end. The flag is set where the clock cannot be read.
+impl<'a, T: Timepiece + Drop> ClockTicker<'a, T> {
+    /// So many ticks by this clock, at so many frames in a second, or ticks without end. The flag is set where the clock cannot be read.
     pub fn new(
-        clock: C,
+        time: T,
         rate: u16,
         ticks: Option<u32>,
         is_unreadable: &'a AtomicBool,
-    ) -> ClockTicker<'a, C>
-        requires { 1 ≤ rate }
-    {
+    ) -> ClockTicker<'a, T> {
         ClockTicker {
-            clock,
+            time,
             rate,
             left: ticks,
             is_unreadable,
@@ -41,24 +35,19 @@ impl<'a, C: Clock + Drop> ClockTicker<'a, C> {
     }
 }
 
-/// The nanoseconds since 1970 that the clock shows; none where it cannot be read. A time before 1970 is 0.
-fn nanoseconds_now<C: Clock>(clock: &C) -> Option<u128> {
-    let now = SystemTime::now(clock).ok()?;
-    let since = now
-        .duration_since(SystemTime::UNIX_EPOCH)
-        .unwrap_or(Duration::ZERO);
-    Some(since.as_nanos())
-}
-
-/// The instant so many nanoseconds after 1970, at so many frames in a second: the last one that was reached.
+/// The instant so many nanoseconds after 1970, at so many frames in a second: the last one that was reached, or the greatest of 64 bits
+/// where they do not hold it.
 pub fn instant_at(nanoseconds: u128, rate: u16) -> u64
-    ensures { nanoseconds * rate < 2 ^ 64 * 1_000_000_000 → result ≡ nanoseconds * rate / 1_000_000_000 }
+    ensures { result ≡ instant_of rate nanoseconds }
 {
     let instant = nanoseconds.saturating_mul(u128::from(rate)) / u128::from(NANOSECONDS);
     u64::try_from(instant).unwrap_or(u64::MAX)
 }
 
-impl<'a, C: Clock + Drop> Ticker for ClockTicker<'a, C> {
+/// It gave the instants of the times that the clock showed.
+impl<'a, T: Timepiece + Drop> Ticker for ClockTicker<'a, T> {
+    ghost gave = { λ s nows. (times : List ℕ) × T.showed s.time times × (nows ≡ map (instant_of s.rate) times) };
+
     fn next(&mut self) -> Option<u64> {
         if let Some(left) = self.left {
             if left == 0 {
@@ -66,11 +55,7 @@ impl<'a, C: Clock + Drop> Ticker for ClockTicker<'a, C> {
             }
             self.left = Some(left - 1);
         }
-        thread::sleep(
-            &self.clock,
-            Duration::from_nanos(NANOSECONDS / u64::from(self.rate)),
-        );
-        match nanoseconds_now(&self.clock) {
+        match self.time.at_next_deadline() {
             Some(nanoseconds) => Some(instant_at(nanoseconds, self.rate)),
             None => {
                 self.is_unreadable.store(true, Ordering::Relaxed);

@@ -2,8 +2,10 @@
 //! clock; and `pdc listen`, a line of hexadecimal for each datagram that comes to a port (this profile).
 //!
 //! [`UdpSource`] and [`UdpSink`] are a `Source` and a `Sink` of `pdc_ports`, [`ClockTicker`] is its `Ticker`. What reaches and leaves
-//! the system no clause can say; what is said of them is that a fault is counted, and that a source pauses after each 64 datagrams. [`listen`] is the whole command over any source and writer:
-//! it returns once so many datagrams have come, or at the source's end or first fault.
+//! the system no clause can say; what is said of them is that a fault is counted, that a source pauses after each 64 datagrams, and that a
+//! ticker gives the instants of the times that its [`Timepiece`] showed. [`Metronome`] is the system's: it sleeps to the next of its
+//! [`Deadlines`]. [`listen`] is the whole command over any source and writer: it returns once so many datagrams have come, or at the
+//! source's end or first fault.
 //!
 //! [`Link`] is how a concentrator comes by the frames of a stream: at a UDP port, from anybody or from one address alone, asked for or
 //! not; or over a TCP connection, as most PMUs serve it, and as the sessions of a node are. A connection that is lost is no failure: it
@@ -13,8 +15,10 @@
 mod clock;
 mod connection;
 mod datagrams;
+mod deadlines;
 mod link;
 mod loss;
+mod metronome;
 mod outputs;
 mod port;
 mod receive_buffer;
@@ -25,8 +29,10 @@ mod udp_source;
 pub use clock::{ClockTicker, instant_at};
 pub use connection::Connection;
 pub use datagrams::{ListenFault, listen};
+pub use deadlines::Deadlines;
 pub use link::Link;
 pub use loss::Loss;
+pub use metronome::{Metronome, Timepiece};
 pub use outputs::{Destination, Outputs, UdpOutputs};
 pub use port::Port;
 pub use udp_sink::UdpSink;

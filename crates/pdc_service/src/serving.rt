@@ -15,7 +15,7 @@ use crate::telling::unsent_text;
 use pdc_journal::{AnnouncingSink, CountingSink, Journal, Reporting, RunCounters};
 use pdc_mark::Mark;
 use pdc_metrics::{Metered, serve_metrics};
-use pdc_network::ClockTicker;
+use pdc_network::{ClockTicker, Metronome};
 use pdc_recording::{RecordedTicker, Series, Shelf, write_record};
 use pdc_server::{Naming, Recent, RememberingSink, serve};
 use pdc_startup::{Begun, Concentrator, Observed, RunOptions, ServiceFault, observe_all, plan_of};
@@ -189,7 +189,8 @@ fn run_observed<
     let Some(sources) = observe_all(rt, alloc, concentrator, observed, sources) else {
         return Err(ServiceFault::Run(HubFault::NoMemory));
     };
-    let clock = ClockTicker::new(rt, output.rate, options.ticks, &signs.is_clock_unreadable);
+    let time = Metronome::new(rt, output.rate, None);
+    let clock = ClockTicker::new(time, output.rate, options.ticks, &signs.is_clock_unreadable);
     let ticker = Reporting::new(
         rt,
         alloc,
