@@ -184,12 +184,13 @@ fn run_observed<
         record: _,
     } = opened;
     let output = concentrator.output();
-    let plan = plan_of(&concentrator.service_settings());
+    let service = concentrator.service_settings();
+    let plan = plan_of(&service);
     let (journal, signs) = (&observed.journal, &observed.signs);
     let Some(sources) = observe_all(rt, alloc, concentrator, observed, sources) else {
         return Err(ServiceFault::Run(HubFault::NoMemory));
     };
-    let time = Metronome::new(rt, output.rate, None);
+    let time = Metronome::new(rt, output.rate, service.tick_ms);
     let clock = ClockTicker::new(time, output.rate, options.ticks, &signs.is_clock_unreadable);
     let ticker = Reporting::new(
         rt,

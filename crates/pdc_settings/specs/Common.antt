@@ -1,5 +1,5 @@
 -- What a node and the merger are told alike, key by key (this profile).
-use Rattle.std.specs.Prelude.{◌≡◌, ℕ, Bool, ◌&&◌, List, codes, nat_eq, if◌then◌else◌, Option, Some, None, is_some, option_and_then}
+use Rattle.std.specs.Prelude.{◌≡◌, refl, ℕ, ◌/◌, Bool, ◌&&◌, List, codes, nat_eq, if◌then◌else◌, Option, Some, None, is_some, option_and_then}
 use Rattle.std.specs.Cmp.Lexicographic.{pointwise}
 use Rattle.toml.specs.Data.{Data, Members, as_str, get_member}
 use Rattle.pdc_frame.specs.declared.limits.TheConstants.{MAX_ID}
@@ -12,7 +12,7 @@ use Rattle.pdc_life.specs.declared.timing.WaitKind.TheVariants.{Relative, Absolu
 use Rattle.pdc_life.specs.declared.limits.TheConstants.{MAX_AHEAD, MAX_WAIT}
 use Rattle.pdc_life.specs.pdc_row.declared.limits.TheConstants.{MAX_WINDOW, MIN_WINDOW}
 use Rattle.pdc_publisher.specs.declared.publisher.TheConstants.{MAX_LEAD}
-use Rattle.pdc_settings.specs.Keys.{number_at, number_or}
+use Rattle.pdc_settings.specs.Keys.{number_at, number_or, optional_number}
 use Rattle.pdc_settings.specs.declared.limits.TheConstants.{MAX_PORT, MAX_TIME_BASE}
 use Rattle.pdc_settings.specs.declared.service.Service.{Service}
 use Rattle.pdc_life.specs.declared.timing.Timing.{Timing}
@@ -46,6 +46,24 @@ wait_kind_of (Some value) = option_and_then wait_kind_named (as_str value)
 abbrev pub wait_kind_in : Members → Option WaitKind
 wait_kind_in members = wait_kind_of (get_member (codes "wait_kind") members)
 
+-- the most whole milliseconds that are fewer than a frame lasts, at so many frames in a second
+abbrev pub most_tick_ms : ℕ → ℕ
+most_tick_ms rate = 999 / rate
+
+-- Worked: at 240 frames in a second a frame lasts more than four milliseconds, at 50 twenty.
+pub at_240 : most_tick_ms 240 ≡ 4
+at_240 = refl
+
+pub at_50 : most_tick_ms 50 ≡ 19
+at_50 = refl
+
+-- how many milliseconds behind each instant it ticks, where the key is there
+abbrev pub tick_ms_of : (rate : ℕ) → Members → Option (Option ℕ)
+tick_ms_of rate members = optional_number 0 (most_tick_ms rate) (get_member (codes "tick_ms") members)
+
+abbrev pub tick_ms_in : Members → Option (Option ℕ)
+tick_ms_in members = option_and_then (λ rate. tick_ms_of rate members) (rate_in members)
+
 -- the settings say this of the output
 pub record IsOutput (members : Members) (output : Output) : Type 0 where
   pub id : id_in members ≡ Some output.id.value
@@ -66,6 +84,7 @@ pub record IsService (members : Members) (service : Service) : Type 0 where
   pub layout_every : number_at (codes "layout_every") 1 MAX_PORT members ≡ Some service.layout_every
   pub out_port : number_at (codes "out_port") 1 MAX_PORT members ≡ Some service.out_port
   pub session_port : number_at (codes "session_port") 1 MAX_PORT members ≡ Some service.session_port
+  pub tick_ms : tick_ms_in members ≡ Some service.tick_ms
 
 -- each of these keys is there, and in its range
 abbrev pub has_output : Members → Bool
@@ -80,7 +99,7 @@ has_timing members =
 abbrev pub has_service : Members → Bool
 has_service members =
     is_some (number_or 0 0 MAX_LEAD (get_member (codes "lead") members)) && (is_some (number_at (codes "layout_every") 1 MAX_PORT members)
-    && (is_some (number_at (codes "out_port") 1 MAX_PORT members) && is_some (number_at (codes "session_port") 1 MAX_PORT members)))
+    && (is_some (number_at (codes "out_port") 1 MAX_PORT members) && (is_some (number_at (codes "session_port") 1 MAX_PORT members) && is_some (tick_ms_in members))))
 
 abbrev pub has_common : Members → Bool
 has_common members = has_output members && (has_timing members && has_service members)

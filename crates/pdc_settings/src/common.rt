@@ -1,11 +1,11 @@
 //! What a node and the merger are told alike.
 ghost use Rattle.std.specs.Prelude.{◌≡◌, ◌≤◌, IfOk, None, OnErr, OnOk, Some, false, true};
 ghost use Rattle.toml.specs.View.{table_view};
-ghost use Rattle.pdc_settings.specs.Common.{IsOutput, IsService, IsTiming, has_common, has_output, has_service, has_timing, nominal_in, nominal_of, wait_kind_in, wait_kind_named};
+ghost use Rattle.pdc_settings.specs.Common.{IsOutput, IsService, IsTiming, has_common, has_output, has_service, has_timing, nominal_in, nominal_of, rate_in, tick_ms_in, tick_ms_of, wait_kind_in, wait_kind_named};
 ghost use Rattle.pdc_settings.specs.Settings.{IsCommon};
 
-use crate::keys::{number, number_or, value_at};
-use crate::limits::{MAX_PORT, MAX_TIME_BASE};
+use crate::keys::{number, number_or, optional_number, value_at};
+use crate::limits::{MAX_PORT, MAX_TIME_BASE, MILLISECONDS};
 use crate::service::Service;
 use crate::wanted::Wanted;
 use pdc_frame::{MAX_ID, MAX_RATE, StreamId};
@@ -99,8 +99,19 @@ fn timing(table: &Table) -> Result<Timing, Wanted>
     })
 }
 
-/// What the running program does with the rows and frames.
-fn service(table: &Table) -> Result<Service, Wanted>
+/// How many milliseconds behind each instant it ticks, fewer than a frame lasts; none where the key is left out.
+fn tick_ms(table: &Table, rate: u16) -> Option<Option<u16>>
+    requires { 1 ≤ rate }
+    ensures { result ≡ tick_ms_of rate (table_view table.now) }
+{
+    let most = (MILLISECONDS - 1) / rate;
+    optional_number(table, "tick_ms", most)
+}
+
+/// What the running program does with the rows and frames, of which it publishes so many in a second.
+fn service(table: &Table, rate: u16) -> Result<Service, Wanted>
+    requires low { 1 ≤ rate }
+    requires rate { rate_in (table_view table.now) ≡ Some rate }
     ensures value { IfOk result (IsService (table_view table.now)) }
     ensures some { OnOk result (has_service (table_view table.now) ≡ true) }
     ensures none { OnErr result (has_service (table_view table.now) ≡ false) }
@@ -112,11 +123,15 @@ fn service(table: &Table) -> Result<Service, Wanted>
     let layout_every = number(table, "layout_every", 1, most, Wanted::LayoutEvery)?;
     let out_port = number(table, "out_port", 1, most, Wanted::OutPort)?;
     let session_port = number(table, "session_port", 1, most, Wanted::SessionPort)?;
+    let Some(tick_ms) = tick_ms(table, rate) else {
+        return Err(Wanted::TickMs);
+    };
     Ok(Service {
         lead: lead as u16,
         layout_every: layout_every as u16,
         out_port: out_port as u16,
         session_port: session_port as u16,
+        tick_ms,
     })
 }
 
@@ -136,7 +151,7 @@ pub(crate) fn read_common(table: &Table) -> Result<Common, Wanted>
 {
     let output = output(table)?;
     let timing = timing(table)?;
-    let service = service(table)?;
+    let service = service(table, output.rate)?;
     Ok(Common {
         output,
         timing,

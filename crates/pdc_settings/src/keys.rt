@@ -104,6 +104,19 @@ fn port_at(table: &Table, key: &str) -> Option<u16>
     }
 }
 
+/// The number at a key that may be left out, of at most so much: none then.
+pub(crate) fn optional_number(table: &Table, key: &str, most: u16) -> Option<Option<u16>>
+    ensures { result ≡ optional_number 0 most (get_member key.now (table_view table.now)) }
+{
+    match value_at(table, key) {
+        Some(value) => match number_in(value, 0, u64::from(most)) {
+            Some(number) => Some(Some(number as u16)),
+            None => None,
+        },
+        None => Some(None),
+    }
+}
+
 /// The port at a key that may be left out: none then.
 pub(crate) fn optional_port(table: &Table, key: &str) -> Option<Option<u16>>
     ensures { result ≡ optional_number 1 MAX_PORT (get_member key.now (table_view table.now)) }

@@ -13,6 +13,9 @@ pub struct Service {
     pub out_port: u16,
     /// The TCP port of the sessions, 1 to 65535.
     pub session_port: u16,
+    /// How many milliseconds behind each instant of the system's clock it ticks, fewer than a frame lasts; where there is none, a frame's
+    /// length apart from the start on.
+    pub tick_ms: Option<u16>,
     pub ghost lead_high: { lead ≤ MAX_LEAD },
     pub ghost layout_every_low: { 1 ≤ layout_every },
     pub ghost out_port_low: { 1 ≤ out_port },

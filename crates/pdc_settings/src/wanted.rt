@@ -19,6 +19,7 @@ pub enum Wanted {
     LayoutEvery,
     OutPort,
     SessionPort,
+    TickMs,
     Pmus,
     PmuStream,
     PmuSource,
@@ -56,6 +57,8 @@ impl Wanted {
             Wanted::LayoutEvery => "layout_every: a whole number from 1 to 65535",
             Wanted::OutPort => "out_port: a whole number from 1 to 65535",
             Wanted::SessionPort => "session_port: a whole number from 1 to 65535",
+            Wanted::TickMs =>
+                "tick_ms: a whole number of milliseconds from 0, below a frame's length, or left out",
             Wanted::Pmus => "pmu: 1 to 16 tables",
             Wanted::PmuStream => "stream of a pmu: a whole number from 1 to 65534",
             Wanted::PmuSource => "source of a pmu: a whole number from 1 to 65534",

@@ -96,7 +96,11 @@ fn tell_service(told: &mut String, service: &Service) -> Result<(), AllocError> 
         told,
         "{} {} {} {}",
         service.lead, service.layout_every, service.out_port, service.session_port
-    )
+    )?;
+    match service.tick_ms {
+        Some(milliseconds) => write!(told, " tick_ms {milliseconds}"),
+        None => Ok(()),
+    }
 }
 
 /// Tells one PMU of a node.
