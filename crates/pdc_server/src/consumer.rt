@@ -64,6 +64,13 @@ impl Consumer {
         self.got
     }
 
+    /// Whether it gets data.
+    pub fn wants_data(&self) -> bool
+        ensures { result ≡ (session_in self.now).told.on }
+    {
+        self.session.on()
+    }
+
     /// Whether it sent nothing in the last turn, and gets no data.
     pub fn is_silent(&self) -> bool
         ensures { result ≡ is_silent_in self.now }

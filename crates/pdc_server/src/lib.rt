@@ -15,6 +15,7 @@ mod ended;
 mod header;
 mod hearing;
 mod laws;
+mod line;
 mod listening;
 mod naming;
 mod recent;

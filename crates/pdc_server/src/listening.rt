@@ -1,5 +1,6 @@
 //! Connections, one after the other.
 use crate::consumer::Consumer;
+use crate::line::Line;
 use crate::naming::Naming;
 use crate::recent::Recent;
 use std::alloc::Global;
@@ -11,8 +12,11 @@ use std::sync::atomic::{AtomicU64, Ordering};
 use std::time::{Duration, Instant, SystemTime};
 use std::{io, thread};
 
-/// How long a read waits for a consumer, in milliseconds.
+/// How long one who gets data waits for a frame before he is heard again, in milliseconds.
 const TURN: u64 = 20;
+
+/// How long a read waits for one who gets none, in milliseconds: what he sends ends it, and an end of the run is seen behind it.
+const QUIET: u64 = 500;
 
 /// How long nobody is looked for after nobody came, in milliseconds: each of the threads that serve looks by itself, and each look wakes it.
 const LOOK: u64 = 100;
@@ -25,7 +29,7 @@ const SILENCE: u64 = 60;
 
 /// Sets the limits of a connection; what is written to it goes out at once.
 fn set_up<S: OpenStream>(stream: &S) -> io::Result<()> {
-    stream.set_read_timeout(Some(Duration::from_millis(TURN)))?;
+    stream.set_read_timeout(Some(Duration::from_millis(QUIET)))?;
     stream.set_write_timeout(Some(Duration::from_millis(WRITE_LIMIT)))?;
     stream.set_nodelay(true)
 }
@@ -52,23 +56,43 @@ fn is_over<R: Clock>(rt: &R, since: Option<Instant>) -> bool {
     }
 }
 
+/// Waits for the next frame of one who gets data, who is then heard as far as he has spoken. One who gets none is waited for by the read.
+fn wait_for_more<N: Naming, S, R: Wait + Clock>(
+    rt: &R,
+    recent: &Recent<N>,
+    consumer: &Consumer,
+    line: &mut Line<S>,
+) {
+    let is_on = consumer.wants_data();
+    line.set_hasty(is_on);
+    if is_on {
+        recent.wait_above(rt, consumer.got(), Duration::from_millis(TURN));
+    }
+}
+
 /// Serves one consumer to the end of its session, or until it has been silent for a minute while data is off: so that who says nothing keeps
 /// others out for no longer.
-fn serve_one<N: Naming, S: Read + Write + OpenStream, R: Wait + Clock>(
+fn serve_one<N: Naming, S: Read + Write + OpenStream + Drop, R: Wait + Clock>(
     rt: &R,
     alloc: Global,
     recent: &Recent<N>,
-    stream: &mut S,
+    stream: S,
 ) {
-    if set_up(stream).is_err() {
+    if set_up(&stream).is_err() {
         return;
     }
+    let mut line = Line::new(stream);
     let Ok(mut consumer) = Consumer::new(alloc, recent.id()) else {
         return;
     };
     let mut since = Instant::now(rt).ok();
     for _ in rt.forever() {
-        if recent.closed(rt) || consumer.turn(rt, recent, second_now(rt), stream).is_err() {
+        wait_for_more(rt, recent, &consumer, &mut line);
+        if recent.closed(rt)
+            || consumer
+                .turn(rt, recent, second_now(rt), &mut line)
+                .is_err()
+        {
             return;
         }
         if !consumer.is_silent() {
@@ -98,9 +122,8 @@ where
         }
         match listener.accept() {
             Ok((stream, _)) => {
-                let mut stream = stream;
                 present.fetch_add(1, Ordering::Relaxed);
-                serve_one(rt, alloc, recent, &mut stream);
+                serve_one(rt, alloc, recent, stream);
                 present.fetch_sub(1, Ordering::Relaxed);
             }
             Err(_) => thread::sleep(rt, Duration::from_millis(LOOK)),

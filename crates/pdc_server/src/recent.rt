@@ -8,13 +8,17 @@ use crate::remembered::Remembered;
 use pdc_frame::{Buffer, StreamId};
 use pdc_row::{Output, append_layout};
 use std::alloc::{AllocError, Global};
-use std::sync::{Mutex, Wait};
+use std::rt::Clock;
+use std::sync::{Condvar, Mutex, Wait};
+use std::time::Duration;
 
 /// The last 256 data frames of a stream that were sent, and its last layout frame. Each call takes the lock once, and may wait for it; none
 /// holds it for longer than a copy of what is asked for.
 #[derive(Drop)]
 pub struct Recent<N: Naming> {
     remembered: Mutex<Remembered<N>>,
+    /// Who waits for a frame is woken by it.
+    woken: Condvar,
     id: StreamId,
     pub ghost id_is: { id.value ≡ N.stream.id },
 }
@@ -40,6 +44,7 @@ impl<N: Naming> Recent<N> {
         let layout = first_layout(alloc, output, start)?;
         Ok(Recent {
             remembered: Mutex::new(Remembered::new(alloc, layout)?),
+            woken: Condvar::new(),
             id: output.id,
         })
     }
@@ -65,7 +70,19 @@ impl<N: Naming> Recent<N> {
     ) -> Result<(), AllocError>
         requires { ∥ IsData N.stream instant bytes.now ∥₁ }
     {
-        self.remembered.lock(rt).push(alloc, instant, bytes)
+        let mut held = self.remembered.lock(rt);
+        held.push(alloc, instant, bytes)?;
+        held.note(instant);
+        self.woken.notify_all();
+        Ok(())
+    }
+
+    /// Waits until a frame above the instant is kept, or no more is to be, and at most so long.
+    pub fn wait_above<R: Wait + Clock>(&self, rt: &R, instant: u64, most: Duration) {
+        let held = self.remembered.lock(rt);
+        let _woken = self
+            .woken
+            .wait_timeout_while(rt, held, most, |remembered| !remembered.wakes(instant));
     }
 
     /// Appends the frames above the instant, in order, and answers the greatest of their instants; the given one where there is none.
@@ -107,6 +124,7 @@ impl<N: Naming> Recent<N> {
     /// No more is to be kept.
     pub fn close<R: Wait>(&self, rt: &R) {
         self.remembered.lock(rt).closed = true;
+        self.woken.notify_all();
     }
 
     /// Whether no more is to be kept.

@@ -14,6 +14,8 @@ use std::marker::PhantomData;
 #[derive(Drop)]
 pub struct Remembered<N: Naming> {
     frames: Frames,
+    /// The greatest instant of a frame that was kept, at first 0.
+    last: u64,
     layout: Vec<u8>,
     pub closed: bool,
     of: PhantomData<N>,
@@ -29,6 +31,7 @@ impl<N: Naming> Remembered<N> {
     {
         Ok(Remembered {
             frames: Frames::new(alloc)?,
+            last: 0,
             layout,
             closed: false,
             of: PhantomData,
@@ -43,6 +46,16 @@ impl<N: Naming> Remembered<N> {
         ensures err { OnErr result (self.new ≡ self.old) }
     {
         self.frames.push(alloc, instant, bytes)
+    }
+
+    /// Notes that a frame of this instant was kept.
+    pub fn note(&mut self, instant: u64) {
+        self.last = self.last.max(instant);
+    }
+
+    /// Whether one who got data up to this instant is to be woken: a frame above it was kept, or no more is to be.
+    pub fn wakes(&self, instant: u64) -> bool {
+        self.closed || instant < self.last
     }
 
     /// Appends the frames above the instant, and answers the greatest of theirs, or the instant.
