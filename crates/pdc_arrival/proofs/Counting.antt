@@ -1,11 +1,9 @@
 -- One answer more is counted.
-use Rattle.std.proofs.Common.{[], ◌≡◌, ℕ, ◌<◌, Bool, true, false, cond, eqb, List, ◌∷◌, filter, get_or, length, map, set, length-set, refl, sym, ◌∙◌, ap, arith, suc}
+use Rattle.std.proofs.Common.{◌≡◌, ℕ, ◌<◌, Bool, true, false, cond, eqb, List, ◌∷◌, filter, get_or, length, map, set, length-set, refl, sym, ◌∙◌, ap, arith, suc}
 use Rattle.std.specs.List.{range_with_len}
 use Rattle.std.proofs.lemmas.Bool.{eqb-false, eqb-true}
 use Rattle.std.proofs.lemmas.List.{ext_get_or, get_or-set_other, get_or-set_same}
 use Rattle.std.proofs.lemmas.List.FromFn.{get_or-map-range_with_len, length-map-range_with_len}
-use Rattle.pdc_life.specs.pdc_frame.declared.fault.FrameFault.TheVariants.{Short, BadSync, SizeMismatch, BadCheck, BadId}
-use Rattle.pdc_life.specs.pdc_cfg.declared.fault.CfgFault.TheVariants.{WrongKind, Cut, TooMany, FloatFormat}
 use Rattle.pdc_life.specs.pdc_row.CellView.{CellView}
 use Rattle.pdc_life.specs.Arrival.{Arrival}
 use Rattle.pdc_life.specs.Counts.{count_answers, is_answered, is_refused_as, refused_as, shown}
@@ -13,41 +11,14 @@ use Rattle.pdc_life.specs.Life.{Arrive, Entry}
 use Rattle.pdc_life.specs.declared.outcome.Outcome.{Outcome}
 use Rattle.pdc_life.specs.declared.outcome.Outcome.TheVariants.{Candidate, Known, Refused, Taken}
 use Rattle.pdc_life.specs.declared.outcome.Refusal.{Refusal}
-use Rattle.pdc_life.specs.declared.outcome.Refusal.TheVariants.{NoFrame, WrongId, NoConfiguration, WrongTimeBase, WrongRate, WrongSource, BadOwnBlock, UnknownSource, OldStamp, StaleCount, CountConflict, BadTag, NoConfig, WrongLength, OtherStamp, Late, Ahead, OutOfWindow, Duplicate, Conflict}
 use Rattle.pdc_arrival.specs.declared.counts.Counts.{Counts}
-use Rattle.pdc_arrival.specs.Counts.{after_answer, counts_after, is_cause, next, number_of}
+use Rattle.pdc_life.specs.Causes.{number_of}
+use Rattle.pdc_life.specs.declared.outcome.TheConstants.{CAUSES}
+use Rattle.pdc_arrival.specs.Counts.{after_answer, counts_after, is_cause, next}
+use Rattle.pdc_life.proofs.Causes.{within}
 
 next_shown : (n : ℕ) → next (shown n) ≡ shown (suc n)
 next_shown n = omega arith
-
-within : (r : Refusal) → number_of r < 27
-within (NoFrame Short) = omega arith
-within (NoFrame BadSync) = omega arith
-within (NoFrame SizeMismatch) = omega arith
-within (NoFrame BadCheck) = omega arith
-within (NoFrame BadId) = omega arith
-within WrongId = omega arith
-within (NoConfiguration WrongKind) = omega arith
-within (NoConfiguration Cut) = omega arith
-within (NoConfiguration TooMany) = omega arith
-within (NoConfiguration FloatFormat) = omega arith
-within WrongTimeBase = omega arith
-within WrongRate = omega arith
-within WrongSource = omega arith
-within BadOwnBlock = omega arith
-within UnknownSource = omega arith
-within OldStamp = omega arith
-within StaleCount = omega arith
-within CountConflict = omega arith
-within BadTag = omega arith
-within NoConfig = omega arith
-within WrongLength = omega arith
-within OtherStamp = omega arith
-within Late = omega arith
-within Ahead = omega arith
-within OutOfWindow = omega arith
-within Duplicate = omega arith
-within Conflict = omega arith
 
 -- the arrivals that were refused by the cause of this number
 abbrev refused_by : List Entry → ℕ → ℕ
@@ -58,17 +29,17 @@ abbrev refused_more : (e : Entry) (E : List Entry) (n : ℕ) → Bool → ℕ
 refused_more e E n b = shown (length (cond b (e ∷ filter (is_answered (is_refused_as (is_cause n))) E) (filter (is_answered (is_refused_as (is_cause n))) E)))
 
 abbrev causes_of : List Entry → List ℕ
-causes_of E = map (refused_by E) (range_with_len 0 27)
+causes_of E = map (refused_by E) (range_with_len 0 CAUSES)
 
-cause_at : (E : List Entry) (n : ℕ) → n < 27 → get_or (causes_of E) n 0 ≡ refused_by E n
-cause_at E n l = get_or-map-range_with_len (refused_by E) 0 27 n n 0 l (omega arith)
+cause_at : (E : List Entry) (n : ℕ) → n < CAUSES → get_or (causes_of E) n 0 ≡ refused_by E n
+cause_at E n l = get_or-map-range_with_len (refused_by E) 0 CAUSES n n 0 l (omega arith)
 
-one_cause : (e : Entry) (E : List Entry) (k n : ℕ) (b : Bool) → eqb k n ≡ b → k < 27 → n < 27
+one_cause : (e : Entry) (E : List Entry) (k n : ℕ) (b : Bool) → eqb k n ≡ b → k < CAUSES → n < CAUSES
     → get_or (set (causes_of E) k (next (get_or (causes_of E) k 0))) n 0 ≡ refused_more e E n b
 one_cause e E k n true is l m =
     let same : k ≡ n = eqb-true k n is in
     ap (λ j. get_or (set (causes_of E) j (next (get_or (causes_of E) j 0))) n 0) same
-    ∙ get_or-set_same (causes_of E) n (next (get_or (causes_of E) n 0)) 0 (omega (arith, m, length-map-range_with_len (refused_by E) 0 27))
+    ∙ get_or-set_same (causes_of E) n (next (get_or (causes_of E) n 0)) 0 (omega (arith, m, length-map-range_with_len (refused_by E) 0 CAUSES))
     ∙ ap next (cause_at E n m)
     ∙ next_shown (count_answers (is_refused_as (is_cause n)) E)
 one_cause e E k n false is l m =
@@ -80,8 +51,8 @@ causes_more : (E : List Entry) (s : ℕ) (bytes : List ℕ) (a : Arrival) (cells
 causes_more E s bytes a cells r =
     let e : Entry = Arrive s bytes a (record { outcome = Refused r; cells = cells }) in
     let new : List ℕ = set (causes_of E) (number_of r) (next (get_or (causes_of E) (number_of r) 0)) in
-    let l : length new ≡ 27 = length-set (causes_of E) (number_of r) (next (get_or (causes_of E) (number_of r) 0)) ∙ length-map-range_with_len (refused_by E) 0 27 in
-    let m : length (causes_of (e ∷ E)) ≡ 27 = length-map-range_with_len (refused_by (e ∷ E)) 0 27 in
+    let l : length new ≡ CAUSES = length-set (causes_of E) (number_of r) (next (get_or (causes_of E) (number_of r) 0)) ∙ length-map-range_with_len (refused_by E) 0 CAUSES in
+    let m : length (causes_of (e ∷ E)) ≡ CAUSES = length-map-range_with_len (refused_by (e ∷ E)) 0 CAUSES in
     ext_get_or 0 new (causes_of (e ∷ E)) (l ∙ sym m)
     (λ n k. one_cause e E (number_of r) n (eqb (number_of r) n) refl (within r) (omega (arith, k, l))
     ∙ sym (cause_at (e ∷ E) n (omega (arith, k, l))))
@@ -99,40 +70,3 @@ counted_more E s bytes a cells (Refused r) =
 -- what the counters show of a cause is how often the life refused by it
 pub shows_cause : (E : List Entry) (k : Counts) (r : Refusal) → k ≡ counts_after E → get_or k.causes (number_of r) 0 ≡ refused_as (is_cause (number_of r)) E
 shows_cause E k r e = ap (λ (x : Counts). get_or x.causes (number_of r) 0) e ∙ cause_at E (number_of r) (within r)
-
--- ---- the causes
-
-abbrev causes : List Refusal
-causes = NoFrame Short ∷ NoFrame BadSync ∷ NoFrame SizeMismatch ∷ NoFrame BadCheck ∷ NoFrame BadId ∷ WrongId ∷ NoConfiguration WrongKind ∷ NoConfiguration Cut ∷ NoConfiguration TooMany ∷ NoConfiguration FloatFormat ∷ WrongTimeBase ∷ WrongRate ∷ WrongSource ∷ BadOwnBlock ∷ UnknownSource ∷ OldStamp ∷ StaleCount ∷ CountConflict ∷ BadTag ∷ NoConfig ∷ WrongLength ∷ OtherStamp ∷ Late ∷ Ahead ∷ OutOfWindow ∷ Duplicate ∷ Conflict ∷ []
-
-named : (r : Refusal) → get_or causes (number_of r) Conflict ≡ r
-named (NoFrame Short) = refl
-named (NoFrame BadSync) = refl
-named (NoFrame SizeMismatch) = refl
-named (NoFrame BadCheck) = refl
-named (NoFrame BadId) = refl
-named WrongId = refl
-named (NoConfiguration WrongKind) = refl
-named (NoConfiguration Cut) = refl
-named (NoConfiguration TooMany) = refl
-named (NoConfiguration FloatFormat) = refl
-named WrongTimeBase = refl
-named WrongRate = refl
-named WrongSource = refl
-named BadOwnBlock = refl
-named UnknownSource = refl
-named OldStamp = refl
-named StaleCount = refl
-named CountConflict = refl
-named BadTag = refl
-named NoConfig = refl
-named WrongLength = refl
-named OtherStamp = refl
-named Late = refl
-named Ahead = refl
-named OutOfWindow = refl
-named Duplicate = refl
-named Conflict = refl
-
-pub told_apart : (a b : Refusal) → number_of a ≡ number_of b → a ≡ b
-told_apart a b e = sym (named a) ∙ ap (λ n. get_or causes n Conflict) e ∙ named b

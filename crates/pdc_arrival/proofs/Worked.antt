@@ -1,10 +1,11 @@
 -- Counters of a life worked out.
-use Rattle.std.specs.Prelude.{◌≡◌, [], ◌∷◌, ◌++◌, refl, replicate}
+use Rattle.std.specs.Prelude.{◌≡◌, ◌-◌, [], ◌∷◌, ◌++◌, refl, replicate}
 use Rattle.pdc_life.specs.pdc_frame.declared.fault.FrameFault.TheVariants.{Short}
 use Rattle.pdc_life.specs.declared.outcome.Outcome.{Outcome}
 use Rattle.pdc_life.specs.declared.outcome.Outcome.TheVariants.{Candidate, Known, Refused, Taken}
 use Rattle.pdc_life.specs.declared.outcome.Refusal.TheVariants.{Late, NoFrame}
 use Rattle.pdc_life.specs.Answer.{bare}
+use Rattle.pdc_life.specs.declared.outcome.TheConstants.{CAUSES}
 use Rattle.pdc_life.specs.Arrival.{BytesRefused}
 use Rattle.pdc_life.specs.Life.{Arrive, Entry, Pop}
 use Rattle.std.specs.Prelude.{None}
@@ -23,6 +24,6 @@ worked : counts_after
       candidate = 1;
       known = 1;
       refused = 3;
-      causes = 1 ∷ replicate 21 0 ++ 2 ∷ replicate 4 0;
+      causes = 1 ∷ replicate 21 0 ++ 2 ∷ replicate (CAUSES - 23) 0;
     }
 worked = refl

@@ -20,14 +20,14 @@ mod sections;
 mod stamps;
 
 pub use arrival::{Arrival, ColumnSection, Stamp};
-pub use counts::{CAUSES, Counts, causes_are_told_apart};
+pub use counts::Counts;
 pub use from_node::{Heard, NODES, arrival_from_node, hear_from_node, read_from_node};
 pub use from_pmu::{arrival_from_pmu, hear_from_pmu, read_from_pmu};
 pub use own_block::{bears, body};
 pub use pdc_life::{
-    Body, Buffer, DueRow, MAX_PMUS, MergerSettings, OWN_BLOCK_LEN, Outcome, Output, Refusal,
-    Section, SectionView, Settings, Shape, WaitKind, append_layout, cells_are_of_sections,
-    numbers_rise, taken_is_in_time,
+    Body, Buffer, CAUSES, DueRow, MAX_PMUS, MergerSettings, OWN_BLOCK_LEN, Outcome, Output,
+    Refusal, Section, SectionView, Settings, Shape, WaitKind, append_layout, causes_are_told_apart,
+    cells_are_of_sections, numbers_rise, taken_is_in_time,
 };
 pub use sections::{count_for, differs, is_candidate, section_answer};
 pub use stamps::layout_answer;

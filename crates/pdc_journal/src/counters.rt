@@ -3,45 +3,12 @@
 use crate::left_out::MergedSource;
 use crate::output_tally::OutputTally;
 use crate::tally::{Of, Tally};
-use pdc_cfg::CfgFault;
-use pdc_frame::FrameFault;
 use pdc_ports::{Counts, Refusal, Told};
 use std::alloc::{AllocError, Global};
 
-/// The causes of refusals, in the order in which they are printed.
-pub const CAUSES: [Refusal; 27] = [
-    Refusal::NoFrame(FrameFault::Short),
-    Refusal::NoFrame(FrameFault::BadSync),
-    Refusal::NoFrame(FrameFault::SizeMismatch),
-    Refusal::NoFrame(FrameFault::BadCheck),
-    Refusal::NoFrame(FrameFault::BadId),
-    Refusal::WrongId,
-    Refusal::NoConfiguration(CfgFault::WrongKind),
-    Refusal::NoConfiguration(CfgFault::Cut),
-    Refusal::NoConfiguration(CfgFault::TooMany),
-    Refusal::NoConfiguration(CfgFault::FloatFormat),
-    Refusal::WrongTimeBase,
-    Refusal::WrongRate,
-    Refusal::WrongSource,
-    Refusal::StaleCount,
-    Refusal::CountConflict,
-    Refusal::NoConfig,
-    Refusal::WrongLength,
-    Refusal::BadTag,
-    Refusal::Late,
-    Refusal::Ahead,
-    Refusal::OutOfWindow,
-    Refusal::Duplicate,
-    Refusal::Conflict,
-    Refusal::OldStamp,
-    Refusal::OtherStamp,
-    Refusal::BadOwnBlock,
-    Refusal::UnknownSource,
-];
-
 /// Appends for each cause that refused any its code, its name and how many, as `, B4 Late 3`.
 fn append_causes(alloc: Global, counts: &Counts, line: &mut String) -> Result<(), AllocError> {
-    for cause in CAUSES {
+    for cause in Refusal::ALL {
         let count = counts.refused_as(cause);
         if count > 0 {
             let name = cause.text();

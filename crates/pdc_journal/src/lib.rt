@@ -26,7 +26,7 @@ mod tally;
 mod watchers;
 
 pub use announcing_sink::{AnnouncingSink, Followers};
-pub use counters::{CAUSES, counters_line};
+pub use counters::counters_line;
 pub use counting_sink::CountingSink;
 pub use journal::Journal;
 pub use left_out::{Compared, LeftOut, MAX_SOURCES, MergedSource};
@@ -34,6 +34,7 @@ pub use measured::{Measured, MeasuredSource, Standing};
 pub use observed_source::ObservedSource;
 pub use opening::Opening;
 pub use output_tally::OutputTally;
+pub use pdc_ports::Refusal;
 pub use reporting::{Reporting, RunCounters};
 pub use tags::Tags;
 pub use tally::{Of, Tally};

@@ -35,3 +35,4 @@ pub use Rattle.pdc_row.proofs as pdc_row
 pub use Rattle.pdc_row.proofs.pdc_frame
 pub use Rattle.pdc_row.proofs.pdc_block
 pub use Rattle.pdc_row.proofs.pdc_cfg
+pub mod Causes

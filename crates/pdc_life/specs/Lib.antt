@@ -5,6 +5,7 @@ pub mod CellData
 pub mod Cells
 pub mod CoreKind
 pub mod Counts
+pub mod Causes
 pub mod Distinct
 pub mod Frames
 pub mod Gave

@@ -5,7 +5,7 @@ use crate::families::{
 };
 use crate::metered::Metered;
 use crate::time::{now_micros, tag_micros};
-use pdc_journal::{CAUSES, LeftOut, Of, OutputTally, Standing, Tally};
+use pdc_journal::{LeftOut, Of, OutputTally, Refusal, Standing, Tally};
 use std::alloc::{AllocError, Global};
 use std::rt::Clock;
 use std::sync::Wait;
@@ -125,7 +125,7 @@ fn append_taken<R: Wait>(rt: &R, tallies: &[Tally], text: &mut String) -> Result
 /// What was refused of a stream, by cause.
 fn append_causes<R: Wait>(rt: &R, tally: &Tally, text: &mut String) -> Result<(), AllocError> {
     let counts = tally.counts(rt);
-    for cause in CAUSES {
+    for cause in Refusal::ALL {
         let count = counts.refused_as(cause);
         if count > 0 {
             append_cause(REFUSED, tally.of, cause.text(), count, text)?;

@@ -1,61 +1,29 @@
 -- What the body of an entry says is told by its kind and its bytes.
-use Rattle.std.proofs.Common.{◌≡◌, ℕ, ◌+◌, ◌^◌, ◌<◌, ◌≤◌, Bool, true, false, Option, Some, None, List, [], ◌∷◌, ◌++◌, length, get_or, refl, sym, ap, ◌∙◌, append_assoc, arith, length-append}
+use Rattle.std.proofs.Common.{◌≡◌, ℕ, ◌+◌, ◌^◌, ◌<◌, ◌≤◌, Bool, true, false, Option, Some, None, List, [], ◌∷◌, ◌++◌, length, refl, sym, ap, ◌∙◌, append_assoc, arith, length-append}
 use Rattle.std.specs.Int.{w32, w64, to_be_bytes}
-use Rattle.pdc_life.specs.pdc_cfg.declared.fault.CfgFault.TheVariants.{WrongKind, Cut, TooMany, FloatFormat}
-use Rattle.pdc_life.specs.pdc_frame.declared.fault.FrameFault.TheVariants.{Short, BadSync, SizeMismatch, BadCheck, BadId}
 use Rattle.pdc_life.specs.declared.outcome.Outcome.{Outcome}
 use Rattle.pdc_life.specs.declared.outcome.Outcome.TheVariants.{Taken, Candidate, Known, Refused}
-use Rattle.pdc_life.specs.declared.outcome.Refusal.{Refusal}
-use Rattle.pdc_life.specs.declared.outcome.Refusal.TheVariants.{NoFrame, WrongId, NoConfiguration, WrongTimeBase, WrongRate, WrongSource, BadOwnBlock, UnknownSource, OldStamp, StaleCount, CountConflict, BadTag, NoConfig, WrongLength, OtherStamp, Late, Ahead, OutOfWindow, Duplicate, Conflict}
 use Rattle.pdc_life.specs.pdc_row.declared.limits.TheConstants.{MAX_PMUS}
-use Rattle.pdc_record.specs.Answers.{answer_number, refusal_number}
+use Rattle.pdc_life.specs.Causes.{number_of}
+use Rattle.pdc_life.specs.declared.outcome.TheConstants.{CAUSES}
+use Rattle.pdc_life.proofs.Causes.{told_apart, within}
+use Rattle.pdc_record.specs.Answers.{answer_number}
 use Rattle.pdc_record.specs.Told.{Tick, Told, Began, Arrived, Unanswered, Ticked, FoundNone, Popped, Laid, Missing}
 use Rattle.pdc_record.specs.Bodies.{AreWords, FitsTick, FitsWidths, IsTold, body_of, change_number, flags_of, kind_number, outcome_of, rest_of, words_of}
 use Rattle.pdc_record.proofs.Numbers.{same_word, same_long, same_wide, same_byte, same_words, length-words_of}
 use Rattle.pdc_record.proofs.Beginnings.{same_start, length-began}
 
--- the refusals by their numbers
-refusals : List Refusal
-refusals = NoFrame Short ∷ NoFrame BadSync ∷ NoFrame SizeMismatch ∷ NoFrame BadCheck ∷ NoFrame BadId ∷ WrongId ∷ NoConfiguration WrongKind ∷ NoConfiguration Cut ∷ NoConfiguration TooMany
-    ∷ NoConfiguration FloatFormat ∷ WrongTimeBase ∷ WrongRate ∷ WrongSource ∷ BadOwnBlock ∷ UnknownSource ∷ OldStamp ∷ StaleCount ∷ CountConflict ∷ BadTag ∷ NoConfig ∷ WrongLength ∷ OtherStamp ∷ Late
-    ∷ Ahead ∷ OutOfWindow ∷ Duplicate ∷ Conflict ∷ []
-
-refusal_at : (r : Refusal) → get_or refusals (refusal_number r) WrongId ≡ r
-unfolding refusals
-refusal_at (NoFrame Short) = refl
-refusal_at (NoFrame BadSync) = refl
-refusal_at (NoFrame SizeMismatch) = refl
-refusal_at (NoFrame BadCheck) = refl
-refusal_at (NoFrame BadId) = refl
-refusal_at (NoConfiguration WrongKind) = refl
-refusal_at (NoConfiguration Cut) = refl
-refusal_at (NoConfiguration TooMany) = refl
-refusal_at (NoConfiguration FloatFormat) = refl
-refusal_at r = refl
-
-refusal_below : (r : Refusal) → refusal_number r < 27
-refusal_below (NoFrame Short) = omega arith
-refusal_below (NoFrame BadSync) = omega arith
-refusal_below (NoFrame SizeMismatch) = omega arith
-refusal_below (NoFrame BadCheck) = omega arith
-refusal_below (NoFrame BadId) = omega arith
-refusal_below (NoConfiguration WrongKind) = omega arith
-refusal_below (NoConfiguration Cut) = omega arith
-refusal_below (NoConfiguration TooMany) = omega arith
-refusal_below (NoConfiguration FloatFormat) = omega arith
-refusal_below r = omega arith
-
-pub answer_below : (o : Outcome) → answer_number o < 30
+pub answer_below : (o : Outcome) → answer_number o < 3 + CAUSES
 answer_below Taken = omega arith
 answer_below Candidate = omega arith
 answer_below Known = omega arith
-answer_below (Refused r) = omega (arith, refusal_below r)
+answer_below (Refused r) = omega (arith, within r)
 
 -- an answer is known by its number
 answer_known : (a b : Outcome) → answer_number a ≡ answer_number b → a ≡ b
 answer_known (Refused r) (Refused s) e =
-    let number : refusal_number r ≡ refusal_number s = omega (arith, e) in
-    ap Refused (sym (refusal_at r) ∙ ap (λ (n : ℕ). get_or refusals n WrongId) number ∙ refusal_at s)
+    let number : number_of r ≡ number_of s = omega (arith, e) in
+    ap Refused (told_apart r s number)
 answer_known Taken Taken e = refl
 answer_known Candidate Candidate e = refl
 answer_known Known Known e = refl

@@ -15,12 +15,6 @@ pub(crate) const OVERHEAD: usize = 23;
 /// The longest entry: what a life began with, before the longest text.
 pub(crate) const MAX_LEN: usize = 1048664;
 
-/// How many refusals there are.
-pub(crate) const REFUSALS: u8 = 27;
-
-/// How many answers there are.
-pub(crate) const ANSWERS: u8 = 30;
-
 /// The bytes of the counts.
 pub(crate) const COUNTS_LEN: usize = 32;
 

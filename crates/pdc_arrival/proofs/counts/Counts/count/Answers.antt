@@ -1,6 +1,5 @@
 use Rattle.std.proofs.Common.{◌∙◌, ap}
 use Rattle.pdc_life.specs.declared.outcome.Outcome.{Outcome}
-use Rattle.pdc_arrival.specs.declared.counts.Counts.{Counts}
 use Rattle.pdc_arrival.specs.Counts.{after_answer, counts_after}
 use Rattle.pdc_arrival.proofs.Counting.{counted_more}
 use Rattle.pdc_arrival.proofs.counts.Counts.count.Goals as goal
