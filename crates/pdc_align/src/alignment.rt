@@ -1,6 +1,7 @@
 //! The alignment of a concentrator: what it keeps, what is looked up in it, and its steps, each said of what it keeps; those of a tick
 //! stand in `ticking.rt`. What they mean for a life stands in `life_calls.rt`.
-ghost use Rattle.std.specs.Prelude.{◌≡◌, ◌<◌, List, IfOk, IfSome, false, length, map, option_map};
+ghost use Rattle.std.specs.Prelude.{◌≡◌, ◌<◌, List, IfOk, IfSome, false, length, map, option_map, OnErr};
+ghost use Rattle.pdc_memory.specs.Asking.{SomeWasRefused};
 ghost use Rattle.std.specs.List.{All};
 ghost use Rattle.pdc_arrival.specs.pdc_cfg.Section.{fields_of_view};
 ghost use Rattle.pdc_arrival.specs.pdc_row.RowView.{RowView, row_view};
@@ -85,6 +86,7 @@ fn new_table<T: Table>(alloc: Global, plan: Plan, floor: u64) -> Result<T, Alloc
     ensures content { IfOk result (λ t. T.content t ≡ first_content plan.window plan.columns plan.lanes floor) }
     ensures well_formed { IfOk result (λ t. IsContent (T.content t)) }
     ensures disagreements { IfOk result (λ t. T.disagreements t ≡ 0) }
+    ensures refused { OnErr result SomeWasRefused }
 {
     let mut table = T::new(alloc, plan.window, plan.columns, plan.lanes, floor)?;
     if plan.lanes != 1 {
@@ -155,6 +157,7 @@ impl<T: Table> Alignment<T> {
         ensures state { IfOk result (λ a. a.state ≡ first_of_plan plan start floor counts.now now) }
         ensures disagreements { IfOk result (λ a. a.disagreements ≡ 0) }
         ensures popped { IfOk result (λ a. a.popped ≡ floor) }
+        ensures refused { OnErr result SomeWasRefused }
     {
         let columns = columns::new_columns(alloc, plan.columns, counts)?;
         let shapes = columns::shapes(columns.as_slice());

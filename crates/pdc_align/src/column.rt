@@ -1,5 +1,6 @@
 //! What is kept of a column.
-ghost use Rattle.std.specs.Prelude.{◌≡◌, IfOk, None, option_map};
+ghost use Rattle.std.specs.Prelude.{◌≡◌, IfOk, None, option_map, OnErr};
+ghost use Rattle.pdc_memory.specs.Asking.{SomeWasRefused};
 ghost use Rattle.pdc_align.specs.Calls.{clear_to, is_ready_in, with_adoption, with_section};
 ghost use Rattle.pdc_align.specs.Slot.{count_in};
 ghost use Rattle.pdc_arrival.specs.pdc_cfg.Section.{fields_of_view};
@@ -40,7 +41,8 @@ impl Model for Column {
 impl Column {
     /// A column for which nothing came; up to its opening count all is cleared. It takes the memory for its sections.
     pub(crate) fn new(alloc: Global, opening: u16) -> Result<Column, AllocError>
-        ensures { IfOk result (λ column. column ≡ record { opening = opening; cleared = opening; held = None; in_force = None }) }
+        ensures column { IfOk result (λ column. column ≡ record { opening = opening; cleared = opening; held = None; in_force = None }) }
+        ensures refused { OnErr result SomeWasRefused }
     {
         Ok(Column {
             opening,

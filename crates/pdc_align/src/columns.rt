@@ -1,5 +1,6 @@
 //! All columns of an alignment, one call for each thing that is asked of them.
-ghost use Rattle.std.specs.Prelude.{◌≡◌, ℕ, ◌+◌, ◌-◌, ◌<◌, ◌≤◌, ◌++◌, [], ◌∷◌, if◌then◌else◌, IfOk, length, map, replicate};
+ghost use Rattle.std.specs.Prelude.{◌≡◌, ℕ, ◌+◌, ◌-◌, ◌<◌, ◌≤◌, ◌++◌, [], ◌∷◌, if◌then◌else◌, IfOk, length, map, replicate, OnErr};
+ghost use Rattle.pdc_memory.specs.Asking.{SomeWasRefused};
 ghost use Rattle.std.specs.List.{All, list_any, range_with_len};
 ghost use Rattle.pdc_arrival.specs.pdc_life.Answer.{greatest_count};
 ghost use Rattle.pdc_arrival.specs.Views.{section_part};
@@ -21,7 +22,8 @@ pub fn new_columns(
     counts: &[u16; MAX_PMUS],
 ) -> Result<Held<Column>, AllocError>
     requires { count ≤ MAX_PMUS }
-    ensures { IfOk result (λ columns. columns.items ≡ map (new_column counts.now) (range_with_len 0 count)) }
+    ensures items { IfOk result (λ columns. columns.items ≡ map (new_column counts.now) (range_with_len 0 count)) }
+    ensures refused { OnErr result SomeWasRefused }
 {
     let mut columns = Held::with_capacity(alloc, count)?;
     for place in 0..count {

@@ -1,5 +1,6 @@
 //! The frame of the layout in force.
 ghost use Rattle.std.specs.Prelude.{◌≡◌, ◌+◌, ◌≤◌, ◌++◌, IsOk, List, OnErr, OnOk, length};
+ghost use Rattle.pdc_memory.specs.Asking.{ForSome};
 ghost use Rattle.pdc_align.specs.Align.{StandsFor};
 ghost use Rattle.pdc_arrival.specs.pdc_life.Given.{Given};
 ghost use Rattle.pdc_arrival.specs.pdc_life.Life.{Entry};
@@ -33,6 +34,8 @@ pub fn append_layout_frame<T: Table, B: Buffer>(
     ensures err { OnErr result ((B.content out.new ≡ B.content out.old) × (B.capacity out.new ≡ B.capacity out.old)) }
     ensures room { (g : Given) (E : List Entry) → StandsFor g E alignment.now.state → output.now ≡ g.output → start ≡ g.start → columns ≡ g.columns →
         length (B.content out.old) + length (layout_wire g E soc) ≤ B.capacity out.old → IsOk result }
+    // A request for the whole frame was refused.
+    ensures refused { OnErr result (ForSome (B.refused out.new)) }
     // Where there was room, it takes no memory.
     ensures in_place { (g : Given) (E : List Entry) → StandsFor g E alignment.now.state → output.now ≡ g.output → start ≡ g.start → columns ≡ g.columns →
         length (B.content out.old) + length (layout_wire g E soc) ≤ B.capacity out.old → B.capacity out.new ≡ B.capacity out.old }

@@ -1,5 +1,6 @@
 //! The calls of an alignment, said of every life that it stands for: each is a step, and the laws by which the step follows the life.
-ghost use Rattle.std.specs.Prelude.{◌≡◌, ◌<◌, ◌≤◌, [], ◌∷◌, ℕ, List, IfOk, IfSome, Option, false, length, map, option_map};
+ghost use Rattle.std.specs.Prelude.{◌≡◌, ◌<◌, ◌≤◌, [], ◌∷◌, ℕ, List, IfOk, IfSome, Option, false, length, map, option_map, OnErr};
+ghost use Rattle.pdc_memory.specs.Asking.{SomeWasRefused};
 ghost use Rattle.std.specs.List.{All};
 ghost use Rattle.pdc_arrival.specs.pdc_row.declared.output.Output.{Output};
 ghost use Rattle.pdc_arrival.specs.pdc_block.Block.{words_in};
@@ -35,7 +36,7 @@ impl<T: Table> Alignment<T> {
     ///
     /// # Errors
     ///
-    /// [`AllocError`] where there is no memory. No other call takes any.
+    /// [`AllocError`] where a request for memory was refused. No other call makes one.
     pub fn new(
         alloc: Global,
         plan: Plan,
@@ -48,6 +49,7 @@ impl<T: Table> Alignment<T> {
         ensures sizes { IfOk result (λ a. HasSizes plan.columns plan.lanes a.state) }
         ensures disagreements { IfOk result (λ a. a.disagreements ≡ 0) }
         ensures popped { IfOk result (λ a. a.popped ≡ floor) }
+        ensures refused { OnErr result SomeWasRefused }
     {
         Alignment::first(alloc, plan, start, floor, counts, now)
     }

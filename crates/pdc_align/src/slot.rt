@@ -1,5 +1,6 @@
 //! A place for a section.
-ghost use Rattle.std.specs.Prelude.{◌≡◌, IfOk, None, Some, option_map};
+ghost use Rattle.std.specs.Prelude.{◌≡◌, IfOk, None, Some, option_map, OnErr};
+ghost use Rattle.pdc_memory.specs.Asking.{SomeWasRefused};
 ghost use Rattle.pdc_arrival.specs.pdc_cfg.Section.{fields_of_view};
 ghost use Rattle.pdc_align.specs.Slot.{count_in};
 ghost use Rattle.pdc_align.specs.State.{shape_in};
@@ -34,7 +35,8 @@ impl Model for Slot {
 impl Slot {
     /// A place in which no section stands. It takes the memory for one.
     pub(crate) fn new(alloc: Global) -> Result<Slot, AllocError>
-        ensures { IfOk result (λ slot. slot ≡ None) }
+        ensures none { IfOk result (λ slot. slot ≡ None) }
+        ensures refused { OnErr result SomeWasRefused }
     {
         Ok(Slot {
             count: None,

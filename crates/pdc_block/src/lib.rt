@@ -27,7 +27,8 @@ pub use pdc_cfg::{
     Buffer, CHECK_LEN, CfgFault, ConfigView, Frame, FrameFault, HEADER_LEN, Kind, MAX_SECTION_LEN,
     MAX_WORDS, OVERHEAD, Section, SectionView, Shape, StreamId, begin_frame,
     configurations_are_read_in_one_way, end_frame, frames_are_read_in_one_way,
-    frames_are_written_in_parts, read_config, read_frame, read_word, write_config, write_ends,
+    frames_are_written_in_parts, instant, instant_is_nearest, read_config, read_frame, read_word,
+    tag_is_nearest, tag_of, write_config, write_ends,
 };
 pub use reading::{cut, read_body};
 pub use stat::{ErrorClass, Stat};

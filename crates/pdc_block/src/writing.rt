@@ -297,6 +297,8 @@ pub fn join<B: Buffer>(blocks: &[Block], out: &mut B) -> Result<(), AllocError>
     // It fails only where there was no room, and then nothing is appended.
     ensures err { OnErr result ((B.content out.new ≡ B.content out.old) × (B.capacity out.new ≡ B.capacity out.old)) }
     ensures room { length (B.content out.old) + sum_by (λ block. body_len_of (shape_of block)) blocks.now ≤ B.capacity out.old → IsOk result }
+    // A request for all their bytes was refused.
+    ensures refused { OnErr result (B.refused out.new (sum_by (λ block. body_len_of (shape_of block)) blocks.now)) }
     // Where there was room, it takes no memory.
     ensures in_place { length (B.content out.old) + sum_by (λ block. body_len_of (shape_of block)) blocks.now ≤ B.capacity out.old
         → B.capacity out.new ≡ B.capacity out.old }

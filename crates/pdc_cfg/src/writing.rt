@@ -3,6 +3,7 @@ ghost use Rattle.std.specs.Prelude.{◌≡◌, ◌+◌, ◌*◌, ◌^◌, ◌<�
 ghost use Rattle.std.specs.List.{flat_map};
 ghost use Rattle.std.specs.Int.{w16, w32, to_be_bytes, cast_unsigned};
 ghost use Rattle.pdc_frame.specs.Frame.{spelling_of, IsFrame};
+ghost use Rattle.pdc_frame.specs.declared.limits.TheConstants.{OVERHEAD};
 ghost use Rattle.pdc_cfg.specs.Config.{IsConfigKind, IsConfig, config_fields_of, config_frame_of, payload_of};
 
 use crate::config::{ConfigView, MAX_SECTIONS};
@@ -108,6 +109,8 @@ pub fn write_config<B: Buffer>(
     // It fails only where there was no room, and then nothing is appended.
     ensures err { OnErr result ((B.content out.new ≡ B.content out.old) × (B.capacity out.new ≡ B.capacity out.old)) }
     ensures room { length (B.content out.old) + length (spelling_of (config_frame_of kind id.value soc (config_fields_of config.now))) ≤ B.capacity out.old → IsOk result }
+    // A request for the whole frame was refused.
+    ensures refused { OnErr result (B.refused out.new (length (payload_of (config_fields_of config.now)) + OVERHEAD)) }
     // Where there was room, it takes no memory.
     ensures in_place { length (B.content out.old) + length (spelling_of (config_frame_of kind id.value soc (config_fields_of config.now))) ≤ B.capacity out.old
         → B.capacity out.new ≡ B.capacity out.old }

@@ -4,3 +4,4 @@ pub mod Fits
 pub mod Said
 pub mod Step
 pub mod KeptArrival
+pub use Rattle.pdc_memory.specs as pdc_memory

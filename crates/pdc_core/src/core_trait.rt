@@ -1,5 +1,6 @@
 //! What a node and the merger are to the programs that run them.
 ghost use Rattle.std.specs.Prelude.{◌≡◌, ◌≤◌, ◌<◌, ◌+◌, ◌*◌, ◌++◌, ◌∷◌, ℕ, IfSome, IsOk, List, OnErr, OnOk, false, length, option_map, true};
+ghost use Rattle.pdc_memory.specs.Asking.{ForSome};
 ghost use Rattle.pdc_align.specs.Align.{ticked_of};
 ghost use Rattle.pdc_align.specs.pdc_arrival.Counts.{after_answer, counts_after};
 ghost use Rattle.pdc_align.specs.pdc_arrival.declared.counts.Counts.{Counts as CountsData};
@@ -131,6 +132,7 @@ pub trait Core {
         ensures err { OnErr result ((B.content out.new ≡ B.content out.old) × (B.capacity out.new ≡ B.capacity out.old)) }
         ensures room { (g : Given) (E : List Entry) → stands_for self.now g E →
             length (B.content out.old) + length (layout_wire g E soc) ≤ B.capacity out.old → IsOk result }
+        ensures refused { OnErr result (ForSome (B.refused out.new)) }
         ensures in_place { (g : Given) (E : List Entry) → stands_for self.now g E →
             length (B.content out.old) + length (layout_wire g E soc) ≤ B.capacity out.old → B.capacity out.new ≡ B.capacity out.old }
         ensures capacity { B.capacity out.old ≤ B.capacity out.new };

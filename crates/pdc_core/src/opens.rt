@@ -1,5 +1,6 @@
 //! Cores of which each life can be begun.
-ghost use Rattle.std.specs.Prelude.{◌≡◌, ℕ, [], IfOk, List};
+ghost use Rattle.std.specs.Prelude.{◌≡◌, ℕ, [], IfOk, List, OnErr};
+ghost use Rattle.pdc_memory.specs.Asking.{SomeWasRefused};
 ghost use Rattle.pdc_align.specs.pdc_life.Given.{Given};
 ghost use Rattle.pdc_align.specs.pdc_life.Life.{Entry};
 ghost use Rattle.pdc_align.specs.pdc_row.declared.output.Output.{Output as OutputData};
@@ -26,7 +27,7 @@ pub trait Opens: Core + Drop {
     ///
     /// # Errors
     ///
-    /// [`AllocError`] where there is no memory.
+    /// [`AllocError`] where a request for memory was refused.
     fn open_first(
         alloc: Global,
         settings: Self::Settings,
@@ -36,14 +37,15 @@ pub trait Opens: Core + Drop {
     ) -> Result<Self, AllocError>
         ensures stands { IfOk result (λ first. Self.stands_for first (given_with settings start floor counts.now) []) }
         ensures settings { IfOk result (λ first. Self.settings_of first ≡ settings) }
-        ensures popped { IfOk result (λ first. Self.popped_of first ≡ floor) };
+        ensures popped { IfOk result (λ first. Self.popped_of first ≡ floor) }
+        ensures refused { OnErr result SomeWasRefused };
 
     /// A core of the same settings at the start of a life: the number of the start, the instant up to which all is published, and
     /// for each column the count below which no section is held.
     ///
     /// # Errors
     ///
-    /// [`AllocError`] where there is no memory.
+    /// [`AllocError`] where a request for memory was refused.
     fn open_next(
         &self,
         alloc: Global,
@@ -53,5 +55,6 @@ pub trait Opens: Core + Drop {
     ) -> Result<Self, AllocError>
         ensures stands { IfOk result (λ next. Self.stands_for next (given_with (Self.settings_of self.now) start floor counts.now) []) }
         ensures settings { IfOk result (λ next. Self.settings_of next ≡ Self.settings_of self.now) }
-        ensures popped { IfOk result (λ next. Self.popped_of next ≡ floor) };
+        ensures popped { IfOk result (λ next. Self.popped_of next ≡ floor) }
+        ensures refused { OnErr result SomeWasRefused };
 }

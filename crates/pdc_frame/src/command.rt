@@ -92,6 +92,8 @@ pub fn write_command<B: Buffer>(
     // It fails only where there was no room, and then nothing is appended.
     ensures err { OnErr result ((B.content out.new ≡ B.content out.old) × (B.capacity out.new ≡ B.capacity out.old)) }
     ensures room { length (B.content out.old) + COMMAND_SIZE ≤ B.capacity out.old → IsOk result }
+    // A request for the whole frame was refused.
+    ensures refused { OnErr result (B.refused out.new COMMAND_SIZE) }
     // Where there was room, it takes no memory.
     ensures in_place { length (B.content out.old) + COMMAND_SIZE ≤ B.capacity out.old → B.capacity out.new ≡ B.capacity out.old }
     ensures capacity { B.capacity out.old ≤ B.capacity out.new }

@@ -6,7 +6,8 @@
 //! steps    More      Whole    More            Whole    More
 //! held     4         26       11              26       3 bytes
 //! ```
-ghost use Rattle.std.specs.Prelude.{◌≡◌, ◌+◌, ◌-◌, ◌<◌, ◌≤◌, ◌++◌, ◌⊎◌, ℕ, List, [], length, take, IfOk, MatchOption};
+ghost use Rattle.std.specs.Prelude.{◌≡◌, ◌+◌, ◌-◌, ◌<◌, ◌≤◌, ◌++◌, ◌⊎◌, ℕ, List, [], length, take, IfOk, OnErr, MatchOption};
+ghost use Rattle.pdc_memory.specs.Asking.{WasRefused};
 ghost use Rattle.pdc_frame.specs.Frame.{Fields, Fits, IsFrame, fields_of, spelling_of};
 ghost use Rattle.pdc_frame.specs.Stream.{IsGoing, Shows, IsAt, IsBad, HasTaken, pending_of, given_at};
 
@@ -154,6 +155,7 @@ impl<A: Allocator> Framer<A> {
         ensures step { IfOk result (λ framer. framer.step ≡ Step.More) }
         ensures room { IfOk result (λ framer. framer.room ≡ MAX_SIZE) }
         ensures stream { IfOk result (λ framer. HasTaken [] [] framer) }
+        ensures refused { OnErr result (WasRefused MAX_SIZE) }
     {
         Ok(Framer {
             held: HeldBytes::with_capacity(alloc, MAX_SIZE)?,

@@ -1,7 +1,9 @@
 //! The bytes that a framer holds.
-ghost use Rattle.std.specs.Prelude.{◌≡◌, ◌+◌, ◌<◌, ◌≤◌, ◌++◌, [], ◌∷◌, length, IfOk};
+ghost use Rattle.std.specs.Prelude.{◌≡◌, ◌+◌, ◌<◌, ◌≤◌, ◌++◌, [], ◌∷◌, length, IfOk, OnErr};
+ghost use Rattle.pdc_memory.specs.Asking.{WasRefused};
 
 use crate::buffer::Buffer;
+use pdc_memory::with_room;
 use std::alloc::{AllocError, Allocator};
 use std::marker::Model;
 
@@ -23,12 +25,17 @@ impl<A: Allocator> Model for HeldBytes<A> {
 
 impl<A: Allocator> HeldBytes<A> {
     /// Room for so many bytes, of which none is there.
+    ///
+    /// # Errors
+    ///
+    /// [`AllocError`] where a request for that room was refused.
     pub fn with_capacity(alloc: A, capacity: usize) -> Result<HeldBytes<A>, AllocError>
         ensures items { IfOk result (λ held. held.items ≡ []) }
         ensures capacity { IfOk result (λ held. held.capacity ≡ capacity) }
+        ensures refused { OnErr result (WasRefused capacity) }
     {
         Ok(HeldBytes {
-            bytes: Vec::with_capacity(alloc, capacity)?,
+            bytes: with_room(alloc, capacity)?,
         })
     }
 

@@ -1,5 +1,6 @@
 //! The merger.
-ghost use Rattle.std.specs.Prelude.{◌≡◌, ◌<◌, ◌∷◌, ℕ, [], IfOk, List, length};
+ghost use Rattle.std.specs.Prelude.{◌≡◌, ◌<◌, ◌∷◌, ℕ, [], IfOk, List, length, OnErr};
+ghost use Rattle.pdc_core.specs.pdc_memory.Asking.{SomeWasRefused};
 ghost use Rattle.pdc_align.specs.Align.{given_by};
 ghost use Rattle.pdc_arrival.specs.Counts.{after_answer};
 ghost use Rattle.pdc_life.specs.Answer.{ToArrive, answered};
@@ -78,7 +79,7 @@ impl<T: Table> Merger<T> {
     ///
     /// # Errors
     ///
-    /// [`AllocError`] where there is no memory.
+    /// [`AllocError`] where a request for memory was refused. No other call makes one, but for a layout for which there is no room.
     pub fn open(
         alloc: Global,
         settings: MergerSettings,
@@ -91,6 +92,7 @@ impl<T: Table> Merger<T> {
         ensures settings { IfOk result (λ m. m.settings ≡ settings) }
         ensures popped { IfOk result (λ m. m.popped ≡ floor) }
         ensures disagreements { IfOk result (λ m. m.disagreements ≡ 0) }
+        ensures refused { OnErr result SomeWasRefused }
     {
         let alignment = Alignment::new(alloc, plan_of(&settings), start, floor, counts, now)?;
         Ok(Merger {

@@ -1,5 +1,6 @@
 //! A node.
-ghost use Rattle.std.specs.Prelude.{◌≡◌, ◌<◌, ◌∷◌, ℕ, [], IfOk, List, length, true};
+ghost use Rattle.std.specs.Prelude.{◌≡◌, ◌<◌, ◌∷◌, ℕ, [], IfOk, List, length, true, OnErr};
+ghost use Rattle.pdc_core.specs.pdc_memory.Asking.{SomeWasRefused};
 ghost use Rattle.pdc_align.specs.Align.{given_by};
 ghost use Rattle.pdc_arrival.specs.Counts.{after_answer};
 ghost use Rattle.pdc_core.specs.Fits.{fits_node};
@@ -77,7 +78,7 @@ impl<T: Table> Node<T> {
     ///
     /// # Errors
     ///
-    /// [`AllocError`] where there is no memory.
+    /// [`AllocError`] where a request for memory was refused. No other call makes one, but for a layout for which there is no room.
     pub fn open(
         alloc: Global,
         settings: Settings,
@@ -89,6 +90,7 @@ impl<T: Table> Node<T> {
         ensures stands { IfOk result (λ n. StandsFor (given_of (OfNode settings) start floor counts.now now) [] n) }
         ensures settings { IfOk result (λ n. n.settings ≡ settings) }
         ensures popped { IfOk result (λ n. n.popped ≡ floor) }
+        ensures refused { OnErr result SomeWasRefused }
     {
         let alignment = Alignment::new(alloc, plan_of(&settings), start, floor, counts, now)?;
         Ok(Node {

@@ -180,6 +180,8 @@ impl<M: Mark> Publisher<M> {
         // and comes back where memory was wanted: then the publisher is the one before.
         ensures no_memory { IfErr result (HandsBack (row_view row)) }
         ensures untouched { IfErr result (λ fault. (IsDevice fault → ⊥) → self.new ≡ self.old) }
+        // A request for the whole frame was refused.
+        ensures refused { IfErr result (λ fault. (IsDevice fault → ⊥) → B.refused out.new (length (wire_of (output_in self.old) (row_view row)))) }
         ensures room { length (B.content out.old) + length (wire_of (output_in self.old) (row_view row)) ≤ B.capacity out.old → IfErr result IsDevice }
         ensures in_place { length (B.content out.old) + length (wire_of (output_in self.old) (row_view row)) ≤ B.capacity out.old
             → B.capacity out.new ≡ B.capacity out.old }

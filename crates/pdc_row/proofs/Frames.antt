@@ -9,7 +9,7 @@ use Rattle.std.proofs.lemmas.List.Folds.{flat_map-map}
 use Rattle.pdc_row.specs.pdc_cfg.Section.{SectionFields, IsSection}
 use Rattle.pdc_row.specs.pdc_cfg.Config.{ConfigFields, bytes_of_sections}
 use Rattle.pdc_row.specs.pdc_cfg.declared.shape.Shape.{Shape}
-use Rattle.pdc_frame.specs.Tag.{IsTag, tag_of}
+use Rattle.pdc_row.specs.pdc_frame.Tag.{IsTag, tag_of}
 use Rattle.pdc_row.specs.pdc_block.Block.{AreOfShapes, AreWords, bytes_of_words}
 use Rattle.pdc_row.specs.CellView.{BlockView}
 use Rattle.pdc_row.specs.RowView.{RowView}

@@ -5,7 +5,7 @@ use Rattle.std.specs.List.{flat_map}
 use Rattle.std.proofs.lemmas.List.Folds.{flat_map-map}
 use Rattle.pdc_row.specs.pdc_frame.Frame.{Fields, Fits, IsFrame}
 use Rattle.pdc_row.specs.pdc_frame.declared.frame.Kind.TheVariants.{DataFrame}
-use Rattle.pdc_frame.specs.Tag.{tag_of}
+use Rattle.pdc_row.specs.pdc_frame.Tag.{tag_of}
 use Rattle.pdc_row.specs.pdc_block.declared.block.Block.{Block}
 use Rattle.pdc_row.specs.pdc_block.Block.{bytes_of_words, bytes_of_blocks, words_of}
 use Rattle.pdc_row.specs.CellView.{BlockView, block_view}

@@ -7,7 +7,7 @@ use Rattle.pdc_row.specs.pdc_cfg.declared.shape.Shape.{Shape}
 use Rattle.pdc_row.specs.pdc_block.Block.{AreOfShapes, IsCut}
 use Rattle.pdc_row.specs.CellView.{BlockView}
 use Rattle.pdc_row.specs.RowView.{RowView}
-use Rattle.pdc_frame.specs.declared.tag_limits.TheConstants.{SECONDS}
+use Rattle.pdc_row.specs.pdc_frame.declared.tag_limits.TheConstants.{SECONDS}
 use Rattle.pdc_row.specs.declared.output.Output.{Output}
 use Rattle.pdc_row.specs.declared.output.Nominal.{Nominal}
 use Rattle.pdc_row.specs.Layout.{IsLayout, layout_fields_of, layout_payload_of, layout_wire_of, own_block, own_bytes, row_fields, row_payload, wire_of}

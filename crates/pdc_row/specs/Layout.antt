@@ -9,7 +9,7 @@ use Rattle.pdc_row.specs.pdc_cfg.Section.{SectionFields}
 use Rattle.pdc_row.specs.pdc_cfg.Config.{ConfigFields, IsConfig, bytes_of_sections}
 use Rattle.pdc_row.specs.pdc_block.Block.{bytes_of_words}
 use Rattle.pdc_row.specs.CellView.{BlockView}
-use Rattle.pdc_frame.specs.Tag.{tag_of}
+use Rattle.pdc_row.specs.pdc_frame.Tag.{tag_of}
 use Rattle.pdc_row.specs.declared.output.Output.{Output}
 use Rattle.pdc_row.specs.declared.output.Nominal.{Nominal}
 use Rattle.pdc_row.specs.declared.output.Nominal.TheVariants.{Hz50, Hz60}

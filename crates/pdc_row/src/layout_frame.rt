@@ -2,6 +2,7 @@
 ghost use Rattle.std.specs.Prelude.{◌≡◌, ◌+◌, ◌≤◌, ◌++◌, ◌∷◌, map, length, IsOk, OnOk, OnErr};
 ghost use Rattle.std.specs.Int.{w16, cast_unsigned};
 ghost use Rattle.pdc_row.specs.pdc_frame.Frame.{IsFrame};
+ghost use Rattle.pdc_row.specs.pdc_frame.declared.limits.TheConstants.{OVERHEAD};
 ghost use Rattle.pdc_row.specs.pdc_cfg.Section.{fields_of_view, fields_of_section};
 ghost use Rattle.pdc_row.specs.Layout.{IsLayout, layout_fields_of, layout_payload_of, layout_wire_of};
 
@@ -70,6 +71,8 @@ pub fn append_layout<B: Buffer>(
     // It fails only where there was no room, and then nothing is appended.
     ensures err { OnErr result ((B.content out.new ≡ B.content out.old) × (B.capacity out.new ≡ B.capacity out.old)) }
     ensures room { length (B.content out.old) + length (layout_wire_of output.now start change (map fields_of_view sections.now) soc) ≤ B.capacity out.old → IsOk result }
+    // A request for the whole frame was refused.
+    ensures refused { OnErr result (B.refused out.new (length (layout_payload_of output.now start change (map fields_of_view sections.now)) + OVERHEAD)) }
     // Where there was room, it takes no memory.
     ensures in_place { length (B.content out.old) + length (layout_wire_of output.now start change (map fields_of_view sections.now) soc) ≤ B.capacity out.old
         → B.capacity out.new ≡ B.capacity out.old }

@@ -1,6 +1,6 @@
 //! What a concentrator says of itself, beside the stamp of a layout.
 ghost use Rattle.std.specs.Prelude.{◌<◌, ◌≤◌};
-ghost use Rattle.pdc_frame.specs.declared.tag_limits.TheConstants.{COUNT_LIMIT, MAX_RATE};
+ghost use Rattle.pdc_row.specs.pdc_frame.declared.tag_limits.TheConstants.{COUNT_LIMIT, MAX_RATE};
 
 use pdc_block::StreamId;
 

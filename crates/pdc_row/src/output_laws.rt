@@ -1,7 +1,7 @@
 //! Laws of the frames that go out: each is the contract of a function that does nothing but call the laws that it stands on.
 ghost use Rattle.pdc_row.specs.Laws.{LayoutsAreFrames, OwnSectionsTellStamps, RowsAreCut, RowsAreFrames};
 
-use pdc_frame::tag_is_nearest;
+use pdc_block::tag_is_nearest;
 
 /// The wire of a row is a frame, and its payload is cut into the own words and the row's.
 pub fn rows_are_frames()

@@ -3,8 +3,8 @@ ghost use Rattle.std.specs.Prelude.{◌≡◌, ◌+◌, ◌*◌, ◌<◌, ◌≤
 ghost use Rattle.pdc_row.specs.pdc_frame.Frame.{IsFrame, fields_of};
 ghost use Rattle.pdc_row.specs.pdc_frame.declared.frame.Kind.TheVariants.{DataFrame};
 ghost use Rattle.pdc_row.specs.pdc_block.Block.{bytes_of_words, body_len_of, shape_of};
-ghost use Rattle.pdc_frame.specs.declared.tag_limits.TheConstants.{SECONDS};
-ghost use Rattle.pdc_frame.specs.Tag.{tag_of};
+ghost use Rattle.pdc_row.specs.pdc_frame.declared.tag_limits.TheConstants.{SECONDS};
+ghost use Rattle.pdc_row.specs.pdc_frame.Tag.{tag_of};
 ghost use Rattle.pdc_row.specs.RowView.{row_view};
 ghost use Rattle.pdc_row.specs.Layout.{own_block, row_payload, row_fields, wire_of};
 
@@ -14,9 +14,8 @@ use crate::stamp::stamp_words;
 use arrayvec::ArrayVec;
 use pdc_block::{
     Buffer, CHECK_LEN, Frame, HEADER_LEN, Kind, OVERHEAD, append_blocks, append_words, begin_frame,
-    end_frame, frames_are_written_in_parts, joined_len, write_blocks, write_ends,
+    end_frame, frames_are_written_in_parts, joined_len, tag_of, write_blocks, write_ends,
 };
-use pdc_frame::tag_of;
 use std::alloc::AllocError;
 
 /// The bytes of the own block: STAT, FREQ, DFREQ and four digital words.

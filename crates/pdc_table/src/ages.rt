@@ -1,5 +1,6 @@
 //! The ages of the rows of a ring.
-ghost use Rattle.std.specs.Prelude.{◌≡◌, ◌<◌, length, map, replicate, slice_index_or, slice_set, IfOk};
+ghost use Rattle.std.specs.Prelude.{◌≡◌, ◌<◌, length, map, replicate, slice_index_or, slice_set, IfOk, OnErr};
+ghost use Rattle.pdc_memory.specs.Asking.{SomeWasRefused};
 ghost use Rattle.pdc_table.specs.AgesView.{earlier};
 ghost use Rattle.pdc_table.specs.RingRows.{older};
 
@@ -34,7 +35,8 @@ impl Model for Ages {
 impl Ages {
     /// So many places, each of age 0.
     pub fn new(alloc: Global, count: usize) -> Result<Ages, AllocError>
-        ensures { IfOk result (λ ages. ages.items ≡ replicate count 0) }
+        ensures items { IfOk result (λ ages. ages.items ≡ replicate count 0) }
+        ensures refused { OnErr result SomeWasRefused }
     {
         Ok(Ages {
             ticks: 0,

@@ -4,7 +4,8 @@
 //! window 8, open 13 14 18     place  0  1  2  3  4  5  6  7
 //!                             row          18       13 14
 //! ```
-ghost use Rattle.std.specs.Prelude.{◌≡◌, ℕ, ◌+◌, ◌%◌, ◌==◌, ◌<◌, ◌≤◌, ◌++◌, [], length, map, nat_lt, replicate, IfOk, slice_set, true, vec_len, if◌then◌else◌};
+ghost use Rattle.std.specs.Prelude.{◌≡◌, ℕ, ◌+◌, ◌%◌, ◌==◌, ◌<◌, ◌≤◌, ◌++◌, [], length, map, nat_lt, replicate, IfOk, slice_set, true, vec_len, if◌then◌else◌, OnErr};
+ghost use Rattle.pdc_memory.specs.Asking.{SomeWasRefused};
 ghost use Rattle.std.specs.List.{All, AllByRecursion, list_all, list_any, prefix_len, slice_get};
 ghost use Rattle.std.specs.Vec.{vec_capacity};
 ghost use Rattle.pdc_open_row.specs.pdc_row.CellView.{CellView};
@@ -42,6 +43,7 @@ fn new_places(alloc: Global, count: usize, sizes: Places) -> Result<Held<OpenRow
     requires streams { sizes.streams ≤ MAX_COLUMNS }
     requires columns { sizes.columns ≤ MAX_COLUMNS }
     ensures items { IfOk result (λ places. places.items ≡ replicate count (blank_row sizes.streams sizes.columns 0)) }
+    ensures refused { OnErr result SomeWasRefused }
 {
     let mut places = Held::with_capacity(alloc, count)?;
     for _ in 0..count {
@@ -209,6 +211,7 @@ impl Rows {
         ensures ages { IfOk result (λ rows. rows.ages.items ≡ replicate count 0) }
         ensures open { IfOk result (λ rows. rows.open.items ≡ []) }
         ensures room { IfOk result (λ rows. count ≤ rows.open.capacity) }
+        ensures refused { OnErr result SomeWasRefused }
     {
         Ok(Rows {
             places: new_places(alloc, count, sizes)?,

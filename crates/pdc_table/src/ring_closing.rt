@@ -1,5 +1,6 @@
 //! How the rows of a ring close, and come out: a closed row stays at its place until it is popped.
-ghost use Rattle.std.specs.Prelude.{◌≡◌, ◌+◌, ◌≤◌, ◌++◌, [], drop, false, length, option_map, replicate, IfOk, take, vec_len};
+ghost use Rattle.std.specs.Prelude.{◌≡◌, ◌+◌, ◌≤◌, ◌++◌, [], drop, false, length, option_map, replicate, IfOk, take, vec_len, OnErr};
+ghost use Rattle.pdc_memory.specs.Asking.{SomeWasRefused};
 ghost use Rattle.std.specs.List.{AllByRecursion, slice_get};
 ghost use Rattle.std.specs.Vec.{vec_capacity};
 ghost use Rattle.pdc_open_row.specs.pdc_row.Quality.{greatest};
@@ -37,6 +38,7 @@ pub struct Closed {
 /// So many places for the layouts of closed rows.
 fn new_layouts(alloc: Global, count: usize) -> Result<Held<ClosingLayout>, AllocError>
     ensures items { IfOk result (λ layouts. layouts.items ≡ replicate count no_layout) }
+    ensures refused { OnErr result SomeWasRefused }
 {
     let mut layouts = Held::with_capacity(alloc, count)?;
     for _ in 0..count {
@@ -98,6 +100,7 @@ impl Closed {
         ensures layouts { IfOk result (λ closed. closed.layouts.items ≡ replicate count no_layout) }
         ensures last { IfOk result (λ closed. closed.last ≡ floor) }
         ensures disagree { IfOk result (λ closed. closed.disagree ≡ 0) }
+        ensures refused { OnErr result SomeWasRefused }
     {
         Ok(Closed {
             instants: HeldQueue::with_capacity(alloc, count)?,

@@ -1,5 +1,6 @@
 //! What every table promises, however it is kept.
-ghost use Rattle.std.specs.Prelude.{◌≡◌, ℕ, ◌<◌, ◌≤◌, false, List, length, map, IfOk, option_map};
+ghost use Rattle.std.specs.Prelude.{◌≡◌, ℕ, ◌<◌, ◌≤◌, false, List, length, map, IfOk, option_map, OnErr};
+ghost use Rattle.pdc_memory.specs.Asking.{SomeWasRefused};
 ghost use Rattle.std.specs.List.{AllByRecursion};
 ghost use Rattle.pdc_open_row.specs.pdc_row.RowView.{RowView, row_view};
 ghost use Rattle.pdc_open_row.specs.pdc_block.Block.{words_in};
@@ -31,6 +32,10 @@ pub trait Table: Drop {
 
     /// An empty table, which takes all the memory that it ever needs. The window is 8 to 256 instants; the floor counts as
     /// the last instant closed.
+    ///
+    /// # Errors
+    ///
+    /// [`AllocError`] where a request for that memory was refused.
     fn new(
         alloc: Global,
         window: u64,
@@ -48,7 +53,8 @@ pub trait Table: Drop {
         requires lanes_most { lanes ≤ MAX_LANES }
         ensures content { IfOk result (λ table. content table ≡ new_content window columns lanes floor) }
         ensures well_formed { IfOk result (λ table. IsContent (content table)) }
-        ensures disagreements { IfOk result (λ table. disagreements table ≡ 0) };
+        ensures disagreements { IfOk result (λ table. disagreements table ≡ 0) }
+        ensures refused { OnErr result SomeWasRefused };
 
     /// Offers a frame of a stream for an instant: its blocks, each with its column, and its time quality byte.
     ///

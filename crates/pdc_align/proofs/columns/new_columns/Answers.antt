@@ -9,7 +9,7 @@ loop-place-preserved c = record {
   items =
       c.push.ensures.items
       ∙ ap (λ xs. xs ++ c.in_ok-new.field-0 ∷ []) c.loop-place.invariant.items
-      ∙ ap (λ x. map (new_column c.args.counts.now) (range_with_len 0 c.loop-place.place) ++ x ∷ []) c.in_ok-new.ensures
+      ∙ ap (λ x. map (new_column c.args.counts.now) (range_with_len 0 c.loop-place.place) ++ x ∷ []) c.in_ok-new.ensures.column
       ∙ sym (map-range_with_len_more (new_column c.args.counts.now) 0 c.loop-place.place c.loop-place.place (omega arith));
   len = omega (arith, c.push.ensures.len);
   room = omega (arith, c.push.ensures.capacity);

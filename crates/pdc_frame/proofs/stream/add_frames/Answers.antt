@@ -1,6 +1,6 @@
 use Rattle.std.proofs.Common.{◌≡◌, inl, inr, ℕ, ◌+◌, ◌-◌, ◌≤◌, List, [], ◌∷◌, ◌++◌, length, take, drop, Vec, ap, sym, subst, ◌∙◌, arith, length-take, length-drop}
 use Rattle.std.specs.Prelude.{map}
-use Rattle.std.proofs.lemmas.List.{take_all, map-append}
+use Rattle.std.proofs.lemmas.List.{take_all}
 use Rattle.pdc_frame.specs.declared.fault.FrameFault.{FrameFault}
 use Rattle.pdc_frame.specs.declared.step.Step.{Step}
 use Rattle.pdc_frame.specs.declared.step.Step.TheVariants.{More, Whole, Bad}
@@ -20,10 +20,10 @@ no_frame a e h = let same : More ≡ Whole = sym e ∙ h in cc
 no_frame-bad : (a : Step) (fault : FrameFault) → a ≡ Bad fault → a ≡ Whole → ⊥
 no_frame-bad a fault e h = let same : Bad fault ≡ Whole = sym e ∙ h in cc
 
-pushed : {A : Type 0} (frames new : List (Vec ℕ A)) (frame : Vec ℕ A) (step : Step) (bytes text : List ℕ) → new ≡ frames ++ frame ∷ [] → step ≡ Whole → frame.items ≡ text → text ≡ bytes
+kept_behind : {A : Type 0} (frames new : List (Vec ℕ A)) (step : Step) (bytes text : List ℕ) → texts new ≡ texts frames ++ text ∷ [] → step ≡ Whole → text ≡ bytes
     → texts new ≡ texts frames ++ given_at step bytes
-pushed {A} frames new frame step bytes text e at items same =
-    ap texts e ∙ map-append (λ (f : Vec ℕ A). f.items) frames (frame ∷ []) ∙ ap (λ (xs : List ℕ). texts frames ++ xs ∷ []) (items ∙ same) ∙ ap (λ (s : Step). texts frames ++ given_at s bytes) (sym at)
+kept_behind frames new step bytes text kept at same =
+    kept ∙ ap (λ (xs : List ℕ). texts frames ++ xs ∷ []) same ∙ ap (λ (s : Step). texts frames ++ given_at s bytes) (sym at)
 
 all_taken : (piece : List ℕ) (at : ℕ) (first : List (List ℕ)) (start : Held) (frames : List (List ℕ)) (new : Held) → length piece ≤ at → GoesOn (take at piece) first start frames new → GoesOn piece first start frames new
 all_taken piece at first start frames new le h stream taken = subst (λ (xs : List ℕ). HasTaken (stream ++ xs) frames new) (take_all at piece le) (h stream taken)
@@ -42,9 +42,9 @@ loop-at-preserved g c =
     record {
       within = within_piece _ _ _ c.loop-at.invariant.within c.feed-taken.ensures.taken;
       good = none_bad _ _ c.feed-taken.ensures.step (inr c.in-Whole.is);
-      follows = goes_further c.args.piece.now c.feed-taken.new.self.bytes c.loop-at.at c.feed-taken.result.0 (texts c.args.frames.now.items) (texts c.loop-at.frames.items) (texts c.push.new.self.items) c.feed-taken.result.1
+      follows = goes_further c.args.piece.now c.feed-taken.new.self.bytes c.loop-at.at c.feed-taken.result.0 (texts c.args.frames.now.items) (texts c.loop-at.frames.items) (texts c.keep.new.frames.items) c.feed-taken.result.1
           c.args.framer.now c.loop-at.framer c.feed-taken.new.self c.loop-at.invariant.follows c.feed-taken.ensures.stream
-          (pushed c.loop-at.frames.items c.push.new.self.items c.in_ok-from_slice-in-Whole.field-0 c.feed-taken.result.1 c.feed-taken.new.self.bytes c.frame.result.now c.in_ok-push-in-Whole.ensures.items c.in-Whole.is c.in_ok-from_slice-in-Whole.ensures.items c.frame.ensures.bytes);
+          (kept_behind c.loop-at.frames.items c.keep.new.frames.items c.feed-taken.result.1 c.feed-taken.new.self.bytes c.frame.result.now c.in_ok-keep-in-Whole.ensures.kept c.in-Whole.is c.frame.ensures.bytes);
     }
 
 pub returns-in-Bad-clause-some : goal.returns-in-Bad-clause-some

@@ -1,5 +1,5 @@
 use Rattle.std.proofs.Common.{◌≡◌, ℕ, ◌+◌, ◌≤◌, List, ◌++◌, length, map, subst}
-use Rattle.std.specs.Prelude.{IsOk, OnOk, Ok, Err}
+use Rattle.std.specs.Prelude.{IsOk, OnErr, OnOk, Ok, Err}
 use Rattle.pdc_row.specs.pdc_frame.Frame.{Fields, IsFrame, spelling_of}
 use Rattle.pdc_row.specs.pdc_cfg.Section.{fields_of_view, fields_of_section}
 use Rattle.pdc_row.specs.pdc_cfg.Config.{IsConfig, config_fields_of}
@@ -55,3 +55,10 @@ returns-clause-config g c =
       time_base = config.ensures.time_base;
       rate = config.ensures.rate;
     }) c.write_config.ensures.config
+
+pub returns-clause-refused : goal.returns-clause-refused
+returns-clause-refused g c =
+    let config = c.config_of-config in
+    let same = same_fields c.args.output.now c.args.start c.args.change c.args.soc (fields_of_section c.own_section-own.result) (map fields_of_view c.args.sections.now) (config_fields_of config.result)
+    config.ensures.flags config.ensures.time_base config.ensures.sections c.own_section-own.ensures.bytes config.ensures.rate in
+    subst (λ (f : Fields). OnErr c.write_config.result (g.B.Buffer.refused c.write_config.new.out (length f.payload + 16))) same c.write_config.ensures.refused

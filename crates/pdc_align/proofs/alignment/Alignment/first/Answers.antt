@@ -10,7 +10,7 @@ pub invariant_of-result : goal.invariant_of-result
 invariant_of-result g c = record {
   well_formed = c.in_ok-new_table.ensures.well_formed;
   each =
-      ap length c.in_ok-columns.ensures ∙ length-map-range_with_len (new_column c.args.counts.now) 0 c.args.plan.columns
+      ap length c.in_ok-columns.ensures.items ∙ length-map-range_with_len (new_column c.args.counts.now) 0 c.args.plan.columns
       ∙ sym (ap (λ (t : Content). t.columns) c.in_ok-new_table.ensures.content);
   lanes = sym (ap (λ (t : Content). t.lanes) c.in_ok-new_table.ensures.content);
   gone = popped_first c.args.plan.window c.args.plan.columns c.args.plan.lanes c.args.floor (g.T.Table.content c.in_ok-new_table.field-0) c.in_ok-new_table.ensures.content;
@@ -19,4 +19,4 @@ invariant_of-result g c = record {
 }
 
 pub shapes-shapes-requires : goal.shapes-shapes-requires
-shapes-shapes-requires g c = omega (arith, ap length c.in_ok-columns.ensures, length-map-range_with_len (new_column c.args.counts.now) 0 c.args.plan.columns, c.args.plan.columns_most)
+shapes-shapes-requires g c = omega (arith, ap length c.in_ok-columns.ensures.items, length-map-range_with_len (new_column c.args.counts.now) 0 c.args.plan.columns, c.args.plan.columns_most)
