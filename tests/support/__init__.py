@@ -29,6 +29,7 @@ from .frames import (
     section,
     sections_of,
     split,
+    stamp_of,
     tag,
 )
 from .pair import IDENTS, NAMES, Pair

@@ -131,6 +131,14 @@ def sections_of(layout):
     return found
 
 
+def stamp_of(frame):
+    """The stamp of a frame of a concentrator's: the normal masks of its own section, or the digital words of its own block."""
+    if kind_of(frame) == DATA:
+        return frame[20:28]
+    # Behind the names of its 64 digital channels each mask stands in front of one of the channels that are valid.
+    return b"".join(frame[at : at + 2] for at in range(1070, 1086, 4))
+
+
 @dataclasses.dataclass
 class Row:
     """A data frame of a node or the merger: its instant, and the block of each PMU of the layout that came last before it."""

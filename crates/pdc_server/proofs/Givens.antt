@@ -1,11 +1,15 @@
 -- What the frames above an instant are to the reader who asked for them.
-use Rattle.std.proofs.Common.{◌≡◌, refl, ℕ, ◌<◌, List, [], ◌∷◌, ◌++◌}
-use Rattle.std.specs.Prelude.{Result, Ok, Err, IfOk, OnOk, Bool, true, false, cond, nat_lt}
+use Rattle.std.proofs.Common.{◌≡◌, refl, inl, inr, ℕ, ◌<◌, List, [], ◌∷◌, ◌++◌}
+use Rattle.std.specs.Prelude.{Bool, true, false, cond, nat_lt}
 use Rattle.std.proofs.lemmas.Bool.{ltb-true}
 use Rattle.std.proofs.Math.Logic.{∥∥₁_map}
 use Rattle.pdc_session.specs.Recent.{AreAbove, AreRising, Kept, above, bytes_of, greatest_of}
 use Rattle.pdc_server.specs.Given.{IsGiven}
-use Rattle.pdc_server.specs.Stream.{AreData, Stream}
+use Rattle.pdc_server.specs.Places.{Takes}
+use Rattle.pdc_server.specs.Stream.{AreData, IsLayout, Stream}
+use Rattle.pdc_server.specs.declared.place.Place.{Place}
+use Rattle.pdc_server.specs.declared.place.Seen.TheVariants.{Layout}
+use Rattle.pdc_server.specs.declared.stamp.Stamp.{Stamp}
 
 -- those above an instant are
 above_is_above : (instant : ℕ) (frames : List Kept) → AreAbove instant (above instant frames)
@@ -17,23 +21,29 @@ above_is_above instant (f ∷ fs) =
     both (nat_lt instant f.instant) (ltb-true instant f.instant)
 
 -- and data frames where all are
-above_are_data : (stream : Stream) (instant : ℕ) (frames : List Kept) → AreData stream frames → AreData stream (above instant frames)
-above_are_data stream instant [] all = tt
-above_are_data stream instant (f ∷ fs) all =
-    let rest = above_are_data stream instant fs all.1 in
-    let both : (b : Bool) → AreData stream (cond b (f ∷ above instant fs) (above instant fs)) =
-    λ b. elim b as (λ (b : Bool). AreData stream (cond b (f ∷ above instant fs) (above instant fs))) [ true ↦ (all.0, rest) | false ↦ rest ] in
+above_are_data : (stream : Stream) (stamp : Stamp) (instant : ℕ) (frames : List Kept) → AreData stream stamp frames → AreData stream stamp (above instant frames)
+above_are_data stream stamp instant [] all = tt
+above_are_data stream stamp instant (f ∷ fs) all =
+    let rest = above_are_data stream stamp instant fs all.1 in
+    let both : (b : Bool) → AreData stream stamp (cond b (f ∷ above instant fs) (above instant fs)) =
+    λ b. elim b as (λ (b : Bool). AreData stream stamp (cond b (f ∷ above instant fs) (above instant fs))) [ true ↦ (all.0, rest) | false ↦ rest ] in
     both (nat_lt instant f.instant)
 
-pub given : {E : Type 0} (answer : Result ℕ E) (stream : Stream) (instant : ℕ) (before grown : List ℕ) (frames : List Kept) → ∥ AreData stream frames ∥₁
-    → OnOk answer (grown ≡ before ++ bytes_of (above instant frames)) → IfOk answer (λ n. n ≡ greatest_of instant (above instant frames)) → AreRising (above instant frames)
-    → IfOk answer (λ n. IsGiven stream instant before n grown)
-given (Ok n) stream instant before grown frames all bytes greatest rising = record {
-  frames = above instant frames;
+pub given : (stream : Stream) (stamp : Stamp) (before now : Place) (out grown : List ℕ) (frames : List Kept) → Takes before.seen stamp → now.seen ≡ Layout stamp → ∥ AreData stream stamp frames ∥₁
+    → grown ≡ out ++ bytes_of (above before.got frames) → now.got ≡ greatest_of before.got (above before.got frames) → AreRising (above before.got frames)
+    → IsGiven stream before out now grown
+given stream stamp before now out grown frames takes seen all bytes greatest rising = inl (record {
+  stamp = stamp;
+  takes = takes;
+  seen = seen;
+  frames = above before.got frames;
   appended = bytes;
   rising = rising;
-  later = above_is_above instant frames;
-  are_data = ∥∥₁_map all (above_are_data stream instant frames);
+  later = above_is_above before.got frames;
+  are_data = ∥∥₁_map all (above_are_data stream stamp before.got frames);
   greatest = greatest;
-}
-given (Err e) stream instant before grown frames all bytes greatest rising = tt
+})
+
+pub told : (stream : Stream) (stamp : Stamp) (before now : Place) (out grown layout : List ℕ) → now.seen ≡ Layout stamp → now.got ≡ before.got → ∥ IsLayout stream stamp layout ∥₁ → grown ≡ out ++ layout
+    → IsGiven stream before out now grown
+told stream stamp before now out grown layout seen got is_layout appended = inr (record { stamp = stamp; seen = seen; got = got; layout = layout; is_layout = is_layout; appended = appended })

@@ -4,6 +4,7 @@ use Rattle.std.specs.Prelude.{Result, Ok, Err, IfErr, IsErrAnd, OnErr, OnOk, Som
 use Rattle.pdc_session.specs.Session.{SessionView}
 use Rattle.pdc_server.specs.Turn.{Dated, HasEnded, HasHeard, HasMade, HasWritten, IsMade, IsUnheard, IsUnwritten, Standing}
 use Rattle.pdc_server.specs.declared.ended.Ended.{Ended}
+use Rattle.pdc_server.specs.declared.stamp.Stamp.{Stamp}
 use Rattle.pdc_server.specs.declared.ended.Ended.TheVariants.{EndOfStream, Session, Device, NoMemory, Closed}
 
 pub where_ok : {A E P Q : Type 0} (answer : Result A E) → (P → Q) → OnOk answer P → OnOk answer Q
@@ -24,7 +25,7 @@ of_err P (Ok a) e is p = tt
 of_err P (Err x) e is p = subst P (sym is) p
 
 -- A piece that is not answered to its end is what is to be written.
-made : (ended : Ended) (dated : Dated) (id : ℕ) (piece : List ℕ) (before later : Standing) (bytes : List ℕ) → later.got ≡ before.got
+made : (ended : Ended) (dated : Dated) (id : ℕ) (piece : List ℕ) (before later : Standing) (bytes : List ℕ) → later.place ≡ before.place
     → IsUnheard ended dated id piece before.session later.session [] bytes → IsMade (Some ended) dated id piece before later bytes
 made EndOfStream dated id piece before later bytes got unheard = (got, unheard)
 made (Session fault) dated id piece before later bytes got unheard = (got, unheard)
@@ -33,23 +34,23 @@ made NoMemory dated id piece before later bytes got unheard = (got, inl unheard)
 made Closed dated id piece before later bytes got unheard = (got, unheard)
 
 pub unheard_made : (ended : Ended) (dated : Dated) (id : ℕ) (items held : List ℕ) (n : ℕ) (before later : Standing) (out bytes : List ℕ) → held ≡ items → out ≡ []
-    → later.got ≡ before.got → IsUnheard ended dated id (take n held) before.session later.session out bytes → IsMade (Some ended) dated id (take n items) before later bytes
+    → later.place ≡ before.place → IsUnheard ended dated id (take n held) before.session later.session out bytes → IsMade (Some ended) dated id (take n items) before later bytes
 unheard_made ended dated id items held n before later out bytes is none got unheard =
     made ended dated id (take n items) before later bytes got
     (subst (λ (xs : List ℕ). IsUnheard ended dated id (take n xs) before.session later.session [] bytes) is
     (subst (λ (xs : List ℕ). IsUnheard ended dated id (take n held) before.session later.session xs bytes) none unheard))
 
-pub heard_alone : (dated : Dated) (id : ℕ) (items held : List ℕ) (n : ℕ) (session later : SessionView) (out replies : List ℕ) → held ≡ items → out ≡ []
-    → HasHeard dated id (take n held) session later out replies → HasHeard dated id (take n items) session later [] replies
-heard_alone dated id items held n session later out replies is none heard =
-    subst (λ (xs : List ℕ). HasHeard dated id (take n xs) session later [] replies) is
-    (subst (λ (xs : List ℕ). HasHeard dated id (take n held) session later xs replies) none heard)
+pub heard_alone : (dated : Dated) (stamp : Option Stamp) (id : ℕ) (items held : List ℕ) (n : ℕ) (session later : SessionView) (out replies : List ℕ) → held ≡ items → out ≡ []
+    → HasHeard dated stamp id (take n held) session later out replies → HasHeard dated stamp id (take n items) session later [] replies
+heard_alone dated stamp id items held n session later out replies is none heard =
+    subst (λ (xs : List ℕ). HasHeard dated stamp id (take n xs) session later [] replies) is
+    (subst (λ (xs : List ℕ). HasHeard dated stamp id (take n held) session later xs replies) none heard)
 
-pub lacking_made : (ended : Ended) (dated : Dated) (id : ℕ) (piece : List ℕ) (before later : Standing) (replies bytes : List ℕ) → ended ≡ NoMemory → later.session.told.on ≡ true
-    → later.got ≡ before.got → bytes ≡ replies → HasHeard dated id piece before.session later.session [] replies → IsMade (Some ended) dated id piece before later bytes
-lacking_made ended dated id piece before later replies bytes is on got same heard =
+pub lacking_made : (ended : Ended) (dated : Dated) (stamp : Option Stamp) (id : ℕ) (piece : List ℕ) (before later : Standing) (replies bytes : List ℕ) → ended ≡ NoMemory → later.session.told.on ≡ true
+    → later.place ≡ before.place → bytes ≡ replies → HasHeard dated stamp id piece before.session later.session [] replies → IsMade (Some ended) dated id piece before later bytes
+lacking_made ended dated stamp id piece before later replies bytes is on got same heard =
     subst (λ (e : Ended). IsMade (Some e) dated id piece before later bytes) (sym is)
-    (got, inr (subst (λ (xs : List ℕ). HasHeard dated id piece before.session later.session [] xs) (sym same) heard, on))
+    (got, inr ((stamp, subst (λ (xs : List ℕ). HasHeard dated stamp id piece before.session later.session [] xs) (sym same) heard), on))
 
 -- Whatever it is, something is to be written.
 pub some_made : {U : Type 0} (answer : Result U Ended) (dated : Dated) (id : ℕ) (piece : List ℕ) (before later : Standing) (bytes : List ℕ) → OnOk answer (IsMade None dated id piece before later bytes)

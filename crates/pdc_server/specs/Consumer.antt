@@ -3,6 +3,7 @@ use Rattle.std.specs.Prelude.{ℕ, Bool, ◌&&◌, not}
 use Rattle.pdc_session.specs.Session.{SessionView}
 use Rattle.pdc_server.specs.Turn.{Standing}
 use Rattle.pdc_server.specs.declared.consumer.Consumer.{Consumer}
+use Rattle.pdc_server.specs.declared.place.Place.{Place}
 
 -- the stream that it asks
 abbrev pub id_in : Consumer → ℕ
@@ -12,9 +13,13 @@ id_in consumer = consumer.id.value
 abbrev pub session_in : Consumer → SessionView
 session_in consumer = consumer.session
 
+-- where it stands in the stream
+abbrev pub place_in : Consumer → Place
+place_in consumer = consumer.place
+
 -- up to which instant it got data
 abbrev pub got_in : Consumer → ℕ
-got_in consumer = consumer.got
+got_in consumer = consumer.place.got
 
 -- whether bytes came when it was last heard
 abbrev pub heard_in : Consumer → Bool
@@ -26,4 +31,4 @@ is_silent_in consumer = not consumer.heard && not consumer.session.told.on
 
 -- where it stands
 abbrev pub standing_in : Consumer → Standing
-standing_in consumer = record { session = consumer.session; got = consumer.got; heard = consumer.heard }
+standing_in consumer = record { session = consumer.session; place = consumer.place; heard = consumer.heard }

@@ -9,8 +9,11 @@ use Rattle.pdc_session.specs.declared.serving.Serving.{Serving}
 use Rattle.pdc_server.specs.Given.{IsGiven}
 use Rattle.pdc_server.specs.Stream.{IsLayoutWith, Stream}
 use Rattle.pdc_server.specs.Header.{header_text}
+use Rattle.pdc_server.specs.Places.{replied, seen_after}
 use Rattle.pdc_server.specs.declared.ended.Ended.{Ended}
 use Rattle.pdc_server.specs.declared.ended.Ended.TheVariants.{EndOfStream, Session, Device, NoMemory, Closed}
+use Rattle.pdc_server.specs.declared.place.Place.{Place}
+use Rattle.pdc_server.specs.declared.stamp.Stamp.{Stamp}
 
 -- the stream that a consumer asks, and the second that it is answered in
 pub record Dated : Type 0 where
@@ -20,36 +23,37 @@ pub record Dated : Type 0 where
 abbrev pub dated_at : Stream → ℕ → Dated
 dated_at stream soc = record { stream = stream; soc = soc }
 
--- Replies are made with this text as the header, with the configuration of a layout frame of the stream, and dated with the second.
-abbrev pub IsServing : Dated → (header : List ℕ) → Serving → Type 0
-IsServing dated header serving =
-    (serving.header.now ≡ header) × (serving.soc ≡ dated.soc) × ∥ ((bytes : List ℕ) × IsLayoutWith dated.stream bytes (config_fields_of serving.layout)) ∥₁
+-- Replies are made with this text as the header, with the configuration of a layout frame of the stream, whose layout has this stamp, and
+-- dated with the second.
+abbrev pub IsServing : Dated → Stamp → (header : List ℕ) → Serving → Type 0
+IsServing dated stamp header serving =
+    (serving.header.now ≡ header) × (serving.soc ≡ dated.soc) × ∥ ((bytes : List ℕ) × IsLayoutWith dated.stream stamp bytes (config_fields_of serving.layout)) ∥₁
 
 -- The session went on with this piece, and the replies to the commands that end in it were appended.
-abbrev pub IsAnswered : Dated → (header piece : List ℕ) (session later : SessionView) (out grown : List ℕ) → Type 0
-IsAnswered dated header piece session later out grown =
-    (serving : Serving) × IsServing dated header serving × HasAnswered session.id serving piece session.held session.told out later.held later.told grown
+abbrev pub IsAnswered : Dated → Stamp → (header piece : List ℕ) (session later : SessionView) (out grown : List ℕ) → Type 0
+IsAnswered dated stamp header piece session later out grown =
+    (serving : Serving) × IsServing dated stamp header serving × HasAnswered session.id serving piece session.held session.told out later.held later.told grown
 
 -- With this piece the session has ended by the fault, and the replies to the commands before it were appended.
-abbrev pub HasFailed : Dated → (header piece : List ℕ) (session later : SessionView) (out grown : List ℕ) → SessionFault → Type 0
-HasFailed dated header piece session later out grown fault =
-    (serving : Serving) × IsServing dated header serving × (later.ended ≡ Some fault) × IsFed serving piece session out later grown
+abbrev pub HasFailed : Dated → Stamp → (header piece : List ℕ) (session later : SessionView) (out grown : List ℕ) → SessionFault → Type 0
+HasFailed dated stamp header piece session later out grown fault =
+    (serving : Serving) × IsServing dated stamp header serving × (later.ended ≡ Some fault) × IsFed serving piece session out later grown
 
 -- Where no piece came nothing is appended, and the session stays.
-abbrev pub HasHeard : Dated → (id : ℕ) (piece : List ℕ) (session later : SessionView) (out grown : List ℕ) → Type 0
-HasHeard dated id piece session later out grown =
-    ((piece ≡ []) × (grown ≡ out) × (later ≡ session)) ⊎ IsAnswered dated (header_text id) piece session later out grown
+abbrev pub HasHeard : Dated → Option Stamp → (id : ℕ) (piece : List ℕ) (session later : SessionView) (out grown : List ℕ) → Type 0
+HasHeard dated None id piece session later out grown = (piece ≡ []) × (grown ≡ out) × (later ≡ session)
+HasHeard dated (Some stamp) id piece session later out grown = IsAnswered dated stamp (header_text id) piece session later out grown
 
 -- Why a piece was not answered to its end: the session has ended; or there was no memory for the layout, and nothing was done.
 abbrev pub IsUnheard : Ended → Dated → (id : ℕ) (piece : List ℕ) (session later : SessionView) (out grown : List ℕ) → Type 0
-IsUnheard (Session fault) dated id piece session later out grown = HasFailed dated (header_text id) piece session later out grown fault
+IsUnheard (Session fault) dated id piece session later out grown = (stamp : Stamp) × HasFailed dated stamp (header_text id) piece session later out grown fault
 IsUnheard NoMemory dated id piece session later out grown = (piece ≡ [] → ⊥) × (grown ≡ out) × (later ≡ session)
 IsUnheard _ dated id piece session later out grown = ⊥
 
--- where a consumer stands: its session, up to which instant it got data, and whether bytes came when it was last heard
+-- where a consumer stands: its session, its place in the stream, and whether bytes came when it was last heard
 pub record Standing : Type 0 where
   pub session : SessionView
-  pub got : ℕ
+  pub place : Place
   pub heard : Bool
 
 -- whether bytes came
@@ -57,24 +61,29 @@ abbrev pub has_bytes : List ℕ → Bool
 has_bytes [] = false
 has_bytes (byte ∷ bytes) = true
 
--- All that is to be written once a piece came: the replies, and behind them, while data is on, the frames above the instant that the
--- consumer got; the greatest instant is what it has then.
+-- where a consumer stands in the stream once it has these replies, made of the layout with a stamp
+abbrev pub place_after : Place → Option Stamp → (replies : List ℕ) → Place
+place_after place stamp replies = record { got = place.got; seen = seen_after place.seen (replied stamp replies) }
+
+-- All that is to be written once a piece came: the replies, and behind them, while data is on, frames above the instant that the consumer
+-- got, of the layout that it has, or the frame of the layout that it is to have before any other.
 pub record IsWhole (dated : Dated) (id : ℕ) (piece : List ℕ) (before later : Standing) (made : List ℕ) : Type 0 where
+  pub stamp : Option Stamp
   pub replies : List ℕ
-  pub heard : HasHeard dated id piece before.session later.session [] replies
-  pub off : later.session.told.on ≡ false → (later.got ≡ before.got) × (made ≡ replies)
-  pub on : later.session.told.on ≡ true → IsGiven dated.stream before.got replies later.got made
+  pub heard : HasHeard dated stamp id piece before.session later.session [] replies
+  pub off : later.session.told.on ≡ false → (later.place ≡ place_after before.place stamp replies) × (made ≡ replies)
+  pub on : later.session.told.on ≡ true → IsGiven dated.stream (place_after before.place stamp replies) replies later.place made
 
 -- The replies alone, since there was no memory for the frames.
 abbrev pub LacksFrames : Dated → (id : ℕ) (piece : List ℕ) (before later : Standing) (made : List ℕ) → Type 0
-LacksFrames dated id piece before later made = HasHeard dated id piece before.session later.session [] made × (later.session.told.on ≡ true)
+LacksFrames dated id piece before later made = ((stamp : Option Stamp) × HasHeard dated stamp id piece before.session later.session [] made) × (later.session.told.on ≡ true)
 
 -- What is to be written, all of it or as much as there is where the session is to end.
 abbrev pub IsMade : Option Ended → Dated → (id : ℕ) (piece : List ℕ) (before later : Standing) (made : List ℕ) → Type 0
 IsMade None dated id piece before later made = IsWhole dated id piece before later made
-IsMade (Some NoMemory) dated id piece before later made = (later.got ≡ before.got)
+IsMade (Some NoMemory) dated id piece before later made = (later.place ≡ before.place)
     × (IsUnheard NoMemory dated id piece before.session later.session [] made ⊎ LacksFrames dated id piece before later made)
-IsMade (Some ended) dated id piece before later made = (later.got ≡ before.got) × IsUnheard ended dated id piece before.session later.session [] made
+IsMade (Some ended) dated id piece before later made = (later.place ≡ before.place) × IsUnheard ended dated id piece before.session later.session [] made
 
 -- A piece was read, perhaps none; whether bytes came is noted, and this is what is to be written.
 pub record HasMade {S : Type 0} (remaining : S → Option (List ℕ)) (ended : Option Ended) (dated : Dated) (id : ℕ) (before later : Standing) (line : S) : Type 0 where

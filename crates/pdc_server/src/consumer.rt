@@ -1,12 +1,15 @@
 //! One session, turn by turn.
 ghost use Rattle.std.specs.Prelude.{◌≡◌, ◌≤◌, ◌<◌, take, Some, None, false, OnOk, IfOk, IfErr, vec_len};
-ghost use Rattle.pdc_server.specs.Turn.{HasEnded, HasTurned, IsMade, dated_at, has_bytes};
+ghost use Rattle.pdc_server.specs.Places.{first_place, replied, seen_after};
+ghost use Rattle.pdc_server.specs.Turn.{HasEnded, HasTurned, IsMade, dated_at, has_bytes, place_after};
 ghost use Rattle.pdc_session.specs.Served.{IsNew};
 
 use crate::ended::Ended;
 use crate::hearing::{Question, answer, append_data};
 use crate::naming::Naming;
+use crate::place::{Place, Seen, seen_after};
 use crate::recent::Recent;
+use crate::stamp::Stamp;
 use crate::traffic::{read_once, write_out};
 use pdc_frame::StreamId;
 use pdc_session::Session;
@@ -17,12 +20,12 @@ use std::sync::Wait;
 /// The most bytes that are read in one turn.
 const PIECE_LEN: usize = 4096;
 
-/// A consumer that is connected: its session, and up to which instant it got data, at first 0.
+/// A consumer that is connected: its session, and where it stands in the stream.
 #[derive(Drop)]
 pub struct Consumer {
     session: Session,
     id: StreamId,
-    got: u64,
+    place: Place,
     /// Whether bytes came in the last turn that read.
     heard: bool,
     piece: Vec<u8>,
@@ -32,8 +35,25 @@ pub struct Consumer {
     pub ghost has_room: { 0 < vec_len piece },
 }
 
+/// The stamp of the layout that replies were made of, where any were made.
+fn replied(stamp: Option<Stamp>, replies: &[u8]) -> Option<Stamp>
+    ensures { result ≡ replied stamp replies.now }
+{
+    if replies.is_empty() { None } else { stamp }
+}
+
+/// Where a consumer stands in the stream once it has these replies, made of the layout with a stamp.
+fn place_after(place: Place, stamp: Option<Stamp>, replies: &[u8]) -> Place
+    ensures { result ≡ place_after place stamp replies.now }
+{
+    Place {
+        got: place.got,
+        seen: seen_after(place.seen, replied(stamp, replies)),
+    }
+}
+
 impl Consumer {
-    ghost use Rattle.pdc_server.specs.Consumer.{got_in, heard_in, id_in, is_silent_in, session_in, standing_in};
+    ghost use Rattle.pdc_server.specs.Consumer.{got_in, heard_in, id_in, is_silent_in, place_in, session_in, standing_in};
 
     /// A consumer of the stream `id`, that sent nothing yet.
     ///
@@ -43,13 +63,16 @@ impl Consumer {
     pub fn new(alloc: Global, id: StreamId) -> Result<Consumer, AllocError>
         ensures id { IfOk result (λ consumer. id_in consumer ≡ id.value) }
         ensures is_new { IfOk result (λ consumer. IsNew (session_in consumer)) }
-        ensures got { IfOk result (λ consumer. got_in consumer ≡ 0) }
+        ensures place { IfOk result (λ consumer. place_in consumer ≡ first_place) }
         ensures heard { IfOk result (λ consumer. heard_in consumer ≡ false) }
     {
         Ok(Consumer {
             session: Session::new(alloc, id)?,
             id,
-            got: 0,
+            place: Place {
+                got: 0,
+                seen: Seen::Nothing,
+            },
             heard: false,
             piece: vec![in alloc; 0u8; PIECE_LEN]?,
             layout: Vec::new(alloc),
@@ -61,7 +84,7 @@ impl Consumer {
     pub fn got(&self) -> u64
         ensures { result ≡ got_in self.now }
     {
-        self.got
+        self.place.got
     }
 
     /// Whether it gets data.
@@ -79,7 +102,7 @@ impl Consumer {
     }
 
     /// Notes whether bytes came, and makes what is to be written once so many did: the replies to the commands that end there, and behind
-    /// them, while data is on, the frames that were sent last and lie above what it got.
+    /// them, while data is on, what it is given of the stream next.
     fn make<N: Naming, R: Wait>(
         &mut self,
         rt: &R,
@@ -95,12 +118,13 @@ impl Consumer {
     {
         self.heard = count > 0;
         self.out.clear();
+        let was_on = self.session.on();
         let question = Question {
             id: self.id,
             soc,
             piece: &self.piece[..count],
         };
-        answer(
+        let stamp = answer(
             rt,
             recent,
             &question,
@@ -108,12 +132,14 @@ impl Consumer {
             &mut self.layout,
             &mut self.out,
         )?;
-        self.got = append_data(rt, &self.session, recent, self.got, &mut self.out)?;
+        let place = place_after(self.place, stamp, &self.out);
+        self.place = append_data(rt, &self.session, recent, place, !was_on, &mut self.out)?;
         Ok(())
     }
 
     /// Reads once what the consumer sends, and writes the replies to the commands that end there, dated with the second `soc`, and behind
-    /// them, while data is on, the frames that were sent last and lie above what it got.
+    /// them, while data is on, what it is given of the stream next: data frames above what it got, of the layout that it has, or the frame
+    /// of the layout that it is to have before any other.
     ///
     /// # Errors
     ///

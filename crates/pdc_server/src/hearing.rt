@@ -9,7 +9,9 @@ ghost use Rattle.pdc_server.specs.Turn.{HasFailed, HasHeard, IsAnswered, IsUnhea
 use crate::ended::Ended;
 use crate::header::header_of;
 use crate::naming::Naming;
+use crate::place::Place;
 use crate::recent::Recent;
+use crate::stamp::Stamp;
 use pdc_cfg::{ConfigView, read_config};
 use pdc_frame::{StreamId, read_frame};
 use pdc_session::{Serving, Session, SessionFault};
@@ -25,15 +27,24 @@ pub struct Question<'a> {
 }
 
 /// The configuration in the bytes of a layout frame.
-fn config_of<N: Naming>(layout: &[u8]) -> ConfigView<'_>
-    requires { ∥ IsLayout N.stream layout.now ∥₁ }
-    ensures { ∥ IsLayoutWith N.stream layout.now (config_fields_of result) ∥₁ }
+fn config_of<N: Naming>(stamp: Stamp, layout: &[u8]) -> ConfigView<'_>
+    requires { ∥ IsLayout N.stream stamp layout.now ∥₁ }
+    ensures { ∥ IsLayoutWith N.stream stamp layout.now (config_fields_of result) ∥₁ }
 {
     let frame = read_frame(layout).unwrap();
     read_config(&frame).unwrap()
 }
 
-/// Appends the replies to the commands that end in the piece, dated with this second, of this header and layout.
+/// What replies are made of: the second that they are dated with, the header, and the layout with its stamp.
+#[derive(Clone, Copy, Debug)]
+struct Source<'a> {
+    soc: u32,
+    header: &'a [u8],
+    stamp: Stamp,
+    layout: &'a [u8],
+}
+
+/// Appends the replies to the commands that end in the piece.
 ///
 /// # Errors
 ///
@@ -41,26 +52,25 @@ fn config_of<N: Naming>(layout: &[u8]) -> ConfigView<'_>
 fn hear<N: Naming>(
     session: &mut Session,
     piece: &[u8],
-    soc: u32,
-    header: &[u8],
-    layout: &[u8],
+    source: &Source<'_>,
     out: &mut Vec<u8>,
 ) -> Result<(), SessionFault>
-    requires header { length header.now ≤ MAX_TEXT }
-    requires layout { ∥ IsLayout N.stream layout.now ∥₁ }
+    requires header { length source.now.header.now ≤ MAX_TEXT }
+    requires layout { ∥ IsLayout N.stream source.now.stamp source.now.layout.now ∥₁ }
     ensures id { session.new.id ≡ session.old.id }
-    ensures ok { OnOk result (IsAnswered (dated_at N.stream soc) header.now piece.now session.old session.new out.old.items out.new.items) }
-    ensures failed { IfErr result (λ fault. HasFailed (dated_at N.stream soc) header.now piece.now session.old session.new out.old.items out.new.items fault) }
+    ensures ok { OnOk result (IsAnswered (dated_at N.stream source.now.soc) source.now.stamp source.now.header.now piece.now session.old session.new out.old.items out.new.items) }
+    ensures failed { IfErr result (λ fault. HasFailed (dated_at N.stream source.now.soc) source.now.stamp source.now.header.now piece.now session.old session.new out.old.items out.new.items fault) }
 {
     let serving = Serving {
-        soc,
-        header,
-        layout: config_of::<N>(layout),
+        soc: source.soc,
+        header: source.header,
+        layout: config_of::<N>(source.stamp, source.layout),
     };
     session.feed(piece, &serving, out)
 }
 
-/// Appends the replies to the commands that end in the piece; nothing where there is no piece. The layout is read into `layout`.
+/// Appends the replies to the commands that end in the piece, and answers the stamp of the layout that they are made of; nothing where there
+/// is no piece. The layout is read into `layout`.
 ///
 /// # Errors
 ///
@@ -72,28 +82,34 @@ pub fn answer<N: Naming, R: Wait>(
     session: &mut Session,
     layout: &mut Vec<u8>,
     out: &mut Vec<u8>,
-) -> Result<(), Ended>
+) -> Result<Option<Stamp>, Ended>
     ensures id { session.new.id ≡ session.old.id }
-    ensures ok { OnOk result (HasHeard (dated_at N.stream question.now.soc) question.now.id.value question.now.piece.now session.old session.new out.old.items out.new.items) }
+    ensures ok { IfOk result (λ stamp. HasHeard (dated_at N.stream question.now.soc) stamp question.now.id.value question.now.piece.now session.old session.new out.old.items out.new.items) }
     ensures unheard { IfErr result (λ ended. IsUnheard ended (dated_at N.stream question.now.soc) question.now.id.value question.now.piece.now session.old session.new out.old.items out.new.items) }
 {
     if question.piece.is_empty() {
-        return Ok(());
+        return Ok(None);
     }
     layout.clear();
-    match recent.layout(rt, layout) {
-        Ok(()) => {}
-        Err(_) => return Err(Ended::NoMemory),
-    }
+    let Ok(stamp) = recent.layout(rt, layout) else {
+        return Err(Ended::NoMemory);
+    };
     let header = header_of(question.id.value);
-    let heard = hear::<N>(session, question.piece, question.soc, &header, layout, out);
+    let source = Source {
+        soc: question.soc,
+        header: &header,
+        stamp,
+        layout,
+    };
+    let heard = hear::<N>(session, question.piece, &source, out);
     match heard {
-        Ok(()) => Ok(()),
+        Ok(()) => Ok(Some(stamp)),
         Err(fault) => Err(Ended::Session(fault)),
     }
 }
 
-/// Appends the frames above the instant that the consumer got, where it wants data, and answers the greatest instant that it has then.
+/// Appends what the consumer at this place is given next, where it wants data, and answers where it stands then. It wants them for the
+/// first time where it is fresh.
 ///
 /// # Errors
 ///
@@ -102,18 +118,19 @@ pub fn append_data<N: Naming, R: Wait>(
     rt: &R,
     session: &Session,
     recent: &Recent<N>,
-    got: u64,
+    place: Place,
+    is_fresh: bool,
     out: &mut Vec<u8>,
-) -> Result<u64, Ended>
-    ensures off { session.now.told.on ≡ false → IfOk result (λ reached. (reached ≡ got) × (out.new.items ≡ out.old.items)) }
-    ensures on { session.now.told.on ≡ true → IfOk result (λ reached. IsGiven N.stream got out.old.items reached out.new.items) }
+) -> Result<Place, Ended>
+    ensures off { session.now.told.on ≡ false → IfOk result (λ reached. (reached ≡ place) × (out.new.items ≡ out.old.items)) }
+    ensures on { session.now.told.on ≡ true → IfOk result (λ reached. IsGiven N.stream place out.old.items reached out.new.items) }
     ensures err { OnErr result (out.new.items ≡ out.old.items) }
     ensures wanted { IfErr result (λ ended. (ended ≡ Ended.NoMemory) × (session.now.told.on ≡ true)) }
 {
     if !session.on() {
-        return Ok(got);
+        return Ok(place);
     }
-    match recent.after(rt, got, out) {
+    match recent.after(rt, place, is_fresh, out) {
         Ok(reached) => Ok(reached),
         Err(_) => Err(Ended::NoMemory),
     }

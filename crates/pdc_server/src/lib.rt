@@ -6,8 +6,8 @@
 //!
 //! To the layers above this crate promises that in each turn a consumer gets the replies to the commands in what it sent, in order, and
 //! then, while data is on, what [`Recent`] gives above all that it got before. Whatever other threads do, that is data frames of the
-//! stream whose time tags tell instants that strictly rise; and the layout that is kept is a CFG-2 frame of the stream. That a reader is
-//! given the frames that were pushed, and no others, is shown by tests.
+//! stream whose time tags tell instants that strictly rise, each of the layout of the last CFG-2 frame before it, where there is one; or
+//! the CFG-2 frame of a layout that is to come before them. That a thread which waits is woken is shown by tests.
 #![tactic(auto)]
 
 mod consumer;
@@ -18,9 +18,12 @@ mod laws;
 mod line;
 mod listening;
 mod naming;
+mod own_stamp;
+mod place;
 mod recent;
 mod remembered;
 mod remembering_sink;
+mod stamp;
 mod traffic;
 
 pub use consumer::Consumer;
@@ -30,5 +33,7 @@ pub use laws::rows_are_data;
 pub use listening::serve;
 pub use naming::Naming;
 pub use pdc_pipe::{Outlet, Published, Sink, SinkFault};
+pub use place::{Place, Seen};
 pub use recent::Recent;
 pub use remembering_sink::RememberingSink;
+pub use stamp::Stamp;

@@ -1,10 +1,13 @@
 //! The lock round what was sent last.
-ghost use Rattle.std.specs.Prelude.{◌≡◌, ◌≤◌, ◌<◌, ◌++◌, ℕ, List, OnErr, OnOk, IfOk};
+ghost use Rattle.std.specs.Prelude.{◌≡◌, ◌++◌, ℕ, List, OnErr, OnOk, IfOk};
 ghost use Rattle.pdc_server.specs.Given.{IsGiven};
+ghost use Rattle.pdc_server.specs.Stamps.{first_stamp};
 ghost use Rattle.pdc_server.specs.Stream.{IsData, IsLayout, stream_of};
 
 use crate::naming::Naming;
+use crate::place::Place;
 use crate::remembered::Remembered;
+use crate::stamp::Stamp;
 use pdc_frame::{Buffer, StreamId};
 use pdc_row::{Output, append_layout};
 use std::alloc::{AllocError, Global};
@@ -12,8 +15,8 @@ use std::rt::Clock;
 use std::sync::{Condvar, Mutex, Wait};
 use std::time::Duration;
 
-/// The last 256 data frames of a stream that were sent, and its last layout frame. Each call takes the lock once, and may wait for it; none
-/// holds it for longer than a copy of what is asked for.
+/// The last 256 data frames of a stream that were sent under its last layout, as many of those under the layout before, and its last layout
+/// frame. Each call takes the lock once, and may wait for it; none holds it for longer than a copy of what is asked for.
 #[derive(Drop)]
 pub struct Recent<N: Naming> {
     remembered: Mutex<Remembered<N>>,
@@ -25,7 +28,7 @@ pub struct Recent<N: Naming> {
 
 /// The layout frame before the first adoption of a life with this start: the own section alone.
 fn first_layout(alloc: Global, output: &Output, start: u32) -> Result<Vec<u8>, AllocError>
-    ensures { IfOk result (λ layout. IsLayout (stream_of output.now) layout.items) }
+    ensures { IfOk result (λ layout. IsLayout (stream_of output.now) (first_stamp start) layout.items) }
 {
     let mut layout = Vec::new(alloc);
     append_layout(output, start, 0, &[], 0, &mut layout)?;
@@ -43,7 +46,7 @@ impl<N: Naming> Recent<N> {
     {
         let layout = first_layout(alloc, output, start)?;
         Ok(Recent {
-            remembered: Mutex::new(Remembered::new(alloc, layout)?),
+            remembered: Mutex::new(Remembered::new(alloc, Stamp { start, change: 0 }, layout)?),
             woken: Condvar::new(),
             id: output.id,
         })
@@ -56,7 +59,8 @@ impl<N: Naming> Recent<N> {
         self.id
     }
 
-    /// Keeps a data frame of this instant, if the instant is above all before; the oldest of 256 goes.
+    /// Keeps a data frame of this instant, of the layout with this stamp, if that layout is in force and the instant is above all before; the
+    /// oldest of 256 goes. Whether the layout is in force.
     ///
     /// # Errors
     ///
@@ -65,16 +69,20 @@ impl<N: Naming> Recent<N> {
         &self,
         rt: &R,
         alloc: Global,
+        stamp: Stamp,
         instant: u64,
         bytes: &[u8],
-    ) -> Result<(), AllocError>
-        requires { ∥ IsData N.stream instant bytes.now ∥₁ }
+    ) -> Result<bool, AllocError>
+        requires { ∥ IsData N.stream stamp instant bytes.now ∥₁ }
     {
         let mut held = self.remembered.lock(rt);
+        if !held.is_in_force(stamp) {
+            return Ok(false);
+        }
         held.push(alloc, instant, bytes)?;
         held.note(instant);
         self.woken.notify_all();
-        Ok(())
+        Ok(true)
     }
 
     /// Waits until a frame above the instant is kept, or no more is to be, and at most so long.
@@ -85,37 +93,50 @@ impl<N: Naming> Recent<N> {
             .wait_timeout_while(rt, held, most, |remembered| !remembered.wakes(instant));
     }
 
-    /// Appends the frames above the instant, in order, and answers the greatest of their instants; the given one where there is none.
-    ///
-    /// # Errors
-    ///
-    /// [`AllocError`] where `out` has no room for them and gets none. `out` is unchanged then.
-    pub fn after<B: Buffer, R: Wait>(
-        &self,
-        rt: &R,
-        instant: u64,
-        out: &mut B,
-    ) -> Result<u64, AllocError>
-        ensures ok { IfOk result (λ answer. IsGiven N.stream instant (B.content out.old) answer (B.content out.new)) }
-        ensures err { OnErr result (B.content out.new ≡ B.content out.old) }
-    {
-        self.remembered.lock(rt).after(instant, out)
-    }
-
-    /// Keeps a layout frame in place of the one before.
-    pub fn keep_layout<R: Wait>(&self, rt: &R, layout: Vec<u8>)
-        requires { IsLayout N.stream layout.items }
-    {
-        self.remembered.lock(rt).keep_layout(layout);
-    }
-
-    /// Appends a copy of the layout frame that was kept last.
+    /// Appends what one at this place is given next, and answers where he stands then: the frames above what he got, of the layout in force
+    /// if he has it; else those of the layout before, if he has that one and not all of them; else the frame of the layout in force. To one
+    /// who has just asked for data none of the layout before are given.
     ///
     /// # Errors
     ///
     /// [`AllocError`] where `out` has no room for it and gets none. `out` is unchanged then.
-    pub fn layout<B: Buffer, R: Wait>(&self, rt: &R, out: &mut B) -> Result<(), AllocError>
-        ensures ok { OnOk result ((frame : List ℕ) × ∥ IsLayout N.stream frame ∥₁ × (B.content out.new ≡ B.content out.old ++ frame)) }
+    pub fn after<B: Buffer, R: Wait>(
+        &self,
+        rt: &R,
+        place: Place,
+        is_fresh: bool,
+        out: &mut B,
+    ) -> Result<Place, AllocError>
+        ensures ok { IfOk result (λ now. IsGiven N.stream place (B.content out.old) now (B.content out.new)) }
+        ensures err { OnErr result (B.content out.new ≡ B.content out.old) }
+    {
+        self.remembered.lock(rt).after(place, is_fresh, out)
+    }
+
+    /// Keeps the frame of the layout with this stamp, which is in force from now on, in place of the one before.
+    ///
+    /// # Errors
+    ///
+    /// [`AllocError`] where it is another layout than before, and there is no memory for its frames. Nothing is kept then.
+    pub fn keep_layout<R: Wait>(
+        &self,
+        rt: &R,
+        alloc: Global,
+        stamp: Stamp,
+        layout: Vec<u8>,
+    ) -> Result<(), AllocError>
+        requires { IsLayout N.stream stamp layout.items }
+    {
+        self.remembered.lock(rt).keep_layout(alloc, stamp, layout)
+    }
+
+    /// Appends a copy of the layout frame that was kept last, and answers its stamp.
+    ///
+    /// # Errors
+    ///
+    /// [`AllocError`] where `out` has no room for it and gets none. `out` is unchanged then.
+    pub fn layout<B: Buffer, R: Wait>(&self, rt: &R, out: &mut B) -> Result<Stamp, AllocError>
+        ensures ok { IfOk result (λ stamp. (frame : List ℕ) × ∥ IsLayout N.stream stamp frame ∥₁ × (B.content out.new ≡ B.content out.old ++ frame)) }
         ensures err { OnErr result (B.content out.new ≡ B.content out.old) }
     {
         self.remembered.lock(rt).layout(out)

@@ -1,11 +1,14 @@
 //! A sink that keeps what it sent.
-ghost use Rattle.std.specs.Prelude.{◌≡◌, List, true, ℕ};
-ghost use Rattle.pdc_server.specs.Stream.{stream_of};
+ghost use Rattle.std.specs.Prelude.{◌≡◌, IfSome, List, true, ℕ};
+ghost use Rattle.pdc_cfg.specs.Config.{config_fields_of};
+ghost use Rattle.pdc_server.specs.Stream.{IsLayout, TellsStamp, stream_of};
 
 use crate::laws::rows_are_data;
 use crate::naming::Naming;
+use crate::own_stamp::own_stamp;
 use crate::recent::Recent;
-use pdc_cfg::read_config;
+use crate::stamp::Stamp;
+use pdc_cfg::{ConfigView, read_config};
 use pdc_frame::{Kind, read_frame};
 use pdc_pipe::{LayoutFrame, Outlet, Published, Sink, SinkFault};
 use pdc_row::Output;
@@ -16,8 +19,8 @@ use std::sync::atomic::{AtomicU64, Ordering};
 /// Sends each frame by another sink, and then keeps it, whether or not it was sent: a data frame under its instant, a layout frame in place
 /// of the one before. What cannot be kept for want of memory is counted, and lost for the readers of what is kept alone.
 ///
-/// A data frame says itself of which instant it is and of which stream; a layout frame is read before it is kept. Bytes that do not say what
-/// they are ([`Sink::send`]) are sent and not kept.
+/// A data frame says itself of which instant it is, of which stream and of which layout; it is kept if that layout is, and counted else. A
+/// layout frame is read before it is kept. Bytes that do not say what they are ([`Sink::send`]) are sent and not kept.
 #[derive(Drop)]
 pub struct RememberingSink<'a, N: Naming, K: Sink + Drop, R: Wait> {
     rt: &'a R,
@@ -34,6 +37,33 @@ fn are_of_one_stream(one: &Output, other: &Output) -> bool
     ensures { result ≡ true → stream_of one.now ≡ stream_of other.now }
 {
     one.id.value == other.id.value && one.time_base == other.time_base && one.rate == other.rate
+}
+
+/// The stamp of a layout of this concentrator, as its own section, the first one, tells it.
+fn stamp_of(output: &Output, config: &ConfigView<'_>) -> Option<Stamp>
+    ensures { IfSome result (TellsStamp output.now.id.value (config_fields_of config.now).sections) }
+{
+    let sections = config.sections.as_slice();
+    if sections.is_empty() {
+        return None;
+    }
+    own_stamp(output, sections[0].bytes)
+}
+
+/// The stamp of the layout that these bytes are the frame of, where they can be read, and tell the concentrator's id, TIME_BASE and rate.
+fn layout_in(output: &Output, bytes: &[u8]) -> Option<Stamp>
+    ensures { IfSome result (λ stamp. IsLayout (stream_of output.now) stamp bytes.now) }
+{
+    let frame = read_frame(bytes).ok()?;
+    if frame.id.value != output.id.value || frame.kind != Kind::Cfg2 {
+        return None;
+    }
+    let config = read_config(&frame).ok()?;
+    let rate = config.rate.cast_unsigned();
+    if config.time_base != output.time_base || rate != output.rate {
+        return None;
+    }
+    stamp_of(output, &config)
 }
 
 impl<'a, N: Naming, K: Sink + Drop, R: Wait> RememberingSink<'a, N, K, R> {
@@ -60,39 +90,33 @@ impl<'a, N: Naming, K: Sink + Drop, R: Wait> RememberingSink<'a, N, K, R> {
         }
     }
 
-    /// Keeps a data frame under its instant; one of another stream is passed over.
-    fn keep_data(&self, frame: &Published) -> Result<(), AllocError> {
+    /// Keeps a data frame under its instant; one of another stream is passed over. Whether it is of the layout that is kept.
+    fn keep_data(&self, frame: &Published) -> Result<bool, AllocError> {
         rows_are_data();
         if !are_of_one_stream(&frame.output, &self.output) {
-            return Ok(());
+            return Ok(true);
         }
+        let stamp = Stamp {
+            start: frame.start,
+            change: frame.change,
+        };
+        let bytes = frame.bytes.as_slice();
         self.recent
-            .push(self.rt, self.alloc, frame.instant, frame.bytes.as_slice())
+            .push(self.rt, self.alloc, stamp, frame.instant, bytes)
     }
 
-    /// Keeps a layout frame of the stream, which can be read, and tells the concentrator's TIME_BASE and rate; another is passed over.
+    /// Keeps a layout frame of the stream; another is passed over.
     fn keep_layout(&self, bytes: &[u8]) -> Result<(), AllocError> {
-        let Ok(frame) = read_frame(bytes) else {
+        let Some(stamp) = layout_in(&self.output, bytes) else {
             return Ok(());
         };
-        if frame.id.value != self.output.id.value || frame.kind != Kind::Cfg2 {
-            return Ok(());
-        }
-        let Ok(config) = read_config(&frame) else {
-            return Ok(());
-        };
-        let rate = config.rate.cast_unsigned();
-        if config.time_base != self.output.time_base || rate != self.output.rate {
-            return Ok(());
-        }
         let copy = Vec::from_slice(self.alloc, bytes)?;
-        self.recent.keep_layout(self.rt, copy);
-        Ok(())
+        self.recent.keep_layout(self.rt, self.alloc, stamp, copy)
     }
 
-    /// Counts what could not be kept.
-    fn count(&self, kept: Result<(), AllocError>) {
-        if kept.is_err() {
+    /// Counts one that could not be kept.
+    fn count(&self, is_kept: bool) {
+        if !is_kept {
             self.unkept.fetch_add(1, Ordering::Relaxed);
         }
     }
@@ -118,13 +142,13 @@ impl<'a, N: Naming, K: Sink + Drop, R: Wait> Sink for RememberingSink<'a, N, K, 
 impl<'a, N: Naming, K: Sink + Drop, R: Wait> Outlet for RememberingSink<'a, N, K, R> {
     fn send_data(&mut self, frame: &Published) -> Result<(), SinkFault> {
         let sent = self.inner.send(frame.bytes.as_slice());
-        self.count(self.keep_data(frame));
+        self.count(matches!(self.keep_data(frame), Ok(true)));
         sent
     }
 
     fn send_layout(&mut self, frame: &LayoutFrame) -> Result<(), SinkFault> {
         let sent = self.inner.send(frame.bytes.as_slice());
-        self.count(self.keep_layout(frame.bytes.as_slice()));
+        self.count(self.keep_layout(frame.bytes.as_slice()).is_ok());
         sent
     }
 }

@@ -24,8 +24,8 @@ const ONE_PHASOR: Shape = Shape {
     digitals: 0,
 };
 
-/// The row of the instant, with a block of two PMUs.
-fn row(instant: u64) -> DueRow
+/// The row of the instant, with a block of two PMUs, under the layout with this change number.
+fn row(instant: u64, change: u32) -> DueRow
     ensures { result.instant ≡ instant }
 {
     let mut blocks = ArrayVec::new();
@@ -34,17 +34,17 @@ fn row(instant: u64) -> DueRow
     DueRow {
         instant,
         start: 1,
-        change: 1,
+        change,
         quality: 0,
         blocks,
     }
 }
 
-/// The frame of the row of the instant after the first one. It takes no memory.
+/// The frame of the row of the instant after the first one, under the layout before the first adoption. It takes no memory.
 pub fn frame() -> Published {
     let mut frame = spare_frame(&OUTPUT);
     let mut publisher = Publisher::new(ModelMark::new(1, 0), OUTPUT, 0);
-    let _published = publisher.publish_into(&row(FIRST + 1), &mut frame);
+    let _published = publisher.publish_into(&row(FIRST + 1, 0), &mut frame);
     frame
 }
 
@@ -92,7 +92,7 @@ impl Trial for PublishTrial {
         if publisher.last() >= FIRST {
             return NO_CALL;
         }
-        let answer = told(publisher.publish(row(FIRST), &mut self.out).map(|_| ()));
+        let answer = told(publisher.publish(row(FIRST, 1), &mut self.out).map(|_| ()));
         let (_, floor) = publisher.into_mark().stored();
         self.floor = floor;
         answer

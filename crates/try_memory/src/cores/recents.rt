@@ -8,7 +8,7 @@ use crate::trial::{DONE, State, begin, end, of_memory, state_of};
 use crate::vectors::BEFORE;
 use arrayvec::ArrayVec;
 use pdc_life::Output;
-use pdc_server::{Naming, Outlet, Recent, RememberingSink};
+use pdc_server::{Naming, Outlet, Place, Recent, RememberingSink, Seen};
 use std::alloc::Global;
 use std::io;
 use std::marker::Brand;
@@ -37,10 +37,19 @@ fn name_of(called: Called) -> &'static str {
     }
 }
 
+/// Where a consumer stands at first.
+const FIRST_PLACE: Place = Place {
+    got: 0,
+    seen: Seen::Nothing,
+};
+
 /// What was appended, and the greatest instant that is kept.
 fn state<N: Naming, R: Wait>(rt: &R, recent: &Recent<N>, out: &[u8]) -> State {
     let mut all: ArrayVec<u8, 64> = ArrayVec::new();
-    let greatest = recent.after(rt, 0, &mut all).unwrap_or(u64::MAX);
+    let greatest = match recent.after(rt, FIRST_PLACE, true, &mut all) {
+        Ok(place) => place.got,
+        Err(_) => u64::MAX,
+    };
     state_of(out, greatest)
 }
 
@@ -76,7 +85,7 @@ fn call<N: Naming, R: Wait>(
     match called {
         Called::New => of_memory(Recent::<N>::new(alloc, output, 1)),
         Called::Send => send(rt, alloc, output, recent),
-        Called::After => of_memory(recent.after(rt, 0, out)),
+        Called::After => of_memory(recent.after(rt, FIRST_PLACE, true, out)),
         Called::Layout => of_memory(recent.layout(rt, out)),
     }
 }

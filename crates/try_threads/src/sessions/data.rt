@@ -20,9 +20,6 @@ pub const ID: StreamId = StreamId { value: 201 };
 /// How many bytes a data frame of a trial has: 14 before the payload, the own block, and the check word.
 pub const DATA_LEN: usize = 30;
 
-/// Where the low word of the start number stands in it: behind STAT, FREQ, DFREQ and the high word.
-pub const START_PLACE: usize = 22;
-
 /// What the frames of a stream say.
 fn output_of(id: StreamId) -> Output
     ensures { result.rate ≡ 50 }
@@ -40,12 +37,12 @@ pub fn node_a() -> Output {
     output_of(ID)
 }
 
-/// The data frame of a row of this instant without blocks, whose start number is the instant.
+/// The data frame of a row of this instant without blocks, under the layout before the first adoption of the first life.
 fn frame_of(id: StreamId, instant: u16) -> Published {
     let output = output_of(id);
     let row = DueRow {
         instant: u64::from(instant),
-        start: u32::from(instant),
+        start: 1,
         change: 0,
         quality: 15,
         blocks: ArrayVec::new(),

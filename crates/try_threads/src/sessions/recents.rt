@@ -2,28 +2,40 @@
 ghost use Rattle.std.specs.Prelude.{◌≡◌};
 ghost use Rattle.pdc_server.specs.Stream.{stream_of};
 
-use crate::sessions::data::{DATA_LEN, ID, START_PLACE, node_a, send_data};
-use pdc_frame::StreamId;
+use crate::sessions::data::{DATA_LEN, ID, node_a, send_data};
+use pdc_frame::{StreamId, instant, read_frame};
 use pdc_row::Output;
-use pdc_server::{Naming, Recent};
+use pdc_server::{Naming, Place, Recent, Seen};
 use std::alloc::Global;
 use std::io;
 use std::marker::Brand;
 use std::sync::Wait;
+
+/// The instant of the first frame, if there is one.
+fn first_of(output: &Output, frames: &[u8]) -> Option<u64> {
+    let frame = read_frame(frames.get(..DATA_LEN)?).ok()?;
+    instant(
+        frame.soc,
+        frame.frac,
+        output.time_base,
+        u32::from(output.rate),
+    )
+}
 
 /// Prints what is given above an instant.
 fn print_after<N: Naming, R: Wait + Print>(
     rt: &R,
     alloc: Global,
     recent: &Recent<N>,
-    instant: u64,
+    output: &Output,
+    got: u64,
 ) -> io::Result<()> {
     let mut out = Vec::new(alloc);
-    let answer = recent.after(rt, instant, &mut out)?;
+    let seen = Seen::Nothing;
+    let answer = recent.after(rt, Place { got, seen }, true, &mut out)?.got;
     let frames = out.len() / DATA_LEN;
-    println!(rt; "  after {instant}: {frames} frames, and the answer {answer}")?;
-    if let Some([high, low, ..]) = out.as_slice().get(START_PLACE..) {
-        let first = u16::from_be_bytes([*high, *low]);
+    println!(rt; "  after {got}: {frames} frames, and the answer {answer}")?;
+    if let Some(first) = first_of(output, &out) {
         println!(rt; "  the first one is {first}")?;
     }
     Ok(())
@@ -38,8 +50,8 @@ fn play_named<N: Naming, R: Wait + Print>(rt: &R, alloc: Global, output: &Output
         send_data(rt, alloc, &recent, output, ID, instant)?;
     }
     send_data(rt, alloc, &recent, output, StreamId { value: 202 }, 301)?;
-    print_after(rt, alloc, &recent, 0)?;
-    print_after(rt, alloc, &recent, 300)
+    print_after(rt, alloc, &recent, output, 0)?;
+    print_after(rt, alloc, &recent, output, 300)
 }
 
 /// Instants 1 to 300.
