@@ -17,8 +17,8 @@ use std::alloc::{AllocError, Global};
 use std::io::{Read, Write};
 use std::sync::Wait;
 
-/// The most bytes that are read in one turn.
-const PIECE_LEN: usize = 4096;
+/// The most bytes that are read in one turn: some fifty commands.
+const PIECE_LEN: usize = 1024;
 
 /// A consumer that is connected: its session, and where it stands in the stream.
 #[derive(Drop)]
@@ -92,6 +92,13 @@ impl Consumer {
         ensures { result ≡ (session_in self.now).told.on }
     {
         self.session.on()
+    }
+
+    /// Whether bytes came in the last turn that read.
+    pub fn was_heard(&self) -> bool
+        ensures { result ≡ heard_in self.now }
+    {
+        self.heard
     }
 
     /// Whether it sent nothing in the last turn, and gets no data.

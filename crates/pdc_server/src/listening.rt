@@ -12,7 +12,8 @@ use std::sync::atomic::{AtomicU64, Ordering};
 use std::time::{Duration, Instant, SystemTime};
 use std::{io, thread};
 
-/// How long one who gets data waits for a frame before he is heard again, in milliseconds.
+/// How long one who gets data waits for a frame before he is heard again, in milliseconds; and how long one who was just heard, so that commands
+/// without end keep no processor busy.
 const TURN: u64 = 20;
 
 /// How long a read waits for one who gets none, in milliseconds: what he sends ends it, and an end of the run is seen behind it.
@@ -56,7 +57,8 @@ fn is_over<R: Clock>(rt: &R, since: Option<Instant>) -> bool {
     }
 }
 
-/// Waits for the next frame of one who gets data, who is then heard as far as he has spoken. One who gets none is waited for by the read.
+/// Waits for the next frame of one who gets data, who is then heard as far as he has spoken. One who gets none is waited for by the read, and
+/// for a while before it where he was just heard.
 fn wait_for_more<N: Naming, S, R: Wait + Clock>(
     rt: &R,
     recent: &Recent<N>,
@@ -65,8 +67,11 @@ fn wait_for_more<N: Naming, S, R: Wait + Clock>(
 ) {
     let is_on = consumer.wants_data();
     line.set_hasty(is_on);
+    let turn = Duration::from_millis(TURN);
     if is_on {
-        recent.wait_above(rt, consumer.got(), Duration::from_millis(TURN));
+        recent.wait_above(rt, consumer.got(), turn);
+    } else if consumer.was_heard() {
+        thread::sleep(rt, turn);
     }
 }
 
