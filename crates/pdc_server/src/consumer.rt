@@ -87,6 +87,13 @@ impl Consumer {
         self.place.got
     }
 
+    /// Where it stands in the stream.
+    pub fn place(&self) -> Place
+        ensures { result ≡ place_in self.now }
+    {
+        self.place
+    }
+
     /// Whether it gets data.
     pub fn wants_data(&self) -> bool
         ensures { result ≡ (session_in self.now).told.on }

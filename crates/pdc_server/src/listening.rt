@@ -69,7 +69,7 @@ fn wait_for_more<N: Naming, S, R: Wait + Clock>(
     line.set_hasty(is_on);
     let turn = Duration::from_millis(TURN);
     if is_on {
-        recent.wait_above(rt, consumer.got(), turn);
+        recent.wait_for_more(rt, consumer.place(), turn);
     } else if consumer.was_heard() {
         thread::sleep(rt, turn);
     }

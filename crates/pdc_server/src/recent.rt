@@ -85,12 +85,12 @@ impl<N: Naming> Recent<N> {
         Ok(true)
     }
 
-    /// Waits until a frame above the instant is kept, or no more is to be, and at most so long.
-    pub fn wait_above<R: Wait + Clock>(&self, rt: &R, instant: u64, most: Duration) {
+    /// Waits until there is something to give one at this place, or no more is to be, and at most so long.
+    pub fn wait_for_more<R: Wait + Clock>(&self, rt: &R, place: Place, most: Duration) {
         let held = self.remembered.lock(rt);
         let _woken = self
             .woken
-            .wait_timeout_while(rt, held, most, |remembered| !remembered.wakes(instant));
+            .wait_timeout_while(rt, held, most, |remembered| !remembered.wakes(place));
     }
 
     /// Appends what one at this place is given next, and answers where he stands then: the frames above what he got, of the layout in force

@@ -20,7 +20,7 @@ use std::mem;
 #[derive(Drop)]
 pub struct Remembered<N: Naming> {
     frames: Frames,
-    /// The greatest instant of a frame that was kept, at first 0.
+    /// The greatest instant of those, at first 0.
     last: u64,
     /// Of the layout in force.
     stamp: Stamp,
@@ -72,14 +72,14 @@ impl<N: Naming> Remembered<N> {
         self.frames.push(alloc, instant, bytes)
     }
 
-    /// Notes that a frame of this instant was kept.
+    /// Notes that a frame of this instant is kept.
     pub fn note(&mut self, instant: u64) {
         self.last = self.last.max(instant);
     }
 
-    /// Whether one who got data up to this instant is to be woken: a frame above it was kept, or no more is to be.
-    pub fn wakes(&self, instant: u64) -> bool {
-        self.closed || instant < self.last
+    /// Whether one at this place is to be woken: there is something to give him, or no more is to be.
+    pub fn wakes(&self, place: Place) -> bool {
+        self.closed || !self.takes(place) || place.got < self.last
     }
 
     /// Whether one at this place may be given data frames of the layout in force next.
@@ -189,6 +189,7 @@ impl<N: Naming> Remembered<N> {
     {
         self.older = mem::replace(&mut self.frames, none);
         self.older_last = self.last;
+        self.last = 0;
         self.older_stamp = self.stamp;
         self.stamp = stamp;
         self.layout = layout;
