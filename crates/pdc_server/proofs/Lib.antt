@@ -4,3 +4,4 @@ mod Turns
 mod Givens
 mod Pushes
 mod Keeping
+mod Fitting

@@ -1,4 +1,5 @@
 pub mod Consumer
+pub mod Fits
 pub mod Header
 pub mod Turn
 pub mod Given

@@ -17,8 +17,8 @@ use std::alloc::{AllocError, Global};
 use std::io::{Read, Write};
 use std::sync::Wait;
 
-/// The most bytes that are read in one turn: some fifty commands.
-const PIECE_LEN: usize = 1024;
+/// The most bytes that are read in one turn: some fourteen commands.
+const PIECE_LEN: usize = 256;
 
 /// A consumer that is connected: its session, and where it stands in the stream.
 #[derive(Drop)]

@@ -1,4 +1,5 @@
 //! What a publisher sends is what is kept: the contract of a function that does nothing but call the laws that it stands on.
+ghost use Rattle.pdc_server.specs.Fits.{DataFitsItsLayout};
 ghost use Rattle.pdc_server.specs.Laws.{RowsAreData};
 
 use pdc_frame::tag_comes_back;
@@ -11,3 +12,9 @@ pub fn rows_are_data()
     rows_are_frames();
     tag_comes_back();
 }
+
+/// Of all that a new consumer is written, in however many turns, each data frame is of the layout of the last CFG-2 frame before it, where
+/// there is one.
+pub fn data_fits_its_layout()
+    ensures { DataFitsItsLayout }
+{}

@@ -29,7 +29,7 @@ mod traffic;
 pub use consumer::Consumer;
 pub use ended::Ended;
 pub use header::header_of;
-pub use laws::rows_are_data;
+pub use laws::{data_fits_its_layout, rows_are_data};
 pub use listening::serve;
 pub use naming::Naming;
 pub use pdc_pipe::{Outlet, Published, Sink, SinkFault};
