@@ -30,8 +30,9 @@ RECORD = program("RECORD")
 
 
 def settings(tables=(), **keys):
-    """The text of settings: `pmu` and `node` are lists of tables. Keys that are left out here have values that suit most scripts."""
-    usual = {"rate": 50, "nominal": 50, "time_base": TIME_BASE, "wait": 10, "window": 64, "ahead": 64, "layout_every": keys.get("rate", 50)}
+    """The text of settings: `pmu` and `node` are lists of tables. Keys that are left out here have values that suit most scripts: what
+    comes while a program is held up for seconds is taken then."""
+    usual = {"rate": 50, "nominal": 50, "time_base": TIME_BASE, "wait": 10, "window": 256, "ahead": 250, "layout_every": keys.get("rate", 50)}
     heads, tables = {}, []
     for key, value in {**usual, **keys}.items():
         if isinstance(value, list) and all(isinstance(it, dict) for it in value):
