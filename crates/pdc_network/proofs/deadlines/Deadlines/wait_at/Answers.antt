@@ -1,6 +1,4 @@
-use Rattle.std.proofs.Common.{rules, arith, ◌≡◌, ◌+◌, ◌*◌, ◌/◌, ◌≤◌, ℕ, ◌-◌, ◌<◌, ◌%◌, sym, subst, ap}
-use Rattle.pdc_network.specs.Deadlines.{IsNextDeadline}
-use Rattle.pdc_network.specs.Paces.{first_of, parts_of, span_of}
+use Rattle.std.proofs.Common.{rules, arith}
 use Rattle.pdc_network.proofs.Due.{before_first, behind_first_by}
 use Rattle.pdc_network.proofs.deadlines.Deadlines.wait_at.Goals as goal
 
