@@ -105,7 +105,7 @@ fn tick_ms(table: &Table, rate: u16) -> Option<Option<u16>>
     ensures { result ≡ tick_ms_of rate (table_view table.now) }
 {
     let most = (MILLISECONDS - 1) / rate;
-    optional_number(table, "tick_ms", most)
+    optional_number(table, "tick_ms", 0, most)
 }
 
 /// What the running program does with the rows and frames, of which it publishes so many in a second.

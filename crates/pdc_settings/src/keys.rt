@@ -3,9 +3,7 @@ ghost use Rattle.std.specs.Prelude.{◌≡◌, ◌≤◌, IfSome, IfOk, None, On
 ghost use Rattle.toml.specs.Data.{as_array, get_member};
 ghost use Rattle.toml.specs.View.{items_view, table_view, view};
 ghost use Rattle.pdc_settings.specs.Keys.{in_range, number_at, number_in, number_or, optional_number};
-ghost use Rattle.pdc_settings.specs.declared.limits.TheConstants.{MAX_PORT};
 
-use crate::limits::MAX_PORT;
 use crate::wanted::Wanted;
 use toml::{Table, Value};
 
@@ -94,36 +92,18 @@ pub(crate) fn number_or(table: &Table, key: &str, usual: u64, least: u64, most: 
     }
 }
 
-/// The port at a key that must stand, from 1 to 65535.
-fn port_at(table: &Table, key: &str) -> Option<u16>
-    ensures { result ≡ number_at key.now 1 MAX_PORT (table_view table.now) }
-{
-    match number_at(table, key, 1, u64::from(MAX_PORT)) {
-        Some(port) => Some(port as u16),
-        None => None,
-    }
-}
-
-/// The number at a key that may be left out, of at most so much: none then.
-pub(crate) fn optional_number(table: &Table, key: &str, most: u16) -> Option<Option<u16>>
-    ensures { result ≡ optional_number 0 most (get_member key.now (table_view table.now)) }
+/// The number at a key that may be left out, from `least` to `most`: none then.
+pub(crate) fn optional_number(
+    table: &Table,
+    key: &str,
+    least: u16,
+    most: u16,
+) -> Option<Option<u16>>
+    ensures { result ≡ optional_number least most (get_member key.now (table_view table.now)) }
 {
     match value_at(table, key) {
-        Some(value) => match number_in(value, 0, u64::from(most)) {
+        Some(value) => match number_in(value, u64::from(least), u64::from(most)) {
             Some(number) => Some(Some(number as u16)),
-            None => None,
-        },
-        None => Some(None),
-    }
-}
-
-/// The port at a key that may be left out: none then.
-pub(crate) fn optional_port(table: &Table, key: &str) -> Option<Option<u16>>
-    ensures { result ≡ optional_number 1 MAX_PORT (get_member key.now (table_view table.now)) }
-{
-    match value_at(table, key) {
-        Some(_) => match port_at(table, key) {
-            Some(port) => Some(Some(port)),
             None => None,
         },
         None => Some(None),

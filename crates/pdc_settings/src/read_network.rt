@@ -13,7 +13,8 @@ ghost use Rattle.pdc_settings.specs.Settings.{IsFaultOf};
 use crate::document::document;
 use crate::fault::SettingsFault;
 use crate::input::Input;
-use crate::keys::{number_or, optional_port, value_at};
+use crate::keys::{number_or, optional_number, value_at};
+use crate::limits::MAX_PORT;
 use crate::network::{
     MAX_OUTPUTS, MAX_RECEIVE_BUFFER, MAX_SESSIONS, MAX_TTL, Network, RECEIVE_BUFFER, SESSIONS, TTL,
 };
@@ -124,7 +125,7 @@ fn read_keys(alloc: Global, table: &Table, inputs: Vec<Input>) -> Result<Network
     let Some(sessions) = number_or(table, "sessions", usual, 1, most) else {
         return Err(SettingsFault::Range(Wanted::Sessions));
     };
-    let Some(metrics_port) = optional_port(table, "metrics_port") else {
+    let Some(metrics_port) = optional_number(table, "metrics_port", 1, MAX_PORT) else {
         return Err(SettingsFault::Range(Wanted::MetricsPort));
     };
     Ok(Network {
