@@ -7,12 +7,14 @@ use crate::frames::{FLOOR, Frames};
 use pdc_core::Reads;
 use pdc_hub::{Naming, Replayed};
 use pdc_life::{MAX_PMUS, Settings};
+use pdc_log::{Front, Log};
 use pdc_node::{Node, copy_of};
 use pdc_service::MAX_LIMIT;
 use pdc_table::{DueRow, RingTable, spare_row};
 use std::alloc::Global;
 use std::marker::Brand;
 use std::rt::Clock;
+use std::sync::Wait;
 use std::time::{Duration, Instant};
 
 /// All counts may be adopted.
@@ -34,10 +36,12 @@ fn keep_all(alloc: Global, settings: &Settings, frames: &Frames) -> u64 {
 }
 
 /// Takes the frame with this number of each PMU, ticks, and pops into this row; false where memory runs out.
-fn take_instant<N: Naming<Settings>>(
+fn take_instant<N: Naming<Settings>, R: Wait>(
+    rt: &R,
     alloc: Global,
     settings: &Settings,
     core: &mut Replayed<Node<RingTable>, N>,
+    front: &mut Front<N>,
     row: &mut DueRow,
     frames: &Frames,
     number: u32,
@@ -46,38 +50,45 @@ fn take_instant<N: Naming<Settings>>(
 {
     for (stream, list) in frames.streams.iter().enumerate() {
         if stream < settings.pmus.len() && (number as usize) < list.len() {
-            let Ok(taken) = settings.read_kept(alloc, stream, &list[number as usize]) else {
+            let bytes = &list[number as usize];
+            let Ok(taken) = settings.read_kept(alloc, stream, bytes) else {
                 return false;
             };
-            if core.arrive(stream, taken).is_err() {
+            if core.arrive(rt, front, stream, bytes, taken).is_err() {
                 return false;
             }
         }
     }
     let now = FLOOR.saturating_add(u64::from(number));
-    if core.tick(now, &CLEARED).is_err() {
+    if core.tick(rt, front, now, &CLEARED).is_err() {
         return false;
     }
-    core.pop_into(row).is_ok()
+    core.pop_into(rt, front, row).is_ok()
 }
 
 /// The same over two nodes that were opened alike: one is the base, the other the state. False where memory runs out.
-fn record_all<N: Naming<Settings>>(
+fn record_all<N: Naming<Settings>, R: Wait>(
+    rt: &R,
     alloc: Global,
     settings: &Settings,
     counts: &[u16; MAX_PMUS],
     base: Node<RingTable>,
     state: Node<RingTable>,
+    log: Log,
     frames: &Frames,
 ) -> bool
     requires given { N.given ≡ Some (given_of (OfNode settings.now) 1 FLOOR counts.now 0) }
     requires alike { StandsFor (given_of (OfNode settings.now) 1 FLOOR counts.now 0) [] base × StandsFor (given_of (OfNode settings.now) 1 FLOOR counts.now 0) [] state }
     requires settings { (N.settings ≡ Some settings.now) × (base.settings ≡ settings.now) × (state.settings ≡ settings.now) }
+    requires log { (log.seen.book ≡ N.book) × (log.seen.log ≡ []) }
 {
-    let mut core = Replayed::<Node<RingTable>, N>::new(alloc, base, state, MAX_LIMIT);
+    let mut front = log.front::<N>();
+    let mut core = Replayed::<Node<RingTable>, N>::new(alloc, base, state, MAX_LIMIT, log);
     let mut row = spare_row();
     for number in 0..=frames.count {
-        if !take_instant(alloc, settings, &mut core, &mut row, frames, number) {
+        if !take_instant(
+            rt, alloc, settings, &mut core, &mut front, &mut row, frames, number,
+        ) {
             return false;
         }
     }
@@ -85,7 +96,7 @@ fn record_all<N: Naming<Settings>>(
 }
 
 /// The same over a node of these settings; false where memory runs out.
-fn open_and_record(alloc: Global, settings: &Settings, frames: &Frames) -> bool {
+fn open_and_record<R: Wait>(rt: &R, alloc: Global, settings: &Settings, frames: &Frames) -> bool {
     let counts = [0; MAX_PMUS];
     let Ok(base) = Node::open(alloc, copy_of(settings), 1, FLOOR, &counts, 0) else {
         return false;
@@ -93,11 +104,20 @@ fn open_and_record(alloc: Global, settings: &Settings, frames: &Frames) -> bool 
     let Ok(state) = Node::open(alloc, copy_of(settings), 1, FLOOR, &counts, 0) else {
         return false;
     };
-    record_all::<Brand>(alloc, settings, &counts, base, state, frames)
+    record_all::<Brand, R>(
+        rt,
+        alloc,
+        settings,
+        &counts,
+        base,
+        state,
+        Log::new(),
+        frames,
+    )
 }
 
 /// How long it took to read and keep all frames, and to record them besides; none where memory runs out or the clock cannot be read.
-pub fn run_recorded<R: Clock>(
+pub fn run_recorded<R: Clock + Wait>(
     rt: &R,
     alloc: Global,
     settings: &Settings,
@@ -107,7 +127,7 @@ pub fn run_recorded<R: Clock>(
     let kept = keep_all(alloc, settings, frames);
     let reading = begun.elapsed(rt).ok()?;
     let begun = Instant::now(rt).ok()?;
-    let is_whole = open_and_record(alloc, settings, frames);
+    let is_whole = open_and_record(rt, alloc, settings, frames);
     let recording = begun.elapsed(rt).ok()?;
     if kept > 0 && is_whole {
         Some((reading, recording))

@@ -1,17 +1,8 @@
 -- How the mark stands from call to call, and rows as they were popped.
 use Rattle.std.proofs.Common.{arith, ◌≡◌, ℕ, ◌≤◌, true, inl, inr, Bool, Option, Result, Ok, Err, IsTrue, IfOk, OnErr, sym, ap, subst}
-use Rattle.std.proofs.Math.Logic.{∥∥₁_map}
-use Rattle.pdc_life.specs.Answer.{pop_answer}
-use Rattle.pdc_life.specs.Given.{Given}
-use Rattle.pdc_row.specs.RowView.{row_view}
-use Rattle.pdc_row.specs.declared.due_row.DueRow.{DueRow}
-use Rattle.pdc_hub.specs.Pops.{IsPop}
-use Rattle.pdc_hub.specs.Replay.{InSomeLife, Lives, number_in}
-use Rattle.pdc_ports.specs.declared.numbered.Numbered.{Numbered}
 use Rattle.pdc_hub.specs.declared.fault.HubFault.{HubFault}
 use Rattle.pdc_hub.specs.declared.fault.HubFault.TheVariants.{Device}
 use Rattle.pdc_aligner.specs.Device.{HasDevice, HasFailedSince, IsDown, Standing}
-use Rattle.pdc_aligner.specs.Sequence.{IsPopped}
 
 -- what failed since a later state failed since an earlier one
 failed_since : (first middle last : ℕ) → first ≤ middle → middle ≤ last → HasFailedSince middle last → HasFailedSince first last
@@ -60,9 +51,3 @@ device_on first middle last fault h k = record {
 -- a store that failed
 pub device_failed : {T : Type 0} (before after : Standing) → before.failures ≤ after.failures → IsDown before after → HasDevice {T = T} before after (Err Device)
 device_failed before after m h = record { no_fewer = m; caused = λ d. h; sound = tt }
-
--- what was popped is a row of some life
-pub all_popped : {C : Type 0} (Stands : C → Lives) (named : Option Given) (row : DueRow) (r : Result (Numbered Bool) HubFault)
-    → IfOk r (λ numbered. ∥ InSomeLife Stands named (λ state g E. IsPop numbered.answer row (pop_answer E) × (numbered.step ≡ number_in E)) ∥₁) → IfOk r (λ numbered. numbered.answer ≡ true → IsPopped Stands named (row_view row))
-all_popped Stands named row (Ok numbered) h = λ t. ∥∥₁_map h (λ x. record { core = x.core; given = x.given; is_named = x.is_named; life = x.life; stands = x.stands; fact = x.fact.0.0 t })
-all_popped Stands named row (Err fault) h = tt

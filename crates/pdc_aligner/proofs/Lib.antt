@@ -1,4 +1,6 @@
 mod Devices
-mod Laying
+mod ExactFrames
+pub mod Laying
 mod Rates
 mod Sequences
+pub mod Ticking

@@ -1,5 +1,7 @@
 -- What the aligner puts, tick by tick.
 pub mod Device
+pub mod Exact
+pub mod Laid
 pub mod Opened
 pub mod Rate
 pub mod Sequence

@@ -1,9 +1,6 @@
 -- What is put, and its instants (this profile).
-use Rattle.std.specs.Prelude.{◌≡◌, ℕ, ◌+◌, ◌<◌, ◌≤◌, List, [], ◌∷◌, ◌++◌, length, Option, Some, OnOk, Result}
-use Rattle.pdc_hub.specs.Replay.{InSomeLife, Lives}
+use Rattle.std.specs.Prelude.{◌≡◌, ℕ, ◌+◌, ◌<◌, ◌≤◌, List, [], ◌∷◌, ◌++◌, length, OnOk, Result}
 use Rattle.pdc_hub.specs.declared.fault.HubFault.{HubFault}
-use Rattle.pdc_life.specs.Answer.{pop_answer}
-use Rattle.pdc_life.specs.Given.{Given}
 use Rattle.pdc_row.specs.declared.output.Output.{Output}
 use Rattle.pdc_publisher.specs.Published.{IsRowFrame}
 use Rattle.pdc_publisher.specs.declared.published.Published.{Published}
@@ -30,27 +27,6 @@ pub record HasPutAll {A : Type 0} (first popped : ℕ) (before put : List Messag
   pub all : popped + length (instants_of before) ≡ first + length (instants_of put) + lost
   pub one_at_most : lost ≤ 1
   pub whole : OnOk result (lost ≡ 0)
-
--- It was popped in some life of what is named.
-abbrev pub IsPopped : {C : Type 0} (Stands : C → Lives) (named : Option Given) → RowView → Type 0
-IsPopped Stands named row = ∥ InSomeLife Stands named (λ state g E. Some row ≡ pop_answer E) ∥₁
-
--- The frame is that of a row as it was popped, with its blocks and quality, under this output.
-abbrev pub IsOfPopped : {C : Type 0} (Stands : C → Lives) (named : Option Given) (output : Output) → Published → Type 0
-IsOfPopped Stands named output frame = (row : RowView) × IsPopped Stands named row × IsRowFrame frame.instant frame.start frame.change frame.bytes.items output row
-
--- each message is the data frame of a row as it was popped
-abbrev pub AreData : {C : Type 0} (Stands : C → Lives) (named : Option Given) (output : Output) → List Message → Type 0
-AreData Stands named output [] = Unit {0}
-AreData Stands named output (Data frame ∷ ms) = IsOfPopped Stands named output frame × AreData Stands named output ms
-AreData Stands named output (Layout frame ∷ ms) = ⊥
-AreData Stands named output (End ∷ ms) = ⊥
-
--- Data frames of rows that were popped were put behind what was there, and nothing else.
-pub record HasPutData {C : Type 0} (Stands : C → Lives) (named : Option Given) (output : Output) (before put : List Message) : Type 0 where
-  pub frames : List Message
-  pub are_data : AreData Stands named output frames
-  pub behind : put ≡ before ++ frames
 
 -- The data frame of this row was put behind what was there.
 pub record HasPutRow (output : Output) (row : RowView) (before put : List Message) : Type 0 where

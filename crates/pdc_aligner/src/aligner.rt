@@ -3,10 +3,16 @@ ghost use Rattle.std.specs.Prelude.{◌≡◌, ◌<◌, ◌≤◌, ◌||◌, ◌
 ghost use Rattle.pdc_aligner.specs.Device.{HasDevice, IsOfAligner, standing_of};
 ghost use Rattle.pdc_aligner.specs.Opened.{IsOpenedWith};
 ghost use Rattle.pdc_aligner.specs.Rate.{IsAtRate};
-ghost use Rattle.pdc_aligner.specs.Sequence.{HasPutAll, HasPutData, Rises, instants_of};
-ghost use Rattle.pdc_aligner.specs.Turns.{HasGiven, HasPut, HasTurned, IsAligned, IsAnswered, NoneFalls, turn_at};
+ghost use Rattle.pdc_aligner.specs.Sequence.{HasPutAll, Rises, instants_of};
+ghost use Rattle.pdc_aligner.specs.Laid.{AreDone, IsAt, IsBefore, IsDone, IsLaid, IsLaidBut};
+ghost use Rattle.pdc_pipe.specs.Sequence.{bytes_of};
+ghost use Rattle.pdc_aligner.specs.Turns.{HasGiven, HasTicked, HasTickedOnce, NoneFalls};
 ghost use Rattle.pdc_hub.specs.Closing.{closing_of};
-ghost use Rattle.pdc_hub.specs.Pops.{popped_by};
+ghost use Rattle.pdc_hub.specs.Pops.{HasPoppedNone, HasSameShares, popped_by};
+ghost use Rattle.pdc_align.specs.Align.{ticked_of};
+ghost use Rattle.pdc_life.specs.Answer.{ToTick, tick_answer};
+ghost use Rattle.pdc_life.specs.Life.{changes};
+ghost use Rattle.pdc_log.specs.Log.{HasLooked, HasTurned, InTheLife, ticks_of};
 ghost use Rattle.pdc_pipe.specs.Writing.{GoesOn, IsOpen, put_by};
 ghost use Rattle.pdc_pipe.specs.declared.message.Message.{Message};
 ghost use Rattle.pdc_pipe.specs.declared.message.Message.TheVariants.{End};
@@ -44,10 +50,10 @@ pub struct Aligner<N: Ledgers, M: Mark, K> {
 struct Tick {
     /// The instant that is now.
     now: u64,
-    /// The second of that instant.
-    soc: u32,
-    /// Whether the layout is to be repeated.
-    repeat: bool,
+    /// Whether an earlier one adopted.
+    adopted: bool,
+    /// Its number, modulo that after which the layout is repeated.
+    place: u32,
 }
 
 /// Tells the ticker of a tick.
@@ -76,6 +82,35 @@ fn note_tick<K: Ticker>(
     );
 }
 
+/// Raises the mark and ticks.
+fn cleared<C: Core + Drop, N: Naming<C::Settings>, M: Mark, K, R: Wait>(
+    rt: &R,
+    hub: &Hub<C, N>,
+    aligner: &mut Aligner<N, M, K>,
+    now: u64,
+) -> Result<Numbered<Ticked>, HubFault>
+    requires { (aligner.old.pops.turns.parts ≡ N.turns.parts) × (0 < aligner.old.pops.turns.parts) }
+    ensures stored { IfOk result (λ numbered. HasTurned C.rules N.given (ToTick now (M.stored (mark_in aligner.new.publisher)).counts) aligner.old.pops.front aligner.new.pops.front numbered.step
+        (λ g E. numbered.answer ≡ ticked_of (changes E) (tick_answer g E now (M.stored (mark_in aligner.new.publisher)).counts))) }
+    ensures same { HasPoppedNone aligner.old.pops aligner.new.pops × HasSameShares aligner.old.pops aligner.new.pops }
+    ensures others { (aligner.new.writer ≡ aligner.old.writer) × (aligner.new.ticker ≡ aligner.old.ticker) }
+    ensures err { OnErr result (HasLooked aligner.old.pops.front aligner.new.pops.front) }
+    ensures none_falls { NoneFalls (M.stored (mark_in aligner.old.publisher)).counts (M.stored (mark_in aligner.new.publisher)).counts }
+    ensures floor { (M.stored (mark_in aligner.new.publisher)).floor ≡ (M.stored (mark_in aligner.old.publisher)).floor }
+    ensures last { last_in aligner.new.publisher ≡ last_in aligner.old.publisher }
+    ensures output { output_in aligner.new.publisher ≡ output_in aligner.old.publisher }
+    ensures lead { lead_in aligner.new.publisher ≡ lead_in aligner.old.publisher }
+    ensures causes { IfErr result IsOfAligner }
+    ensures device { HasDevice (standing_of aligner.old.publisher) (standing_of aligner.new.publisher) result }
+{
+    let Aligner {
+        publisher,
+        pops,
+        ..
+    } = aligner;
+    tick_cleared(rt, hub, publisher, pops, now)
+}
+
 /// One tick: first the mark is raised, and after it all due rows go out, and then the layout, where the tick adopted or it is to be
 /// repeated. Whether the tick adopted.
 fn turn<C: Core + Drop, N: Naming<C::Settings>, M: Mark, K: Ticker, R: Wait>(
@@ -83,9 +118,14 @@ fn turn<C: Core + Drop, N: Naming<C::Settings>, M: Mark, K: Ticker, R: Wait>(
     alloc: Global,
     hub: &Hub<C, N>,
     aligner: &mut Aligner<N, M, K>,
+    pace: &Pace,
     tick: Tick,
 ) -> Result<bool, HubFault>
     requires top { (aligner.old.pops.top.parts ≡ N.top.parts) × (0 < aligner.old.pops.top.parts) × (last_in aligner.old.publisher ≡ aligner.old.pops.top.amount) }
+    requires turns { (aligner.old.pops.turns.parts ≡ N.turns.parts) × (0 < aligner.old.pops.turns.parts) }
+    requires laid { IsLaid C.rules N.given (output_in aligner.old.publisher) pace.now.rate pace.now.layout_every aligner.old.pops.front (put_by aligner.old.writer) }
+    requires done { IsDone C.rules N.given aligner.old.pops.front }
+    requires before { IsBefore C.rules N.given pace.now.layout_every aligner.old.pops.front tick.adopted tick.place }
     requires rate { IsAtRate N.given (output_in aligner.old.publisher).rate }
     requires open { IsOpen aligner.old.writer }
     requires stored { last_in aligner.old.publisher ≤ (M.stored (mark_in aligner.old.publisher)).floor }
@@ -93,11 +133,18 @@ fn turn<C: Core + Drop, N: Naming<C::Settings>, M: Mark, K: Ticker, R: Wait>(
     ensures on { GoesOn aligner.old.writer aligner.new.writer }
     ensures stored { last_in aligner.new.publisher ≤ (M.stored (mark_in aligner.new.publisher)).floor }
     ensures rising { (low : ℕ) → Rises low (instants_of (put_by aligner.old.writer)) (last_in aligner.old.publisher) → Rises low (instants_of (put_by aligner.new.writer)) (last_in aligner.new.publisher) }
-    ensures answered { IfOk result (λ adopts. IsAnswered C.stands_for N.given (turn_at tick.now (M.stored (mark_in aligner.new.publisher)).counts adopts)) }
-    ensures laid { IfOk result (λ adopts. HasPut C.stands_for N.given (output_in aligner.old.publisher) tick.soc (adopts || tick.repeat) (put_by aligner.old.writer) (put_by aligner.new.writer)) }
+    // What was put are the frames of the life, but for one at most where it failed; and so it stands then.
+    ensures laid { OnOk result (IsLaid C.rules N.given (output_in aligner.old.publisher) pace.now.rate pace.now.layout_every aligner.new.pops.front (put_by aligner.new.writer)) }
+    ensures but { IsLaidBut C.rules N.given (output_in aligner.old.publisher) pace.now.rate pace.now.layout_every aligner.new.pops.front (put_by aligner.new.writer) }
+    ensures at { IfOk result (λ adopts. IsAt C.rules N.given pace.now.layout_every aligner.new.pops.front (adopts || tick.adopted) tick.place) }
+    ensures turns { aligner.new.pops.turns.parts ≡ aligner.old.pops.turns.parts }
+    // One tick was added, with the counts that the mark stores.
+    // All rows that were due were popped before.
+    ensures done { OnOk result (IsDone C.rules N.given aligner.new.pops.front) }
+    ensures are_done { AreDone C.rules N.given aligner.new.pops.front }
+    ensures ticked { HasTickedOnce tick.now (M.stored (mark_in aligner.new.publisher)).counts (ticks_of aligner.old.pops.front) (ticks_of aligner.new.pops.front) result }
     // Each row that was popped was put, but the last one where it failed.
     ensures all { HasPutAll (popped_by aligner.old.pops) (popped_by aligner.new.pops) (put_by aligner.old.writer) (put_by aligner.new.writer) result }
-    ensures failed { OnErr result (HasPutData C.stands_for N.given (output_in aligner.old.publisher) (put_by aligner.old.writer) (put_by aligner.new.writer)) }
     ensures none_falls { NoneFalls (M.stored (mark_in aligner.old.publisher)).counts (M.stored (mark_in aligner.new.publisher)).counts }
     ensures output { output_in aligner.new.publisher ≡ output_in aligner.old.publisher }
     ensures lead { lead_in aligner.new.publisher ≡ lead_in aligner.old.publisher }
@@ -106,7 +153,9 @@ fn turn<C: Core + Drop, N: Naming<C::Settings>, M: Mark, K: Ticker, R: Wait>(
     ensures device { HasDevice (standing_of aligner.old.publisher) (standing_of aligner.new.publisher) result }
     ensures gave { (nows : List ℕ) → K.gave aligner.old.ticker nows → K.gave aligner.new.ticker nows }
 {
-    let ticked = match tick_cleared(rt, hub, &mut aligner.publisher, tick.now) {
+    let soc = second_of(pace, tick.now);
+    let repeat = tick.adopted && tick.place == 0;
+    let ticked = match cleared(rt, hub, aligner, tick.now) {
         Ok(ticked) => ticked,
         Err(fault) => return Err(fault),
     };
@@ -119,11 +168,16 @@ fn turn<C: Core + Drop, N: Naming<C::Settings>, M: Mark, K: Ticker, R: Wait>(
     let adopted = ticked.answer.change.is_some();
     let asked = Asked {
         step,
-        soc: tick.soc,
-        is_wanted: adopted || tick.repeat,
+        soc,
+        is_wanted: adopted || repeat,
     };
-    let Aligner { ticker, writer, .. } = aligner;
-    match put_layout_where(rt, alloc, hub, ticker, writer, asked) {
+    let Aligner {
+        pops,
+        ticker,
+        writer,
+        ..
+    } = aligner;
+    match put_layout_where(rt, alloc, hub, pops, ticker, writer, asked) {
         Ok(()) => Ok(adopted),
         Err(fault) => Err(fault),
     }
@@ -170,6 +224,8 @@ fn turns<C: Core + Drop, N: Naming<C::Settings>, M: Mark, K: Ticker, R: Wait>(
     pace: &Pace,
 ) -> Result<u64, HubFault>
     requires top { (aligner.old.pops.top.parts ≡ N.top.parts) × (0 < aligner.old.pops.top.parts) × (last_in aligner.old.publisher ≡ aligner.old.pops.top.amount) }
+    requires turns { (aligner.old.pops.turns.parts ≡ N.turns.parts) × (0 < aligner.old.pops.turns.parts) }
+    requires front { (aligner.old.pops.front ≡ []) × InTheLife C.rules N.given aligner.old.pops.front (λ g E. E ≡ []) }
     requires rate { IsAtRate N.given (output_in aligner.old.publisher).rate }
     requires begins { IsOpen aligner.old.writer × (put_by aligner.old.writer ≡ []) }
     requires stored { last_in aligner.old.publisher ≤ (M.stored (mark_in aligner.old.publisher)).floor }
@@ -178,7 +234,12 @@ fn turns<C: Core + Drop, N: Naming<C::Settings>, M: Mark, K: Ticker, R: Wait>(
     ensures rising { Rises (last_in aligner.old.publisher) (instants_of (put_by aligner.new.writer)) (last_in aligner.new.publisher) }
     ensures counted { IfOk result (λ published. published ≡ length (instants_of (put_by aligner.new.writer))) }
     ensures all { HasPutAll (popped_by aligner.old.pops) (popped_by aligner.new.pops) [] (put_by aligner.new.writer) result }
-    ensures turned { HasTurned C.stands_for N.given (output_in aligner.old.publisher) pace.now.rate pace.now.layout_every (M.stored (mark_in aligner.old.publisher)).counts (M.stored (mark_in aligner.new.publisher)).counts (HasGiven K.gave aligner.old.ticker aligner.new.ticker) result (put_by aligner.new.writer) }
+    ensures laid { OnOk result (IsLaid C.rules N.given (output_in aligner.old.publisher) pace.now.rate pace.now.layout_every aligner.new.pops.front (put_by aligner.new.writer)) }
+    ensures but { IsLaidBut C.rules N.given (output_in aligner.old.publisher) pace.now.rate pace.now.layout_every aligner.new.pops.front (put_by aligner.new.writer) }
+    ensures turns { aligner.new.pops.turns.parts ≡ aligner.old.pops.turns.parts }
+    ensures ticked { HasTicked (HasGiven K.gave aligner.old.ticker aligner.new.ticker) (M.stored (mark_in aligner.old.publisher)).counts (M.stored (mark_in aligner.new.publisher)).counts (ticks_of aligner.new.pops.front) result }
+    ensures done { OnOk result (IsDone C.rules N.given aligner.new.pops.front) }
+    ensures are_done { AreDone C.rules N.given aligner.new.pops.front }
     ensures output { output_in aligner.new.publisher ≡ output_in aligner.old.publisher }
     ensures lead { lead_in aligner.new.publisher ≡ lead_in aligner.old.publisher }
     ensures out { OnOk result (last_in aligner.new.publisher ≡ aligner.new.pops.top.amount) }
@@ -196,11 +257,13 @@ fn turns<C: Core + Drop, N: Naming<C::Settings>, M: Mark, K: Ticker, R: Wait>(
             return Ok(aligner.pops.count() - first);
         };
         place = (place + 1) % every;
-        let repeat = adopted && place == 0;
-        let soc = second_of(pace, now);
-        let tick = Tick { now, soc, repeat };
-        match turn(rt, alloc, hub, aligner, tick) {
-            Ok(adopts) => adopted = adopted || adopts,
+        let tick = Tick {
+            now,
+            adopted,
+            place,
+        };
+        match turn(rt, alloc, hub, aligner, pace, tick) {
+            Ok(adopts) => adopted = adopts || adopted,
             Err(fault) => return Err(fault),
         }
         let published = aligner.pops.count() - first;
@@ -235,6 +298,8 @@ pub fn align<'h, C: Core + Drop, N: Naming<C::Settings>, M: Mark, K: Ticker, R: 
     pace: &Pace,
 ) -> Aligned<'h>
     requires top { (aligner.old.pops.top.parts ≡ N.top.parts) × (0 < aligner.old.pops.top.parts) × (aligner.old.pops.top.amount ≡ last_in aligner.old.publisher) }
+    requires turns { (aligner.old.pops.turns.parts ≡ N.turns.parts) × (0 < aligner.old.pops.turns.parts) }
+    requires front { (aligner.old.pops.front ≡ []) × InTheLife C.rules N.given aligner.old.pops.front (λ g E. E ≡ []) }
     requires rate { IsAtRate N.given (output_in aligner.old.publisher).rate }
     // The core was opened with the start, the floor and the counts that the publisher's mark stores.
     requires opened { IsOpenedWith N.given (M.stored (mark_in aligner.old.publisher)) }
@@ -248,9 +313,15 @@ pub fn align<'h, C: Core + Drop, N: Naming<C::Settings>, M: Mark, K: Ticker, R: 
     // Where it is Ok, all that were published were put, and so many they are; and the end mark was put last.
     ensures published { IfOk result.outcome (λ published. published ≡ length (instants_of (put_by aligner.new.writer))) }
     ensures closed { OnOk result.outcome ((body : List Message) × (put_by aligner.new.writer ≡ body ++ End ∷ [])) }
-    // Tick by tick of those that the ticker gave: the data frames of rows as they were popped, and then the layout where it is told. The counts that ticks were handed
-    // never fall, from those that were stored before to those that are stored then.
-    ensures laid { IsAligned C.stands_for N.given (output_in aligner.old.publisher) pace.now.rate pace.now.layout_every (M.stored (mark_in aligner.old.publisher)).counts (M.stored (mark_in aligner.new.publisher)).counts (HasGiven K.gave aligner.old.ticker aligner.new.ticker) result.outcome (put_by aligner.new.writer) }
+    // What was put are the frames of the life, in order, but for one at most where it failed.
+    ensures laid { OnOk result.outcome (IsLaid C.rules N.given (output_in aligner.old.publisher) pace.now.rate pace.now.layout_every aligner.new.pops.front (put_by aligner.new.writer)) }
+    ensures but { IsLaidBut C.rules N.given (output_in aligner.old.publisher) pace.now.rate pace.now.layout_every aligner.new.pops.front (put_by aligner.new.writer) }
+    ensures turns { aligner.new.pops.turns.parts ≡ aligner.old.pops.turns.parts }
+    // The ticks of the life are those of the ticker, with counts that never fall from those stored before to those stored then.
+    ensures ticked { HasTicked (HasGiven K.gave aligner.old.ticker aligner.new.ticker) (M.stored (mark_in aligner.old.publisher)).counts (M.stored (mark_in aligner.new.publisher)).counts (ticks_of aligner.new.pops.front) result.outcome }
+    // All rows that were due came out before the next tick, and in the end where it is Ok.
+    ensures done { OnOk result.outcome (IsDone C.rules N.given aligner.new.pops.front) }
+    ensures are_done { AreDone C.rules N.given aligner.new.pops.front }
     ensures output { output_in aligner.new.publisher ≡ output_in aligner.old.publisher }
     ensures lead { lead_in aligner.new.publisher ≡ lead_in aligner.old.publisher }
     // The hub is closed.

@@ -1,16 +1,18 @@
 //! What comes before a tick and the tick itself: the mark is raised to the counts that wait.
-ghost use Rattle.std.specs.Prelude.{◌≡◌, ◌≤◌, ℕ, Err, IfErr, IfOk, OnErr, slice_index};
+ghost use Rattle.std.specs.Prelude.{◌≡◌, ◌<◌, ◌≤◌, ℕ, Err, IfErr, IfOk, OnErr, slice_index};
 ghost use Rattle.pdc_align.specs.Align.{ticked_of};
 ghost use Rattle.pdc_aligner.specs.Device.{HasDevice, IsOfAligner, standing_of};
-ghost use Rattle.pdc_aligner.specs.Turns.{NoneFalls};
+ghost use Rattle.pdc_aligner.specs.Turns.{HasCleared, NoneFalls};
 ghost use Rattle.pdc_life.specs.Answer.{tick_answer};
 ghost use Rattle.pdc_life.specs.Life.{changes};
 ghost use Rattle.pdc_publisher.specs.Publisher.{last_in, lead_in, mark_in, output_in};
-ghost use Rattle.pdc_hub.specs.Replay.{InSomeLife, number_in};
+ghost use Rattle.pdc_hub.specs.Pops.{HasPoppedNone, HasSameShares};
+ghost use Rattle.pdc_life.specs.Answer.{ToTick};
+ghost use Rattle.pdc_log.specs.Log.{HasLooked, HasTurned};
 
 use pdc_align::Ticked;
 use pdc_core::Core;
-use pdc_hub::{Hub, HubFault, Naming};
+use pdc_hub::{Hub, HubFault, Naming, Pops};
 use pdc_mark::{COUNTS, Mark};
 use pdc_ports::Numbered;
 use pdc_publisher::Publisher;
@@ -46,11 +48,17 @@ pub fn tick_cleared<C: Core + Drop, N: Naming<C::Settings>, M: Mark, R: Wait>(
     rt: &R,
     hub: &Hub<C, N>,
     publisher: &mut Publisher<M>,
+    pops: &mut Pops<N>,
     now: u64,
 ) -> Result<Numbered<Ticked>, HubFault>
+    requires { (pops.old.turns.parts ≡ N.turns.parts) × (0 < pops.old.turns.parts) }
     // The tick was handed the counts that are stored, and its answer bears its number.
-    ensures stored { IfOk result (λ numbered. ∥ InSomeLife C.stands_for N.given (λ state g E.
-        (numbered.answer ≡ ticked_of (changes E) (tick_answer g E now (M.stored (mark_in publisher.new)).counts)) × (numbered.step ≡ number_in E)) ∥₁) }
+    ensures stored { IfOk result (λ numbered. HasTurned C.rules N.given (ToTick now (M.stored (mark_in publisher.new)).counts) pops.old.front pops.new.front numbered.step
+        (λ g E. numbered.answer ≡ ticked_of (changes E) (tick_answer g E now (M.stored (mark_in publisher.new)).counts))) }
+    // No count that waited is above them.
+    ensures cleared { IfOk result (λ numbered. HasCleared C.rules N.given pops.old.front pops.new.front (M.stored (mark_in publisher.new)).counts) }
+    ensures same { HasPoppedNone pops.old pops.new × HasSameShares pops.old pops.new }
+    ensures err { OnErr result (HasLooked pops.old.front pops.new.front) }
     // No stored count falls.
     ensures none_falls { NoneFalls (M.stored (mark_in publisher.old)).counts (M.stored (mark_in publisher.new)).counts }
     ensures floor { (M.stored (mark_in publisher.new)).floor ≡ (M.stored (mark_in publisher.old)).floor }
@@ -61,9 +69,9 @@ pub fn tick_cleared<C: Core + Drop, N: Naming<C::Settings>, M: Mark, R: Wait>(
     // Only a device that failed ends it so.
     ensures device { HasDevice (standing_of publisher.old) (standing_of publisher.new) result }
 {
-    let waiting = hub.waiting(rt);
+    let waiting = hub.waiting(rt, pops);
     match clear_counts(publisher, &waiting) {
-        Ok(counts) => hub.tick(rt, now, &counts),
+        Ok(counts) => hub.tick(rt, pops, now, &counts),
         Err(fault) => Err(fault),
     }
 }

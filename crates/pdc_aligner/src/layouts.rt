@@ -1,15 +1,18 @@
 //! Layouts are put on the channel.
-ghost use Rattle.std.specs.Prelude.{◌≡◌, ℕ, IfErr, IfOk, List, OnErr, OnOk, [], false, true};
+ghost use Rattle.std.specs.Prelude.{◌≡◌, ◌<◌, ◌++◌, ◌∷◌, ℕ, IfErr, IfOk, List, OnErr, OnOk, [], false, true};
 ghost use Rattle.pdc_aligner.specs.Device.{IsOfLayout};
 ghost use Rattle.pdc_aligner.specs.Sequence.{instants_of};
-ghost use Rattle.pdc_aligner.specs.Turns.{HasPutLayout, second_at};
+ghost use Rattle.pdc_aligner.specs.Laid.{HasPutLayout, second_at};
+ghost use Rattle.pdc_hub.specs.Pops.{HasPoppedNone, HasSameShares};
+ghost use Rattle.pdc_log.specs.Log.{HasLooked, InTheLife};
+ghost use Rattle.pdc_pipe.specs.declared.message.LayoutFrame.{LayoutFrame};
+ghost use Rattle.pdc_pipe.specs.declared.message.Message.TheVariants.{Layout};
 ghost use Rattle.pdc_life.specs.Published.{layout_wire};
 ghost use Rattle.pdc_pipe.specs.Writing.{GoesOn, IsOpen, put_by};
-ghost use Rattle.pdc_hub.specs.Replay.{InSomeLife};
 
 use crate::pace::Pace;
 use pdc_core::Core;
-use pdc_hub::{Hub, HubFault, Naming};
+use pdc_hub::{Hub, HubFault, Naming, Pops};
 use pdc_pipe::{LayoutFrame, Message, Writer, put};
 use pdc_ports::{Did, Ticker};
 use std::alloc::Global;
@@ -38,13 +41,17 @@ fn layout_of<C: Core + Drop, N: Naming<C::Settings>, R: Wait>(
     rt: &R,
     alloc: Global,
     hub: &Hub<C, N>,
+    pops: &mut Pops<N>,
     soc: u32,
 ) -> Result<LayoutFrame, HubFault>
-    ensures layout { IfOk result (λ frame. ∥ InSomeLife C.stands_for N.given (λ state g E. frame.bytes.items ≡ layout_wire g E soc) ∥₁) }
+    requires { (pops.old.turns.parts ≡ N.turns.parts) × (0 < pops.old.turns.parts) }
+    ensures looked { HasLooked pops.old.front pops.new.front }
+    ensures same { HasPoppedNone pops.old pops.new × HasSameShares pops.old pops.new }
+    ensures layout { IfOk result (λ frame. InTheLife C.rules N.given pops.new.front (λ g E. frame.bytes.items ≡ layout_wire g E soc)) }
     ensures causes { IfErr result IsOfLayout }
 {
     let mut bytes = Vec::new(alloc);
-    if let Err(fault) = hub.layout(rt, soc, &mut bytes) {
+    if let Err(fault) = hub.layout(rt, pops, soc, &mut bytes) {
         return Err(fault);
     }
     Ok(LayoutFrame { bytes })
@@ -55,19 +62,23 @@ fn put_layout<C: Core + Drop, N: Naming<C::Settings>, K: Ticker, R: Wait>(
     rt: &R,
     alloc: Global,
     hub: &Hub<C, N>,
+    pops: &mut Pops<N>,
     ticker: &mut K,
     writer: &mut Writer,
     asked: Asked,
 ) -> Result<(), HubFault>
+    requires turns { (pops.old.turns.parts ≡ N.turns.parts) × (0 < pops.old.turns.parts) }
     requires open { IsOpen writer.old }
+    ensures looked { HasLooked pops.old.front pops.new.front }
+    ensures same { HasPoppedNone pops.old pops.new × HasSameShares pops.old pops.new }
     ensures on { GoesOn writer.old writer.new }
-    ensures layout { OnOk result (HasPutLayout C.stands_for N.given asked.soc true (put_by writer.old) (put_by writer.new)) }
+    ensures layout { OnOk result (HasPutLayout C.rules N.given pops.new.front asked.soc true (put_by writer.old) (put_by writer.new)) }
     ensures err { OnErr result (put_by writer.new ≡ put_by writer.old) }
     ensures instants { instants_of (put_by writer.new) ≡ instants_of (put_by writer.old) }
     ensures causes { IfErr result IsOfLayout }
     ensures gave { (nows : List ℕ) → K.gave ticker.old nows → K.gave ticker.new nows }
 {
-    let frame = match layout_of(rt, alloc, hub, asked.soc) {
+    let frame = match layout_of(rt, alloc, hub, pops, asked.soc) {
         Ok(frame) => frame,
         Err(fault) => return Err(fault),
     };
@@ -83,13 +94,17 @@ pub fn put_layout_where<C: Core + Drop, N: Naming<C::Settings>, K: Ticker, R: Wa
     rt: &R,
     alloc: Global,
     hub: &Hub<C, N>,
+    pops: &mut Pops<N>,
     ticker: &mut K,
     writer: &mut Writer,
     asked: Asked,
 ) -> Result<(), HubFault>
+    requires turns { (pops.old.turns.parts ≡ N.turns.parts) × (0 < pops.old.turns.parts) }
     requires open { IsOpen writer.old }
+    ensures looked { HasLooked pops.old.front pops.new.front }
+    ensures same { HasPoppedNone pops.old pops.new × HasSameShares pops.old pops.new }
     ensures on { GoesOn writer.old writer.new }
-    ensures layout { OnOk result (HasPutLayout C.stands_for N.given asked.soc asked.is_wanted (put_by writer.old) (put_by writer.new)) }
+    ensures layout { OnOk result (HasPutLayout C.rules N.given pops.new.front asked.soc asked.is_wanted (put_by writer.old) (put_by writer.new)) }
     ensures err { OnErr result (put_by writer.new ≡ put_by writer.old) }
     ensures instants { instants_of (put_by writer.new) ≡ instants_of (put_by writer.old) }
     ensures causes { IfErr result IsOfLayout }
@@ -98,5 +113,5 @@ pub fn put_layout_where<C: Core + Drop, N: Naming<C::Settings>, K: Ticker, R: Wa
     if !asked.is_wanted {
         return Ok(());
     }
-    put_layout(rt, alloc, hub, ticker, writer, asked)
+    put_layout(rt, alloc, hub, pops, ticker, writer, asked)
 }

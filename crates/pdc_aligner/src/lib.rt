@@ -8,10 +8,12 @@
 
 mod aligner;
 mod clearing;
+mod laws;
 mod layouts;
 mod pace;
 mod publishing;
 
 pub use aligner::{Aligned, Aligner, align};
 pub use clearing::tick_cleared;
+pub use laws::frames_are_exact;
 pub use pace::Pace;

@@ -1,9 +1,12 @@
 //! What is due is published, and put on the channel.
-ghost use Rattle.std.specs.Prelude.{◌≡◌, ◌<◌, ◌≤◌, ◌*◌, ℕ, Err, IfErr, IfOk, List, OnErr, OnOk, [], false, true};
+ghost use Rattle.std.specs.Prelude.{Bool, ◌≡◌, ◌<◌, ◌≤◌, ◌*◌, ℕ, Err, IfErr, IfOk, List, OnErr, OnOk, [], false, true};
 ghost use Rattle.pdc_aligner.specs.Rate.{IsAtRate};
 ghost use Rattle.pdc_aligner.specs.Device.{HasDevice, IsOfAligner, standing_of};
-ghost use Rattle.pdc_aligner.specs.Sequence.{HasPutAll, HasPutData, HasPutRow, IsPopped, Rises, instants_of};
-ghost use Rattle.pdc_hub.specs.Pops.{HasPoppedNone, HasPoppedOne, popped_by};
+ghost use Rattle.pdc_aligner.specs.Sequence.{HasPutAll, HasPutRow, Rises, instants_of};
+ghost use Rattle.pdc_aligner.specs.Laid.{AreDone, IsAsked, IsDone, IsAt, IsLaid, IsLaidBut, IsLaidUpToLayout};
+ghost use Rattle.pdc_hub.specs.Pops.{HasPoppedNone, HasPoppedOne, HasSameShares, IsPop, popped_by};
+ghost use Rattle.pdc_life.specs.Answer.{ToPop, pop_answer};
+ghost use Rattle.pdc_log.specs.Log.{HasTurned, ticks_of};
 ghost use Rattle.pdc_pipe.specs.Writing.{GoesOn, IsOpen, put_by};
 ghost use Rattle.pdc_publisher.specs.Publisher.{last_in, lead_in, mark_in, output_in};
 ghost use Rattle.pdc_row.specs.RowView.{row_view};
@@ -81,14 +84,16 @@ fn next_row<C: Core + Drop, N: Naming<C::Settings>, M: Mark, R: Wait>(
     publisher: &Publisher<M>,
 ) -> Result<Numbered<bool>, HubFault>
     requires top { (pops.old.top.parts ≡ N.top.parts) × (0 < pops.old.top.parts) }
+    requires turns { (pops.old.turns.parts ≡ N.turns.parts) × (0 < pops.old.turns.parts) }
     requires rate { IsAtRate N.given (output_in publisher.now).rate }
     ensures row { IfOk result (λ numbered. numbered.answer ≡ true → HasPoppedOne pops.old pops.new) }
-    ensures popped { IfOk result (λ numbered. numbered.answer ≡ true → IsPopped C.stands_for N.given (row_view pops.new.row)) }
+    ensures turned { IfOk result (λ numbered. HasTurned C.rules N.given ToPop pops.old.front pops.new.front numbered.step (λ g E. IsPop numbered.answer pops.new.row (pop_answer E))) }
     ensures tagged { IfOk result (λ numbered. numbered.answer ≡ true → pops.new.row.instant < SECONDS * (output_in publisher.now).rate) }
     ensures causes { OnErr result (result ≡ Err HubFault.NoMemory) }
     ensures none { IfOk result (λ numbered. numbered.answer ≡ false → HasPoppedNone pops.old pops.new) }
-    ensures parts { pops.new.top.parts ≡ pops.old.top.parts }
-    ensures err { OnErr result (HasPoppedNone pops.old pops.new) }
+    ensures parts { HasSameShares pops.old pops.new }
+    ensures ticks { ticks_of pops.new.front ≡ ticks_of pops.old.front }
+    ensures err { OnErr result (HasPoppedNone pops.old pops.new × (pops.new.front ≡ pops.old.front)) }
 {
     hub.pop(rt, pops)
 }
@@ -101,6 +106,7 @@ pub fn publish_due<C: Core + Drop, N: Naming<C::Settings>, M: Mark, K: Ticker, R
     aligner: &mut Aligner<N, M, K>,
 ) -> Result<u64, HubFault>
     requires top { (aligner.old.pops.top.parts ≡ N.top.parts) × (0 < aligner.old.pops.top.parts) × (last_in aligner.old.publisher ≡ aligner.old.pops.top.amount) }
+    requires turns { (aligner.old.pops.turns.parts ≡ N.turns.parts) × (0 < aligner.old.pops.turns.parts) }
     requires rate { IsAtRate N.given (output_in aligner.old.publisher).rate }
     requires open { IsOpen aligner.old.writer }
     requires stored { last_in aligner.old.publisher ≤ (M.stored (mark_in aligner.old.publisher)).floor }
@@ -110,7 +116,18 @@ pub fn publish_due<C: Core + Drop, N: Naming<C::Settings>, M: Mark, K: Ticker, R
     ensures rising { (low : ℕ) → Rises low (instants_of (put_by aligner.old.writer)) (last_in aligner.old.publisher) → Rises low (instants_of (put_by aligner.new.writer)) (last_in aligner.new.publisher) }
     // Each row that was popped was published and put, but the last one where it failed.
     ensures all { HasPutAll (popped_by aligner.old.pops) (popped_by aligner.new.pops) (put_by aligner.old.writer) (put_by aligner.new.writer) result }
-    ensures frames { HasPutData C.stands_for N.given (output_in aligner.old.publisher) (put_by aligner.old.writer) (put_by aligner.new.writer) }
+    // Where what was put were the frames of the life, so it is, up to the layout; and where it failed, but for one at most.
+    ensures laid { (rate every : ℕ) → IsLaid C.rules N.given (output_in aligner.old.publisher) rate every aligner.old.pops.front (put_by aligner.old.writer)
+        → OnOk result (IsLaidUpToLayout C.rules N.given (output_in aligner.old.publisher) rate every aligner.new.pops.front (put_by aligner.new.writer)) }
+    ensures but { (rate every : ℕ) → IsLaid C.rules N.given (output_in aligner.old.publisher) rate every aligner.old.pops.front (put_by aligner.old.writer)
+        → IsLaidBut C.rules N.given (output_in aligner.old.publisher) rate every aligner.new.pops.front (put_by aligner.new.writer) }
+    ensures asked { (every now : ℕ) (wanted : Bool) → IsAsked C.rules N.given every aligner.old.pops.front now wanted → IsAsked C.rules N.given every aligner.new.pops.front now wanted }
+    ensures at { (every place : ℕ) (adopted : Bool) → IsAt C.rules N.given every aligner.old.pops.front adopted place → IsAt C.rules N.given every aligner.new.pops.front adopted place }
+    ensures parts { aligner.new.pops.turns.parts ≡ aligner.old.pops.turns.parts }
+    ensures ticks { ticks_of aligner.new.pops.front ≡ ticks_of aligner.old.pops.front }
+    // It is Ok only behind a pop that found none.
+    ensures done { AreDone C.rules N.given aligner.old.pops.front → OnOk result (IsDone C.rules N.given aligner.new.pops.front) }
+    ensures are_done { AreDone C.rules N.given aligner.old.pops.front → AreDone C.rules N.given aligner.new.pops.front }
     ensures out { OnOk result (last_in aligner.new.publisher ≡ aligner.new.pops.top.amount) }
     ensures causes { IfErr result IsOfAligner }
     ensures device { HasDevice (standing_of aligner.old.publisher) (standing_of aligner.new.publisher) result }

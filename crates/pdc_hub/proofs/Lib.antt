@@ -1,4 +1,5 @@
 mod Counted
 mod Held
-mod Receiving
-mod Replays
+pub mod Meeting
+pub mod Receiving
+pub mod Replays

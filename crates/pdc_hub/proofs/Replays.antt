@@ -1,15 +1,19 @@
 -- Steps of a recorder, on plain variables.
-use Rattle.std.proofs.Common.{arith, ◌≡◌, ℕ, suc, ◌+◌, Bool, true, List, [], ◌∷◌, ◌++◌, length, Option, Some, refl, sym, ap, ◌∙◌, subst}
+use Rattle.std.proofs.Common.{arith, ◌≡◌, ℕ, suc, ◌+◌, ◌<◌, ◌*◌, Bool, true, List, [], ◌∷◌, ◌++◌, length, Option, Some, refl, sym, ap, ◌∙◌, subst, append_assoc, append-nil, length-append}
 use Rattle.std.proofs.lemmas.Option.{same_Some}
 use Rattle.std.proofs.lemmas.Grind.{common_steps}
+use Rattle.std.proofs.Math.Logic.{∥∥₁_map}
 use Rattle.std.specs.List.{list_all}
+use mathlib.Core.List.{IsPrefix}
 use Rattle.pdc_core.specs.Alike.{AreAlike}
 use Rattle.pdc_core.specs.Step.{IsOf}
 use Rattle.pdc_core.specs.declared.step.CoreStep.{CoreStep}
-use Rattle.pdc_life.specs.Answer.{IsReadStep, ReadStep, Rules, answered, life_from}
+use Rattle.pdc_life.specs.Answer.{IsReadStep, ReadStep, Rules, ToArrive, ToPop, ToTick, answered, life_from}
+use Rattle.pdc_life.specs.Arrival.{Arrival}
 use Rattle.pdc_life.specs.Given.{Given}
 use Rattle.pdc_life.specs.Life.{Entry}
-use Rattle.pdc_hub.specs.Replay.{AreRead, Follows, InSomeLife, Lives, Replays, Sayings, number_after, number_in}
+use Rattle.pdc_log.specs.Log.{HasAdded, HasLooked, HasTurned, InTheLife, came_in, life_of, turned_in}
+use Rattle.pdc_hub.specs.Replay.{AreOf, AreSaid, Follows, HasLogged, Lives, Records, Sayings}
 
 -- one step more, at the end
 life_after : (rules : Rules) (g : Given) (E : List Entry) (reads : List ReadStep) (read : ReadStep)
@@ -17,71 +21,74 @@ life_after : (rules : Rules) (g : Given) (E : List Entry) (reads : List ReadStep
 life_after rules g E [] read = refl
 life_after rules g E (r ∷ reads) read = life_after rules g (answered rules g E r ∷ E) reads read
 
--- its length
-life_length : (rules : Rules) (g : Given) (E : List Entry) (reads : List ReadStep) → length (life_from rules g E reads) ≡ length E + length reads
-life_length rules g E [] = omega arith
-life_length rules g E (r ∷ reads) = omega (arith, life_length rules g (answered rules g E r ∷ E) reads)
+pub life_of-snoc : (rules : Rules) (g : Given) (log : List ReadStep) (read : ReadStep) → life_of rules g (log ++ read ∷ []) ≡ answered rules g (life_of rules g log) read ∷ life_of rules g log
+life_of-snoc rules g log read = life_after rules g [] log read
 
-steps_length : (Says : Sayings) (steps : List CoreStep) (reads : List ReadStep) → AreRead Says steps reads → length steps ≡ length reads
-steps_length Says [] [] h = refl
-steps_length Says [] (r ∷ reads) h = absurd h
-steps_length Says (s ∷ steps) [] h = absurd h
-steps_length Says (s ∷ steps) (r ∷ reads) h = ap suc (steps_length Says steps reads h.2)
+of_after : (steps : List CoreStep) (reads : List ReadStep) (step : CoreStep) (read : ReadStep)
+    → IsOf step read → AreOf steps reads → AreOf (steps ++ step ∷ []) (reads ++ read ∷ [])
+of_after [] [] step read is h = (is, tt)
+of_after [] (r ∷ reads) step read is h = absurd h
+of_after (s ∷ steps) [] step read is h = absurd h
+of_after (s ∷ steps) (r ∷ reads) step read is h = (h.0, of_after steps reads step read is h.1)
 
--- the number of the next step, over the base and over the state
-numbered_on : (rules : Rules) (Says : Sayings) (g : Given) (life : List Entry) (reads : List ReadStep) (steps : List CoreStep) (first : ℕ) → first ≡ number_in life
-    → AreRead Says steps reads → number_after (first + length steps) ≡ number_in (life_from rules g life reads)
-numbered_on rules Says g life reads steps first counted read = omega (arith, counted, steps_length Says steps reads read, life_length rules g life reads)
-
-read_after : (Says : Sayings) (steps : List CoreStep) (reads : List ReadStep) (step : CoreStep) (read : ReadStep)
-    → IsOf step read → IsReadStep Says read → AreRead Says steps reads → AreRead Says (steps ++ step ∷ []) (reads ++ read ∷ [])
-read_after Says [] [] step read is says h = (is, says, tt)
-read_after Says [] (r ∷ reads) step read is says h = absurd h
-read_after Says (s ∷ steps) [] step read is says h = absurd h
-read_after Says (s ∷ steps) (r ∷ reads) step read is says h = (h.0, h.1, read_after Says steps reads step read is says h.2)
+said_after : (Says : Sayings) (reads : List ReadStep) (read : ReadStep) → IsReadStep Says read → AreSaid Says reads → AreSaid Says (reads ++ read ∷ [])
+said_after Says [] read says h = (says, tt)
+said_after Says (r ∷ reads) read says h = (h.0, said_after Says reads read says h.1)
 
 -- at the start nothing is replayed
-pub opened : (rules : Rules) (Says : Sayings) (named : Option Given) (Base State : Lives) (first : ℕ) (steps : List CoreStep) → first ≡ 0 → steps ≡ [] → (g : Given) → named ≡ Some g → Base g [] → State g []
-    → Replays rules Says named Base State first steps
-opened rules Says named Base State first steps z e g is b s = record { given = g; is_named = is; life = []; based = b; reads = []; read = subst (λ (l : List CoreStep). AreRead Says l []) (sym e) tt; reached = s; counted = omega (arith, z) }
+pub opened : (rules : Rules) (Says : Sayings) (named : Option Given) (Base State : Lives) (log : List ReadStep) (steps : List CoreStep) → log ≡ [] → steps ≡ [] → (g : Given) → named ≡ Some g → Base g [] → State g []
+    → Records rules Says named Base State log steps
+opened rules Says named Base State log steps z e g is b s = record {
+  given = g;
+  is_named = is;
+  earlier = [];
+  reads = [];
+  parts = z;
+  said = subst (λ (l : List ReadStep). AreSaid Says l) (sym z) tt;
+  based = b;
+  kept = subst (λ (l : List CoreStep). AreOf l []) (sym e) tt;
+  reached = subst (λ (l : List ReadStep). State g (life_of rules g l)) (sym z) s;
+}
 
 -- a step that the state follows is replayed too
-pub grown : (rules : Rules) (Says : Sayings) (named : Option Given) (Base State After : Lives) (first : ℕ) (steps more : List CoreStep) (step : CoreStep) (read : ReadStep)
-    → more ≡ steps ++ step ∷ [] → IsOf step read → IsReadStep Says read → Follows rules State After read
-    → Replays rules Says named Base State first steps → Replays rules Says named Base After first more
-grown rules Says named Base State After first steps more step read e is says follows r = record {
+pub grown : (rules : Rules) (Says : Sayings) (named : Option Given) (Base State After : Lives) (log after : List ReadStep) (steps more : List CoreStep) (step : CoreStep) (read : ReadStep)
+    → after ≡ log ++ read ∷ [] → more ≡ steps ++ step ∷ [] → IsOf step read → IsReadStep Says read → Follows rules State After read
+    → Records rules Says named Base State log steps → Records rules Says named Base After after more
+grown rules Says named Base State After log after steps more step read a e is says follows r = record {
   given = r.given;
   is_named = r.is_named;
-  life = r.life;
-  based = r.based;
+  earlier = r.earlier;
   reads = r.reads ++ read ∷ [];
-  read = subst (λ (l : List CoreStep). AreRead Says l (r.reads ++ read ∷ [])) (sym e) (read_after Says steps r.reads step read is says r.read);
-  reached = subst (λ (l : List Entry). After r.given l) (sym (life_after rules r.given r.life r.reads read)) (follows r.given (life_from rules r.given r.life r.reads) r.reached);
-  counted = r.counted;
+  parts = a ∙ (ap (λ l. l ++ read ∷ []) r.parts ∙ append_assoc r.earlier r.reads (read ∷ []));
+  said = subst (λ (l : List ReadStep). AreSaid Says l) (sym a) (said_after Says log read says r.said);
+  based = r.based;
+  kept = subst (λ (l : List CoreStep). AreOf l (r.reads ++ read ∷ [])) (sym e) (of_after steps r.reads step read is r.kept);
+  reached = subst (λ (l : List ReadStep). After r.given (life_of rules r.given l)) (sym a) (subst (λ (l : List Entry). After r.given l) (sym (life_of-snoc rules r.given log read)) (follows r.given (life_of rules r.given log) r.reached));
 }
 
 -- the base is brought up to the state
-pub rebased : (rules : Rules) (Says Now : Sayings) (named : Option Given) (Base State After : Lives) (first then : ℕ) (steps none : List CoreStep)
-    → then ≡ number_after (first + length steps) → none ≡ [] → ((g : Given) (E : List Entry) → State g E → After g E) → Replays rules Says named Base State first steps
-    → Replays rules Now named After State then none
-rebased rules Says Now named Base State After first then steps none t e follows r = record {
+pub rebased : (rules : Rules) (Says : Sayings) (named : Option Given) (Base State After : Lives) (log : List ReadStep) (steps none : List CoreStep)
+    → none ≡ [] → ((g : Given) (E : List Entry) → State g E → After g E) → Records rules Says named Base State log steps
+    → Records rules Says named After State log none
+rebased rules Says named Base State After log steps none e follows r = record {
   given = r.given;
   is_named = r.is_named;
-  life = life_from rules r.given r.life r.reads;
-  based = follows r.given (life_from rules r.given r.life r.reads) r.reached;
+  earlier = log;
   reads = [];
-  read = subst (λ (l : List CoreStep). AreRead Now l []) (sym e) tt;
+  parts = sym (append-nil log);
+  said = r.said;
+  based = follows r.given (life_of rules r.given log) r.reached;
+  kept = subst (λ (l : List CoreStep). AreOf l []) (sym e) tt;
   reached = r.reached;
-  counted = t ∙ numbered_on rules Says r.given r.life r.reads steps first r.counted r.read;
 }
 
 -- base and state stand for lives that begin with the same
-pub alike : (rules : Rules) (Says : Sayings) (named : Option Given) (Base State : Lives) (first : ℕ) (steps : List CoreStep) → Replays rules Says named Base State first steps → AreAlike Base State
-alike rules Says named Base State first steps r = record {
+pub alike : (rules : Rules) (Says : Sayings) (named : Option Given) (Base State : Lives) (log : List ReadStep) (steps : List CoreStep) → Records rules Says named Base State log steps → AreAlike Base State
+alike rules Says named Base State log steps r = record {
   given = r.given;
-  life = r.life;
+  life = life_of rules r.given r.earlier;
   stands = r.based;
-  other_life = life_from rules r.given r.life r.reads;
+  other_life = life_of rules r.given log;
   other_stands = r.reached;
 }
 
@@ -89,18 +96,89 @@ alike rules Says named Base State first steps r = record {
 pub here : {S : Type 0} (named : Option S) (a b : S) → named ≡ Some a → named ≡ Some b → a ≡ b
 here named a b p q = same_Some a b (sym p ∙ q)
 
--- what is true of whatever life the core stands for whose next step has this number was true of one
-pub in_some_life : {C : Type 0} (rules : Rules) (Says : Sayings) (Stands : C → Lives) (named : Option Given) (Base : Lives) (core : C) (first : ℕ) (steps : List CoreStep)
-    (Fact : C → Given → List Entry → Type 0) → ((g : Given) (E : List Entry) → Stands core g E → number_after (first + length steps) ≡ number_in E → Fact core g E)
-    → Replays rules Says named Base (Stands core) first steps → InSomeLife Stands named Fact
-in_some_life rules Says Stands named Base core first steps Fact holds r = record {
-  core = core;
-  given = r.given;
-  is_named = r.is_named;
-  life = life_from rules r.given r.life r.reads;
-  stands = r.reached;
-  fact = holds r.given (life_from rules r.given r.life r.reads) r.reached (numbered_on rules Says r.given r.life r.reads steps first r.counted r.read);
+-- what is true of whatever life the core stands for is true of the life of the log
+pub told_in : (rules : Rules) (Says : Sayings) (named : Option Given) (Base State : Lives) (log : List ReadStep) (steps : List CoreStep) (Told : Given → List Entry → Type 0)
+    → ((g : Given) (E : List Entry) → State g E → Told g E) → Records rules Says named Base State log steps → (g : Given) → named ≡ Some g → Told g (life_of rules g log)
+told_in rules Says named Base State log steps Told holds r g is =
+    subst (λ (d : Given). Told d (life_of rules d log)) (here named r.given g r.is_named is) (holds r.given (life_of rules r.given log) r.reached)
+
+-- so it is told of what was added
+pub has_added : (rules : Rules) (Says : Sayings) (named : Option Given) (Base State : Lives) (log after before seen : List ReadStep) (steps : List CoreStep) (read : ReadStep) (number : ℕ) (Told : Given → List Entry → Type 0)
+    → HasLogged read log after before seen → number ≡ length log → ((g : Given) (E : List Entry) → State g E → Told g E)
+    → ∥ Records rules Says named Base State log steps ∥₁ → HasAdded rules named read before seen number Told
+has_added rules Says named Base State log after before seen steps read number Told l n holds r = record {
+  middle = log;
+  later = l.later;
+  added = l.sees ∙ l.added;
+  numbered = n;
+  told = ∥∥₁_map r (λ x. (x.given, x.is_named, holds x.given (life_of rules x.given log) x.reached));
 }
 
 pub all_more : {E : Type 0} (test : E → Bool) (es more : List E) (e : E) → more ≡ es ++ e ∷ [] → list_all test es ≡ true → test e ≡ true → list_all test more ≡ true
 all_more test es more e is h may = grind (arith, common_steps)
+
+-- what is counted of the log
+pub came_after : (log : List ReadStep) (s : ℕ) (bytes : List ℕ) (arrival : Arrival) → came_in (log ++ ToArrive s bytes arrival ∷ []) ≡ suc (came_in log)
+came_after [] s bytes arrival = refl
+came_after (ToArrive t b a ∷ log) s bytes arrival = ap suc (came_after log s bytes arrival)
+came_after (ToTick now counts ∷ log) s bytes arrival = came_after log s bytes arrival
+came_after (ToPop ∷ log) s bytes arrival = came_after log s bytes arrival
+
+pub came_stays : (log : List ReadStep) (step : ReadStep) → came_in (step ∷ []) ≡ 0 → came_in (log ++ step ∷ []) ≡ came_in log
+came_stays [] step h = h
+came_stays (ToArrive t b a ∷ log) step h = ap suc (came_stays log step h)
+came_stays (ToTick now counts ∷ log) step h = came_stays log step h
+came_stays (ToPop ∷ log) step h = came_stays log step h
+
+pub turned_append : (log more : List ReadStep) → turned_in (log ++ more) ≡ turned_in log + turned_in more
+turned_append [] more = omega arith
+turned_append (ToArrive t b a ∷ log) more = turned_append log more
+turned_append (ToTick now counts ∷ log) more = omega (arith, turned_append log more)
+turned_append (ToPop ∷ log) more = omega (arith, turned_append log more)
+
+pub life_append : (rules : Rules) (g : Given) (E : List Entry) (log more : List ReadStep) → life_from rules g E (log ++ more) ≡ life_from rules g (life_from rules g E log) more
+life_append rules g E [] more = refl
+life_append rules g E (r ∷ log) more = life_append rules g (answered rules g E r ∷ E) log more
+
+pub looked : (before log seen : List ReadStep) → IsPrefix before log → turned_in before ≡ turned_in log → seen ≡ log → HasLooked before seen
+looked before log seen p n e = record {
+  later = subst (λ (l : List ReadStep). IsPrefix before l) (sym e) p;
+  alone = ap turned_in e ∙ sym n;
+}
+
+pub has_turned : (rules : Rules) (Says : Sayings) (named : Option Given) (Base State : Lives) (log after before seen : List ReadStep) (steps : List CoreStep) (read : ReadStep) (number : ℕ) (Told : Given → List Entry → Type 0)
+    → HasLogged read log after before seen → turned_in before ≡ turned_in log → number ≡ length log → ((g : Given) (E : List Entry) → State g E → Told g E)
+    → ∥ Records rules Says named Base State log steps ∥₁ → HasTurned rules named read before seen number Told
+has_turned rules Says named Base State log after before seen steps read number Told l same n holds r = record {
+  added = record {
+    middle = log;
+    later = l.later;
+    added = l.sees ∙ l.added;
+    numbered = n;
+    told = ∥∥₁_map r (λ x. (x.given, x.is_named, holds x.given (life_of rules x.given log) x.reached));
+  };
+  alone = sym same;
+}
+
+-- what is told of the life of the log
+pub told_now : (rules : Rules) (Says : Sayings) (named : Option Given) (Base State : Lives) (log seen : List ReadStep) (steps : List CoreStep) (Told : Given → List Entry → Type 0)
+    → seen ≡ log → ((g : Given) (E : List Entry) → State g E → Told g E) → ∥ Records rules Says named Base State log steps ∥₁ → InTheLife rules named seen Told
+told_now rules Says named Base State log seen steps Told e holds r =
+    subst (λ (l : List ReadStep). InTheLife rules named l Told) (sym e) (∥∥₁_map r (λ x. (x.given, x.is_named, holds x.given (life_of rules x.given log) x.reached)))
+
+pub all_said : (rules : Rules) (Says : Sayings) (named : Option Given) (Base State : Lives) (log seen : List ReadStep) (steps : List CoreStep) → seen ≡ log
+    → ∥ Records rules Says named Base State log steps ∥₁ → ∥ AreSaid Says seen ∥₁
+all_said rules Says named Base State log seen steps e r = ∥∥₁_map r (λ x. subst (λ (l : List ReadStep). AreSaid Says l) (sym e) x.said)
+
+-- the numbers of a step more
+pub came_more : (log after : List ReadStep) (s : ℕ) (bytes : List ℕ) (arrival : Arrival) → after ≡ log ++ ToArrive s bytes arrival ∷ [] → came_in after ≡ came_in log + 1
+came_more log after s bytes arrival e = omega (arith, ap came_in e, came_after log s bytes arrival)
+
+pub turned_same : (log after : List ReadStep) (step : ReadStep) → turned_in (step ∷ []) ≡ 0 → after ≡ log ++ step ∷ [] → turned_in after ≡ turned_in log
+turned_same log after step z e = omega (arith, ap turned_in e, turned_append log (step ∷ []), z)
+
+pub turned_more : (log after : List ReadStep) (step : ReadStep) → turned_in (step ∷ []) ≡ 1 → after ≡ log ++ step ∷ [] → turned_in after ≡ turned_in log + 1
+turned_more log after step z e = omega (arith, ap turned_in e, turned_append log (step ∷ []), z)
+
+pub came_same : (log after : List ReadStep) (step : ReadStep) → came_in (step ∷ []) ≡ 0 → after ≡ log ++ step ∷ [] → came_in after ≡ came_in log
+came_same log after step z e = ap came_in e ∙ came_stays log step z

@@ -23,3 +23,7 @@ pub record HasPoppedNone {N : Type 0} (before after : Pops N) : Type 0 where
   pub same : after.row ≡ before.row
   pub top : after.top.amount ≡ before.top.amount
   pub counted : popped_by after ≡ popped_by before
+
+-- The shares are as many parts as they were.
+abbrev pub HasSameShares : {N : Type 0} → (before after : Pops N) → Type 0
+HasSameShares before after = (after.top.parts ≡ before.top.parts) × (after.turns.parts ≡ before.turns.parts)

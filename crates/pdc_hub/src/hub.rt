@@ -7,14 +7,18 @@ ghost use Rattle.pdc_life.specs.Given.{Given};
 ghost use Rattle.pdc_life.specs.Life.{Entry, changes};
 ghost use Rattle.pdc_life.specs.Published.{layout_wire};
 ghost use Rattle.pdc_hub.specs.Closing.{closing_of};
-ghost use Rattle.pdc_hub.specs.Counted.{CountsAtLeast, HasSameAmounts, HasSameParts, configurations, configured_by, refused_by, taken_by};
+ghost use Rattle.pdc_hub.specs.Counted.{HasSameAmounts, HasSameParts, configurations, configured_by, refused_by, taken_by};
 ghost use Rattle.pdc_hub.specs.Faults.{IsOfDelivery};
-ghost use Rattle.pdc_hub.specs.Pops.{HasPoppedNone, HasPoppedOne, IsPop, popped_by};
-ghost use Rattle.pdc_hub.specs.Replay.{InSomeLife, WasRead, number_in};
+ghost use Rattle.pdc_hub.specs.Pops.{HasPoppedNone, HasPoppedOne, HasSameShares, IsPop, popped_by};
+ghost use Rattle.pdc_hub.specs.Replay.{AreSaid, WasRead};
+ghost use Rattle.pdc_log.specs.Log.{HasAdded, HasLooked, HasTurned, InTheLife, came_in};
+ghost use Rattle.pdc_life.specs.Answer.{ToArrive, ToPop, ToTick};
+ghost use mathlib.Core.List.{IsPrefix};
+ghost use Rattle.pdc_memory.specs.Asking.{WasRefused};
 ghost use Rattle.pdc_frame.specs.declared.tag_limits.TheConstants.{SECONDS};
 
 use crate::fault::HubFault;
-use crate::ledgers::{ConfiguredIn, RefusedIn, TakenIn, TopIn};
+use crate::ledgers::{ConfiguredIn, RefusedIn, TakenIn, TopIn, TurnsIn};
 use crate::naming::Naming;
 use crate::pops::Pops;
 use crate::recorder::Recorder;
@@ -49,21 +53,27 @@ impl<C: Core + Drop, N: Naming<C::Settings>> Hub<C, N> {
         requires settings { (N.settings ≡ Some (C.settings_of base)) × (N.settings ≡ Some (C.settings_of now)) }
         requires limit { 1 ≤ limit }
         requires floor { C.popped_of now ≡ floor }
-        requires names { (blanks.taken.name ≡ N.taken.name) × (blanks.refused.name ≡ N.refused.name) × (blanks.configured.name ≡ N.configured.name) × (blanks.top.name ≡ N.top.name) }
-        requires blank { (blanks.taken.parts ≡ N.taken.parts) × (blanks.refused.parts ≡ N.refused.parts) × (blanks.configured.parts ≡ N.configured.parts) × (blanks.top.parts ≡ N.top.parts) × (0 < N.top.parts) }
-        ensures parts { (result.1.taken.parts ≡ N.taken.parts) × (result.1.refused.parts ≡ N.refused.parts) × (result.1.configured.parts ≡ N.configured.parts) × (result.2.top.parts ≡ N.top.parts) }
+        requires names { (blanks.taken.name ≡ N.taken.name) × (blanks.refused.name ≡ N.refused.name) × (blanks.configured.name ≡ N.configured.name) × (blanks.top.name ≡ N.top.name) × (blanks.turns.name ≡ N.turns.name) }
+        requires log { (blanks.log.seen.book ≡ N.book) × (blanks.log.seen.log ≡ []) }
+        requires blank { (blanks.taken.parts ≡ N.taken.parts) × (blanks.refused.parts ≡ N.refused.parts) × (blanks.configured.parts ≡ N.configured.parts) × (blanks.top.parts ≡ N.top.parts) × (0 < N.top.parts) × (blanks.turns.parts ≡ N.turns.parts) × (0 < N.turns.parts) }
+        ensures parts { (result.1.taken.parts ≡ N.taken.parts) × (result.1.refused.parts ≡ N.refused.parts) × (result.1.configured.parts ≡ N.configured.parts) × (result.2.top.parts ≡ N.top.parts) × (result.2.turns.parts ≡ N.turns.parts) }
         ensures amounts { (result.1.taken.amount ≡ 0) × (result.1.refused.amount ≡ 0) × (result.1.configured.amount ≡ 0) × (result.2.top.amount ≡ floor) }
-        ensures none { popped_by result.2 ≡ 0 }
+        ensures none { (popped_by result.2 ≡ 0) × (result.1.front ≡ []) × (result.2.front ≡ []) }
     {
         let Blanks {
             taken,
             refused,
             configured,
             top,
+            turns,
+            log,
         } = blanks;
         let (taken, mine_taken) = taken.open::<TakenIn<N>>();
         let (refused, mine_refused) = refused.open::<RefusedIn<N>>();
         let (configured, mine_configured) = configured.open::<ConfiguredIn<N>>();
+        let (turns, mine_turns) = turns.open::<TurnsIn<N>>();
+        let front = log.front::<N>();
+        let pops_front = front.again();
         let (mut top, mut mine_top) = top.open::<TopIn<N>>();
         top.add(&mut mine_top, floor);
         let books = Books {
@@ -71,18 +81,20 @@ impl<C: Core + Drop, N: Naming<C::Settings>> Hub<C, N> {
             refused,
             configured,
             top,
+            turns,
         };
         (
             Hub {
-                table: Mutex::new(Recorder::new(alloc, base, now, limit, floor, books)),
+                table: Mutex::new(Recorder::new(alloc, base, now, limit, floor, books, log)),
                 closing: OnceLock::new(),
             },
             Shares {
                 taken: mine_taken,
                 refused: mine_refused,
                 configured: mine_configured,
+                front,
             },
-            Pops::new(mine_top),
+            Pops::new(mine_top, mine_turns, pops_front),
         )
     }
 
@@ -98,23 +110,26 @@ impl<C: Core + Drop, N: Naming<C::Settings>> Hub<C, N> {
         &self,
         rt: &R,
         stream: usize,
+        bytes: &[u8],
         datagram: KeptArrival,
         mine: &mut Shares<N>,
     ) -> Result<Numbered<Outcome>, HubFault>
-        requires read { WasRead C.Settings.says C.Settings.fits N.settings stream (taken_view datagram) }
+        requires read { WasRead C.Settings.says C.Settings.fits N.settings stream bytes.now (taken_view datagram) }
         requires parts { (0 < mine.old.taken.parts) × (0 < mine.old.refused.parts) × (0 < mine.old.configured.parts) }
-        ensures some { IfOk result (λ numbered. ∥ InSomeLife C.stands_for N.given (λ state g E.
-            (numbered.answer ≡ (C.rules g E stream (taken_view datagram)).outcome)
-            × CountsAtLeast (C.counts_of state) mine.old.taken.amount mine.old.refused.amount mine.old.configured.amount × (numbered.step ≡ number_in E)) ∥₁) }
+        ensures added { IfOk result (λ numbered. HasAdded C.rules N.given (ToArrive stream bytes.now (taken_view datagram)) mine.old.front mine.new.front numbered.step
+            (λ g E. numbered.answer ≡ (C.rules g E stream (taken_view datagram)).outcome)) }
         ensures taken { IfOk result (λ numbered. mine.new.taken.amount ≡ mine.old.taken.amount + taken_by numbered.answer) }
         ensures refused { IfOk result (λ numbered. mine.new.refused.amount ≡ mine.old.refused.amount + refused_by numbered.answer) }
         ensures configured { IfOk result (λ numbered. mine.new.configured.amount ≡ mine.old.configured.amount + configured_by numbered.answer) }
         ensures most { (mine.new.taken.amount < 2 ^ 64) × (mine.new.refused.amount < 2 ^ 64) }
         ensures parts { HasSameParts mine.old mine.new }
         ensures causes { IfErr result IsOfDelivery }
-        ensures err { OnErr result (HasSameAmounts mine.old mine.new) }
+        ensures denied { result ≡ Err HubFault.NoMemory → WasRefused 1 }
+        ensures err { OnErr result (HasSameAmounts mine.old mine.new × (mine.new.front ≡ mine.old.front)) }
     {
-        self.table.lock(rt).deliver(stream, datagram, mine)
+        self.table
+            .lock(rt)
+            .deliver(rt, stream, bytes, datagram, mine)
     }
 
     /// Ticks: the instant that is now, and for each column the count up to which a section may be adopted. The answer is that of some
@@ -126,14 +141,19 @@ impl<C: Core + Drop, N: Naming<C::Settings>> Hub<C, N> {
     pub fn tick<R: Wait>(
         &self,
         rt: &R,
+        pops: &mut Pops<N>,
         now: u64,
         counts: &[u16; MAX_PMUS],
     ) -> Result<Numbered<Ticked>, HubFault>
-        ensures some { IfOk result (λ numbered. ∥ InSomeLife C.stands_for N.given (λ state g E.
-            (numbered.answer ≡ ticked_of (changes E) (tick_answer g E now counts.now)) × (numbered.step ≡ number_in E)) ∥₁) }
+        requires { (pops.old.turns.parts ≡ N.turns.parts) × (0 < pops.old.turns.parts) }
+        ensures turned { IfOk result (λ numbered. HasTurned C.rules N.given (ToTick now counts.now) pops.old.front pops.new.front numbered.step
+            (λ g E. numbered.answer ≡ ticked_of (changes E) (tick_answer g E now counts.now))) }
+        ensures none { HasPoppedNone pops.old pops.new × HasSameShares pops.old pops.new }
         ensures causes { OnErr result (result ≡ Err HubFault.NoMemory) }
+        ensures denied { OnErr result (WasRefused 1) }
+        ensures err { OnErr result (pops.new.front ≡ pops.old.front) }
     {
-        self.table.lock(rt).tick(now, counts)
+        self.table.lock(rt).tick(rt, pops, now, counts)
     }
 
     /// Pops the lowest row that closed and was not popped, which is written over the one popped before, and counts it. Whether there was one.
@@ -143,17 +163,19 @@ impl<C: Core + Drop, N: Naming<C::Settings>> Hub<C, N> {
     ///
     /// `NoMemory` where there is no memory for the step. Nothing is added then.
     pub fn pop<R: Wait>(&self, rt: &R, pops: &mut Pops<N>) -> Result<Numbered<bool>, HubFault>
-        requires { (pops.old.top.parts ≡ N.top.parts) × (0 < pops.old.top.parts) }
-        ensures some { IfOk result (λ numbered. ∥ InSomeLife C.stands_for N.given (λ state g E. IsPop numbered.answer pops.new.row (pop_answer E) × (numbered.step ≡ number_in E)) ∥₁) }
+        requires top { (pops.old.top.parts ≡ N.top.parts) × (0 < pops.old.top.parts) }
+        requires turns { (pops.old.turns.parts ≡ N.turns.parts) × (0 < pops.old.turns.parts) }
+        ensures turned { IfOk result (λ numbered. HasTurned C.rules N.given ToPop pops.old.front pops.new.front numbered.step (λ g E. IsPop numbered.answer pops.new.row (pop_answer E))) }
         // A row that was popped lies above all before, and is counted; only such a row is.
         ensures row { IfOk result (λ numbered. numbered.answer ≡ true → HasPoppedOne pops.old pops.new) }
         ensures tagged { IfOk result (λ numbered. numbered.answer ≡ true → (g : Given) → N.given ≡ Some g → pops.new.row.instant < SECONDS * g.output.rate) }
         ensures none { IfOk result (λ numbered. numbered.answer ≡ false → HasPoppedNone pops.old pops.new) }
-        ensures parts { pops.new.top.parts ≡ pops.old.top.parts }
+        ensures parts { HasSameShares pops.old pops.new }
         ensures causes { OnErr result (result ≡ Err HubFault.NoMemory) }
-        ensures err { OnErr result (HasPoppedNone pops.old pops.new) }
+        ensures denied { OnErr result (WasRefused 1) }
+        ensures err { OnErr result (HasPoppedNone pops.old pops.new × (pops.new.front ≡ pops.old.front)) }
     {
-        self.table.lock(rt).pop(pops)
+        self.table.lock(rt).pop(rt, pops)
     }
 
     /// Appends the frame of the layout in force, dated with this second.
@@ -161,12 +183,21 @@ impl<C: Core + Drop, N: Naming<C::Settings>> Hub<C, N> {
     /// # Errors
     ///
     /// `NoMemory` where `out` has no room and gets none; it is as it was.
-    pub fn layout<B: Buffer, R: Wait>(&self, rt: &R, soc: u32, out: &mut B) -> Result<(), HubFault>
-        ensures some { OnOk result ∥ InSomeLife C.stands_for N.given (λ state g E. B.content out.new ≡ B.content out.old ++ layout_wire g E soc) ∥₁ }
+    pub fn layout<B: Buffer, R: Wait>(
+        &self,
+        rt: &R,
+        pops: &mut Pops<N>,
+        soc: u32,
+        out: &mut B,
+    ) -> Result<(), HubFault>
+        requires { (pops.old.turns.parts ≡ N.turns.parts) × (0 < pops.old.turns.parts) }
+        ensures looked { HasLooked pops.old.front pops.new.front }
+        ensures same { HasPoppedNone pops.old pops.new × HasSameShares pops.old pops.new }
+        ensures layout { OnOk result (InTheLife C.rules N.given pops.new.front (λ g E. B.content out.new ≡ B.content out.old ++ layout_wire g E soc)) }
         ensures causes { OnErr result (result ≡ Err HubFault.NoMemory) }
         ensures err { OnErr result (B.content out.new ≡ B.content out.old) }
     {
-        self.table.lock(rt).layout(soc, out)
+        self.table.lock(rt).layout(rt, pops, soc, out)
     }
 
     /// How arrivals were answered.
@@ -175,20 +206,41 @@ impl<C: Core + Drop, N: Naming<C::Settings>> Hub<C, N> {
     }
 
     /// How arrivals were answered. Who has all parts learns that these are the amounts of the shares.
-    pub fn totals<R: Wait>(&self, rt: &R, all: &mut Shares<N>) -> Counts
-        requires { (all.old.taken.parts ≡ N.taken.parts) × (all.old.refused.parts ≡ N.refused.parts) × (all.old.configured.parts ≡ N.configured.parts) }
+    pub fn totals<R: Wait>(&self, rt: &R, all: &mut Shares<N>, pops: &mut Pops<N>) -> Counts
+        requires turns { (pops.old.turns.parts ≡ N.turns.parts) × (0 < pops.old.turns.parts) }
+        requires parts { (all.old.taken.parts ≡ N.taken.parts) × (all.old.refused.parts ≡ N.refused.parts) × (all.old.configured.parts ≡ N.configured.parts) }
         ensures amounts { (result.taken ≡ all.old.taken.amount) × (result.refused ≡ all.old.refused.amount) × (configurations result ≡ all.old.configured.amount) }
         ensures kept { HasSameAmounts all.old all.new }
         ensures parts { HasSameParts all.old all.new }
+        ensures same { HasPoppedNone pops.old pops.new × HasSameShares pops.old pops.new }
+        ensures looked { HasLooked pops.old.front pops.new.front }
+        ensures later { IsPrefix all.old.front pops.new.front }
+        ensures came { came_in pops.new.front ≡ (all.old.taken.amount + all.old.refused.amount) + all.old.configured.amount }
+        ensures said { ∥ AreSaid (WasRead C.Settings.says C.Settings.fits N.settings) pops.new.front ∥₁ }
     {
-        self.table.lock(rt).totals(all)
+        self.table.lock(rt).totals(rt, all, pops)
+    }
+
+    /// Shows all steps to who pops, among them all that these shares saw. Each was read from bytes that say it.
+    pub fn look<R: Wait>(&self, rt: &R, all: &mut Shares<N>, pops: &mut Pops<N>)
+        requires { (pops.old.turns.parts ≡ N.turns.parts) × (0 < pops.old.turns.parts) }
+        ensures kept { HasSameAmounts all.old all.new × HasSameParts all.old all.new }
+        ensures same { HasPoppedNone pops.old pops.new × HasSameShares pops.old pops.new }
+        ensures looked { HasLooked pops.old.front pops.new.front }
+        ensures later { IsPrefix all.old.front pops.new.front }
+        ensures said { ∥ AreSaid (WasRead C.Settings.says C.Settings.fits N.settings) pops.new.front ∥₁ }
+    {
+        self.table.lock(rt).look(rt, all, pops);
     }
 
     /// For each column the count that waits to be stored.
-    pub fn waiting<R: Wait>(&self, rt: &R) -> [u16; MAX_PMUS]
-        ensures some { ∥ InSomeLife C.stands_for N.given (λ state g E. result ≡ waiting_counts g E) ∥₁ }
+    pub fn waiting<R: Wait>(&self, rt: &R, pops: &mut Pops<N>) -> [u16; MAX_PMUS]
+        requires { (pops.old.turns.parts ≡ N.turns.parts) × (0 < pops.old.turns.parts) }
+        ensures looked { HasLooked pops.old.front pops.new.front }
+        ensures same { HasPoppedNone pops.old pops.new × HasSameShares pops.old pops.new }
+        ensures waits { InTheLife C.rules N.given pops.new.front (λ g E. result ≡ waiting_counts g E) }
     {
-        self.table.lock(rt).waiting()
+        self.table.lock(rt).waiting(rt, pops)
     }
 
     /// No more is to be delivered. Only who pops closes it, with all parts of the share, so no receiver does. Answers what shows it.

@@ -1,11 +1,12 @@
 //! The ledgers of a hub, for contracts.
 ghost use Rattle.pdc_hub.specs.Cut.{Cut, no_cut};
 
+use pdc_log::Logged;
 use std::marker::{Brand, PhantomData};
 use std::sync::ledger::Ledger;
 
 /// Which ledgers a hub counts in. It exists for contracts alone, and each call of a program that makes a hub picks it.
-pub trait Ledgers {
+pub trait Ledgers: Logged {
     // Of data that was taken,
     ghost taken: { Cut };
 
@@ -15,8 +16,11 @@ pub trait Ledgers {
     // of configurations that were new or held already,
     ghost configured: { Cut };
 
-    // and of the greatest instant popped.
+    // of the greatest instant popped,
     ghost top: { Cut };
+
+    // and of ticks and pops.
+    ghost turns: { Cut };
 }
 
 /// None is named until it is picked.
@@ -28,6 +32,8 @@ impl Ledgers for Brand {
     ghost configured = { no_cut };
 
     ghost top = { no_cut };
+
+    ghost turns = { no_cut };
 }
 
 /// The ledger of data that was taken.
@@ -72,4 +78,15 @@ impl<N: Ledgers> Ledger for TopIn<N> {
     ghost name = { N.top.name };
 
     ghost parts = { N.top.parts };
+}
+
+/// The ledger of ticks and pops.
+pub struct TurnsIn<N> {
+    of: PhantomData<N>,
+}
+
+impl<N: Ledgers> Ledger for TurnsIn<N> {
+    ghost name = { N.turns.name };
+
+    ghost parts = { N.turns.parts };
 }

@@ -1,7 +1,9 @@
 //! Who pops, and what was popped.
-ghost use Rattle.std.specs.Prelude.{◌≤◌, ◌≡◌};
+ghost use Rattle.std.specs.Prelude.{◌≤◌, ◌≡◌, []};
+ghost use Rattle.pdc_log.specs.Log.{turned_in};
 
-use crate::ledgers::{Ledgers, TopIn};
+use crate::ledgers::{Ledgers, TopIn, TurnsIn};
+use pdc_log::Front;
 use pdc_row::DueRow;
 use std::sync::ledger::Share;
 
@@ -14,22 +16,31 @@ pub struct Pops<N: Ledgers> {
     /// The row that was popped last; at first one of instant 0, without blocks. The next one is written over it.
     pub row: DueRow,
     pub(crate) count: u64,
+    /// What was seen of the log.
+    pub front: Front<N>,
+    /// The whole share of ticks and pops.
+    pub turns: Share<TurnsIn<N>>,
     // Instants rise from 0, so the number is no greater.
     ghost few: { count ≤ top.amount },
+    // All ticks and pops that it has seen are its own.
+    pub ghost own: { turns.amount ≡ turned_in front },
 }
 
 impl<N: Ledgers> Pops<N> {
     ghost use Rattle.pdc_hub.specs.Pops.{popped_by};
 
     /// With this share no row was popped yet.
-    pub(crate) fn new(top: Share<TopIn<N>>) -> Pops<N>
-        ensures top { result.top ≡ top }
+    pub(crate) fn new(top: Share<TopIn<N>>, turns: Share<TurnsIn<N>>, front: Front<N>) -> Pops<N>
+        requires { (turns.amount ≡ 0) × (front ≡ []) }
+        ensures top { (result.top ≡ top) × (result.turns ≡ turns) × (result.front ≡ front) }
         ensures none { popped_by result ≡ 0 }
     {
         Pops {
             top,
             row: spare_row(),
             count: 0,
+            front,
+            turns,
         }
     }
 

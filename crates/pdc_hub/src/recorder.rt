@@ -7,14 +7,17 @@ ghost use Rattle.pdc_life.specs.Answer.{ToArrive, ToPop, ToTick, pop_answer, tic
 ghost use Rattle.pdc_life.specs.Given.{Given};
 ghost use Rattle.pdc_life.specs.Life.{Entry, changes};
 ghost use Rattle.pdc_life.specs.Published.{layout_wire};
-ghost use Rattle.pdc_hub.specs.Counted.{CountsAtLeast, HasSameAmounts, HasSameParts, configurations, configured_by, is_used_up, refused_by, taken_by};
+ghost use Rattle.pdc_hub.specs.Counted.{HasSameAmounts, HasSameParts, configurations, configured_by, is_used_up, refused_by, taken_by};
 ghost use Rattle.pdc_hub.specs.Faults.{IsOfDelivery};
-ghost use Rattle.pdc_hub.specs.Pops.{HasPoppedNone, HasPoppedOne, IsPop};
-ghost use Rattle.pdc_hub.specs.Replay.{Follows, InSomeLife, WasRead, number_in, since};
+ghost use Rattle.pdc_hub.specs.Pops.{HasPoppedNone, HasPoppedOne, HasSameShares, IsPop};
+ghost use Rattle.pdc_hub.specs.Replay.{AreSaid, Follows, HasLogged, WasRead, since};
+ghost use Rattle.pdc_log.specs.Log.{HasAdded, HasLooked, HasTurned, InTheLife, came_in, turned_in};
+ghost use mathlib.Core.List.{IsPrefix};
+ghost use Rattle.pdc_memory.specs.Asking.{WasRefused};
 ghost use Rattle.pdc_frame.specs.declared.tag_limits.TheConstants.{SECONDS};
 
 use crate::fault::HubFault;
-use crate::ledgers::{ConfiguredIn, Ledgers, RefusedIn, TakenIn, TopIn};
+use crate::ledgers::{ConfiguredIn, Ledgers, RefusedIn, TakenIn, TopIn, TurnsIn};
 use crate::naming::Naming;
 use crate::pops::Pops;
 use crate::replayed::Replayed;
@@ -23,8 +26,10 @@ use crate::totals::Totals;
 use pdc_core::{Core, Counts, KeptArrival, Ticked};
 use pdc_frame::Buffer;
 use pdc_life::{MAX_PMUS, Outcome};
+use pdc_log::Log;
 use pdc_ports::Numbered;
 use std::alloc::{AllocError, Global};
+use std::sync::Wait;
 use std::sync::ledger::Book;
 
 /// The value under the lock: a core beside its base and the steps since, and the books of what it counted.
@@ -42,6 +47,8 @@ pub struct Recorder<C: Core + Drop, N: Naming<C::Settings>> {
     pub top: Book<TopIn<N>>,
     /// That instant.
     pub popped: u64,
+    /// The book of ticks and pops.
+    pub turns: Book<TurnsIn<N>>,
     // The totals of the first three books.
     totals: Totals,
     pub ghost taken_is: { (C.counts_of core.state).taken ≡ taken.total },
@@ -49,18 +56,30 @@ pub struct Recorder<C: Core + Drop, N: Naming<C::Settings>> {
     pub ghost configured_is: { configurations (C.counts_of core.state) ≡ configured.total },
     pub ghost top_is: { C.popped_of core.state ≡ top.total },
     pub ghost popped_is: { top.total ≡ popped },
+    // Each step of the log is counted in a book.
+    pub ghost came_are: { (taken.total + refused.total) + configured.total ≡ came_in core.log.seen.log },
+    pub ghost turns_are: { turns.total ≡ turned_in core.log.seen.log },
     ghost totals_are: { (taken.total ≡ totals.taken) × (refused.total ≡ totals.refused) × (configured.total ≡ totals.configured) },
 }
 
 impl<C: Core + Drop, N: Naming<C::Settings>> Recorder<C, N> {
     /// A recorder over two cores that were opened alike, with no step taken since, and with its books. Its base is brought up each time
     /// that so many steps are kept.
-    pub fn new(alloc: Global, base: C, now: C, limit: usize, floor: u64, books: Books<N>) -> Self
+    pub fn new(
+        alloc: Global,
+        base: C,
+        now: C,
+        limit: usize,
+        floor: u64,
+        books: Books<N>,
+        log: Log,
+    ) -> Self
         requires alike { (g : Given) × (N.given ≡ Some g) × C.stands_for base g [] × C.stands_for now g [] }
         requires settings { (N.settings ≡ Some (C.settings_of base)) × (N.settings ≡ Some (C.settings_of now)) }
         requires limit { 1 ≤ limit }
         requires floor { C.popped_of now ≡ floor }
-        requires books { (books.taken.total ≡ 0) × (books.refused.total ≡ 0) × (books.configured.total ≡ 0) × (books.top.total ≡ floor) }
+        requires books { (books.taken.total ≡ 0) × (books.refused.total ≡ 0) × (books.configured.total ≡ 0) × (books.top.total ≡ floor) × (books.turns.total ≡ 0) }
+        requires log { (log.seen.book ≡ N.book) × (log.seen.log ≡ []) }
         ensures base { result.core.base ≡ base }
         ensures state { result.core.state ≡ now }
         ensures events { result.core.events.items ≡ [] }
@@ -71,15 +90,17 @@ impl<C: Core + Drop, N: Naming<C::Settings>> Recorder<C, N> {
             refused,
             configured,
             top,
+            turns,
         } = books;
         let _counts = now.counts();
         Recorder {
-            core: Replayed::new(alloc, base, now, limit),
+            core: Replayed::new(alloc, base, now, limit, log),
             taken,
             refused,
             configured,
             top,
             popped: floor,
+            turns,
             totals: Totals::new(),
         }
     }
@@ -90,25 +111,26 @@ impl<C: Core + Drop, N: Naming<C::Settings>> Recorder<C, N> {
     ///
     /// `CountsUsedUp` where one of the three totals is at its greatest value; `NoMemory` where there is no memory for the step. Nothing is
     /// added then.
-    pub fn deliver(
+    pub fn deliver<R: Wait>(
         &mut self,
+        rt: &R,
         stream: usize,
+        bytes: &[u8],
         datagram: KeptArrival,
         mine: &mut Shares<N>,
     ) -> Result<Numbered<Outcome>, HubFault>
-        requires read { WasRead C.Settings.says C.Settings.fits N.settings stream (taken_view datagram) }
+        requires read { WasRead C.Settings.says C.Settings.fits N.settings stream bytes.now (taken_view datagram) }
         requires parts { (0 < mine.old.taken.parts) × (0 < mine.old.refused.parts) × (0 < mine.old.configured.parts) }
         // The answer is the core's.
         ensures answer { IfOk result (λ numbered. (g : Given) (E : List Entry) → C.stands_for self.old.core.state g E →
             numbered.answer ≡ (C.rules g E stream (taken_view datagram)).outcome) }
-        ensures stands { OnOk result ((bytes : List ℕ) → C.Settings.says (C.settings_of self.old.core.state) stream bytes (taken_view datagram) →
-            Follows C.rules (C.stands_for self.old.core.state) (C.stands_for self.new.core.state) (ToArrive stream bytes (taken_view datagram))) }
+        ensures stands { OnOk result (C.Settings.says (C.settings_of self.old.core.state) stream bytes.now (taken_view datagram) →
+            Follows C.rules (C.stands_for self.old.core.state) (C.stands_for self.new.core.state) (ToArrive stream bytes.now (taken_view datagram))) }
         // Exactly this step is added.
         ensures event { OnOk result (self.new.core.events.items ≡ since self.old.core.limit self.old.core.events.items ++ step.Arrive stream datagram ∷ []) }
-        // There was such a life, and the core had counted at least what the caller's shares had.
-        ensures some { IfOk result (λ numbered. ∥ InSomeLife C.stands_for N.given (λ state g E.
-            (numbered.answer ≡ (C.rules g E stream (taken_view datagram)).outcome)
-            × CountsAtLeast (C.counts_of state) mine.old.taken.amount mine.old.refused.amount mine.old.configured.amount × (numbered.step ≡ number_in E)) ∥₁) }
+        // It is of the one life of the log, behind what the caller has seen of it.
+        ensures added { IfOk result (λ numbered. HasAdded C.rules N.given (ToArrive stream bytes.now (taken_view datagram)) mine.old.front mine.new.front numbered.step
+            (λ g E. numbered.answer ≡ (C.rules g E stream (taken_view datagram)).outcome)) }
         // The shares rise by what is counted,
         ensures taken { IfOk result (λ numbered. mine.new.taken.amount ≡ mine.old.taken.amount + taken_by numbered.answer) }
         ensures refused { IfOk result (λ numbered. mine.new.refused.amount ≡ mine.old.refused.amount + refused_by numbered.answer) }
@@ -119,13 +141,14 @@ impl<C: Core + Drop, N: Naming<C::Settings>> Recorder<C, N> {
         ensures used_up { (result ≡ Err HubFault.CountsUsedUp → is_used_up self.old.taken.total self.old.refused.total self.old.configured.total ≡ true)
             × (is_used_up self.old.taken.total self.old.refused.total self.old.configured.total ≡ true → result ≡ Err HubFault.CountsUsedUp) }
         ensures causes { IfErr result IsOfDelivery }
-        ensures err { OnErr result ((self.new.core.state ≡ self.old.core.state) × HasSameAmounts mine.old mine.new) }
+        ensures denied { result ≡ Err HubFault.NoMemory → WasRefused 1 }
+        ensures err { OnErr result ((self.new.core.state ≡ self.old.core.state) × HasSameAmounts mine.old mine.new × (mine.new.front ≡ mine.old.front)) }
     {
         self.audit(mine);
         if self.totals.are_used_up() {
             return Err(HubFault::CountsUsedUp);
         }
-        self.add(stream, datagram, mine)
+        self.add(rt, stream, bytes, datagram, mine)
     }
 
     /// The caller's shares count no more than the core did.
@@ -133,10 +156,10 @@ impl<C: Core + Drop, N: Naming<C::Settings>> Recorder<C, N> {
         ensures core { self.new.core ≡ self.old.core }
         ensures totals { (self.new.taken.total ≡ self.old.taken.total) × (self.new.refused.total ≡ self.old.refused.total)
             × (self.new.configured.total ≡ self.old.configured.total) }
-        ensures counted { CountsAtLeast (C.counts_of self.old.core.state) mine.old.taken.amount mine.old.refused.amount mine.old.configured.amount }
-        ensures most { (mine.new.taken.amount < 2 ^ 64) × (mine.new.refused.amount < 2 ^ 64) }
+        ensures most { (mine.old.taken.amount ≤ self.old.taken.total) × (mine.old.refused.amount ≤ self.old.refused.total) × (self.old.taken.total < 2 ^ 64) × (self.old.refused.total < 2 ^ 64) }
         ensures amounts { HasSameAmounts mine.old mine.new }
         ensures parts { HasSameParts mine.old mine.new }
+        ensures front { mine.new.front ≡ mine.old.front }
     {
         self.totals.fit();
         self.taken.audit(&mut mine.taken);
@@ -145,30 +168,31 @@ impl<C: Core + Drop, N: Naming<C::Settings>> Recorder<C, N> {
     }
 
     /// Adds what arrived, where no total is at its greatest value.
-    fn add(
+    fn add<R: Wait>(
         &mut self,
+        rt: &R,
         stream: usize,
+        bytes: &[u8],
         datagram: KeptArrival,
         mine: &mut Shares<N>,
     ) -> Result<Numbered<Outcome>, HubFault>
-        requires read { WasRead C.Settings.says C.Settings.fits N.settings stream (taken_view datagram) }
+        requires read { WasRead C.Settings.says C.Settings.fits N.settings stream bytes.now (taken_view datagram) }
         requires parts { (0 < mine.old.taken.parts) × (0 < mine.old.refused.parts) × (0 < mine.old.configured.parts) }
         requires free { is_used_up self.old.taken.total self.old.refused.total self.old.configured.total ≡ false }
-        requires counted { CountsAtLeast (C.counts_of self.old.core.state) mine.old.taken.amount mine.old.refused.amount mine.old.configured.amount }
         ensures answer { IfOk result (λ numbered. (g : Given) (E : List Entry) → C.stands_for self.old.core.state g E →
             numbered.answer ≡ (C.rules g E stream (taken_view datagram)).outcome) }
-        ensures stands { OnOk result ((bytes : List ℕ) → C.Settings.says (C.settings_of self.old.core.state) stream bytes (taken_view datagram) →
-            Follows C.rules (C.stands_for self.old.core.state) (C.stands_for self.new.core.state) (ToArrive stream bytes (taken_view datagram))) }
+        ensures stands { OnOk result (C.Settings.says (C.settings_of self.old.core.state) stream bytes.now (taken_view datagram) →
+            Follows C.rules (C.stands_for self.old.core.state) (C.stands_for self.new.core.state) (ToArrive stream bytes.now (taken_view datagram))) }
         ensures event { OnOk result (self.new.core.events.items ≡ since self.old.core.limit self.old.core.events.items ++ step.Arrive stream datagram ∷ []) }
-        ensures some { IfOk result (λ numbered. ∥ InSomeLife C.stands_for N.given (λ state g E.
-            (numbered.answer ≡ (C.rules g E stream (taken_view datagram)).outcome)
-            × CountsAtLeast (C.counts_of state) mine.old.taken.amount mine.old.refused.amount mine.old.configured.amount × (numbered.step ≡ number_in E)) ∥₁) }
+        ensures added { IfOk result (λ numbered. HasAdded C.rules N.given (ToArrive stream bytes.now (taken_view datagram)) mine.old.front mine.new.front numbered.step
+            (λ g E. numbered.answer ≡ (C.rules g E stream (taken_view datagram)).outcome)) }
         ensures taken { IfOk result (λ numbered. mine.new.taken.amount ≡ mine.old.taken.amount + taken_by numbered.answer) }
         ensures refused { IfOk result (λ numbered. mine.new.refused.amount ≡ mine.old.refused.amount + refused_by numbered.answer) }
         ensures configured { IfOk result (λ numbered. mine.new.configured.amount ≡ mine.old.configured.amount + configured_by numbered.answer) }
         ensures parts { HasSameParts mine.old mine.new }
         ensures causes { OnErr result (result ≡ Err HubFault.NoMemory) }
-        ensures err { OnErr result ((self.new.core.state ≡ self.old.core.state) × HasSameAmounts mine.old mine.new) }
+        ensures denied { OnErr result (WasRefused 1) }
+        ensures err { OnErr result ((self.new.core.state ≡ self.old.core.state) × HasSameAmounts mine.old mine.new × (mine.new.front ≡ mine.old.front)) }
     {
         let Recorder {
             core,
@@ -179,7 +203,7 @@ impl<C: Core + Drop, N: Naming<C::Settings>> Recorder<C, N> {
             ..
         } = self;
         let step = core.step();
-        let Ok(outcome) = core.arrive(stream, datagram) else {
+        let Ok(outcome) = core.arrive(rt, &mut mine.front, stream, bytes, datagram) else {
             return Err(HubFault::NoMemory);
         };
         count(outcome, taken, refused, configured, mine);
@@ -195,20 +219,38 @@ impl<C: Core + Drop, N: Naming<C::Settings>> Recorder<C, N> {
     /// # Errors
     ///
     /// `NoMemory` where there is no memory for the step. Nothing is added then.
-    pub fn tick(&mut self, now: u64, counts: &[u16; MAX_PMUS]) -> Result<Numbered<Ticked>, HubFault>
+    pub fn tick<R: Wait>(
+        &mut self,
+        rt: &R,
+        pops: &mut Pops<N>,
+        now: u64,
+        counts: &[u16; MAX_PMUS],
+    ) -> Result<Numbered<Ticked>, HubFault>
+        requires { (pops.old.turns.parts ≡ N.turns.parts) × (0 < pops.old.turns.parts) }
         ensures answer { IfOk result (λ numbered. (g : Given) (E : List Entry) → C.stands_for self.old.core.state g E →
             numbered.answer ≡ ticked_of (changes E) (tick_answer g E now counts.now)) }
         ensures stands { OnOk result (Follows C.rules (C.stands_for self.old.core.state) (C.stands_for self.new.core.state) (ToTick now counts.now)) }
         ensures event { OnOk result (self.new.core.events.items ≡ since self.old.core.limit self.old.core.events.items ++ step.Tick now counts.now ∷ []) }
-        ensures some { IfOk result (λ numbered. ∥ InSomeLife C.stands_for N.given (λ state g E.
-            (numbered.answer ≡ ticked_of (changes E) (tick_answer g E now counts.now)) × (numbered.step ≡ number_in E)) ∥₁) }
+        ensures turned { IfOk result (λ numbered. HasTurned C.rules N.given (ToTick now counts.now) pops.old.front pops.new.front numbered.step
+            (λ g E. numbered.answer ≡ ticked_of (changes E) (tick_answer g E now counts.now))) }
+        ensures none { HasPoppedNone pops.old pops.new × HasSameShares pops.old pops.new }
         ensures causes { OnErr result (result ≡ Err HubFault.NoMemory) }
-        ensures err { OnErr result (self.new.core.state ≡ self.old.core.state) }
+        ensures denied { OnErr result (WasRefused 1) }
+        ensures err { OnErr result ((self.new.core.state ≡ self.old.core.state) × (pops.new.front ≡ pops.old.front)) }
     {
-        let Recorder { core, .. } = self;
+        let Recorder { core, turns, .. } = self;
+        let Pops {
+            front,
+            turns: own,
+            ..
+        } = pops;
+        turns.audit(own);
         let step = core.step();
-        match core.tick(now, counts) {
-            Ok(answer) => Ok(Numbered { step, answer }),
+        match core.tick(rt, front, now, counts) {
+            Ok(answer) => {
+                turns.add(own, 1);
+                Ok(Numbered { step, answer })
+            }
             Err(_) => Err(HubFault::NoMemory),
         }
     }
@@ -219,40 +261,50 @@ impl<C: Core + Drop, N: Naming<C::Settings>> Recorder<C, N> {
     /// # Errors
     ///
     /// `NoMemory` where there is no memory for the step. Nothing is added then.
-    pub fn pop(&mut self, pops: &mut Pops<N>) -> Result<Numbered<bool>, HubFault>
-        requires { (pops.old.top.parts ≡ N.top.parts) × (0 < pops.old.top.parts) }
+    pub fn pop<R: Wait>(&mut self, rt: &R, pops: &mut Pops<N>) -> Result<Numbered<bool>, HubFault>
+        requires top { (pops.old.top.parts ≡ N.top.parts) × (0 < pops.old.top.parts) }
+        requires turns { (pops.old.turns.parts ≡ N.turns.parts) × (0 < pops.old.turns.parts) }
         ensures answer { IfOk result (λ numbered. (g : Given) (E : List Entry) → C.stands_for self.old.core.state g E → IsPop numbered.answer pops.new.row (pop_answer E)) }
         ensures stands { OnOk result (Follows C.rules (C.stands_for self.old.core.state) (C.stands_for self.new.core.state) ToPop) }
         ensures event { OnOk result (self.new.core.events.items ≡ since self.old.core.limit self.old.core.events.items ++ step.Pop ∷ []) }
-        ensures some { IfOk result (λ numbered. ∥ InSomeLife C.stands_for N.given (λ state g E. (IsPop numbered.answer pops.new.row (pop_answer E)) × (numbered.step ≡ number_in E)) ∥₁) }
+        ensures turned { IfOk result (λ numbered. HasTurned C.rules N.given ToPop pops.old.front pops.new.front numbered.step (λ g E. IsPop numbered.answer pops.new.row (pop_answer E))) }
         // A row that was popped lies above all before, and is counted; only such a row is.
         ensures row { IfOk result (λ numbered. numbered.answer ≡ true → HasPoppedOne pops.old pops.new) }
         ensures tagged { IfOk result (λ numbered. numbered.answer ≡ true → (g : Given) → N.given ≡ Some g → pops.new.row.instant < SECONDS * g.output.rate) }
         ensures none { IfOk result (λ numbered. numbered.answer ≡ false → HasPoppedNone pops.old pops.new) }
-        ensures parts { pops.new.top.parts ≡ pops.old.top.parts }
+        ensures parts { HasSameShares pops.old pops.new }
         ensures causes { OnErr result (result ≡ Err HubFault.NoMemory) }
-        ensures err { OnErr result ((self.new.core.state ≡ self.old.core.state) × HasPoppedNone pops.old pops.new) }
+        ensures denied { OnErr result (WasRefused 1) }
+        ensures err { OnErr result ((self.new.core.state ≡ self.old.core.state) × HasPoppedNone pops.old pops.new × (pops.new.front ≡ pops.old.front)) }
     {
         let Recorder {
             core,
             top,
             popped,
+            turns,
             ..
         } = self;
         let Pops {
             top: all,
             row,
             count,
+            front,
+            turns: own,
         } = pops;
         top.audit(all);
+        turns.audit(own);
         let step = core.step();
-        match core.pop_into(row) {
+        match core.pop_into(rt, front, row) {
             Err(_) => Err(HubFault::NoMemory),
-            Ok(false) => Ok(Numbered {
-                step,
-                answer: false,
-            }),
+            Ok(false) => {
+                turns.add(own, 1);
+                Ok(Numbered {
+                    step,
+                    answer: false,
+                })
+            }
             Ok(true) => {
+                turns.add(own, 1);
                 top.add(all, row.instant - *popped);
                 *popped = row.instant;
                 *count += 1;
@@ -261,17 +313,45 @@ impl<C: Core + Drop, N: Naming<C::Settings>> Recorder<C, N> {
         }
     }
 
+    /// Shows all steps to who pops.
+    fn show<R: Wait>(&mut self, rt: &R, pops: &mut Pops<N>)
+        requires { (pops.old.turns.parts ≡ N.turns.parts) × (0 < pops.old.turns.parts) }
+        ensures core { self.new.core ≡ self.old.core }
+        ensures looked { HasLooked pops.old.front pops.new.front }
+        ensures seen { pops.new.front ≡ self.old.core.log.seen.log }
+        ensures same { HasPoppedNone pops.old pops.new × HasSameShares pops.old pops.new }
+    {
+        let Recorder { core, turns, .. } = self;
+        let Pops {
+            front,
+            turns: own,
+            ..
+        } = pops;
+        turns.audit(own);
+        core.log.look(rt, front);
+    }
+
     /// Appends the frame of the layout in force, dated with this second.
     ///
     /// # Errors
     ///
     /// `NoMemory` where `out` has no room and gets none; it is as it was.
-    pub fn layout<B: Buffer>(&self, soc: u32, out: &mut B) -> Result<(), HubFault>
-        ensures ok { OnOk result ((g : Given) (E : List Entry) → C.stands_for self.now.core.state g E → B.content out.new ≡ B.content out.old ++ layout_wire g E soc) }
-        ensures some { OnOk result ∥ InSomeLife C.stands_for N.given (λ state g E. B.content out.new ≡ B.content out.old ++ layout_wire g E soc) ∥₁ }
+    pub fn layout<B: Buffer, R: Wait>(
+        &mut self,
+        rt: &R,
+        pops: &mut Pops<N>,
+        soc: u32,
+        out: &mut B,
+    ) -> Result<(), HubFault>
+        requires { (pops.old.turns.parts ≡ N.turns.parts) × (0 < pops.old.turns.parts) }
+        ensures ok { OnOk result ((g : Given) (E : List Entry) → C.stands_for self.old.core.state g E → B.content out.new ≡ B.content out.old ++ layout_wire g E soc) }
+        ensures looked { HasLooked pops.old.front pops.new.front }
+        ensures same { HasPoppedNone pops.old pops.new × HasSameShares pops.old pops.new }
+        ensures layout { OnOk result (InTheLife C.rules N.given pops.new.front (λ g E. B.content out.new ≡ B.content out.old ++ layout_wire g E soc)) }
         ensures causes { OnErr result (result ≡ Err HubFault.NoMemory) }
         ensures err { OnErr result (B.content out.new ≡ B.content out.old) }
     {
+        self.show(rt, pops);
         match self.core.state.layout_frame(soc, out) {
             Ok(()) => Ok(()),
             Err(_) => Err(HubFault::NoMemory),
@@ -286,15 +366,24 @@ impl<C: Core + Drop, N: Naming<C::Settings>> Recorder<C, N> {
         self.core.state.counts()
     }
 
-    /// How arrivals were answered. Who has all parts learns that these are the amounts of the shares.
-    pub fn totals(&mut self, all: &mut Shares<N>) -> Counts
-        requires { (all.old.taken.parts ≡ N.taken.parts) × (all.old.refused.parts ≡ N.refused.parts) × (all.old.configured.parts ≡ N.configured.parts) }
+    /// How arrivals were answered. Who has all parts, and pops, learns that these are the amounts of the shares, and sees the whole log: no more
+    /// came than the shares count, and all ticks and pops are those of who pops.
+    pub fn totals<R: Wait>(&mut self, rt: &R, all: &mut Shares<N>, pops: &mut Pops<N>) -> Counts
+        requires turns { (pops.old.turns.parts ≡ N.turns.parts) × (0 < pops.old.turns.parts) }
+        requires parts { (all.old.taken.parts ≡ N.taken.parts) × (all.old.refused.parts ≡ N.refused.parts) × (all.old.configured.parts ≡ N.configured.parts) }
         ensures amounts { (result.taken ≡ all.old.taken.amount) × (result.refused ≡ all.old.refused.amount) × (configurations result ≡ all.old.configured.amount) }
         ensures kept { HasSameAmounts all.old all.new }
         ensures parts { HasSameParts all.old all.new }
+        ensures same { HasPoppedNone pops.old pops.new × HasSameShares pops.old pops.new }
+        ensures looked { HasLooked pops.old.front pops.new.front }
+        ensures later { IsPrefix all.old.front pops.new.front }
+        ensures came { came_in pops.new.front ≡ (all.old.taken.amount + all.old.refused.amount) + all.old.configured.amount }
+        ensures said { ∥ AreSaid (WasRead C.Settings.says C.Settings.fits N.settings) pops.new.front ∥₁ }
     {
+        self.show(rt, pops);
         let counts = self.counts();
         let Recorder {
+            core,
             taken,
             refused,
             configured,
@@ -303,14 +392,32 @@ impl<C: Core + Drop, N: Naming<C::Settings>> Recorder<C, N> {
         taken.audit(&mut all.taken);
         refused.audit(&mut all.refused);
         configured.audit(&mut all.configured);
+        core.log.look(rt, &mut all.front);
         counts
     }
 
-    /// For each column the count that waits to be stored.
-    pub fn waiting(&self) -> [u16; MAX_PMUS]
-        ensures value { (g : Given) (E : List Entry) → C.stands_for self.now.core.state g E → result ≡ waiting_counts g E }
-        ensures some { ∥ InSomeLife C.stands_for N.given (λ state g E. result ≡ waiting_counts g E) ∥₁ }
+    /// Shows all steps to who pops, among them all that these shares saw. Each was read from bytes that say it.
+    pub fn look<R: Wait>(&mut self, rt: &R, all: &mut Shares<N>, pops: &mut Pops<N>)
+        requires { (pops.old.turns.parts ≡ N.turns.parts) × (0 < pops.old.turns.parts) }
+        ensures kept { HasSameAmounts all.old all.new × HasSameParts all.old all.new }
+        ensures same { HasPoppedNone pops.old pops.new × HasSameShares pops.old pops.new }
+        ensures looked { HasLooked pops.old.front pops.new.front }
+        ensures later { IsPrefix all.old.front pops.new.front }
+        ensures said { ∥ AreSaid (WasRead C.Settings.says C.Settings.fits N.settings) pops.new.front ∥₁ }
     {
+        self.show(rt, pops);
+        self.core.log.look(rt, &mut all.front);
+    }
+
+    /// For each column the count that waits to be stored.
+    pub fn waiting<R: Wait>(&mut self, rt: &R, pops: &mut Pops<N>) -> [u16; MAX_PMUS]
+        requires { (pops.old.turns.parts ≡ N.turns.parts) × (0 < pops.old.turns.parts) }
+        ensures value { (g : Given) (E : List Entry) → C.stands_for self.old.core.state g E → result ≡ waiting_counts g E }
+        ensures looked { HasLooked pops.old.front pops.new.front }
+        ensures same { HasPoppedNone pops.old pops.new × HasSameShares pops.old pops.new }
+        ensures waits { InTheLife C.rules N.given pops.new.front (λ g E. result ≡ waiting_counts g E) }
+    {
+        self.show(rt, pops);
         self.core.state.waiting()
     }
 }
@@ -324,6 +431,8 @@ fn count<N: Ledgers>(
     mine: &mut Shares<N>,
 )
     requires { (0 < mine.old.taken.parts) × (0 < mine.old.refused.parts) × (0 < mine.old.configured.parts) }
+    ensures front { mine.new.front ≡ mine.old.front }
+    ensures once { (taken.new.total + refused.new.total) + configured.new.total ≡ ((taken.old.total + refused.old.total) + configured.old.total) + 1 }
     ensures taken { (taken.new.total ≡ taken.old.total + taken_by outcome) × (mine.new.taken.amount ≡ mine.old.taken.amount + taken_by outcome) }
     ensures refused { (refused.new.total ≡ refused.old.total + refused_by outcome) × (mine.new.refused.amount ≡ mine.old.refused.amount + refused_by outcome) }
     ensures configured { (configured.new.total ≡ configured.old.total + configured_by outcome)

@@ -1,5 +1,5 @@
 //! A core beside a base from which the steps since lead to it.
-ghost use Rattle.std.specs.Prelude.{◌≡◌, ◌≤◌, ◌<◌, ◌*◌, ◌+◌, ◌∷◌, ◌++◌, ℕ, IfOk, List, OnErr, OnOk, Option, Some, [], false, length, true, vec_len};
+ghost use Rattle.std.specs.Prelude.{◌≡◌, ◌≤◌, ◌<◌, ◌*◌, ◌∷◌, ◌++◌, ℕ, IfOk, List, OnErr, OnOk, Option, Some, [], false, length, true, vec_len};
 ghost use Rattle.std.specs.List.{list_all};
 ghost use Rattle.pdc_core.specs.Step.{after_answer, is_allowed, ticked_of};
 ghost use Rattle.pdc_core.specs.KeptArrival.{taken_view};
@@ -8,27 +8,32 @@ ghost use Rattle.pdc_life.specs.Answer.{ToArrive, ToPop, ToTick, pop_answer, tic
 ghost use Rattle.pdc_life.specs.Given.{Given};
 ghost use Rattle.pdc_life.specs.Life.{Entry, changes};
 ghost use Rattle.pdc_hub.specs.Pops.{IsPop};
-ghost use Rattle.pdc_hub.specs.Replay.{Follows, Replays, WasRead, number_after, since};
+ghost use Rattle.pdc_hub.specs.Replay.{Follows, HasLogged, Records, WasRead, since};
+ghost use Rattle.pdc_memory.specs.Asking.{WasRefused};
 ghost use Rattle.pdc_frame.specs.declared.tag_limits.TheConstants.{SECONDS};
 
 use crate::naming::Naming;
 use pdc_core::{Core, CoreStep, KeptArrival, Ticked};
 use pdc_life::{MAX_PMUS, Outcome};
+use pdc_log::{Add, Arriving, Front, Log, Popping, Ticking};
+use pdc_memory::make_room;
 use pdc_row::DueRow;
 use std::alloc::{AllocError, Global};
 use std::marker::PhantomData;
+use std::sync::Wait;
 
 /// A core beside a base from which the steps since lead to it.
 #[derive(Drop)]
 pub struct Replayed<C: Core + Drop, N: Naming<C::Settings>> {
     pub base: C,
-    /// The number of the first step since the base.
-    pub first: u64,
+    /// All steps of its life.
+    pub log: Log,
     pub events: Vec<CoreStep>,
     pub state: C,
     pub limit: usize,
     of: PhantomData<N>,
-    pub ghost replays: { ∥ Replays C.rules (C.Settings.says (C.settings_of base)) N.given (C.stands_for base) (C.stands_for state) first events.items ∥₁ },
+    pub ghost named: { log.seen.book ≡ N.book },
+    pub ghost replays: { ∥ Records C.rules (WasRead C.Settings.says C.Settings.fits N.settings) N.given (C.stands_for base) (C.stands_for state) log.seen.log events.items ∥₁ },
     pub ghost base_settings: { ∥ (N.settings ≡ Some (C.settings_of base)) ∥₁ },
     pub ghost state_settings: { ∥ (N.settings ≡ Some (C.settings_of state)) ∥₁ },
     pub ghost allowed: { list_all (is_allowed (C.Settings.fits (C.settings_of base))) events.items ≡ true },
@@ -38,15 +43,16 @@ pub struct Replayed<C: Core + Drop, N: Naming<C::Settings>> {
 
 impl<C: Core + Drop, N: Naming<C::Settings>> Replayed<C, N> {
     /// Two cores that were opened alike.
-    pub fn new(alloc: Global, base: C, state: C, limit: usize) -> Self
+    pub fn new(alloc: Global, base: C, state: C, limit: usize, log: Log) -> Self
         requires alike { (g : Given) × (N.given ≡ Some g) × C.stands_for base g [] × C.stands_for state g [] }
         requires settings { (N.settings ≡ Some (C.settings_of base)) × (N.settings ≡ Some (C.settings_of state)) }
         requires limit { 1 ≤ limit }
-        ensures { (result.base ≡ base) × (result.state ≡ state) × (result.events.items ≡ []) × (result.limit ≡ limit) }
+        requires log { (log.seen.book ≡ N.book) × (log.seen.log ≡ []) }
+        ensures { (result.base ≡ base) × (result.state ≡ state) × (result.events.items ≡ []) × (result.limit ≡ limit) × (result.log ≡ log) }
     {
         Replayed {
             base,
-            first: 0,
+            log,
             events: Vec::new(alloc),
             state,
             limit,
@@ -54,11 +60,11 @@ impl<C: Core + Drop, N: Naming<C::Settings>> Replayed<C, N> {
         }
     }
 
-    /// The number of the step that comes next: how many steps the life has. It stays at its greatest value.
+    /// The number of the step that comes next: how many steps the life has.
     pub fn step(&self) -> u64
-        ensures { result ≡ number_after (self.now.first + length self.now.events.items) }
+        ensures { result ≡ length self.now.log.seen.log }
     {
-        self.first.saturating_add(self.events.len() as u64)
+        self.log.len()
     }
 
     /// Where the list is full, the base is brought up by it: it becomes what the steps made of the state.
@@ -66,6 +72,7 @@ impl<C: Core + Drop, N: Naming<C::Settings>> Replayed<C, N> {
         ensures state { self.new.state ≡ self.old.state }
         ensures events { self.new.events.items ≡ since self.old.limit self.old.events.items }
         ensures limit { self.new.limit ≡ self.old.limit }
+        ensures log { self.new.log ≡ self.old.log }
         ensures room { vec_len self.new.events < self.new.limit }
     {
         if self.events.len() < self.limit {
@@ -73,13 +80,11 @@ impl<C: Core + Drop, N: Naming<C::Settings>> Replayed<C, N> {
         }
         let Replayed {
             base,
-            first,
             events,
             state,
             ..
         } = self;
         base.copy_from(state);
-        *first = first.saturating_add(events.len() as u64);
         events.clear();
     }
 
@@ -88,19 +93,28 @@ impl<C: Core + Drop, N: Naming<C::Settings>> Replayed<C, N> {
     /// # Errors
     ///
     /// [`AllocError`] where there is no memory for the step; the state is as it was.
-    pub fn arrive(&mut self, stream: usize, taken: KeptArrival) -> Result<Outcome, AllocError>
-        requires read { WasRead C.Settings.says C.Settings.fits N.settings stream (taken_view taken) }
+    pub fn arrive<R: Wait>(
+        &mut self,
+        rt: &R,
+        front: &mut Front<N>,
+        stream: usize,
+        bytes: &[u8],
+        taken: KeptArrival,
+    ) -> Result<Outcome, AllocError>
+        requires read { WasRead C.Settings.says C.Settings.fits N.settings stream bytes.now (taken_view taken) }
         ensures answer { IfOk result (λ outcome. (g : Given) (E : List Entry) → C.stands_for self.old.state g E → outcome ≡ (C.rules g E stream (taken_view taken)).outcome) }
-        ensures stands { OnOk result ((bytes : List ℕ) → C.Settings.says (C.settings_of self.old.state) stream bytes (taken_view taken) →
-            Follows C.rules (C.stands_for self.old.state) (C.stands_for self.new.state) (ToArrive stream bytes (taken_view taken))) }
+        ensures stands { OnOk result (C.Settings.says (C.settings_of self.old.state) stream bytes.now (taken_view taken) →
+            Follows C.rules (C.stands_for self.old.state) (C.stands_for self.new.state) (ToArrive stream bytes.now (taken_view taken))) }
+        ensures logged { OnOk result (HasLogged (ToArrive stream bytes.now (taken_view taken)) self.old.log.seen.log self.new.log.seen.log front.old front.new) }
         ensures counts { IfOk result (λ outcome. C.counts_of self.new.state ≡ after_answer outcome (C.counts_of self.old.state)) }
         ensures popped { C.popped_of self.new.state ≡ C.popped_of self.old.state }
         ensures event { OnOk result (self.new.events.items ≡ since self.old.limit self.old.events.items ++ step.Arrive stream taken ∷ []) }
         ensures limit { self.new.limit ≡ self.old.limit }
-        ensures err { OnErr result (self.new.state ≡ self.old.state) }
+        ensures err { OnErr result ((self.new.state ≡ self.old.state) × (self.new.log ≡ self.old.log) × (front.new ≡ front.old)) }
+        ensures denied { OnErr result (WasRefused 1) }
     {
         self.bring_up();
-        self.add_arrival(stream, taken)
+        self.add_arrival(rt, front, stream, bytes, taken)
     }
 
     /// Ticks, and keeps the step. Where the list is full, the base is brought up first.
@@ -108,17 +122,25 @@ impl<C: Core + Drop, N: Naming<C::Settings>> Replayed<C, N> {
     /// # Errors
     ///
     /// [`AllocError`] where there is no memory for the step; the state is as it was.
-    pub fn tick(&mut self, now: u64, counts: &[u16; MAX_PMUS]) -> Result<Ticked, AllocError>
+    pub fn tick<R: Wait>(
+        &mut self,
+        rt: &R,
+        front: &mut Front<N>,
+        now: u64,
+        counts: &[u16; MAX_PMUS],
+    ) -> Result<Ticked, AllocError>
         ensures answer { IfOk result (λ ticked. (g : Given) (E : List Entry) → C.stands_for self.old.state g E → ticked ≡ ticked_of (changes E) (tick_answer g E now counts.now)) }
         ensures stands { OnOk result (Follows C.rules (C.stands_for self.old.state) (C.stands_for self.new.state) (ToTick now counts.now)) }
+        ensures logged { OnOk result (HasLogged (ToTick now counts.now) self.old.log.seen.log self.new.log.seen.log front.old front.new) }
         ensures counts { C.counts_of self.new.state ≡ C.counts_of self.old.state }
         ensures popped { C.popped_of self.new.state ≡ C.popped_of self.old.state }
         ensures event { OnOk result (self.new.events.items ≡ since self.old.limit self.old.events.items ++ step.Tick now counts.now ∷ []) }
         ensures limit { self.new.limit ≡ self.old.limit }
-        ensures err { OnErr result (self.new.state ≡ self.old.state) }
+        ensures err { OnErr result ((self.new.state ≡ self.old.state) × (self.new.log ≡ self.old.log) × (front.new ≡ front.old)) }
+        ensures denied { OnErr result (WasRefused 1) }
     {
         self.bring_up();
-        self.add_tick(now, counts)
+        self.add_tick(rt, front, now, counts)
     }
 
     /// Pops a row, which is written over this one, and keeps the step. Whether there was one; else the row stays. Where the list is full, the
@@ -127,9 +149,15 @@ impl<C: Core + Drop, N: Naming<C::Settings>> Replayed<C, N> {
     /// # Errors
     ///
     /// [`AllocError`] where there is no memory for the step; the state and the row are as they were.
-    pub fn pop_into(&mut self, row: &mut DueRow) -> Result<bool, AllocError>
+    pub fn pop_into<R: Wait>(
+        &mut self,
+        rt: &R,
+        front: &mut Front<N>,
+        row: &mut DueRow,
+    ) -> Result<bool, AllocError>
         ensures answer { IfOk result (λ is_some. (g : Given) (E : List Entry) → C.stands_for self.old.state g E → IsPop is_some row.new (pop_answer E)) }
         ensures stands { OnOk result (Follows C.rules (C.stands_for self.old.state) (C.stands_for self.new.state) ToPop) }
+        ensures logged { OnOk result (HasLogged ToPop self.old.log.seen.log self.new.log.seen.log front.old front.new) }
         ensures rises { IfOk result (λ is_some. is_some ≡ true → C.popped_of self.old.state < row.new.instant) }
         ensures tagged { IfOk result (λ is_some. is_some ≡ true → (g : Given) → N.given ≡ Some g → row.new.instant < SECONDS * g.output.rate) }
         ensures popped { IfOk result (λ is_some. (is_some ≡ true → C.popped_of self.new.state ≡ row.new.instant) × (is_some ≡ false → C.popped_of self.new.state ≡ C.popped_of self.old.state)) }
@@ -137,45 +165,83 @@ impl<C: Core + Drop, N: Naming<C::Settings>> Replayed<C, N> {
         ensures counts { C.counts_of self.new.state ≡ C.counts_of self.old.state }
         ensures event { OnOk result (self.new.events.items ≡ since self.old.limit self.old.events.items ++ step.Pop ∷ []) }
         ensures limit { self.new.limit ≡ self.old.limit }
-        ensures err { OnErr result ((self.new.state ≡ self.old.state) × (row.new ≡ row.old)) }
+        ensures err { OnErr result ((self.new.state ≡ self.old.state) × (row.new ≡ row.old) × (self.new.log ≡ self.old.log) × (front.new ≡ front.old)) }
+        ensures denied { OnErr result (WasRefused 1) }
     {
         self.bring_up();
-        self.add_pop(row)
+        self.add_pop(rt, front, row)
     }
 
     /// Answers what arrived, and keeps the step, for which there is a place below the limit.
-    fn add_arrival(&mut self, stream: usize, taken: KeptArrival) -> Result<Outcome, AllocError>
-        requires read { WasRead C.Settings.says C.Settings.fits N.settings stream (taken_view taken) }
+    fn add_arrival<R: Wait>(
+        &mut self,
+        rt: &R,
+        front: &mut Front<N>,
+        stream: usize,
+        bytes: &[u8],
+        taken: KeptArrival,
+    ) -> Result<Outcome, AllocError>
+        requires read { WasRead C.Settings.says C.Settings.fits N.settings stream bytes.now (taken_view taken) }
         requires room { vec_len self.old.events < self.old.limit }
         ensures answer { IfOk result (λ outcome. (g : Given) (E : List Entry) → C.stands_for self.old.state g E → outcome ≡ (C.rules g E stream (taken_view taken)).outcome) }
-        ensures stands { OnOk result ((bytes : List ℕ) → C.Settings.says (C.settings_of self.old.state) stream bytes (taken_view taken) →
-            Follows C.rules (C.stands_for self.old.state) (C.stands_for self.new.state) (ToArrive stream bytes (taken_view taken))) }
+        ensures stands { OnOk result (C.Settings.says (C.settings_of self.old.state) stream bytes.now (taken_view taken) →
+            Follows C.rules (C.stands_for self.old.state) (C.stands_for self.new.state) (ToArrive stream bytes.now (taken_view taken))) }
+        ensures logged { OnOk result (HasLogged (ToArrive stream bytes.now (taken_view taken)) self.old.log.seen.log self.new.log.seen.log front.old front.new) }
         ensures counts { IfOk result (λ outcome. C.counts_of self.new.state ≡ after_answer outcome (C.counts_of self.old.state)) }
         ensures popped { C.popped_of self.new.state ≡ C.popped_of self.old.state }
         ensures event { OnOk result (self.new.events.items ≡ self.old.events.items ++ step.Arrive stream taken ∷ []) }
         ensures limit { self.new.limit ≡ self.old.limit }
-        ensures err { OnErr result (self.new.state ≡ self.old.state) }
+        ensures err { OnErr result ((self.new.state ≡ self.old.state) × (self.new.log ≡ self.old.log) × (front.new ≡ front.old)) }
+        ensures denied { OnErr result (WasRefused 1) }
     {
-        let Replayed { events, state, .. } = self;
-        events.reserve(1)?;
+        let Replayed {
+            log,
+            events,
+            state,
+            ..
+        } = self;
+        make_room(events, 1)?;
+        log.add::<N, R, Arriving<'_>, Add>(
+            rt,
+            front,
+            &Arriving {
+                stream,
+                bytes,
+                taken: &taken,
+            },
+        );
         let outcome = answered(state, stream, &taken);
         events.push_reserved(CoreStep::Arrive { stream, taken });
         Ok(outcome)
     }
 
     /// Ticks, and keeps the step, for which there is a place below the limit.
-    fn add_tick(&mut self, now: u64, counts: &[u16; MAX_PMUS]) -> Result<Ticked, AllocError>
+    fn add_tick<R: Wait>(
+        &mut self,
+        rt: &R,
+        front: &mut Front<N>,
+        now: u64,
+        counts: &[u16; MAX_PMUS],
+    ) -> Result<Ticked, AllocError>
         requires room { vec_len self.old.events < self.old.limit }
         ensures answer { IfOk result (λ ticked. (g : Given) (E : List Entry) → C.stands_for self.old.state g E → ticked ≡ ticked_of (changes E) (tick_answer g E now counts.now)) }
         ensures stands { OnOk result (Follows C.rules (C.stands_for self.old.state) (C.stands_for self.new.state) (ToTick now counts.now)) }
+        ensures logged { OnOk result (HasLogged (ToTick now counts.now) self.old.log.seen.log self.new.log.seen.log front.old front.new) }
         ensures counts { C.counts_of self.new.state ≡ C.counts_of self.old.state }
         ensures popped { C.popped_of self.new.state ≡ C.popped_of self.old.state }
         ensures event { OnOk result (self.new.events.items ≡ self.old.events.items ++ step.Tick now counts.now ∷ []) }
         ensures limit { self.new.limit ≡ self.old.limit }
-        ensures err { OnErr result (self.new.state ≡ self.old.state) }
+        ensures err { OnErr result ((self.new.state ≡ self.old.state) × (self.new.log ≡ self.old.log) × (front.new ≡ front.old)) }
+        ensures denied { OnErr result (WasRefused 1) }
     {
-        let Replayed { events, state, .. } = self;
-        events.reserve(1)?;
+        let Replayed {
+            log,
+            events,
+            state,
+            ..
+        } = self;
+        make_room(events, 1)?;
+        log.add::<N, R, Ticking<'_>, Add>(rt, front, &Ticking { now, counts });
         let ticked = state.tick(now, counts);
         events.push_reserved(CoreStep::Tick {
             now,
@@ -185,10 +251,16 @@ impl<C: Core + Drop, N: Naming<C::Settings>> Replayed<C, N> {
     }
 
     /// Pops a row into this one, and keeps the step, for which there is a place below the limit.
-    fn add_pop(&mut self, row: &mut DueRow) -> Result<bool, AllocError>
+    fn add_pop<R: Wait>(
+        &mut self,
+        rt: &R,
+        front: &mut Front<N>,
+        row: &mut DueRow,
+    ) -> Result<bool, AllocError>
         requires room { vec_len self.old.events < self.old.limit }
         ensures answer { IfOk result (λ is_some. (g : Given) (E : List Entry) → C.stands_for self.old.state g E → IsPop is_some row.new (pop_answer E)) }
         ensures stands { OnOk result (Follows C.rules (C.stands_for self.old.state) (C.stands_for self.new.state) ToPop) }
+        ensures logged { OnOk result (HasLogged ToPop self.old.log.seen.log self.new.log.seen.log front.old front.new) }
         ensures rises { IfOk result (λ is_some. is_some ≡ true → C.popped_of self.old.state < row.new.instant) }
         ensures tagged { IfOk result (λ is_some. is_some ≡ true → (g : Given) → N.given ≡ Some g → row.new.instant < SECONDS * g.output.rate) }
         ensures popped { IfOk result (λ is_some. (is_some ≡ true → C.popped_of self.new.state ≡ row.new.instant) × (is_some ≡ false → C.popped_of self.new.state ≡ C.popped_of self.old.state)) }
@@ -196,10 +268,17 @@ impl<C: Core + Drop, N: Naming<C::Settings>> Replayed<C, N> {
         ensures counts { C.counts_of self.new.state ≡ C.counts_of self.old.state }
         ensures event { OnOk result (self.new.events.items ≡ self.old.events.items ++ step.Pop ∷ []) }
         ensures limit { self.new.limit ≡ self.old.limit }
-        ensures err { OnErr result ((self.new.state ≡ self.old.state) × (row.new ≡ row.old)) }
+        ensures err { OnErr result ((self.new.state ≡ self.old.state) × (row.new ≡ row.old) × (self.new.log ≡ self.old.log) × (front.new ≡ front.old)) }
+        ensures denied { OnErr result (WasRefused 1) }
     {
-        let Replayed { events, state, .. } = self;
-        events.reserve(1)?;
+        let Replayed {
+            log,
+            events,
+            state,
+            ..
+        } = self;
+        make_room(events, 1)?;
+        log.add::<N, R, Popping, Add>(rt, front, &Popping);
         let is_some = state.pop_into(row);
         events.push_reserved(CoreStep::Pop);
         Ok(is_some)

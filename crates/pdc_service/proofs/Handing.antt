@@ -2,20 +2,24 @@
 use Rattle.std.proofs.Common.{◌≡◌, ◌++◌, ◌∷◌, ℕ, List, Result, Ok, Err, [], arith, inl, inr, refl, subst, sym}
 use Rattle.std.specs.Prelude.{IfOk, length}
 use Rattle.pdc_aligner.specs.Sequence.{instants_of}
+use Rattle.std.proofs.Math.Logic.{∥∥₁_map}
 use Rattle.pdc_hub.specs.declared.fault.HubFault.{HubFault}
+use Rattle.pdc_life.specs.CoreKind.{CoreKind, given_of, rules_of}
 use Rattle.pdc_journal.specs.Among.{AreAmong}
+use Rattle.pdc_log.specs.Log.{life_of}
 use Rattle.pdc_mark.specs.declared.stored.Stored.{Stored}
 use Rattle.pdc_pipe.specs.declared.message.Message.{Message}
 use Rattle.pdc_ports.specs.Heard.{Heard}
 use Rattle.pdc_startup.specs.declared.concentrator.Concentrator.{Concentrator}
 use Rattle.pdc_startup.specs.declared.fault.ServiceFault.{ServiceFault}
 use Rattle.pdc_threads.specs.declared.telling.Totals.{Totals}
-use Rattle.pdc_service.specs.Ended.{Found, IsOver}
+use Rattle.pdc_threads.specs.OneRun.{Found}
+use Rattle.pdc_service.specs.Ended.{IsOver, kind_of}
 use Rattle.pdc_service.specs.Handed.{HasTaken}
 
 -- nothing was handed to it
-pub nothing_handed : {K : Type 0} (took : K → K → List (List ℕ) → Type 0) (sink : K) (stored : Stored) (fault : ServiceFault) → took sink sink [] → HasTaken took sink stored (Err fault)
-nothing_handed took sink stored fault none = record {
+pub nothing_handed : {K : Type 0} (took : K → K → List (List ℕ) → Type 0) (sink : K) (kind : CoreKind) (stored : Stored) (fault : ServiceFault) → took sink sink [] → HasTaken took sink kind stored (Err fault)
+nothing_handed took sink kind stored fault none = record {
   put = [];
   high = stored.floor;
   rising = omega arith;
@@ -24,6 +28,7 @@ nothing_handed took sink stored fault none = record {
   some = [];
   taken = none;
   among = refl;
+  of_life = ∣ record { life = []; is_life = tt; every = 0; some = []; taken = none; among = refl } ∣₁;
 }
 
 none_among : {A : Type 0} (all : List A) → AreAmong [] all
@@ -49,8 +54,8 @@ pub over_handed : {S L K : Type 0} {concentrator : Concentrator} {every : ℕ} {
     (took : K → K → List (List ℕ) → Type 0) (sink : K) (inner : L → K) (refused : L → ℕ) (answer : Result Totals ServiceFault)
     → IfOk answer (λ totals. outcome ≡ Ok totals)
     → IsOver concentrator every told Gave (λ left given. (some : List (List ℕ)) × took sink (inner left) some × AreAmong some given × (refused left ≡ 0 → some ≡ given)) failures_of before sources outcome
-    → HasTaken took sink before.stored answer
-over_handed {outcome = outcome} took sink inner refused answer same over = record {
+    → HasTaken took sink (kind_of concentrator) before.stored answer
+over_handed {concentrator = concentrator} {every = every} {before = before} {outcome = outcome} took sink inner refused answer same over = record {
   put = over.sent.put;
   high = over.after.stored.floor;
   rising = over.sent.rising;
@@ -59,17 +64,25 @@ over_handed {outcome = outcome} took sink inner refused answer same over = recor
   some = over.sent.took.0;
   taken = over.sent.took.1;
   among = subst (AreAmong over.sent.took.0) (sym over.sent.first) (among_front over.sent.took.0 over.sent.given over.sent.rest over.sent.took.2);
+  of_life = ∥∥₁_map over.one (λ one. record {
+    life = life_of (rules_of (kind_of concentrator)) (given_of (kind_of concentrator) before.stored.start before.stored.floor before.stored.counts 0) one.steps;
+    is_life = one.is_life;
+    every = every;
+    some = one.took.0;
+    taken = one.took.1;
+    among = subst (AreAmong one.took.0) (sym one.sent) (among_front one.took.0 one.given one.rest one.took.2);
+  });
 }
 
 -- the same of a sink and a mark by other names
-pub handed_by : {K : Type 0} {took : K → K → List (List ℕ) → Type 0} {sink same : K} {stored kept : Stored} {answer : Result Totals ServiceFault}
-    → sink ≡ same → stored ≡ kept → HasTaken took sink stored answer → HasTaken took same kept answer
-handed_by {took = took} {sink = sink} {kept = kept} {answer = answer} e f handed =
-    subst (λ s. HasTaken took s kept answer) e (subst (λ s. HasTaken took sink s answer) f handed)
+pub handed_by : {K : Type 0} {took : K → K → List (List ℕ) → Type 0} {sink same : K} {kind : CoreKind} {stored kept : Stored} {answer : Result Totals ServiceFault}
+    → sink ≡ same → stored ≡ kept → HasTaken took sink kind stored answer → HasTaken took same kind kept answer
+handed_by {took = took} {sink = sink} {kind = kind} {kept = kept} {answer = answer} e f handed =
+    subst (λ s. HasTaken took s kind kept answer) e (subst (λ s. HasTaken took sink kind s answer) f handed)
 
 -- What a sink took is what its outputs took.
-pub of_outputs : {L K : Type 0} {took : K → K → List (List ℕ) → Type 0} {sink : L} {stored : Stored} {answer : Result Totals ServiceFault} (outputs : L → K)
-    → HasTaken {K = L} (λ before now given. took (outputs before) (outputs now) given) sink stored answer → HasTaken took (outputs sink) stored answer
+pub of_outputs : {L K : Type 0} {took : K → K → List (List ℕ) → Type 0} {sink : L} {kind : CoreKind} {stored : Stored} {answer : Result Totals ServiceFault} (outputs : L → K)
+    → HasTaken {K = L} (λ before now given. took (outputs before) (outputs now) given) sink kind stored answer → HasTaken took (outputs sink) kind stored answer
 of_outputs outputs handed = record {
   put = handed.put;
   high = handed.high;
@@ -79,4 +92,5 @@ of_outputs outputs handed = record {
   some = handed.some;
   taken = handed.taken;
   among = handed.among;
+  of_life = ∥∥₁_map handed.of_life (λ h. record { life = h.life; is_life = h.is_life; every = h.every; some = h.some; taken = h.taken; among = h.among });
 }

@@ -38,7 +38,7 @@ told_nothing : {M : Type 0} (tried : M → M → List Attempt → Type 0) (now :
 told_nothing tried now before given t = subst (λ (told : List Attempt). tried before now told) (sym (append-nil given)) t
 
 -- Where a step was opened, and so it went on, so it went.
-pub goes_on : {M T : Type 0} (tried : M → M → List Attempt → Type 0) {old mid new : M} (described : Described) (step : Step) {Ran : Stored → Type 0} {stored : Option Stored} {steps : List Step} {outcome : Result T ServiceFault}
+pub goes_on : {M T : Type 0} (tried : M → M → List Attempt → Type 0) {old mid new : M} (described : Described) (step : Step) {Ran : Described → Stored → Type 0} {stored : Option Stored} {steps : List Step} {outcome : Result T ServiceFault}
     → Tells tried old mid (good step described ∷ []) → HasOpened tried mid new described Ran stored steps outcome → HasOpened tried old new described Ran stored (step ∷ steps) outcome
 goes_on tried described step told rest = record {
   attempts = good step described ∷ rest.attempts;
@@ -47,7 +47,7 @@ goes_on tried described step told rest = record {
 }
 
 -- Where the mark was begun, and so it went on with what that stores, so it went.
-pub begins : {M T : Type 0} (tried : M → M → List Attempt → Type 0) {old mid new : M} (described : Described) (files : Files) (now : Stored) {Ran : Stored → Type 0} {stored : Option Stored} {steps : List Step} {outcome : Result T ServiceFault}
+pub begins : {M T : Type 0} (tried : M → M → List Attempt → Type 0) {old mid new : M} (described : Described) (files : Files) (now : Stored) {Ran : Described → Stored → Type 0} {stored : Option Stored} {steps : List Step} {outcome : Result T ServiceFault}
     → Tells tried old mid (begun files described now ∷ []) → HasOpened tried mid new described Ran (Some now) steps outcome → HasOpened tried old new described Ran stored (BeginMark files ∷ steps) outcome
 begins tried described files now told rest = record {
   attempts = begun files described now ∷ rest.attempts;
@@ -56,7 +56,7 @@ begins tried described files now told rest = record {
 }
 
 -- Where a step failed, it ended there.
-pub stops : {M T : Type 0} (tried : M → M → List Attempt → Type 0) {old new : M} (described : Described) (step : Step) (steps : List Step) (fault : ServiceFault) {Ran : Stored → Type 0} {stored : Option Stored}
+pub stops : {M T : Type 0} (tried : M → M → List Attempt → Type 0) {old new : M} (described : Described) (step : Step) (steps : List Step) (fault : ServiceFault) {Ran : Described → Stored → Type 0} {stored : Option Stored}
     → Tells tried old new (bad step described fault ∷ []) → IsFaultOf step fault → HasOpened {T = T} tried old new described Ran stored (step ∷ steps) (Err fault)
 stops tried described step steps fault told of_step = record {
   attempts = bad step described fault ∷ [];
@@ -65,17 +65,17 @@ stops tried described step steps fault told of_step = record {
 }
 
 -- Where memory ran out before a step, it was not tried.
-pub wants_memory : {M T : Type 0} (tried : M → M → List Attempt → Type 0) (now : M) (described : Described) (step : Step) (steps : List Step) {Ran : Stored → Type 0} {stored : Option Stored}
+pub wants_memory : {M T : Type 0} (tried : M → M → List Attempt → Type 0) (now : M) (described : Described) (step : Step) (steps : List Step) {Ran : Described → Stored → Type 0} {stored : Option Stored}
     → HasOpened {T = T} tried now now described Ran stored (step ∷ steps) (Err (Run NoMemory))
 wants_memory tried now described step steps = record { attempts = []; told = told_nothing tried now; in_order = refl }
 
 -- Where none was left, the run answered.
-pub runs : {M T : Type 0} (tried : M → M → List Attempt → Type 0) (now : M) (described : Described) (stored : Stored) {Ran : Stored → Type 0} {outcome : Result T ServiceFault}
-    → IfErr outcome IsOfRun → Ran stored → HasOpened tried now now described Ran (Some stored) [] outcome
+pub runs : {M T : Type 0} (tried : M → M → List Attempt → Type 0) (now : M) (described : Described) (stored : Stored) {Ran : Described → Stored → Type 0} {outcome : Result T ServiceFault}
+    → IfErr outcome IsOfRun → Ran described stored → HasOpened tried now now described Ran (Some stored) [] outcome
 runs tried now described stored of_run ran = record { attempts = []; told = told_nothing tried now; in_order = (refl, of_run, ran) }
 
 -- The settings were read, and so the steps followed.
-pub starts : {M T : Type 0} (tried : M → M → List Attempt → Type 0) {old mid new : M} (Is : Concentrator → Type 0) {Ran : Stored → Type 0} (files : Files) (described : Described) {outcome : Result T ServiceFault}
+pub starts : {M T : Type 0} (tried : M → M → List Attempt → Type 0) {old mid new : M} (Is : Concentrator → Type 0) {Ran : Described → Stored → Type 0} (files : Files) (described : Described) {outcome : Result T ServiceFault}
     → Tells tried old mid (good (ReadSettings files) described ∷ []) → Is described.concentrator → HasOpened tried mid new described Ran None (steps_with files) outcome → HasStarted tried old new Is Ran files outcome
 starts tried Is files described told is rest = record {
   attempts = good (ReadSettings files) described ∷ rest.attempts;
@@ -84,7 +84,7 @@ starts tried Is files described told is rest = record {
 }
 
 -- Where they were not, no step followed.
-pub unread : {M T : Type 0} (tried : M → M → List Attempt → Type 0) {old new : M} (Is : Concentrator → Type 0) {Ran : Stored → Type 0} (files : Files) (fault : ServiceFault)
+pub unread : {M T : Type 0} (tried : M → M → List Attempt → Type 0) {old new : M} (Is : Concentrator → Type 0) {Ran : Described → Stored → Type 0} (files : Files) (fault : ServiceFault)
     → Tells tried old new (record { step = ReadSettings files; under = None; stored = None; fault = Some fault } ∷ []) → IsOfFile fault → HasStarted {T = T} tried old new Is Ran files (Err fault)
 unread tried Is files fault told of_file = record {
   attempts = record { step = ReadSettings files; under = None; stored = None; fault = Some fault } ∷ [];

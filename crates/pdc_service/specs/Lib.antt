@@ -1,4 +1,3 @@
 pub mod Ended
 pub mod Handed
 pub mod Summed
-pub mod Turned

@@ -1,10 +1,10 @@
 //! Runs of a node or the merger, whichever its settings describe.
 ghost use Rattle.std.specs.Prelude.{◌≡◌, IfOk, vec_len};
-ghost use Rattle.pdc_service.specs.Ended.{IsOver, found_by};
+ghost use Rattle.pdc_service.specs.Ended.{IsOver, begun_standing};
 ghost use Rattle.pdc_service.specs.Summed.{AreSums, HaveEach};
-ghost use Rattle.pdc_service.specs.Turned.{begun_standing};
 ghost use Rattle.pdc_startup.specs.Begun.{begun_mark};
 ghost use Rattle.pdc_startup.specs.Concentrator.{streams_of};
+ghost use Rattle.pdc_threads.specs.OneRun.{found_by};
 ghost use Rattle.pdc_threads.specs.Run.{GivesFrom};
 
 use crate::handed::Handed;

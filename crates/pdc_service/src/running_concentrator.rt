@@ -1,16 +1,14 @@
 //! Runs of a node and of the merger.
 ghost use Rattle.std.specs.Prelude.{◌≡◌, ◌≤◌, ◌<◌, ◌+◌, ℕ, Err, IfOk, List, Some, [], length, map, sum, vec_len};
+ghost use Rattle.pdc_threads.specs.OneRun.{IsOneRun, found_by};
 ghost use Rattle.pdc_threads.specs.Opened.{IsOpenedWith};
 ghost use Rattle.pdc_threads.specs.Rate.{IsAtRate};
-ghost use Rattle.pdc_threads.specs.Run.{GivesFrom, HasEach, HasRun, HasRunInTurns, IsCausedByMark, IsCausedBySink, IsSummed};
+ghost use Rattle.pdc_threads.specs.Run.{GivesFrom, HasEach, HasRun, IsCausedByMark, IsCausedBySink, IsSummed};
 ghost use Rattle.pdc_aligner.specs.Device.{standing_of};
 ghost use Rattle.pdc_hub.specs.declared.fault.HubFault.TheVariants.{NoMemory};
-ghost use Rattle.pdc_life.specs.CoreKind.{given_of, OfMerger, OfNode};
-ghost use Rattle.pdc_merge.specs.Merger.{StandsFor as MergerStandsFor};
-ghost use Rattle.pdc_node.specs.Node.{StandsFor};
+ghost use Rattle.pdc_life.specs.CoreKind.{OfMerger, OfNode};
 ghost use Rattle.pdc_publisher.specs.Publisher.{last_in, lead_in, mark_in, output_in};
-ghost use Rattle.pdc_service.specs.Ended.{HasEndedAsGiven, HasEndedWith, MergerHasEnded, NodeHasEnded, found_by};
-ghost use Rattle.pdc_service.specs.Turned.{HasRunAsGiven, begun_standing};
+ghost use Rattle.pdc_service.specs.Ended.{WasOneLife, begun_standing};
 ghost use Rattle.pdc_startup.specs.Begun.{begun_mark};
 
 use crate::handed::Handed;
@@ -27,7 +25,6 @@ use pdc_threads::{Blanks, Crew, Hub, HubFault, Naming, Outside, Pace, Ran, Sink,
 use std::alloc::Global;
 use std::marker::Brand;
 use std::sync::Wait;
-use std::sync::ledger::Blank;
 use std::thread::Threads;
 
 /// The first core of a life, with what its mark stored, and after how many steps the base is brought up.
@@ -77,9 +74,10 @@ where
     requires stands { C.stands_for first.core (C.given_with settings.now first.start (last_in ready.publisher) first.counts) [] }
     requires settings { (N.settings ≡ Some settings.now) × (C.settings_of first.core ≡ settings.now) }
     requires limit { 1 ≤ first.limit }
-    requires names { (blanks.taken.name ≡ N.taken.name) × (blanks.refused.name ≡ N.refused.name) × (blanks.configured.name ≡ N.configured.name) × (blanks.top.name ≡ N.top.name) }
-    requires parts { (blanks.taken.parts ≡ N.taken.parts) × (blanks.refused.parts ≡ N.refused.parts) × (blanks.configured.parts ≡ N.configured.parts) × (blanks.top.parts ≡ N.top.parts) }
-    requires count { (N.taken.parts ≡ vec_len ready.sources + 1) × (N.refused.parts ≡ vec_len ready.sources + 1) × (N.configured.parts ≡ vec_len ready.sources + 1) × (N.top.parts ≡ 1) }
+    requires names { (blanks.taken.name ≡ N.taken.name) × (blanks.refused.name ≡ N.refused.name) × (blanks.configured.name ≡ N.configured.name) × (blanks.top.name ≡ N.top.name) × (blanks.turns.name ≡ N.turns.name) }
+    requires log { (blanks.log.seen.book ≡ N.book) × (blanks.log.seen.log ≡ []) }
+    requires parts { (blanks.taken.parts ≡ N.taken.parts) × (blanks.refused.parts ≡ N.refused.parts) × (blanks.configured.parts ≡ N.configured.parts) × (blanks.top.parts ≡ N.top.parts) × (blanks.turns.parts ≡ N.turns.parts) }
+    requires count { (N.taken.parts ≡ vec_len ready.sources + 1) × (N.refused.parts ≡ vec_len ready.sources + 1) × (N.configured.parts ≡ vec_len ready.sources + 1) × (N.top.parts ≡ 1) × (N.turns.parts ≡ 1) }
     requires streams { (vec_len ready.sources ≡ C.Settings.streams settings.now) × (vec_len ready.sources ≤ MAX_PMUS) }
     requires floor { last_in ready.publisher ≡ (W.Mark.stored (mark_in ready.publisher)).floor }
     requires rate { IsAtRate N.given (output_in ready.publisher).rate }
@@ -89,9 +87,8 @@ where
     ensures sink { IsCausedBySink result.outcome (W.Sink.failures_of ready.sink) (W.Sink.failures_of result.sink) }
     ensures each { HasEach result.outcome (vec_len ready.sources) }
     ensures mark { IsCausedByMark result.outcome (standing_of ready.publisher) (standing_of result.publisher) }
-    ensures turned { HasRunInTurns C.stands_for N.given (output_in ready.publisher) ready.pace (GivesFrom W.Ticker.gave ready.ticker) (W.Sink.took ready.sink result.sink) (last_in ready.publisher) (W.Mark.stored (mark_in ready.publisher)) (W.Mark.stored (mark_in result.publisher)) result.outcome }
-    ensures ended { HasEndedWith C.rules C.stands_for N.given (C.Settings.says settings.now) (output_in ready.publisher) ready.pace.rate ready.pace.layout_every W.Source.told (GivesFrom W.Ticker.gave ready.ticker) (W.Sink.took ready.sink result.sink)
-        (found_by (W.Mark.stored (mark_in ready.publisher)) (standing_of ready.publisher) (W.Sink.failures_of ready.sink)) (found_by (W.Mark.stored (mark_in result.publisher)) (standing_of result.publisher) (W.Sink.failures_of result.sink)) ready.sources.items result.outcome }
+    ensures one { ∥ IsOneRun C.rules (C.Settings.says settings.now) (C.given_with settings.now first.start (last_in ready.publisher) first.counts) (output_in ready.publisher) ready.pace.rate ready.pace.layout_every W.Source.told ready.sources.items (GivesFrom W.Ticker.gave ready.ticker) (W.Sink.took ready.sink result.sink)
+        (found_by (W.Mark.stored (mark_in ready.publisher)) (standing_of ready.publisher) (W.Sink.failures_of ready.sink)) (found_by (W.Mark.stored (mark_in result.publisher)) (standing_of result.publisher) (W.Sink.failures_of result.sink)) result.outcome ∥₁ }
     ensures sent { HasRun (W.Sink.took ready.sink result.sink) (last_in ready.publisher) (W.Mark.stored (mark_in result.publisher)).floor result.outcome }
 {
     let First {
@@ -122,18 +119,6 @@ where
         sink,
     };
     run::<C, N, W, R>(rt, alloc, &hub, settings, crew).ran
-}
-
-/// A ledger of so many parts for each of the three totals, and one for the greatest instant popped.
-fn blanks(parts: u64) -> Blanks
-    ensures parts { (result.taken.parts ≡ parts) × (result.refused.parts ≡ parts) × (result.configured.parts ≡ parts) × (result.top.parts ≡ 1) }
-{
-    Blanks {
-        taken: Blank::new(parts),
-        refused: Blank::new(parts),
-        configured: Blank::new(parts),
-        top: Blank::new(1),
-    }
 }
 
 /// Nothing was run, for want of memory.
@@ -171,9 +156,8 @@ where
     ensures sink { IsCausedBySink result.outcome (W.Sink.failures_of handed.sink) (W.Sink.failures_of result.sink) }
     ensures each { HasEach result.outcome (vec_len handed.sources) }
     ensures mark { IsCausedByMark result.outcome (begun_standing (W.Mark.is_broken (begun_mark handed.mark)) (W.Mark.failures (begun_mark handed.mark))) (standing_of result.publisher) }
-    ensures turned { HasRunAsGiven C.stands_for (C.given_with life.now.settings.now (W.Mark.stored (begun_mark handed.mark)).start (W.Mark.stored (begun_mark handed.mark)).floor (W.Mark.stored (begun_mark handed.mark)).counts) life.now.plan.now.layout_every (GivesFrom W.Ticker.gave handed.ticker) (W.Sink.took handed.sink result.sink) (W.Mark.stored (begun_mark handed.mark)) (W.Mark.stored (mark_in result.publisher)) result.outcome }
-    ensures ended { HasEndedAsGiven C.rules C.stands_for (C.Settings.says life.now.settings.now) (C.given_with life.now.settings.now (W.Mark.stored (begun_mark handed.mark)).start (W.Mark.stored (begun_mark handed.mark)).floor (W.Mark.stored (begun_mark handed.mark)).counts) life.now.plan.now.layout_every W.Source.told (GivesFrom W.Ticker.gave handed.ticker) (W.Sink.took handed.sink result.sink)
-        (found_by (W.Mark.stored (begun_mark handed.mark)) (begun_standing (W.Mark.is_broken (begun_mark handed.mark)) (W.Mark.failures (begun_mark handed.mark))) (W.Sink.failures_of handed.sink)) (found_by (W.Mark.stored (mark_in result.publisher)) (standing_of result.publisher) (W.Sink.failures_of result.sink)) handed.sources.items result.outcome }
+    ensures one { ∥ IsOneRun C.rules (C.Settings.says life.now.settings.now) (C.given_with life.now.settings.now (W.Mark.stored (begun_mark handed.mark)).start (W.Mark.stored (begun_mark handed.mark)).floor (W.Mark.stored (begun_mark handed.mark)).counts) life.now.output life.now.output.rate life.now.plan.now.layout_every W.Source.told handed.sources.items (GivesFrom W.Ticker.gave handed.ticker) (W.Sink.took handed.sink result.sink)
+        (found_by (W.Mark.stored (begun_mark handed.mark)) (begun_standing (W.Mark.is_broken (begun_mark handed.mark)) (W.Mark.failures (begun_mark handed.mark))) (W.Sink.failures_of handed.sink)) (found_by (W.Mark.stored (mark_in result.publisher)) (standing_of result.publisher) (W.Sink.failures_of result.sink)) result.outcome ∥₁ }
     ensures sent { HasRun (W.Sink.took handed.sink result.sink) (W.Mark.stored (begun_mark handed.mark)).floor (W.Mark.stored (mark_in result.publisher)).floor result.outcome }
 {
     let Handed {
@@ -190,7 +174,7 @@ where
     let Ok(core) = C::open_first(alloc, copy, start, floor, &counts) else {
         return not_run(publisher, sink);
     };
-    let blanks = blanks(sources.len() as u64 + 1);
+    let blanks = Blanks::new(sources.len() as u64 + 1);
     let first = First {
         core,
         start,
@@ -238,12 +222,8 @@ pub fn run_node<W: Outside, R: Threads + Wait + Sync>(
     ensures kept { (output_in result.publisher ≡ settings.now.output) × (lead_in result.publisher ≡ plan.now.lead) }
     // Only a mark that stood broken, or whose device failed, ends it by the device's fault.
     ensures mark { IsCausedByMark result.outcome (begun_standing (W.Mark.is_broken (begun_mark handed.mark)) (W.Mark.failures (begun_mark handed.mark))) (standing_of result.publisher) }
-    // And tick by tick: what was put for each tick are the data frames of the node's life, begun with what the mark stored, and then its
-    // layout, after so many ticks as the plan says and where it changed.
-    ensures turned { HasRunAsGiven (λ n g E. StandsFor g E n) (given_of (OfNode settings.now) (W.Mark.stored (begun_mark handed.mark)).start (W.Mark.stored (begun_mark handed.mark)).floor (W.Mark.stored (begun_mark handed.mark)).counts 0) plan.now.layout_every (GivesFrom W.Ticker.gave handed.ticker) (W.Sink.took handed.sink result.sink) (W.Mark.stored (begun_mark handed.mark)) (W.Mark.stored (mark_in result.publisher)) result.outcome }
-    // Each source was read as the stream of its place, each datagram answered in the node's life, and the entries of the totals are what was
-    // counted of each; the fault that is told is the first in the order receivers, aligner, sender.
-    ensures ended { NodeHasEnded settings.now plan.now.layout_every W.Source.told (GivesFrom W.Ticker.gave handed.ticker) (W.Sink.took handed.sink result.sink)
+    // It was one life of a node, begun with what the mark stored, of which the sources gave what came, and the sink took the frames.
+    ensures one { WasOneLife (OfNode settings.now) plan.now.layout_every W.Source.told (GivesFrom W.Ticker.gave handed.ticker) (W.Sink.took handed.sink result.sink)
         (found_by (W.Mark.stored (begun_mark handed.mark)) (begun_standing (W.Mark.is_broken (begun_mark handed.mark)) (W.Mark.failures (begun_mark handed.mark))) (W.Sink.failures_of handed.sink)) (found_by (W.Mark.stored (mark_in result.publisher)) (standing_of result.publisher) (W.Sink.failures_of result.sink)) handed.sources.items result.outcome }
 {
     let life = Life {
@@ -274,8 +254,7 @@ pub fn run_merger<W: Outside, R: Threads + Wait + Sync>(
     ensures each { HasEach result.outcome (vec_len handed.sources) }
     ensures kept { (output_in result.publisher ≡ settings.now.output) × (lead_in result.publisher ≡ plan.now.lead) }
     ensures mark { IsCausedByMark result.outcome (begun_standing (W.Mark.is_broken (begun_mark handed.mark)) (W.Mark.failures (begun_mark handed.mark))) (standing_of result.publisher) }
-    ensures turned { HasRunAsGiven (λ m g E. MergerStandsFor g E m) (given_of (OfMerger settings.now) (W.Mark.stored (begun_mark handed.mark)).start (W.Mark.stored (begun_mark handed.mark)).floor (W.Mark.stored (begun_mark handed.mark)).counts 0) plan.now.layout_every (GivesFrom W.Ticker.gave handed.ticker) (W.Sink.took handed.sink result.sink) (W.Mark.stored (begun_mark handed.mark)) (W.Mark.stored (mark_in result.publisher)) result.outcome }
-    ensures ended { MergerHasEnded settings.now plan.now.layout_every W.Source.told (GivesFrom W.Ticker.gave handed.ticker) (W.Sink.took handed.sink result.sink)
+    ensures one { WasOneLife (OfMerger settings.now) plan.now.layout_every W.Source.told (GivesFrom W.Ticker.gave handed.ticker) (W.Sink.took handed.sink result.sink)
         (found_by (W.Mark.stored (begun_mark handed.mark)) (begun_standing (W.Mark.is_broken (begun_mark handed.mark)) (W.Mark.failures (begun_mark handed.mark))) (W.Sink.failures_of handed.sink)) (found_by (W.Mark.stored (mark_in result.publisher)) (standing_of result.publisher) (W.Sink.failures_of result.sink)) handed.sources.items result.outcome }
 {
     let life = Life {

@@ -1,5 +1,6 @@
 //! A node and the merger, from their files to the end of their run.
 ghost use Rattle.std.specs.Prelude.{◌≡◌, ◌∷◌, IfOk, None, Some, [], vec_len};
+ghost use Rattle.pdc_service.specs.Ended.{kind_of};
 ghost use Rattle.pdc_service.specs.Handed.{WasHanded};
 ghost use Rattle.pdc_service.specs.Summed.{AreSums, HaveEach};
 ghost use Rattle.pdc_startup.specs.Begun.{begun_mark};
@@ -46,7 +47,7 @@ fn serve_linked<M: Machine, S: Source + Send + Drop, R: Host>(
     requires { vec_len linked.sources ≡ streams_of described.now.concentrator }
     ensures totals { IfOk result AreSums }
     ensures each { IfOk result (HaveEach (streams_of described.now.concentrator)) }
-    ensures opened { HasOpened M.tried machine.old machine.new described.now (λ stored. WasHanded M.fresh M.Outputs.took stored result) (Some (M.Mark.stored (begun_mark linked.entry.mark))) (OpenSink ∷ OpenListener ∷ OpenMetrics ∷ []) result }
+    ensures opened { HasOpened M.tried machine.old machine.new described.now (λ described stored. WasHanded M.fresh M.Outputs.took (kind_of described.concentrator) stored result) (Some (M.Mark.stored (begun_mark linked.entry.mark))) (OpenSink ∷ OpenListener ∷ OpenMetrics ∷ []) result }
 {
     let alloc = rt.alloc();
     let concentrator = &described.concentrator;
@@ -90,7 +91,7 @@ fn serve_watched<M: Machine, R: Host>(
 ) -> Result<Totals, ServiceFault>
     ensures totals { IfOk result AreSums }
     ensures each { IfOk result (HaveEach (streams_of described.now.concentrator)) }
-    ensures opened { HasOpened M.tried machine.old machine.new described.now (λ stored. WasHanded M.fresh M.Outputs.took stored result) (Some (M.Mark.stored (begun_mark watched.entry.mark))) (BeginRecord files.now ∷ OpenSources ∷ OpenSink ∷ OpenListener ∷ OpenMetrics ∷ []) result }
+    ensures opened { HasOpened M.tried machine.old machine.new described.now (λ described stored. WasHanded M.fresh M.Outputs.took (kind_of described.concentrator) stored result) (Some (M.Mark.stored (begun_mark watched.entry.mark))) (BeginRecord files.now ∷ OpenSources ∷ OpenSink ∷ OpenListener ∷ OpenMetrics ∷ []) result }
 {
     let Watched { mark, observed } = watched;
     let record = machine.open_record(rt, files, described, &mark)?;
@@ -116,7 +117,7 @@ fn serve_described<M: Machine, R: Host>(
 ) -> Result<Totals, ServiceFault>
     ensures totals { IfOk result AreSums }
     ensures each { IfOk result (HaveEach (streams_of described.now.concentrator)) }
-    ensures opened { HasOpened M.tried machine.old machine.new described.now (λ stored. WasHanded M.fresh M.Outputs.took stored result) None (steps_with files.now) result }
+    ensures opened { HasOpened M.tried machine.old machine.new described.now (λ described stored. WasHanded M.fresh M.Outputs.took (kind_of described.concentrator) stored result) None (steps_with files.now) result }
 {
     let (concentrator, network) = (&described.concentrator, &described.network);
     let (alloc, is_recorded) = (rt.alloc(), files.record.is_some());
@@ -149,9 +150,9 @@ pub fn serve_node<M: Machine, R: Host>(
     ensures totals { IfOk result AreSums }
     // The steps that the machine tried are the first of a startup, in its order, each once and under the settings of a node that were read
     // first; the last of them failed, and it ended by that fault, or all were opened, and it ended by the run's answer. Then, whatever the
-    // machine's outputs are, what they took are some of the frames that were put, in their order, whose instants strictly rise above the
-    // floor that the mark stored as it was begun.
-    ensures started { HasStarted M.tried machine.old machine.new IsNode (λ stored. WasHanded M.fresh M.Outputs.took stored result) files.now result }
+    // machine's outputs are, what they took are some of the frames of one life, in their order, which is given what these settings and the
+    // mark say that was begun; instants strictly rise above the floor that it stored.
+    ensures started { HasStarted M.tried machine.old machine.new IsNode (λ described stored. WasHanded M.fresh M.Outputs.took (kind_of described.concentrator) stored result) files.now result }
 {
     let described = machine.read_node(rt, files)?;
     serve_described(rt, machine, files, options, &described)
@@ -172,7 +173,7 @@ pub fn serve_merger<M: Machine, R: Host>(
     ensures totals { IfOk result AreSums }
     // Node A and node B have an entry each.
     ensures each { IfOk result (HaveEach 2) }
-    ensures started { HasStarted M.tried machine.old machine.new IsMerger (λ stored. WasHanded M.fresh M.Outputs.took stored result) files.now result }
+    ensures started { HasStarted M.tried machine.old machine.new IsMerger (λ described stored. WasHanded M.fresh M.Outputs.took (kind_of described.concentrator) stored result) files.now result }
 {
     let described = machine.read_merger(rt, files)?;
     serve_described(rt, machine, files, options, &described)

@@ -1,6 +1,8 @@
 //! A run with consumers beside it.
 ghost use Rattle.std.specs.Prelude.{◌≡◌, Err, IfErr, IfOk, vec_len};
 ghost use Rattle.pdc_server.specs.Stream.{stream_of};
+ghost use Rattle.pdc_life.specs.CoreKind.{CoreKind};
+ghost use Rattle.pdc_service.specs.Ended.{kind_of};
 ghost use Rattle.pdc_service.specs.Handed.{HasTaken};
 ghost use Rattle.pdc_service.specs.Summed.{AreSums, HaveEach};
 ghost use Rattle.pdc_startup.specs.Begun.{begun_mark};
@@ -170,7 +172,7 @@ fn run_observed<
     ensures totals { IfOk result AreSums }
     ensures each { IfOk result (HaveEach (streams_of serving.now.concentrator.now)) }
     ensures faults { IfErr result IsOfRun }
-    ensures handed { HasTaken K.took opened.entry.sink (M.stored (begun_mark opened.entry.mark)) result }
+    ensures handed { HasTaken K.took opened.entry.sink (kind_of serving.now.concentrator.now) (M.stored (begun_mark opened.entry.mark)) result }
 {
     let (concentrator, options, observed) = (
         serving.concentrator,
@@ -227,7 +229,7 @@ fn not_begun<S: Source + Drop, M: Mark + Drop, K: Sink + Drop>(
     opened: Opened<'_, S, M, K>,
 ) -> Result<Totals, ServiceFault>
     ensures fault { result ≡ Err (Run NoMemory) }
-    ensures handed { HasTaken K.took opened.entry.sink (M.stored (begun_mark opened.entry.mark)) result }
+    ensures handed { (kind : CoreKind) → HasTaken K.took opened.entry.sink kind (M.stored (begun_mark opened.entry.mark)) result }
 {
     drop(opened);
     Err(ServiceFault::Run(HubFault::NoMemory))
@@ -255,7 +257,7 @@ fn conduct<
     ensures totals { IfOk result AreSums }
     ensures each { IfOk result (HaveEach (streams_of serving.now.concentrator.now)) }
     ensures faults { IfErr result IsOfRun }
-    ensures handed { HasTaken K.took opened.entry.sink (M.stored (begun_mark opened.entry.mark)) result }
+    ensures handed { HasTaken K.took opened.entry.sink (kind_of serving.now.concentrator.now) (M.stored (begun_mark opened.entry.mark)) result }
 {
     let mut opened = opened;
     let observed = serving.observed;
@@ -299,7 +301,7 @@ fn run_keeping<
     ensures totals { IfOk result AreSums }
     ensures each { IfOk result (HaveEach (streams_of serving.now.concentrator.now)) }
     ensures faults { IfErr result IsOfRun }
-    ensures handed { HasTaken K.took opened.entry.sink (M.stored (begun_mark opened.entry.mark)) result }
+    ensures handed { HasTaken K.took opened.entry.sink (kind_of serving.now.concentrator.now) (M.stored (begun_mark opened.entry.mark)) result }
 {
     thread::scope(
         thread::scope_env(),
@@ -310,7 +312,7 @@ fn run_keeping<
             ensures totals { IfOk result AreSums }
             ensures each { IfOk result (HaveEach (streams_of serving.entry.now.concentrator.now)) }
             ensures faults { IfErr result IsOfRun }
-            ensures handed { HasTaken K.took opened.entry.sink (M.stored (begun_mark opened.entry.mark)) result }
+            ensures handed { HasTaken K.took opened.entry.sink (kind_of serving.entry.now.concentrator.now) (M.stored (begun_mark opened.entry.mark)) result }
         { conduct(scope, rt, alloc, serving, opened, recent) },
     )
 }
@@ -333,7 +335,7 @@ fn run_named<
     ensures totals { IfOk result AreSums }
     ensures each { IfOk result (HaveEach (streams_of serving.now.concentrator.now)) }
     ensures faults { IfErr result IsOfRun }
-    ensures handed { HasTaken K.took opened.entry.sink (M.stored (begun_mark opened.entry.mark)) result }
+    ensures handed { HasTaken K.took opened.entry.sink (kind_of serving.now.concentrator.now) (M.stored (begun_mark opened.entry.mark)) result }
 {
     let output = serving.concentrator.output();
     let Ok(recent) = Recent::<N>::new(alloc, &output, opened.mark.start()) else {
@@ -358,7 +360,7 @@ pub fn run_serving<
     ensures totals { IfOk result AreSums }
     ensures each { IfOk result (HaveEach (streams_of serving.now.concentrator.now)) }
     ensures faults { IfErr result IsOfRun }
-    ensures handed { HasTaken K.took opened.entry.sink (M.stored (begun_mark opened.entry.mark)) result }
+    ensures handed { HasTaken K.took opened.entry.sink (kind_of serving.now.concentrator.now) (M.stored (begun_mark opened.entry.mark)) result }
 {
     run_named::<S, M, K, Brand, R>(rt, alloc, serving, opened)
 }

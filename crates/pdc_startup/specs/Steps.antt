@@ -66,32 +66,32 @@ known before None = before
 -- These steps were tried in this order, each once, under these settings, up to the first that failed. Where none failed, all were tried, and
 -- the startup ended by the run's answer, and the run was such as runs are that begin with what the mark stores; or memory ran out between
 -- two of them, and the rest were not tried.
-abbrev pub AreInOrder : {T : Type 0} → Described → (Ran : Stored → Type 0) (stored : Option Stored) (steps : List Step) (attempts : List Attempt) (outcome : Result T ServiceFault) → Type 0
-AreInOrder described Ran stored [] attempts outcome = (attempts ≡ []) × IfErr outcome IsOfRun × IfSome stored Ran
+abbrev pub AreInOrder : {T : Type 0} → Described → (Ran : Described → Stored → Type 0) (stored : Option Stored) (steps : List Step) (attempts : List Attempt) (outcome : Result T ServiceFault) → Type 0
+AreInOrder described Ran stored [] attempts outcome = (attempts ≡ []) × IfErr outcome IsOfRun × IfSome stored (Ran described)
 AreInOrder described Ran stored (step ∷ steps) [] outcome = outcome ≡ Err (Run NoMemory)
 AreInOrder described Ran stored (step ∷ steps) (a ∷ attempts) outcome =
     (a.step ≡ step) × (a.under ≡ Some described) × GoesOn step a.fault (AreInOrder described Ran (known stored a.stored) steps attempts outcome) attempts outcome
 
 -- What was read goes before: where it failed, nothing more was tried; where not, the steps follow under what was read, which is of a node, or
 -- of the merger.
-abbrev pub FollowsReading : {T : Type 0} (Is : Concentrator → Type 0) (Ran : Stored → Type 0) → Files → (under : Option Described) (fault : Option ServiceFault) (later : List Attempt) (outcome : Result T ServiceFault) → Type 0
+abbrev pub FollowsReading : {T : Type 0} (Is : Concentrator → Type 0) (Ran : Described → Stored → Type 0) → Files → (under : Option Described) (fault : Option ServiceFault) (later : List Attempt) (outcome : Result T ServiceFault) → Type 0
 FollowsReading Is Ran files (Some described) None later outcome = Is described.concentrator × AreInOrder described Ran None (steps_with files) later outcome
 FollowsReading Is Ran files None (Some fault) later outcome = IsOfFile fault × (later ≡ []) × (outcome ≡ Err fault)
 FollowsReading Is Ran files _ _ later outcome = ⊥
 
 -- the whole of a startup: the settings were read first, and then the steps followed in their order
-abbrev pub IsStartup : {T : Type 0} (Is : Concentrator → Type 0) (Ran : Stored → Type 0) → Files → (attempts : List Attempt) (outcome : Result T ServiceFault) → Type 0
+abbrev pub IsStartup : {T : Type 0} (Is : Concentrator → Type 0) (Ran : Described → Stored → Type 0) → Files → (attempts : List Attempt) (outcome : Result T ServiceFault) → Type 0
 IsStartup Is Ran files [] outcome = ⊥
 IsStartup Is Ran files (a ∷ attempts) outcome = (a.step ≡ ReadSettings files) × FollowsReading Is Ran files a.under a.fault attempts outcome
 
 -- From the one state of the machine to the other these steps were tried, and so it ended.
-pub record HasOpened {M T : Type 0} (tried : M → M → List Attempt → Type 0) (old new : M) (described : Described) (Ran : Stored → Type 0) (stored : Option Stored) (steps : List Step) (outcome : Result T ServiceFault) : Type 0 where
+pub record HasOpened {M T : Type 0} (tried : M → M → List Attempt → Type 0) (old new : M) (described : Described) (Ran : Described → Stored → Type 0) (stored : Option Stored) (steps : List Step) (outcome : Result T ServiceFault) : Type 0 where
   pub attempts : List Attempt
   pub told : Tells tried old new attempts
   pub in_order : AreInOrder described Ran stored steps attempts outcome
 
 -- From the one state of the machine to the other a whole startup was tried.
-pub record HasStarted {M T : Type 0} (tried : M → M → List Attempt → Type 0) (old new : M) (Is : Concentrator → Type 0) (Ran : Stored → Type 0) (files : Files) (outcome : Result T ServiceFault) : Type 0 where
+pub record HasStarted {M T : Type 0} (tried : M → M → List Attempt → Type 0) (old new : M) (Is : Concentrator → Type 0) (Ran : Described → Stored → Type 0) (files : Files) (outcome : Result T ServiceFault) : Type 0 where
   pub attempts : List Attempt
   pub told : Tells tried old new attempts
   pub in_order : IsStartup Is Ran files attempts outcome

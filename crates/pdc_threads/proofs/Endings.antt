@@ -1,25 +1,20 @@
 -- How receivers ended, on plain variables.
 use Rattle.std.proofs.Common.{arith, ◌≡◌, ◌≤◌, ℕ, ◌+◌, Bool, true, List, [], ◌∷◌, ◌++◌, length, map, sum, drop, Option, None, Some, IfSome, refl, sym, ap, ◌∙◌, subst, append_assoc}
 use lib.ListN.{length-drop}
+use mathlib.Core.List.{IsPrefix}
+use Rattle.std.proofs.Math.Logic.{∥∥₁_map}
 use Rattle.std.proofs.lemmas.List.Sums.{sum-map, sum_by_push}
 use Rattle.pdc_hub.specs.Faults.{IsOfReceiver}
-use Rattle.pdc_hub.specs.Received.{EndsBy, HasReceived, IsAnswerFor}
-use Rattle.pdc_hub.specs.Replay.{Lives, Sayings}
+use Rattle.pdc_hub.specs.Received.{AreBrought, EndsBy, HasReceived}
+use Rattle.pdc_hub.proofs.Receiving.{among_prefix, brought_grows}
 use Rattle.pdc_hub.specs.declared.fault.HubFault.{HubFault}
+use Rattle.pdc_log.specs.Log.{brought, life_of}
 use Rattle.pdc_hub.specs.declared.fault.HubFault.TheVariants.{SourceFault, SinkFault, NoMemory, CountsUsedUp, Device, Stuck}
-use Rattle.pdc_life.specs.Answer.{Rules}
+use Rattle.pdc_life.specs.Answer.{ReadStep, Rules}
 use Rattle.pdc_life.specs.Given.{Given}
 use Rattle.pdc_ports.specs.Heard.{Heard, Gave, Idled, Ended, Failed, GaveUp, HasTold}
 use Rattle.pdc_threads.specs.Ended.{AreFor, Ending, HasEndedAs, HasEndedOf, HaveJoined, ending_by, first_of, or_else}
 use Rattle.pdc_threads.specs.declared.receivers.Counted.{Counted}
-
-abbrev held : {K : Type 0} → Option K → K → K
-held None other = other
-held (Some k) other = k
-
--- the settings that are named are one
-same_named : {K : Type 0} (settings : Option K) (a b : K) → settings ≡ Some a → settings ≡ Some b → a ≡ b
-same_named settings a b p q = ap (λ o. held o a) (sym p ∙ q)
 
 -- whether the hub was closed is not asked here
 ends_by : (Closed : Type 0) (last : Heard) (fault : Option HubFault) → EndsBy Closed last fault → EndsBy (Unit {0}) last fault
@@ -44,15 +39,43 @@ ends_by Closed GaveUp (Some Device) e = absurd e
 ends_by Closed GaveUp (Some Stuck) e = tt
 ends_by Closed GaveUp None e = absurd e
 
--- what a receiver of a source ended by, whatever settings are named
-pub ended_as : {C S K Closed : Type 0} (rules : Rules) (Stands : C → Lives) (named : Option Given) (settings : Option K) (says : K → Sayings) (told : S → List Heard → Type 0)
-    (old new : S) (now : K) (stream taken refused : ℕ) (fault : Option HubFault)
-    → settings ≡ Some now → HasReceived (HasTold told old new) (IsAnswerFor rules Stands named (says now) stream) Closed taken refused fault → IfSome fault IsOfReceiver
-    → HasEndedAs rules Stands named settings says told old stream (ending_by taken refused fault)
-ended_as {Closed = Closed} rules Stands named settings says told old new now stream taken refused fault p h cause = (
-  λ other q. subst (λ k. HasEndedOf told (IsAnswerFor rules Stands named (says k)) old stream (ending_by taken refused fault)) (same_named settings now other p q)
-      record { served = h.served; last = h.last; told = (new, h.told); outcomes = h.outcomes; are_served = h.are_served; ends = ends_by Closed h.last fault h.ends; taken_counted = h.taken_counted; refused_counted = h.refused_counted },
+-- what a receiver of a source ended by
+pub ended_as : {S Closed : Type 0} (rules : Rules) (named : Option Given) (told : S → List Heard → Type 0) (seen : List ReadStep) (old new : S) (stream taken refused configured : ℕ) (fault : Option HubFault)
+    → HasReceived (HasTold told old new) (AreBrought rules named stream seen) Closed taken refused configured fault → IfSome fault IsOfReceiver
+    → HasEndedAs rules named told seen old stream (ending_by taken refused configured fault)
+ended_as {Closed = Closed} rules named told seen old new stream taken refused configured fault h cause = (
+  record {
+    served = h.served;
+    last = h.last;
+    told = (new, h.told);
+    own = h.own;
+    are_served = h.are_served;
+    are_brought = h.are_brought;
+    ends = ends_by Closed h.last fault h.ends;
+    taken_counted = h.taken_counted;
+    refused_counted = h.refused_counted;
+    all_counted = h.all_counted;
+  },
   cause,
+)
+
+-- what it has stands among more, once more was seen
+pub ended_seen : {S : Type 0} (rules : Rules) (named : Option Given) (told : S → List Heard → Type 0) (seen more : List ReadStep) (source : S) (stream : ℕ) (e : Ending)
+    → IsPrefix seen more → HasEndedAs rules named told seen source stream e → HasEndedAs rules named told more source stream e
+ended_seen rules named told seen more source stream e p h = (
+  record {
+    served = h.0.served;
+    last = h.0.last;
+    told = h.0.told;
+    own = h.0.own;
+    are_served = h.0.are_served;
+    are_brought = λ g is. ∥∥₁_map (h.0.are_brought g is) (λ a. among_prefix h.0.own (brought stream (life_of rules g seen)) (brought stream (life_of rules g more)) a (brought_grows stream rules g seen more p));
+    ends = h.0.ends;
+    taken_counted = h.0.taken_counted;
+    refused_counted = h.0.refused_counted;
+    all_counted = h.0.all_counted;
+  },
+  h.1,
 )
 
 -- one more, for what stands at its place
@@ -111,28 +134,36 @@ pub is_either : (a b : Option HubFault) → IfSome a IsOfReceiver → IfSome b I
 is_either (Some fault) b p q = p
 is_either None b p q = q
 
-pub joined_on : {H : Type 0} (Kept : H → ℕ → Ending → Type 0) (handles : List H) (handle : H) (old rest : List H) (counted more : List Counted) (fault later : Option HubFault) (before after : Bool) (ending : Ending)
-    → old ≡ handle ∷ rest → later ≡ or_else fault ending.fault → HaveJoined Kept handles old counted fault before → ((n : ℕ) → Kept handle n ending)
-    → (after ≡ true → (before ≡ true) × (more ≡ counted ++ ending.counted ∷ [])) → HaveJoined Kept handles rest more later after
-joined_on Kept handles handle old rest counted more fault later before after ending o l h kept m = record {
+-- one more is counted
+pub sum_pushed : {A : Type 0} (f : A → ℕ) (xs more : List A) (x : A) → more ≡ xs ++ x ∷ [] → sum (map f more) ≡ sum (map f xs) + f x
+sum_pushed f xs more x m = ap (λ l. sum (map f l)) m ∙ (sum-map f (xs ++ x ∷ []) ∙ (sum_by_push f xs x ∙ ap (λ n. n + f x) (sym (sum-map f xs))))
+
+-- the same by another word
+for_same : {S E : Type 0} (Fits Other : S → ℕ → E → Type 0) (number : ℕ) (ss : List S) (es : List E) → ((s : S) (n : ℕ) (e : E) → Fits s n e → Other s n e) → AreFor Fits number ss es → AreFor Other number ss es
+for_same Fits Other number ss [] f h = tt
+for_same Fits Other number [] (e ∷ es) f h = absurd h
+for_same Fits Other number (s ∷ ss) (e ∷ es) f h = (f s number e h.0, for_same Fits Other (number + 1) ss es f h.1)
+
+pub joined_on : {H : Type 0} (Kept Now : H → ℕ → Ending → Type 0) (handles : List H) (handle : H) (old rest : List H) (counted more : List Counted) (configured most : ℕ) (fault later : Option HubFault) (before after : Bool) (ending : Ending)
+    → ((h : H) (n : ℕ) (e : Ending) → Kept h n e → Now h n e)
+    → old ≡ handle ∷ rest → later ≡ or_else fault ending.fault → HaveJoined Kept handles old counted configured fault before → ((n : ℕ) → Now handle n ending)
+    → (after ≡ true → (before ≡ true) × (more ≡ counted ++ ending.counted ∷ [])) → most ≡ configured + ending.configured → HaveJoined Now handles rest more most later after
+joined_on Kept Now handles handle old rest counted more configured most fault later before after ending grows o l h kept m n = record {
   endings = h.endings ++ ending ∷ [];
-  are_kept = for_more Kept 0 handles h.endings handle rest ending h.are_kept (h.left ∙ o) (kept (0 + length h.endings));
+  are_kept = for_more Now 0 handles h.endings handle rest ending (for_same Kept Now 0 handles h.endings grows h.are_kept) (h.left ∙ o) (kept (0 + length h.endings));
   left = drop_past handles h.endings handle rest ending (h.left ∙ o);
   first = first_more h.endings ending ∙ (ap (λ f. or_else f ending.fault) h.first ∙ sym l);
   entries = λ t. (m t).1 ∙ (ap (λ l. l ++ ending.counted ∷ []) (h.entries (m t).0) ∙ sym (map_more (λ e. e.counted) h.endings ending));
+  all_configured = λ t. omega (arith, n, h.all_configured (m t).0, sum_pushed (λ e. e.configured) h.endings (h.endings ++ ending ∷ []) ending refl);
 }
 
 -- where nothing is left, all were joined
-pub joined_all : {H : Type 0} (Kept : H → ℕ → Ending → Type 0) (handles : List H) (counted : List Counted) (fault : Option HubFault) (complete : Bool) (h : HaveJoined Kept handles [] counted fault complete) → length h.endings ≡ length handles
-joined_all Kept handles counted fault complete h = omega (arith, for_few Kept 0 handles h.endings h.are_kept, sym (length-drop (length h.endings) handles) ∙ ap length h.left)
+pub joined_all : {H : Type 0} (Kept : H → ℕ → Ending → Type 0) (handles : List H) (counted : List Counted) (configured : ℕ) (fault : Option HubFault) (complete : Bool) (h : HaveJoined Kept handles [] counted configured fault complete) → length h.endings ≡ length handles
+joined_all Kept handles counted configured fault complete h = omega (arith, for_few Kept 0 handles h.endings h.are_kept, sym (length-drop (length h.endings) handles) ∙ ap length h.left)
 
 pub nothing_left : {X : Type 0} (l : List X) → length l ≡ 0 → l ≡ []
 nothing_left [] h = refl
 nothing_left (x ∷ xs) h = absurd (omega arith)
-
--- one more is counted
-pub sum_pushed : {A : Type 0} (f : A → ℕ) (xs more : List A) (x : A) → more ≡ xs ++ x ∷ [] → sum (map f more) ≡ sum (map f xs) + f x
-sum_pushed f xs more x m = ap (λ l. sum (map f l)) m ∙ (sum-map f (xs ++ x ∷ []) ∙ (sum_by_push f xs x ∙ ap (λ n. n + f x) (sym (sum-map f xs))))
 
 length_more : {A : Type 0} (xs : List A) (x : A) → length (xs ++ x ∷ []) ≡ length xs + 1
 length_more [] x = omega arith

@@ -1,2 +1,3 @@
 mod Endings
+mod Meetings
 mod Outcomes

@@ -1,25 +1,32 @@
 -- What a run tells of what was put.
-use Rattle.std.proofs.Common.{arith, rules, ◌≡◌, ◌≤◌, ◌+◌, ℕ, length, Option, Result, Ok, Err, IfOk, OnOk, Bool, true, false, List, [], ◌∷◌, ◌++◌, map, refl, sym, ap, ◌∙◌, subst, append-nil, vec_len}
+use Rattle.std.proofs.Common.{arith, rules, ◌≡◌, ◌≤◌, ◌+◌, ℕ, length, Option, Some, Result, Ok, Err, IfOk, OnOk, Bool, true, false, if◌then◌else◌, List, [], ◌∷◌, ◌++◌, map, refl, sym, ap, ◌∙◌, subst, append-nil, vec_len}
+use Rattle.pdc_aligner.specs.Device.{Standing}
+use Rattle.pdc_aligner.specs.Laid.{IsLaidBut}
 use Rattle.pdc_aligner.specs.Sequence.{HasPutAll, Rises, instants_of}
+use Rattle.pdc_aligner.specs.Turns.{HasGiven, HasTicked}
 use Rattle.pdc_aligner.specs.declared.pace.Pace.{Pace}
-use Rattle.pdc_aligner.specs.Turns.{IsAligned, end_mark}
-use Rattle.pdc_life.specs.Given.{Given}
-use Rattle.pdc_row.specs.declared.output.Output.{Output}
-use Rattle.pdc_hub.specs.Received.{Answering}
-use Rattle.pdc_hub.specs.Replay.{Lives}
+use Rattle.pdc_aligner.proofs.Laying.{begins_laid, but_end, laid_but}
+use Rattle.pdc_hub.specs.Replay.{Sayings}
+use Rattle.pdc_hub.specs.declared.fault.HubFault.{HubFault}
 use Rattle.pdc_hub.specs.declared.fault.HubFault.TheVariants.{NoMemory}
-use Rattle.pdc_ports.specs.Heard.{Heard}
+use Rattle.pdc_life.specs.Answer.{ReadStep, Rules}
+use Rattle.pdc_life.specs.Given.{Given}
+use Rattle.pdc_log.specs.Log.{InTheLife, life_of, ticks_of}
+use Rattle.pdc_mark.specs.declared.stored.Stored.{Stored}
+use Rattle.pdc_pipe.specs.HandedOn.{HasHandedOn, HasSinkCause}
+use Rattle.pdc_pipe.specs.Sequence.{bytes_of}
 use Rattle.pdc_pipe.specs.declared.message.Message.{Message}
 use Rattle.pdc_pipe.specs.declared.message.Message.TheVariants.{End}
 use Rattle.pdc_pipe.specs.declared.senders.Ended.{Ended}
 use Rattle.pdc_pipe.specs.declared.senders.Ended.TheVariants.{AtEndMark, AlignerGone}
-use Rattle.pdc_pipe.specs.HandedOn.{HasHandedOn, HasSinkCause}
-use Rattle.pdc_hub.specs.declared.fault.HubFault.{HubFault}
-use Rattle.pdc_threads.specs.declared.telling.Totals.{Totals}
-use Rattle.pdc_threads.specs.Conducted.{HasConducted, Publishing}
-use Rattle.pdc_threads.specs.Ended.{Ending, fault_in, first_fault, first_of}
-use Rattle.pdc_threads.specs.Run.{ArePublished, GivesFrom, HasEach}
+use Rattle.pdc_ports.specs.Heard.{Heard}
+use Rattle.pdc_row.specs.declared.output.Output.{Output}
 use Rattle.pdc_threads.specs.declared.receivers.Counted.{Counted}
+use Rattle.pdc_threads.specs.declared.telling.Totals.{Totals}
+use Rattle.pdc_threads.specs.Conducted.{HasConducted}
+use Rattle.pdc_threads.specs.Ended.{Ending, fault_in, first_fault, first_of}
+use Rattle.pdc_threads.specs.OneRun.{found_by}
+use Rattle.pdc_threads.specs.Run.{ArePublished, GivesFrom, HasEach}
 
 -- an Ok run handed all of it on
 pub all_handed_on : {Took : List (List ℕ) → Type 0} (outcome : Result Totals HubFault) (put : List Message) (ended : Ended) (sent : HasHandedOn Took put ended) → OnOk outcome (ended ≡ AtEndMark) → OnOk outcome (sent.rest ≡ [])
@@ -41,48 +48,38 @@ all_popped (Ok totals) aligned first popped put same is h =
     omega (arith, n, all.all, all.whole)
 all_popped (Err fault) aligned first popped put same is h = tt
 
--- the ticks of what was aligned are those of the run
-pub all_aligned : {C : Type 0} (Stands : C → Lives) (named : Option Given) (output : Output) (rate every : ℕ) (first last : List ℕ) (Gave : List ℕ → Type 0) (outcome : Result Totals HubFault) (aligned : Result ℕ HubFault) (put : List Message)
-    → IfOk outcome (λ totals. aligned ≡ Ok totals.published) → IsAligned Stands named output rate every first last Gave aligned put → IsAligned Stands named output rate every first last Gave outcome put
-all_aligned Stands named output rate every first last Gave (Ok totals) aligned put same h =
-    let t : IsAligned {A = ℕ} Stands named output rate every first last Gave (Ok totals.published) put = subst (λ r. IsAligned Stands named output rate every first last Gave r put) same h in
-    let w = t.turned in
-    record {
-      before = t.before;
-      turned = record { turns = w.turns; laid = w.laid; failed = w.failed; are_turns = w.are_turns; given = w.given; one_failed = w.one_failed; rows_last = w.rows_last; whole = w.whole };
-      has_ended = t.has_ended;
-      ended = t.ended;
-      whole = t.whole;
-    }
-all_aligned Stands named output rate every first last Gave (Err fault) aligned put same h =
-    let w = h.turned in
-    record {
-      before = h.before;
-      turned = record { turns = w.turns; laid = w.laid; failed = w.failed; are_turns = w.are_turns; given = w.given; one_failed = w.one_failed; rows_last = w.rows_last; whole = tt };
-      has_ended = h.has_ended;
-      ended = h.ended;
-      whole = tt;
-    }
+-- the end mark, where it was put
+abbrev pub end_mark : Bool → List Message
+end_mark ended = if ended then End ∷ [] else []
 
--- Where nothing was aligned, nothing was put but the end mark at most, and the ticker was not asked.
-pub none_aligned : {C I A : Type 0} (Stands : C → Lives) (named : Option Given) (output : Output) (rate every : ℕ) (first : List ℕ) (gave : I → List ℕ → Type 0) (ticker : I) (fault : HubFault) (ended : Bool) (put : List Message)
-    → put ≡ end_mark ended → IsAligned {A = A} Stands named output rate every first first (GivesFrom gave ticker) (Err fault) put
-none_aligned Stands named output rate every first gave ticker fault ended put e = record {
-  before = [];
-  turned = record {
-    turns = [];
-    laid = [];
-    failed = [];
-    are_turns = record { answered = tt; stored = λ column. omega arith; laid = refl };
-    given = (ticker, λ before g. subst (λ (ns : List ℕ). gave ticker ns) (sym (append-nil before)) g);
-    one_failed = omega arith;
-    rows_last = record { frames = []; are_data = tt; behind = refl };
-    whole = tt;
-  };
-  has_ended = ended;
-  ended = e;
+-- which is no frame
+none_sent : (ended : Bool) → bytes_of (end_mark ended) ≡ []
+none_sent true = refl
+none_sent false = refl
+
+-- Where nothing was aligned, nothing was put but the end mark at most,
+pub none_laid : (rules : Rules) (named : Option Given) (output : Output) (rate every : ℕ) (seen : List ReadStep) (ended : Bool) (put : List Message) → put ≡ end_mark ended
+    → InTheLife rules named seen (λ g E. E ≡ []) → IsLaidBut rules named output rate every seen put
+none_laid rules named output rate every seen ended put e begun =
+    but_end rules named output rate every seen [] put (ap bytes_of e ∙ none_sent ended) (laid_but rules named output rate every seen [] (begins_laid rules named output rate every seen [] refl begun))
+
+-- and the ticker was not asked.
+pub none_ticked : {I T : Type 0} (gave : I → List ℕ → Type 0) (ticker : I) (counts : List ℕ) (fault : HubFault) (seen : List ReadStep) → seen ≡ [] → HasTicked {T = T} (GivesFrom gave ticker) counts counts (ticks_of seen) (Err fault)
+none_ticked {T = T} gave ticker counts fault seen e = subst (λ (l : List ReadStep). HasTicked {T = T} (GivesFrom gave ticker) counts counts (ticks_of l) (Err fault)) (sym e) record {
+  failed = [];
+  given = (ticker, λ before g. subst (λ (ns : List ℕ). gave ticker ns) (sym (append-nil before)) g);
+  one_failed = omega arith;
   whole = tt;
+  stored = λ column. omega arith;
 }
+
+-- what it gave up to a state, it gave from the first
+pub gives_from : {I T : Type 0} (gave : I → List ℕ → Type 0) (old new : I) (first last : List ℕ) (ticks : List (ℕ × List ℕ)) (r : Result T HubFault) → HasTicked (HasGiven gave old new) first last ticks r → HasTicked (GivesFrom gave old) first last ticks r
+gives_from gave old new first last ticks r h = record { failed = h.failed; given = (new, h.given); one_failed = h.one_failed; whole = h.whole; stored = h.stored }
+
+-- before the first step
+pub begun_life : (rules : Rules) (named : Option Given) (seen : List ReadStep) → ((g : Given) × (named ≡ Some g)) → seen ≡ [] → InTheLife rules named seen (λ g E. E ≡ [])
+begun_life rules named seen g e = ∣ (g.0, g.1, ap (life_of rules g.0) e) ∣₁
 
 -- the end mark alone, or nothing
 pub ended_or_not : (put after : List Message) (r : Bool) → put ≡ [] → (r ≡ true → after ≡ put ++ End ∷ []) → (r ≡ false → after ≡ put) → after ≡ end_mark r
@@ -93,6 +90,10 @@ ended_or_not put after false e h k = k refl ∙ e
 pub all_each : (outcome : Result Totals HubFault) (receivers count : ℕ) (complete : Bool) → IfOk outcome (λ totals. (vec_len totals.receivers ≡ receivers) × (complete ≡ true)) → (complete ≡ true → receivers ≡ count) → HasEach outcome count
 all_each (Ok totals) receivers count complete same h = same.0 ∙ h same.1
 all_each (Err fault) receivers count complete same h = tt
+
+pub all_complete : (outcome : Result Totals HubFault) (receivers : ℕ) (complete : Bool) → IfOk outcome (λ totals. (vec_len totals.receivers ≡ receivers) × (complete ≡ true)) → OnOk outcome (complete ≡ true)
+all_complete (Ok totals) receivers complete same = same.1
+all_complete (Err fault) receivers complete same = tt
 
 -- and they are what the receivers counted
 pub all_entries : (outcome : Result Totals HubFault) (receivers : List Counted) (count : ℕ) (endings : List Ending) (complete : Bool) → IfOk outcome (λ totals. (vec_len totals.receivers ≡ count) × (complete ≡ true))
@@ -117,12 +118,13 @@ none_popped popped fault ended put e = record { lost = 0; all = omega (arith, ap
 pub nothing_sent : {Took : List (List ℕ) → Type 0} → Took [] → HasHandedOn Took [] AlignerGone
 nothing_sent took = record { given = []; rest = []; took = took; first = refl; whole = search rules }
 
--- Where nothing was aligned for want of memory, it ran so, with no receiver that is told of.
-pub none_conducted : {C S I : Type 0} (Stands : C → Lives) (named : Option Given) (Answers : ℕ → Answering) (told : S → List Heard → Type 0) (sources : List S) (pace : Pace) (gave : I → List ℕ → Type 0) (ticker : I)
-    {Took : List (List ℕ) → Type 0} (failures more : ℕ) (publishing : Publishing) (put : List Message) (ended : Bool) (sent : Ended)
-    → put ≡ end_mark ended → HasHandedOn Took put sent → HasSinkCause sent failures more → publishing.last ≤ publishing.stored.floor
-    → HasConducted Stands named Answers told sources pace (GivesFrom gave ticker) Took failures more publishing publishing (Err NoMemory)
-none_conducted Stands named Answers told sources pace gave ticker failures more publishing put ended sent e t cause low =
+-- Where nothing was aligned for want of memory, it ran so, with no step and no receiver that is told of.
+pub none_conducted : {S I : Type 0} (answers : Rules) (Says : Sayings) (named : Option Given) (told : S → List Heard → Type 0) (sources : List S) (pace : Pace) (gave : I → List ℕ → Type 0) (ticker : I)
+    {Took : List (List ℕ) → Type 0} (output : Output) (lead last popped : ℕ) (stored : Stored) (standing : Standing) (failures more : ℕ) (put : List Message) (ended : Bool) (sent : Ended)
+    → put ≡ end_mark ended → HasHandedOn Took put sent → HasSinkCause sent failures more → last ≤ stored.floor
+    → HasConducted answers Says named told sources pace (GivesFrom gave ticker) Took (record { output = output; lead = lead; last = last; popped = popped; found = found_by stored standing failures })
+    (record { output = output; lead = lead; last = last; popped = popped; found = found_by stored standing more }) (Err NoMemory)
+none_conducted answers Says named told sources pace gave ticker output lead last popped stored standing failures more put ended sent e t cause low =
     let none : instants_of put ≡ [] = ap instants_of e ∙ none_put ended in record {
       totals = tt;
       each = tt;
@@ -130,33 +132,38 @@ none_conducted Stands named Answers told sources pace gave ticker failures more 
       sink = search rules;
       mark = search rules;
       popped = tt;
-      turned = record {
-        run = record {
-          put = put;
-          given = t.given;
-          rest = t.rest;
-          took = t.took;
-          first = t.first;
-          rising = subst (λ (ns : List ℕ). Rises publishing.last ns publishing.stored.floor) (sym none) low;
-          whole = tt;
-          published = tt;
-        };
-        aligned = none_aligned Stands named publishing.output pace.rate pace.layout_every publishing.stored.counts gave ticker NoMemory ended put e;
-      };
-      ended = record {
-        endings = [];
-        are_ended = tt;
-        complete = false;
-        whole = search rules;
-        entries = tt;
+      run = record {
         put = put;
-        aligned = Err NoMemory;
-        is_aligned = (
-          none_aligned Stands named publishing.output pace.rate pace.layout_every publishing.stored.counts gave ticker NoMemory ended put e,
-          record { no_fewer = omega arith; caused = search rules; sound = tt },
-        );
-        sent = sent;
-        is_sent = (t, cause);
-        told = refl;
+        given = t.given;
+        rest = t.rest;
+        took = t.took;
+        first = t.first;
+        rising = subst (λ (ns : List ℕ). Rises last ns stored.floor) (sym none) low;
+        whole = tt;
+        published = tt;
       };
+      one = λ g is. ∣ record {
+        steps = [];
+        is_life = tt;
+        complete = false;
+        endings = [];
+        received = tt;
+        all_came = search rules;
+        failed = [];
+        ticked = (ticker, λ before g. subst (λ (ns : List ℕ). gave ticker ns) (sym (append-nil before)) g);
+        one_failed = omega arith;
+        counts = λ column. omega arith;
+        all_due = refl;
+        given = t.given;
+        rest = t.rest;
+        took = t.took;
+        sent = sym (ap bytes_of e ∙ none_sent ended) ∙ t.first;
+        whole = tt;
+        entries = tt;
+        aligned = Err NoMemory;
+        device = record { no_fewer = omega arith; caused = search rules; sound = tt };
+        ended = sent;
+        sink = cause;
+        told_fault = refl;
+      } ∣₁;
     }

@@ -1,15 +1,10 @@
 -- What a run of the receivers, the aligner and the sender did.
-use Rattle.std.specs.Prelude.{◌≡◌, ℕ, ◌+◌, Option, List, [], ◌++◌, length, map, sum, IfOk, IsErrOf, OnOk, Result, vec_len}
-use Rattle.pdc_aligner.specs.declared.pace.Pace.{Pace}
+use Rattle.std.specs.Prelude.{◌≡◌, ℕ, ◌+◌, List, [], ◌++◌, length, map, sum, IfOk, IsErrOf, OnOk, Result, vec_len}
 use Rattle.pdc_aligner.specs.Sequence.{Rises, instants_of}
-use Rattle.pdc_aligner.specs.Turns.{HasGiven, IsAligned}
+use Rattle.pdc_aligner.specs.Turns.{HasGiven}
 use Rattle.pdc_aligner.specs.Device.{IsDown, Standing}
-use Rattle.pdc_life.specs.Given.{Given}
-use Rattle.pdc_row.specs.declared.output.Output.{Output}
-use Rattle.pdc_mark.specs.declared.stored.Stored.{Stored}
 use Rattle.pdc_hub.specs.declared.fault.HubFault.{HubFault}
 use Rattle.pdc_hub.specs.declared.fault.HubFault.TheVariants.{Device, SinkFault}
-use Rattle.pdc_hub.specs.Replay.{Lives}
 use Rattle.pdc_pipe.specs.declared.message.Message.{Message}
 use Rattle.pdc_pipe.specs.Sequence.{bytes_of}
 use Rattle.pdc_ports.specs.Failures.{HasRisen}
@@ -34,12 +29,6 @@ pub record HasRun (Took : List (List ℕ) → Type 0) (low high : ℕ) (outcome 
 -- From this state on a ticker gave these instants, in order.
 abbrev pub GivesFrom : {I : Type 0} (gave : I → List ℕ → Type 0) (ticker : I) → List ℕ → Type 0
 GivesFrom {I} gave ticker nows = (after : I) × HasGiven gave ticker after nows
-
--- It ran so above the last instant that was published, with the mark that was stored before and the one that is stored then, and what was
--- put was put tick by tick of those that the ticker gave.
-pub record HasRunInTurns {C : Type 0} (Stands : C → Lives) (named : Option Given) (output : Output) (pace : Pace) (Gave : List ℕ → Type 0) (Took : List (List ℕ) → Type 0) (last : ℕ) (before after : Stored) (outcome : Result Totals HubFault) : Type 0 where
-  pub run : HasRun Took last after.floor outcome
-  pub aligned : IsAligned Stands named output pace.rate pace.layout_every before.counts after.counts Gave outcome run.put
 
 -- Where the run ended by the sink's fault, the sink's failures rose from the one number to the other.
 abbrev pub IsCausedBySink : (outcome : Result Totals HubFault) (before after : ℕ) → Type 0

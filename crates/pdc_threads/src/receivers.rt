@@ -1,5 +1,6 @@
 //! The receivers: each in a thread of its own, started and joined.
 ghost use Rattle.std.specs.Prelude.{◌≡◌, ◌≤◌, ◌<◌, ◌+◌, ◌++◌, ℕ, IfSome, List, Some, [], length, map, sum, true, vec_len};
+ghost use mathlib.Core.List.{IsPrefix};
 ghost use Rattle.pdc_hub.specs.Counted.{HasSameAmounts};
 ghost use Rattle.pdc_hub.specs.Faults.{IsOfReceiver};
 ghost use Rattle.pdc_threads.specs.Ended.{AreFor, HasEndedAs, HaveJoined, ending_by, or_else};
@@ -76,7 +77,7 @@ pub struct Receives<C: Core, N: Naming<C::Settings>, S> {
 impl<C: Core, N: Naming<C::Settings>, S: Source> Promise<Delivered<N>> for Receives<C, N, S> {
     ghost use Rattle.pdc_threads.specs.Ended.{HasEndedAs, ending_by};
 
-    ghost kept_by = { λ p r. HasEndedAs C.rules C.stands_for N.given N.settings C.Settings.says S.told p.source.value p.stream (ending_by r.taken r.refused r.fault) };
+    ghost kept_by = { λ p r. HasEndedAs C.rules N.given S.told r.shares.front p.source.value p.stream (ending_by r.taken r.refused r.shares.configured.amount r.fault) };
 }
 
 /// The receivers that were started, in the order of the streams.
@@ -110,7 +111,7 @@ where
     requires few { vec_len inputs ≤ MAX_PMUS }
     requires parts { (shares.old.taken.parts ≡ vec_len inputs + 1) × (shares.old.refused.parts ≡ vec_len inputs + 1) × (shares.old.configured.parts ≡ vec_len inputs + 1) }
     requires amounts { (shares.old.taken.amount ≡ 0) × (shares.old.refused.amount ≡ 0) × (shares.old.configured.amount ≡ 0) }
-    ensures complete { result.complete ≡ true → (shares.new.taken.amount ≡ 0) × (shares.new.refused.amount ≡ 0) × (shares.new.taken.parts ≡ 1) × (shares.new.refused.parts ≡ 1) × (shares.new.configured.parts ≡ 1) × (vec_len result.running ≡ vec_len inputs) }
+    ensures complete { result.complete ≡ true → (shares.new.taken.amount ≡ 0) × (shares.new.refused.amount ≡ 0) × (shares.new.configured.amount ≡ 0) × (shares.new.taken.parts ≡ 1) × (shares.new.refused.parts ≡ 1) × (shares.new.configured.parts ≡ 1) × (vec_len result.running ≡ vec_len inputs) }
     ensures placed { AreFor (λ source stream handle. (handle.promise.source.value ≡ source) × (handle.promise.stream ≡ stream)) 0 (map (λ i. i.source) inputs.items) result.running.items }
 {
     let mut running = Vec::new(alloc);
@@ -134,8 +135,8 @@ where
         let Ok(handle) = scope.spawn_with(
             promise,
             move || -> Delivered<N>
-                requires { (N.settings ≡ Some intake.now.settings.now) × (place.stream < C.Settings.streams intake.now.settings.now) × ((place.shares.taken.parts ≡ 1) × (place.shares.refused.parts ≡ 1) × (place.shares.configured.parts ≡ 1)) × ((place.shares.taken.amount ≡ 0) × (place.shares.refused.amount ≡ 0)) }
-                ensures { HasEndedAs C.rules C.stands_for N.given N.settings C.Settings.says S.told source place.stream (ending_by result.taken result.refused result.fault) }
+                requires { (N.settings ≡ Some intake.now.settings.now) × (place.stream < C.Settings.streams intake.now.settings.now) × ((place.shares.taken.parts ≡ 1) × (place.shares.refused.parts ≡ 1) × (place.shares.configured.parts ≡ 1)) × ((place.shares.taken.amount ≡ 0) × (place.shares.refused.amount ≡ 0) × (place.shares.configured.amount ≡ 0)) }
+                ensures { HasEndedAs C.rules N.given S.told result.shares.front source place.stream (ending_by result.taken result.refused result.shares.configured.amount result.fault) }
             { receive_owned(rt, alloc, intake, source, place) },
         ) else {
             complete = false;
@@ -156,12 +157,13 @@ fn split_one<N: Ledgers>(left: &mut Shares<N>) -> Shares<N>
     ensures left { (left.new.taken.parts + 1 ≡ left.old.taken.parts) × (left.new.refused.parts + 1 ≡ left.old.refused.parts) × (left.new.configured.parts + 1 ≡ left.old.configured.parts) }
     ensures amounts { HasSameAmounts left.old left.new }
     ensures one { (result.taken.parts ≡ 1) × (result.refused.parts ≡ 1) × (result.configured.parts ≡ 1) }
-    ensures nothing { (result.taken.amount ≡ 0) × (result.refused.amount ≡ 0) }
+    ensures nothing { (result.taken.amount ≡ 0) × (result.refused.amount ≡ 0) × (result.configured.amount ≡ 0) }
 {
     Shares {
         taken: left.taken.split_off(1, 0),
         refused: left.refused.split_off(1, 0),
         configured: left.configured.split_off(1, 0),
+        front: left.front.again(),
     }
 }
 
@@ -176,8 +178,8 @@ fn receive_owned<C: Core + Drop, N: Naming<C::Settings>, S: Source + Drop, R: Wa
     requires settings { N.settings ≡ Some intake.now.settings.now }
     requires stream { place.stream < C.Settings.streams intake.now.settings.now }
     requires parts { (place.shares.taken.parts ≡ 1) × (place.shares.refused.parts ≡ 1) × (place.shares.configured.parts ≡ 1) }
-    requires amounts { (place.shares.taken.amount ≡ 0) × (place.shares.refused.amount ≡ 0) }
-    ensures { HasEndedAs C.rules C.stands_for N.given N.settings C.Settings.says S.told source place.stream (ending_by result.taken result.refused result.fault) }
+    requires amounts { (place.shares.taken.amount ≡ 0) × (place.shares.refused.amount ≡ 0) × (place.shares.configured.amount ≡ 0) }
+    ensures { HasEndedAs C.rules N.given S.told result.shares.front source place.stream (ending_by result.taken result.refused result.shares.configured.amount result.fault) }
 {
     let mut source = source;
     let Received {
@@ -224,13 +226,13 @@ pub fn join_all<C: Core, N: Naming<C::Settings>, S: Source, R: Threads>(
     shares: &mut Shares<N>,
 ) -> Joined
     requires parts { started.complete ≡ true → (shares.old.taken.parts + vec_len started.running ≡ N.taken.parts) × (shares.old.refused.parts + vec_len started.running ≡ N.refused.parts) × (shares.old.configured.parts + vec_len started.running ≡ N.configured.parts) }
-    requires amounts { started.complete ≡ true → (shares.old.taken.amount ≡ 0) × (shares.old.refused.amount ≡ 0) }
+    requires amounts { started.complete ≡ true → (shares.old.taken.amount ≡ 0) × (shares.old.refused.amount ≡ 0) × (shares.old.configured.amount ≡ 0) }
     ensures parts { result.complete ≡ true → (shares.new.taken.parts ≡ N.taken.parts) × (shares.new.refused.parts ≡ N.refused.parts) × (shares.new.configured.parts ≡ N.configured.parts) }
     ensures started { result.complete ≡ true → started.complete ≡ true }
     ensures each { result.complete ≡ true → vec_len result.receivers ≡ vec_len started.running }
     ensures fault { IfSome result.fault IsOfReceiver }
     ensures sums { result.complete ≡ true → (shares.new.taken.amount ≡ sum (map (λ c. c.taken) result.receivers.items)) × (shares.new.refused.amount ≡ sum (map (λ c. c.refused) result.receivers.items)) }
-    ensures ended { HaveJoined (λ handle place ending. HasEndedAs C.rules C.stands_for N.given N.settings C.Settings.says S.told handle.promise.source.value handle.promise.stream ending) started.running.items [] result.receivers.items result.fault result.complete }
+    ensures ended { HaveJoined (λ handle place ending. HasEndedAs C.rules N.given S.told shares.new.front handle.promise.source.value handle.promise.stream ending) started.running.items [] result.receivers.items shares.new.configured.amount result.fault result.complete }
 {
     let Started {
         running,
@@ -259,16 +261,19 @@ pub fn join_all<C: Core, N: Naming<C::Settings>, S: Source, R: Threads>(
     }
 }
 
-/// Adds the shares to those joined before.
+/// Adds the shares to those joined before, which then have seen what both saw.
 fn merge<N: Ledgers>(all: &mut Shares<N>, more: Shares<N>)
     ensures parts { (all.new.taken.parts ≡ all.old.taken.parts + more.taken.parts) × (all.new.refused.parts ≡ all.old.refused.parts + more.refused.parts) × (all.new.configured.parts ≡ all.old.configured.parts + more.configured.parts) }
+    ensures seen { IsPrefix all.old.front all.new.front × IsPrefix more.front all.new.front }
     ensures amounts { (all.new.taken.amount ≡ all.old.taken.amount + more.taken.amount) × (all.new.refused.amount ≡ all.old.refused.amount + more.refused.amount) × (all.new.configured.amount ≡ all.old.configured.amount + more.configured.amount) }
 {
     let Shares {
         taken,
         refused,
         configured,
+        front,
     } = more;
+    all.front.learn(&front);
     all.taken.merge(taken);
     all.refused.merge(refused);
     all.configured.merge(configured);

@@ -7,22 +7,24 @@ ghost use Rattle.pdc_aligner.specs.Device.{HasDevice, IsOfAligner, standing_of};
 ghost use Rattle.pdc_aligner.specs.Opened.{IsOpenedWith};
 ghost use Rattle.pdc_aligner.specs.Rate.{IsAtRate};
 ghost use Rattle.pdc_aligner.specs.Sequence.{HasPutAll, Rises, instants_of};
-ghost use Rattle.pdc_aligner.specs.Turns.{IsAligned};
+ghost use Rattle.pdc_aligner.specs.Laid.{AreDone, IsDone, IsLaid, IsLaidBut};
+ghost use Rattle.pdc_aligner.specs.Turns.{HasTicked};
 ghost use Rattle.pdc_hub.specs.Pops.{popped_by};
-ghost use Rattle.pdc_hub.specs.Received.{IsAnswerFor};
+ghost use Rattle.pdc_life.specs.Given.{Given};
+ghost use Rattle.pdc_log.specs.Log.{InTheLife, ticks_of};
 ghost use Rattle.pdc_pipe.specs.HandedOn.{HasHandedOn, HasSinkCause};
 ghost use Rattle.pdc_pipe.specs.Writing.{IsOpen, put_by};
 ghost use Rattle.pdc_publisher.specs.Publisher.{last_in, lead_in, mark_in, output_in};
 ghost use Rattle.pdc_threads.specs.Conducted.{HasConducted, publishing_of};
 ghost use Rattle.pdc_threads.specs.Counted.{HasCounted};
 ghost use Rattle.pdc_threads.specs.Crew.{IsReady};
-ghost use Rattle.pdc_threads.specs.Ended.{HasEnded, HasEndedOf};
-ghost use Rattle.pdc_threads.specs.Run.{ArePublished, GivesFrom, HasEach, HasRun, HasRunInTurns, IsCausedByMark, IsCausedBySink, IsSummed};
+ghost use Rattle.pdc_threads.specs.OneRun.{IsOneRun, found_by};
+ghost use Rattle.pdc_threads.specs.Run.{ArePublished, GivesFrom, HasEach, HasRun, IsCausedByMark, IsCausedBySink, IsSummed};
 
 use crate::crew::{Crew, Finished, Manned, Ran, not_begun};
 use crate::outside::Outside;
 use crate::receivers::{buffered, join_all, start_all};
-use crate::telling::outcome;
+use crate::telling::{count_all, outcome};
 use pdc_aligner::{Aligner, Pace, align};
 use pdc_core::Core;
 use pdc_hub::{Hub, HubFault, Intake, Naming};
@@ -58,7 +60,7 @@ where
     W::Sink: 's,
     requires ready { IsReady intake.now manned (W.Mark.stored (mark_in manned.aligner.publisher)) }
     requires ends { (receives_on from.now ≡ sends_on manned.aligner.writer.to) × IsSeatAt (receives_on from.now) manned.reader × (view manned.reader ≡ log false true false [] []) }
-    ensures conducted { HasConducted C.stands_for N.given (IsAnswerFor C.rules C.stands_for N.given (C.Settings.says intake.now.settings.now)) W.Source.told (map (λ i. i.source) manned.inputs.items) manned.pace (GivesFrom W.Ticker.gave manned.aligner.ticker) (W.Sink.took manned.sink result.ran.sink) (W.Sink.failures_of manned.sink) (W.Sink.failures_of result.ran.sink) (publishing_of manned.aligner.publisher (popped_by manned.aligner.pops)) (publishing_of result.ran.publisher (popped_by result.pops)) result.ran.outcome }
+    ensures conducted { HasConducted C.rules (C.Settings.says intake.now.settings.now) N.given W.Source.told (map (λ i. i.source) manned.inputs.items) manned.pace (GivesFrom W.Ticker.gave manned.aligner.ticker) (W.Sink.took manned.sink result.ran.sink) (publishing_of manned.aligner.publisher (popped_by manned.aligner.pops) (W.Sink.failures_of manned.sink)) (publishing_of result.ran.publisher (popped_by result.pops) (W.Sink.failures_of result.ran.sink)) result.ran.outcome }
     ensures counted { IfOk result.ran.outcome (HasCounted result.shares N.taken.parts N.refused.parts N.configured.parts) }
 {
     let Manned {
@@ -105,8 +107,10 @@ where
         ticker: _,
         writer,
     } = aligner;
+    let mut pops = pops;
     let (sink, ended) = settle(writer, sent);
-    let outcome = outcome(rt, hub, &mut shares, joined, aligned, ended);
+    let counted = count_all(rt, hub, joined.complete, &mut shares, &mut pops);
+    let outcome = outcome(joined, aligned, ended, counted);
     Finished {
         ran: Ran {
             publisher,
@@ -128,13 +132,20 @@ fn align_or_close<C: Core + Drop, N: Naming<C::Settings>, M: Mark, I: Ticker, R:
     pace: Pace,
 ) -> Result<u64, HubFault>
     requires top { (aligner.old.pops.top.parts ≡ N.top.parts) × (0 < aligner.old.pops.top.parts) × (aligner.old.pops.top.amount ≡ last_in aligner.old.publisher) × (last_in aligner.old.publisher ≤ (M.stored (mark_in aligner.old.publisher)).floor) }
+    requires turns { (aligner.old.pops.turns.parts ≡ N.turns.parts) × (0 < aligner.old.pops.turns.parts) }
+    requires front { (aligner.old.pops.front ≡ []) × InTheLife C.rules N.given aligner.old.pops.front (λ g E. E ≡ []) }
     requires rate { IsAtRate N.given (output_in aligner.old.publisher).rate }
     requires opened { IsOpenedWith N.given (M.stored (mark_in aligner.old.publisher)) }
     requires begins { IsOpen aligner.old.writer × (put_by aligner.old.writer ≡ []) }
     ensures same { aligner.new.writer.to ≡ aligner.old.writer.to }
     ensures rising { Rises (last_in aligner.old.publisher) (instants_of (put_by aligner.new.writer)) ((M.stored (mark_in aligner.new.publisher)).floor) }
     ensures published { IfOk result (λ published. published ≡ length (instants_of (put_by aligner.new.writer))) }
-    ensures laid { IsAligned C.stands_for N.given (output_in aligner.old.publisher) pace.rate pace.layout_every (M.stored (mark_in aligner.old.publisher)).counts (M.stored (mark_in aligner.new.publisher)).counts (GivesFrom I.gave aligner.old.ticker) result (put_by aligner.new.writer) }
+    ensures laid { OnOk result (IsLaid C.rules N.given (output_in aligner.old.publisher) pace.rate pace.layout_every aligner.new.pops.front (put_by aligner.new.writer)) }
+    ensures but { IsLaidBut C.rules N.given (output_in aligner.old.publisher) pace.rate pace.layout_every aligner.new.pops.front (put_by aligner.new.writer) }
+    ensures ticked { HasTicked (GivesFrom I.gave aligner.old.ticker) (M.stored (mark_in aligner.old.publisher)).counts (M.stored (mark_in aligner.new.publisher)).counts (ticks_of aligner.new.pops.front) result }
+    ensures turns { aligner.new.pops.turns.parts ≡ aligner.old.pops.turns.parts }
+    ensures done { OnOk result (IsDone C.rules N.given aligner.new.pops.front) }
+    ensures are_done { AreDone C.rules N.given aligner.new.pops.front }
     ensures kept { (output_in aligner.new.publisher ≡ output_in aligner.old.publisher) × (lead_in aligner.new.publisher ≡ lead_in aligner.old.publisher) }
     ensures all { HasPutAll (popped_by aligner.old.pops) (popped_by aligner.new.pops) [] (put_by aligner.new.writer) result }
     ensures complete { OnOk result (complete ≡ true) }
@@ -169,7 +180,7 @@ where
     W::Sink: 'x,
     requires ready { IsReady intake.now manned (W.Mark.stored (mark_in manned.aligner.publisher)) }
     requires ends { (receives_on from.now ≡ sends_on manned.aligner.writer.to) × IsSeatAt (receives_on from.now) manned.reader × (view manned.reader ≡ log false true false [] []) }
-    ensures conducted { HasConducted C.stands_for N.given (IsAnswerFor C.rules C.stands_for N.given (C.Settings.says intake.now.settings.now)) W.Source.told (map (λ i. i.source) manned.inputs.items) manned.pace (GivesFrom W.Ticker.gave manned.aligner.ticker) (W.Sink.took manned.sink result.ran.sink) (W.Sink.failures_of manned.sink) (W.Sink.failures_of result.ran.sink) (publishing_of manned.aligner.publisher (popped_by manned.aligner.pops)) (publishing_of result.ran.publisher (popped_by result.pops)) result.ran.outcome }
+    ensures conducted { HasConducted C.rules (C.Settings.says intake.now.settings.now) N.given W.Source.told (map (λ i. i.source) manned.inputs.items) manned.pace (GivesFrom W.Ticker.gave manned.aligner.ticker) (W.Sink.took manned.sink result.ran.sink) (publishing_of manned.aligner.publisher (popped_by manned.aligner.pops) (W.Sink.failures_of manned.sink)) (publishing_of result.ran.publisher (popped_by result.pops) (W.Sink.failures_of result.ran.sink)) result.ran.outcome }
     ensures counted { IfOk result.ran.outcome (HasCounted result.shares N.taken.parts N.refused.parts N.configured.parts) }
 {
     thread::scope(
@@ -178,7 +189,7 @@ where
         move |scope| -> Finished<N, W::Mark, W::Sink>
             requires ready { IsReady intake.now manned (W.Mark.stored (mark_in manned.aligner.publisher)) }
             requires ends { (receives_on from.now ≡ sends_on manned.aligner.writer.to) × IsSeatAt (receives_on from.now) manned.reader × (view manned.reader ≡ log false true false [] []) }
-            ensures conducted { HasConducted C.stands_for N.given (IsAnswerFor C.rules C.stands_for N.given (C.Settings.says intake.entry.now.settings.now)) W.Source.told (map (λ i. i.source) manned.inputs.items) manned.pace (GivesFrom W.Ticker.gave manned.aligner.ticker) (W.Sink.took manned.sink result.ran.sink) (W.Sink.failures_of manned.sink) (W.Sink.failures_of result.ran.sink) (publishing_of manned.aligner.publisher (popped_by manned.aligner.pops)) (publishing_of result.ran.publisher (popped_by result.pops)) result.ran.outcome }
+            ensures conducted { HasConducted C.rules (C.Settings.says intake.entry.now.settings.now) N.given W.Source.told (map (λ i. i.source) manned.inputs.items) manned.pace (GivesFrom W.Ticker.gave manned.aligner.ticker) (W.Sink.took manned.sink result.ran.sink) (publishing_of manned.aligner.publisher (popped_by manned.aligner.pops) (W.Sink.failures_of manned.sink)) (publishing_of result.ran.publisher (popped_by result.pops) (W.Sink.failures_of result.ran.sink)) result.ran.outcome }
             ensures counted { IfOk result.ran.outcome (HasCounted result.shares N.taken.parts N.refused.parts N.configured.parts) }
         { conduct(scope, rt, alloc, intake, from, manned) },
     )
@@ -216,17 +227,17 @@ where
     requires top { (crew.pops.top.parts ≡ N.top.parts) × (0 < crew.pops.top.parts) × (crew.pops.top.amount ≡ last_in crew.publisher) × (last_in crew.publisher ≤ (W.Mark.stored (mark_in crew.publisher)).floor) }
     requires rate { IsAtRate N.given (output_in crew.publisher).rate }
     requires opened { IsOpenedWith N.given (W.Mark.stored (mark_in crew.publisher)) }
+    requires given { (g : Given) × (N.given ≡ Some g) }
+    requires turns { (crew.pops.turns.parts ≡ N.turns.parts) × (0 < crew.pops.turns.parts) }
+    requires begun { crew.pops.front ≡ [] }
     // The totals are the sums over the receivers, and the amounts of the shares, which are whole again: so they are the core's counters.
     ensures totals { IfOk result.ran.outcome (λ t. (t.taken ≡ sum (map (λ c. c.taken) t.receivers.items)) × (t.refused ≡ sum (map (λ c. c.refused) t.receivers.items))) }
     ensures counted { IfOk result.ran.outcome (HasCounted result.shares N.taken.parts N.refused.parts N.configured.parts) }
     // Each source has an entry.
     ensures each { HasEach result.ran.outcome (vec_len crew.sources) }
-    // Each receiver read its own source, as the stream of the source's place, and the entries are what they counted. What the run tells is the
-    // first fault in the order receivers, aligner, sender.
-    ensures ended { HasEnded (HasEndedOf W.Source.told (IsAnswerFor C.rules C.stands_for N.given (C.Settings.says settings.now)))
-        (λ put aligned. IsAligned C.stands_for N.given (output_in crew.publisher) crew.pace.rate crew.pace.layout_every (W.Mark.stored (mark_in crew.publisher)).counts (W.Mark.stored (mark_in result.ran.publisher)).counts (GivesFrom W.Ticker.gave crew.ticker) aligned put
-        × HasDevice (standing_of crew.publisher) (standing_of result.ran.publisher) aligned)
-        (λ put sent. HasHandedOn (W.Sink.took crew.sink result.ran.sink) put sent × HasSinkCause sent (W.Sink.failures_of crew.sink) (W.Sink.failures_of result.ran.sink)) crew.sources.items result.ran.outcome }
+    // There is one life, of which the sources gave what came, and the sink took the frames.
+    ensures one { (g : Given) → N.given ≡ Some g → ∥ IsOneRun C.rules (C.Settings.says settings.now) g (output_in crew.publisher) crew.pace.rate crew.pace.layout_every W.Source.told crew.sources.items (GivesFrom W.Ticker.gave crew.ticker) (W.Sink.took crew.sink result.ran.sink)
+        (found_by (W.Mark.stored (mark_in crew.publisher)) (standing_of crew.publisher) (W.Sink.failures_of crew.sink)) (found_by (W.Mark.stored (mark_in result.ran.publisher)) (standing_of result.ran.publisher) (W.Sink.failures_of result.ran.sink)) result.ran.outcome ∥₁ }
     // Where it is Ok, the rows that were popped are as many as were published.
     ensures popped { ArePublished result.ran.outcome (popped_by crew.pops) (popped_by result.pops) }
     // Only a sink that failed ends it by the sink's fault, and only the mark's device by the device's.
@@ -237,9 +248,6 @@ where
     // What the sink took is a prefix of what was put, whose instants strictly rise, lie above the last one published before, and are at most
     // the floor that is stored then; all of it where the run was Ok, and then so many rows were published.
     ensures sent { HasRun (W.Sink.took crew.sink result.ran.sink) (last_in crew.publisher) (W.Mark.stored (mark_in result.ran.publisher)).floor result.ran.outcome }
-    // And tick by tick of those that the ticker gave: what was put are the data frames of each, and then its layout where it is told. The
-    // counts that ticks were handed never fall, from those that were stored before to those that are stored then.
-    ensures turned { HasRunInTurns C.stands_for N.given (output_in crew.publisher) crew.pace (GivesFrom W.Ticker.gave crew.ticker) (W.Sink.took crew.sink result.ran.sink) (last_in crew.publisher) (W.Mark.stored (mark_in crew.publisher)) (W.Mark.stored (mark_in result.ran.publisher)) result.ran.outcome }
 {
     let Crew {
         shares,

@@ -1,14 +1,18 @@
 //! What a run counted, and which fault it tells of.
 ghost use Rattle.std.specs.Prelude.{◌≡◌, ◌<◌, ◌+◌, Bool, IfErr, IfOk, IfSome, IsErrOf, Ok, OnOk, map, sum, true, vec_len};
 ghost use Rattle.pdc_aligner.specs.Device.{IsOfAligner};
-ghost use Rattle.pdc_hub.specs.Counted.{HasSameParts};
+ghost use mathlib.Core.List.{IsPrefix};
+ghost use Rattle.pdc_hub.specs.Counted.{HasSameAmounts, HasSameParts};
 ghost use Rattle.pdc_hub.specs.Faults.{IsOfReceiver};
+ghost use Rattle.pdc_hub.specs.Pops.{HasPoppedNone};
+ghost use Rattle.pdc_hub.specs.Replay.{AreSaid, WasRead};
+ghost use Rattle.pdc_log.specs.Log.{HasLooked, came_in};
 ghost use Rattle.pdc_threads.specs.Ended.{fault_in, first_fault};
 ghost use Rattle.pdc_threads.specs.Run.{IsSummed};
 
 use crate::receivers::{Counted, Joined};
 use pdc_core::Core;
-use pdc_hub::{Hub, HubFault, Naming, Shares};
+use pdc_hub::{Hub, HubFault, Naming, Pops, Shares};
 use pdc_pipe::Ended;
 use std::sync::Wait;
 
@@ -22,22 +26,50 @@ pub struct Totals {
     pub published: u64,
 }
 
-/// The first fault in the order receivers, aligner, sender, or the totals.
-pub fn outcome<C: Core + Drop, N: Naming<C::Settings>, R: Wait>(
+/// What all receivers counted together, where all came back; else nothing is counted. Who pops has seen all that came then.
+pub fn count_all<C: Core + Drop, N: Naming<C::Settings>, R: Wait>(
     rt: &R,
     hub: &Hub<C, N>,
+    complete: bool,
     shares: &mut Shares<N>,
+    pops: &mut Pops<N>,
+) -> Counted
+    requires turns { (pops.old.turns.parts ≡ N.turns.parts) × (0 < pops.old.turns.parts) }
+    requires parts { complete ≡ true → (shares.old.taken.parts ≡ N.taken.parts) × (shares.old.refused.parts ≡ N.refused.parts) × (shares.old.configured.parts ≡ N.configured.parts) }
+    ensures counted { complete ≡ true → (result.taken ≡ shares.old.taken.amount) × (result.refused ≡ shares.old.refused.amount) }
+    ensures came { complete ≡ true → came_in pops.new.front ≡ (shares.old.taken.amount + shares.old.refused.amount) + shares.old.configured.amount }
+    ensures kept { HasSameAmounts shares.old shares.new × HasSameParts shares.old shares.new }
+    ensures same { HasPoppedNone pops.old pops.new }
+    ensures looked { HasLooked pops.old.front pops.new.front }
+    ensures later { IsPrefix shares.old.front pops.new.front }
+    ensures said { ∥ AreSaid (WasRead C.Settings.says C.Settings.fits N.settings) pops.new.front ∥₁ }
+{
+    if !complete {
+        hub.look(rt, shares, pops);
+        return Counted {
+            taken: 0,
+            refused: 0,
+        };
+    }
+    let counts = hub.totals(rt, shares, pops);
+    Counted {
+        taken: counts.taken,
+        refused: counts.refused,
+    }
+}
+
+/// The first fault in the order receivers, aligner, sender, or the totals.
+pub fn outcome(
     joined: Joined,
     aligned: Result<u64, HubFault>,
     ended: Ended,
+    counted: Counted,
 ) -> Result<Totals, HubFault>
-    requires parts { joined.complete ≡ true → (shares.old.taken.parts ≡ N.taken.parts) × (shares.old.refused.parts ≡ N.refused.parts) × (shares.old.configured.parts ≡ N.configured.parts) }
-    requires sums { joined.complete ≡ true → (shares.old.taken.amount ≡ sum (map (λ c. c.taken) joined.receivers.items)) × (shares.old.refused.amount ≡ sum (map (λ c. c.refused) joined.receivers.items)) }
+    requires sums { joined.complete ≡ true → (counted.taken ≡ sum (map (λ c. c.taken) joined.receivers.items)) × (counted.refused ≡ sum (map (λ c. c.refused) joined.receivers.items)) }
     requires receiver { IfSome joined.fault IsOfReceiver }
     requires aligner { IfErr aligned IsOfAligner }
     ensures totals { IsSummed result }
-    ensures counted { IfOk result (λ totals. (shares.new.taken.amount ≡ totals.taken) × (shares.new.refused.amount ≡ totals.refused)) }
-    ensures parts { HasSameParts shares.old shares.new }
+    ensures counted { IfOk result (λ totals. (counted.taken ≡ totals.taken) × (counted.refused ≡ totals.refused)) }
     ensures receivers { IfOk result (λ totals. (vec_len totals.receivers ≡ vec_len joined.receivers) × (joined.complete ≡ true)) }
     ensures ended { OnOk result (ended ≡ Ended.AtEndMark) }
     ensures published { IfOk result (λ totals. aligned ≡ Ok totals.published) }
@@ -67,11 +99,10 @@ pub fn outcome<C: Core + Drop, N: Naming<C::Settings>, R: Wait>(
         Ended::SinkFault => return Err(HubFault::SinkFault),
         Ended::AlignerGone => return Err(HubFault::Stuck),
     }
-    let counts = hub.totals(rt, shares);
     Ok(Totals {
         receivers,
-        taken: counts.taken,
-        refused: counts.refused,
+        taken: counted.taken,
+        refused: counted.refused,
         published,
     })
 }

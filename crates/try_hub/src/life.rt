@@ -1,5 +1,6 @@
 //! A life that is lived through a hub in one thread, and recorded as a running one is.
 ghost use Rattle.std.specs.Prelude.{◌≡◌, ◌<◌, Some, []};
+ghost use Rattle.pdc_hub.specs.Pops.{HasSameShares};
 
 use crate::listed::{Listed, Silent};
 use pdc_core::{Core, Opens, Reads};
@@ -14,7 +15,6 @@ use std::alloc::Global;
 use std::marker::Brand;
 use std::rt::Clock;
 use std::sync::Wait;
-use std::sync::ledger::Blank;
 
 /// The instant of the first tick, and its second.
 const FIRST: u64 = 57_478_860_000;
@@ -85,7 +85,10 @@ fn arrive<C: Core + Drop, N: Naming<C::Settings>, R: Wait + Clock>(
     let Ok(datagram) = lived.settings.read_kept(alloc, stream, &buffer[..len]) else {
         return None;
     };
-    let Ok(answer) = lived.hub.deliver(rt, stream, datagram, shares) else {
+    let Ok(answer) = lived
+        .hub
+        .deliver(rt, stream, &buffer[..len], datagram, shares)
+    else {
         return None;
     };
     source.answered(Some(answer));
@@ -96,11 +99,16 @@ fn arrive<C: Core + Drop, N: Naming<C::Settings>, R: Wait + Clock>(
 fn tick<C: Core + Drop, N: Naming<C::Settings>, R: Wait + Clock>(
     rt: &R,
     hub: &Hub<C, N>,
+    pops: &mut Pops<N>,
     ticker: &mut RecordedTicker<'_, Silent, R>,
     now: u64,
-) -> Option<u64> {
+) -> Option<u64>
+    requires top { (pops.old.top.parts ≡ N.top.parts) × (0 < pops.old.top.parts) }
+    requires turns { (pops.old.turns.parts ≡ N.turns.parts) × (0 < pops.old.turns.parts) }
+    ensures parts { HasSameShares pops.old pops.new }
+{
     let counts = [u16::MAX; MAX_PMUS];
-    let Ok(Numbered { step, answer }) = hub.tick(rt, now, &counts) else {
+    let Ok(Numbered { step, answer }) = hub.tick(rt, pops, now, &counts) else {
         return None;
     };
     ticker.note(
@@ -121,11 +129,16 @@ fn lay<C: Core + Drop, N: Naming<C::Settings>, R: Wait + Clock>(
     rt: &R,
     alloc: Global,
     hub: &Hub<C, N>,
+    pops: &mut Pops<N>,
     ticker: &mut RecordedTicker<'_, Silent, R>,
     step: u64,
-) -> Option<()> {
+) -> Option<()>
+    requires top { (pops.old.top.parts ≡ N.top.parts) × (0 < pops.old.top.parts) }
+    requires turns { (pops.old.turns.parts ≡ N.turns.parts) × (0 < pops.old.turns.parts) }
+    ensures parts { HasSameShares pops.old pops.new }
+{
     let mut frame = Vec::new(alloc);
-    if hub.layout(rt, SOC, &mut frame).is_err() {
+    if hub.layout(rt, pops, SOC, &mut frame).is_err() {
         return None;
     }
     ticker.note(step, &Did::Laid(frame.as_slice()));
@@ -141,7 +154,8 @@ fn pop<C: Core + Drop, N: Naming<C::Settings>, R: Wait + Clock>(
     ticker: &mut RecordedTicker<'_, Silent, R>,
 ) -> Option<()>
     requires top { (pops.old.top.parts ≡ N.top.parts) × (0 < pops.old.top.parts) }
-    ensures top { pops.new.top.parts ≡ pops.old.top.parts }
+    requires turns { (pops.old.turns.parts ≡ N.turns.parts) × (0 < pops.old.turns.parts) }
+    ensures parts { HasSameShares pops.old pops.new }
 {
     let Ok(Numbered { step, answer }) = lived.hub.pop(rt, pops) else {
         return None;
@@ -183,6 +197,7 @@ fn live<C: Core + Drop, N: Naming<C::Settings>, R: Wait + Clock>(
     requires streams { C.Settings.streams lived.now.settings.now ≡ 2 }
     requires parts { (0 < mine.old.shares.taken.parts) × (0 < mine.old.shares.refused.parts) × (0 < mine.old.shares.configured.parts) }
     requires top { (mine.old.pops.top.parts ≡ N.top.parts) × (0 < mine.old.pops.top.parts) }
+    requires turns { (mine.old.pops.turns.parts ≡ N.turns.parts) × (0 < mine.old.pops.turns.parts) }
 {
     let recording = Some(recording);
     let mut first = RecordedSource::new(rt, alloc, recording, 0, Listed::of(sent.first));
@@ -190,12 +205,12 @@ fn live<C: Core + Drop, N: Naming<C::Settings>, R: Wait + Clock>(
     let mut ticker = RecordedTicker::new(rt, recording, Silent);
     arrive(rt, alloc, lived, &mut mine.shares, 0, &mut first)?;
     arrive(rt, alloc, lived, &mut mine.shares, 1, &mut second)?;
-    let step = tick(rt, lived.hub, &mut ticker, FIRST)?;
-    lay(rt, alloc, lived.hub, &mut ticker, step)?;
+    let step = tick(rt, lived.hub, &mut mine.pops, &mut ticker, FIRST)?;
+    lay(rt, alloc, lived.hub, &mut mine.pops, &mut ticker, step)?;
     pop(rt, alloc, lived, &mut mine.pops, &mut ticker)?;
     arrive(rt, alloc, lived, &mut mine.shares, 1, &mut second)?;
     arrive(rt, alloc, lived, &mut mine.shares, 0, &mut first)?;
-    tick(rt, lived.hub, &mut ticker, FIRST + 1)?;
+    tick(rt, lived.hub, &mut mine.pops, &mut ticker, FIRST + 1)?;
     pop(rt, alloc, lived, &mut mine.pops, &mut ticker)?;
     pop(rt, alloc, lived, &mut mine.pops, &mut ticker)
 }
@@ -213,9 +228,10 @@ fn live_on<C: Opens, N: Naming<C::Settings>, R: Wait + Clock>(
     requires stands { C.stands_for opened.core (C.given_with opened.settings.now 1 0 opened.counts) [] }
     requires settings { (N.settings ≡ Some opened.settings.now) × (C.settings_of opened.core ≡ opened.settings.now) }
     requires streams { C.Settings.streams opened.settings.now ≡ 2 }
-    requires names { (blanks.taken.name ≡ N.taken.name) × (blanks.refused.name ≡ N.refused.name) × (blanks.configured.name ≡ N.configured.name) × (blanks.top.name ≡ N.top.name) }
-    requires parts { (blanks.taken.parts ≡ N.taken.parts) × (blanks.refused.parts ≡ N.refused.parts) × (blanks.configured.parts ≡ N.configured.parts) × (blanks.top.parts ≡ N.top.parts) }
-    requires count { (N.taken.parts ≡ 1) × (N.refused.parts ≡ 1) × (N.configured.parts ≡ 1) × (N.top.parts ≡ 1) }
+    requires names { (blanks.taken.name ≡ N.taken.name) × (blanks.refused.name ≡ N.refused.name) × (blanks.configured.name ≡ N.configured.name) × (blanks.top.name ≡ N.top.name) × (blanks.turns.name ≡ N.turns.name) }
+    requires log { (blanks.log.seen.book ≡ N.book) × (blanks.log.seen.log ≡ []) }
+    requires parts { (blanks.taken.parts ≡ N.taken.parts) × (blanks.refused.parts ≡ N.refused.parts) × (blanks.configured.parts ≡ N.configured.parts) × (blanks.top.parts ≡ N.top.parts) × (blanks.turns.parts ≡ N.turns.parts) }
+    requires count { (N.taken.parts ≡ 1) × (N.refused.parts ≡ 1) × (N.configured.parts ≡ 1) × (N.top.parts ≡ 1) × (N.turns.parts ≡ 1) }
 {
     let Opened {
         settings,
@@ -248,11 +264,6 @@ pub fn record_life<C: Opens, R: Wait + Clock>(
     requires settings { C.settings_of opened.core ≡ opened.settings.now }
     requires streams { C.Settings.streams opened.settings.now ≡ 2 }
 {
-    let blanks = Blanks {
-        taken: Blank::new(1),
-        refused: Blank::new(1),
-        configured: Blank::new(1),
-        top: Blank::new(1),
-    };
+    let blanks = Blanks::new(1);
     live_on::<C, Brand, R>(rt, alloc, opened, recording, sent, blanks)
 }

@@ -10,7 +10,6 @@ use pdc_threads::{Blanks, Hub, Naming};
 use std::alloc::Global;
 use std::marker::Brand;
 use std::sync::Wait;
-use std::sync::ledger::Blank;
 
 /// The first instant: that of the first frame of `SOC`.
 const FIRST: u64 = 57_478_860_000;
@@ -43,9 +42,9 @@ fn begin<C: Core + Drop, N: Naming<C::Settings>, R: Wait>(
 ) -> Option<()>
     requires settings { N.settings ≡ Some (C.settings_of mine.old.bare) }
     requires streams { C.Settings.streams (C.settings_of mine.old.bare) ≡ 2 }
-    requires fit { IsFit mine.old N.top.parts }
+    requires fit { IsFit mine.old N.top.parts N.turns.parts }
     ensures settings { C.settings_of mine.new.bare ≡ C.settings_of mine.old.bare }
-    ensures fit { IsFit mine.new N.top.parts }
+    ensures fit { IsFit mine.new N.top.parts N.turns.parts }
 {
     deliver(rt, alloc, hub, mine, 0, &streams.first.config)?;
     deliver(rt, alloc, hub, mine, 1, &streams.second.config)?;
@@ -71,9 +70,9 @@ fn round<C: Core + Drop, N: Naming<C::Settings>, R: Wait>(
 ) -> Option<()>
     requires settings { N.settings ≡ Some (C.settings_of mine.old.bare) }
     requires streams { C.Settings.streams (C.settings_of mine.old.bare) ≡ 2 }
-    requires fit { IsFit mine.old N.top.parts }
+    requires fit { IsFit mine.old N.top.parts N.turns.parts }
     ensures settings { C.settings_of mine.new.bare ≡ C.settings_of mine.old.bare }
-    ensures fit { IsFit mine.new N.top.parts }
+    ensures fit { IsFit mine.new N.top.parts N.turns.parts }
 {
     let first = streams.first.data(alloc, after)?;
     let second = streams.second.data(alloc, after)?;
@@ -103,9 +102,10 @@ fn side_by_side<C: Opens, N: Naming<C::Settings>, R: Wait>(
     requires stands { C.stands_for base (C.given_with (C.settings_of base) 1 0 counts.now) [] }
     requires settings { N.settings ≡ Some (C.settings_of base) }
     requires streams { C.Settings.streams (C.settings_of base) ≡ 2 }
-    requires names { (blanks.taken.name ≡ N.taken.name) × (blanks.refused.name ≡ N.refused.name) × (blanks.configured.name ≡ N.configured.name) × (blanks.top.name ≡ N.top.name) }
-    requires parts { (blanks.taken.parts ≡ N.taken.parts) × (blanks.refused.parts ≡ N.refused.parts) × (blanks.configured.parts ≡ N.configured.parts) × (blanks.top.parts ≡ N.top.parts) }
-    requires count { (N.taken.parts ≡ 1) × (N.refused.parts ≡ 1) × (N.configured.parts ≡ 1) × (N.top.parts ≡ 1) }
+    requires names { (blanks.taken.name ≡ N.taken.name) × (blanks.refused.name ≡ N.refused.name) × (blanks.configured.name ≡ N.configured.name) × (blanks.top.name ≡ N.top.name) × (blanks.turns.name ≡ N.turns.name) }
+    requires log { (blanks.log.seen.book ≡ N.book) × (blanks.log.seen.log ≡ []) }
+    requires parts { (blanks.taken.parts ≡ N.taken.parts) × (blanks.refused.parts ≡ N.refused.parts) × (blanks.configured.parts ≡ N.configured.parts) × (blanks.top.parts ≡ N.top.parts) × (blanks.turns.parts ≡ N.turns.parts) }
+    requires count { (N.taken.parts ≡ 1) × (N.refused.parts ≡ 1) × (N.configured.parts ≡ 1) × (N.top.parts ≡ 1) × (N.turns.parts ≡ 1) }
 {
     let Ok(state) = base.open_next(alloc, 1, 0, counts) else {
         return None;
@@ -127,7 +127,7 @@ fn side_by_side<C: Opens, N: Naming<C::Settings>, R: Wait>(
     for after in 0..ROUNDS {
         round(rt, alloc, shared, &mut mine, streams, after + 1)?;
     }
-    let shows_same = shows_same(rt, alloc, shared, &mine.bare, SOC);
+    let shows_same = shows_same(rt, alloc, shared, &mut mine, SOC);
     let counts = shared.counts(rt);
     Some(Seen {
         calls: mine.calls,
@@ -151,11 +151,6 @@ pub fn try_core<C: Opens, R: Wait>(
     requires stands { C.stands_for first (C.given_with (C.settings_of first) 1 0 counts.now) [] }
     requires streams { C.Settings.streams (C.settings_of first) ≡ 2 }
 {
-    let blanks = Blanks {
-        taken: Blank::new(1),
-        refused: Blank::new(1),
-        configured: Blank::new(1),
-        top: Blank::new(1),
-    };
+    let blanks = Blanks::new(1);
     side_by_side::<C, Brand, R>(rt, alloc, first, counts, streams, blanks)
 }

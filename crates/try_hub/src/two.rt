@@ -46,14 +46,15 @@ pub fn deliver<C: Core + Drop, N: Naming<C::Settings>, R: Wait>(
 ) -> Option<()>
     requires settings { N.settings ≡ Some (C.settings_of mine.old.bare) }
     requires stream { stream < C.Settings.streams (C.settings_of mine.old.bare) }
-    requires fit { IsFit mine.old N.top.parts }
+    requires fit { IsFit mine.old N.top.parts N.turns.parts }
     ensures settings { C.settings_of mine.new.bare ≡ C.settings_of mine.old.bare }
-    ensures fit { IsFit mine.new N.top.parts }
+    ensures fit { IsFit mine.new N.top.parts N.turns.parts }
 {
     let Ok(datagram) = mine.bare.settings().read_kept(alloc, stream, bytes) else {
         return None;
     };
-    let Ok(Numbered { step, answer }) = hub.deliver(rt, stream, datagram, &mut mine.shares) else {
+    let Ok(Numbered { step, answer }) = hub.deliver(rt, stream, bytes, datagram, &mut mine.shares)
+    else {
         return None;
     };
     let bare_answer = mine.bare.put_datagram(stream, bytes);
@@ -68,12 +69,12 @@ pub fn tick<C: Core + Drop, N: Naming<C::Settings>, R: Wait>(
     mine: &mut Mine<C, N>,
     now: u64,
 ) -> Option<()>
-    requires fit { IsFit mine.old N.top.parts }
+    requires fit { IsFit mine.old N.top.parts N.turns.parts }
     ensures settings { C.settings_of mine.new.bare ≡ C.settings_of mine.old.bare }
-    ensures fit { IsFit mine.new N.top.parts }
+    ensures fit { IsFit mine.new N.top.parts N.turns.parts }
 {
     let counts = [u16::MAX; MAX_PMUS];
-    let Ok(Numbered { step, answer }) = hub.tick(rt, now, &counts) else {
+    let Ok(Numbered { step, answer }) = hub.tick(rt, &mut mine.pops, now, &counts) else {
         return None;
     };
     let bare_answer = mine.bare.tick(now, &counts);
@@ -101,9 +102,9 @@ pub fn pop<C: Core + Drop, N: Naming<C::Settings>, R: Wait>(
     hub: &Hub<C, N>,
     mine: &mut Mine<C, N>,
 ) -> Option<()>
-    requires fit { IsFit mine.old N.top.parts }
+    requires fit { IsFit mine.old N.top.parts N.turns.parts }
     ensures settings { C.settings_of mine.new.bare ≡ C.settings_of mine.old.bare }
-    ensures fit { IsFit mine.new N.top.parts }
+    ensures fit { IsFit mine.new N.top.parts N.turns.parts }
 {
     let Ok(Numbered { step, answer }) = hub.pop(rt, &mut mine.pops) else {
         return None;
@@ -124,14 +125,17 @@ pub fn shows_same<C: Core + Drop, N: Naming<C::Settings>, R: Wait>(
     rt: &R,
     alloc: Global,
     hub: &Hub<C, N>,
-    bare: &C,
+    mine: &mut Mine<C, N>,
     soc: u32,
-) -> bool {
+) -> bool
+    requires fit { IsFit mine.old N.top.parts N.turns.parts }
+{
+    let Mine { bare, pops, .. } = mine;
     let mut layout = Vec::new(alloc);
     let mut bare_layout = Vec::new(alloc);
-    hub.layout(rt, soc, &mut layout).is_ok()
+    hub.layout(rt, pops, soc, &mut layout).is_ok()
         && bare.layout_frame(soc, &mut bare_layout).is_ok()
         && layout.as_slice() == bare_layout.as_slice()
         && hub.counts(rt) == bare.counts()
-        && hub.waiting(rt) == bare.waiting()
+        && hub.waiting(rt, pops) == bare.waiting()
 }

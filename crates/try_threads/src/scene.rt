@@ -17,7 +17,6 @@ use std::io;
 use std::marker::Brand;
 use std::sync::Wait;
 use std::sync::atomic::Ordering;
-use std::sync::ledger::Blank;
 use std::thread::Threads;
 
 /// The first instant that the ticker gives.
@@ -79,9 +78,10 @@ fn opened<'h, N: Naming<Settings> + Send + Sync, M: Mark + Drop, R: Threads + Wa
     requires popped { stage.state.popped ≡ 0 }
     requires limit { 1 ≤ scene.now.limit }
     requires pace { 1 ≤ scene.now.layout_every }
-    requires names { (blanks.taken.name ≡ N.taken.name) × (blanks.refused.name ≡ N.refused.name) × (blanks.configured.name ≡ N.configured.name) × (blanks.top.name ≡ N.top.name) }
-    requires parts { (blanks.taken.parts ≡ N.taken.parts) × (blanks.refused.parts ≡ N.refused.parts) × (blanks.configured.parts ≡ N.configured.parts) × (blanks.top.parts ≡ N.top.parts) }
-    requires count { (N.taken.parts ≡ 3) × (N.refused.parts ≡ 3) × (N.configured.parts ≡ 3) × (N.top.parts ≡ 1) }
+    requires names { (blanks.taken.name ≡ N.taken.name) × (blanks.refused.name ≡ N.refused.name) × (blanks.configured.name ≡ N.configured.name) × (blanks.top.name ≡ N.top.name) × (blanks.turns.name ≡ N.turns.name) }
+    requires log { (blanks.log.seen.book ≡ N.book) × (blanks.log.seen.log ≡ []) }
+    requires parts { (blanks.taken.parts ≡ N.taken.parts) × (blanks.refused.parts ≡ N.refused.parts) × (blanks.configured.parts ≡ N.configured.parts) × (blanks.top.parts ≡ N.top.parts) × (blanks.turns.parts ≡ N.turns.parts) }
+    requires count { (N.taken.parts ≡ 3) × (N.refused.parts ≡ 3) × (N.configured.parts ≡ 3) × (N.top.parts ≡ 1) × (N.turns.parts ≡ 1) }
     requires streams { length settings.now.pmus.items ≡ 2 }
     requires publisher { (last_in stage.publisher ≡ 0) × ((M.stored (mark_in stage.publisher)).floor ≡ 0) × (output_in stage.publisher ≡ settings.now.output) }
     requires begins { ((M.stored (mark_in stage.publisher)).start ≡ stage.start) × ((M.stored (mark_in stage.publisher)).counts ≡ stage.counts) }
@@ -104,8 +104,9 @@ fn opened<'h, N: Naming<Settings> + Send + Sync, M: Mark + Drop, R: Threads + Wa
     );
     let shared = &hub;
     let mut sources = Vec::new(alloc);
-    let one = Scripted::new(rt, shared, scene.shown, false, scene.first);
-    let other = Scripted::new(rt, shared, scene.shown, true, scene.second);
+    scene.shown.sections.store(0, Ordering::SeqCst);
+    let one = Scripted::new(scene.shown, false, scene.first);
+    let other = Scripted::new(scene.shown, true, scene.second);
     if sources.push(one).is_err() || sources.push(other).is_err() {
         return Ok(None);
     }
@@ -135,12 +136,7 @@ fn opened<'h, N: Naming<Settings> + Send + Sync, M: Mark + Drop, R: Threads + Wa
     let ran = run::<
         Node<RingTable>,
         N,
-        Beside<
-            Scripted<'_, 'h, Node<RingTable>, N, R>,
-            M,
-            Following<'_, 'h, Node<RingTable>, N, R>,
-            Fused,
-        >,
+        Beside<Scripted<'_>, M, Following<'_, 'h, Node<RingTable>, N, R>, Fused>,
         R,
     >(rt, alloc, shared, settings, crew).ran;
     let taken = hub.counts(rt).taken;
@@ -176,12 +172,7 @@ pub fn run_scene<M: Mark + Drop, R: Threads + Wait + Sync + Print>(
         return Ok(None);
     };
     let publisher = Publisher::new(mark, settings.output, 0);
-    let blanks = Blanks {
-        taken: Blank::new(3),
-        refused: Blank::new(3),
-        configured: Blank::new(3),
-        top: Blank::new(1),
-    };
+    let blanks = Blanks::new(3);
     let sink = Fused {
         inner: MemorySink::new(alloc),
         fails_at: scene.sink_fails_at,

@@ -1,7 +1,6 @@
 //! Sources and a ticker that wait for what the core shows.
 ghost use Rattle.std.specs.Prelude.{◌≡◌, ◌≤◌, ℕ, length};
 
-use arrayvec::ArrayVec;
 use pdc_cfg::read_config;
 use pdc_core::Core;
 use pdc_frame::read_frame;
@@ -13,9 +12,6 @@ use std::thread;
 /// How often a source or a ticker looks before it gives up.
 const TURNS: u32 = 10_000_000;
 
-/// The room for the layout of node A, 1194 bytes: a source that looks asks for no memory.
-const LAYOUT_ROOM: usize = 1500;
-
 /// What a source does at a call.
 #[derive(Clone, Copy, Debug)]
 pub enum Act<'a> {
@@ -23,19 +19,20 @@ pub enum Act<'a> {
     Give(&'a str),
     /// It raises its own flag, waits for the other source's, and gives this datagram, in hexadecimal.
     Meet(&'a str),
-    /// It is idle until the layout has so many sections.
+    /// It is idle until the layout that was put last has so many sections.
     AwaitLayout(usize),
     /// Its device fails.
     Fail,
 }
 
-/// What sources and ticker of a run show: the flag of each of two sources, whether the run failed to answer one, and what the ticker was
-/// told last.
+/// What sources and ticker of a run show: the flag of each of two sources, whether the run failed to answer one, how many sections the layout
+/// has that was put last, and what the ticker was told last.
 #[derive(Drop)]
 pub struct Shown {
     first: AtomicBool,
     second: AtomicBool,
     unanswered: AtomicBool,
+    pub sections: AtomicU64,
     pub published: AtomicU64,
     pub last: AtomicU64,
 }
@@ -47,6 +44,7 @@ impl Shown {
             first: AtomicBool::new(false),
             second: AtomicBool::new(false),
             unanswered: AtomicBool::new(false),
+            sections: AtomicU64::new(0),
             published: AtomicU64::new(0),
             last: AtomicU64::new(0),
         }
@@ -63,9 +61,7 @@ impl Shown {
 
 /// A source that does one thing after the other, and then ends.
 #[derive(Drop)]
-pub struct Scripted<'h, 'r, C: Core + Drop, N: Naming<C::Settings>, R: Wait> {
-    rt: &'r R,
-    hub: &'h Hub<C, N>,
+pub struct Scripted<'r> {
     shown: &'r Shown,
     is_second: bool,
     acts: &'r [Act<'r>],
@@ -85,33 +81,16 @@ fn section_count(bytes: &[u8]) -> usize {
     }
 }
 
-impl<'h, 'r, C: Core + Drop, N: Naming<C::Settings>, R: Wait> Scripted<'h, 'r, C, N, R> {
+impl<'r> Scripted<'r> {
     /// A source that has done none of these things yet, with what both show; it is the first source or the second one.
-    pub fn new(
-        rt: &'r R,
-        hub: &'h Hub<C, N>,
-        shown: &'r Shown,
-        is_second: bool,
-        acts: &'r [Act<'r>],
-    ) -> Self {
+    pub fn new(shown: &'r Shown, is_second: bool, acts: &'r [Act<'r>]) -> Self {
         Scripted {
-            rt,
-            hub,
             shown,
             is_second,
             acts,
             done: 0,
             turns: 0,
             failures: 0,
-        }
-    }
-
-    /// How many sections the layout in force has.
-    fn sections(&self) -> usize {
-        let mut layout: ArrayVec<u8, LAYOUT_ROOM> = ArrayVec::new();
-        match self.hub.layout(self.rt, 0, &mut layout) {
-            Ok(()) => section_count(layout.as_slice()),
-            Err(_) => 0,
         }
     }
 
@@ -154,7 +133,7 @@ fn raise_and_wait(mine: &AtomicBool, theirs: &AtomicBool) -> bool {
     false
 }
 
-impl<'h, 'r, C: Core + Drop, N: Naming<C::Settings>, R: Wait> Source for Scripted<'h, 'r, C, N, R> {
+impl<'r> Source for Scripted<'r> {
     ghost use Rattle.std.specs.Prelude.{◌-◌, length};
 
     ghost failures_of = { λ s. s.failures };
@@ -175,7 +154,7 @@ impl<'h, 'r, C: Core + Drop, N: Naming<C::Settings>, R: Wait> Source for Scripte
                 give(text, buffer)
             }
             Some(Act::AwaitLayout(sections)) => {
-                if self.sections() == sections {
+                if self.shown.sections.load(Ordering::SeqCst) == sections as u64 {
                     self.done = self.done.saturating_add(1);
                 }
                 self.wait()
@@ -213,7 +192,13 @@ pub struct Following<'h, 'r, C: Core + Drop, N: Naming<C::Settings>, R: Wait> {
 
 impl<'h, 'r, C: Core + Drop, N: Naming<C::Settings>, R: Wait> Ticker
     for Following<'h, 'r, C, N, R> {
-    fn note(&mut self, _step: u64, _did: &Did<'_>) {}
+    fn note(&mut self, _step: u64, did: &Did<'_>) {
+        if let Did::Laid(frame) = did {
+            self.shown
+                .sections
+                .store(section_count(frame) as u64, Ordering::SeqCst);
+        }
+    }
 
     fn next(&mut self) -> Option<u64> {
         let given = self.given;

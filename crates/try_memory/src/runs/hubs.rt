@@ -16,7 +16,6 @@ use std::alloc::Global;
 use std::io;
 use std::marker::Brand;
 use std::sync::Wait;
-use std::sync::ledger::Blank;
 
 /// After how many steps a hub's base is brought up.
 const LIMIT: usize = 7;
@@ -87,17 +86,17 @@ fn call<N: Naming<Settings>, R: Wait>(
 ) -> &'static str
     requires settings { N.settings ≡ Some settings.now }
     requires streams { 0 < length settings.now.pmus.items }
-    requires fit { IsFit mine.old N.top.parts }
-    ensures fit { IsFit mine.new N.top.parts }
+    requires fit { IsFit mine.old N.top.parts N.turns.parts }
+    ensures fit { IsFit mine.new N.top.parts N.turns.parts }
 {
     match called {
         Called::Deliver => match settings.read_kept(alloc, 0, &DATA_11) {
-            Ok(kept) => told(hub.deliver(rt, 0, kept, &mut mine.shares)),
+            Ok(kept) => told(hub.deliver(rt, 0, &DATA_11, kept, &mut mine.shares)),
             Err(_) => NO_MEMORY,
         },
-        Called::Tick => told(hub.tick(rt, FIRST, &[0; MAX_PMUS])),
+        Called::Tick => told(hub.tick(rt, &mut mine.pops, FIRST, &[0; MAX_PMUS])),
         Called::Pop => told(hub.pop(rt, &mut mine.pops)),
-        Called::Layout => told(hub.layout(rt, SOC, &mut mine.out)),
+        Called::Layout => told(hub.layout(rt, &mut mine.pops, SOC, &mut mine.out)),
     }
 }
 
@@ -112,8 +111,8 @@ fn attempt<N: Naming<Settings>, R: Wait + Print>(
 ) -> io::Result<bool>
     requires settings { N.settings ≡ Some settings.now }
     requires streams { 0 < length settings.now.pmus.items }
-    requires fit { IsFit mine.old N.top.parts }
-    ensures fit { IsFit mine.new N.top.parts }
+    requires fit { IsFit mine.old N.top.parts N.turns.parts }
+    ensures fit { IsFit mine.new N.top.parts N.turns.parts }
 {
     begin(rt, name_of(called), state(rt, hub, &mine.out))?;
     let answer = call(rt, alloc, settings, hub, mine, called);
@@ -132,7 +131,7 @@ fn attempts<N: Naming<Settings>, R: Wait + Print>(
 ) -> io::Result<()>
     requires settings { N.settings ≡ Some settings.now }
     requires streams { 0 < length settings.now.pmus.items }
-    requires fit { IsFit mine.old N.top.parts }
+    requires fit { IsFit mine.old N.top.parts N.turns.parts }
 {
     if attempt(rt, alloc, settings, hub, mine, called)? {
         return Ok(());
@@ -154,9 +153,10 @@ fn play_on<N: Naming<Settings>, R: Wait + Print>(
     requires settings { (N.settings ≡ Some opened.settings.now) × (opened.base.settings ≡ opened.settings.now) × (opened.state.settings ≡ opened.settings.now) }
     requires popped { opened.state.popped ≡ 0 }
     requires streams { 0 < length opened.settings.now.pmus.items }
-    requires names { (blanks.taken.name ≡ N.taken.name) × (blanks.refused.name ≡ N.refused.name) × (blanks.configured.name ≡ N.configured.name) × (blanks.top.name ≡ N.top.name) }
-    requires parts { (blanks.taken.parts ≡ N.taken.parts) × (blanks.refused.parts ≡ N.refused.parts) × (blanks.configured.parts ≡ N.configured.parts) × (blanks.top.parts ≡ N.top.parts) }
-    requires count { (N.taken.parts ≡ 1) × (N.refused.parts ≡ 1) × (N.configured.parts ≡ 1) × (N.top.parts ≡ 1) }
+    requires names { (blanks.taken.name ≡ N.taken.name) × (blanks.refused.name ≡ N.refused.name) × (blanks.configured.name ≡ N.configured.name) × (blanks.top.name ≡ N.top.name) × (blanks.turns.name ≡ N.turns.name) }
+    requires log { (blanks.log.seen.book ≡ N.book) × (blanks.log.seen.log ≡ []) }
+    requires parts { (blanks.taken.parts ≡ N.taken.parts) × (blanks.refused.parts ≡ N.refused.parts) × (blanks.configured.parts ≡ N.configured.parts) × (blanks.top.parts ≡ N.top.parts) × (blanks.turns.parts ≡ N.turns.parts) }
+    requires count { (N.taken.parts ≡ 1) × (N.refused.parts ≡ 1) × (N.configured.parts ≡ 1) × (N.top.parts ≡ 1) × (N.turns.parts ≡ 1) }
 {
     let Opened {
         settings,
@@ -187,12 +187,7 @@ fn play_one<R: Wait + Print>(
     let counts = [0; MAX_PMUS];
     let base = Node::open(alloc, copy_of(settings), 1, 0, &counts, 0)?;
     let state = Node::open(alloc, copy_of(settings), 1, 0, &counts, 0)?;
-    let blanks = Blanks {
-        taken: Blank::new(1),
-        refused: Blank::new(1),
-        configured: Blank::new(1),
-        top: Blank::new(1),
-    };
+    let blanks = Blanks::new(1);
     let opened = Opened {
         settings,
         counts,

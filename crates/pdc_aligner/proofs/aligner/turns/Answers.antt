@@ -1,11 +1,11 @@
-use Rattle.std.proofs.Common.{rules, ◌≡◌, ◌+◌, ◌%◌, ◌==◌, ◌&&◌, ◌||◌, ◌++◌, ◌∷◌, [], ℕ, List, refl, subst}
+use Rattle.std.proofs.Common.{rules, ◌≡◌, ◌+◌, ◌%◌, ◌||◌, Bool, refl, subst}
 use Rattle.pdc_pipe.specs.Writing.{put_by}
 use Rattle.pdc_publisher.specs.Publisher.{mark_in, output_in}
-use Rattle.pdc_row.specs.declared.output.Output.{Output}
-use Rattle.pdc_aligner.specs.Sequence.{HasPutData}
-use Rattle.pdc_aligner.specs.Turns.{HasGiven, HasPut}
+use Rattle.pdc_log.specs.Log.{ticks_of}
+use Rattle.pdc_aligner.specs.Laid.{IsAt}
 use Rattle.pdc_aligner.proofs.Devices.{sound_of, sound_on, sound_same}
-use Rattle.pdc_aligner.proofs.Laying.{given_on, given_same, turned_all, turned_in_part, turning_begins, turning_on}
+use Rattle.pdc_aligner.proofs.Laying.{are_done_of, at_before, begins_at, begins_laid, done_begins, laid_but}
+use Rattle.pdc_aligner.proofs.Ticking.{ticking_begins, ticking_ends, ticking_failed, ticking_on}
 use Rattle.pdc_aligner.proofs.aligner.turns.Goals as goal
 
 pub loop-init : goal.loop-init
@@ -19,52 +19,57 @@ loop-init g c = (
   search rules,
   search rules,
   search rules,
-  turning_begins g.C.Core.stands_for g.N.Naming.given (output_in c.args.aligner.now.publisher) g.K.Ticker.gave c.args.aligner.now.ticker c.args.pace.now.rate c.args.pace.now.layout_every (g.M.Mark.stored (mark_in c.args.aligner.now.publisher)).counts (put_by c.args.aligner.now.writer) (search rules) 0 (search rules),
+  begins_laid g.C.Core.rules g.N.Naming.given (output_in c.args.aligner.now.publisher) c.args.pace.now.rate c.args.pace.now.layout_every c.args.aligner.now.pops.front (put_by c.args.aligner.now.writer) c.requires.begins.1 c.requires.front.1,
   sound_same _ _ refl,
   search rules,
+  begins_at g.C.Core.rules g.N.Naming.given c.args.pace.now.layout_every 0 c.args.aligner.now.pops.front (search rules) c.requires.front.1,
+  search rules,
+  ticking_begins g.K.Ticker.gave c.args.aligner.now.ticker (g.M.Mark.stored (mark_in c.args.aligner.now.publisher)).counts c.args.aligner.now.pops.front c.requires.front.0,
+  done_begins g.C.Core.rules g.N.Naming.given c.args.aligner.now.pops.front c.requires.front.1,
 )
 
-pub returns-in_default-clause-turned : goal.returns-in_default-clause-turned
-returns-in_default-clause-turned g c =
-    turned_all g.C.Core.stands_for g.N.Naming.given (output_in c.args.aligner.now.publisher) c.args.pace.now.rate c.args.pace.now.layout_every (g.M.Mark.stored (mark_in c.args.aligner.now.publisher)).counts
-    (g.M.Mark.stored (mark_in c.loop.aligner.publisher)).counts (HasGiven g.K.Ticker.gave c.args.aligner.now.ticker c.loop.aligner.ticker) (HasGiven g.K.Ticker.gave c.args.aligner.now.ticker c.next-in-loop.new.self)
-    (put_by c.loop.aligner.writer) c.loop.adopted c.loop.place _ c.loop.invariant.9
-    (λ nows h. given_same g.K.Ticker.gave c.args.aligner.now.ticker c.loop.aligner.ticker c.next-in-loop.new.self nows h (search (rules, c.next-in-loop.ensures.none)))
+pub turn-requires-clause-laid : goal.turn-requires-clause-laid
+turn-requires-clause-laid g c = rw c.loop.invariant.5 c.loop.invariant.9
 
-pub returns-in-Err-clause-turned : goal.returns-in-Err-clause-turned
-returns-in-Err-clause-turned g c =
-    turned_in_part g.C.Core.stands_for g.N.Naming.given (output_in c.args.aligner.now.publisher) c.args.pace.now.rate c.args.pace.now.layout_every (g.M.Mark.stored (mark_in c.args.aligner.now.publisher)).counts
-    (g.M.Mark.stored (mark_in c.loop.aligner.publisher)).counts (g.M.Mark.stored (mark_in c.turn.new.aligner.publisher)).counts
-    (HasGiven g.K.Ticker.gave c.args.aligner.now.ticker c.loop.aligner.ticker) (HasGiven g.K.Ticker.gave c.args.aligner.now.ticker c.turn.new.aligner.ticker) (put_by c.loop.aligner.writer) (put_by c.turn.new.aligner.writer)
-    c.loop.adopted c.loop.place c.in-Some-next.now c.in-Err.fault c.loop.invariant.9 c.turn.ensures.none_falls
-    (λ nows h. given_same g.K.Ticker.gave c.args.aligner.now.ticker c.next-in-loop.new.self c.turn.new.aligner.ticker (nows ++ c.in-Some-next.now ∷ [])
-    (given_on g.K.Ticker.gave c.args.aligner.now.ticker c.loop.aligner.ticker c.next-in-loop.new.self nows c.in-Some-next.now h c.in-Some-next.ensures.some) c.turn.ensures.gave)
-    (subst (λ (o : Output). HasPutData {C = g.row.C.Denot} g.C.Core.stands_for g.N.Naming.given o (put_by c.loop.aligner.writer) (put_by c.turn.new.aligner.writer)) c.loop.invariant.5 c.in-Err.ensures.failed)
+pub turn-requires-clause-before : goal.turn-requires-clause-before
+turn-requires-clause-before g c = at_before g.C.Core.rules g.N.Naming.given c.args.pace.now.layout_every c.loop.place ((c.loop.place + 1) % c.args.pace.now.layout_every) c.loop.adopted c.loop.aligner.pops.front refl c.loop.invariant.12
+
+pub returns-in_default-clause-but : goal.returns-in_default-clause-but
+returns-in_default-clause-but g c = laid_but g.C.Core.rules g.N.Naming.given (output_in c.args.aligner.now.publisher) c.args.pace.now.rate c.args.pace.now.layout_every c.loop.aligner.pops.front (put_by c.loop.aligner.writer) c.loop.invariant.9
+
+pub returns-in-Err-clause-but : goal.returns-in-Err-clause-but
+returns-in-Err-clause-but g c = rw (← c.loop.invariant.5) c.turn.ensures.but
 
 pub loop-preserved : goal.loop-preserved
-loop-preserved g c =
-    let every : ℕ = c.args.pace.now.layout_every in
-    let repeats : c.if-adopted.repeat ≡ c.loop.adopted && ((c.loop.place + 1) % every == 0) = search rules in
-    let after : c.if-adopted-2.adopted ≡ c.loop.adopted || c.in-Ok.adopts = search rules in
-    let laid = subst (λ (o : Output). HasPut {C = g.row.C.Denot} g.C.Core.stands_for g.N.Naming.given o c.second_of-soc.result (c.in-Ok.adopts || c.if-adopted.repeat) (put_by c.loop.aligner.writer) (put_by c.turn.new.aligner.writer)) c.loop.invariant.5 c.in-Ok.ensures.laid in
-    let gives : (nows : List ℕ) → HasGiven g.K.Ticker.gave c.args.aligner.now.ticker c.loop.aligner.ticker nows → HasGiven g.K.Ticker.gave c.args.aligner.now.ticker c.tell.new.ticker (nows ++ c.in-Some-next.now ∷ []) =
-    λ nows h. given_same g.K.Ticker.gave c.args.aligner.now.ticker c.next-in-loop.new.self c.tell.new.ticker (nows ++ c.in-Some-next.now ∷ [])
-    (given_on g.K.Ticker.gave c.args.aligner.now.ticker c.loop.aligner.ticker c.next-in-loop.new.self nows c.in-Some-next.now h c.in-Some-next.ensures.some)
-    (λ ns x. c.tell.ensures ns (c.turn.ensures.gave ns x)) in (
-      search rules,
-      search rules,
-      search rules,
-      search rules,
-      search rules,
-      search rules,
-      search rules,
-      search rules,
-      search rules,
-      turning_on g.C.Core.stands_for g.N.Naming.given (output_in c.args.aligner.now.publisher) c.args.pace.now.rate every (g.M.Mark.stored (mark_in c.args.aligner.now.publisher)).counts
-          (g.M.Mark.stored (mark_in c.loop.aligner.publisher)).counts (g.M.Mark.stored (mark_in c.turn.new.aligner.publisher)).counts
-          (HasGiven g.K.Ticker.gave c.args.aligner.now.ticker c.loop.aligner.ticker) (HasGiven g.K.Ticker.gave c.args.aligner.now.ticker c.tell.new.ticker) (put_by c.loop.aligner.writer) (put_by c.turn.new.aligner.writer)
-          c.loop.place c.in-Some-next.now c.second_of-soc.result c.loop.adopted c.in-Ok.adopts c.if-adopted.repeat c.if-adopted-2.adopted
-          c.loop.invariant.9 c.in-Ok.ensures.answered c.turn.ensures.none_falls gives c.second_of-soc.ensures repeats after laid,
-      sound_on _ _ _ c.loop.invariant.10 (sound_of _ _ _ c.in-Ok.ensures.device),
-      search rules,
-    )
+loop-preserved g c = (
+  search rules,
+  search rules,
+  search rules,
+  search rules,
+  search rules,
+  search rules,
+  search rules,
+  search rules,
+  search rules,
+  rw (← c.loop.invariant.5) c.in-Ok.ensures.laid,
+  sound_on _ _ _ c.loop.invariant.10 (sound_of _ _ _ c.in-Ok.ensures.device),
+  search rules,
+  subst (λ (b : Bool). IsAt g.C.Core.rules g.N.Naming.given c.args.pace.now.layout_every c.turn.new.aligner.pops.front b ((c.loop.place + 1) % c.args.pace.now.layout_every)) (search rules) c.in-Ok.ensures.at,
+  search rules,
+  ticking_on g.K.Ticker.gave c.args.aligner.now.ticker c.loop.aligner.ticker c.next-in-loop.new.self c.tell.new.ticker (g.M.Mark.stored (mark_in c.args.aligner.now.publisher)).counts (g.M.Mark.stored (mark_in c.loop.aligner.publisher)).counts
+      (g.M.Mark.stored (mark_in c.turn.new.aligner.publisher)).counts (ticks_of c.loop.aligner.pops.front) (ticks_of c.turn.new.aligner.pops.front) c.in-Some-next.now c.in-Ok.adopts c.loop.invariant.14 c.in-Some-next.ensures.some
+      (λ ns x. c.tell.ensures ns (c.turn.ensures.gave ns x)) c.turn.ensures.none_falls c.in-Ok.ensures.ticked,
+  c.in-Ok.ensures.done,
+)
+
+pub returns-in_default-clause-ticked : goal.returns-in_default-clause-ticked
+returns-in_default-clause-ticked g c =
+    ticking_ends g.K.Ticker.gave c.args.aligner.now.ticker c.loop.aligner.ticker c.next-in-loop.new.self (g.M.Mark.stored (mark_in c.args.aligner.now.publisher)).counts (g.M.Mark.stored (mark_in c.loop.aligner.publisher)).counts (ticks_of c.loop.aligner.pops.front) _ c.loop.invariant.14 (search (rules, c.next-in-loop.ensures.none))
+
+pub returns-in-Err-clause-ticked : goal.returns-in-Err-clause-ticked
+returns-in-Err-clause-ticked g c =
+    ticking_failed g.K.Ticker.gave c.args.aligner.now.ticker c.loop.aligner.ticker c.next-in-loop.new.self c.turn.new.aligner.ticker (g.M.Mark.stored (mark_in c.args.aligner.now.publisher)).counts (g.M.Mark.stored (mark_in c.loop.aligner.publisher)).counts
+    (g.M.Mark.stored (mark_in c.turn.new.aligner.publisher)).counts (ticks_of c.loop.aligner.pops.front) (ticks_of c.turn.new.aligner.pops.front) c.in-Some-next.now c.in-Err.fault c.loop.invariant.14 c.in-Some-next.ensures.some c.turn.ensures.gave c.turn.ensures.none_falls c.in-Err.ensures.ticked
+
+pub returns-in_default-clause-are_done : goal.returns-in_default-clause-are_done
+returns-in_default-clause-are_done g c = are_done_of g.C.Core.rules g.N.Naming.given c.loop.aligner.pops.front c.loop.invariant.15

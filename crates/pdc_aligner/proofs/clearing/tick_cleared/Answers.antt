@@ -1,11 +1,17 @@
-use Rattle.std.proofs.Common.{◌≡◌, List, ℕ, IfOk, subst}
-use Rattle.pdc_align.specs.Align.{ticked_of}
-use Rattle.pdc_life.specs.Answer.{tick_answer}
-use Rattle.pdc_life.specs.Life.{changes}
-use Rattle.pdc_hub.specs.Replay.{InSomeLife, number_in}
+use Rattle.pdc_life.specs.Answer.{ToTick}
+use Rattle.pdc_publisher.specs.Publisher.{mark_in}
+use Rattle.pdc_aligner.proofs.Laying.{cleared_by, looked_err, ticked_from}
 use Rattle.pdc_aligner.proofs.clearing.tick_cleared.Goals as goal
 
 pub returns-in-Ok-clause-stored : goal.returns-in-Ok-clause-stored
 returns-in-Ok-clause-stored g c =
-    subst (λ (counts : List ℕ). IfOk c.tick.result (λ numbered. ∥ InSomeLife {C = g.row.C.Denot} g.C.Core.stands_for g.N.Naming.given (λ state h E. (numbered.answer ≡ ticked_of (changes E) (tick_answer h E c.args.now counts)) × (numbered.step ≡ number_in E)) ∥₁))
-    c.in-Ok.ensures.stored c.tick.ensures.some
+    ticked_from g.C.Core.rules g.N.Naming.given c.args.pops.now.front c.waiting-waiting.new.pops.front c.tick.new.pops.front c.args.now c.in-Ok.counts (g.M.Mark.stored (mark_in c.clear_counts.new.publisher)).counts c.tick.result
+    c.waiting-waiting.ensures.looked c.in-Ok.ensures.stored c.tick.ensures.turned
+
+pub returns-in-Ok-clause-err : goal.returns-in-Ok-clause-err
+returns-in-Ok-clause-err g c = looked_err c.tick.result c.args.pops.now.front c.waiting-waiting.new.pops.front c.tick.new.pops.front c.waiting-waiting.ensures.looked c.tick.ensures.err
+
+pub returns-in-Ok-clause-cleared : goal.returns-in-Ok-clause-cleared
+returns-in-Ok-clause-cleared g c =
+    cleared_by g.C.Core.rules g.N.Naming.given (ToTick c.args.now c.in-Ok.counts) c.args.pops.now.front c.waiting-waiting.new.pops.front c.tick.new.pops.front c.waiting-waiting.result c.in-Ok.counts (g.M.Mark.stored (mark_in c.clear_counts.new.publisher)).counts c.tick.result _
+    c.waiting-waiting.ensures.looked c.waiting-waiting.ensures.waits c.in-Ok.ensures.cleared c.in-Ok.ensures.stored c.tick.ensures.turned

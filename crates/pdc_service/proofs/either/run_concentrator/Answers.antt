@@ -1,7 +1,7 @@
 use Rattle.std.proofs.Common.{refl}
 use Rattle.pdc_aligner.specs.Device.{standing_of}
 use Rattle.pdc_publisher.specs.Publisher.{mark_in}
-use Rattle.pdc_service.specs.Ended.{found_by}
+use Rattle.pdc_threads.specs.OneRun.{found_by}
 use Rattle.pdc_service.proofs.either.run_concentrator.Goals as goal
 
 pub returns-in-Node-clause-over : goal.returns-in-Node-clause-over
@@ -11,7 +11,7 @@ returns-in-Node-clause-over g c =
       after = found_by (g.W.Mark.Mark.stored (mark_in ran.publisher)) (standing_of ran.publisher) (g.W.Sink.Sink.failures_of ran.sink);
       failures = refl;
       sent = c.run_node.ensures.sent;
-      ended = rw c.in-Node.is c.run_node.ensures.ended;
+      one = rw c.in-Node.is c.run_node.ensures.one;
     }
 
 pub returns-in-Merger-clause-over : goal.returns-in-Merger-clause-over
@@ -21,5 +21,5 @@ returns-in-Merger-clause-over g c =
       after = found_by (g.W.Mark.Mark.stored (mark_in ran.publisher)) (standing_of ran.publisher) (g.W.Sink.Sink.failures_of ran.sink);
       failures = refl;
       sent = c.run_merger.ensures.sent;
-      ended = rw c.in-Merger.is c.run_merger.ensures.ended;
+      one = rw c.in-Merger.is c.run_merger.ensures.one;
     }

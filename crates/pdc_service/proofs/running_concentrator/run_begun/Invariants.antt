@@ -14,4 +14,8 @@ ghosts-opened-N-Ledgers g a = record {
   refused = record { name = a.blanks.refused.name; parts = a.blanks.refused.parts };
   configured = record { name = a.blanks.configured.name; parts = a.blanks.configured.parts };
   top = record { name = a.blanks.top.name; parts = a.blanks.top.parts };
+  turns = record { name = a.blanks.turns.name; parts = a.blanks.turns.parts };
 }
+
+abbrev pub ghosts-opened-N-Logged : goal.ghosts-opened-N-Logged
+ghosts-opened-N-Logged g a = record { book = a.blanks.log.seen.book }

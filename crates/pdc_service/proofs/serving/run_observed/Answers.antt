@@ -5,7 +5,7 @@ use Rattle.pdc_service.proofs.Handing.{handed_by, nothing_handed, over_handed}
 use Rattle.pdc_service.proofs.serving.run_observed.Goals as goal
 
 pub returns-in_default-clause-handed : goal.returns-in_default-clause-handed
-returns-in_default-clause-handed g c = nothing_handed g.K.Sink.took c.args.opened.sink _ _ (g.K.Sink.nothing c.args.opened.sink)
+returns-in_default-clause-handed g c = nothing_handed g.K.Sink.took c.args.opened.sink _ _ _ (g.K.Sink.nothing c.args.opened.sink)
 
 pub returns-clause-handed : goal.returns-clause-handed
 returns-clause-handed g c =

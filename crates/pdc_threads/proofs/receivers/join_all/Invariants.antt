@@ -13,5 +13,5 @@ invariant-loop-handle g l =
     × IfSome l.fault IsOfReceiver
     × (l.complete ≡ true → l.fn.started.complete ≡ true)
     × (into_iter_len l.handle-iterator ≡ length (into_iter_items l.handle-iterator))
-    × HaveJoined (λ handle place ending. HasEndedAs g.C.Core.rules g.C.Core.stands_for g.N.Naming.given g.N.Naming.settings g.C.Settings.Reads.says g.S.Source.told handle.promise.source.value handle.promise.stream ending)
-    l.fn.started.running.items (into_iter_items l.handle-iterator) l.receivers.items l.fault l.complete
+    × HaveJoined (λ handle place ending. HasEndedAs g.C.Core.rules g.N.Naming.given g.S.Source.told l.shares.front handle.promise.source.value handle.promise.stream ending)
+    l.fn.started.running.items (into_iter_items l.handle-iterator) l.receivers.items l.shares.configured.amount l.fault l.complete

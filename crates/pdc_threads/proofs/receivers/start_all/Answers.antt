@@ -6,7 +6,7 @@ use Rattle.pdc_threads.proofs.receivers.start_all.Goals as goal
 
 pub spawn_with-requires-clause-keeps : goal.spawn_with-requires-clause-keeps
 spawn_with-requires-clause-keeps g c κs within r h =
-    subst (λ s. HasEndedAs g.C.Core.rules g.C.Core.stands_for g.N.Naming.given g.N.Naming.settings g.C.Settings.Reads.says g.S.Source.told s c.loop-input.stream (ending_by r.taken r.refused r.fault)) (sym c.of.ensures) h
+    subst (λ s. HasEndedAs g.C.Core.rules g.N.Naming.given g.S.Source.told r.shares.front s c.loop-input.stream (ending_by r.taken r.refused r.shares.configured.amount r.fault)) (sym c.of.ensures) h
 
 pub loop-input-preserved : goal.loop-input-preserved
 loop-input-preserved g c =
@@ -14,8 +14,9 @@ loop-input-preserved g c =
     let goes : c.loop-input.complete ≡ true = search rules in
     let before = c.loop-input.invariant.0 goes in
     let sources = map (λ i. i.source) c.args.inputs.items in
-    let at : drop (length c.loop-input.running.items) sources ≡ c.in-Some.input.source ∷ map (λ i. i.source) (into_iter_items c.next.new.self) = before.7 ∙ ap (map (λ i. i.source)) steps.0 in (
+    let at : drop (length c.loop-input.running.items) sources ≡ c.in-Some.input.source ∷ map (λ i. i.source) (into_iter_items c.next.new.self) = before.8 ∙ ap (map (λ i. i.source)) steps.0 in (
       λ h. (
+        search rules,
         search rules,
         search rules,
         search rules,
@@ -26,5 +27,5 @@ loop-input-preserved g c =
         drop_on sources c.loop-input.running.items c.push.new.self.items c.in-Some.input.source _ c.in-Ok.handle (search rules) at,
       ),
       for_on _ 0 sources c.loop-input.running.items c.push.new.self.items c.in-Some.input.source _ c.in-Ok.handle (search rules) c.loop-input.invariant.1 at
-          (ap (λ p. p.source.value) c.in-Ok.ensures.ok ∙ c.of.ensures, ap (λ p. p.stream) c.in-Ok.ensures.ok ∙ omega (arith, before.5, before.6)),
+          (ap (λ p. p.source.value) c.in-Ok.ensures.ok ∙ c.of.ensures, ap (λ p. p.stream) c.in-Ok.ensures.ok ∙ omega (arith, before.6, before.7)),
     )

@@ -6,7 +6,7 @@ use Rattle.pdc_threads.proofs.receivers.start_all.Given as goal
 abbrev pub invariant-loop-input : goal.invariant-loop-input
 invariant-loop-input g l =
     (l.complete ≡ true
-    → (l.shares.taken.amount ≡ 0) × (l.shares.refused.amount ≡ 0)
+    → (l.shares.taken.amount ≡ 0) × (l.shares.refused.amount ≡ 0) × (l.shares.configured.amount ≡ 0)
     × (l.shares.taken.parts ≡ into_iter_len l.input-iterator + 1) × (l.shares.refused.parts ≡ into_iter_len l.input-iterator + 1) × (l.shares.configured.parts ≡ into_iter_len l.input-iterator + 1)
     × (length l.running.items + into_iter_len l.input-iterator ≡ length l.fn.inputs.items)
     × (l.stream + into_iter_len l.input-iterator ≡ length l.fn.inputs.items)

@@ -1,43 +1,43 @@
 use Rattle.std.proofs.Common.{rules, false, [], refl}
+use Rattle.pdc_aligner.specs.Device.{standing_of}
 use Rattle.pdc_hub.specs.Pops.{popped_by}
-use Rattle.pdc_hub.specs.Received.{IsAnswerFor}
+use Rattle.pdc_publisher.specs.Publisher.{last_in, lead_in, mark_in, output_in}
 use Rattle.pdc_pipe.specs.declared.senders.Ended.TheVariants.{AlignerGone}
-use Rattle.pdc_threads.specs.Conducted.{publishing_of}
 use Rattle.pdc_threads.proofs.Outcomes.{none_conducted, nothing_sent}
 use Rattle.pdc_threads.proofs.runs.run.Goals as goal
 
 pub returns-in_default-clause-sent : goal.returns-in_default-clause-sent
 returns-in_default-clause-sent g c =
-    let h = none_conducted g.C.Core.stands_for g.N.Naming.given (IsAnswerFor g.C.Core.rules g.C.Core.stands_for g.N.Naming.given (g.C.Settings.Reads.says c.args.settings.now)) g.W.Source.Source.told c.args.crew.sources.items c.args.crew.pace g.W.Ticker.Ticker.gave c.args.crew.ticker (g.W.Sink.Sink.failures_of c.args.crew.sink) (g.W.Sink.Sink.failures_of c.args.crew.sink) (publishing_of c.args.crew.publisher (popped_by c.args.crew.pops)) [] false AlignerGone
-    refl (nothing_sent (g.W.Sink.Sink.nothing c.args.crew.sink)) (search rules) c.requires.top.3 in
-    rw (c.not_begun.ensures.0, c.not_begun.ensures.1, c.not_begun.ensures.2) h.turned.run
+    let p = c.args.crew.publisher in
+    let sink = c.args.crew.sink in
+    let h = none_conducted g.C.Core.rules (g.C.Settings.Reads.says c.args.settings.now) g.N.Naming.given g.W.Source.Source.told c.args.crew.sources.items c.args.crew.pace g.W.Ticker.Ticker.gave c.args.crew.ticker
+    (output_in p) (lead_in p) (last_in p) (popped_by c.args.crew.pops) (g.W.Mark.Mark.stored (mark_in p)) (standing_of p) (g.W.Sink.Sink.failures_of sink) (g.W.Sink.Sink.failures_of sink) [] false AlignerGone
+    refl (nothing_sent (g.W.Sink.Sink.nothing sink)) (search rules) c.requires.top.3 in
+    rw (c.not_begun.ensures.0, c.not_begun.ensures.1, c.not_begun.ensures.2) h.run
 
-pub returns-in_default-clause-turned : goal.returns-in_default-clause-turned
-returns-in_default-clause-turned g c =
-    let h = none_conducted g.C.Core.stands_for g.N.Naming.given (IsAnswerFor g.C.Core.rules g.C.Core.stands_for g.N.Naming.given (g.C.Settings.Reads.says c.args.settings.now)) g.W.Source.Source.told c.args.crew.sources.items c.args.crew.pace g.W.Ticker.Ticker.gave c.args.crew.ticker (g.W.Sink.Sink.failures_of c.args.crew.sink) (g.W.Sink.Sink.failures_of c.args.crew.sink) (publishing_of c.args.crew.publisher (popped_by c.args.crew.pops)) [] false AlignerGone
-    refl (nothing_sent (g.W.Sink.Sink.nothing c.args.crew.sink)) (search rules) c.requires.top.3 in
-    rw (c.not_begun.ensures.0, c.not_begun.ensures.1, c.not_begun.ensures.2) h.turned
-
-pub returns-in_default-clause-ended : goal.returns-in_default-clause-ended
-returns-in_default-clause-ended g c =
-    let h = none_conducted g.C.Core.stands_for g.N.Naming.given (IsAnswerFor g.C.Core.rules g.C.Core.stands_for g.N.Naming.given (g.C.Settings.Reads.says c.args.settings.now)) g.W.Source.Source.told c.args.crew.sources.items c.args.crew.pace g.W.Ticker.Ticker.gave c.args.crew.ticker (g.W.Sink.Sink.failures_of c.args.crew.sink) (g.W.Sink.Sink.failures_of c.args.crew.sink) (publishing_of c.args.crew.publisher (popped_by c.args.crew.pops)) [] false AlignerGone
-    refl (nothing_sent (g.W.Sink.Sink.nothing c.args.crew.sink)) (search rules) c.requires.top.3 in
-    rw (c.not_begun.ensures.0, c.not_begun.ensures.1, c.not_begun.ensures.2) h.ended
+pub returns-in_default-clause-one : goal.returns-in_default-clause-one
+returns-in_default-clause-one g c =
+    let p = c.args.crew.publisher in
+    let sink = c.args.crew.sink in
+    let h = none_conducted g.C.Core.rules (g.C.Settings.Reads.says c.args.settings.now) g.N.Naming.given g.W.Source.Source.told c.args.crew.sources.items c.args.crew.pace g.W.Ticker.Ticker.gave c.args.crew.ticker
+    (output_in p) (lead_in p) (last_in p) (popped_by c.args.crew.pops) (g.W.Mark.Mark.stored (mark_in p)) (standing_of p) (g.W.Sink.Sink.failures_of sink) (g.W.Sink.Sink.failures_of sink) [] false AlignerGone
+    refl (nothing_sent (g.W.Sink.Sink.nothing sink)) (search rules) c.requires.top.3 in
+    rw (c.not_begun.ensures.0, c.not_begun.ensures.1, c.not_begun.ensures.2) h.one
 
 pub returns-in_default-channel-clause-sent : goal.returns-in_default-channel-clause-sent
 returns-in_default-channel-clause-sent g c =
-    let h = none_conducted g.C.Core.stands_for g.N.Naming.given (IsAnswerFor g.C.Core.rules g.C.Core.stands_for g.N.Naming.given (g.C.Settings.Reads.says c.args.settings.now)) g.W.Source.Source.told c.args.crew.sources.items c.args.crew.pace g.W.Ticker.Ticker.gave c.args.crew.ticker (g.W.Sink.Sink.failures_of c.args.crew.sink) (g.W.Sink.Sink.failures_of c.args.crew.sink) (publishing_of c.args.crew.publisher (popped_by c.args.crew.pops)) [] false AlignerGone
-    refl (nothing_sent (g.W.Sink.Sink.nothing c.args.crew.sink)) (search rules) c.requires.top.3 in
-    rw (c.not_begun-in_default-channel.ensures.0, c.not_begun-in_default-channel.ensures.1, c.not_begun-in_default-channel.ensures.2) h.turned.run
+    let p = c.args.crew.publisher in
+    let sink = c.args.crew.sink in
+    let h = none_conducted g.C.Core.rules (g.C.Settings.Reads.says c.args.settings.now) g.N.Naming.given g.W.Source.Source.told c.args.crew.sources.items c.args.crew.pace g.W.Ticker.Ticker.gave c.args.crew.ticker
+    (output_in p) (lead_in p) (last_in p) (popped_by c.args.crew.pops) (g.W.Mark.Mark.stored (mark_in p)) (standing_of p) (g.W.Sink.Sink.failures_of sink) (g.W.Sink.Sink.failures_of sink) [] false AlignerGone
+    refl (nothing_sent (g.W.Sink.Sink.nothing sink)) (search rules) c.requires.top.3 in
+    rw (c.not_begun-in_default-channel.ensures.0, c.not_begun-in_default-channel.ensures.1, c.not_begun-in_default-channel.ensures.2) h.run
 
-pub returns-in_default-channel-clause-turned : goal.returns-in_default-channel-clause-turned
-returns-in_default-channel-clause-turned g c =
-    let h = none_conducted g.C.Core.stands_for g.N.Naming.given (IsAnswerFor g.C.Core.rules g.C.Core.stands_for g.N.Naming.given (g.C.Settings.Reads.says c.args.settings.now)) g.W.Source.Source.told c.args.crew.sources.items c.args.crew.pace g.W.Ticker.Ticker.gave c.args.crew.ticker (g.W.Sink.Sink.failures_of c.args.crew.sink) (g.W.Sink.Sink.failures_of c.args.crew.sink) (publishing_of c.args.crew.publisher (popped_by c.args.crew.pops)) [] false AlignerGone
-    refl (nothing_sent (g.W.Sink.Sink.nothing c.args.crew.sink)) (search rules) c.requires.top.3 in
-    rw (c.not_begun-in_default-channel.ensures.0, c.not_begun-in_default-channel.ensures.1, c.not_begun-in_default-channel.ensures.2) h.turned
-
-pub returns-in_default-channel-clause-ended : goal.returns-in_default-channel-clause-ended
-returns-in_default-channel-clause-ended g c =
-    let h = none_conducted g.C.Core.stands_for g.N.Naming.given (IsAnswerFor g.C.Core.rules g.C.Core.stands_for g.N.Naming.given (g.C.Settings.Reads.says c.args.settings.now)) g.W.Source.Source.told c.args.crew.sources.items c.args.crew.pace g.W.Ticker.Ticker.gave c.args.crew.ticker (g.W.Sink.Sink.failures_of c.args.crew.sink) (g.W.Sink.Sink.failures_of c.args.crew.sink) (publishing_of c.args.crew.publisher (popped_by c.args.crew.pops)) [] false AlignerGone
-    refl (nothing_sent (g.W.Sink.Sink.nothing c.args.crew.sink)) (search rules) c.requires.top.3 in
-    rw (c.not_begun-in_default-channel.ensures.0, c.not_begun-in_default-channel.ensures.1, c.not_begun-in_default-channel.ensures.2) h.ended
+pub returns-in_default-channel-clause-one : goal.returns-in_default-channel-clause-one
+returns-in_default-channel-clause-one g c =
+    let p = c.args.crew.publisher in
+    let sink = c.args.crew.sink in
+    let h = none_conducted g.C.Core.rules (g.C.Settings.Reads.says c.args.settings.now) g.N.Naming.given g.W.Source.Source.told c.args.crew.sources.items c.args.crew.pace g.W.Ticker.Ticker.gave c.args.crew.ticker
+    (output_in p) (lead_in p) (last_in p) (popped_by c.args.crew.pops) (g.W.Mark.Mark.stored (mark_in p)) (standing_of p) (g.W.Sink.Sink.failures_of sink) (g.W.Sink.Sink.failures_of sink) [] false AlignerGone
+    refl (nothing_sent (g.W.Sink.Sink.nothing sink)) (search rules) c.requires.top.3 in
+    rw (c.not_begun-in_default-channel.ensures.0, c.not_begun-in_default-channel.ensures.1, c.not_begun-in_default-channel.ensures.2) h.one

@@ -10,4 +10,8 @@ ghosts-live_on-N-Ledgers g a = record {
   refused = record { name = a.blanks.refused.name; parts = 1 };
   configured = record { name = a.blanks.configured.name; parts = 1 };
   top = record { name = a.blanks.top.name; parts = 1 };
+  turns = record { name = a.blanks.turns.name; parts = 1 };
 }
+
+abbrev pub ghosts-live_on-N-Logged : goal.ghosts-live_on-N-Logged
+ghosts-live_on-N-Logged g a = record { book = a.blanks.log.seen.book }

@@ -10,4 +10,8 @@ ghosts-side_by_side-N-Ledgers g a = record {
   refused = record { name = a.blanks.refused.name; parts = 1 };
   configured = record { name = a.blanks.configured.name; parts = 1 };
   top = record { name = a.blanks.top.name; parts = 1 };
+  turns = record { name = a.blanks.turns.name; parts = 1 };
 }
+
+abbrev pub ghosts-side_by_side-N-Logged : goal.ghosts-side_by_side-N-Logged
+ghosts-side_by_side-N-Logged g a = record { book = a.blanks.log.seen.book }

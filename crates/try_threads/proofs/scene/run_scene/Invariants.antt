@@ -11,4 +11,8 @@ ghosts-opened-N-Ledgers g a = record {
   refused = record { name = a.blanks.refused.name; parts = 3 };
   configured = record { name = a.blanks.configured.name; parts = 3 };
   top = record { name = a.blanks.top.name; parts = 1 };
+  turns = record { name = a.blanks.turns.name; parts = 1 };
 }
+
+abbrev pub ghosts-opened-N-Logged : goal.ghosts-opened-N-Logged
+ghosts-opened-N-Logged g a = record { book = a.blanks.log.seen.book }

@@ -1,4 +1,14 @@
+use Rattle.std.proofs.Common.{rules, arith, ◌≡◌, ◌+◌, false, ◌∙◌}
+use Rattle.pdc_hub.specs.Counted.{is_used_up, refused_by, taken_by}
+use Rattle.pdc_hub.proofs.Counted.{is_free, refused_once, stays_below, taken_once}
 use Rattle.pdc_hub.proofs.recorder.Recorder.deliver.Goals as goal
 
-pub returns-clause-some : goal.returns-clause-some
-returns-clause-some g c = rw (← c.audit.ensures.amounts.0, ← c.audit.ensures.amounts.1, ← c.audit.ensures.amounts.2) c.add.ensures.some
+pub returns-clause-most : goal.returns-clause-most
+returns-clause-most g c =
+    let own = c.args.self.now in
+    let mine = c.args.mine.now in
+    let unused : is_used_up own.taken.total own.refused.total own.configured.total ≡ false = search rules in
+    let free = is_free own.taken.total own.refused.total own.configured.total unused in (
+      stays_below c.add.result taken_by mine.taken.amount c.add.new.mine.taken.amount own.taken.total _ taken_once c.audit.ensures.most.0 free.taken_free (search rules) c.add.ensures.err (λ e. search (rules, e)),
+      stays_below c.add.result refused_by mine.refused.amount c.add.new.mine.refused.amount own.refused.total _ refused_once c.audit.ensures.most.1 free.refused_free (search rules) c.add.ensures.err (λ e. search (rules, e)),
+    )

@@ -1,13 +1,37 @@
-use Rattle.std.proofs.Common.{rules, ◌∙◌}
-use Rattle.pdc_hub.proofs.Held.{numbered}
+use Rattle.std.proofs.Common.{rules, arith, ◌∙◌, refl, sym, ap}
+use Rattle.pdc_life.specs.Answer.{ToPop}
+use Rattle.pdc_hub.specs.Replay.{WasRead}
+use Rattle.pdc_hub.proofs.Replays.{came_same, has_turned, turned_more}
 use Rattle.pdc_hub.proofs.recorder.Recorder.pop.Goals as goal
 
-pub returns-in-Ok-false-clause-some : goal.returns-in-Ok-false-clause-some
-returns-in-Ok-false-clause-some g c =
+pub invariant_of-self-in-Ok-true-clause-came_are : goal.invariant_of-self-in-Ok-true-clause-came_are
+invariant_of-self-in-Ok-true-clause-came_are g c =
     let old = c.args.self.now in
-    numbered g.C.Core.rules (g.C.Settings.Reads.says (g.C.Core.settings_of old.core.base)) g.C.Core.stands_for g.N.Naming.given (g.C.Core.stands_for old.core.base) old.core.state old.core.first old.core.events.items _ old.core.replays (λ h E s n. (search (rules, c.in-Ok-false.ensures.answer h E s), c.step-step.ensures ∙ n))
+    old.came_are ∙ sym (came_same old.core.log.seen.log c.pop_into.new.self.log.seen.log ToPop refl c.in-Ok-true.ensures.logged.added)
 
-pub returns-in-Ok-true-clause-some : goal.returns-in-Ok-true-clause-some
-returns-in-Ok-true-clause-some g c =
+pub invariant_of-self-in-Ok-true-clause-turns_are : goal.invariant_of-self-in-Ok-true-clause-turns_are
+invariant_of-self-in-Ok-true-clause-turns_are g c =
     let old = c.args.self.now in
-    numbered g.C.Core.rules (g.C.Settings.Reads.says (g.C.Core.settings_of old.core.base)) g.C.Core.stands_for g.N.Naming.given (g.C.Core.stands_for old.core.base) old.core.state old.core.first old.core.events.items _ old.core.replays (λ h E s n. (search (rules, c.in-Ok-true.ensures.answer h E s), c.step-step.ensures ∙ n))
+    omega (arith, c.add.ensures.total, c.audit-2.ensures.total, old.turns_are, turned_more old.core.log.seen.log c.pop_into.new.self.log.seen.log ToPop refl c.in-Ok-true.ensures.logged.added)
+
+pub invariant_of-self-in-Ok-false-clause-came_are : goal.invariant_of-self-in-Ok-false-clause-came_are
+invariant_of-self-in-Ok-false-clause-came_are g c =
+    let old = c.args.self.now in
+    old.came_are ∙ sym (came_same old.core.log.seen.log c.pop_into.new.self.log.seen.log ToPop refl c.in-Ok-false.ensures.logged.added)
+
+pub invariant_of-self-in-Ok-false-clause-turns_are : goal.invariant_of-self-in-Ok-false-clause-turns_are
+invariant_of-self-in-Ok-false-clause-turns_are g c =
+    let old = c.args.self.now in
+    omega (arith, c.add-in-Ok-false.ensures.total, c.audit-2.ensures.total, old.turns_are, turned_more old.core.log.seen.log c.pop_into.new.self.log.seen.log ToPop refl c.in-Ok-false.ensures.logged.added)
+
+pub returns-in-Ok-true-clause-turned : goal.returns-in-Ok-true-clause-turned
+returns-in-Ok-true-clause-turned g c =
+    let old = c.args.self.now in
+    let pops = c.args.pops.now in
+    has_turned g.C.Core.rules (WasRead g.C.Settings.Reads.says g.C.Settings.Reads.fits g.N.Naming.settings) g.N.Naming.given (g.C.Core.stands_for old.core.base) (g.C.Core.stands_for old.core.state) old.core.log.seen.log c.pop_into.new.self.log.seen.log pops.front c.pop_into.new.front old.core.events.items ToPop c.step-step.result _ c.in-Ok-true.ensures.logged (omega (arith, pops.own, old.turns_are, c.audit-2.ensures.whole c.requires.turns.0)) c.step-step.ensures (λ h E s. search (rules, c.in-Ok-true.ensures.answer h E s)) old.core.replays
+
+pub returns-in-Ok-false-clause-turned : goal.returns-in-Ok-false-clause-turned
+returns-in-Ok-false-clause-turned g c =
+    let old = c.args.self.now in
+    let pops = c.args.pops.now in
+    has_turned g.C.Core.rules (WasRead g.C.Settings.Reads.says g.C.Settings.Reads.fits g.N.Naming.settings) g.N.Naming.given (g.C.Core.stands_for old.core.base) (g.C.Core.stands_for old.core.state) old.core.log.seen.log c.pop_into.new.self.log.seen.log pops.front c.pop_into.new.front old.core.events.items ToPop c.step-step.result _ c.in-Ok-false.ensures.logged (omega (arith, pops.own, old.turns_are, c.audit-2.ensures.whole c.requires.turns.0)) c.step-step.ensures (λ h E s. search (rules, c.in-Ok-false.ensures.answer h E s)) old.core.replays

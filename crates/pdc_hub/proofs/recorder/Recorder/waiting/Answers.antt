@@ -1,7 +1,10 @@
-use Rattle.pdc_hub.proofs.Held.{told}
+use Rattle.std.proofs.Common.{rules, ◌≡◌}
+use Rattle.pdc_life.specs.Answer.{waiting_counts}
+use Rattle.pdc_hub.specs.Replay.{WasRead}
+use Rattle.pdc_hub.proofs.Replays.{told_now}
 use Rattle.pdc_hub.proofs.recorder.Recorder.waiting.Goals as goal
 
-pub returns-clause-some : goal.returns-clause-some
-returns-clause-some g c =
+pub returns-clause-waits : goal.returns-clause-waits
+returns-clause-waits g c =
     let old = c.args.self.now in
-    told g.C.Core.rules (g.C.Settings.Reads.says (g.C.Core.settings_of old.core.base)) g.C.Core.stands_for g.N.Naming.given (g.C.Core.stands_for old.core.base) old.core.state old.core.first old.core.events.items _ old.core.replays c.waiting.ensures
+    told_now g.C.Core.rules (WasRead g.C.Settings.Reads.says g.C.Settings.Reads.fits g.N.Naming.settings) g.N.Naming.given (g.C.Core.stands_for old.core.base) (g.C.Core.stands_for old.core.state) old.core.log.seen.log c.show.new.pops.front old.core.events.items (λ h E. c.waiting.result ≡ waiting_counts h E) c.show.ensures.seen (λ h E s. search (rules, c.show.ensures.core, c.waiting.ensures h E, s)) old.core.replays

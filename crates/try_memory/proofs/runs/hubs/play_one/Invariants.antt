@@ -11,4 +11,8 @@ ghosts-play_on-N-Ledgers g a = record {
   refused = record { name = a.blanks.refused.name; parts = 1 };
   configured = record { name = a.blanks.configured.name; parts = 1 };
   top = record { name = a.blanks.top.name; parts = 1 };
+  turns = record { name = a.blanks.turns.name; parts = 1 };
 }
+
+abbrev pub ghosts-play_on-N-Logged : goal.ghosts-play_on-N-Logged
+ghosts-play_on-N-Logged g a = record { book = a.blanks.log.seen.book }
