@@ -1,7 +1,6 @@
 -- What a sorted table contains, and what holds of it.
 use Rattle.std.specs.Prelude.{◌≤◌, [], ◌∷◌, map}
 use Rattle.std.specs.Vec.{vec_capacity}
-use Rattle.std.specs.VecDeque.{deque_capacity}
 use Rattle.pdc_row.specs.RowView.{row_view}
 use Rattle.pdc_table.specs.Content.{Content, IsContent}
 use Rattle.pdc_table.specs.TableView.{TableView}
@@ -23,11 +22,11 @@ abbrev pub view_of : Inside → TableView
 view_of t = record {
   content = content_of t;
   disagreements = t.disagree;
-  memory = vec_capacity t.rows ∷ deque_capacity t.closed ∷ [];
+  memory = vec_capacity t.rows ∷ t.closed.capacity ∷ [];
 }
 
 -- there is room for each instant that can be held
 pub record IsKept (t : Inside) : Type 0 where
   pub content : IsContent (content_of t)
   pub room : t.window ≤ vec_capacity t.rows
-  pub closed_room : t.window ≤ deque_capacity t.closed
+  pub closed_room : t.window ≤ t.closed.capacity

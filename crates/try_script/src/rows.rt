@@ -3,7 +3,6 @@ ghost use Rattle.std.specs.Prelude.{◌≡◌, ℕ, ◌+◌, ◌<◌, ◌≤◌,
 ghost use Rattle.std.specs.Vec.{vec_capacity};
 ghost use Rattle.std.specs.List.{All, AllByRecursion, list_all, prefix_len, slice_get};
 ghost use Rattle.std.specs.Result.{MatchResult};
-ghost use Rattle.std.specs.VecDeque.{deque_capacity, deque_len};
 ghost use Rattle.pdc_table.specs.Closing.{aged, closing, counter, staying};
 ghost use Rattle.pdc_table.specs.pdc_open_row.Due.{is_due};
 ghost use Rattle.pdc_row.specs.RowView.{row_instants, row_view};
@@ -19,9 +18,9 @@ ghost use Rattle.pdc_table.specs.pdc_open_row.Layout.{layout_view};
 ghost use Rattle.pdc_table.specs.pdc_open_row.Views.{OpenRowView, blank_row};
 
 use crate::aged_row::AgedRow;
+use pdc_memory::HeldQueue;
 use pdc_row::{CopyFrom, DueRow, Offered, numbers_rise};
 use pdc_table::{MAX_COLUMNS, Places, PutOutcome, RowLayout, WaitRule, is_near, remove_front};
-use std::collections::VecDeque;
 
 /// A frame that is offered to the rows, without its cells.
 #[derive(Clone, Copy, Debug)]
@@ -115,13 +114,13 @@ pub fn drop_column(rows: &mut Vec<AgedRow>, column: usize)
 }
 
 /// Closes each of these rows under a layout, in order.
-pub fn close(rows: &[AgedRow], layout: &RowLayout, closed: &mut VecDeque<DueRow>)
-    requires { deque_len closed.old + length rows.now ≤ deque_capacity closed.old }
+pub fn close(rows: &[AgedRow], layout: &RowLayout, closed: &mut HeldQueue<DueRow>)
+    requires { length closed.old.items + length rows.now ≤ closed.old.capacity }
     ensures items { map row_view closed.new.items ≡ map row_view closed.old.items ++ map (row_of (layout_view layout.now)) rows.now }
-    ensures capacity { deque_capacity closed.new ≡ deque_capacity closed.old }
+    ensures capacity { closed.new.capacity ≡ closed.old.capacity }
 {
     for row in rows {
-        closed.push_back_reserved(row.close(layout));
+        closed.push_back(row.close(layout));
     }
 }
 
@@ -179,7 +178,7 @@ pub fn take<B: Offered>(
 }
 
 /// Whether each held instant is less than the window away.
-pub fn are_near(rows: &[AgedRow], closed: &VecDeque<DueRow>, window: u64, instant: u64) -> bool
+pub fn are_near(rows: &[AgedRow], closed: &HeldQueue<DueRow>, window: u64, instant: u64) -> bool
     requires { Rises 0 (row_instants (map row_view closed.now.items) ++ instants_of rows.now) }
     ensures { result ≡ list_all (is_near window instant)
         (row_instants (map row_view closed.now.items) ++ instants_of rows.now) }
@@ -190,7 +189,7 @@ pub fn are_near(rows: &[AgedRow], closed: &VecDeque<DueRow>, window: u64, instan
 }
 
 /// The lowest instant held.
-fn lowest(rows: &[AgedRow], closed: &VecDeque<DueRow>) -> Option<u64>
+fn lowest(rows: &[AgedRow], closed: &HeldQueue<DueRow>) -> Option<u64>
     ensures { result ≡ slice_get (row_instants (map row_view closed.now.items) ++ instants_of rows.now) 0 }
 {
     match closed.front() {
@@ -200,7 +199,7 @@ fn lowest(rows: &[AgedRow], closed: &VecDeque<DueRow>) -> Option<u64>
 }
 
 /// The highest instant held.
-fn highest(rows: &[AgedRow], closed: &VecDeque<DueRow>) -> Option<u64>
+fn highest(rows: &[AgedRow], closed: &HeldQueue<DueRow>) -> Option<u64>
     ensures { result ≡ highest_of (row_instants (map row_view closed.now.items) ++ instants_of rows.now) }
 {
     match (rows.last(), closed.back()) {
@@ -215,12 +214,12 @@ pub fn close_due(
     rows: &mut Vec<AgedRow>,
     rule: &DueRule,
     layout: &RowLayout,
-    closed: &mut VecDeque<DueRow>,
+    closed: &mut HeldQueue<DueRow>,
     last: &mut u64,
     disagree: &mut u64,
 ) -> usize
     requires rising { Rises last.old (instants_of rows.old.items) }
-    requires room { deque_len closed.old + vec_len rows.old ≤ deque_capacity closed.old }
+    requires room { length closed.old.items + vec_len rows.old ≤ closed.old.capacity }
     ensures answer { result ≡ length (closing rule.now.required.now rule.now.wait rows.old.items) }
     ensures rows { rows.new.items ≡ staying rule.now.required.now rule.now.wait rows.old.items }
     ensures closed { map row_view closed.new.items ≡ map row_view closed.old.items
@@ -229,7 +228,7 @@ pub fn close_due(
     ensures disagree { disagree.new ≡ counter
         (disagree.old + disagreements_in (layout_view layout.now) (closing rule.now.required.now rule.now.wait rows.old.items)) }
     ensures capacity { vec_capacity rows.new ≡ vec_capacity rows.old }
-    ensures closed_capacity { deque_capacity closed.new ≡ deque_capacity closed.old }
+    ensures closed_capacity { closed.new.capacity ≡ closed.old.capacity }
 {
     let count = count_due(rows, rule.required, rule.wait);
     let due = &rows[..count];
@@ -264,13 +263,13 @@ fn again(row: &DueRow) -> DueRow
 }
 
 /// Makes these the closed rows, for which there is room.
-pub fn copy_closed(closed: &mut VecDeque<DueRow>, others: &VecDeque<DueRow>)
-    requires { deque_len others.now ≤ deque_capacity closed.old }
+pub fn copy_closed(closed: &mut HeldQueue<DueRow>, others: &HeldQueue<DueRow>)
+    requires { length others.now.items ≤ closed.old.capacity }
     ensures rows { map row_view closed.new.items ≡ map row_view others.now.items }
-    ensures capacity { deque_capacity closed.new ≡ deque_capacity closed.old }
+    ensures capacity { closed.new.capacity ≡ closed.old.capacity }
 {
     closed.clear();
     for place in 0..others.len() {
-        closed.push_back_reserved(again(&others[place]));
+        closed.push_back(again(others.item(place)));
     }
 }

@@ -7,13 +7,13 @@ ghost use Rattle.pdc_table.specs.pdc_open_row.Taking.{cells_in};
 use crate::aged_row::AgedRow;
 use crate::rows::{self, DueRule, FrameHead};
 use arrayvec::ArrayVec;
+use pdc_memory::{HeldQueue, with_room};
 use pdc_row::{Block, Body, DueRow, Offered, numbers_rise};
 use pdc_table::{
     MAX_COLUMNS, Places, PutOutcome, RowLayout, Table, WaitRule, copy_items, falses, lane_of,
     stream_count,
 };
 use std::alloc::{AllocError, Global};
-use std::collections::VecDeque;
 use std::marker::Model;
 
 /// A table kept as one row for each open instant, in rising order.
@@ -24,7 +24,7 @@ pub struct SortedTable {
     lanes: usize,
     required: ArrayVec<bool, MAX_COLUMNS>,
     rows: Vec<AgedRow>,
-    closed: VecDeque<DueRow>,
+    closed: HeldQueue<DueRow>,
     last: u64,
     disagree: u64,
 }
@@ -100,8 +100,8 @@ impl Table for SortedTable {
             columns,
             lanes,
             required: falses(stream_count(columns, lanes)),
-            rows: Vec::with_capacity(alloc, room)?,
-            closed: VecDeque::with_capacity(alloc, room)?,
+            rows: with_room(alloc, room)?,
+            closed: HeldQueue::with_capacity(alloc, room)?,
             last: floor,
             disagree: 0,
         })

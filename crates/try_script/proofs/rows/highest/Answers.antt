@@ -1,5 +1,4 @@
 use Rattle.std.proofs.Common.{rules, ◌≡◌, ◌++◌, ◌∙◌, sym, ap, map, append-nil, length, refl, Some}
-use Rattle.std.specs.VecDeque.{deque_len}
 use Rattle.pdc_row.specs.RowView.{row_view, row_instants}
 use Rattle.pdc_row.specs.Rising.{highest_of}
 use Rattle.pdc_table.specs.OpenInstants.{instants_of}
@@ -12,7 +11,7 @@ returns-in-Some-default c =
 
 pub returns-in-None-Some : goal.returns-in-None-Some
 returns-in-None-Some c =
-    let len : deque_len c.args.closed.now ≡ length c.args.closed.now.items = search rules in
+    let len : length c.args.closed.now.items ≡ length c.args.closed.now.items = search rules in
     sym (ap (λ rows. highest_of (row_instants (map row_view c.args.closed.now.items) ++ instants_of rows)) (no_rows c.args.rows.now c.in-None-Some.ensures.item.0)
     ∙ ap highest_of (append-nil (row_instants (map row_view c.args.closed.now.items)))
-    ∙ highest_closed c.args.closed.now.items c.in-None-Some.row.now (deque_len c.args.closed.now) len (c.in-None-Some.ensures'.variant.0 refl) c.in-None-Some.ensures'.lookup)
+    ∙ highest_closed c.args.closed.now.items c.in-None-Some.row.now (length c.args.closed.now.items) len (c.in-None-Some.ensures'.variant.0 refl) c.in-None-Some.ensures'.lookup)

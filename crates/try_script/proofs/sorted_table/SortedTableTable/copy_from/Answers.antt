@@ -1,6 +1,5 @@
-use Rattle.std.proofs.Common.{rules, arith, ◌≡◌, ◌≤◌, ◌+◌, ◌∙◌, ap, length, sym}
+use Rattle.std.proofs.Common.{arith, refl, ◌≡◌, ◌≤◌, ◌+◌, ◌∙◌, ap, length, sym}
 use Rattle.std.proofs.lemmas.List.{length-map}
-use Rattle.std.specs.VecDeque.{deque_len}
 use Rattle.pdc_row.specs.RisingLaws.{RisingLaws}
 use Rattle.pdc_row.specs.RowView.{row_view}
 use Rattle.pdc_table.specs.Content.{HasSizesOf}
@@ -26,5 +25,5 @@ copy_rows-requires-clause-room c =
 
 pub copy_closed-requires : goal.copy_closed-requires
 copy_closed-requires c =
-    let closed : deque_len c.other.inside.closed ≡ length c.other.inside.closed.items = search rules in
+    let closed : length c.other.inside.closed.items ≡ length c.other.inside.closed.items = refl in
     omega (arith, fits c.numbers_rise.ensures c.other.inside c.other.invariant, window c.self.inside c.other.inside c.args.self.now c.args.other.now c.self.view_is c.other.view_is c.requires, c.self.invariant.closed_room)

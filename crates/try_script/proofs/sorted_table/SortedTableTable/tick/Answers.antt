@@ -1,6 +1,5 @@
-use Rattle.std.proofs.Common.{rules, arith, ◌≡◌, ◌≤◌, ◌+◌, ◌∙◌, ap, length, map, vec_len}
+use Rattle.std.proofs.Common.{rules, arith, refl, ◌≡◌, ◌≤◌, ◌+◌, ◌∙◌, ap, length, map, vec_len}
 use Rattle.std.proofs.lemmas.List.{length-map}
-use Rattle.std.specs.VecDeque.{deque_len}
 use Rattle.pdc_table.specs.Closing.{aged, closing}
 use Rattle.pdc_row.specs.RowView.{row_view}
 use Rattle.pdc_table.specs.pdc_open_row.Layout.{layout_view}
@@ -17,7 +16,7 @@ close_due-requires-clause-room c =
     let fit : length (map row_view c.self.inside.closed.items) + length c.self.inside.rows.items ≤ c.self.inside.window = held_fit c.numbers_rise.ensures (content_of c.self.inside) c.self.invariant.content in
     let grown : length c.grow_older.new.rows.items ≡ length c.self.inside.rows.items = ap length c.grow_older.ensures.items ∙ length-map c.self.inside.rows.items aged in
     let rows : vec_len c.grow_older.new.rows ≡ length c.grow_older.new.rows.items = search rules in
-    let closed : deque_len c.self.inside.closed ≡ length c.self.inside.closed.items = search rules in
+    let closed : length c.self.inside.closed.items ≡ length c.self.inside.closed.items = refl in
     omega (arith, c.self.invariant.closed_room, length-map c.self.inside.closed.items row_view)
 
 pub overflow_cast-result : goal.overflow_cast-result
