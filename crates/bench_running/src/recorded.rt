@@ -1,5 +1,5 @@
 //! What a hub does for each datagram, on one thread: it is read and kept, and then, under the lock, taken by the core and recorded.
-ghost use Rattle.std.specs.Prelude.{◌≡◌, Some, [], length};
+ghost use Rattle.std.specs.Prelude.{◌≡◌, ◌<◌, Some, [], length};
 ghost use Rattle.pdc_life.specs.CoreKind.{given_of, OfNode};
 ghost use Rattle.pdc_node.specs.Node.{StandsFor};
 
@@ -35,6 +35,25 @@ fn keep_all(alloc: Global, settings: &Settings, frames: &Frames) -> u64 {
     kept
 }
 
+/// Reads and keeps one frame, and takes it; false where memory runs out.
+fn take_one<N: Naming<Settings>, R: Wait>(
+    rt: &R,
+    alloc: Global,
+    settings: &Settings,
+    core: &mut Replayed<Node<RingTable>, N>,
+    front: &mut Front<N>,
+    stream: usize,
+    bytes: &[u8],
+) -> bool
+    requires named { N.settings ≡ Some settings.now }
+    requires stream { stream < length settings.now.pmus.items }
+{
+    match settings.read_kept(alloc, stream, bytes) {
+        Ok(taken) => core.arrive(rt, front, stream, bytes, taken).is_ok(),
+        Err(_) => false,
+    }
+}
+
 /// Takes the frame with this number of each PMU, ticks, and pops into this row; false where memory runs out.
 fn take_instant<N: Naming<Settings>, R: Wait>(
     rt: &R,
@@ -51,10 +70,7 @@ fn take_instant<N: Naming<Settings>, R: Wait>(
     for (stream, list) in frames.streams.iter().enumerate() {
         if stream < settings.pmus.len() && (number as usize) < list.len() {
             let bytes = &list[number as usize];
-            let Ok(taken) = settings.read_kept(alloc, stream, bytes) else {
-                return false;
-            };
-            if core.arrive(rt, front, stream, bytes, taken).is_err() {
+            if !take_one(rt, alloc, settings, core, front, stream, bytes) {
                 return false;
             }
         }
