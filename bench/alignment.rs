@@ -1,9 +1,8 @@
 //! The alignment of a plain concentrator: what is held of each column and in force for it, and the ring.
 
-use crate::answers::{Answer, Refusal};
-use crate::blocks::Body;
+use crate::answers::Refusal;
 use crate::plain::{Section, Shape};
-use crate::ring::{COLUMNS, Ring, Row, RowLayout, WaitRule};
+use crate::ring::{COLUMNS, RowLayout, WaitRule};
 
 /// What the wait is counted in: ticks that an instant is open, or instants below now.
 #[derive(Clone, Copy, PartialEq, Eq)]
@@ -86,7 +85,23 @@ pub struct Ticked {
     pub used_up: bool,
 }
 
-pub struct Alignment<const LANES: usize> {
+/// The rows that wait for data.
+pub trait Rows {
+    const LANES: usize;
+    /// All up to this instant is closed.
+    fn last(&self) -> u64;
+    /// How often, at a closing, the present blocks of a column differed.
+    fn disagree(&self) -> u64;
+    fn require(&mut self, stream: usize, is_required: bool);
+    /// Closes the rows for which every row up to them is due, and answers how many.
+    fn tick(&mut self, rule: WaitRule, layout: &RowLayout) -> u32;
+    /// Forgets what was taken of a column at each open instant, with one lane of its stream too.
+    fn drop_column(&mut self, column: usize);
+    /// Takes the layout that is in force from now on.
+    fn lay(&mut self, layout: &RowLayout);
+}
+
+pub struct Alignment<R> {
     plan: Plan,
     now: u64,
     pub columns: Vec<Column>,
@@ -95,15 +110,14 @@ pub struct Alignment<const LANES: usize> {
     /// The columns of which a section is held that is newer than the one in force.
     pending: u16,
     layout: RowLayout,
-    pub ring: Ring<LANES>,
+    pub rows: R,
 }
 
-impl<const LANES: usize> Alignment<LANES> {
-    pub fn new(plan: Plan, start: u32, floor: u64, counts: &[u16; COLUMNS], now: u64) -> Self {
-        let mut ring = Ring::new(plan.window, plan.columns, floor);
-        if LANES == 2 {
-            ring.require(0, true);
-            ring.require(1, true);
+impl<R: Rows> Alignment<R> {
+    pub fn new(mut rows: R, plan: Plan, start: u32, counts: &[u16; COLUMNS], now: u64) -> Self {
+        if R::LANES == 2 {
+            rows.require(0, true);
+            rows.require(1, true);
         }
         let columns = counts[..plan.columns]
             .iter()
@@ -125,7 +139,7 @@ impl<const LANES: usize> Alignment<LANES> {
             cleared,
             pending: 0,
             layout,
-            ring,
+            rows,
         }
     }
 
@@ -135,34 +149,15 @@ impl<const LANES: usize> Alignment<LANES> {
     }
 
     /// Whether an instant is above those that closed, and not too far ahead.
-    fn is_in_time(&self, instant: u64) -> Result<(), Refusal> {
-        if instant <= self.ring.last() {
+    #[inline(always)]
+    pub fn is_in_time(&self, instant: u64) -> Result<(), Refusal> {
+        if instant <= self.rows.last() {
             return Err(Refusal::Late);
         }
         if instant.saturating_sub(self.now) > self.plan.ahead {
             return Err(Refusal::Ahead);
         }
         Ok(())
-    }
-
-    /// Takes the blocks of a stream for an instant: of each part its column and its body, or none where its count is not in force.
-    #[inline]
-    pub fn put<'a, P>(
-        &mut self,
-        stream: usize,
-        instant: u64,
-        quality: u8,
-        parts: impl Iterator<Item = P>,
-        body: impl Fn(&[Column], P) -> Option<(usize, Body<'a>)>,
-    ) -> Result<Answer, Refusal> {
-        self.is_in_time(instant)?;
-        let columns = &self.columns;
-        self.ring.put(
-            stream,
-            instant,
-            quality,
-            parts.filter_map(|part| body(columns, part)),
-        )
     }
 
     /// Holds a copy of the section, unless it is below the opening count or not above what is held.
@@ -184,7 +179,7 @@ impl<const LANES: usize> Alignment<LANES> {
 
     /// Rows close under the layout before the tick, and then the columns that are ready are adopted, where a change number is left.
     pub fn tick(&mut self, now: u64, counts: &[u16; COLUMNS]) -> Ticked {
-        let closed = self.ring.tick(self.rule(now), &self.layout);
+        let closed = self.rows.tick(self.rule(now), &self.layout);
         self.now = now;
         for (cleared, count) in self.cleared.iter_mut().zip(counts) {
             *cleared = (*cleared).max(*count);
@@ -224,6 +219,7 @@ impl<const LANES: usize> Alignment<LANES> {
         if has_change {
             self.layout.change += 1;
             ticked.change = Some(self.layout.change);
+            self.rows.lay(&self.layout);
         }
     }
 
@@ -238,10 +234,10 @@ impl<const LANES: usize> Alignment<LANES> {
         in_force.clone_from(held);
         self.layout.shapes[column] = in_force.as_ref().map(|section| section.shape);
         self.pending &= !(1 << column);
-        if LANES == 1 {
-            self.ring.require(column, true);
+        if R::LANES == 1 {
+            self.rows.require(column, true);
         }
-        self.ring.drop_column(column);
+        self.rows.drop_column(column);
     }
 
     /// For each column the count that waits to be stored: the greater of the cleared and the held one.
@@ -255,10 +251,5 @@ impl<const LANES: usize> Alignment<LANES> {
                 .map_or(cleared, |held| cleared.max(held.count));
         }
         waiting
-    }
-
-    /// Takes out the lowest row that closed, and lends it.
-    pub fn pop(&mut self) -> Option<Row<'_, LANES>> {
-        self.ring.pop()
     }
 }

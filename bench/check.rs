@@ -3,6 +3,10 @@
 /// A way to compute the check word.
 pub trait CheckWord {
     fn of(bytes: &[u8]) -> u16;
+
+    /// That of a header of fourteen bytes, given as one number with its first byte highest, and the payload behind it: so a header that was
+    /// just written is not read again, which would wait for it.
+    fn behind(header: u128, payload: &[u8]) -> u16;
 }
 
 /// Sixteen bytes a step from tables: slicing by 16.
@@ -36,6 +40,67 @@ const fn tables() -> [[u16; 256]; 16] {
 
 static TABLES: [[u16; 256]; 16] = tables();
 
+/// The check word of so many zeros.
+pub const fn of_zeros(count: usize) -> u16 {
+    let (mut check, mut k) = (0xFFFF, 0);
+    while k < count {
+        check = next_check(check, 0);
+        k += 1;
+    }
+    check
+}
+
+/// What becomes of a check word behind which so many bytes stand: its product with a power of x, from two tables.
+pub struct Moved {
+    pub len: usize,
+    high: [u16; 256],
+    low: [u16; 256],
+}
+
+/// The product of two remainders by the generator.
+fn product(one: u16, other: u16) -> u16 {
+    (0..16).rev().fold(0, |product: u16, bit| {
+        let doubled = (product << 1) ^ if product >> 15 == 1 { 0x1021 } else { 0 };
+        doubled ^ if one >> bit & 1 == 1 { other } else { 0 }
+    })
+}
+
+/// The products of a number with each byte, at this place.
+fn products(number: u16, place: u32) -> [u16; 256] {
+    let mut products = [0; 256];
+    for bit in 0..8 {
+        products[1 << bit] = product(1 << (bit + place), number);
+    }
+    for byte in 1..256_usize {
+        products[byte] = products[byte & (byte - 1)] ^ products[1 << byte.trailing_zeros()];
+    }
+    products
+}
+
+impl Moved {
+    pub fn by(len: usize) -> Moved {
+        let (mut power, mut square, mut rest) = (1, 0x0100, len);
+        while rest != 0 {
+            if rest & 1 == 1 {
+                power = product(power, square);
+            }
+            square = product(square, square);
+            rest >>= 1;
+        }
+        Moved {
+            len,
+            high: products(power, 8),
+            low: products(power, 0),
+        }
+    }
+
+    #[inline(always)]
+    pub fn of(&self, check: u16) -> u16 {
+        let [high, low] = check.to_be_bytes();
+        self.high[usize::from(high)] ^ self.low[usize::from(low)]
+    }
+}
+
 /// The check word after a step of this many bytes more. What depends on the bytes alone comes first, so that steps overlap.
 #[inline(always)]
 fn after_step<const N: usize>(check: u16, step: &[u8; N]) -> u16 {
@@ -45,17 +110,30 @@ fn after_step<const N: usize>(check: u16, step: &[u8; N]) -> u16 {
     later ^ (of(0, step[0] ^ high) ^ of(1, step[1] ^ low))
 }
 
-impl CheckWord for ByTables {
-    #[inline]
-    fn of(bytes: &[u8]) -> u16 {
+impl ByTables {
+    #[inline(always)]
+    fn after(check: u16, bytes: &[u8]) -> u16 {
         let (steps, rest) = bytes.as_chunks::<16>();
-        let check = steps.iter().fold(0xFFFF, after_step);
+        let check = steps.iter().fold(check, after_step);
         let (steps, rest) = rest.as_chunks::<8>();
         let check = steps.iter().fold(check, after_step);
         let (steps, rest) = rest.as_chunks::<2>();
         let check = steps.iter().fold(check, after_step);
         rest.iter()
             .fold(check, |check, &byte| next_check(check, byte))
+    }
+}
+
+impl CheckWord for ByTables {
+    #[inline]
+    fn of(bytes: &[u8]) -> u16 {
+        ByTables::after(0xFFFF, bytes)
+    }
+
+    #[inline]
+    fn behind(header: u128, payload: &[u8]) -> u16 {
+        let [_, _, header @ ..]: [u8; 16] = header.to_be_bytes();
+        ByTables::after(after_step(0xFFFF, &header), payload)
     }
 }
 
@@ -168,7 +246,30 @@ fn of_few(bytes: &[u8]) -> u16 {
     check_of_state(after_rest(START, bytes))
 }
 
+/// The check word of bytes behind a state.
+#[inline(always)]
+fn of_behind(state: u128, bytes: &[u8]) -> u16 {
+    let (steps, rest) = bytes.as_chunks::<32>();
+    let state = match steps.split_first() {
+        Some((first, steps)) => {
+            let (high, low) = steps.iter().fold(after_long((0, state), first), after_long);
+            wide_moved_up(high) ^ low
+        }
+        None => state,
+    };
+    let (steps, rest) = rest.as_chunks::<16>();
+    let state = steps.iter().fold(state, |state, step| {
+        wide_moved_up(state) ^ u128::from_be_bytes(*step)
+    });
+    check_of_state(after_rest(state, rest))
+}
+
 impl CheckWord for ByShifts {
+    #[inline]
+    fn behind(header: u128, payload: &[u8]) -> u16 {
+        of_behind((START << 112) ^ header, payload)
+    }
+
     #[inline]
     fn of(bytes: &[u8]) -> u16 {
         if bytes.len() >= 32 {

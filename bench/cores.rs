@@ -1,10 +1,11 @@
 //! A node of plain, careful Rust for the same work as the proved one: it reads and checks each datagram, counts how it was answered,
 //! aligns, stores the floor in a mark in memory, and writes the data frames straight out of the ring.
 
-use crate::alignment::{Alignment, Plan, Ticked};
+use crate::alignment::{Alignment, Plan, Rows, Ticked};
 use crate::answers::{Answer, Counts, Refusal};
-use crate::blocks::Body;
 use crate::check::CheckWord;
+use crate::grid::Grid;
+use crate::images::Images;
 use crate::plain::{self, Config, Frame, Kind};
 use crate::publishing::{Output, Publisher};
 use crate::ring::COLUMNS;
@@ -30,7 +31,8 @@ pub struct Settings {
 struct Node<C> {
     rate: u32,
     pmus: Vec<Pmu>,
-    alignment: Alignment<1>,
+    grids: Vec<Grid>,
+    alignment: Alignment<Images>,
     publisher: Publisher,
     counts: Counts,
     check: PhantomData<C>,
@@ -41,7 +43,18 @@ impl<C: CheckWord> Node<C> {
         Node {
             rate: settings.output.rate,
             pmus: settings.pmus.clone(),
-            alignment: Alignment::new(settings.plan, start, floor, &[0; COLUMNS], floor),
+            grids: settings
+                .pmus
+                .iter()
+                .map(|pmu| Grid::new(pmu.time_base, settings.output.rate))
+                .collect(),
+            alignment: Alignment::new(
+                Images::new(settings.plan.window, floor, start),
+                settings.plan,
+                start,
+                &[0; COLUMNS],
+                floor,
+            ),
             publisher: Publisher::new(settings.output, start, floor),
             counts: Counts::default(),
             check: PhantomData,
@@ -61,16 +74,15 @@ impl<C: CheckWord> Node<C> {
     }
 
     fn take(&mut self, stream: usize, frame: &Frame) -> Result<Answer, Refusal> {
-        let time_base = self.pmus[stream].time_base;
-        let instant = plain::instant(frame.soc, frame.frac, time_base, self.rate);
+        let instant = self.grids[stream].instant(frame.soc, frame.frac);
         let instant = instant.ok_or(Refusal::BadTag)?;
         let shape = self.alignment.shape(stream).ok_or(Refusal::NoConfig)?;
-        let body = Body::new(shape, frame.payload)?;
-        let parts = std::iter::once(body);
-        self.alignment
-            .put(stream, instant, frame.quality, parts, |_, body| {
-                Some((stream, body))
-            })
+        if frame.payload.len() != 2 * shape.word_count() {
+            return Err(Refusal::WrongLength);
+        }
+        self.alignment.is_in_time(instant)?;
+        let rows = &mut self.alignment.rows;
+        rows.put(stream, instant, frame.quality, frame.payload)
     }
 
     #[cold]
@@ -116,8 +128,7 @@ impl<C: CheckWord> Core for Node<C> {
     }
 
     fn publish(&mut self) -> Option<&[u8]> {
-        let row = self.alignment.pop()?;
-        self.publisher.publish::<C, 1>(&row)
+        self.alignment.rows.publish::<C>(&mut self.publisher)
     }
 
     fn counts(&self) -> &Counts {
@@ -129,7 +140,7 @@ impl<C: CheckWord> Core for Node<C> {
     }
 
     fn disagree(&self) -> u64 {
-        self.alignment.ring.disagree()
+        self.alignment.rows.disagree()
     }
 }
 

@@ -4,6 +4,7 @@
 //! medians of so many turns, and beside them the steps that stand in a file, one number a line. A file of times has those of turns before, which are
 //! added; with `more` it gets those of this run too, and no table is printed.
 
+mod absent;
 mod alignment;
 mod answers;
 mod blocks;
@@ -12,8 +13,13 @@ mod core_lines;
 mod cores;
 mod few;
 mod frame_lines;
+mod grid;
+mod images;
+mod lanes;
 mod lines;
 mod merging;
+mod moving;
+mod order;
 mod ours;
 mod paths;
 mod plain;

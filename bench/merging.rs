@@ -2,13 +2,14 @@
 //! the layout whose stamp it bears straight into a ring of two lanes, stores the floor in a mark in memory, and writes the data frames
 //! straight out of the ring.
 
-use crate::alignment::{Alignment, Plan, Ticked};
+use crate::alignment::{Alignment, Plan, Rows, Ticked};
 use crate::answers::{Answer, Counts, Refusal};
-use crate::blocks::Body;
-use crate::check::CheckWord;
+use crate::check::{CheckWord, Moved};
 use crate::few::Few;
-use crate::plain::{self, Config, Frame, Kind, Section, Shape};
-use crate::publishing::{OWN_BLOCK_LEN, Output, Publisher};
+use crate::grid::Grid;
+use crate::lanes::{Brought, Lanes, Part, Places};
+use crate::plain::{self, Config, Frame, Kind, Section};
+use crate::publishing::{BLOCKS_PLACE, OWN_BLOCK_LEN, Output, Publisher};
 use crate::ring::COLUMNS;
 use crate::script::{Core, Script};
 use std::cmp::Ordering;
@@ -32,27 +33,23 @@ pub struct Settings {
     pub sources: Vec<u16>,
 }
 
-/// What is kept of a section in a layout of a node.
-#[derive(Clone, Copy, Default)]
-struct Part {
-    column: usize,
-    shape: Shape,
-    count: u16,
-}
-
 /// What is held of a node's layout.
 struct Layout {
     stamp: [u8; 8],
     parts: Few<Part, COLUMNS>,
-    len: usize,
+    places: Places,
+    /// The columns whose count is in force.
+    in_force: u16,
+    moved: Moved,
 }
 
 struct Merger<C> {
     rate: u32,
     nodes: [MergedNode; NODES],
     sources: Vec<u16>,
-    layouts: [Option<Layout>; NODES],
-    alignment: Alignment<NODES>,
+    grids: [Grid; NODES],
+    layouts: [Option<Box<Layout>>; NODES],
+    alignment: Alignment<Lanes>,
     publisher: Publisher,
     counts: Counts,
     check: PhantomData<C>,
@@ -64,60 +61,110 @@ impl<C: CheckWord> Merger<C> {
             rate: settings.output.rate,
             nodes: settings.nodes,
             sources: settings.sources.clone(),
+            grids: settings
+                .nodes
+                .map(|node| Grid::new(node.time_base, settings.output.rate)),
             layouts: [None, None],
-            alignment: Alignment::new(settings.plan, start, floor, &[0; COLUMNS], floor),
+            alignment: Alignment::new(
+                Lanes::new(settings.plan.window, floor),
+                settings.plan,
+                start,
+                &[0; COLUMNS],
+                floor,
+            ),
             publisher: Publisher::new(settings.output, start, floor),
             counts: Counts::default(),
             check: PhantomData,
         }
     }
 
+    /// Whether a data frame has the blocks of the other node's; then whether its check word is right, too.
+    #[inline(always)]
+    fn meets(&self, stream: usize, bytes: &[u8], instant: Option<u64>) -> Option<bool> {
+        let layout = self.layouts[stream].as_deref()?;
+        if bytes.len() != BLOCKS_PLACE + layout.moved.len + 2 {
+            return None;
+        }
+        let rows = &self.alignment.rows;
+        rows.meets::<C>(stream, instant?, bytes, &layout.moved)
+    }
+
     fn answer(&mut self, stream: usize, bytes: &[u8]) -> Result<Answer, Refusal> {
+        let (kind, version) = plain::read_front(bytes)?;
+        if kind != Kind::Data {
+            return self.answer_other(stream, bytes);
+        }
+        let frame = plain::fields(bytes, kind, version);
+        let instant = self.grids[stream].instant(frame.soc, frame.frac);
+        let meets = self.meets(stream, bytes, instant);
+        if !meets.unwrap_or_else(|| plain::is_checked::<C>(bytes)) {
+            return Err(Refusal::BadCheck);
+        }
+        plain::check_id(frame.id)?;
+        if frame.id != self.nodes[stream].id {
+            return Err(Refusal::WrongId);
+        }
+        self.take(
+            stream,
+            bytes,
+            &frame,
+            instant.ok_or(Refusal::BadTag)?,
+            meets.is_some(),
+        )
+    }
+
+    #[cold]
+    fn answer_other(&mut self, stream: usize, bytes: &[u8]) -> Result<Answer, Refusal> {
         let frame = plain::read_frame::<C>(bytes)?;
         if frame.id != self.nodes[stream].id {
             return Err(Refusal::WrongId);
         }
         match frame.kind {
-            Kind::Data => self.take(stream, &frame),
             Kind::Cfg2 => self.hold(stream, &plain::read_config(&frame)?),
             _ => Err(Refusal::WrongKind),
         }
     }
 
-    fn take(&mut self, stream: usize, frame: &Frame) -> Result<Answer, Refusal> {
-        let time_base = self.nodes[stream].time_base;
-        let instant = plain::instant(frame.soc, frame.frac, time_base, self.rate);
-        let instant = instant.ok_or(Refusal::BadTag)?;
-        let layout = self.layouts[stream].as_ref().ok_or(Refusal::NoConfig)?;
-        let (own, mut rest) = frame
+    #[inline(always)]
+    fn take(
+        &mut self,
+        stream: usize,
+        bytes: &[u8],
+        frame: &Frame,
+        instant: u64,
+        is_same: bool,
+    ) -> Result<Answer, Refusal> {
+        let layout = self.layouts[stream].as_deref().ok_or(Refusal::NoConfig)?;
+        let (own, rest) = frame
             .payload
             .split_at_checked(OWN_BLOCK_LEN)
             .ok_or(Refusal::WrongLength)?;
         if own[6..] != layout.stamp {
             return Err(Refusal::OtherStamp);
         }
-        if rest.len() != layout.len {
+        if rest.len() != layout.moved.len {
             return Err(Refusal::WrongLength);
         }
-        let parts = layout.parts.as_slice().iter().map(|part| {
-            let (block, later) = rest.split_at(2 * part.shape.word_count());
-            rest = later;
-            (part, block)
-        });
-        self.alignment.put(
+        self.alignment.is_in_time(instant)?;
+        let brought = Brought {
             stream,
-            instant,
-            frame.quality,
-            parts,
-            |columns, (part, block)| {
-                let has_count = columns[part.column].has_in_force(part.count);
-                has_count.then(|| {
-                    Body::new(part.shape, block)
-                        .ok()
-                        .map(|body| (part.column, body))
-                })?
-            },
-        )
+            bytes,
+            places: &layout.places,
+            parts: layout.parts.as_slice(),
+            in_force: layout.in_force,
+        };
+        let rows = &mut self.alignment.rows;
+        rows.put(&brought, instant, frame.quality, is_same)
+    }
+
+    /// Looks which counts are in force, of the layouts that are held.
+    fn look(&mut self) {
+        let columns = &self.alignment.columns;
+        for layout in self.layouts.iter_mut().flatten() {
+            let parts = layout.parts.as_slice().iter();
+            let parts = parts.filter(|part| columns[part.column].has_in_force(part.count));
+            layout.in_force = parts.fold(0, |in_force, part| in_force | 1 << part.column);
+        }
     }
 
     #[cold]
@@ -151,7 +198,8 @@ impl<C: CheckWord> Merger<C> {
         for (column, section) in placed {
             self.alignment.hold(*column, section);
         }
-        self.layouts[stream] = Some(layout_of(stamp, placed));
+        self.layouts[stream] = Some(Box::new(layout_of(stamp, placed)));
+        self.look();
         Ok(Answer::Candidate)
     }
 
@@ -169,20 +217,24 @@ impl<C: CheckWord> Merger<C> {
 
 /// What is kept of a layout.
 fn layout_of(stamp: [u8; 8], placed: &[(usize, Section)]) -> Layout {
-    let mut layout = Layout {
-        stamp,
-        parts: Few::new(),
-        len: 0,
-    };
+    let mut parts = Few::new();
+    let mut end = BLOCKS_PLACE;
     for (column, section) in placed {
-        layout.parts.push(Part {
+        parts.push(Part {
             column: *column,
             shape: section.shape,
             count: section.count,
+            at: end as u16,
         });
-        layout.len += 2 * section.shape.word_count();
+        end += 2 * section.shape.word_count();
     }
-    layout
+    Layout {
+        stamp,
+        places: Places::of(parts.as_slice()),
+        parts,
+        in_force: 0,
+        moved: Moved::by(end - BLOCKS_PLACE),
+    }
 }
 
 impl<C: CheckWord> Core for Merger<C> {
@@ -193,12 +245,17 @@ impl<C: CheckWord> Core for Merger<C> {
     }
 
     fn tick(&mut self, now: u64, cleared: &[u16; COLUMNS]) -> Ticked {
-        self.alignment.tick(now, cleared)
+        let ticked = self.alignment.tick(now, cleared);
+        if ticked.change.is_some() {
+            self.look();
+        }
+        ticked
     }
 
     fn publish(&mut self) -> Option<&[u8]> {
-        let row = self.alignment.pop()?;
-        self.publisher.publish::<C, NODES>(&row)
+        let moved = self.layouts.iter().flatten().map(|layout| &layout.moved);
+        let rows = &mut self.alignment.rows;
+        rows.publish::<C>(&mut self.publisher, moved)
     }
 
     fn counts(&self) -> &Counts {
@@ -210,7 +267,7 @@ impl<C: CheckWord> Core for Merger<C> {
     }
 
     fn disagree(&self) -> u64 {
-        self.alignment.ring.disagree()
+        self.alignment.rows.disagree()
     }
 }
 

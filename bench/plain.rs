@@ -48,14 +48,15 @@ fn long(bytes: &[u8], place: usize) -> u32 {
 /// Whether the check word is that of all before it, which is computed first: the end of a long frame, asked for before all that stands in
 /// front of it, would be waited for. A call of its own, which leaves the merger more registers.
 #[inline(never)]
-fn is_checked<C: CheckWord>(bytes: &[u8]) -> bool {
+pub fn is_checked<C: CheckWord>(bytes: &[u8]) -> bool {
     let (front, last) = bytes.split_at(bytes.len() - 2);
     let check = C::of(front);
     last == check.to_be_bytes()
 }
 
-#[inline]
-pub fn read_frame<C: CheckWord>(bytes: &[u8]) -> Result<Frame<'_>, Refusal> {
+/// The kind and the version of bytes that begin as a frame and are as many as they say.
+#[inline(always)]
+pub fn read_front(bytes: &[u8]) -> Result<(Kind, u8), Refusal> {
     if bytes.len() < OVERHEAD {
         return Err(Refusal::Short);
     }
@@ -75,24 +76,41 @@ pub fn read_frame<C: CheckWord>(bytes: &[u8]) -> Result<Frame<'_>, Refusal> {
     if usize::from(word(bytes, 2)) != bytes.len() {
         return Err(Refusal::SizeMismatch);
     }
-    let end = bytes.len() - 2;
-    if !is_checked::<C>(bytes) {
-        return Err(Refusal::BadCheck);
+    Ok((kind, version))
+}
+
+#[inline(always)]
+pub fn check_id(id: u16) -> Result<(), Refusal> {
+    match id {
+        0 | u16::MAX => Err(Refusal::BadId),
+        _ => Ok(()),
     }
-    let id = word(bytes, 4);
-    if id == 0 || id == u16::MAX {
-        return Err(Refusal::BadId);
-    }
+}
+
+/// What stands in the places of the fields.
+#[inline(always)]
+pub fn fields(bytes: &[u8], kind: Kind, version: u8) -> Frame<'_> {
     let fracsec = long(bytes, 10);
-    Ok(Frame {
+    Frame {
         kind,
         version,
-        id,
+        id: word(bytes, 4),
         soc: long(bytes, 6),
         quality: (fracsec >> 24) as u8,
         frac: fracsec & 0x00FF_FFFF,
-        payload: &bytes[HEADER_LEN..end],
-    })
+        payload: &bytes[HEADER_LEN..bytes.len() - 2],
+    }
+}
+
+#[inline]
+pub fn read_frame<C: CheckWord>(bytes: &[u8]) -> Result<Frame<'_>, Refusal> {
+    let (kind, version) = read_front(bytes)?;
+    if !is_checked::<C>(bytes) {
+        return Err(Refusal::BadCheck);
+    }
+    let frame = fields(bytes, kind, version);
+    check_id(frame.id)?;
+    Ok(frame)
 }
 
 #[derive(Clone, Copy, Debug, Default, PartialEq, Eq)]
@@ -249,17 +267,21 @@ pub fn write_config<C: CheckWord>(config: &Config, id: u16, soc: u32, out: &mut 
 }
 
 pub fn write_frame<C: CheckWord>(frame: &Frame, out: &mut Vec<u8>) {
-    let start = out.len();
-    out.reserve(frame.payload.len() + OVERHEAD);
     let fracsec = u32::from(frame.quality) << 24 | frame.frac;
-    out.extend_from_slice(&header(
+    let payload = frame.payload;
+    let header = header(
         frame.kind,
         frame.version,
         frame.id,
         frame.soc,
         fracsec,
-        frame.payload.len(),
-    ));
-    out.extend_from_slice(frame.payload);
-    end::<C>(start, out);
+        payload.len(),
+    );
+    let number = header
+        .iter()
+        .fold(0, |number: u128, byte| number << 8 | u128::from(*byte));
+    out.reserve(payload.len() + OVERHEAD);
+    out.extend_from_slice(&header);
+    out.extend_from_slice(payload);
+    out.extend_from_slice(&C::behind(number, payload).to_be_bytes());
 }

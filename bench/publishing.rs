@@ -1,20 +1,19 @@
-//! What a plain concentrator publishes: the data frame of each row, once the floor is stored at or above its instant.
+//! What a plain concentrator publishes: the data frame of each row, once the floor is stored at or above its instant. The blocks stand in
+//! the frame already; what is written here is what stands in front of them.
 
 use crate::blocks::MAX_WORDS;
-use crate::check::CheckWord;
-use crate::plain::{Kind, Shape, VERSION, header};
-use crate::ring::{COLUMNS, Row};
-use crate::words::write_words;
+use crate::plain::{Shape, VERSION};
+use crate::ring::{COLUMNS, RowLayout};
 
 /// The bytes of the own block: STAT, FREQ, DFREQ, and the stamp.
 pub const OWN_BLOCK_LEN: usize = 14;
 
 /// Where the own block, and the blocks of the PMUs, stand in a frame.
 const OWN_PLACE: usize = 14;
-const BLOCKS_PLACE: usize = OWN_PLACE + OWN_BLOCK_LEN;
+pub const BLOCKS_PLACE: usize = OWN_PLACE + OWN_BLOCK_LEN;
 
 /// The longest frame of a row.
-const MAX_ROW_LEN: usize = BLOCKS_PLACE + COLUMNS * 2 * MAX_WORDS + 2;
+pub const MAX_ROW_LEN: usize = BLOCKS_PLACE + COLUMNS * 2 * MAX_WORDS + 2;
 
 /// What the frames of a concentrator say of itself.
 #[derive(Clone, Copy)]
@@ -40,12 +39,47 @@ impl Mark {
     }
 }
 
+/// The time tags of instants: the second and the place in it are counted on from those before, and the counts of FRACSEC stand in a table.
+struct Tags {
+    rate: u64,
+    instant: u64,
+    soc: u32,
+    slot: u64,
+    fracs: Vec<u32>,
+}
+
+impl Tags {
+    fn new(output: &Output) -> Tags {
+        let (rate, base) = (u64::from(output.rate), u64::from(output.time_base));
+        Tags {
+            rate,
+            instant: 0,
+            soc: 0,
+            slot: 0,
+            fracs: (0..rate)
+                .map(|k| ((2 * k * base + rate) / (2 * rate)) as u32)
+                .collect(),
+        }
+    }
+
+    /// SOC and FRACSEC's count of an instant, which lies above those before.
+    fn of(&mut self, instant: u64) -> (u32, u32) {
+        let after = self.slot + (instant - self.instant);
+        self.instant = instant;
+        if after < self.rate {
+            self.slot = after;
+        } else {
+            (self.soc, self.slot) = ((instant / self.rate) as u32, instant % self.rate);
+        }
+        (self.soc, self.fracs[self.slot as usize])
+    }
+}
+
 pub struct Publisher {
-    output: Output,
+    id: u16,
     mark: Mark,
     last: u64,
-    /// Each frame is written over the one before.
-    frame: [u8; MAX_ROW_LEN],
+    tags: Tags,
 }
 
 impl Publisher {
@@ -54,81 +88,48 @@ impl Publisher {
             slots: [(start, floor), (0, 0)],
         };
         Publisher {
-            output,
+            id: output.id,
             mark,
             last: floor,
-            frame: [0; MAX_ROW_LEN],
+            tags: Tags::new(&output),
         }
     }
 
-    /// Publishes a row: stores its instant where it is above the floor, and then writes its data frame.
-    pub fn publish<C: CheckWord, const LANES: usize>(
+    /// Stores an instant that is to be published, where it is above the floor; none that is not above the last one may be.
+    #[inline]
+    pub fn cover(&mut self, instant: u64) -> bool {
+        if instant <= self.last {
+            return false;
+        }
+        if self.mark.floor() < instant {
+            self.mark.reserve(instant);
+        }
+        self.last = instant;
+        true
+    }
+
+    /// Writes the header and the own block of a frame of so many bytes.
+    #[inline(always)]
+    pub fn seal(
         &mut self,
-        row: &Row<'_, LANES>,
-    ) -> Option<&[u8]> {
-        if row.instant() <= self.last {
-            return None;
-        }
-        if self.mark.floor() < row.instant() {
-            self.mark.reserve(row.instant());
-        }
-        self.last = row.instant();
-        let len = write_row::<C, LANES>(&self.output, row, &mut self.frame);
-        Some(&self.frame[..len])
+        instant: u64,
+        layout: &RowLayout,
+        quality: u8,
+        len: usize,
+        front: &mut [u8; BLOCKS_PLACE],
+    ) {
+        let (soc, frac) = self.tags.of(instant);
+        let fracsec = u32::from(quality) << 24 | frac;
+        let sync = 0xAA00 | u128::from(VERSION);
+        let header = sync << 112
+            | (len as u128) << 96
+            | u128::from(self.id) << 80
+            | u128::from(soc) << 48
+            | u128::from(fracsec) << 16;
+        front[..16].copy_from_slice(&header.to_be_bytes());
+        front[16..24].copy_from_slice(&u64::from(layout.start).to_be_bytes());
+        front[24..].copy_from_slice(&layout.change.to_be_bytes());
     }
-}
-
-/// Writes the data frame of a row, and answers its length.
-fn write_row<C: CheckWord, const LANES: usize>(
-    output: &Output,
-    row: &Row<'_, LANES>,
-    frame: &mut [u8; MAX_ROW_LEN],
-) -> usize {
-    let mut end = BLOCKS_PLACE;
-    let mut worst = None;
-    for (shape, block) in row.blocks() {
-        let place = &mut frame[end..end + 2 * shape.word_count()];
-        end += place.len();
-        match block {
-            Some((block, quality)) => {
-                write_words(block.words(), place);
-                worst = worst.max(Some(quality));
-            }
-            None => put_absent(place, shape),
-        }
-    }
-    let (soc, frac) = tag(row.instant(), output);
-    let fracsec = u32::from(worst.unwrap_or(15)) << 24 | frac;
-    let header = header(
-        Kind::Data,
-        VERSION,
-        output.id,
-        soc,
-        fracsec,
-        end - OWN_PLACE,
-    );
-    frame[..OWN_PLACE].copy_from_slice(&header);
-    frame[OWN_PLACE..BLOCKS_PLACE]
-        .copy_from_slice(&own_block(row.layout().start, row.layout().change));
-    let check = C::of(&frame[..end]);
-    frame[end..end + 2].copy_from_slice(&check.to_be_bytes());
-    end + 2
-}
-
-/// SOC and FRACSEC's count of an instant.
-fn tag(instant: u64, output: &Output) -> (u32, u32) {
-    let (rate, base) = (u64::from(output.rate), u64::from(output.time_base));
-    let k = instant % rate;
-    (
-        (instant / rate) as u32,
-        ((2 * k * base + rate) / (2 * rate)) as u32,
-    )
-}
-
-/// The own block of this stamp.
-fn own_block(start: u32, change: u32) -> [u8; OWN_BLOCK_LEN] {
-    let ([a, b, c, d], [e, f, g, h]) = (start.to_be_bytes(), change.to_be_bytes());
-    [0, 0, 0, 0, 0, 0, a, b, c, d, e, f, g, h]
 }
 
 /// Writes the absent block.

@@ -87,7 +87,7 @@ pub struct Ring<const LANES: usize> {
     columns: usize,
     required: u16,
     ticks: u64,
-    /// The place of an instant is its remainder by the window.
+    /// The place of an instant is its remainder by their number.
     heads: Vec<Head<LANES>>,
     /// The cells of a place stand side by side, lane by lane.
     cells: Vec<Block>,
@@ -140,7 +140,7 @@ impl<'a, const LANES: usize> Row<'a, LANES> {
 impl<const LANES: usize> Ring<LANES> {
     /// All up to the floor is closed.
     pub fn new(window: u64, columns: usize, floor: u64) -> Self {
-        let places = window as usize;
+        let places = window.next_power_of_two() as usize;
         Ring {
             window,
             columns,
@@ -155,22 +155,13 @@ impl<const LANES: usize> Ring<LANES> {
         }
     }
 
-    /// All up to this instant is closed.
-    pub fn last(&self) -> u64 {
-        self.last
-    }
-
-    /// How often, at a closing, the present blocks of a column differed.
-    pub fn disagree(&self) -> u64 {
-        self.disagree
-    }
-
     pub fn require(&mut self, stream: usize, is_required: bool) {
         self.required = self.required & !(1 << stream) | u16::from(is_required) << stream;
     }
 
+    /// There are as many places as a power of two: a remainder by the window is a division, which takes some forty steps of the clock.
     fn place(&self, instant: u64) -> usize {
-        (instant % self.window) as usize
+        instant as usize & (self.heads.len() - 1)
     }
 
     /// Whether each instant that is held is less than the window away.
@@ -274,19 +265,6 @@ impl<const LANES: usize> Ring<LANES> {
                 both & 1 << column != 0 && shape.is_some() && !one.agrees(other)
             })
             .count() as u64
-    }
-
-    /// Forgets what was taken of a column at each open instant, with one lane of its stream too.
-    pub fn drop_column(&mut self, column: usize) {
-        for head in self.heads.iter_mut().filter(|head| head.is_open) {
-            if LANES == 1 {
-                head.taken &= !(1 << column);
-            }
-            for lane in &mut head.lanes {
-                lane.held &= !(1 << column);
-                lane.present &= !(1 << column);
-            }
-        }
     }
 
     /// Takes out the lowest row that closed, and lends it.
