@@ -6,18 +6,33 @@ mod alone;
 mod feed;
 mod frames;
 mod recorded;
-mod settings;
 mod side_by_side;
 
 use alone::run_alone;
 use frames::Frames;
 use pdc_settings::NodeSettings;
 use recorded::run_recorded;
-use settings::SETTINGS;
 use side_by_side::run_side_by_side;
 use std::io;
 use std::process::ExitCode;
 use std::time::{Duration, Instant};
+use try_script::SettingsText;
+
+/// The PMUs of the node.
+const PMUS: [u16; 16] = [
+    11, 12, 13, 14, 15, 16, 17, 18, 19, 20, 21, 22, 23, 24, 25, 26,
+];
+
+/// What the node is told: an instant waits for all of its data.
+const WAITS_FOR_ALL: SettingsText<'_> = SettingsText {
+    id: 201,
+    wait: 1000,
+    wait_kind: "absolute",
+    window: 256,
+    ahead: 1000,
+    layout_every: 1000,
+    out_port: 4712,
+};
 
 /// How many instants there are where no word says it.
 const INSTANTS: u32 = 40;
@@ -40,8 +55,9 @@ fn main(rt: HostRuntime) -> io::Result<ExitCode> {
     let words: Vec<String> = std::env::args(&rt)?.collect(alloc)?;
     let asked = count_of(&words);
     let count = asked.unwrap_or(INSTANTS);
+    let text = WAITS_FOR_ALL.node(alloc, &PMUS, 4811)?;
     let (Ok(settings), Some(frames)) = (
-        NodeSettings::from_toml(alloc, SETTINGS),
+        NodeSettings::from_toml(alloc, &text),
         Frames::new(alloc, count),
     ) else {
         println!(rt; "no settings or no frames")?;

@@ -4,26 +4,15 @@ use pdc_frame::{Frame, Kind, StreamId, write_frame};
 use pdc_life::{MAX_PMUS, Settings};
 use pdc_settings::NodeSettings;
 use std::alloc::{AllocError, Global};
-use try_script::Told;
+use try_script::{SettingsText, Told};
 
 /// How many PMUs it has: their ids are 1 to 16.
 pub const PMUS: u16 = 16;
 
+const IDS: [u16; 16] = [1, 2, 3, 4, 5, 6, 7, 8, 9, 10, 11, 12, 13, 14, 15, 16];
+
 /// The second of its first frames.
 const SOC: u32 = 1_149_577_200;
-
-/// What the node is told, but for its PMUs.
-const NODE_201: &str = "id = 201
-rate = 50
-nominal = 50
-time_base = 1000000
-wait = 2
-window = 64
-ahead = 32
-layout_every = 50
-out_port = 4713
-session_port = 4712
-";
 
 /// What precedes the section: TIME_BASE, and one PMU.
 const CONFIG_HEAD: [u8; 6] = [0x00, 0x0F, 0x42, 0x40, 0x00, 0x01];
@@ -36,11 +25,7 @@ const CONFIG_END: [u8; 6] = [0x00, 0x01, 0x00, 0x01, 0x00, 0x32];
 
 /// What it is told.
 pub fn told(alloc: Global) -> Result<Option<Told<Settings>>, AllocError> {
-    let mut text = NODE_201.to_string(alloc)?;
-    for id in 1..=PMUS {
-        let pmu = format!(in alloc; "[[pmu]]\nstream = {id}\ntime_base = 1000000\nport = {id}\n")?;
-        text.push_str(&pmu)?;
-    }
+    let text = SettingsText::of(201).node(alloc, &IDS, 4811)?;
     match NodeSettings::from_toml(alloc, &text) {
         Ok(settings) => Ok(Some(Told {
             settings: settings.life,

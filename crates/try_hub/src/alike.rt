@@ -3,7 +3,6 @@
 ghost use Rattle.std.specs.Prelude.{◌≡◌, length};
 
 use crate::rounds::{Seen, try_core};
-use crate::settings::{MERGER, NODE};
 use crate::streams::{SOC, Stream, Streams};
 use pdc_core::{Core, Opens};
 use pdc_life::{MAX_PMUS, Settings};
@@ -14,6 +13,7 @@ use pdc_table::RingTable;
 use std::alloc::Global;
 use std::io;
 use std::sync::Wait;
+use try_script::SettingsText;
 
 /// The configurations of PMU 11 and of PMU 12: one phasor, count 1.
 const CONFIG_11: &str =
@@ -54,7 +54,7 @@ fn pmu_streams(alloc: Global) -> Option<Streams> {
 
 /// The settings of the node with this id.
 fn node_settings(alloc: Global, id: u16) -> Option<Settings> {
-    let Ok(text) = format!(in alloc; "id = {id}\n{NODE}") else {
+    let Ok(text) = SettingsText::of(id).node(alloc, &[11, 12], 4811) else {
         return None;
     };
     let Ok(settings) = NodeSettings::from_toml(alloc, text.as_str()) else {
@@ -126,7 +126,10 @@ fn try_node<R: Wait>(rt: &R, alloc: Global) -> Option<Seen> {
 
 /// All calls on the merger.
 fn try_merger<R: Wait>(rt: &R, alloc: Global) -> Option<Seen> {
-    let Ok(settings) = MergerSettings::from_toml(alloc, MERGER) else {
+    let Ok(text) = SettingsText::of(301).merger(alloc, &[11, 12]) else {
+        return None;
+    };
+    let Ok(settings) = MergerSettings::from_toml(alloc, &text) else {
         return None;
     };
     let life = settings.life;

@@ -7,7 +7,6 @@ mod life;
 mod listed;
 mod recorded;
 mod rounds;
-mod settings;
 mod streams;
 mod two;
 

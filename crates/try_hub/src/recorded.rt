@@ -3,7 +3,6 @@
 ghost use Rattle.std.specs.Prelude.{◌≡◌, length};
 
 use crate::life::{Opened, Sent, record_life};
-use crate::settings::NODE;
 use pdc_core::Opens;
 use pdc_journal::Journal;
 use pdc_life::{MAX_PMUS, Settings};
@@ -18,6 +17,7 @@ use std::env::Env;
 use std::rt::{Clock, Files};
 use std::sync::Wait;
 use std::{env, fs, io, str};
+use try_script::SettingsText;
 
 /// The configuration of PMU 11, one phasor and count 1, and its data for 57478860001.
 const FIRST: [&str; 2] = [
@@ -91,7 +91,7 @@ fn live_and_record<R: Wait + Clock + Shelf>(
     id: u16,
     name: &str,
 ) -> Option<()> {
-    let Ok(text) = format!(in alloc; "id = {id}\n{NODE}") else {
+    let Ok(text) = SettingsText::of(id).node(alloc, &[11, 12], 4811) else {
         return None;
     };
     let settings = NodeSettings::from_toml(alloc, text.as_str()).ok()?;

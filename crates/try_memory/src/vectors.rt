@@ -11,54 +11,6 @@ pub const SOC: u32 = 1_149_577_200;
 /// The first instant of that second, at 50 frames a second.
 pub const FIRST: u64 = 57_478_860_000;
 
-/// The settings of node 201 with the PMUs 11 and 12.
-pub const NODE: &str = "id = 201
-rate = 50
-nominal = 50
-time_base = 1000000
-wait = 2
-window = 64
-ahead = 32
-layout_every = 100
-out_port = 4712
-session_port = 4713
-[[pmu]]
-stream = 11
-source = 11
-time_base = 1000000
-port = 4811
-[[pmu]]
-stream = 12
-source = 12
-time_base = 1000000
-port = 4812
-";
-
-/// The settings of merger 301 of the nodes 201 and 202 and the sources 11 and 12.
-pub const MERGER: &str = "id = 301
-rate = 50
-nominal = 50
-time_base = 1000000
-wait = 2
-window = 64
-ahead = 32
-layout_every = 100
-out_port = 4712
-session_port = 4713
-[[node]]
-id = 201
-time_base = 1000000
-port = 4811
-[[node]]
-id = 202
-time_base = 1000000
-port = 4812
-[[pmu]]
-source = 11
-[[pmu]]
-source = 12
-";
-
 /// CFG-2 of PMU 11.
 pub const CONFIG_11: [u8; 74] = [
     0xAA, 0x32, 0x00, 0x4A, 0x00, 0x0B, 0x44, 0x85, 0x27, 0xF0, 0x00, 0x00, 0x00, 0x00, 0x00, 0x0F,

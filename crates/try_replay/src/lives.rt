@@ -1,14 +1,15 @@
 //! The lives that scripts tell, as records begin with them.
 
+use arrayvec::ArrayVec;
 use pdc_core::Core;
-use pdc_life::{MAX_PMUS, WaitKind};
+use pdc_life::{MAX_PMUS, Timing, WaitKind};
 use pdc_merge::Merger;
 use pdc_node::Node;
 use pdc_record::Role;
 use pdc_replay::Begins;
 use pdc_table::Table;
 use std::alloc::{AllocError, Global};
-use try_script::{told_merger, told_node};
+use try_script::{SettingsText, told_merger, told_node};
 
 /// What a life begins with.
 #[derive(Drop)]
@@ -40,43 +41,19 @@ pub trait Lives: Begins {
     fn beginning(alloc: Global, id: u16, words: &[&str]) -> Result<Option<Beginning>, AllocError>;
 }
 
-/// What node and merger are told alike.
-fn head(
-    alloc: Global,
-    id: u16,
-    window: u64,
-    wait: u64,
-    kind: WaitKind,
-) -> Result<String, AllocError> {
-    let kind = if kind == WaitKind::Absolute {
-        "absolute"
-    } else {
-        "relative"
-    };
-    format!(in alloc;
-        "id = {id}\nrate = 50\nnominal = 50\ntime_base = 1000000\nwait = {wait}\nwait_kind = \"{kind}\"\nwindow = {window}\nahead = 32\nlayout_every = 50\nout_port = 4711\nsession_port = 4712\n"
-    )
+/// What the settings of a life with this timing say.
+fn said_of<'a>(id: u16, timing: &Timing) -> SettingsText<'a> {
+    SettingsText {
+        wait: timing.wait,
+        wait_kind: match timing.wait_kind {
+            WaitKind::Absolute => "absolute",
+            WaitKind::Relative => "relative",
+        },
+        window: timing.window,
+        layout_every: 50,
+        ..SettingsText::of(id)
+    }
 }
-
-/// The table of a PMU at a node.
-fn pmu(alloc: Global, id: u16) -> Result<String, AllocError> {
-    format!(in alloc; "[[pmu]]\nstream = {id}\nsource = {id}\ntime_base = 1000000\nport = {id}\n")
-}
-
-/// The tables of the merger's nodes and PMUs.
-const SOURCES: &str = "[[node]]
-id = 201
-time_base = 1000000
-port = 4801
-[[node]]
-id = 202
-time_base = 1000000
-port = 4802
-[[pmu]]
-source = 11
-[[pmu]]
-source = 12
-";
 
 impl<T: Table> Lives for Node<T> {
     fn role() -> Role {
@@ -98,18 +75,11 @@ impl<T: Table> Lives for Node<T> {
         let Some(told) = told_node(words) else {
             return Ok(None);
         };
-        let settings = &told.settings;
-        let mut text = head(
-            alloc,
-            id,
-            settings.timing.window,
-            settings.timing.wait,
-            settings.timing.wait_kind,
-        )?;
-        for each in settings.pmus.as_slice() {
-            let table = pmu(alloc, each.stream.value)?;
-            text.push_str(table.as_str())?;
+        let mut pmus = ArrayVec::<u16, MAX_PMUS>::new();
+        for each in told.settings.pmus.as_slice() {
+            let _full = pmus.try_push(each.stream.value);
         }
+        let text = said_of(id, &told.settings.timing).node(alloc, &pmus, 4811)?;
         Ok(Some(Beginning {
             id,
             text,
@@ -138,15 +108,7 @@ impl<T: Table> Lives for Merger<T> {
         let Some(told) = told_merger(words) else {
             return Ok(None);
         };
-        let settings = &told.settings;
-        let mut text = head(
-            alloc,
-            id,
-            settings.timing.window,
-            settings.timing.wait,
-            settings.timing.wait_kind,
-        )?;
-        text.push_str(SOURCES)?;
+        let text = said_of(id, &told.settings.timing).merger(alloc, &[11, 12])?;
         Ok(Some(Beginning {
             id,
             text,

@@ -4,24 +4,13 @@ use pdc_mark::make_mark;
 use pdc_service::{
     Files, Host, RunOptions, ServiceFault, ThisMachine, Totals, serve_merger, serve_node,
 };
-use std::alloc::{AllocError, Global};
+use std::alloc::Global;
 use std::env::Env;
 use std::fs::File;
 use std::net::{TcpListener, UdpSocket};
 use std::path::PathBuf;
 use std::{env, fs, io};
-
-/// The settings of a node whose ports begin here.
-fn settings_text(alloc: Global, wait: u32, port: u16) -> Result<String, AllocError> {
-    let (second, out, session) = (
-        port.saturating_add(1),
-        port.saturating_add(2),
-        port.saturating_add(3),
-    );
-    format!(in alloc;
-        "id = 201\nrate = 50\nnominal = 50\ntime_base = 1000000\nwait = {wait}\nwindow = 64\nahead = 32\nlayout_every = 100\nout_port = {out}\nsession_port = {session}\n[[pmu]]\nstream = 11\ntime_base = 1000000\nport = {port}\n[[pmu]]\nstream = 12\ntime_base = 1000000\nport = {second}\n"
-    )
-}
+use try_script::SettingsText;
 
 /// A run of so many ticks that tells no more than faults.
 fn ticks(count: u32) -> RunOptions {
@@ -141,10 +130,15 @@ fn write_settings<R: std::rt::Files<File = File> + AllocGlobal>(
     alloc: Global,
     folder: &PathBuf,
     name: &str,
-    wait: u32,
+    wait: u64,
     port: u16,
 ) -> io::Result<()> {
-    let text = settings_text(alloc, wait, port)?;
+    let said = SettingsText {
+        wait,
+        out_port: port.saturating_add(2),
+        ..SettingsText::of(201)
+    };
+    let text = said.node(alloc, &[11, 12], port)?;
     write_file(rt, alloc, folder, name, &text)
 }
 

@@ -19,27 +19,7 @@ use std::sync::Wait;
 use std::sync::atomic::{AtomicU64, Ordering};
 use std::thread::{Scope, Threads};
 use std::{io, thread};
-
-/// Node A of the worked scenarios: PMUs 11 and 12, at 50 frames a second. Its ports are not those of the settings.
-const SETTINGS: &str = "id = 201
-rate = 50
-nominal = 50
-time_base = 1000000
-wait = 2
-window = 64
-ahead = 32
-layout_every = 100
-out_port = 4712
-session_port = 4713
-[[pmu]]
-stream = 11
-time_base = 1000000
-port = 4811
-[[pmu]]
-stream = 12
-time_base = 1000000
-port = 4812
-";
+use try_script::SettingsText;
 
 /// What the node runs on.
 #[derive(Drop)]
@@ -245,12 +225,14 @@ fn play_named<
     play_over(rt, alloc, trial, port, sockets)
 }
 
-/// Runs the node with its PMUs and its consumers.
+/// Runs node A of the worked scenarios, PMUs 11 and 12 at 50 frames a second, with its PMUs and its consumers.
 pub fn play<
     R: Threads + Wait + Clock + Net<Listener = TcpListener, Stream = TcpStream> + Print + Sync,
 >(rt: &R, alloc: Global, port: u16) -> io::Result<()> {
     println!(rt; "a node over the loopback")?;
-    let Ok(settings) = NodeSettings::from_toml(alloc, SETTINGS) else {
+    // (its ports are not those of the settings)
+    let text = SettingsText::of(201).node(alloc, &[11, 12], 4811)?;
+    let Ok(settings) = NodeSettings::from_toml(alloc, &text) else {
         return println!(rt; "  the settings are refused");
     };
     play_named::<Brand, R>(rt, alloc, &settings.life, port)

@@ -3,29 +3,7 @@
 use crate::scripted::Act;
 use pdc_settings::NodeSettings;
 use std::alloc::Global;
-
-/// Node A of the worked scenarios: PMUs 11 and 12, at 50 frames a second.
-const SETTINGS: &str = "id = 201
-rate = 50
-nominal = 50
-time_base = 1000000
-wait = 2
-window = 64
-ahead = 32
-layout_every = 100
-out_port = 4712
-session_port = 4713
-[[pmu]]
-stream = 11
-source = 11
-time_base = 1000000
-port = 4811
-[[pmu]]
-stream = 12
-source = 12
-time_base = 1000000
-port = 4812
-";
+use try_script::SettingsText;
 
 /// The configurations of PMU 11 and of PMU 12: one phasor, count 1.
 const CONFIG_11: &str =
@@ -85,7 +63,8 @@ pub const TWICE_12: &[Act] = &[
     Act::Give(NEXT_DATA_12),
 ];
 
-/// The settings of node A.
+/// The settings of node A of the worked scenarios: PMUs 11 and 12, at 50 frames a second.
 pub fn settings_of(alloc: Global) -> Option<NodeSettings> {
-    NodeSettings::from_toml(alloc, SETTINGS).ok()
+    let text = SettingsText::of(201).node(alloc, &[11, 12], 4811).ok()?;
+    NodeSettings::from_toml(alloc, &text).ok()
 }

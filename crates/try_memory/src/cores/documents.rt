@@ -1,16 +1,17 @@
 //! The settings of a node and of the merger, out of TOML.
 
 use crate::trial::{DONE, NO_MEMORY, State, Trial, made, make};
-use crate::vectors::{MERGER, NODE};
 use pdc_settings::{MergerSettings, NodeSettings, SettingsFault};
 use std::alloc::{AllocError, Global};
 use std::io;
+use try_script::SettingsText;
 
 /// A document that is read, and whether it was.
 #[derive(Drop)]
 struct DocumentTrial {
     alloc: Global,
     is_merger: bool,
+    text: String,
     is_made: bool,
 }
 
@@ -40,9 +41,9 @@ impl Trial for DocumentTrial {
 
     fn call(&mut self) -> &'static str {
         let answer = if self.is_merger {
-            of_settings(MergerSettings::from_toml(self.alloc, MERGER))
+            of_settings(MergerSettings::from_toml(self.alloc, &self.text))
         } else {
-            of_settings(NodeSettings::from_toml(self.alloc, NODE))
+            of_settings(NodeSettings::from_toml(self.alloc, &self.text))
         };
         self.is_made = answer == DONE;
         answer
@@ -56,11 +57,17 @@ impl Trial for DocumentTrial {
 /// Each document.
 pub fn play<R: Print>(rt: &R, alloc: Global) -> io::Result<()> {
     for is_merger in [false, true] {
+        let text = if is_merger {
+            SettingsText::of(301).merger(alloc, &[11, 12])?
+        } else {
+            SettingsText::of(201).node(alloc, &[11, 12], 4811)?
+        };
         make(
             rt,
             &mut DocumentTrial {
                 alloc,
                 is_merger,
+                text,
                 is_made: false,
             },
         )?;

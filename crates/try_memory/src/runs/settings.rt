@@ -7,43 +7,11 @@ use pdc_world::{Leads, World};
 use std::alloc::Global;
 use std::io;
 use std::io::ErrorKind;
-
-/// What all are told, but for their ids.
-const COMMON: &str = "rate = 50
-nominal = 50
-time_base = 1000000
-wait = 2
-window = 64
-ahead = 32
-layout_every = 100
-out_port = 4712
-session_port = 4713
-";
-
-/// The PMU of both nodes,
-const PMU: &str = "[[pmu]]
-stream = 11
-source = 11
-time_base = 1000000
-port = 4811
-";
-
-/// and both nodes and the source of the merger.
-const NODES: &str = "[[node]]
-id = 201
-time_base = 1000000
-port = 4811
-[[node]]
-id = 202
-time_base = 1000000
-port = 4812
-[[pmu]]
-source = 11
-";
+use try_script::SettingsText;
 
 /// Those of the node with this id.
 pub fn of_node(alloc: Global, id: u16) -> io::Result<Settings> {
-    let text = format!(in alloc; "id = {id}\n{COMMON}{PMU}")?;
+    let text = SettingsText::of(id).node(alloc, &[11], 4811)?;
     match pdc_settings::NodeSettings::from_toml(alloc, text.as_str()) {
         Ok(settings) => Ok(settings.life),
         Err(_) => Err(io::Error::from(ErrorKind::InvalidData)),
@@ -52,7 +20,7 @@ pub fn of_node(alloc: Global, id: u16) -> io::Result<Settings> {
 
 /// Those of the merger.
 fn of_merger(alloc: Global) -> io::Result<MergerSettings> {
-    let text = format!(in alloc; "id = 301\n{COMMON}{NODES}")?;
+    let text = SettingsText::of(301).merger(alloc, &[11])?;
     match pdc_settings::MergerSettings::from_toml(alloc, text.as_str()) {
         Ok(settings) => Ok(settings.life),
         Err(_) => Err(io::Error::from(ErrorKind::InvalidData)),
