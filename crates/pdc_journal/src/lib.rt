@@ -11,6 +11,7 @@
 #![tactic(auto)]
 
 mod announcing_sink;
+mod complaint;
 mod counters;
 mod counting_sink;
 mod journal;

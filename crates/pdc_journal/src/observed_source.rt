@@ -1,6 +1,7 @@
 //! A source that is watched.
 ghost use Rattle.std.specs.Prelude.{◌≡◌, ◌≤◌, ◌<◌, ℕ, length};
 
+use crate::complaint::{Complaints, complaint_of};
 use crate::journal::Journal;
 use crate::spell::{LONG, Spell};
 use crate::tally::Tally;
@@ -10,9 +11,9 @@ use std::alloc::{AllocError, Global};
 use std::rt::Clock;
 use std::sync::Wait;
 
-/// Gives what the inner source gives. It counts the answers, and tells when nothing came for five seconds, and when something comes again;
-/// when data has come for five seconds and no configuration is in force, and when it is taken then; and when the stream is read no more,
-/// and why.
+/// Gives what the inner source gives. It counts the answers, and tells when nothing came for five seconds, and when something is taken again;
+/// when data has come for five seconds and no configuration is in force, and when it is taken then; when its frames are refused for what they
+/// say of their sender, once a minute; and when the stream is read no more, and why.
 #[derive(Drop)]
 pub struct ObservedSource<'a, S: Source + Drop, R: Wait + Clock> {
     rt: &'a R,
@@ -23,6 +24,7 @@ pub struct ObservedSource<'a, S: Source + Drop, R: Wait + Clock> {
     silence: Spell,
     /// Since when data was refused for want of a configuration.
     unread: Option<Spell>,
+    complaints: Complaints,
     watchers: Watchers<'a>,
 }
 
@@ -44,6 +46,7 @@ impl<'a, S: Source + Drop, R: Wait + Clock> ObservedSource<'a, S, R> {
             inner,
             silence: Spell::begun(rt),
             unread: None,
+            complaints: Complaints::new(),
             watchers,
         }
     }
@@ -81,7 +84,34 @@ fn ended_text(alloc: Global, tally: &Tally, why: &str) -> Result<String, AllocEr
     format!(in alloc; "{of} is not read any more: {why}")
 }
 
-/// A datagram came: its silence is over.
+/// What is told of a refusal that says something of the sender.
+fn complaint_text(
+    alloc: Global,
+    tally: &Tally,
+    cause: Refusal,
+    what: &str,
+) -> Result<String, AllocError> {
+    let (of, cause) = (tally.of, cause.text());
+    format!(in alloc; "{of}: {cause}: {what}")
+}
+
+/// A datagram was refused.
+fn complain<R: Wait + Clock>(
+    rt: &R,
+    alloc: Global,
+    journal: &Journal,
+    tally: &Tally,
+    complaints: &mut Complaints,
+    cause: Refusal,
+) {
+    if let Some(what) = complaint_of(cause) {
+        if complaints.is_due(rt) {
+            journal.tell(rt, complaint_text(alloc, tally, cause, what));
+        }
+    }
+}
+
+/// It sends what is taken: its silence, which was told, is over.
 fn hear<R: Wait + Clock>(
     rt: &R,
     alloc: Global,
@@ -89,9 +119,7 @@ fn hear<R: Wait + Clock>(
     tally: &Tally,
     silence: &mut Spell,
 ) {
-    if silence.is_told() {
-        journal.note(rt, again_text(alloc, tally));
-    }
+    journal.note(rt, again_text(alloc, tally));
     *silence = Spell::begun(rt);
 }
 
@@ -141,7 +169,9 @@ impl<'a, S: Source + Drop, R: Wait + Clock> Source for ObservedSource<'a, S, R> 
         let (rt, alloc, journal, tally) = (self.rt, self.alloc, self.journal, self.tally);
         match next {
             Next::Datagram(len) => {
-                hear(rt, alloc, journal, tally, &mut self.silence);
+                if !self.silence.is_told() {
+                    self.silence = Spell::begun(rt);
+                }
                 self.watchers.see(&buffer[..len]);
             }
             Next::Idle => {
@@ -178,9 +208,15 @@ impl<'a, S: Source + Drop, R: Wait + Clock> Source for ObservedSource<'a, S, R> 
         };
         tally.count(rt, outcome);
         self.watchers.answered(rt, outcome);
+        if self.silence.is_told() && !matches!(outcome, Outcome::Refused(_)) {
+            hear(rt, alloc, journal, tally, &mut self.silence);
+        }
         match outcome {
             Outcome::Refused(Refusal::NoConfig) => {
                 miss(rt, alloc, journal, tally, &mut self.unread);
+            }
+            Outcome::Refused(cause) => {
+                complain(rt, alloc, journal, tally, &mut self.complaints, cause);
             }
             Outcome::Taken => take(rt, alloc, journal, tally, &mut self.unread),
             _ => {}

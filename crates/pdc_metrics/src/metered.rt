@@ -17,4 +17,6 @@ pub struct Metered<'a> {
     pub unsent: &'a AtomicU64,
     /// How many consumers are served.
     pub consumers: &'a AtomicU64,
+    /// How many ticks came late.
+    pub late_ticks: &'a AtomicU64,
 }

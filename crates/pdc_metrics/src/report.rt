@@ -95,6 +95,12 @@ const CONSUMERS: Family = Family {
     help: "Consumers that are served.",
 };
 
+const LATE_TICKS: Family = Family {
+    name: "pdc_late_ticks_total",
+    is_counter: true,
+    help: "Ticks that came late by a fifth of a second or more.",
+};
+
 const LAST: Family = Family {
     name: "pdc_last_instant",
     is_counter: false,
@@ -122,14 +128,12 @@ fn append_taken<R: Wait>(rt: &R, tallies: &[Tally], text: &mut String) -> Result
     Ok(())
 }
 
-/// What was refused of a stream, by cause.
+/// What was refused of a stream, by cause: each cause is there, with 0 where it refused none.
 fn append_causes<R: Wait>(rt: &R, tally: &Tally, text: &mut String) -> Result<(), AllocError> {
     let counts = tally.counts(rt);
     for cause in Refusal::ALL {
         let count = counts.refused_as(cause);
-        if count > 0 {
-            append_cause(REFUSED, tally.of, cause.text(), count, text)?;
-        }
+        append_cause(REFUSED, tally.of, cause.text(), count, text)?;
     }
     Ok(())
 }
@@ -243,13 +247,15 @@ fn append_sources<R: Wait>(
     }
 }
 
-/// The open instants, the layout in force, and who is served.
+/// The open instants, the layout in force, who is served, and how often a tick was late.
 fn append_now(metered: &Metered, standing: &Standing, text: &mut String) -> Result<(), AllocError> {
     let consumers = metered.consumers.load(Ordering::Relaxed);
+    let late = metered.late_ticks.load(Ordering::Relaxed);
     append_single(OPEN, standing.open as u64, text)?;
     append_single(START, u64::from(standing.start), text)?;
     append_single(CHANGE, u64::from(standing.change), text)?;
-    append_single(CONSUMERS, consumers, text)
+    append_single(CONSUMERS, consumers, text)?;
+    append_single(LATE_TICKS, late, text)
 }
 
 /// The last instant that was published, if there was one, and how far it lies behind the clock.

@@ -1,11 +1,12 @@
 //! Frames over a TCP connection.
 ghost use Rattle.std.specs.Prelude.{◌≡◌, ◌≤◌, ◌<◌, ℕ, IfOk, IfSome, length};
 
+use crate::inquiry::Inquiry;
 use crate::loss::Loss;
 use crate::since::Since;
 use pdc_frame::{Command, Framer, Step, StreamId};
 use pdc_journal::{Journal, Tally};
-use pdc_ports::{Next, Outcome, Refusal};
+use pdc_ports::{Next, Outcome};
 use pdc_session::{Counting, Unread, tell};
 use std::alloc::{AllocError, Global};
 use std::io::ErrorKind;
@@ -24,11 +25,8 @@ const CONNECT_LIMIT: u64 = 500;
 /// How long a command may take to be written, in milliseconds.
 const WRITE_LIMIT: u64 = 500;
 
-/// After how many seconds without a byte a connection is lost, and without a configuration this is asked for again.
+/// After how many seconds without a byte a connection is lost.
 const PATIENCE: u64 = 5;
-
-/// After how many seconds a configuration is asked for again whose count is not that of the data.
-const SHORT_PATIENCE: u64 = 1;
 
 /// After how many seconds a connection is made anew: the first time, and at most.
 const FIRST_WAIT: u64 = 1;
@@ -52,8 +50,7 @@ pub struct Connection<'a, R: Net<Listener = TcpListener, Stream = TcpStream> + C
     since: Since,
     /// After how many seconds it is made anew.
     wait: u64,
-    /// Since when the configuration was asked for.
-    asked: Since,
+    inquiry: Inquiry,
 }
 
 /// What is told of a connection.
@@ -172,7 +169,7 @@ impl<'a, R: Net<Listener = TcpListener, Stream = TcpStream> + Clock + Wait> Conn
             unread: Unread::new(alloc)?,
             since: Since::now(rt),
             wait: 0,
-            asked: Since::now(rt),
+            inquiry: Inquiry::new(),
         })
     }
 
@@ -200,7 +197,7 @@ impl<'a, R: Net<Listener = TcpListener, Stream = TcpStream> + Clock + Wait> Conn
         self.unread = unread;
         self.stream = Some(stream);
         self.since = Since::now(self.rt);
-        self.asked = Since::now(self.rt);
+        self.inquiry.note(self.rt);
         self.journal.note(
             self.rt,
             text_of(self.alloc, self.tally, self.to, "connected"),
@@ -253,6 +250,9 @@ impl<'a, R: Net<Listener = TcpListener, Stream = TcpStream> + Clock + Wait> Conn
         match self.turn(buffer) {
             Ok(Some(len)) => {
                 self.wait = 0;
+                if self.inquiry.is_called_for_by(&buffer[..len]) {
+                    self.ask_again();
+                }
                 Next::Datagram(len)
             }
             Ok(None) => Next::Idle,
@@ -263,12 +263,9 @@ impl<'a, R: Net<Listener = TcpListener, Stream = TcpStream> + Clock + Wait> Conn
         }
     }
 
-    /// Asks for the configuration, where so many seconds have gone by since that was done.
-    fn ask_again(&mut self, patience: u64) {
-        if !self.asked.is_over(self.rt, patience) {
-            return;
-        }
-        self.asked = Since::now(self.rt);
+    /// Asks for the configuration.
+    fn ask_again(&mut self) {
+        self.inquiry.note(self.rt);
         if let Some(stream) = &mut self.stream {
             let _told = tell(self.id, Command::SendCfg2, stream);
         }
@@ -276,10 +273,10 @@ impl<'a, R: Net<Listener = TcpListener, Stream = TcpStream> + Clock + Wait> Conn
 
     /// Takes how its last frame was answered. Where it was refused for want of the configuration of its data, that is asked for again.
     pub fn answered(&mut self, outcome: Option<Outcome>) {
-        match outcome {
-            Some(Outcome::Refused(Refusal::NoConfig)) => self.ask_again(PATIENCE),
-            Some(Outcome::Refused(Refusal::OtherStamp)) => self.ask_again(SHORT_PATIENCE),
-            _ => {}
+        if let Some(outcome) = outcome {
+            if self.inquiry.is_called_for(self.rt, outcome) {
+                self.ask_again();
+            }
         }
     }
 

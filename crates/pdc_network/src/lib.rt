@@ -10,12 +10,18 @@
 //! [`Link`] is how a concentrator comes by the frames of a stream: at a UDP port, from anybody or from one address alone, asked for or
 //! not; or over a TCP connection, as most PMUs serve it, and as the sessions of a node are. A connection that is lost is no failure: it
 //! is told, counted, and made anew.
+//!
+//! A concentrator that was held up has an old now until it ticks again. A [`HoldingSource`] keeps back what that tick alone would refuse, until it
+//! has come; [`WatchedTicker`] notes each tick for it in [`LastTick`], and tells of ticks that came late.
 #![tactic(auto)]
 
 mod clock;
 mod connection;
 mod datagrams;
 mod deadlines;
+mod holding_source;
+mod inquiry;
+mod last_tick;
 mod link;
 mod loss;
 mod metronome;
@@ -25,11 +31,14 @@ mod receive_buffer;
 mod since;
 mod udp_sink;
 mod udp_source;
+mod watched_ticker;
 
 pub use clock::{ClockTicker, instant_at};
 pub use connection::Connection;
 pub use datagrams::{ListenFault, listen};
 pub use deadlines::Deadlines;
+pub use holding_source::{HoldingSource, Patience};
+pub use last_tick::LastTick;
 pub use link::Link;
 pub use loss::Loss;
 pub use metronome::{Metronome, Timepiece};
@@ -37,3 +46,4 @@ pub use outputs::{Destination, Outputs, UdpOutputs};
 pub use port::Port;
 pub use udp_sink::UdpSink;
 pub use udp_source::UdpSource;
+pub use watched_ticker::WatchedTicker;

@@ -34,7 +34,7 @@ fn nanoseconds_of(length: Duration) -> u64 {
 }
 
 /// The time since 1970 that the clock shows; none where it cannot be read. A time before 1970 is 0.
-fn time_now<C: Clock>(clock: &C) -> Option<Duration> {
+pub(crate) fn time_now<C: Clock>(clock: &C) -> Option<Duration> {
     let now = SystemTime::now(clock).ok()?;
     Some(
         now.duration_since(SystemTime::UNIX_EPOCH)

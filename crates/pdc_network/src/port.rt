@@ -1,20 +1,22 @@
 //! Frames at a UDP port.
 ghost use Rattle.std.specs.Prelude.{◌≡◌, ◌≤◌, ◌<◌, ℕ, length};
 
+use crate::inquiry::Inquiry;
 use crate::since::Since;
 use crate::udp_source::UdpSource;
 use pdc_frame::{Command, StreamId};
 use pdc_journal::Tally;
-use pdc_ports::{Next, Outcome, Refusal, Source};
+use pdc_ports::{Next, Outcome, Source};
 use pdc_session::command_frame;
 use std::net::SocketAddr;
 use std::rt::Clock;
 
-/// After how many seconds without data it is asked for again, and after how many without a configuration that is.
+/// After how many seconds without data it is asked for again.
 const PATIENCE: u64 = 5;
 
 /// The frames that come to a UDP port. Where its sender is to be asked, it is told by commands from this port to send its configuration
-/// and its data: at the begin, and again after each five seconds in which no data came, or none was taken for want of a configuration.
+/// and its data: at the begin, and again after each five seconds in which no data came, or none was taken for want of a configuration; and where
+/// STAT says that the configuration changes, or data is refused by its length for a second.
 #[derive(Drop)]
 pub struct Port<'a, R: Clock> {
     rt: &'a R,
@@ -25,6 +27,7 @@ pub struct Port<'a, R: Clock> {
     commands: Option<SocketAddr>,
     /// Since when it was asked for, or came last; where there is none, it was not asked for yet.
     asked: Option<Since>,
+    inquiry: Inquiry,
 }
 
 impl<'a, R: Clock> Port<'a, R> {
@@ -43,6 +46,7 @@ impl<'a, R: Clock> Port<'a, R> {
             id,
             commands,
             asked: None,
+            inquiry: Inquiry::new(),
         }
     }
 
@@ -63,6 +67,7 @@ impl<'a, R: Clock> Port<'a, R> {
         let _sent = self.source.send(config.as_slice(), to);
         let _sent = self.source.send(data.as_slice(), to);
         self.asked = Some(Since::now(self.rt));
+        self.inquiry.note(self.rt);
     }
 
     /// What comes next.
@@ -73,7 +78,11 @@ impl<'a, R: Clock> Port<'a, R> {
         let next = self.source.next(buffer);
         if let Some(to) = self.commands {
             match next {
-                Next::Datagram(_) => {}
+                Next::Datagram(len) => {
+                    if self.inquiry.is_called_for_by(&buffer[..len]) {
+                        self.ask(to);
+                    }
+                }
                 _ => {
                     if self.is_due() {
                         self.ask(to);
@@ -92,13 +101,11 @@ impl<'a, R: Clock> Port<'a, R> {
         let Some(to) = self.commands else {
             return;
         };
-        match outcome {
-            Some(Outcome::Refused(Refusal::NoConfig)) => {
-                if self.is_due() {
-                    self.ask(to);
-                }
+        self.asked = Some(Since::now(self.rt));
+        if let Some(outcome) = outcome {
+            if self.inquiry.is_called_for(self.rt, outcome) {
+                self.ask(to);
             }
-            _ => self.asked = Some(Since::now(self.rt)),
         }
     }
 

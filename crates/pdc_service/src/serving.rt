@@ -17,7 +17,7 @@ use crate::telling::unsent_text;
 use pdc_journal::{AnnouncingSink, CountingSink, Journal, Reporting, RunCounters};
 use pdc_mark::Mark;
 use pdc_metrics::{Metered, serve_metrics};
-use pdc_network::{ClockTicker, Metronome};
+use pdc_network::{ClockTicker, Metronome, WatchedTicker};
 use pdc_recording::{RecordedTicker, Series, Shelf, write_record};
 use pdc_server::{Naming, Recent, RememberingSink, serve};
 use pdc_startup::{Begun, Concentrator, Observed, RunOptions, ServiceFault, observe_all, plan_of};
@@ -208,6 +208,15 @@ fn run_observed<
         options.every,
     );
     let ticker = RecordedTicker::new(rt, observed.recording.as_ref(), ticker);
+    let ticker = WatchedTicker::new(
+        rt,
+        alloc,
+        journal,
+        &observed.last_tick,
+        &signs.late_ticks,
+        output.rate,
+        ticker,
+    );
     let sink = AnnouncingSink::new(rt, alloc, journal, observed.followers(), sink);
     let sink = CountingSink::new(sink, &signs.unsent);
     let sink = RememberingSink::new(rt, alloc, recent, output, &signs.unsent, sink);

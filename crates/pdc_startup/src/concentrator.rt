@@ -63,6 +63,14 @@ impl Concentrator {
         Some(Tags { rate, time_base })
     }
 
+    /// By how many instants data may lie above the last tick's now.
+    pub fn ahead(&self) -> u64 {
+        match self {
+            Concentrator::Node(settings) => settings.life.timing.ahead,
+            Concentrator::Merger(settings) => settings.life.timing.ahead,
+        }
+    }
+
     /// What the running program is told.
     pub fn service_settings(&self) -> Service {
         match self {

@@ -8,6 +8,7 @@ use pdc_journal::{
     Tags, Tally, Watchers,
 };
 use pdc_metrics::Metered;
+use pdc_network::{HoldingSource, LastTick, Patience};
 use pdc_ports::Source;
 use pdc_recording::{RecordedSource, Recording};
 use pdc_settings::Network;
@@ -16,13 +17,14 @@ use std::rt::Clock;
 use std::sync::Wait;
 
 /// What is watched of a run: the lines that it tells, the tally of each stream, in their order, and of each further destination, what its
-/// threads say, what the merger leaves out, how the run stands, where that is served, and what is recorded of it.
+/// threads say, when it ticked last, what the merger leaves out, how the run stands, where that is served, and what is recorded of it.
 #[derive(Drop)]
 pub struct Observed {
     pub journal: Journal,
     pub tallies: Vec<Tally>,
     pub outputs: Vec<OutputTally>,
     pub signs: Signs,
+    pub last_tick: LastTick,
     pub left_out: Option<LeftOut>,
     pub measured: Option<Measured>,
     pub recording: Option<Recording>,
@@ -84,6 +86,7 @@ impl Observed {
             tallies: tallies_of(alloc, concentrator)?,
             outputs: outputs_of(alloc, network)?,
             signs: Signs::new(),
+            last_tick: LastTick::new(),
             left_out: match concentrator {
                 Concentrator::Node(_) => None,
                 Concentrator::Merger(settings) => Some(LeftOut::new(&settings.life.sources)),
@@ -115,6 +118,7 @@ impl Observed {
                 measured,
                 unsent: &self.signs.unsent,
                 consumers: &self.signs.consumers,
+                late_ticks: &self.signs.late_ticks,
             }),
             None => None,
         }
@@ -135,14 +139,30 @@ fn watchers_of(observed: &Observed, tags: Option<Tags>) -> Watchers<'_> {
     }
 }
 
-/// The sources, each watched, and recorded where the run is; none where there is no memory for them.
+/// When data of the stream with this number is held back.
+fn patience_of<'a>(
+    concentrator: &Concentrator,
+    observed: &'a Observed,
+    number: usize,
+) -> Option<Patience<'a>> {
+    Some(Patience {
+        last_tick: &observed.last_tick,
+        tags: concentrator.stream_tags(number)?,
+        ahead: concentrator.ahead(),
+    })
+}
+
+/// A source of a run: it is watched, recorded where the run is, and held back where the run is late.
+pub type Watched<'a, S, R> = HoldingSource<'a, RecordedSource<'a, ObservedSource<'a, S, R>, R>, R>;
+
+/// The sources, each watched, recorded where the run is, and held back where it is late; none where there is no memory for them.
 pub fn observe_all<'a, S: Source + Drop, R: Wait + Clock>(
     rt: &'a R,
     alloc: Global,
     concentrator: &Concentrator,
     observed: &'a Observed,
     sources: Vec<S>,
-) -> Option<Vec<RecordedSource<'a, ObservedSource<'a, S, R>, R>>>
+) -> Option<Vec<Watched<'a, S, R>>>
     ensures { IfSome result (λ watched. vec_len watched ≡ vec_len sources) }
 {
     let mut watched = Vec::new(alloc);
@@ -155,6 +175,8 @@ pub fn observe_all<'a, S: Source + Drop, R: Wait + Clock>(
         let number = u16::try_from(watched.len()).unwrap_or(u16::MAX);
         let recording = observed.recording.as_ref();
         let source = RecordedSource::new(rt, alloc, recording, number, source);
+        let patience = patience_of(concentrator, observed, watched.len());
+        let source = HoldingSource::new(rt, patience, source);
         if watched.push(source).is_err() {
             return None;
         }

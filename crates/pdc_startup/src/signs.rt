@@ -11,6 +11,8 @@ pub struct Signs {
     pub is_clock_unreadable: AtomicBool,
     /// How many consumers are served.
     pub consumers: AtomicU64,
+    /// How many ticks came late by a fifth of a second or more.
+    pub late_ticks: AtomicU64,
     /// Whether the run has ended.
     pub has_ended: AtomicBool,
 }
@@ -22,6 +24,7 @@ impl Signs {
             unsent: AtomicU64::new(0),
             is_clock_unreadable: AtomicBool::new(false),
             consumers: AtomicU64::new(0),
+            late_ticks: AtomicU64::new(0),
             has_ended: AtomicBool::new(false),
         }
     }

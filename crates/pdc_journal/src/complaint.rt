@@ -1,0 +1,66 @@
+//! What is told of a sender whose frames are refused for what it is or says.
+
+use pdc_cfg::CfgFault;
+use pdc_ports::Refusal;
+use std::rt::Clock;
+use std::time::{Duration, Instant};
+
+/// How long nothing more is told of the same sender, in seconds.
+const PAUSE: u64 = 60;
+
+/// What there is to tell of a refusal, and to do; nothing of those that come and go.
+pub fn complaint_of(cause: Refusal) -> Option<&'static str> {
+    match cause {
+        Refusal::WrongId => Some("frames of another stream come to its port"),
+        Refusal::WrongTimeBase => Some("its configuration has another TIME_BASE than the settings"),
+        Refusal::WrongRate => {
+            Some(
+                "its configuration has another data rate than the settings; data goes on as if it had not come",
+            )
+        }
+        Refusal::WrongSource => Some("its configuration has another IDCODE than the settings"),
+        Refusal::NoConfiguration(CfgFault::FloatFormat) => Some(
+            "its configuration has values in floating point, which are not read",
+        ),
+        Refusal::StaleCount => Some(
+            "its configuration has a lower count than one before: raise the count there",
+        ),
+        Refusal::CountConflict => {
+            Some(
+                "it sends another configuration under the same count; its data goes on under the one in force: raise the count there",
+            )
+        }
+        Refusal::BadOwnBlock | Refusal::UnknownSource => {
+            Some("its layout is not what the settings say: compare its settings with these")
+        }
+        _ => None,
+    }
+}
+
+/// When something was told of a sender.
+#[derive(Drop)]
+pub struct Complaints {
+    last: Option<Instant>,
+}
+
+impl Complaints {
+    /// Nothing was told yet.
+    pub fn new() -> Complaints {
+        Complaints { last: None }
+    }
+
+    /// Whether something more is told now: nothing was for a minute. It counts as told then.
+    pub fn is_due<R: Clock>(&mut self, rt: &R) -> bool {
+        let is_due = match self.last {
+            Some(last) => match last.elapsed(rt) {
+                Ok(gone) => gone >= Duration::from_secs(PAUSE),
+                Err(_) => false,
+            },
+            None => true,
+        };
+        if is_due {
+            self.last = Instant::now(rt).ok();
+        }
+        is_due
+    }
+}
