@@ -19,6 +19,9 @@ pub trait Opens {
 
 /// What takes entries.
 pub trait Takes {
+    /// A file is opened: its place among the names, from 0.
+    fn open(&mut self, _file: usize) {}
+
     /// Takes an entry, and answers whether it wants the next one at once.
     ///
     /// # Errors
@@ -229,6 +232,7 @@ impl<'a> Files<'a> {
             if self.is_broken || !self.open_next(opener)? {
                 break;
             }
+            taker.open(self.opened.saturating_sub(1));
         }
         Ok(if self.is_broken {
             Walked::Broken

@@ -1,6 +1,6 @@
 //! What became of a stream's data for an instant, and why a block is absent.
 
-use crate::texts::{print_at, print_ordinal, print_wait};
+use crate::texts::{print_at, print_gap, print_ordinal, print_wait};
 use pdc_life::{Outcome, Refusal};
 use pdc_story::{About, Arrived, Came, Cell, Story, print_span, time_of};
 use std::io;
@@ -19,8 +19,12 @@ pub enum Fate {
     OtherCount(u16),
     /// It was taken, and has no block of the column.
     NoPlace,
+    /// It was taken, and the record does not tell what was in force then.
+    Taken,
     /// Nothing came.
     Nothing,
+    /// It may be among steps that are not in the record.
+    NotRecorded,
     /// It came when the row had closed.
     Late,
     /// It was of a section of this count that was taken, and not adopted yet; and at which tick after it that was.
@@ -36,6 +40,11 @@ pub enum Fate {
     Unanswered,
     /// It was refused for another cause.
     Refused(Refusal),
+}
+
+/// Whether the record does not tell whether it is there.
+pub(crate) fn is_unknown(fate: Fate) -> bool {
+    matches!(fate, Fate::Taken | Fate::NotRecorded)
 }
 
 /// Why data of an arrival that was not taken is not there.
@@ -83,6 +92,7 @@ pub fn fate_of(story: &Story, stream: usize, column: usize) -> Fate {
     if came.taken.is_some() {
         return match came.cell(column, story.closed) {
             Cell::Missing => Fate::NoPlace,
+            Cell::Unknown => Fate::Taken,
             Cell::OtherCount(count) => Fate::OtherCount(count),
             Cell::Absent => Fate::SentAbsent,
             Cell::Present { .. } => Fate::Present,
@@ -90,15 +100,24 @@ pub fn fate_of(story: &Story, stream: usize, column: usize) -> Fate {
         };
     }
     match came.arrivals.as_slice().first() {
-        Some(arrived) => fate_of_arrival(arrived),
-        None => Fate::Nothing,
+        Some(arrived) if story.gap.is_none() || !is_again(arrived) => fate_of_arrival(arrived),
+        None if story.gap.is_none() => Fate::Nothing,
+        _ => Fate::NotRecorded,
     }
+}
+
+/// Whether other data had been taken before.
+fn is_again(arrived: &Arrived) -> bool {
+    matches!(
+        arrived.outcome,
+        Some(Outcome::Refused(Refusal::Duplicate | Refusal::Conflict))
+    )
 }
 
 /// That it came too late.
 fn print_late<W: Write>(writer: &mut W, about: &About, story: &Story, time: u64) -> io::Result<()> {
-    match (story.opened, story.closed) {
-        (Some(opened), Some(closed)) => {
+    match (story.opened, story.closed, story.gap) {
+        (Some(opened), Some(closed), None) => {
             write!(writer, "its data came ")?;
             print_span(writer, opened.time, time)?;
             write!(writer, " after the first, ")?;
@@ -111,7 +130,7 @@ fn print_late<W: Write>(writer: &mut W, about: &About, story: &Story, time: u64)
             print_at(writer, "its data came at ", time)?;
             write!(
                 writer,
-                ", when a later instant had closed: {}",
+                ", when this instant or a later one had closed: {}",
                 Refusal::Late.text()
             )
         }
@@ -144,6 +163,15 @@ fn print_nothing<W: Write>(
         }
         None => write!(writer, ", and none before it"),
     }
+}
+
+/// Among which steps it may be.
+fn print_not_recorded<W: Write>(writer: &mut W, story: &Story) -> io::Result<()> {
+    write!(writer, "its data may be among ")?;
+    if let Some(gap) = &story.gap {
+        print_gap(writer, gap)?;
+    }
+    write!(writer, ", which are not in the record")
 }
 
 /// When its configuration was adopted.
@@ -191,6 +219,7 @@ pub fn print_fate<W: Write>(
     let time = time_of_data(came);
     match fate {
         Fate::Nothing => return print_nothing(writer, about, story, came),
+        Fate::NotRecorded => return print_not_recorded(writer, story),
         Fate::Late => return print_late(writer, about, story, time),
         Fate::NotAdopted { count, tick } => return print_adopted(writer, count, tick),
         _ => print_at(writer, "its data came at ", time)?,
@@ -208,6 +237,10 @@ pub fn print_fate<W: Write>(
             )
         }
         Fate::NoPlace => write!(writer, ", and has no block of it"),
+        Fate::Taken => write!(
+            writer,
+            " and was taken, under a configuration that the record does not tell"
+        ),
         Fate::NoConfiguration => {
             let text = Refusal::NoConfig.text();
             write!(writer, ", and no configuration of it had come: {text}")
@@ -230,7 +263,9 @@ pub fn print_kind<W: Write>(writer: &mut W, fate: Fate) -> io::Result<()> {
         Fate::Dropped(_) => "dropped by a new configuration",
         Fate::OtherCount(_) => "under a count not in force",
         Fate::NoPlace => "no block of it",
+        Fate::Taken => "taken",
         Fate::Nothing => "nothing came",
+        Fate::NotRecorded => "not in the record",
         Fate::Late => Refusal::Late.text(),
         Fate::NotAdopted { .. } => "its configuration not adopted yet",
         Fate::NoConfiguration => Refusal::NoConfig.text(),

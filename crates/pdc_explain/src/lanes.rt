@@ -1,19 +1,36 @@
 //! At the merger: which node's block a column shows, and why.
 
-use crate::cause::{Fate, fate_of, print_fate, print_kind};
+use crate::cause::{Fate, fate_of, is_unknown, print_fate, print_kind};
 use crate::texts::{node_letter, print_at, print_node};
 use pdc_story::{About, Came, Story};
 use std::io;
 use std::io::Write;
 
-/// The stream whose block a column shows: node A's where both have one.
+/// The stream whose block a column shows: node A's where both have one; none where it is not known whether node A has one.
 pub fn chosen(story: &Story, column: usize) -> Option<usize> {
     for stream in 0..2 {
-        if fate_of(story, stream, column) == Fate::Present {
+        let fate = fate_of(story, stream, column);
+        if fate == Fate::Present {
             return Some(stream);
+        }
+        if is_unknown(fate) {
+            return None;
         }
     }
     None
+}
+
+/// Whether one of both nodes has a block of the column; none where the record does not tell it.
+pub fn has_block(story: &Story, column: usize) -> Option<bool> {
+    let (first, second) = (fate_of(story, 0, column), fate_of(story, 1, column));
+    if first == Fate::Present || second == Fate::Present {
+        return Some(true);
+    }
+    if is_unknown(first) || is_unknown(second) {
+        None
+    } else {
+        Some(false)
+    }
 }
 
 /// Whether both nodes have the same block of a column.
@@ -54,12 +71,11 @@ pub fn print_lanes<W: Write>(
     column: usize,
 ) -> io::Result<()> {
     let Some(stream) = chosen(story, column) else {
-        write!(writer, "absent: ")?;
         print_other(writer, about, story, 0, column)?;
         write!(writer, "; ")?;
         return print_other(writer, about, story, 1, column);
     };
-    write!(writer, "shown: of ")?;
+    write!(writer, "of ")?;
     print_node(writer, about, stream)?;
     if let Some(came) = story.of_stream(stream) {
         if let Some(taken) = came.taken {

@@ -22,3 +22,4 @@ pub use pdc_story::{
 };
 pub use tally::Tally;
 pub use telling::{tell_absent, tell_story};
+pub use texts::print_gap;

@@ -1,8 +1,8 @@
 //! What became of a row, in words.
 
-use crate::texts::{node_letter, print_at, print_ordinal, print_wait};
+use crate::texts::{node_letter, print_at, print_gap, print_ordinal, print_wait};
 use pdc_life::MAX_PMUS;
-use pdc_story::{About, Arrived, Closed, Opened, Story};
+use pdc_story::{About, Arrived, Closed, Gap, Opened, Story};
 use std::io;
 use std::io::Write;
 
@@ -121,6 +121,39 @@ fn print_closed<W: Write>(
     write!(writer, ")")
 }
 
+/// When its frame went out.
+fn print_popped<W: Write>(writer: &mut W, story: &Story, popped: u64) -> io::Result<()> {
+    let text = match story.payload {
+        Some(_) => "; its frame went out at ",
+        None => "; no frame of it was published, it was popped at ",
+    };
+    print_at(writer, text, popped)
+}
+
+/// Tells what is known of the row where steps are not in the record, among which may be some of its own.
+fn tell_row_beside<W: Write>(
+    writer: &mut W,
+    about: &About,
+    story: &Story,
+    gap: &Gap,
+) -> io::Result<()> {
+    write!(writer, "the row ")?;
+    match story.opened {
+        Some(opened) if opened.step < gap.from => print_at(writer, "opened at ", opened.time)?,
+        Some(opened) => print_at(writer, "was open at ", opened.time)?,
+        None => write!(writer, "has no data that was taken and is in the record")?,
+    }
+    if let Some(closed) = story.closed {
+        print_closed(writer, about, None, closed)?;
+    }
+    if let Some(popped) = story.popped {
+        print_popped(writer, story, popped)?;
+    }
+    write!(writer, "; ")?;
+    print_gap(writer, gap)?;
+    writeln!(writer, ", are not in the record")
+}
+
 /// Tells when the row opened, what it waited for, at which tick it closed and when its frame went out.
 ///
 /// # Errors
@@ -132,6 +165,9 @@ pub fn tell_row<W: Write>(
     story: &Story,
     end: u64,
 ) -> io::Result<()> {
+    if let Some(gap) = &story.gap {
+        return tell_row_beside(writer, about, story, gap);
+    }
     write!(writer, "the row ")?;
     match (story.opened, story.popped) {
         (Some(opened), _) => {
@@ -152,13 +188,6 @@ pub fn tell_row<W: Write>(
         }
         print_closed(writer, about, story.opened, closed)?;
     }
-    match story.payload {
-        Some(_) => print_at(writer, "; its frame went out at ", popped)?,
-        None => print_at(
-            writer,
-            "; no frame of it was published, it was popped at ",
-            popped,
-        )?,
-    }
+    print_popped(writer, story, popped)?;
     writeln!(writer)
 }

@@ -1,7 +1,7 @@
 //! The story of an instant, in lines.
 
-use crate::cause::{Fate, fate_of, print_fate};
-use crate::lanes::{chosen, print_lanes};
+use crate::cause::{Fate, fate_of, is_unknown, print_fate};
+use crate::lanes::{has_block, print_lanes};
 use crate::row_lines::tell_row;
 use crate::texts::{print_at, print_number, print_ordinal};
 use pdc_life::{Outcome, Refusal};
@@ -16,20 +16,38 @@ fn is_shown(story: &Story, column: usize) -> Option<bool> {
     Some(matches!(cell, Cell::Present { .. }))
 }
 
-/// Whether a column's data is there, as it was answered.
-pub(crate) fn is_there(about: &About, story: &Story, column: usize) -> bool {
+/// Whether a column's data is there, as it was answered; none where the record does not tell it.
+fn is_there(about: &About, story: &Story, column: usize) -> Option<bool> {
     if about.is_merger() {
-        chosen(story, column).is_some()
+        return has_block(story, column);
+    }
+    let fate = fate_of(story, column, column);
+    if is_unknown(fate) {
+        None
     } else {
-        fate_of(story, column, column) == Fate::Present
+        Some(fate == Fate::Present)
     }
 }
 
-/// Whether the column is absent from the row: as the frame that was published has it, else as its data was answered.
+/// Whether the column is absent from the row: as the frame that was published has it, else as its data was answered. Where the record tells
+/// neither, it is not called absent.
 pub(crate) fn is_absent(about: &About, story: &Story, column: usize) -> bool {
     match is_shown(story, column) {
         Some(shown) => !shown,
-        None => !is_there(about, story, column),
+        None => is_there(about, story, column) == Some(false),
+    }
+}
+
+/// How the line of a column begins.
+fn head_of(about: &About, story: &Story, column: usize) -> &'static str {
+    let there = match is_there(about, story, column) {
+        None => is_shown(story, column),
+        there => there,
+    };
+    match there {
+        Some(true) => "shown: ",
+        Some(false) => "absent: ",
+        None => "not known: ",
     }
 }
 
@@ -86,11 +104,10 @@ fn print_column<W: Write>(
 ) -> io::Result<()> {
     let fate = fate_of(story, column, column);
     let (Fate::Present, Some(came)) = (fate, story.of_stream(column)) else {
-        write!(writer, "absent: ")?;
         return print_fate(writer, about, story, column, fate);
     };
     if let Some(taken) = came.taken {
-        print_at(writer, "shown: came at ", taken.time)?;
+        print_at(writer, "came at ", taken.time)?;
     }
     if came.count > 1 {
         print_place(writer, came)?;
@@ -107,8 +124,11 @@ fn print_disagreement<W: Write>(
 ) -> io::Result<()> {
     let there = is_there(about, story, column);
     match is_shown(story, column) {
-        Some(true) if !there => write!(writer, "; yet the frame that was published shows it"),
-        Some(false) if there => {
+        Some(true) if there == Some(false) => write!(
+            writer,
+            "; yet the frame that was published shows it"
+        ),
+        Some(false) if there == Some(true) => {
             write!(
                 writer,
                 "; yet the frame that was published does not show it"
@@ -125,7 +145,8 @@ fn print_story_of<W: Write>(
     story: &Story,
     column: usize,
 ) -> io::Result<()> {
-    write!(writer, "{} ", about.column_id(column))?;
+    let head = head_of(about, story, column);
+    write!(writer, "{} {head}", about.column_id(column))?;
     if about.is_merger() {
         print_lanes(writer, about, story, column)?;
     } else {

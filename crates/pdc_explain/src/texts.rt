@@ -1,6 +1,6 @@
 //! Words of what is told.
 
-use pdc_story::{About, print_time};
+use pdc_story::{About, Gap, print_time};
 use std::io;
 use std::io::Write;
 
@@ -72,4 +72,18 @@ pub(crate) fn node_letter(stream: usize) -> &'static str {
 pub(crate) fn print_at<W: Write>(writer: &mut W, text: &str, time: u64) -> io::Result<()> {
     write!(writer, "{text}")?;
     print_time(writer, time)
+}
+
+/// Writes the numbers of steps that are not in a record, and from when to when they were made: between the entries before and behind them.
+///
+/// # Errors
+///
+/// What the writer answers.
+pub fn print_gap<W: Write>(writer: &mut W, gap: &Gap) -> io::Result<()> {
+    let last = gap.until.saturating_sub(1);
+    write!(writer, "steps {} to {last}", gap.from)?;
+    if gap.begins > 0 {
+        print_at(writer, ", from ", gap.begins)?;
+    }
+    print_at(writer, ", up to ", gap.ends)
 }

@@ -5,7 +5,8 @@ use crate::words::{Explained, Question};
 use crate::{FAILED, REFUSED};
 use pdc_compare::{Files, Takes, Verdict};
 use pdc_explain::{
-    Delays, Follower, Story, Tally, Unexplained, Wanted, tell_absent, tell_delays, tell_story,
+    Delays, Follower, Gap, Story, Tally, Unexplained, Wanted, print_gap, tell_absent, tell_delays,
+    tell_story,
 };
 use pdc_record::Entry;
 use std::alloc::Global;
@@ -70,32 +71,56 @@ impl Instants {
         self.tell_finished()
     }
 
-    /// Tells what is not in the record.
-    fn tell_gaps(&mut self) -> io::Result<()> {
-        for gap in self.follower.gaps() {
-            let last = gap.until.saturating_sub(1);
-            writeln!(
-                self.out,
-                "steps {} to {last} are not in the record",
-                gap.from
-            )?;
-        }
-        Ok(())
-    }
-
-    /// Tells what is told at the end of the record.
-    fn tell_end(&mut self) -> io::Result<()> {
+    /// Tells what is told at the end of the record, which is in these files.
+    fn tell_end(&mut self, names: &[&str]) -> io::Result<()> {
         self.end()?;
         if self.all {
             self.tally.tell(&mut self.out)?;
         } else if !self.told {
             writeln!(self.out, "nothing is recorded of this instant")?;
         }
-        self.tell_gaps()
+        for gap in self.follower.gaps() {
+            tell_gap(&mut self.out, gap, names)?;
+        }
+        Ok(())
+    }
+}
+
+/// Tells which steps are not in the record, and between which of these files; or that a file has steps that were there already.
+fn tell_gap(out: &mut Vec<u8>, gap: &Gap, names: &[&str]) -> io::Result<()> {
+    let name_of = |place: usize| names.get(place).copied().unwrap_or("");
+    let file = gap.file.unwrap_or(0);
+    if gap.until < gap.from {
+        return writeln!(
+            out,
+            "{} begins with step {}, where step {} is wanted",
+            name_of(file),
+            gap.until,
+            gap.from
+        );
+    }
+    print_gap(out, gap)?;
+    match gap.file {
+        None => writeln!(out, ", are not in the record"),
+        Some(0) => writeln!(
+            out,
+            ", are not in the record: they are before {}",
+            name_of(0)
+        ),
+        Some(file) => writeln!(
+            out,
+            ", are not in the record: they are between {} and {}",
+            name_of(file.saturating_sub(1)),
+            name_of(file)
+        ),
     }
 }
 
 impl Takes for Instants {
+    fn open(&mut self, file: usize) {
+        self.follower.file = file;
+    }
+
     fn take(&mut self, entry: &Entry<'_>) -> io::Result<bool> {
         if self.follower.is_other_life(entry) {
             self.end()?;
@@ -169,7 +194,7 @@ fn print_instants(
 ) -> io::Result<()> {
     walk(rt, files, instants)?;
     if files.verdict() != Verdict::Failed && instants.fault.is_none() {
-        instants.tell_end()?;
+        instants.tell_end(files.names())?;
     }
     print(rt, &mut instants.out)
 }

@@ -54,6 +54,8 @@ pub struct About {
     lived: Lived,
     /// The number of the start.
     pub start: u32,
+    /// The instant up to which all was published or given up before.
+    pub floor: u64,
 }
 
 /// The settings of a life that begins so.
@@ -80,6 +82,7 @@ impl About {
             Ok(lived) => Ok(About {
                 lived,
                 start: begun.start,
+                floor: begun.floor,
             }),
             Err(fault) => Err(Unexplained::Settings(fault)),
         }
@@ -115,6 +118,14 @@ impl About {
         match &self.lived {
             Lived::Node(settings) => settings.timing.wait,
             Lived::Merger(settings) => settings.timing.wait,
+        }
+    }
+
+    /// How far above the last tick's now an instant may lie.
+    pub fn ahead(&self) -> u64 {
+        match &self.lived {
+            Lived::Node(settings) => settings.timing.ahead,
+            Lived::Merger(settings) => settings.timing.ahead,
         }
     }
 

@@ -1,6 +1,7 @@
 //! A life is followed, step by step.
 
 use crate::about::{About, Unexplained};
+use crate::gap::Gap;
 use crate::moments::instant_near;
 use crate::sections::{Held, Sections};
 use crate::stories::Stories;
@@ -32,7 +33,13 @@ pub(crate) struct Followed {
     /// At the merger the layout that is held of each node.
     layouts: [Option<Layout>; 2],
     pub stories: Stories,
-    pub closings: Vec<Closing>,
+    closings: Vec<Closing>,
+    /// Each row that waits closed at one of these.
+    has_closings: bool,
+    /// The instant behind that of the last row that was popped.
+    next_row: u64,
+    /// The record tells all of the life up to here.
+    is_whole: bool,
     /// The tick before.
     last: Option<Closed>,
     /// How many ticks there were.
@@ -42,6 +49,7 @@ pub(crate) struct Followed {
 /// A datagram and its answer.
 #[derive(Clone, Copy)]
 pub(crate) struct Heard<'a> {
+    pub step: u64,
     pub time: u64,
     pub stream: usize,
     pub outcome: Option<Outcome>,
@@ -63,6 +71,9 @@ impl Followed {
             layouts: [None, None],
             stories,
             closings: Vec::new(alloc),
+            has_closings: is_first,
+            next_row: 0,
+            is_whole: is_first,
             last: None,
             ticks: 0,
         })
@@ -76,8 +87,31 @@ impl Followed {
         }
     }
 
-    /// What each column has in a payload that was taken.
+    /// The instant behind that of the last row that was popped.
+    pub fn next_row(&self) -> u64 {
+        self.next_row
+    }
+
+    /// Steps are not in the record: what they changed is not known, up to the next frame of the layout, the next layouts of nodes, and the
+    /// next time that no row waits.
+    pub fn miss(&mut self, gap: Gap) {
+        self.sections = Sections::new(false);
+        self.layouts = [None, None];
+        self.closings.clear();
+        self.has_closings = false;
+        self.is_whole = false;
+        self.stories.miss(gap);
+    }
+
+    /// No row waited.
+    pub fn find_none(&mut self) {
+        self.closings.clear();
+        self.has_closings = true;
+    }
+
+    /// What each column has in a payload that was taken; none where that is not known.
     fn cells(&self, stream: usize, payload: &[u8]) -> Option<[Cell; MAX_PMUS]> {
+        self.sections.in_force()?;
         if !self.about.is_merger() {
             let held = self.sections.of_column(stream)?;
             return cells_of(payload, 0, &[held]);
@@ -118,8 +152,10 @@ impl Followed {
         };
         let (now, ticks) = (self.now(heard.time), self.ticks);
         let arrived = Arrived {
+            step: heard.step,
             time: heard.time,
             outcome: heard.outcome,
+            is_whole: self.is_whole,
             ticks,
             waiting: waiting.map(|held| held.count),
             adopted: None,
@@ -130,6 +166,7 @@ impl Followed {
         };
         if is_taken && story.opened.is_none() {
             story.opened = Some(Opened {
+                step: heard.step,
                 time: heard.time,
                 ticks,
                 stream: heard.stream,
@@ -141,12 +178,12 @@ impl Followed {
         came.note(arrived);
         if is_taken {
             came.take(arrived, payload)?;
-            came.cells = cells.unwrap_or([Cell::Missing; MAX_PMUS]);
+            came.cells = cells.unwrap_or([Cell::Unknown; MAX_PMUS]);
         }
         Ok(())
     }
 
-    /// A configuration came for a stream, and is new.
+    /// A configuration came for a stream, and is held.
     fn hear_layout(&mut self, stream: usize, sections: &[ColumnSection<'_>]) {
         let mut layout = Layout::new();
         for part in sections {
@@ -173,7 +210,7 @@ impl Followed {
                 },
             ) => self.hear_data(heard, *instant, payload),
             Some(Arrival::Layout { sections, .. }) => {
-                if heard.outcome == Some(Outcome::Candidate) {
+                if matches!(heard.outcome, Some(Outcome::Candidate | Outcome::Known)) {
                     self.hear_layout(heard.stream, sections.as_slice());
                 }
                 Ok(())
@@ -199,6 +236,7 @@ impl Followed {
             in_force: self.sections.in_force(),
         };
         self.last = Some(tick);
+        self.stories.reach(now.saturating_add(self.about.ahead()));
         if closed > 0 {
             self.closings.push(Closing { tick, left: closed })?;
         }
@@ -209,8 +247,11 @@ impl Followed {
         Ok(())
     }
 
-    /// The tick at which the row closed that is popped.
+    /// The tick at which the row closed that is popped, where it is known.
     fn closing(&mut self) -> Option<Closed> {
+        if !self.has_closings {
+            return None;
+        }
         let Some(first) = self.closings.as_mut_slice().first_mut() else {
             return self.last;
         };
@@ -231,6 +272,7 @@ impl Followed {
         frame: Option<&[u8]>,
     ) -> Result<(), AllocError> {
         let closed = self.closing();
+        self.next_row = instant.saturating_add(1);
         let now = self.now(time).max(instant);
         let Some(story) = self.stories.at(instant, now)? else {
             return Ok(());

@@ -2,21 +2,11 @@
 
 use crate::about::{About, Unexplained};
 use crate::followed::{Followed, Heard};
+use crate::gap::Gap;
 use crate::story::Story;
 use crate::wanted::Wanted;
 use pdc_record::{Begun, Entry, What};
 use std::alloc::{AllocError, Global};
-
-/// Steps that are not in the record.
-#[derive(Clone, Copy, Debug)]
-pub struct Gap {
-    /// The first one.
-    pub from: u64,
-    /// The one behind the last.
-    pub until: u64,
-    /// When that was written down.
-    pub time: u64,
-}
 
 /// Follows the entries of a record, and gives the story of each instant.
 #[derive(Drop)]
@@ -25,6 +15,10 @@ pub struct Follower {
     wanted: Wanted,
     life: Option<Followed>,
     gaps: Vec<Gap>,
+    /// The number of the next step.
+    next: u64,
+    /// The number of the file that is read, from 0: whoever hands on the entries of several files sets it.
+    pub file: usize,
     /// The time of the last entry.
     end: u64,
 }
@@ -37,6 +31,8 @@ impl Follower {
             wanted,
             life: None,
             gaps: Vec::new(alloc),
+            next: 0,
+            file: 0,
             end: 0,
         }
     }
@@ -81,6 +77,50 @@ impl Follower {
     fn begin(&mut self, step: u64, begun: &Begun<'_>) -> Result<(), Unexplained> {
         let life = Followed::new(self.alloc, begun, step == 0, self.wanted)?;
         self.life = Some(life);
+        self.next = 0;
+        Ok(())
+    }
+
+    /// The steps up to the one before `until` are not in the record, where that is not the next one.
+    fn miss(&mut self, until: u64, time: u64, file: Option<usize>) -> Result<(), AllocError> {
+        if until == self.next {
+            return Ok(());
+        }
+        if let Some(life) = &mut self.life {
+            let gap = Gap {
+                from: self.next,
+                until,
+                begins: self.end,
+                ends: time,
+                file,
+                low: life.next_row(),
+                high: u64::MAX,
+            };
+            life.miss(gap);
+            self.gaps.push(gap)?;
+        }
+        Ok(())
+    }
+
+    /// Notes the number of a step, and the steps before it that are not in the record. One whose gap was told already may stand anywhere.
+    fn count(&mut self, entry: &Entry<'_>) -> Result<(), AllocError> {
+        let (until, next) = match &entry.what {
+            What::Arrived { .. } | What::Ticked { .. } | What::FoundNone | What::Popped { .. } => {
+                (entry.step, entry.step.saturating_add(1))
+            }
+            What::Missing { until } => (*until, *until),
+            _ => return Ok(()),
+        };
+        if until >= self.next {
+            self.miss(until, entry.time, None)?;
+            self.next = next;
+        }
+        if let (What::Popped { instant, .. }, Some(gap)) = (
+            &entry.what,
+            self.gaps.as_mut_slice().last_mut(),
+        ) {
+            gap.high = gap.high.min(instant.saturating_sub(1));
+        }
         Ok(())
     }
 
@@ -90,30 +130,40 @@ impl Follower {
     ///
     /// The record does not begin as one does, or there is no memory.
     pub fn take(&mut self, entry: &Entry<'_>) -> Result<(), Unexplained> {
-        let (alloc, time) = (self.alloc, entry.time);
-        self.end = time;
         if let What::Begun(begun) = &entry.what {
-            if self.life.is_some() && !self.is_other_life(entry) {
-                return Ok(());
+            if self.life.is_none() || self.is_other_life(entry) {
+                self.begin(entry.step, begun)?;
             }
-            return self.begin(entry.step, begun);
+            self.miss(entry.step, entry.time, Some(self.file))?;
+            self.next = entry.step;
         }
+        self.count(entry)?;
+        self.end = entry.time;
+        self.follow(entry)
+    }
+
+    /// Follows an entry.
+    fn follow(&mut self, entry: &Entry<'_>) -> Result<(), Unexplained> {
+        let (alloc, time) = (self.alloc, entry.time);
         let Some(life) = &mut self.life else {
             return Err(Unexplained::NoBeginning);
         };
         match &entry.what {
-            What::Begun(_) | What::FoundNone => {}
+            What::Begun(_) | What::Missing { .. } => {}
+            What::FoundNone => life.find_none(),
             What::Arrived {
                 stream,
                 outcome,
                 datagram,
             } => life.hear(&Heard {
+                step: entry.step,
                 time,
                 stream: usize::from(*stream),
                 outcome: Some(*outcome),
                 datagram,
             })?,
             What::Unanswered { stream, datagram } => life.hear(&Heard {
+                step: self.next,
                 time,
                 stream: usize::from(*stream),
                 outcome: None,
@@ -128,14 +178,6 @@ impl Follower {
             } => life.tick(time, *now, counts, *closed, change.is_some())?,
             What::Popped { instant, frame } => life.pop(alloc, time, *instant, *frame)?,
             What::Laid { frame } => life.lay(frame),
-            What::Missing { until } => {
-                life.closings.clear();
-                self.gaps.push(Gap {
-                    from: entry.step,
-                    until: *until,
-                    time,
-                })?;
-            }
         }
         Ok(())
     }

@@ -10,6 +10,7 @@
 mod about;
 mod followed;
 mod follower;
+mod gap;
 mod moments;
 mod sections;
 mod stories;
@@ -17,7 +18,8 @@ mod story;
 mod wanted;
 
 pub use about::{About, Unexplained};
-pub use follower::{Follower, Gap};
+pub use follower::Follower;
+pub use gap::Gap;
 pub use moments::{instant_near, print_span, print_time, time_of};
 pub use sections::{Held, InForce};
 pub use story::{Adopted, Arrived, Came, Cell, Cells, Closed, Opened, Story};

@@ -66,6 +66,9 @@ impl Sections {
 
     /// The section that is held of a column and is newer than the one in force.
     pub fn waiting(&self, column: usize) -> Option<Held> {
+        if !self.is_known {
+            return None;
+        }
         let held = self.held.get(column).copied()??;
         match self.of_column(column) {
             Some(old) if old.count >= held.count => None,

@@ -1,6 +1,7 @@
 //! The instants that are followed.
 ghost use Rattle.std.specs.Prelude.{◌≡◌, ◌<◌, length};
 
+use crate::gap::Gap;
 use crate::sections::InForce;
 use crate::story::{Adopted, Story};
 use pdc_life::MAX_PMUS;
@@ -24,6 +25,10 @@ pub struct Stories {
     finished: Vec<Story>,
     /// For each stream the last instant of them of which data came, and when.
     last: [Option<(u64, u64)>; MAX_PMUS],
+    /// The last steps that are not in the record,
+    gap: Option<Gap>,
+    /// and the highest instant of which data may be among them, once it is known.
+    reach: Option<u64>,
 }
 
 impl Stories {
@@ -45,6 +50,8 @@ impl Stories {
             low: None,
             finished: Vec::new(alloc),
             last: [None; MAX_PMUS],
+            gap: None,
+            reach: None,
         })
     }
 
@@ -135,9 +142,34 @@ impl Stories {
             return Ok(None);
         };
         if slot.is_none() {
-            *slot = Some(Story::new(self.alloc, instant, self.streams)?);
+            let mut story = Story::new(self.alloc, instant, self.streams)?;
+            story.gap = match self.reach {
+                Some(reach) if reach < instant => None,
+                _ => self.gap,
+            };
+            *slot = Some(story);
         }
         Ok(slot.as_mut())
+    }
+
+    /// Steps are not in the record: data of instants whose row was not popped may be among them.
+    pub fn miss(&mut self, gap: Gap) {
+        self.gap = Some(gap);
+        self.reach = None;
+        for slot in self.slots.as_mut_slice() {
+            if let Some(story) = slot {
+                if story.popped.is_none() {
+                    story.gap = Some(gap);
+                }
+            }
+        }
+    }
+
+    /// After a tick, data may come of instants up to this one.
+    pub fn reach(&mut self, instant: u64) {
+        if self.reach.is_none() {
+            self.reach = Some(instant);
+        }
     }
 
     /// Sections were adopted at the tick that so many were with it.

@@ -1,5 +1,6 @@
 //! What was recorded of one instant.
 
+use crate::gap::Gap;
 use crate::sections::{Held, InForce};
 use arrayvec::ArrayVec;
 use pdc_block::{is_absent, read_body};
@@ -12,10 +13,14 @@ pub const MOST_ARRIVALS: usize = 4;
 /// An arrival of data.
 #[derive(Clone, Copy, Debug, Default)]
 pub struct Arrived {
+    /// The number of its step; where it was not answered, of the next one.
+    pub step: u64,
     /// When, in nanoseconds since 1970.
     pub time: u64,
     /// What it was answered, if it was.
     pub outcome: Option<Outcome>,
+    /// The record tells all of the life before it.
+    pub is_whole: bool,
     /// How many ticks came before it.
     pub ticks: u64,
     /// At a node the count of the section that was held of its PMU and not in force yet.
@@ -29,6 +34,8 @@ pub struct Arrived {
 pub enum Cell {
     /// Nothing.
     Missing,
+    /// The record does not tell it.
+    Unknown,
     /// A block under this count, which was not the one in force.
     OtherCount(u16),
     /// The words of an absent block.
@@ -78,6 +85,8 @@ pub struct Came {
 /// How the row opened.
 #[derive(Clone, Copy, Debug)]
 pub struct Opened {
+    /// The number of the step.
+    pub step: u64,
     /// When.
     pub time: u64,
     /// How many ticks came before.
@@ -106,6 +115,8 @@ pub struct Story {
     pub instant: u64,
     /// What came of each stream.
     pub came: Vec<Came>,
+    /// Steps that are not in the record, among which data of it may be.
+    pub gap: Option<Gap>,
     /// How its row opened.
     pub opened: Option<Opened>,
     /// The tick at which it closed.
@@ -208,6 +219,7 @@ impl Story {
         Ok(Story {
             instant,
             came,
+            gap: None,
             opened: None,
             closed: None,
             popped: None,

@@ -1,0 +1,20 @@
+//! What is not in a record.
+
+/// Steps that are not in the record.
+#[derive(Clone, Copy, Debug, PartialEq, Eq)]
+pub struct Gap {
+    /// The first one: the number that the next step has.
+    pub from: u64,
+    /// The one behind the last; it is below the first where a file goes on with steps that were there already.
+    pub until: u64,
+    /// The time of the last entry before them, in nanoseconds since 1970,
+    pub begins: u64,
+    /// and of the first behind them, or of the entry that tells of them.
+    pub ends: u64,
+    /// The number of the file, from 0, that goes on behind them, where they are between two files.
+    pub file: Option<usize>,
+    /// The lowest instant whose row may have been popped by them: rows are popped in rising order,
+    pub low: u64,
+    /// and the highest.
+    pub high: u64,
+}
