@@ -2,7 +2,7 @@
 
 use crate::texts::{print_at, print_gap, print_ordinal, print_wait};
 use pdc_life::{Outcome, Refusal};
-use pdc_story::{About, Arrived, Came, Cell, Story, print_span, time_of};
+use pdc_story::{About, Arrived, Came, Cell, Story, print_span, print_time, time_of};
 use std::io;
 use std::io::Write;
 
@@ -114,6 +114,18 @@ fn is_again(arrived: &Arrived) -> bool {
     )
 }
 
+/// That its instant was published or given up before the life began.
+fn print_below_floor<W: Write>(writer: &mut W, about: &About) -> io::Result<()> {
+    let (start, floor) = (about.start, about.floor);
+    write!(writer, ", at or below the floor {floor} (")?;
+    print_time(writer, time_of(floor, about.rate()))?;
+    write!(
+        writer,
+        ") with which start {start} began, up to which all was published or given up before: {}",
+        Refusal::Late.text()
+    )
+}
+
 /// That it came too late.
 fn print_late<W: Write>(writer: &mut W, about: &About, story: &Story, time: u64) -> io::Result<()> {
     match (story.opened, story.closed, story.gap) {
@@ -128,6 +140,9 @@ fn print_late<W: Write>(writer: &mut W, about: &About, story: &Story, time: u64)
         }
         _ => {
             print_at(writer, "its data came at ", time)?;
+            if story.instant <= about.floor {
+                return print_below_floor(writer, about);
+            }
             write!(
                 writer,
                 ", when this instant or a later one had closed: {}",
