@@ -1,8 +1,10 @@
 //! What became of a stream's data for an instant, and why a block is absent.
 
-use crate::texts::{print_at, print_gap, print_ordinal, print_wait};
+use crate::texts::{print_at, print_gap, print_number, print_ordinal, print_wait};
 use pdc_life::{Outcome, Refusal};
-use pdc_story::{About, Arrived, Came, Cell, Story, print_span, print_time, time_of};
+use pdc_story::{
+    About, Arrived, Came, Cell, RefusedConfig, Story, print_span, print_time, time_of,
+};
 use std::io;
 use std::io::Write;
 
@@ -36,6 +38,8 @@ pub enum Fate {
     },
     /// No configuration had come.
     NoConfiguration,
+    /// Its configuration had been refused.
+    ConfigRefused(RefusedConfig),
     /// It was not answered.
     Unanswered,
     /// It was refused for another cause.
@@ -66,10 +70,17 @@ fn tick_of(arrived: &Arrived) -> Option<u64> {
     }
 }
 
-/// Why data that was refused is not there: data of a section that is held and not in force yet is refused for want of one, or for its length.
+/// Why data that was refused is not there: data of a section that is held and not in force yet, or of one that was refused, is refused for want
+/// of one, for its length or for its stamp.
 fn fate_of_refused(arrived: &Arrived, refusal: Refusal) -> Fate {
-    let is_unfit = matches!(refusal, Refusal::NoConfig | Refusal::WrongLength);
+    let is_unfit = matches!(
+        refusal,
+        Refusal::NoConfig | Refusal::WrongLength | Refusal::OtherStamp
+    );
     if is_unfit {
+        if let Some(refused) = arrived.refused {
+            return Fate::ConfigRefused(refused);
+        }
         if let Some(count) = arrived.waiting {
             return Fate::NotAdopted {
                 count,
@@ -78,7 +89,7 @@ fn fate_of_refused(arrived: &Arrived, refusal: Refusal) -> Fate {
         }
     }
     match refusal {
-        Refusal::NoConfig => Fate::NoConfiguration,
+        Refusal::NoConfig if arrived.is_whole => Fate::NoConfiguration,
         Refusal::Late => Fate::Late,
         refusal => Fate::Refused(refusal),
     }
@@ -206,6 +217,19 @@ fn print_adopted<W: Write>(writer: &mut W, count: u16, tick: Option<u64>) -> io:
     }
 }
 
+/// For which cause its configuration was refused, when, and how often.
+fn print_config_refused<W: Write>(writer: &mut W, refused: &RefusedConfig) -> io::Result<()> {
+    write!(writer, ", and its configuration was refused ")?;
+    if refused.count > 1 {
+        print_number(writer, refused.count)?;
+        print_at(writer, " times, from ", refused.first)?;
+        print_at(writer, " up to ", refused.last)?;
+    } else {
+        print_at(writer, "at ", refused.last)?;
+    }
+    write!(writer, ": {}", refused.refusal.text())
+}
+
 /// When the data came that was taken, else the first; 0 where none came.
 fn time_of_data(came: Option<&Came>) -> u64 {
     let Some(came) = came else {
@@ -260,6 +284,7 @@ pub fn print_fate<W: Write>(
             let text = Refusal::NoConfig.text();
             write!(writer, ", and no configuration of it had come: {text}")
         }
+        Fate::ConfigRefused(refused) => print_config_refused(writer, &refused),
         Fate::Unanswered => write!(writer, ", and was not answered, for want of memory"),
         Fate::Refused(refusal) => write!(writer, ", and was refused: {}", refusal.text()),
         _ => Ok(()),
@@ -272,6 +297,10 @@ pub fn print_fate<W: Write>(
 ///
 /// What the writer answers.
 pub fn print_kind<W: Write>(writer: &mut W, fate: Fate) -> io::Result<()> {
+    if let Fate::ConfigRefused(refused) = fate {
+        let text = refused.refusal.text();
+        return write!(writer, "its configuration refused: {text}");
+    }
     let text = match fate {
         Fate::Present => "shown",
         Fate::SentAbsent => "sent absent",
@@ -283,7 +312,7 @@ pub fn print_kind<W: Write>(writer: &mut W, fate: Fate) -> io::Result<()> {
         Fate::NotRecorded => "not in the record",
         Fate::Late => Refusal::Late.text(),
         Fate::NotAdopted { .. } => "its configuration not adopted yet",
-        Fate::NoConfiguration => Refusal::NoConfig.text(),
+        Fate::NoConfiguration | Fate::ConfigRefused(_) => Refusal::NoConfig.text(),
         Fate::Unanswered => "not answered",
         Fate::Refused(refusal) => refusal.text(),
     };

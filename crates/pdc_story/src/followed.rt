@@ -5,7 +5,7 @@ use crate::gap::Gap;
 use crate::moments::instant_near;
 use crate::sections::{Held, Sections};
 use crate::stories::Stories;
-use crate::story::{Arrived, Cell, Closed, Opened, Story, cells_of};
+use crate::story::{Arrived, Cell, Closed, Opened, RefusedConfig, Story, cells_of};
 use crate::wanted::Wanted;
 use arrayvec::ArrayVec;
 use pdc_align::{Arrival, ColumnSection};
@@ -32,6 +32,8 @@ pub(crate) struct Followed {
     sections: Sections,
     /// At the merger the layout that is held of each node.
     layouts: [Option<Layout>; 2],
+    /// For each stream the last configurations, if they were refused.
+    refused: [Option<RefusedConfig>; MAX_PMUS],
     pub stories: Stories,
     closings: Vec<Closing>,
     /// Each row that waits closed at one of these.
@@ -69,6 +71,7 @@ impl Followed {
             about,
             sections: Sections::new(is_first),
             layouts: [None, None],
+            refused: [None; MAX_PMUS],
             stories,
             closings: Vec::new(alloc),
             has_closings: is_first,
@@ -97,6 +100,7 @@ impl Followed {
     pub fn miss(&mut self, gap: Gap) {
         self.sections = Sections::new(false);
         self.layouts = [None, None];
+        self.refused = [None; MAX_PMUS];
         self.closings.clear();
         self.has_closings = false;
         self.is_whole = false;
@@ -157,6 +161,7 @@ impl Followed {
             outcome: heard.outcome,
             is_whole: self.is_whole,
             ticks,
+            refused: self.refused.get(heard.stream).copied().unwrap_or(None),
             waiting: waiting.map(|held| held.count),
             adopted: None,
         };
@@ -198,8 +203,22 @@ impl Followed {
         }
     }
 
+    /// Notes whether a configuration was refused that came for a stream.
+    fn note_config(&mut self, heard: &Heard<'_>) {
+        if !is_configuration(heard.datagram) {
+            return;
+        }
+        if let (Some(outcome), Some(place)) = (heard.outcome, self.refused.get_mut(heard.stream)) {
+            *place = match outcome {
+                Outcome::Refused(refusal) => Some(RefusedConfig::with(*place, refusal, heard.time)),
+                _ => None,
+            };
+        }
+    }
+
     /// A datagram came.
     pub fn hear(&mut self, heard: &Heard<'_>) -> Result<(), AllocError> {
+        self.note_config(heard);
         let read = self.about.read(heard.stream, heard.datagram);
         match &read {
             Some(
@@ -292,6 +311,14 @@ impl Followed {
                 self.sections.lay(&self.about, &config);
             }
         }
+    }
+}
+
+/// Whether bytes begin as a frame of CFG-1, CFG-2 or CFG-3 does.
+fn is_configuration(datagram: &[u8]) -> bool {
+    match datagram {
+        [0xAA, kind, ..] => matches!(*kind / 16, 2 | 3 | 5),
+        _ => false,
     }
 }
 

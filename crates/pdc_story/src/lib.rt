@@ -22,5 +22,5 @@ pub use follower::Follower;
 pub use gap::Gap;
 pub use moments::{instant_near, print_span, print_time, time_of};
 pub use sections::{Held, InForce};
-pub use story::{Adopted, Arrived, Came, Cell, Cells, Closed, Opened, Story};
+pub use story::{Adopted, Arrived, Came, Cell, Cells, Closed, Opened, RefusedConfig, Story};
 pub use wanted::{Wanted, wanted_of};

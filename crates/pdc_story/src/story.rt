@@ -4,11 +4,24 @@ use crate::gap::Gap;
 use crate::sections::{Held, InForce};
 use arrayvec::ArrayVec;
 use pdc_block::{is_absent, read_body};
-use pdc_life::{MAX_PMUS, Outcome};
+use pdc_life::{MAX_PMUS, Outcome, Refusal};
 use std::alloc::{AllocError, Global};
 
 /// How many arrivals of a stream for one instant are kept.
 pub const MOST_ARRIVALS: usize = 4;
+
+/// Configurations of a stream that were refused one after another, all for one cause.
+#[derive(Clone, Copy, Debug, PartialEq, Eq)]
+pub struct RefusedConfig {
+    /// The cause.
+    pub refusal: Refusal,
+    /// When the first one came, in nanoseconds since 1970,
+    pub first: u64,
+    /// and the last one.
+    pub last: u64,
+    /// How many they were.
+    pub count: u64,
+}
 
 /// An arrival of data.
 #[derive(Clone, Copy, Debug, Default)]
@@ -23,6 +36,8 @@ pub struct Arrived {
     pub is_whole: bool,
     /// How many ticks came before it.
     pub ticks: u64,
+    /// The last configurations of its stream, if they were refused.
+    pub refused: Option<RefusedConfig>,
     /// At a node the count of the section that was held of its PMU and not in force yet.
     pub waiting: Option<u16>,
     /// How many ticks there were when that one was adopted.
@@ -127,6 +142,25 @@ pub struct Story {
     pub payload: Option<Vec<u8>>,
     /// and what each column has there, where the sections are known.
     pub shown: Option<Cells>,
+}
+
+impl RefusedConfig {
+    /// With one more, that came at this time; the first one where those before were refused for another cause.
+    pub fn with(before: Option<RefusedConfig>, refusal: Refusal, time: u64) -> RefusedConfig {
+        match before {
+            Some(before) if before.refusal == refusal => RefusedConfig {
+                last: time,
+                count: before.count.saturating_add(1),
+                ..before
+            },
+            _ => RefusedConfig {
+                refusal,
+                first: time,
+                last: time,
+                count: 1,
+            },
+        }
+    }
 }
 
 impl Came {
