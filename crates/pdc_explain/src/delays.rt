@@ -1,6 +1,6 @@
 //! How late the data of each stream comes.
 
-use crate::spread::Spread;
+use crate::spread::{NO_DELAY, Spread};
 use pdc_align::Arrival;
 use pdc_life::{MAX_WAIT, Outcome, Refusal};
 use pdc_record::{Entry, What};
@@ -108,7 +108,7 @@ impl Delays {
             self.now.saturating_sub(instant)
         };
         if let Some(spread) = self.spreads.as_mut_slice().get_mut(stream) {
-            spread.add(time.saturating_sub(start), past.saturating_add(1));
+            spread.add(time, start, past.saturating_add(1));
         }
     }
 
@@ -147,9 +147,18 @@ impl Delays {
     }
 }
 
-/// A delay in tenths of a millisecond, in a column.
-fn print_tenths<W: Write>(writer: &mut W, tenths: u64) -> io::Result<()> {
-    write!(writer, " {:>7}.{}", tenths / 10, tenths % 10)
+/// A delay in tenths of a millisecond from [`NO_DELAY`] on, in a column.
+fn print_delay<W: Write>(writer: &mut W, delay: u64) -> io::Result<()> {
+    let late = delay.saturating_sub(NO_DELAY);
+    let early = NO_DELAY.saturating_sub(delay);
+    if early == 0 {
+        write!(writer, " {:>7}.{}", late / 10, late % 10)
+    } else if early < 100 {
+        write!(writer, "      -{}.{}", early / 10, early % 10)
+    } else {
+        let whole = i64::try_from(early / 10).unwrap_or(i64::MAX);
+        write!(writer, " {:>7}.{}", 0_i64.saturating_sub(whole), early % 10)
+    }
 }
 
 /// The letter of a node before its id.
@@ -164,9 +173,9 @@ fn tell_spread<W: Write>(writer: &mut W, name: &str, id: u16, spread: &Spread) -
         return writeln!(writer);
     }
     for thousandths in [100, 500, 900, 990, 999] {
-        print_tenths(writer, spread.tenths(thousandths))?;
+        print_delay(writer, spread.tenths(thousandths))?;
     }
-    print_tenths(writer, spread.greatest / 100_000)?;
+    print_delay(writer, spread.greatest)?;
     match spread.wait() {
         Some(wait) => writeln!(writer, " {wait:>6}"),
         None => writeln!(writer, "   none"),
@@ -174,7 +183,7 @@ fn tell_spread<W: Write>(writer: &mut W, name: &str, id: u16, spread: &Spread) -
 }
 
 /// Tells the spread of delays of each stream: how many milliseconds after its instant 10, 50, 90, 99 and 99.9 of a hundred had come, and the
-/// greatest; and the wait that would have kept all but one in a thousand.
+/// greatest, negative of clocks that run ahead; and the wait that would have kept all but one in a thousand.
 ///
 /// # Errors
 ///

@@ -58,16 +58,16 @@ fn taken_of(story: &Story, stream: usize) -> Option<Arrived> {
     }
 }
 
-/// Of which streams that were wanted nothing was taken, and after how many ticks the last was that was taken.
+/// Of which streams that were wanted nothing was taken, and which was the last that was taken, by the numbers of the steps, and when.
 fn waited_for(about: &About, story: &Story, closed: Closed) -> (Streams, usize, u64) {
     let mut missing = [false; MAX_PMUS];
-    let mut last: u64 = 0;
+    let mut last = Arrived::default();
     let mut last_stream = 0;
     for stream in 0..about.streams() {
         match taken_of(story, stream) {
             Some(taken) => {
-                if taken.time >= last {
-                    last = taken.time;
+                if taken.step >= last.step {
+                    last = taken;
                     last_stream = stream;
                 }
             }
@@ -78,7 +78,7 @@ fn waited_for(about: &About, story: &Story, closed: Closed) -> (Streams, usize, 
             }
         }
     }
-    (missing, last_stream, last)
+    (missing, last_stream, last.time)
 }
 
 /// What a row waited for.

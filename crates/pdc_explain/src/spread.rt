@@ -6,19 +6,22 @@ use std::alloc::{AllocError, Global};
 /// How many nanoseconds are told apart: a tenth of a millisecond.
 const STEP: u64 = 100_000;
 
-/// The longest delay that is told apart, in steps: ten seconds.
+/// The longest delay that is told apart, in steps: ten seconds. It is also how long before its instant data may come and be told apart.
 const STEPS: u64 = 100_000;
+
+/// Delays in tenths of a millisecond are counted up from this number, which stands for none: below it are those of clocks that run ahead.
+pub const NO_DELAY: u64 = STEPS;
 
 /// The delays of one stream.
 #[derive(Drop)]
 pub struct Spread {
-    /// How many delays there were of each length, the last of them all that are longer.
+    /// How many delays there were of each length from ten seconds before on, the last of them all that are longer.
     delays: Vec<u64>,
     /// How many were kept by each wait and no shorter one, the last of them those that no wait keeps.
     waits: Vec<u64>,
     /// How many there were.
     pub count: u64,
-    /// The longest one, in nanoseconds.
+    /// The longest one, in tenths of a millisecond from [`NO_DELAY`] on.
     pub greatest: u64,
 }
 
@@ -60,22 +63,23 @@ impl Spread {
     /// [`AllocError`] where there is no memory.
     pub fn new(alloc: Global) -> Result<Spread, AllocError> {
         Ok(Spread {
-            delays: zeros(alloc, STEPS + 1)?,
+            delays: zeros(alloc, 2 * STEPS + 1)?,
             waits: zeros(alloc, MAX_WAIT + 2)?,
             count: 0,
             greatest: 0,
         })
     }
 
-    /// One more: how long it was, in nanoseconds, and the wait that keeps it.
-    pub fn add(&mut self, delay: u64, wait: u64) {
-        count_at(&mut self.delays, (delay / STEP).min(STEPS));
+    /// One more: when it came and when its instant was, in nanoseconds since 1970, and the wait that keeps it.
+    pub fn add(&mut self, came: u64, instant: u64, wait: u64) {
+        let delay = came.saturating_add(STEPS * STEP).saturating_sub(instant) / STEP;
+        count_at(&mut self.delays, delay.min(2 * STEPS));
         count_at(&mut self.waits, wait.min(MAX_WAIT + 1));
         self.count = self.count.saturating_add(1);
         self.greatest = self.greatest.max(delay);
     }
 
-    /// The delay that so many in a thousand are not above, in tenths of a millisecond.
+    /// The delay that so many in a thousand are not above, in tenths of a millisecond from [`NO_DELAY`] on.
     pub fn tenths(&self, thousandths: u64) -> u64 {
         place_of(&self.delays, share(self.count, thousandths))
     }

@@ -41,7 +41,8 @@ it, or its time, as 2026-11-24T12:03:04.580Z.
 
 --absent lists each instant of which a block is absent, with its cause, and at its end how often each cause was.
 --delays gives for each PMU how many milliseconds after its instant 10, 50, 90, 99 and 99.9 of a hundred frames came, and the greatest
-delay; and the `wait` that would have kept all but one in a thousand.
+delay; and the `wait` that would have kept all but one in a thousand. Where a PMU's clock runs ahead, they are negative, and so is a span
+where the clock of the record was set back in between.
 
 Examples:
   pdc explain a.record.* 2026-11-24T12:03:04.580Z

@@ -47,13 +47,17 @@ pub fn print_time<W: Write>(writer: &mut W, time: u64) -> io::Result<()> {
     }
 }
 
-/// Writes how long it was from one time to another: in whole milliseconds, below ten of them with a tenth, and from ten seconds on in seconds.
+/// Writes how long it was from one time to another: in whole milliseconds, below ten of them with a tenth, and from ten seconds on in seconds;
+/// with a minus where the second time is the earlier one.
 ///
 /// # Errors
 ///
 /// What the writer answers.
 pub fn print_span<W: Write>(writer: &mut W, from: u64, to: u64) -> io::Result<()> {
-    let span = to.saturating_sub(from);
+    if to < from {
+        write!(writer, "-")?;
+    }
+    let span = to.saturating_sub(from).max(from.saturating_sub(to));
     if span < 10 * MILLI {
         let (whole, tenth) = (span / MILLI, span % MILLI / 100_000);
         if tenth == 0 {
