@@ -10,6 +10,7 @@
 mod cause;
 mod delays;
 mod lanes;
+mod ranges;
 mod row_lines;
 mod spread;
 mod tally;
@@ -21,5 +22,5 @@ pub use pdc_story::{
     About, Follower, Gap, Story, Unexplained, Wanted, print_time, time_of, wanted_of,
 };
 pub use tally::Tally;
-pub use telling::{tell_absent, tell_story};
+pub use telling::tell_story;
 pub use texts::print_gap;

@@ -182,15 +182,16 @@ pub fn tell_story<W: Write>(
     tell_row(writer, about, story, end)
 }
 
-/// Tells in a line which blocks of the instant's row are absent, and why; nothing where none is, or no row was published.
+/// Tells in a line which blocks of the instant's row are absent, and why; nothing where none is.
 ///
 /// # Errors
 ///
 /// What the writer answers.
-pub fn tell_absent<W: Write>(writer: &mut W, about: &About, story: &Story) -> io::Result<()> {
-    if story.popped.is_none() {
-        return Ok(());
-    }
+pub(crate) fn tell_absent<W: Write>(
+    writer: &mut W,
+    about: &About,
+    story: &Story,
+) -> io::Result<()> {
     let mut separator = " ";
     let mut is_any = false;
     for column in 0..about.columns() {

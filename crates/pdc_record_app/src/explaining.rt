@@ -5,8 +5,7 @@ use crate::words::{Explained, Question};
 use crate::{FAILED, REFUSED};
 use pdc_compare::{Files, Takes, Verdict};
 use pdc_explain::{
-    Delays, Follower, Gap, Story, Tally, Unexplained, Wanted, print_gap, tell_absent, tell_delays,
-    tell_story,
+    Delays, Follower, Gap, Story, Tally, Unexplained, Wanted, print_gap, tell_delays, tell_story,
 };
 use pdc_record::Entry;
 use std::alloc::Global;
@@ -41,13 +40,12 @@ impl Instants {
 
     /// Tells of an instant that is followed no more.
     fn tell(&mut self, story: &Story) -> io::Result<()> {
+        if self.all {
+            return self.tally.add(&mut self.out, &self.follower, story);
+        }
         let Some(about) = self.follower.about() else {
             return Ok(());
         };
-        if self.all {
-            self.tally.add(about, story)?;
-            return tell_absent(&mut self.out, about, story);
-        }
         if self.follower.is_wanted(story.instant) {
             self.told = true;
             return tell_story(&mut self.out, about, story, self.follower.end_time());
@@ -68,7 +66,8 @@ impl Instants {
     /// The life is at its end.
     fn end(&mut self) -> io::Result<()> {
         self.follower.end()?;
-        self.tell_finished()
+        self.tell_finished()?;
+        self.tally.end(&mut self.out, &self.follower)
     }
 
     /// Tells what is told at the end of the record, which is in these files.

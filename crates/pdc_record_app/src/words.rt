@@ -39,7 +39,9 @@ was shown. Times are in UTC: a datagram's is when it came, that of all else when
 FILE.. are the files of a record in their order; the first ones may be gone. INSTANT is the number of the instant, as `pdc show` prints
 it, or its time, as 2026-11-24T12:03:04.580Z.
 
---absent lists each instant of which a block is absent, with its cause, and at its end how often each cause was.
+--absent lists each instant of which a block is absent, with its cause, and at its end how often each cause was; instants that follow one
+another and have the same causes have a line together. Instants between rows that have no row are listed too, with what came of each PMU;
+and when no tick came about them, since the node was held up.
 --delays gives for each PMU how many milliseconds after its instant 10, 50, 90, 99 and 99.9 of a hundred frames came, and the greatest
 delay; and the `wait` that would have kept all but one in a thousand. Where a PMU's clock runs ahead, they are negative, and so is a span
 where the clock of the record was set back in between.

@@ -1,7 +1,7 @@
 //! A life is followed, step by step.
 
 use crate::about::{About, Unexplained};
-use crate::gap::Gap;
+use crate::gap::{Gap, Hold};
 use crate::moments::instant_near;
 use crate::sections::{Held, Sections};
 use crate::stories::Stories;
@@ -42,6 +42,8 @@ pub(crate) struct Followed {
     next_row: u64,
     /// The record tells all of the life up to here.
     is_whole: bool,
+    /// The times in which no tick came.
+    pub holds: Vec<Hold>,
     /// The tick before.
     last: Option<Closed>,
     /// How many ticks there were.
@@ -77,6 +79,7 @@ impl Followed {
             has_closings: is_first,
             next_row: 0,
             is_whole: is_first,
+            holds: Vec::new(alloc),
             last: None,
             ticks: 0,
         })
@@ -104,6 +107,7 @@ impl Followed {
         self.closings.clear();
         self.has_closings = false;
         self.is_whole = false;
+        self.last = None;
         self.stories.miss(gap);
     }
 
@@ -254,6 +258,9 @@ impl Followed {
             ticks: self.ticks,
             in_force: self.sections.in_force(),
         };
+        if let Some(hold) = self.last.and_then(|before| Hold::between(before, tick)) {
+            self.holds.push(hold)?;
+        }
         self.last = Some(tick);
         self.stories.reach(now.saturating_add(self.about.ahead()));
         if closed > 0 {

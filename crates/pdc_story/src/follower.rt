@@ -2,7 +2,7 @@
 
 use crate::about::{About, Unexplained};
 use crate::followed::{Followed, Heard};
-use crate::gap::Gap;
+use crate::gap::{Gap, Hold};
 use crate::story::Story;
 use crate::wanted::Wanted;
 use pdc_record::{Begun, Entry, What};
@@ -56,6 +56,14 @@ impl Follower {
     /// The steps that are not in the record.
     pub fn gaps(&self) -> &[Gap] {
         self.gaps.as_slice()
+    }
+
+    /// The times in which no tick came, of the life that is followed.
+    pub fn holds(&self) -> &[Hold] {
+        match &self.life {
+            Some(life) => life.holds.as_slice(),
+            None => &[],
+        }
     }
 
     /// The time of the last entry, in nanoseconds since 1970.

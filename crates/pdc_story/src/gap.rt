@@ -1,4 +1,6 @@
-//! What is not in a record.
+//! What is not in a record, and when no tick came.
+
+use crate::story::Closed;
 
 /// Steps that are not in the record.
 #[derive(Clone, Copy, Debug, PartialEq, Eq)]
@@ -17,4 +19,32 @@ pub struct Gap {
     pub low: u64,
     /// and the highest.
     pub high: u64,
+}
+
+/// A time in which no tick came, though at least two were due.
+#[derive(Clone, Copy, Debug, PartialEq, Eq)]
+pub struct Hold {
+    /// When the tick before it was, in nanoseconds since 1970,
+    pub from: u64,
+    /// and the one behind it.
+    pub until: u64,
+    /// The instant that was now at the tick before it,
+    pub low: u64,
+    /// and at the one behind it.
+    pub high: u64,
+}
+
+impl Hold {
+    /// Whether it lies between two ticks.
+    pub fn between(before: Closed, tick: Closed) -> Option<Hold> {
+        if tick.now < before.now.saturating_add(3) {
+            return None;
+        }
+        Some(Hold {
+            from: before.time,
+            until: tick.time,
+            low: before.now,
+            high: tick.now,
+        })
+    }
 }

@@ -19,7 +19,7 @@ mod wanted;
 
 pub use about::{About, Unexplained};
 pub use follower::Follower;
-pub use gap::Gap;
+pub use gap::{Gap, Hold};
 pub use moments::{instant_near, print_span, print_time, time_of};
 pub use sections::{Held, InForce};
 pub use story::{Adopted, Arrived, Came, Cell, Cells, Closed, Opened, RefusedConfig, Story};

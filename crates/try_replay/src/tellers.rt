@@ -1,8 +1,6 @@
 //! What is told of a record.
 
-use pdc_explain::{
-    Delays, Follower, Story, Tally, Wanted, tell_absent, tell_delays, tell_story, wanted_of,
-};
+use pdc_explain::{Delays, Follower, Story, Tally, Wanted, tell_delays, tell_story, wanted_of};
 use pdc_record::{Entry, read_entry};
 use std::alloc::{AllocError, Global};
 use std::io::Write;
@@ -75,13 +73,10 @@ fn add_absent(
     tally: &mut Tally,
     out: &mut Vec<u8>,
 ) -> io::Result<()> {
-    let Some(about) = follower.about() else {
-        return Ok(());
-    };
     for story in stories {
-        tell_absent(out, about, story)?;
-        tally.add(about, story)?;
+        tally.add(out, follower, story)?;
     }
+    tally.end(out, follower)?;
     tally.tell(out)
 }
 
