@@ -31,10 +31,22 @@ pub enum Grouped<'a> {
 
 /// Whose record a file is of.
 #[derive(Clone, Copy, Debug, PartialEq, Eq)]
-struct Owner {
-    role: Role,
-    id: u16,
-    rate: u16,
+pub struct Owner {
+    /// Whose life it is.
+    pub role: Role,
+    /// The id of its frames.
+    pub id: u16,
+    /// Its frames a second.
+    pub rate: u16,
+}
+
+/// The files of one owner.
+#[derive(Drop)]
+pub struct Owned<'a> {
+    /// Whose they are; none where the first of them cannot be read, or does not begin as a file of a record does.
+    pub owner: Option<Owner>,
+    /// Their names, in their order.
+    pub names: Vec<&'a str>,
 }
 
 /// The files of one concentrator.
@@ -159,4 +171,45 @@ pub fn group_files<'a, O: Opens>(
     }
     let Groups { a, b, m, rate } = groups;
     Ok(Grouped::Several(Comparison::of(alloc, a.files, b.files, m.files, rate.unwrap_or(1))))
+}
+
+/// Adds a file to those of its owner.
+fn add_owned<'a>(
+    alloc: Global,
+    owned: &mut Vec<Owned<'a>>,
+    owner: Option<Owner>,
+    name: &'a str,
+) -> Result<(), AllocError> {
+    for each in owned.as_mut_slice() {
+        if each.owner == owner {
+            each.names.push(name)?;
+            return Ok(());
+        }
+    }
+    let mut names = Vec::new(alloc);
+    names.push(name)?;
+    owned.push(Owned { owner, names })?;
+    Ok(())
+}
+
+/// The files of each owner, in the order of their first files. One that cannot be read, or does not begin as a file of a record does, is
+/// with the file before it.
+///
+/// # Errors
+///
+/// [`AllocError`] where there is no memory.
+pub fn files_of_each<'a, O: Opens>(
+    alloc: Global,
+    opener: &mut O,
+    names: &[&'a str],
+) -> Result<Vec<Owned<'a>>, AllocError> {
+    let mut owned = Vec::new(alloc);
+    let mut last = None;
+    for name in names {
+        if let Some(owner) = owner_in(opener, name) {
+            last = Some(owner);
+        }
+        add_owned(alloc, &mut owned, last, name)?;
+    }
+    Ok(owned)
 }

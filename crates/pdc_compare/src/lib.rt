@@ -18,6 +18,6 @@ mod verdict;
 pub use comparison::Comparison;
 pub use entries::{Entries, Unread};
 pub use files::{Fault, Files, Opens, Takes, Walked, Wrong};
-pub use grouping::{Grouped, Misfit, group_files};
+pub use grouping::{Grouped, Misfit, Owned, Owner, files_of_each, group_files};
 pub use record::halt_text;
 pub use verdict::Verdict;

@@ -1,13 +1,13 @@
 //! `pdc explain`.
 
-use crate::printing::{PIECE, Tells, print, status_of, walk};
+use crate::printing::{Disk, PIECE, Tells, print, status_of, walk};
 use crate::words::{Explained, Question};
-use crate::{FAILED, REFUSED};
-use pdc_compare::{Files, Takes, Verdict};
+use crate::{DONE, FAILED, REFUSED};
+use pdc_compare::{Files, Owner, Takes, Verdict, files_of_each};
 use pdc_explain::{
     Delays, Follower, Gap, Story, Tally, Unexplained, Wanted, print_gap, tell_delays, tell_story,
 };
-use pdc_record::Entry;
+use pdc_record::{Entry, Role};
 use std::alloc::Global;
 use std::io;
 use std::io::Write;
@@ -230,15 +230,38 @@ fn explain_delays(rt: &HostRuntime, files: &mut Files<'_>) -> io::Result<u8> {
     ended(rt, files.verdict(), lateness.fault)
 }
 
-/// Runs the command, and answers its exit status.
+/// Tells whose record is explained next.
+fn tell_owner(rt: &HostRuntime, owner: Owner) -> io::Result<()> {
+    let role = if owner.role == Role::Merger {
+        "merger"
+    } else {
+        "node"
+    };
+    println!(rt; "{role} {}", owner.id)
+}
+
+/// Explains the files of one owner, and answers the exit status.
+fn explain_files(rt: &HostRuntime, names: &[&str], question: Question) -> io::Result<u8> {
+    let mut files = Files::of(rt.alloc(), names)?;
+    match question {
+        Question::Instants(wanted) => explain_instants(rt, &mut files, wanted),
+        Question::Delays => explain_delays(rt, &mut files),
+    }
+}
+
+/// Runs the command, and answers its exit status: the greatest one of the owners of the files, each of which is explained for itself.
 ///
 /// # Errors
 ///
 /// A standard stream cannot be written, or there is no memory.
 pub fn run_explain(rt: &HostRuntime, asked: &Explained<'_>) -> io::Result<u8> {
-    let mut files = Files::of(rt.alloc(), asked.files.as_slice())?;
-    match asked.question {
-        Question::Instants(wanted) => explain_instants(rt, &mut files, wanted),
-        Question::Delays => explain_delays(rt, &mut files),
+    let owned = files_of_each(rt.alloc(), &mut Disk { rt }, asked.files.as_slice())?;
+    let mut status = DONE;
+    for each in &owned {
+        if let (Some(owner), true) = (each.owner, owned.len() > 1) {
+            tell_owner(rt, owner)?;
+        }
+        status = status.max(explain_files(rt, each.names.as_slice(), asked.question)?);
     }
+    Ok(status)
 }

@@ -36,7 +36,8 @@ const LONG_EXPLAIN: &str =
 opened, what it waited for, at which tick it closed and when its frame went out. At the merger it tells of each PMU which node's block
 was shown. Times are in UTC: a datagram's is when it came, that of all else when it was written down.
 
-FILE.. are the files of a record in their order; the first ones may be gone. INSTANT is the number of the instant, as `pdc show` prints
+FILE.. are the files of a record in their order; the first ones may be gone. Those of several nodes and of the merger may be given
+together: each record is explained for itself, below a line that says whose it is. INSTANT is the number of the instant, as `pdc show` prints
 it, or its time, as 2026-11-24T12:03:04.580Z.
 
 --absent lists each instant of which a block is absent, with its cause, and at its end how often each cause was; instants that follow one
