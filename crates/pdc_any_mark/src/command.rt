@@ -1,0 +1,168 @@
+//! The commands `mark-show` and `mark-forget`.
+ghost use Rattle.std.specs.Prelude.{◌≡◌, [], IfOk};
+ghost use Rattle.pdc_disk.specs.FileDisk.{seen_of};
+
+use crate::any_mark::AnyMark;
+use pdc_disk::FileDisk;
+use pdc_mark::MarkFault;
+use std::fmt::Display;
+use std::fs::File;
+use std::io::ErrorKind;
+use std::rt::Files;
+use std::{fs, io};
+use thiserror::Error;
+
+/// The exit statuses.
+const DONE: u8 = 0;
+
+const REFUSED: u8 = 1;
+
+const FAILED: u8 = 3;
+
+/// What is given up by a mark without counts, and when that is safe.
+const GIVEN_UP: &str =
+    "The new mark has the same id, rate, start and floor; its counts are 0. With it one promise is given up, this once: that the
+configuration counts that are adopted of a PMU never fall. An older configuration of a PMU would be adopted again, and its data
+read by it. It is safe where no frame of an older configuration is on its way any more, and each PMU sends the configuration
+that is in force at it.";
+
+/// Why a mark file was not shown, or not made.
+#[derive(Debug, Drop, Error)]
+enum Refusal {
+    /// There is a file of the new name.
+    #[error("mark exists")]
+    Exists,
+    /// A file can't be opened, looked for or made.
+    #[error("device fault")]
+    Unopened(io::Error),
+    /// It is no mark, or a device failed.
+    #[error("{0}")]
+    Refused(MarkFault),
+}
+
+/// A fault, and the file that it is of.
+type RefusalOf<'a> = (&'a str, Refusal);
+
+/// The mark in this file.
+fn read<R: Files<File = File>>(files: &R, file: &str) -> Result<AnyMark, Refusal> {
+    let disk = FileDisk::open(files, file).map_err(Refusal::Unopened)?;
+    AnyMark::read(disk).map_err(Refusal::Refused)
+}
+
+/// A new file of this name, which is empty.
+fn new_file<R: Files<File = File>>(files: &R, file: &str) -> Result<FileDisk, Refusal>
+    ensures { IfOk result (λ disk. seen_of disk ≡ []) }
+{
+    match FileDisk::create(files, file) {
+        Ok(disk) => Ok(disk),
+        Err(error) if error.kind() == ErrorKind::AlreadyExists => Err(Refusal::Exists),
+        Err(error) => Err(Refusal::Unopened(error)),
+    }
+}
+
+/// Makes the file of this mark without its counts. One that could not be filled is taken away again, if the device still can.
+fn make<R: Files<File = File>>(files: &R, file: &str, mark: &AnyMark) -> Result<(), Refusal> {
+    let disk = new_file(files, file)?;
+    match mark.forget_counts(disk) {
+        Ok(_) => Ok(()),
+        Err(fault) => {
+            let _ = fs::remove_file(files, file);
+            Err(Refusal::Refused(fault))
+        }
+    }
+}
+
+/// Makes the mark file `new` of the mark in `old`, without its counts, and answers the mark of `old`. The new file is looked at first, and the old
+/// one is read before the new one is made. A fault comes with the file that it is of.
+fn forget<'a, R: Files<File = File>>(
+    files: &R,
+    old: &'a str,
+    new: &'a str,
+) -> Result<AnyMark, RefusalOf<'a>> {
+    match fs::exists(files, new) {
+        Ok(false) => {}
+        Ok(true) => return Err((new, Refusal::Exists)),
+        Err(error) => return Err((new, Refusal::Unopened(error))),
+    }
+    let mark = read(files, old).map_err(|refusal| (old, refusal))?;
+    match make(files, new, &mark) {
+        Ok(()) => Ok(mark),
+        Err(refusal) => Err((new, refusal)),
+    }
+}
+
+/// Prints the fault to standard error, and on a second line the command, the file and the reason.
+fn complain<T: Display>(
+    rt: &impl Eprint,
+    command: &str,
+    of: &RefusalOf<'_>,
+    reason: &T,
+) -> io::Result<()> {
+    let (file, refusal) = of;
+    eprintln!(rt; "{refusal}\npdc {command}: {file}: {reason}")
+}
+
+/// Tells why a command ended, and answers the exit status.
+fn refuse(rt: &impl Eprint, command: &str, of: &RefusalOf<'_>) -> io::Result<u8> {
+    let status = match &of.1 {
+        Refusal::Exists
+        | Refusal::Refused(MarkFault::NoMark | MarkFault::Damaged | MarkFault::OldMark) => REFUSED,
+        _ => FAILED,
+    };
+    match &of.1 {
+        Refusal::Exists => complain(rt, command, of, &"it is left as it is")?,
+        Refusal::Unopened(error) if error.kind() == ErrorKind::WouldBlock => {
+            complain(rt, command, of, &"in use by another process")?;
+        }
+        Refusal::Unopened(error) => complain(rt, command, of, error)?,
+        Refusal::Refused(MarkFault::NoMark) => complain(
+            rt,
+            command,
+            of,
+            &"it has not the 256 bytes of a mark",
+        )?,
+        Refusal::Refused(MarkFault::OldMark) => complain(
+            rt,
+            command,
+            of,
+            &"it is a mark of version 1: pdc mark-convert",
+        )?,
+        Refusal::Refused(MarkFault::Damaged) => complain(
+            rt,
+            command,
+            of,
+            &"neither of its slots is open",
+        )?,
+        Refusal::Refused(_) => complain(rt, command, of, &"the device failed")?,
+    }
+    Ok(status)
+}
+
+/// Shows the mark in a file, and answers the exit status.
+pub fn run_mark_show_command<R: Files<File = File> + Print + Eprint>(
+    rt: &R,
+    file: &str,
+) -> io::Result<u8> {
+    match read(rt, file) {
+        Ok(mark) => {
+            println!(rt; "{mark}")?;
+            Ok(DONE)
+        }
+        Err(refusal) => refuse(rt, "mark-show", &(file, refusal)),
+    }
+}
+
+/// Makes the mark file `new` of the mark in `old`, without its counts. Prints the mark of `old` and what is given up by it, and answers the exit status.
+pub fn run_mark_forget_command<R: Files<File = File> + Print + Eprint>(
+    rt: &R,
+    old: &str,
+    new: &str,
+) -> io::Result<u8> {
+    match forget(rt, old, new) {
+        Ok(mark) => {
+            println!(rt; "{mark}\n{GIVEN_UP}")?;
+            Ok(DONE)
+        }
+        Err((file, refusal)) => refuse(rt, "mark-forget", &(file, refusal)),
+    }
+}
