@@ -1,9 +1,11 @@
 //! The mark of a file, of whoever owns it.
-ghost use Rattle.std.specs.Prelude.{◌≡◌, ◌≤◌, IfOk};
+ghost use Rattle.std.specs.Prelude.{◌≡◌, ◌≤◌, IfErr, IfOk};
+ghost use Rattle.pdc_disk.specs.Disk.{HasCause};
+ghost use Rattle.pdc_mark.specs.Faults.{IsRefusal};
 ghost use Rattle.pdc_any_mark.specs.declared.any_mark.TheConstants.{SECOND};
 ghost use Rattle.pdc_mark.specs.DiskMark.{disk_of, mark_on, StopLeaves};
 ghost use Rattle.pdc_mark.specs.Slots.{HasJust};
-ghost use Rattle.pdc_any_mark.specs.AnyMark.{slot_of};
+ghost use Rattle.pdc_any_mark.specs.AnyMark.{slot_of, IsRefusalOfSome};
 
 use jiff::Timestamp;
 use pdc_disk::{Disk, DiskFault};
@@ -47,6 +49,7 @@ pub(crate) struct Owner {
 /// The bytes of a disk that is as long as a mark file. Of another they are zeros.
 fn bytes_of<D: Disk>(disk: &mut D) -> Result<[u8; MARK_LEN], DiskFault>
     ensures seen { D.seen disk.new ≡ D.seen disk.old }
+    ensures cause { HasCause (D.failures disk.old) (D.failures disk.new) result }
 {
     let mut bytes = [0; MARK_LEN];
     if disk.len()? == MARK_LEN as u64 {
@@ -79,6 +82,8 @@ pub(crate) fn mark_of<D: Disk>(disk: D, owner: Owner) -> Result<(DiskMark<D>, An
     ensures mark { IfOk result (λ both. HasJust (slot_of both.1) (D.seen disk)) }
     ensures file { IfOk result (λ both. HasJust (mark_on both.0) (D.seen (disk_of both.0))) }
     ensures durable { IfOk result (λ both. StopLeaves both.0 (HasJust (mark_on both.0))) }
+    ensures refusal { IfErr result (λ refused. IsRefusal (D.seen disk) owner.id owner.rate
+        (D.failures disk) (D.failures refused.disk) refused.fault) }
 {
     let mark = DiskMark::open(disk, owner.id, owner.rate)?;
     let (start, floor) = mark.stored();
@@ -101,17 +106,22 @@ impl AnyMark {
     ///
     /// # Errors
     ///
-    /// Why the disk is no mark, the first whose cause holds: `Device`, `OldMark` where it has 128 bytes, `NoMark` where it hasn't 256, `Damaged`
-    /// where no slot is open.
-    pub fn read<D: Disk + Drop>(mut disk: D) -> Result<AnyMark, MarkFault>
-        ensures { IfOk result (λ mark. HasJust (slot_of mark) (D.seen disk)) }
+    /// With the disk, the first whose cause holds: `Device`, `OldMark` where it has 128 bytes, `NoMark` where it hasn't 256, `Damaged` where no slot
+    /// is open. The owner that is looked for is that of the slot in force, so `OtherOwner` is not answered (tried, not proved).
+    pub fn read<D: Disk + Drop>(mut disk: D) -> Result<AnyMark, Refused<D>>
+        ensures mark { IfOk result (λ mark. HasJust (slot_of mark) (D.seen disk)) }
+        ensures refusal { IfErr result (λ refused. IsRefusalOfSome (D.seen disk)
+            (D.failures disk) (D.failures refused.disk) refused.fault) }
     {
-        let bytes = bytes_of(&mut disk)?;
+        let Ok(bytes) = bytes_of(&mut disk) else {
+            let fault = MarkFault::Device;
+            return Err(Refused { fault, disk });
+        };
         let is_second = is_second_in(&bytes);
         let at = if is_second { SECOND } else { 0 };
         match mark_of(disk, owner_at(&bytes, at)) {
             Ok((_, mark)) => Ok(AnyMark { is_second, ..mark }),
-            Err(refused) => Err(refused.fault),
+            Err(refused) => Err(refused),
         }
     }
 }

@@ -46,7 +46,10 @@ type RefusalOf<'a> = (&'a str, Refusal);
 /// The mark in this file.
 fn read<R: Files<File = File>>(files: &R, file: &str) -> Result<AnyMark, Refusal> {
     let disk = FileDisk::open(files, file).map_err(Refusal::Unopened)?;
-    AnyMark::read(disk).map_err(Refusal::Refused)
+    match AnyMark::read(disk) {
+        Ok(mark) => Ok(mark),
+        Err(refused) => Err(Refusal::Refused(refused.fault)),
+    }
 }
 
 /// A new file of this name, which is empty.
