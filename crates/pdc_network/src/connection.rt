@@ -20,12 +20,12 @@ use std::{io, thread};
 const TURN: u64 = 20;
 
 /// How long a connection may take to be made, in milliseconds.
-const CONNECT_LIMIT: u64 = 500;
+const CONNECT_LIMIT: u64 = 3000;
 
 /// How long a command may take to be written, in milliseconds.
 const WRITE_LIMIT: u64 = 500;
 
-/// After how many seconds without a byte a connection is lost.
+/// After how many seconds without a byte a connection is lost, and after how many from its first byte to the end of a frame.
 const PATIENCE: u64 = 5;
 
 /// After how many seconds a connection is made anew: the first time, and at most.
@@ -34,7 +34,8 @@ const FIRST_WAIT: u64 = 1;
 const LONGEST_WAIT: u64 = 30;
 
 /// The frames of a stream over a connection to its sender, which is told to send its configuration and its data. One that is lost, refused
-/// or silent for five seconds is made anew after a second, and each further time after twice as long, up to 30 seconds.
+/// or silent for five seconds, or whose frame takes five seconds to come, is made anew: after a second, and each further time after twice
+/// as long, up to 30 seconds.
 #[derive(Drop)]
 pub struct Connection<'a, R: Net<Listener = TcpListener, Stream = TcpStream> + Clock + Wait> {
     rt: &'a R,
@@ -48,6 +49,8 @@ pub struct Connection<'a, R: Net<Listener = TcpListener, Stream = TcpStream> + C
     unread: Unread,
     /// Since when nothing came, or else the connection is lost.
     since: Since,
+    /// Since when a frame is coming that is not whole, if one is.
+    begun: Option<Since>,
     /// After how many seconds it is made anew.
     wait: u64,
     inquiry: Inquiry,
@@ -143,6 +146,17 @@ fn cut(framer: &mut Framer, unread: &mut Unread, buffer: &mut [u8]) -> Result<Op
     }
 }
 
+/// Whether a frame of which some bytes came, and that is not whole, has been coming for too long.
+fn is_slow<R: Clock>(rt: &R, begun: &mut Option<Since>) -> bool {
+    match begun {
+        Some(begun) => begun.is_over(rt, PATIENCE),
+        None => {
+            *begun = Some(Since::now(rt));
+            false
+        }
+    }
+}
+
 impl<'a, R: Net<Listener = TcpListener, Stream = TcpStream> + Clock + Wait> Connection<'a, R> {
     /// The frames of the stream `id`, over a connection to this address that is not made yet, with what counts for it.
     ///
@@ -168,6 +182,7 @@ impl<'a, R: Net<Listener = TcpListener, Stream = TcpStream> + Clock + Wait> Conn
             framer: Framer::new(alloc)?,
             unread: Unread::new(alloc)?,
             since: Since::now(rt),
+            begun: None,
             wait: 0,
             inquiry: Inquiry::new(),
         })
@@ -197,6 +212,7 @@ impl<'a, R: Net<Listener = TcpListener, Stream = TcpStream> + Clock + Wait> Conn
         self.unread = unread;
         self.stream = Some(stream);
         self.since = Since::now(self.rt);
+        self.begun = None;
         self.inquiry.note(self.rt);
         self.journal.note(
             self.rt,
@@ -227,7 +243,11 @@ impl<'a, R: Net<Listener = TcpListener, Stream = TcpStream> + Clock + Wait> Conn
         match read(&mut self.unread, stream)? {
             Heard::Bytes => {
                 self.since = Since::now(self.rt);
-                cut(&mut self.framer, &mut self.unread, buffer)
+                let whole = cut(&mut self.framer, &mut self.unread, buffer)?;
+                if whole.is_none() && is_slow(self.rt, &mut self.begun) {
+                    return Err(Loss::Slow);
+                }
+                Ok(whole)
             }
             Heard::Nothing => {
                 if self.since.is_over(self.rt, PATIENCE) {
@@ -250,6 +270,7 @@ impl<'a, R: Net<Listener = TcpListener, Stream = TcpStream> + Clock + Wait> Conn
         match self.turn(buffer) {
             Ok(Some(len)) => {
                 self.wait = 0;
+                self.begun = None;
                 if self.inquiry.is_called_for_by(&buffer[..len]) {
                     self.ask_again();
                 }

@@ -19,6 +19,9 @@ pub enum Loss {
     /// Nothing came for five seconds.
     #[error("lost: nothing came for 5 seconds")]
     Silent,
+    /// A frame was not whole five seconds after its first byte.
+    #[error("lost: a frame was not whole within 5 seconds")]
+    Slow,
     /// What came is no frame.
     #[error("given up: what comes is no frame, {0}")]
     NoFrame(FrameFault),
