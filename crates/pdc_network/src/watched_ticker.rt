@@ -13,8 +13,12 @@ use std::time::{Duration, Instant};
 /// By how much a tick is late that is told, in milliseconds.
 const LATE: u64 = 200;
 
+/// For how long no other line is told of late ticks, in seconds.
+const PAUSE: u64 = 10;
+
 /// Ticks as the inner ticker does. Each instant that is now it notes once the tick was made, for those who wait for it. Where there was no tick for a
-/// fifth of a second more than there should be, it counts that and tells how long there was none, and what was done meanwhile.
+/// fifth of a second more than there should be, it counts that and tells how long there was none, and what was done meanwhile; once in ten
+/// seconds at most.
 #[derive(Drop)]
 pub struct WatchedTicker<'a, K: Ticker + Drop, R: Wait + Clock> {
     rt: &'a R,
@@ -28,7 +32,26 @@ pub struct WatchedTicker<'a, K: Ticker + Drop, R: Wait + Clock> {
     /// When the last tick was given, and when it was made.
     given: Option<Instant>,
     made: Option<Instant>,
+    /// When a late tick was told last.
+    told: Option<Instant>,
     inner: K,
+}
+
+/// How long ago that was; nothing where the clock cannot be read.
+fn since<R: Clock>(rt: &R, moment: Option<Instant>) -> Duration {
+    match moment {
+        Some(moment) => moment.elapsed(rt).unwrap_or(Duration::ZERO),
+        None => Duration::ZERO,
+    }
+}
+
+/// Whether a late tick is told now, where one was told then. It counts as told now.
+fn is_to_be_told<R: Clock>(rt: &R, told: &mut Option<Instant>) -> bool {
+    let is_due = told.is_none() || since(rt, *told) >= Duration::from_secs(PAUSE);
+    if is_due {
+        *told = Instant::now(rt).ok();
+    }
+    is_due
 }
 
 impl<'a, K: Ticker + Drop, R: Wait + Clock> WatchedTicker<'a, K, R> {
@@ -53,21 +76,13 @@ impl<'a, K: Ticker + Drop, R: Wait + Clock> WatchedTicker<'a, K, R> {
             most: Duration::from_millis(LATE + 1000 / u64::from(rate)),
             given: None,
             made: None,
+            told: None,
             inner,
-        }
-    }
-
-    /// How long ago that was; nothing where the clock cannot be read.
-    fn since(&self, moment: Option<Instant>) -> Duration {
-        match moment {
-            Some(moment) => moment.elapsed(self.rt).unwrap_or(Duration::ZERO),
-            None => Duration::ZERO,
         }
     }
 
     /// Tells that there was no tick for so long, of which it was so long until it was made, and so long until the next was asked for.
     fn tell_late(&self, gone: Duration, making: Duration, asked: Duration) {
-        self.late.fetch_add(1, Ordering::Relaxed);
         let publishing = asked.saturating_sub(making);
         let waiting = gone.saturating_sub(asked);
         let (longest, doing) = if making >= publishing && making >= waiting {
@@ -95,12 +110,15 @@ impl<'a, K: Ticker + Drop, R: Wait + Clock> Ticker for WatchedTicker<'a, K, R> {
     ghost gave = { λ s nows. K.gave s.inner nows };
 
     fn next(&mut self) -> Option<u64> {
-        let asked = self.since(self.given);
-        let making = asked.saturating_sub(self.since(self.made));
+        let asked = since(self.rt, self.given);
+        let making = asked.saturating_sub(since(self.rt, self.made));
         let next = self.inner.next();
-        let gone = self.since(self.given);
+        let gone = since(self.rt, self.given);
         if gone >= self.most {
-            self.tell_late(gone, making, asked);
+            self.late.fetch_add(1, Ordering::Relaxed);
+            if is_to_be_told(self.rt, &mut self.told) {
+                self.tell_late(gone, making, asked);
+            }
         }
         self.given = Instant::now(self.rt).ok();
         if next.is_none() {
