@@ -13,6 +13,7 @@ mod running;
 use listen::run_listen_command;
 use mark_convert::{mark_convert_status, report_mark_convert};
 use mark_init::{mark_init_status, report_mark_init};
+use pdc_any_mark::{run_mark_forget_command, run_mark_show_command};
 use pdc_command_line::{MarkConvert, MarkInit, Request, ShowForm, parse};
 use pdc_export::{Format, run_export_command};
 use pdc_mark::{convert_mark, make_mark};
@@ -74,6 +75,8 @@ fn main(rt: HostRuntime) -> io::Result<ExitCode> {
             Request::Play(request) => run_play_command(&rt, request),
             Request::MarkInit(request) => run_mark_init_command(&rt, request),
             Request::MarkConvert(request) => run_mark_convert_command(&rt, request),
+            Request::MarkShow(file) => run_mark_show_command(&rt, file),
+            Request::MarkForget(asked) => run_mark_forget_command(&rt, asked.old, asked.new),
             Request::Node(request) => run_node_command(&rt, request),
             Request::Merge(request) => run_merge_command(&rt, request),
             Request::Pmu(request) => run_pmu_command(&rt, request),

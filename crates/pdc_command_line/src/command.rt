@@ -2,7 +2,9 @@
 
 use crate::listen::{LISTEN, listen_request};
 use crate::mark_convert::{MARK_CONVERT, mark_convert_request};
+use crate::mark_forget::{MARK_FORGET, mark_forget_request};
 use crate::mark_init::{MARK_INIT, mark_init_request};
+use crate::mark_show::MARK_SHOW;
 use crate::play::{PLAY, play_request};
 use crate::pmu::{PMU, pmu_request};
 use crate::request::Request;
@@ -24,18 +26,18 @@ const EXAMPLES: &str = "Examples:
                               play events on two nodes and a merger
   pdc mark-init a.mark 201 50 make the mark file of node 201 at 50 frames a second
   pdc mark-convert old new    make a mark file of version 2 out of one of version 1
+  pdc mark-show a.mark        print what a mark file holds
+  pdc mark-forget old new     make a mark file without the counts of another
   pdc node a.toml a.mark 3000 run a node for 3000 ticks
   pdc merge m.toml m.mark 3000
                               run the merger for 3000 ticks
   pdc pmu 11 50 3000 4811     simulate PMU 11 at 50 frames a second
   pdc listen 4751 | pdc show  print what the frames that come to a UDP port say
   pdc watch a.toml b.toml m.toml
-                              show the pair on a page: a program of its own,
-                              which is installed as pdc-watch
+                              show the pair on a page
   pdc replay a.record.*       play a record of a run again, and compare
   pdc explain a.record.* 2026-11-24T12:03:04.580Z
-                              tell what became of each PMU at an instant: both
-                              in a program of their own, installed as pdc-record
+                              tell what became of each PMU at an instant
   pdc help show               tell more of a command
 
 Exit status: 0 done, 1 refused input, 2 wrong arguments, 3 a device failed or memory ran out";
@@ -66,7 +68,9 @@ fn with_files<'a>(alloc: Global) -> Result<Command<'a>, AllocError> {
     let pdc = with(alloc, program(alloc), &SHOW);
     let pdc = with(alloc, pdc, &PLAY);
     let pdc = with(alloc, pdc, &MARK_INIT);
-    with(alloc, pdc, &MARK_CONVERT)
+    let pdc = with(alloc, pdc, &MARK_CONVERT);
+    let pdc = with(alloc, pdc, &MARK_SHOW);
+    with(alloc, pdc, &MARK_FORGET)
 }
 
 /// The program with all its commands: those that run on the network stand behind.
@@ -83,6 +87,8 @@ fn plain_request_of<'a>(name: &str, words: &ArgMatches<'a>) -> Option<Request<'a
         "show" => Some(Request::Show(show_form(words))),
         "play" => play_request(words),
         "mark-convert" => mark_convert_request(words),
+        "mark-show" => words.get_str("FILE").map(Request::MarkShow),
+        "mark-forget" => mark_forget_request(words),
         _ => None,
     }
 }

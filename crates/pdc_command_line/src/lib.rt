@@ -7,7 +7,9 @@
 mod command;
 mod listen;
 mod mark_convert;
+mod mark_forget;
 mod mark_init;
+mod mark_show;
 mod number;
 mod play;
 mod pmu;
@@ -19,6 +21,6 @@ mod wrong;
 
 pub use command::parse;
 pub use request::{
-    Listen, MAX_PLACES, MAX_RATE, MarkConvert, MarkInit, Place, Play, Record, Request, Running,
-    ShowForm, Simulated,
+    Listen, MAX_PLACES, MAX_RATE, MarkConvert, MarkForget, MarkInit, Place, Play, Record, Request,
+    Running, ShowForm, Simulated,
 };

@@ -29,6 +29,10 @@ pub enum Request<'a> {
     MarkInit(MarkInit<'a>),
     /// Make a mark file of version 2 out of one of version 1.
     MarkConvert(MarkConvert<'a>),
+    /// Show the mark in the file of this name.
+    MarkShow(&'a str),
+    /// Make a mark file without the counts of another.
+    MarkForget(MarkForget<'a>),
     /// Play the script on standard input.
     Play(Play<'a>),
     /// Run a node.
@@ -69,6 +73,15 @@ pub struct MarkInit<'a> {
 #[derive(Clone, Copy, Debug)]
 pub struct MarkConvert<'a> {
     /// The name of the file of version 1.
+    pub old: &'a str,
+    /// The name of the new file.
+    pub new: &'a str,
+}
+
+/// The mark file whose counts are to be forgotten, and the one that is to be made.
+#[derive(Clone, Copy, Debug)]
+pub struct MarkForget<'a> {
+    /// The name of the file that has the counts.
     pub old: &'a str,
     /// The name of the new file.
     pub new: &'a str,

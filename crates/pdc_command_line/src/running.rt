@@ -85,12 +85,12 @@ const WANTED: &[Wanted<'static>] = &[
     ),
     Wanted(
         "record-size",
-        Form::Option("MEBIBYTES"),
+        Form::Beside("MEBIBYTES", "record"),
         "How large a file of the record grows, 1 to 65536; left out, 64",
     ),
     Wanted(
         "record-keep",
-        Form::Option("FILES"),
+        Form::Beside("FILES", "record"),
         "How many files of the record stay, the last ones; left out, all",
     ),
 ];

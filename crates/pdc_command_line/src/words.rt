@@ -18,6 +18,8 @@ pub enum Form<'a> {
     UpToSixteen,
     /// An option `--name VALUE` with this value, which may be left out.
     Option(&'a str),
+    /// An option `--name VALUE` with this value, which is wanted beside the option of the other name alone.
+    Beside(&'a str, &'a str),
     /// An option `--name VALUE` with one of these values, which may be left out.
     OneOf(&'a str, &'a [&'a str]),
     /// A flag `--name`.
@@ -44,23 +46,32 @@ pub struct Told<'a> {
 }
 
 /// An argument in this form.
-fn in_form<'a>(arg: Arg<'a>, name: &'a str, form: Form<'a>) -> Arg<'a> {
-    match form {
+///
+/// # Errors
+///
+/// There is no memory.
+fn in_form<'a>(arg: Arg<'a>, name: &'a str, form: Form<'a>) -> Result<Arg<'a>, AllocError> {
+    Ok(match form {
         Form::Word => arg.required(true).action(ArgAction::Set),
         Form::Optional => arg.action(ArgAction::Set),
         Form::UpToSixteen => arg.num_args(1..=16).action(ArgAction::Append),
         Form::Option(value) => arg.long(name).value_name(value).action(ArgAction::Set),
+        Form::Beside(value, other) => arg
+            .long(name)
+            .value_name(value)
+            .action(ArgAction::Set)
+            .requires_arg(other)?,
         Form::OneOf(value, values) => arg
             .long(name)
             .value_name(value)
             .value_parser(values)
             .action(ArgAction::Set),
         Form::Flag => arg.long(name).action(ArgAction::SetTrue),
-    }
+    })
 }
 
 /// What is wanted, as `clap` reads it.
-fn arg<'a>(alloc: Global, wanted: &Wanted<'a>) -> Arg<'a> {
+fn arg<'a>(alloc: Global, wanted: &Wanted<'a>) -> Result<Arg<'a>, AllocError> {
     let Wanted(name, form, help) = *wanted;
     in_form(Arg::new(alloc, name).help(help), name, form)
 }
@@ -72,7 +83,7 @@ pub fn command_of<'a>(alloc: Global, told: &Told<'a>) -> Result<Command<'a>, All
         .about(told.about)
         .long_about(told.long);
     for wanted in told.wanted {
-        command = command.arg(arg(alloc, wanted))?;
+        command = command.arg(arg(alloc, wanted)?)?;
     }
     Ok(command)
 }

@@ -14,6 +14,14 @@ show|--format|xml -> status 2
 show|--format -> status 2
 mark-init|a.mark|65534|240 -> Some(MarkInit(MarkInit { file: "a.mark", id: StreamId { value: 65534 }, rate: 240 }))
 mark-convert|a.mark|a2.mark -> Some(MarkConvert(MarkConvert { old: "a.mark", new: "a2.mark" }))
+mark-show|a.mark -> Some(MarkShow("a.mark"))
+mark-show -> status 2
+mark-show|a.mark|x -> status 2
+mark-forget|a.mark|a2.mark -> Some(MarkForget(MarkForget { old: "a.mark", new: "a2.mark" }))
+mark-forget|a.mark -> status 2
+mark-forget|a.mark|a2.mark|x -> status 2
+node|a.toml|a.mark|--record-size|1 -> status 2
+node|a.toml|a.mark|--record-keep|3 -> status 2
 shew -> status 2
 show|x -> status 2
 mark-init -> status 2
@@ -87,7 +95,7 @@ listen -> status 2
 "#;
 
 /// How many they are.
-const ROWS: usize = 77;
+const ROWS: usize = 85;
 
 /// The words of a line.
 fn words(alloc: Global, line: &str) -> Result<Vec<String>, AllocError> {
