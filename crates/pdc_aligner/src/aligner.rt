@@ -38,7 +38,7 @@ pub struct Aligner<N: Ledgers, M: Mark, K> {
     /// It publishes, and alone has the mark.
     pub publisher: Publisher<M>,
     /// By which it pops.
-    pub pops: Pops<N>,
+    pub pops: Pops<N, M>,
     /// It says when to tick, and is told of what was done.
     pub ticker: K,
     /// Its end of the channel.

@@ -1,5 +1,5 @@
 //! What comes before a tick and the tick itself: the mark is raised to the counts that wait.
-ghost use Rattle.std.specs.Prelude.{◌≡◌, ◌<◌, ◌≤◌, ℕ, Err, IfErr, IfOk, OnErr, slice_index};
+ghost use Rattle.std.specs.Prelude.{◌≡◌, ◌<◌, Err, IfErr, IfOk, OnErr, OnOk};
 ghost use Rattle.pdc_align.specs.Align.{ticked_of};
 ghost use Rattle.pdc_aligner.specs.Device.{HasDevice, IsOfAligner, standing_of};
 ghost use Rattle.pdc_aligner.specs.Turns.{HasCleared, NoneFalls};
@@ -18,13 +18,12 @@ use pdc_ports::Numbered;
 use pdc_publisher::Publisher;
 use std::sync::Wait;
 
-/// Raises the mark to the counts that wait, where one of them is greater, and gives the stored ones.
+/// Raises the mark to the counts that wait, where one of them is greater.
 fn clear_counts<M: Mark>(
     publisher: &mut Publisher<M>,
     waiting: &[u16; COUNTS],
-) -> Result<[u16; COUNTS], HubFault>
-    ensures stored { IfOk result (λ counts. counts ≡ (M.stored (mark_in publisher.new)).counts) }
-    ensures cleared { IfOk result (λ counts. (i : ℕ) → slice_index waiting.now i ≤ slice_index counts i) }
+) -> Result<(), HubFault>
+    ensures cleared { OnOk result (NoneFalls waiting.now (M.stored (mark_in publisher.new)).counts) }
     ensures none_falls { NoneFalls (M.stored (mark_in publisher.old)).counts (M.stored (mark_in publisher.new)).counts }
     ensures floor { (M.stored (mark_in publisher.new)).floor ≡ (M.stored (mark_in publisher.old)).floor }
     ensures last { last_in publisher.new ≡ last_in publisher.old }
@@ -36,10 +35,11 @@ fn clear_counts<M: Mark>(
     if publisher.raise(waiting).is_err() {
         return Err(HubFault::Device);
     }
-    Ok(publisher.counts())
+    Ok(())
 }
 
-/// Raises the mark to the counts that wait, outside the lock, and then ticks with the stored ones.
+/// Raises the mark to the counts that wait, outside the lock, and then ticks: the hub is lent the mark, so that the counts of the tick are
+/// those which the mark stores.
 ///
 /// # Errors
 ///
@@ -48,11 +48,11 @@ pub fn tick_cleared<C: Core + Drop, N: Naming<C::Settings>, M: Mark, R: Wait>(
     rt: &R,
     hub: &Hub<C, N>,
     publisher: &mut Publisher<M>,
-    pops: &mut Pops<N>,
+    pops: &mut Pops<N, M>,
     now: u64,
 ) -> Result<Numbered<Ticked>, HubFault>
     requires { (pops.old.turns.parts ≡ N.turns.parts) × (0 < pops.old.turns.parts) }
-    // The tick was handed the counts that are stored, and its answer bears its number.
+    // The tick was handed the counts that the mark stores, and its answer bears its number.
     ensures stored { IfOk result (λ numbered. HasTurned C.rules N.given (ToTick now (M.stored (mark_in publisher.new)).counts) pops.old.front pops.new.front numbered.step
         (λ g E. numbered.answer ≡ ticked_of (changes E) (tick_answer g E now (M.stored (mark_in publisher.new)).counts))) }
     // No count that waited is above them.
@@ -71,7 +71,7 @@ pub fn tick_cleared<C: Core + Drop, N: Naming<C::Settings>, M: Mark, R: Wait>(
 {
     let waiting = hub.waiting(rt, pops);
     match clear_counts(publisher, &waiting) {
-        Ok(counts) => hub.tick(rt, pops, now, &counts),
+        Ok(()) => hub.tick(rt, pops, now, publisher.mark()),
         Err(fault) => Err(fault),
     }
 }

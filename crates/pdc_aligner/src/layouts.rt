@@ -37,11 +37,11 @@ pub fn second_of(pace: &Pace, now: u64) -> u32
 }
 
 /// The frame of the layout in force, dated with this second.
-fn layout_of<C: Core + Drop, N: Naming<C::Settings>, R: Wait>(
+fn layout_of<C: Core + Drop, N: Naming<C::Settings>, M, R: Wait>(
     rt: &R,
     alloc: Global,
     hub: &Hub<C, N>,
-    pops: &mut Pops<N>,
+    pops: &mut Pops<N, M>,
     soc: u32,
 ) -> Result<LayoutFrame, HubFault>
     requires { (pops.old.turns.parts ≡ N.turns.parts) × (0 < pops.old.turns.parts) }
@@ -58,11 +58,11 @@ fn layout_of<C: Core + Drop, N: Naming<C::Settings>, R: Wait>(
 }
 
 /// Puts the frame of the layout in force on the channel. The ticker is told of it.
-fn put_layout<C: Core + Drop, N: Naming<C::Settings>, K: Ticker, R: Wait>(
+fn put_layout<C: Core + Drop, N: Naming<C::Settings>, M, K: Ticker, R: Wait>(
     rt: &R,
     alloc: Global,
     hub: &Hub<C, N>,
-    pops: &mut Pops<N>,
+    pops: &mut Pops<N, M>,
     ticker: &mut K,
     writer: &mut Writer,
     asked: Asked,
@@ -90,11 +90,11 @@ fn put_layout<C: Core + Drop, N: Naming<C::Settings>, K: Ticker, R: Wait>(
 }
 
 /// Puts the frame of the layout in force on the channel, where it is wanted. The ticker is told of it.
-pub fn put_layout_where<C: Core + Drop, N: Naming<C::Settings>, K: Ticker, R: Wait>(
+pub fn put_layout_where<C: Core + Drop, N: Naming<C::Settings>, M, K: Ticker, R: Wait>(
     rt: &R,
     alloc: Global,
     hub: &Hub<C, N>,
-    pops: &mut Pops<N>,
+    pops: &mut Pops<N, M>,
     ticker: &mut K,
     writer: &mut Writer,
     asked: Asked,

@@ -80,7 +80,7 @@ fn publish_one<M: Mark, K: Ticker, R: Wait>(
 fn next_row<C: Core + Drop, N: Naming<C::Settings>, M: Mark, R: Wait>(
     rt: &R,
     hub: &Hub<C, N>,
-    pops: &mut Pops<N>,
+    pops: &mut Pops<N, M>,
     publisher: &Publisher<M>,
 ) -> Result<Numbered<bool>, HubFault>
     requires top { (pops.old.top.parts ≡ N.top.parts) × (0 < pops.old.top.parts) }

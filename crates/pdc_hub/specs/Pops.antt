@@ -5,7 +5,7 @@ use Rattle.pdc_row.specs.declared.due_row.DueRow.{DueRow}
 use Rattle.pdc_hub.specs.declared.pops.Pops.{Pops}
 
 -- how many rows were popped, since the hub was made
-abbrev pub popped_by : {N : Type 0} → Pops N → ℕ
+abbrev pub popped_by : {N M : Type 0} → Pops N M → ℕ
 popped_by pops = pops.count
 
 -- Where there was a row, it is what was popped, and else none was.
@@ -13,17 +13,17 @@ abbrev pub IsPop : (is_some : Bool) → DueRow → Option RowView → Type 0
 IsPop is_some row popped = (is_some ≡ true → Some (row_view row) ≡ popped) × (is_some ≡ false → None ≡ popped)
 
 -- One row was popped between the one and the other, above all before, and it was counted.
-pub record HasPoppedOne {N : Type 0} (before after : Pops N) : Type 0 where
+pub record HasPoppedOne {N M : Type 0} (before after : Pops N M) : Type 0 where
   pub above : before.top.amount < after.row.instant
   pub top : after.top.amount ≡ after.row.instant
   pub counted : popped_by after ≡ popped_by before + 1
 
 -- None was popped between the one and the other.
-pub record HasPoppedNone {N : Type 0} (before after : Pops N) : Type 0 where
+pub record HasPoppedNone {N M : Type 0} (before after : Pops N M) : Type 0 where
   pub same : after.row ≡ before.row
   pub top : after.top.amount ≡ before.top.amount
   pub counted : popped_by after ≡ popped_by before
 
 -- The shares are as many parts as they were.
-abbrev pub HasSameShares : {N : Type 0} → (before after : Pops N) → Type 0
+abbrev pub HasSameShares : {N M : Type 0} → (before after : Pops N M) → Type 0
 HasSameShares before after = (after.top.parts ≡ before.top.parts) × (after.turns.parts ≡ before.turns.parts)

@@ -26,6 +26,7 @@ use crate::shares::{Blanks, Books, Shares};
 use pdc_core::{Core, Counts, KeptArrival, Ticked};
 use pdc_frame::Buffer;
 use pdc_life::{MAX_PMUS, Outcome};
+use pdc_mark::Mark;
 use pdc_ports::Numbered;
 use std::alloc::Global;
 use std::sync::{Mutex, OnceLock, OnceToken, Wait};
@@ -41,14 +42,14 @@ pub struct Hub<C: Core + Drop, N: Naming<C::Settings>> {
 impl<C: Core + Drop, N: Naming<C::Settings>> Hub<C, N> {
     /// A hub over two cores that were opened alike with this floor, with no step taken since; the shares with all parts; and who
     /// pops. The base is brought up each time that so many steps are kept.
-    pub fn new(
+    pub fn new<M>(
         alloc: Global,
         base: C,
         now: C,
         limit: usize,
         floor: u64,
         blanks: Blanks,
-    ) -> (Self, Shares<N>, Pops<N>)
+    ) -> (Self, Shares<N>, Pops<N, M>)
         requires alike { (g : Given) × (N.given ≡ Some g) × C.stands_for base g [] × C.stands_for now g [] }
         requires settings { (N.settings ≡ Some (C.settings_of base)) × (N.settings ≡ Some (C.settings_of now)) }
         requires limit { 1 ≤ limit }
@@ -132,28 +133,30 @@ impl<C: Core + Drop, N: Naming<C::Settings>> Hub<C, N> {
             .deliver(rt, stream, bytes, datagram, mine)
     }
 
-    /// Ticks: the instant that is now, and for each column the count up to which a section may be adopted. The answer is that of some
-    /// life of what is named, and bears the number of the step.
+    /// Ticks: the instant that is now, and for each column the count up to which a section may be adopted, which is the one that the mark
+    /// stores. The mark is lent, and a store wants it whole: so it stored these counts before the tick, and stores them until the answer.
+    /// The answer bears the number of the step.
     ///
     /// # Errors
     ///
     /// `NoMemory` where there is no memory for the step. Nothing is added then.
-    pub fn tick<R: Wait>(
+    pub fn tick<M: Mark, R: Wait>(
         &self,
         rt: &R,
-        pops: &mut Pops<N>,
+        pops: &mut Pops<N, M>,
         now: u64,
-        counts: &[u16; MAX_PMUS],
+        mark: &M,
     ) -> Result<Numbered<Ticked>, HubFault>
         requires { (pops.old.turns.parts ≡ N.turns.parts) × (0 < pops.old.turns.parts) }
-        ensures turned { IfOk result (λ numbered. HasTurned C.rules N.given (ToTick now counts.now) pops.old.front pops.new.front numbered.step
-            (λ g E. numbered.answer ≡ ticked_of (changes E) (tick_answer g E now counts.now))) }
+        ensures turned { IfOk result (λ numbered. HasTurned C.rules N.given (ToTick now (M.stored mark.now).counts) pops.old.front pops.new.front numbered.step
+            (λ g E. numbered.answer ≡ ticked_of (changes E) (tick_answer g E now (M.stored mark.now).counts))) }
         ensures none { HasPoppedNone pops.old pops.new × HasSameShares pops.old pops.new }
         ensures causes { OnErr result (result ≡ Err HubFault.NoMemory) }
         ensures denied { OnErr result (WasRefused 1) }
         ensures err { OnErr result (pops.new.front ≡ pops.old.front) }
     {
-        self.table.lock(rt).tick(rt, pops, now, counts)
+        let counts = mark.counts();
+        self.table.lock(rt).tick(rt, pops, now, &counts)
     }
 
     /// Pops the lowest row that closed and was not popped, which is written over the one popped before, and counts it. Whether there was one.
@@ -162,7 +165,7 @@ impl<C: Core + Drop, N: Naming<C::Settings>> Hub<C, N> {
     /// # Errors
     ///
     /// `NoMemory` where there is no memory for the step. Nothing is added then.
-    pub fn pop<R: Wait>(&self, rt: &R, pops: &mut Pops<N>) -> Result<Numbered<bool>, HubFault>
+    pub fn pop<M, R: Wait>(&self, rt: &R, pops: &mut Pops<N, M>) -> Result<Numbered<bool>, HubFault>
         requires top { (pops.old.top.parts ≡ N.top.parts) × (0 < pops.old.top.parts) }
         requires turns { (pops.old.turns.parts ≡ N.turns.parts) × (0 < pops.old.turns.parts) }
         ensures turned { IfOk result (λ numbered. HasTurned C.rules N.given ToPop pops.old.front pops.new.front numbered.step (λ g E. IsPop numbered.answer pops.new.row (pop_answer E))) }
@@ -183,10 +186,10 @@ impl<C: Core + Drop, N: Naming<C::Settings>> Hub<C, N> {
     /// # Errors
     ///
     /// `NoMemory` where `out` has no room and gets none; it is as it was.
-    pub fn layout<B: Buffer, R: Wait>(
+    pub fn layout<M, B: Buffer, R: Wait>(
         &self,
         rt: &R,
-        pops: &mut Pops<N>,
+        pops: &mut Pops<N, M>,
         soc: u32,
         out: &mut B,
     ) -> Result<(), HubFault>
@@ -206,7 +209,7 @@ impl<C: Core + Drop, N: Naming<C::Settings>> Hub<C, N> {
     }
 
     /// How arrivals were answered. Who has all parts learns that these are the amounts of the shares.
-    pub fn totals<R: Wait>(&self, rt: &R, all: &mut Shares<N>, pops: &mut Pops<N>) -> Counts
+    pub fn totals<M, R: Wait>(&self, rt: &R, all: &mut Shares<N>, pops: &mut Pops<N, M>) -> Counts
         requires turns { (pops.old.turns.parts ≡ N.turns.parts) × (0 < pops.old.turns.parts) }
         requires parts { (all.old.taken.parts ≡ N.taken.parts) × (all.old.refused.parts ≡ N.refused.parts) × (all.old.configured.parts ≡ N.configured.parts) }
         ensures amounts { (result.taken ≡ all.old.taken.amount) × (result.refused ≡ all.old.refused.amount) × (configurations result ≡ all.old.configured.amount) }
@@ -222,7 +225,7 @@ impl<C: Core + Drop, N: Naming<C::Settings>> Hub<C, N> {
     }
 
     /// Shows all steps to who pops, among them all that these shares saw. Each was read from bytes that say it.
-    pub fn look<R: Wait>(&self, rt: &R, all: &mut Shares<N>, pops: &mut Pops<N>)
+    pub fn look<M, R: Wait>(&self, rt: &R, all: &mut Shares<N>, pops: &mut Pops<N, M>)
         requires { (pops.old.turns.parts ≡ N.turns.parts) × (0 < pops.old.turns.parts) }
         ensures kept { HasSameAmounts all.old all.new × HasSameParts all.old all.new }
         ensures same { HasPoppedNone pops.old pops.new × HasSameShares pops.old pops.new }
@@ -234,7 +237,7 @@ impl<C: Core + Drop, N: Naming<C::Settings>> Hub<C, N> {
     }
 
     /// For each column the count that waits to be stored.
-    pub fn waiting<R: Wait>(&self, rt: &R, pops: &mut Pops<N>) -> [u16; MAX_PMUS]
+    pub fn waiting<M, R: Wait>(&self, rt: &R, pops: &mut Pops<N, M>) -> [u16; MAX_PMUS]
         requires { (pops.old.turns.parts ≡ N.turns.parts) × (0 < pops.old.turns.parts) }
         ensures looked { HasLooked pops.old.front pops.new.front }
         ensures same { HasPoppedNone pops.old pops.new × HasSameShares pops.old pops.new }
@@ -244,7 +247,7 @@ impl<C: Core + Drop, N: Naming<C::Settings>> Hub<C, N> {
     }
 
     /// No more is to be delivered. Only who pops closes it, with all parts of the share, so no receiver does. Answers what shows it.
-    pub fn close<R: Wait>(&self, rt: &R, pops: &mut Pops<N>) -> OnceToken<'_, ()>
+    pub fn close<M, R: Wait>(&self, rt: &R, pops: &mut Pops<N, M>) -> OnceToken<'_, ()>
         requires { (pops.old.top.parts ≡ N.top.parts) × (0 < pops.old.top.parts) }
         ensures closed { result.of ≡ closing_of self.now }
         ensures kept { pops.new ≡ pops.old }

@@ -5,12 +5,13 @@ ghost use Rattle.pdc_log.specs.Log.{turned_in};
 use crate::ledgers::{Ledgers, TopIn, TurnsIn};
 use pdc_log::Front;
 use pdc_row::DueRow;
+use std::marker::PhantomData;
 use std::sync::ledger::Share;
 
-/// Who pops: the whole share of the greatest instant popped, the row that was popped last, and how many rows were. A new hub hands it out,
-/// and only a pop of that hub counts in it.
+/// Who ticks and pops: the whole share of the greatest instant popped, the row that was popped last, and how many rows were. A new hub hands
+/// it out, and only a pop of that hub counts in it. It ticks with what a mark of this type stores, and with no other counts.
 #[derive(Drop)]
-pub struct Pops<N: Ledgers> {
+pub struct Pops<N: Ledgers, M> {
     /// The whole share of the greatest instant popped.
     pub top: Share<TopIn<N>>,
     /// The row that was popped last; at first one of instant 0, without blocks. The next one is written over it.
@@ -20,17 +21,18 @@ pub struct Pops<N: Ledgers> {
     pub front: Front<N>,
     /// The whole share of ticks and pops.
     pub turns: Share<TurnsIn<N>>,
+    marked: PhantomData<M>,
     // Instants rise from 0, so the number is no greater.
     ghost few: { count ≤ top.amount },
     // All ticks and pops that it has seen are its own.
     pub ghost own: { turns.amount ≡ turned_in front },
 }
 
-impl<N: Ledgers> Pops<N> {
+impl<N: Ledgers, M> Pops<N, M> {
     ghost use Rattle.pdc_hub.specs.Pops.{popped_by};
 
     /// With this share no row was popped yet.
-    pub(crate) fn new(top: Share<TopIn<N>>, turns: Share<TurnsIn<N>>, front: Front<N>) -> Pops<N>
+    pub(crate) fn new(top: Share<TopIn<N>>, turns: Share<TurnsIn<N>>, front: Front<N>) -> Pops<N, M>
         requires { (turns.amount ≡ 0) × (front ≡ []) }
         ensures top { (result.top ≡ top) × (result.turns ≡ turns) × (result.front ≡ front) }
         ensures none { popped_by result ≡ 0 }
@@ -41,6 +43,7 @@ impl<N: Ledgers> Pops<N> {
             count: 0,
             front,
             turns,
+            marked: PhantomData,
         }
     }
 

@@ -219,10 +219,10 @@ impl<C: Core + Drop, N: Naming<C::Settings>> Recorder<C, N> {
     /// # Errors
     ///
     /// `NoMemory` where there is no memory for the step. Nothing is added then.
-    pub fn tick<R: Wait>(
+    pub fn tick<M, R: Wait>(
         &mut self,
         rt: &R,
-        pops: &mut Pops<N>,
+        pops: &mut Pops<N, M>,
         now: u64,
         counts: &[u16; MAX_PMUS],
     ) -> Result<Numbered<Ticked>, HubFault>
@@ -261,7 +261,11 @@ impl<C: Core + Drop, N: Naming<C::Settings>> Recorder<C, N> {
     /// # Errors
     ///
     /// `NoMemory` where there is no memory for the step. Nothing is added then.
-    pub fn pop<R: Wait>(&mut self, rt: &R, pops: &mut Pops<N>) -> Result<Numbered<bool>, HubFault>
+    pub fn pop<M, R: Wait>(
+        &mut self,
+        rt: &R,
+        pops: &mut Pops<N, M>,
+    ) -> Result<Numbered<bool>, HubFault>
         requires top { (pops.old.top.parts ≡ N.top.parts) × (0 < pops.old.top.parts) }
         requires turns { (pops.old.turns.parts ≡ N.turns.parts) × (0 < pops.old.turns.parts) }
         ensures answer { IfOk result (λ numbered. (g : Given) (E : List Entry) → C.stands_for self.old.core.state g E → IsPop numbered.answer pops.new.row (pop_answer E)) }
@@ -290,6 +294,7 @@ impl<C: Core + Drop, N: Naming<C::Settings>> Recorder<C, N> {
             count,
             front,
             turns: own,
+            ..
         } = pops;
         top.audit(all);
         turns.audit(own);
@@ -314,7 +319,7 @@ impl<C: Core + Drop, N: Naming<C::Settings>> Recorder<C, N> {
     }
 
     /// Shows all steps to who pops.
-    fn show<R: Wait>(&mut self, rt: &R, pops: &mut Pops<N>)
+    fn show<M, R: Wait>(&mut self, rt: &R, pops: &mut Pops<N, M>)
         requires { (pops.old.turns.parts ≡ N.turns.parts) × (0 < pops.old.turns.parts) }
         ensures core { self.new.core ≡ self.old.core }
         ensures looked { HasLooked pops.old.front pops.new.front }
@@ -336,10 +341,10 @@ impl<C: Core + Drop, N: Naming<C::Settings>> Recorder<C, N> {
     /// # Errors
     ///
     /// `NoMemory` where `out` has no room and gets none; it is as it was.
-    pub fn layout<B: Buffer, R: Wait>(
+    pub fn layout<M, B: Buffer, R: Wait>(
         &mut self,
         rt: &R,
-        pops: &mut Pops<N>,
+        pops: &mut Pops<N, M>,
         soc: u32,
         out: &mut B,
     ) -> Result<(), HubFault>
@@ -368,7 +373,12 @@ impl<C: Core + Drop, N: Naming<C::Settings>> Recorder<C, N> {
 
     /// How arrivals were answered. Who has all parts, and pops, learns that these are the amounts of the shares, and sees the whole log: no more
     /// came than the shares count, and all ticks and pops are those of who pops.
-    pub fn totals<R: Wait>(&mut self, rt: &R, all: &mut Shares<N>, pops: &mut Pops<N>) -> Counts
+    pub fn totals<M, R: Wait>(
+        &mut self,
+        rt: &R,
+        all: &mut Shares<N>,
+        pops: &mut Pops<N, M>,
+    ) -> Counts
         requires turns { (pops.old.turns.parts ≡ N.turns.parts) × (0 < pops.old.turns.parts) }
         requires parts { (all.old.taken.parts ≡ N.taken.parts) × (all.old.refused.parts ≡ N.refused.parts) × (all.old.configured.parts ≡ N.configured.parts) }
         ensures amounts { (result.taken ≡ all.old.taken.amount) × (result.refused ≡ all.old.refused.amount) × (configurations result ≡ all.old.configured.amount) }
@@ -397,7 +407,7 @@ impl<C: Core + Drop, N: Naming<C::Settings>> Recorder<C, N> {
     }
 
     /// Shows all steps to who pops, among them all that these shares saw. Each was read from bytes that say it.
-    pub fn look<R: Wait>(&mut self, rt: &R, all: &mut Shares<N>, pops: &mut Pops<N>)
+    pub fn look<M, R: Wait>(&mut self, rt: &R, all: &mut Shares<N>, pops: &mut Pops<N, M>)
         requires { (pops.old.turns.parts ≡ N.turns.parts) × (0 < pops.old.turns.parts) }
         ensures kept { HasSameAmounts all.old all.new × HasSameParts all.old all.new }
         ensures same { HasPoppedNone pops.old pops.new × HasSameShares pops.old pops.new }
@@ -410,7 +420,7 @@ impl<C: Core + Drop, N: Naming<C::Settings>> Recorder<C, N> {
     }
 
     /// For each column the count that waits to be stored.
-    pub fn waiting<R: Wait>(&mut self, rt: &R, pops: &mut Pops<N>) -> [u16; MAX_PMUS]
+    pub fn waiting<M, R: Wait>(&mut self, rt: &R, pops: &mut Pops<N, M>) -> [u16; MAX_PMUS]
         requires { (pops.old.turns.parts ≡ N.turns.parts) × (0 < pops.old.turns.parts) }
         ensures value { (g : Given) (E : List Entry) → C.stands_for self.old.core.state g E → result ≡ waiting_counts g E }
         ensures looked { HasLooked pops.old.front pops.new.front }

@@ -16,8 +16,8 @@ use pdc_publisher::Publisher;
 pub struct Crew<N: Ledgers, W: Outside> {
     /// All shares of the three totals.
     pub shares: Shares<N>,
-    /// By which the aligner pops.
-    pub pops: Pops<N>,
+    /// By which the aligner ticks and pops.
+    pub pops: Pops<N, W::Mark>,
     /// A source for each stream, in order.
     pub sources: Vec<W::Source>,
     /// It publishes, and alone has the mark.
@@ -61,7 +61,7 @@ pub struct Finished<N: Ledgers, M: Mark, K> {
     /// The shares that it was given, as far as they came back: all of them where it was Ok.
     pub shares: Shares<N>,
     /// By which rows were popped, and how many.
-    pub pops: Pops<N>,
+    pub pops: Pops<N, M>,
 }
 
 /// A run that did not begin, for want of memory.
@@ -69,7 +69,7 @@ pub fn not_begun<N: Ledgers, M: Mark, K>(
     publisher: Publisher<M>,
     sink: K,
     shares: Shares<N>,
-    pops: Pops<N>,
+    pops: Pops<N, M>,
 ) -> Finished<N, M, K>
     ensures { (result.ran.publisher ≡ publisher) × (result.ran.sink ≡ sink) × (result.ran.outcome ≡ Err HubFault.NoMemory) × (result.pops ≡ pops) }
 {

@@ -27,12 +27,12 @@ pub struct Totals {
 }
 
 /// What all receivers counted together, where all came back; else nothing is counted. Who pops has seen all that came then.
-pub fn count_all<C: Core + Drop, N: Naming<C::Settings>, R: Wait>(
+pub fn count_all<C: Core + Drop, N: Naming<C::Settings>, M, R: Wait>(
     rt: &R,
     hub: &Hub<C, N>,
     complete: bool,
     shares: &mut Shares<N>,
-    pops: &mut Pops<N>,
+    pops: &mut Pops<N, M>,
 ) -> Counted
     requires turns { (pops.old.turns.parts ≡ N.turns.parts) × (0 < pops.old.turns.parts) }
     requires parts { complete ≡ true → (shares.old.taken.parts ≡ N.taken.parts) × (shares.old.refused.parts ≡ N.refused.parts) × (shares.old.configured.parts ≡ N.configured.parts) }

@@ -3,9 +3,11 @@ ghost use Rattle.std.specs.Prelude.{◌≡◌, ◌<◌, Some, []};
 ghost use Rattle.pdc_hub.specs.Pops.{HasSameShares};
 
 use crate::listed::{Listed, Silent};
+use crate::marks::cleared;
 use pdc_core::{Core, Opens, Reads};
 use pdc_frame::SECONDS;
 use pdc_life::MAX_PMUS;
+use pdc_mark::{Mark, ModelMark};
 use pdc_recording::{RecordedSource, RecordedTicker, Recording};
 use pdc_row::{Output, append_row};
 use pdc_threads::{
@@ -59,7 +61,7 @@ struct Lived<'h, C: Core + Drop, N: Naming<C::Settings>> {
 #[derive(Drop)]
 struct Mine<N: Ledgers> {
     shares: Shares<N>,
-    pops: Pops<N>,
+    pops: Pops<N, ModelMark>,
 }
 
 /// The next datagram of a source, delivered. None where memory was wanted, or there is none.
@@ -99,7 +101,7 @@ fn arrive<C: Core + Drop, N: Naming<C::Settings>, R: Wait + Clock>(
 fn tick<C: Core + Drop, N: Naming<C::Settings>, R: Wait + Clock>(
     rt: &R,
     hub: &Hub<C, N>,
-    pops: &mut Pops<N>,
+    pops: &mut Pops<N, ModelMark>,
     ticker: &mut RecordedTicker<'_, Silent, R>,
     now: u64,
 ) -> Option<u64>
@@ -107,8 +109,9 @@ fn tick<C: Core + Drop, N: Naming<C::Settings>, R: Wait + Clock>(
     requires turns { (pops.old.turns.parts ≡ N.turns.parts) × (0 < pops.old.turns.parts) }
     ensures parts { HasSameShares pops.old pops.new }
 {
-    let counts = [u16::MAX; MAX_PMUS];
-    let Ok(Numbered { step, answer }) = hub.tick(rt, pops, now, &counts) else {
+    let mark = cleared();
+    let counts = mark.counts();
+    let Ok(Numbered { step, answer }) = hub.tick(rt, pops, now, &mark) else {
         return None;
     };
     ticker.note(
@@ -129,7 +132,7 @@ fn lay<C: Core + Drop, N: Naming<C::Settings>, R: Wait + Clock>(
     rt: &R,
     alloc: Global,
     hub: &Hub<C, N>,
-    pops: &mut Pops<N>,
+    pops: &mut Pops<N, ModelMark>,
     ticker: &mut RecordedTicker<'_, Silent, R>,
     step: u64,
 ) -> Option<()>
@@ -150,7 +153,7 @@ fn pop<C: Core + Drop, N: Naming<C::Settings>, R: Wait + Clock>(
     rt: &R,
     alloc: Global,
     lived: &Lived<C, N>,
-    pops: &mut Pops<N>,
+    pops: &mut Pops<N, ModelMark>,
     ticker: &mut RecordedTicker<'_, Silent, R>,
 ) -> Option<()>
     requires top { (pops.old.top.parts ≡ N.top.parts) × (0 < pops.old.top.parts) }

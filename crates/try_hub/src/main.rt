@@ -5,6 +5,7 @@
 mod alike;
 mod life;
 mod listed;
+mod marks;
 mod recorded;
 mod rounds;
 mod streams;

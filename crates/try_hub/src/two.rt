@@ -2,8 +2,9 @@
 ghost use Rattle.std.specs.Prelude.{◌≡◌, ◌<◌, ◌≤◌, Some};
 ghost use Rattle.try_hub.specs.Mine.{IsFit};
 
+use crate::marks::cleared;
 use pdc_core::{Core, Reads};
-use pdc_life::MAX_PMUS;
+use pdc_mark::{Mark, ModelMark};
 use pdc_row::DueRow;
 use pdc_threads::{Hub, Ledgers, Naming, Numbered, Pops, Shares};
 use std::alloc::Global;
@@ -14,7 +15,7 @@ use std::sync::Wait;
 pub struct Mine<C, N: Ledgers> {
     pub bare: C,
     pub shares: Shares<N>,
-    pub pops: Pops<N>,
+    pub pops: Pops<N, ModelMark>,
     /// How many calls were made.
     pub calls: u32,
     /// How many rows were popped.
@@ -73,11 +74,11 @@ pub fn tick<C: Core + Drop, N: Naming<C::Settings>, R: Wait>(
     ensures settings { C.settings_of mine.new.bare ≡ C.settings_of mine.old.bare }
     ensures fit { IsFit mine.new N.top.parts N.turns.parts }
 {
-    let counts = [u16::MAX; MAX_PMUS];
-    let Ok(Numbered { step, answer }) = hub.tick(rt, &mut mine.pops, now, &counts) else {
+    let mark = cleared();
+    let Ok(Numbered { step, answer }) = hub.tick(rt, &mut mine.pops, now, &mark) else {
         return None;
     };
-    let bare_answer = mine.bare.tick(now, &counts);
+    let bare_answer = mine.bare.tick(now, &mark.counts());
     mine.saw(step, answer == bare_answer);
     Some(())
 }

@@ -10,6 +10,7 @@ use crate::vectors::{DATA_11, FIRST, SOC};
 use pdc_core::Reads;
 use pdc_hub::{Blanks, Hub, HubFault, Ledgers, Naming, Pops, Shares};
 use pdc_life::{MAX_PMUS, Settings};
+use pdc_mark::ModelMark;
 use pdc_node::{Node, copy_of};
 use pdc_table::RingTable;
 use std::alloc::Global;
@@ -36,7 +37,7 @@ const ALL: [Called; 4] = [Called::Deliver, Called::Tick, Called::Pop, Called::La
 #[derive(Drop)]
 struct Mine<N: Ledgers> {
     shares: Shares<N>,
-    pops: Pops<N>,
+    pops: Pops<N, ModelMark>,
     out: Vec<u8>,
 }
 
@@ -94,7 +95,7 @@ fn call<N: Naming<Settings>, R: Wait>(
             Ok(kept) => told(hub.deliver(rt, 0, &DATA_11, kept, &mut mine.shares)),
             Err(_) => NO_MEMORY,
         },
-        Called::Tick => told(hub.tick(rt, &mut mine.pops, FIRST, &[0; MAX_PMUS])),
+        Called::Tick => told(hub.tick(rt, &mut mine.pops, FIRST, &ModelMark::new(1, 0))),
         Called::Pop => told(hub.pop(rt, &mut mine.pops)),
         Called::Layout => told(hub.layout(rt, &mut mine.pops, SOC, &mut mine.out)),
     }
