@@ -102,7 +102,9 @@ impl Followed {
     /// next time that no row waits.
     pub fn miss(&mut self, gap: Gap) {
         self.sections = Sections::new(false);
-        self.layouts = [None, None];
+        for layout in self.layouts.as_mut_slice() {
+            *layout = None;
+        }
         self.refused = [None; MAX_PMUS];
         self.closings.clear();
         self.has_closings = false;
