@@ -49,7 +49,10 @@ fn take_one<N: Naming<Settings>, R: Wait>(
     requires stream { stream < length settings.now.pmus.items }
 {
     match settings.read_kept(alloc, stream, bytes) {
-        Ok(taken) => core.arrive(rt, front, stream, bytes, taken).is_ok(),
+        Ok(taken) => {
+            core.arrive(rt, front, stream, bytes, taken);
+            true
+        }
         Err(_) => false,
     }
 }
@@ -76,10 +79,9 @@ fn take_instant<N: Naming<Settings>, R: Wait>(
         }
     }
     let now = FLOOR.saturating_add(u64::from(number));
-    if core.tick(rt, front, now, &CLEARED).is_err() {
-        return false;
-    }
-    core.pop_into(rt, front, row).is_ok()
+    core.tick(rt, front, now, &CLEARED);
+    core.pop_into(rt, front, row);
+    true
 }
 
 /// The same over two nodes that were opened alike: one is the base, the other the state. False where memory runs out.
@@ -99,7 +101,10 @@ fn record_all<N: Naming<Settings>, R: Wait>(
     requires log { (log.seen.book ≡ N.book) × (log.seen.log ≡ []) }
 {
     let mut front = log.front::<N>();
-    let mut core = Replayed::<Node<RingTable>, N>::new(alloc, base, state, MAX_LIMIT, log);
+    let Ok(mut core) = Replayed::<Node<RingTable>, N>::new(alloc, base, state, MAX_LIMIT, log)
+    else {
+        return false;
+    };
     let mut row = spare_row();
     for number in 0..=frames.count {
         if !take_instant(

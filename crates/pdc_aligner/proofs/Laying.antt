@@ -223,14 +223,13 @@ turned_from rules named step before middle after number Told l t = record {
 }
 
 -- a tick with the counts that are stored
-pub ticked_from : (rules : Rules) (named : Option Given) (before middle after : List ReadStep) (now : ℕ) (counts stored : List ℕ) (r : Result (Numbered Ticked) HubFault)
+pub ticked_from : (rules : Rules) (named : Option Given) (before middle after : List ReadStep) (now : ℕ) (counts stored : List ℕ) (n : Numbered Ticked)
     → HasLooked before middle → counts ≡ stored
-    → IfOk r (λ n. HasTurned rules named (ToTick now counts) middle after n.step (λ g E. n.answer ≡ ticked_of (changes E) (tick_answer g E now counts)))
-    → IfOk r (λ n. HasTurned rules named (ToTick now stored) before after n.step (λ g E. n.answer ≡ ticked_of (changes E) (tick_answer g E now stored)))
-ticked_from rules named before middle after now counts stored (Ok n) l e t =
+    → HasTurned rules named (ToTick now counts) middle after n.step (λ g E. n.answer ≡ ticked_of (changes E) (tick_answer g E now counts))
+    → HasTurned rules named (ToTick now stored) before after n.step (λ g E. n.answer ≡ ticked_of (changes E) (tick_answer g E now stored))
+ticked_from rules named before middle after now counts stored n l e t =
     subst (λ (cs : List ℕ). HasTurned rules named (ToTick now cs) before after n.step (λ g E. n.answer ≡ ticked_of (changes E) (tick_answer g E now cs))) e
     (turned_from rules named (ToTick now counts) before middle after n.step (λ g E. n.answer ≡ ticked_of (changes E) (tick_answer g E now counts)) l t)
-ticked_from rules named before middle after now counts stored (Err f) l e t = tt
 
 -- a tick adopted where its answer has a change number
 some_change : (change : ℕ) (adopted : List ℕ) → is_some (new_change change adopted) ≡ nat_lt 0 (length adopted)
@@ -303,10 +302,6 @@ same_bytes put more e = ap bytes_of e ∙ (bytes_append put (End ∷ []) ∙ app
 pub none_falls : (before after : List ℕ) → after ≡ before → NoneFalls before after
 none_falls before after e column = subst (λ (l : List ℕ). slice_index before column ≤ slice_index l column) (sym e) (omega arith)
 
-pub looked_err : {T : Type 0} (r : Result T HubFault) (before middle after : List ReadStep) → HasLooked before middle → OnErr r (after ≡ middle) → OnErr r (HasLooked before after)
-looked_err (Ok x) before middle after l e = tt
-looked_err (Err f) before middle after l e = subst (λ (s : List ReadStep). HasLooked before s) (sym e) l
-
 pub ok_map : {T : Type 0} (r : Result T HubFault) (P Q : Type 0) → (P → Q) → OnOk r P → OnOk r Q
 ok_map (Ok x) P Q f h = f h
 ok_map (Err e) P Q f h = tt
@@ -362,13 +357,12 @@ done_none rules named number row before after t h =
     (g, x.1, (ap is_done after_is ∙ ap (λ (r : Option RowView). is_done (Pop r ∷ E)) (sym given), ap are_done after_is ∙ (s.1 ∙ x.2))))
 
 -- counts that waited are cleared
-pub cleared_by : (rules : Rules) (named : Option Given) (step : ReadStep) (before seen after : List ReadStep) (waiting counts stored : List ℕ) (r : Result (Numbered Ticked) HubFault) (Told : Numbered Ticked → Given → List Entry → Type 0)
-    → HasLooked before seen → InTheLife rules named seen (λ g E. waiting ≡ waiting_counts g E) → NoneFalls waiting counts → counts ≡ stored
-    → IfOk r (λ n. HasTurned rules named step seen after n.step (Told n)) → IfOk r (λ n. HasCleared rules named before after stored)
-cleared_by rules named step before seen after waiting counts stored (Ok n) Told l w c e t = (
+pub cleared_by : (rules : Rules) (named : Option Given) (step : ReadStep) (before seen after : List ReadStep) (waiting stored : List ℕ) (number : ℕ) (Told : Given → List Entry → Type 0)
+    → HasLooked before seen → InTheLife rules named seen (λ g E. waiting ≡ waiting_counts g E) → NoneFalls waiting stored
+    → HasTurned rules named step seen after number Told → HasCleared rules named before after stored
+cleared_by rules named step before seen after waiting stored number Told l w c t = (
   seen,
   l,
   subst (λ (log : List ReadStep). IsPrefix seen log) (sym t.added.added) (prefix_of seen t.added.middle t.added.later (step ∷ [])),
-  ∥∥₁_map w (λ x. (x.0, x.1, subst (λ (ws : List ℕ). NoneFalls ws stored) x.2 (subst (λ (cs : List ℕ). NoneFalls waiting cs) e c))),
+  ∥∥₁_map w (λ x. (x.0, x.1, subst (λ (ws : List ℕ). NoneFalls ws stored) x.2 c)),
 )
-cleared_by rules named step before seen after waiting counts stored (Err fault) Told l w c e t = tt

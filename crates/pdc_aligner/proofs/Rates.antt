@@ -1,5 +1,5 @@
 -- Rows that can be tagged, and layouts of some life.
-use Rattle.std.proofs.Common.{◌≡◌, ℕ, ◌<◌, ◌*◌, ◌++◌, List, [], true, Bool, Option, Some, Result, Ok, Err, IfOk, ap, ◌∙◌, subst}
+use Rattle.std.proofs.Common.{◌≡◌, ℕ, ◌<◌, ◌*◌, ◌++◌, List, [], Option, Some, ap, ◌∙◌, subst}
 use Rattle.std.proofs.Math.Logic.{∥∥₁_elim, ∥∥₁_map}
 use Rattle.std.proofs.Props.{props}
 use Rattle.pdc_life.specs.Answer.{ReadStep, Rules, ToPop}
@@ -9,17 +9,13 @@ use Rattle.pdc_life.specs.Published.{layout_wire}
 use Rattle.pdc_frame.specs.declared.tag_limits.TheConstants.{SECONDS}
 use Rattle.pdc_log.specs.Log.{HasTurned, InTheLife, life_of}
 use Rattle.pdc_pipe.specs.Layout.{IsOfSomeLayout}
-use Rattle.pdc_ports.specs.declared.numbered.Numbered.{Numbered}
 use Rattle.pdc_aligner.specs.Rate.{IsAtRate}
 
 -- what is popped can be tagged at the rate of what is named
-pub all_tagged : {E : Type 0} (rules : Rules) (named : Option Given) (before after : List ReadStep) (Told : Numbered Bool → Given → List Entry → Type 0) (rate instant : ℕ) (r : Result (Numbered Bool) E)
-    → IfOk r (λ numbered. HasTurned rules named ToPop before after numbered.step (Told numbered))
-    → IfOk r (λ numbered. numbered.answer ≡ true → (g : Given) → named ≡ Some g → instant < SECONDS * g.output.rate)
-    → IsAtRate named rate → IfOk r (λ numbered. numbered.answer ≡ true → instant < SECONDS * rate)
-all_tagged rules named before after Told rate instant (Ok numbered) turned tagged is = λ t.
-    ∥∥₁_elim turned.added.told (search props) (λ x. subst (λ (n : ℕ). instant < SECONDS * n) (is.at x.0 x.1) (tagged t x.0 x.1))
-all_tagged rules named before after Told rate instant (Err e) turned tagged is = tt
+pub all_tagged : (rules : Rules) (named : Option Given) (before after : List ReadStep) (number : ℕ) (Told : Given → List Entry → Type 0) (rate instant : ℕ)
+    → HasTurned rules named ToPop before after number Told → ((g : Given) → named ≡ Some g → instant < SECONDS * g.output.rate) → IsAtRate named rate → instant < SECONDS * rate
+all_tagged rules named before after number Told rate instant turned tagged is =
+    ∥∥₁_elim turned.added.told (search props) (λ x. subst (λ (n : ℕ). instant < SECONDS * n) (is.at x.0 x.1) (tagged x.0 x.1))
 
 -- bytes that were appended to none are of some layout
 pub of_some : (rules : Rules) (named : Option Given) (seen : List ReadStep) (soc : ℕ) (before after : List ℕ) → before ≡ []

@@ -1,15 +1,13 @@
 -- The ticks of the log, step by step.
-use Rattle.std.proofs.Common.{arith, ◌≡◌, ◌≤◌, ◌+◌, ℕ, Bool, true, false, List, [], ◌∷◌, ◌++◌, length, map, Option, Result, Ok, Err, IfOk, OnErr, OnOk, if◌then◌else◌, refl, sym, ap, ◌∙◌, subst, append_assoc, append-nil}
+use Rattle.std.proofs.Common.{arith, ◌≡◌, ◌≤◌, ◌+◌, ℕ, Bool, true, false, List, [], ◌∷◌, ◌++◌, length, map, Option, Result, Ok, Err, OnOk, if◌then◌else◌, refl, sym, ap, ◌∙◌, subst, append_assoc, append-nil}
 use mathlib.Core.List.{IsPrefix}
 use Rattle.pdc_life.specs.Answer.{ReadStep, Rules, ToArrive, ToPop, ToTick}
 use Rattle.pdc_life.specs.Given.{Given}
 use Rattle.pdc_life.specs.Life.{Entry}
 use Rattle.pdc_log.specs.Log.{HasLooked, HasTurned, ticks_of, turned_in}
-use Rattle.pdc_hub.specs.Pops.{HasPoppedNone}
 use Rattle.pdc_hub.specs.declared.fault.HubFault.{HubFault}
 use Rattle.pdc_hub.specs.declared.fault.HubFault.TheVariants.{Stuck}
 use Rattle.pdc_hub.proofs.Replays.{turned_append}
-use Rattle.pdc_ports.specs.declared.numbered.Numbered.{Numbered}
 use Rattle.pdc_aligner.specs.Turns.{HasGiven, HasTicked, HasTickedOnce, NeverFall, NoneFalls}
 
 ticks_append : (log more : List ReadStep) → ticks_of (log ++ more) ≡ ticks_of log ++ ticks_of more
@@ -39,10 +37,8 @@ turn_ticks rules named step before after number Told t =
     ap ticks_of t.added.added ∙ (ticks_append t.added.middle (step ∷ []) ∙ ap (λ l. l ++ ticks_of (step ∷ [])) (ticks_same before t.added.middle t.added.later t.alone))
 
 -- a pop is no tick,
-pub pop_ticks : (rules : Rules) (named : Option Given) (before after : List ReadStep) (Told : Numbered Bool → Given → List Entry → Type 0) (r : Result (Numbered Bool) HubFault) (P : Type 0)
-    → IfOk r (λ numbered. HasTurned rules named ToPop before after numbered.step (Told numbered)) → OnErr r (P × (after ≡ before)) → ticks_of after ≡ ticks_of before
-pop_ticks rules named before after Told (Ok numbered) P t e = turn_ticks rules named ToPop before after numbered.step (Told numbered) t ∙ append-nil (ticks_of before)
-pop_ticks rules named before after Told (Err fault) P t e = ap ticks_of e.1
+pub pop_ticks : (rules : Rules) (named : Option Given) (before after : List ReadStep) (number : ℕ) (Told : Given → List Entry → Type 0) → HasTurned rules named ToPop before after number Told → ticks_of after ≡ ticks_of before
+pop_ticks rules named before after number Told t = turn_ticks rules named ToPop before after number Told t ∙ append-nil (ticks_of before)
 
 always : {T : Type 0} (r : Result T HubFault) → OnOk r (true ≡ true)
 always (Ok x) = refl

@@ -1,7 +1,7 @@
 //! What comes before a tick and the tick itself: the mark is raised to the counts that wait.
-ghost use Rattle.std.specs.Prelude.{◌≡◌, ◌<◌, Err, IfErr, IfOk, OnErr, OnOk};
+ghost use Rattle.std.specs.Prelude.{◌≡◌, ◌<◌, Err, IfOk, OnErr, OnOk};
 ghost use Rattle.pdc_align.specs.Align.{ticked_of};
-ghost use Rattle.pdc_aligner.specs.Device.{HasDevice, IsOfAligner, standing_of};
+ghost use Rattle.pdc_aligner.specs.Device.{HasDevice, standing_of};
 ghost use Rattle.pdc_aligner.specs.Turns.{HasCleared, NoneFalls};
 ghost use Rattle.pdc_life.specs.Answer.{tick_answer};
 ghost use Rattle.pdc_life.specs.Life.{changes};
@@ -43,7 +43,7 @@ fn clear_counts<M: Mark>(
 ///
 /// # Errors
 ///
-/// `Device` where the mark's device failed; `NoMemory` where there is no memory for the step.
+/// `Device` where the mark's device failed. Nothing is added then.
 pub fn tick_cleared<C: Core + Drop, N: Naming<C::Settings>, M: Mark, R: Wait>(
     rt: &R,
     hub: &Hub<C, N>,
@@ -65,13 +65,13 @@ pub fn tick_cleared<C: Core + Drop, N: Naming<C::Settings>, M: Mark, R: Wait>(
     ensures last { last_in publisher.new ≡ last_in publisher.old }
     ensures output { output_in publisher.new ≡ output_in publisher.old }
     ensures lead { lead_in publisher.new ≡ lead_in publisher.old }
-    ensures causes { IfErr result IsOfAligner }
+    ensures causes { OnErr result (result ≡ Err HubFault.Device) }
     // Only a device that failed ends it so.
     ensures device { HasDevice (standing_of publisher.old) (standing_of publisher.new) result }
 {
     let waiting = hub.waiting(rt, pops);
     match clear_counts(publisher, &waiting) {
-        Ok(()) => hub.tick(rt, pops, now, publisher.mark()),
+        Ok(()) => Ok(hub.tick(rt, pops, now, publisher.mark())),
         Err(fault) => Err(fault),
     }
 }

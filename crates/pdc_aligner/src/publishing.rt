@@ -1,5 +1,5 @@
 //! What is due is published, and put on the channel.
-ghost use Rattle.std.specs.Prelude.{Bool, ◌≡◌, ◌<◌, ◌≤◌, ◌*◌, ℕ, Err, IfErr, IfOk, List, OnErr, OnOk, [], false, true};
+ghost use Rattle.std.specs.Prelude.{Bool, ◌≡◌, ◌<◌, ◌≤◌, ◌*◌, ℕ, IfErr, List, OnErr, OnOk, [], false, true};
 ghost use Rattle.pdc_aligner.specs.Rate.{IsAtRate};
 ghost use Rattle.pdc_aligner.specs.Device.{HasDevice, IsOfAligner, standing_of};
 ghost use Rattle.pdc_aligner.specs.Sequence.{HasPutAll, HasPutRow, Rises, instants_of};
@@ -82,18 +82,17 @@ fn next_row<C: Core + Drop, N: Naming<C::Settings>, M: Mark, R: Wait>(
     hub: &Hub<C, N>,
     pops: &mut Pops<N, M>,
     publisher: &Publisher<M>,
-) -> Result<Numbered<bool>, HubFault>
+) -> Numbered<bool>
     requires top { (pops.old.top.parts ≡ N.top.parts) × (0 < pops.old.top.parts) }
     requires turns { (pops.old.turns.parts ≡ N.turns.parts) × (0 < pops.old.turns.parts) }
     requires rate { IsAtRate N.given (output_in publisher.now).rate }
-    ensures row { IfOk result (λ numbered. numbered.answer ≡ true → HasPoppedOne pops.old pops.new) }
-    ensures turned { IfOk result (λ numbered. HasTurned C.rules N.given ToPop pops.old.front pops.new.front numbered.step (λ g E. IsPop numbered.answer pops.new.row (pop_answer E))) }
-    ensures tagged { IfOk result (λ numbered. numbered.answer ≡ true → pops.new.row.instant < SECONDS * (output_in publisher.now).rate) }
-    ensures causes { OnErr result (result ≡ Err HubFault.NoMemory) }
-    ensures none { IfOk result (λ numbered. numbered.answer ≡ false → HasPoppedNone pops.old pops.new) }
+    ensures row { result.answer ≡ true → HasPoppedOne pops.old pops.new }
+    ensures turned { HasTurned C.rules N.given ToPop pops.old.front pops.new.front result.step
+        (λ g E. IsPop result.answer pops.new.row (pop_answer E)) }
+    ensures tagged { result.answer ≡ true → pops.new.row.instant < SECONDS * (output_in publisher.now).rate }
+    ensures none { result.answer ≡ false → HasPoppedNone pops.old pops.new }
     ensures parts { HasSameShares pops.old pops.new }
     ensures ticks { ticks_of pops.new.front ≡ ticks_of pops.old.front }
-    ensures err { OnErr result (HasPoppedNone pops.old pops.new × (pops.new.front ≡ pops.old.front)) }
 {
     hub.pop(rt, pops)
 }
@@ -143,10 +142,7 @@ pub fn publish_due<C: Core + Drop, N: Naming<C::Settings>, M: Mark, K: Ticker, R
         writer,
     } = aligner;
     for _ in rt.forever() {
-        let Numbered { step, answer } = match next_row(rt, hub, pops, publisher) {
-            Ok(numbered) => numbered,
-            Err(fault) => return Err(fault),
-        };
+        let Numbered { step, answer } = next_row(rt, hub, pops, publisher);
         if !answer {
             ticker.note(step, &Did::FoundNone);
             return Ok(step);

@@ -1,10 +1,8 @@
 -- What an answer adds to the counters.
-use Rattle.std.proofs.Common.{arith, ◌≡◌, ℕ, ◌+◌, ◌-◌, ◌^◌, ◌<◌, ◌≤◌, Result, Ok, Err, IfOk, OnErr, false, ◌||◌, ap, ◌∙◌}
+use Rattle.std.proofs.Common.{arith, ◌≡◌, ℕ, ◌+◌, ◌-◌, ◌^◌, ◌<◌, ◌≤◌, false, ◌||◌, ap, ◌∙◌}
 use Rattle.std.proofs.lemmas.Bool.{or_parts}
 use Rattle.std.proofs.Math.Nat.{min-eq_left}
 use Rattle.pdc_core.specs.Step.{Counts, after_answer, next}
-use Rattle.pdc_ports.specs.declared.numbered.Numbered.{Numbered}
-use Rattle.pdc_hub.specs.declared.fault.HubFault.{HubFault}
 use Rattle.pdc_life.specs.declared.outcome.Outcome.{Outcome}
 use Rattle.pdc_life.specs.declared.outcome.Outcome.TheVariants.{Taken, Candidate, Known, Refused}
 use Rattle.pdc_hub.specs.Counted.{configurations, configured_by, is_at_greatest, is_used_up, refused_by, taken_by}
@@ -47,10 +45,8 @@ is_free t f c e =
     record { taken_free = free t a.0; refused_free = free f b.0; configured_free = free c b.1 }
 
 -- a share below a total that is free stays below 2^64
-pub stays_below : (r : Result (Numbered Outcome) HubFault) (by : Outcome → ℕ) (old new total : ℕ) (P : Type 0) → ((o : Outcome) → by o ≤ 1) → old ≤ total → total < 2 ^ 64 - 1
-    → IfOk r (λ numbered. new ≡ old + by numbered.answer) → OnErr r P → (P → new ≡ old) → new < 2 ^ 64
-stays_below (Ok numbered) by old new total P one le free ok err same = omega (arith, le, free, ok, one numbered.answer)
-stays_below (Err fault) by old new total P one le free ok err same = omega (arith, le, free, same err)
+pub stays_below : (outcome : Outcome) (by : Outcome → ℕ) (old new total : ℕ) → ((o : Outcome) → by o ≤ 1) → old ≤ total → total < 2 ^ 64 - 1 → new ≡ old + by outcome → new < 2 ^ 64
+stays_below outcome by old new total one le free counted = omega (arith, le, free, counted, one outcome)
 
 pub taken_once : (o : Outcome) → taken_by o ≤ 1
 taken_once Taken = omega arith

@@ -1,5 +1,5 @@
 -- What a receiver heard so far, on plain variables.
-use Rattle.std.proofs.Common.{if◌then◌else◌, arith, ◌≡◌, ◌==◌, ◌⊎◌, ⊎_elim, inl, inr, ℕ, Bool, true, false, ◌+◌, List, [], ◌∷◌, ◌++◌, map, sum, Option, Some, Result, Ok, Err, IfOk, drop, length, take, refl, sym, ap, ◌∙◌, subst, append-nil, append_assoc, length-append}
+use Rattle.std.proofs.Common.{if◌then◌else◌, arith, ◌≡◌, ◌==◌, ◌⊎◌, ⊎_elim, inl, inr, ℕ, Bool, true, false, ◌+◌, List, [], ◌∷◌, ◌++◌, map, sum, Option, Some, Result, Ok, Err, IfErr, IfOk, OnErr, drop, length, take, refl, sym, ap, ◌∙◌, subst, append-nil, append_assoc, length-append}
 use Rattle.std.proofs.Math.Logic.{∥∥₁_elim, ∥∥₁_map, ∥∥₁_prop}
 use Rattle.std.proofs.lemmas.Bool.Decides.{nat_tests}
 use Rattle.std.proofs.lemmas.List.{take-append-le, take_all}
@@ -17,7 +17,9 @@ use Rattle.pdc_log.proofs.Fronts.{prefix_self, prefix_trans}
 use Rattle.pdc_ports.specs.Heard.{Heard, Gave, Idled, Ended, Failed, GaveUp, HasTold}
 use Rattle.pdc_ports.specs.declared.numbered.Numbered.{Numbered}
 use Rattle.pdc_hub.specs.declared.fault.HubFault.{HubFault}
+use Rattle.pdc_hub.specs.declared.fault.HubFault.TheVariants.{CountsUsedUp}
 use Rattle.pdc_hub.specs.Counted.{configured_by, refused_by, taken_by}
+use Rattle.pdc_hub.specs.Faults.{IsOfDelivery}
 use Rattle.pdc_hub.specs.Received.{AreBrought, AreServed, EndsBy, HasReceived, WasBrought}
 use Rattle.pdc_hub.proofs.Replays.{here, life_append, life_of-snoc}
 
@@ -114,6 +116,11 @@ pub was_brought : (rules : Rules) (named : Option Given) (stream : ℕ) (bytes :
     → IfOk r (λ numbered. WasBrought rules named stream bytes before after numbered.answer)
 was_brought rules named stream bytes before after arrival (Ok numbered) h = record { arrival = arrival; number = numbered.step; added = h }
 was_brought rules named stream bytes before after arrival (Err fault) h = tt
+
+-- what is refused as used up could not be delivered
+pub of_delivery : {A : Type 0} (r : Result A HubFault) → OnErr r (r ≡ Err CountsUsedUp) → IfErr r IsOfDelivery
+of_delivery (Ok x) h = tt
+of_delivery {A = A} (Err fault) h = subst (λ (r : Result A HubFault). IfErr r IsOfDelivery) (sym h) tt
 
 -- an answer is one of the three
 counted_once : (o : Outcome) → (taken_by o + refused_by o) + configured_by o ≡ 1

@@ -8,7 +8,6 @@ ghost use Rattle.pdc_life.specs.Life.{Entry, changes};
 ghost use Rattle.pdc_life.specs.Published.{layout_wire};
 ghost use Rattle.pdc_hub.specs.Closing.{closing_of};
 ghost use Rattle.pdc_hub.specs.Counted.{HasSameAmounts, HasSameParts, configurations, configured_by, refused_by, taken_by};
-ghost use Rattle.pdc_hub.specs.Faults.{IsOfDelivery};
 ghost use Rattle.pdc_hub.specs.Pops.{HasPoppedNone, HasPoppedOne, HasSameShares, IsPop, popped_by};
 ghost use Rattle.pdc_hub.specs.Replay.{AreSaid, WasRead};
 ghost use Rattle.pdc_log.specs.Log.{HasAdded, HasLooked, HasTurned, InTheLife, came_in};
@@ -28,7 +27,7 @@ use pdc_frame::Buffer;
 use pdc_life::{MAX_PMUS, Outcome};
 use pdc_mark::Mark;
 use pdc_ports::Numbered;
-use std::alloc::Global;
+use std::alloc::{AllocError, Global};
 use std::sync::{Mutex, OnceLock, OnceToken, Wait};
 
 /// The lock round a recorder, and beside it whether no more is to be delivered. Each call but [`Hub::closed`] takes the lock once, and may
@@ -41,7 +40,12 @@ pub struct Hub<C: Core + Drop, N: Naming<C::Settings>> {
 
 impl<C: Core + Drop, N: Naming<C::Settings>> Hub<C, N> {
     /// A hub over two cores that were opened alike with this floor, with no step taken since; the shares with all parts; and who
-    /// pops. The base is brought up each time that so many steps are kept.
+    /// pops. The base is brought up each time that so many steps are kept. Their memory is taken here: what is delivered, ticks and pops
+    /// take none for their step.
+    ///
+    /// # Errors
+    ///
+    /// [`AllocError`] where a request for the room of so many steps was refused.
     pub fn new<M>(
         alloc: Global,
         base: C,
@@ -49,7 +53,7 @@ impl<C: Core + Drop, N: Naming<C::Settings>> Hub<C, N> {
         limit: usize,
         floor: u64,
         blanks: Blanks,
-    ) -> (Self, Shares<N>, Pops<N, M>)
+    ) -> Result<(Self, Shares<N>, Pops<N, M>), AllocError>
         requires alike { (g : Given) × (N.given ≡ Some g) × C.stands_for base g [] × C.stands_for now g [] }
         requires settings { (N.settings ≡ Some (C.settings_of base)) × (N.settings ≡ Some (C.settings_of now)) }
         requires limit { 1 ≤ limit }
@@ -57,9 +61,12 @@ impl<C: Core + Drop, N: Naming<C::Settings>> Hub<C, N> {
         requires names { (blanks.taken.name ≡ N.taken.name) × (blanks.refused.name ≡ N.refused.name) × (blanks.configured.name ≡ N.configured.name) × (blanks.top.name ≡ N.top.name) × (blanks.turns.name ≡ N.turns.name) }
         requires log { (blanks.log.seen.book ≡ N.book) × (blanks.log.seen.log ≡ []) }
         requires blank { (blanks.taken.parts ≡ N.taken.parts) × (blanks.refused.parts ≡ N.refused.parts) × (blanks.configured.parts ≡ N.configured.parts) × (blanks.top.parts ≡ N.top.parts) × (0 < N.top.parts) × (blanks.turns.parts ≡ N.turns.parts) × (0 < N.turns.parts) }
-        ensures parts { (result.1.taken.parts ≡ N.taken.parts) × (result.1.refused.parts ≡ N.refused.parts) × (result.1.configured.parts ≡ N.configured.parts) × (result.2.top.parts ≡ N.top.parts) × (result.2.turns.parts ≡ N.turns.parts) }
-        ensures amounts { (result.1.taken.amount ≡ 0) × (result.1.refused.amount ≡ 0) × (result.1.configured.amount ≡ 0) × (result.2.top.amount ≡ floor) }
-        ensures none { (popped_by result.2 ≡ 0) × (result.1.front ≡ []) × (result.2.front ≡ []) }
+        ensures parts { IfOk result (λ made. (made.1.taken.parts ≡ N.taken.parts) × (made.1.refused.parts ≡ N.refused.parts)
+            × (made.1.configured.parts ≡ N.configured.parts) × (made.2.top.parts ≡ N.top.parts) × (made.2.turns.parts ≡ N.turns.parts)) }
+        ensures amounts { IfOk result (λ made. (made.1.taken.amount ≡ 0) × (made.1.refused.amount ≡ 0)
+            × (made.1.configured.amount ≡ 0) × (made.2.top.amount ≡ floor)) }
+        ensures none { IfOk result (λ made. (popped_by made.2 ≡ 0) × (made.1.front ≡ []) × (made.2.front ≡ [])) }
+        ensures denied { OnErr result (WasRefused limit) }
     {
         let Blanks {
             taken,
@@ -84,9 +91,10 @@ impl<C: Core + Drop, N: Naming<C::Settings>> Hub<C, N> {
             top,
             turns,
         };
-        (
+        let recorder = Recorder::new(alloc, base, now, limit, floor, books, log)?;
+        Ok((
             Hub {
-                table: Mutex::new(Recorder::new(alloc, base, now, limit, floor, books, log)),
+                table: Mutex::new(recorder),
                 closing: OnceLock::new(),
             },
             Shares {
@@ -96,7 +104,7 @@ impl<C: Core + Drop, N: Naming<C::Settings>> Hub<C, N> {
                 front,
             },
             Pops::new(mine_top, mine_turns, pops_front),
-        )
+        ))
     }
 
     /// Adds what arrived for a stream, and counts its answer in the caller's shares. The answer is the core's in some life of what is
@@ -105,8 +113,7 @@ impl<C: Core + Drop, N: Naming<C::Settings>> Hub<C, N> {
     ///
     /// # Errors
     ///
-    /// `CountsUsedUp` where one of the three totals is at its greatest value; `NoMemory` where there is no memory for the step. Nothing is
-    /// added then.
+    /// `CountsUsedUp` where one of the three totals is at its greatest value. Nothing is added then.
     pub fn deliver<R: Wait>(
         &self,
         rt: &R,
@@ -124,8 +131,7 @@ impl<C: Core + Drop, N: Naming<C::Settings>> Hub<C, N> {
         ensures configured { IfOk result (λ numbered. mine.new.configured.amount ≡ mine.old.configured.amount + configured_by numbered.answer) }
         ensures most { (mine.new.taken.amount < 2 ^ 64) × (mine.new.refused.amount < 2 ^ 64) }
         ensures parts { HasSameParts mine.old mine.new }
-        ensures causes { IfErr result IsOfDelivery }
-        ensures denied { result ≡ Err HubFault.NoMemory → WasRefused 1 }
+        ensures causes { OnErr result (result ≡ Err HubFault.CountsUsedUp) }
         ensures err { OnErr result (HasSameAmounts mine.old mine.new × (mine.new.front ≡ mine.old.front)) }
     {
         self.table
@@ -136,24 +142,17 @@ impl<C: Core + Drop, N: Naming<C::Settings>> Hub<C, N> {
     /// Ticks: the instant that is now, and for each column the count up to which a section may be adopted, which is the one that the mark
     /// stores. The mark is lent, and a store wants it whole: so it stored these counts before the tick, and stores them until the answer.
     /// The answer bears the number of the step.
-    ///
-    /// # Errors
-    ///
-    /// `NoMemory` where there is no memory for the step. Nothing is added then.
     pub fn tick<M: Mark, R: Wait>(
         &self,
         rt: &R,
         pops: &mut Pops<N, M>,
         now: u64,
         mark: &M,
-    ) -> Result<Numbered<Ticked>, HubFault>
+    ) -> Numbered<Ticked>
         requires { (pops.old.turns.parts ≡ N.turns.parts) × (0 < pops.old.turns.parts) }
-        ensures turned { IfOk result (λ numbered. HasTurned C.rules N.given (ToTick now (M.stored mark.now).counts) pops.old.front pops.new.front numbered.step
-            (λ g E. numbered.answer ≡ ticked_of (changes E) (tick_answer g E now (M.stored mark.now).counts))) }
+        ensures turned { HasTurned C.rules N.given (ToTick now (M.stored mark.now).counts) pops.old.front pops.new.front result.step
+            (λ g E. result.answer ≡ ticked_of (changes E) (tick_answer g E now (M.stored mark.now).counts)) }
         ensures none { HasPoppedNone pops.old pops.new × HasSameShares pops.old pops.new }
-        ensures causes { OnErr result (result ≡ Err HubFault.NoMemory) }
-        ensures denied { OnErr result (WasRefused 1) }
-        ensures err { OnErr result (pops.new.front ≡ pops.old.front) }
     {
         let counts = mark.counts();
         self.table.lock(rt).tick(rt, pops, now, &counts)
@@ -161,22 +160,16 @@ impl<C: Core + Drop, N: Naming<C::Settings>> Hub<C, N> {
 
     /// Pops the lowest row that closed and was not popped, which is written over the one popped before, and counts it. Whether there was one.
     /// It lies above all rows popped before, and its instant can be tagged. The answer bears the number of the step.
-    ///
-    /// # Errors
-    ///
-    /// `NoMemory` where there is no memory for the step. Nothing is added then.
-    pub fn pop<M, R: Wait>(&self, rt: &R, pops: &mut Pops<N, M>) -> Result<Numbered<bool>, HubFault>
+    pub fn pop<M, R: Wait>(&self, rt: &R, pops: &mut Pops<N, M>) -> Numbered<bool>
         requires top { (pops.old.top.parts ≡ N.top.parts) × (0 < pops.old.top.parts) }
         requires turns { (pops.old.turns.parts ≡ N.turns.parts) × (0 < pops.old.turns.parts) }
-        ensures turned { IfOk result (λ numbered. HasTurned C.rules N.given ToPop pops.old.front pops.new.front numbered.step (λ g E. IsPop numbered.answer pops.new.row (pop_answer E))) }
+        ensures turned { HasTurned C.rules N.given ToPop pops.old.front pops.new.front result.step
+            (λ g E. IsPop result.answer pops.new.row (pop_answer E)) }
         // A row that was popped lies above all before, and is counted; only such a row is.
-        ensures row { IfOk result (λ numbered. numbered.answer ≡ true → HasPoppedOne pops.old pops.new) }
-        ensures tagged { IfOk result (λ numbered. numbered.answer ≡ true → (g : Given) → N.given ≡ Some g → pops.new.row.instant < SECONDS * g.output.rate) }
-        ensures none { IfOk result (λ numbered. numbered.answer ≡ false → HasPoppedNone pops.old pops.new) }
+        ensures row { result.answer ≡ true → HasPoppedOne pops.old pops.new }
+        ensures tagged { result.answer ≡ true → (g : Given) → N.given ≡ Some g → pops.new.row.instant < SECONDS * g.output.rate }
+        ensures none { result.answer ≡ false → HasPoppedNone pops.old pops.new }
         ensures parts { HasSameShares pops.old pops.new }
-        ensures causes { OnErr result (result ≡ Err HubFault.NoMemory) }
-        ensures denied { OnErr result (WasRefused 1) }
-        ensures err { OnErr result (HasPoppedNone pops.old pops.new × (pops.new.front ≡ pops.old.front)) }
     {
         self.table.lock(rt).pop(rt, pops)
     }

@@ -8,8 +8,8 @@ use pdc_row::DueRow;
 use std::marker::PhantomData;
 use std::sync::ledger::Share;
 
-/// Who ticks and pops: the whole share of the greatest instant popped, the row that was popped last, and how many rows were. A new hub hands
-/// it out, and only a pop of that hub counts in it. It ticks with what a mark of this type stores, and with no other counts.
+/// Who ticks and pops: the whole share of the greatest instant popped, the row that was popped last, and how many rows were. A new hub
+/// hands it out, and only a pop of that hub counts in it. It ticks with what a mark of this type stores, and with no other counts.
 #[derive(Drop)]
 pub struct Pops<N: Ledgers, M> {
     /// The whole share of the greatest instant popped.

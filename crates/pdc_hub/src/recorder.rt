@@ -8,7 +8,6 @@ ghost use Rattle.pdc_life.specs.Given.{Given};
 ghost use Rattle.pdc_life.specs.Life.{Entry, changes};
 ghost use Rattle.pdc_life.specs.Published.{layout_wire};
 ghost use Rattle.pdc_hub.specs.Counted.{HasSameAmounts, HasSameParts, configurations, configured_by, is_used_up, refused_by, taken_by};
-ghost use Rattle.pdc_hub.specs.Faults.{IsOfDelivery};
 ghost use Rattle.pdc_hub.specs.Pops.{HasPoppedNone, HasPoppedOne, HasSameShares, IsPop};
 ghost use Rattle.pdc_hub.specs.Replay.{AreSaid, Follows, HasLogged, WasRead, since};
 ghost use Rattle.pdc_log.specs.Log.{HasAdded, HasLooked, HasTurned, InTheLife, came_in, turned_in};
@@ -64,7 +63,11 @@ pub struct Recorder<C: Core + Drop, N: Naming<C::Settings>> {
 
 impl<C: Core + Drop, N: Naming<C::Settings>> Recorder<C, N> {
     /// A recorder over two cores that were opened alike, with no step taken since, and with its books. Its base is brought up each time
-    /// that so many steps are kept.
+    /// that so many steps are kept, for which it takes the memory here.
+    ///
+    /// # Errors
+    ///
+    /// [`AllocError`] where a request for the room of so many steps was refused.
     pub fn new(
         alloc: Global,
         base: C,
@@ -73,17 +76,16 @@ impl<C: Core + Drop, N: Naming<C::Settings>> Recorder<C, N> {
         floor: u64,
         books: Books<N>,
         log: Log,
-    ) -> Self
+    ) -> Result<Self, AllocError>
         requires alike { (g : Given) × (N.given ≡ Some g) × C.stands_for base g [] × C.stands_for now g [] }
         requires settings { (N.settings ≡ Some (C.settings_of base)) × (N.settings ≡ Some (C.settings_of now)) }
         requires limit { 1 ≤ limit }
         requires floor { C.popped_of now ≡ floor }
         requires books { (books.taken.total ≡ 0) × (books.refused.total ≡ 0) × (books.configured.total ≡ 0) × (books.top.total ≡ floor) × (books.turns.total ≡ 0) }
         requires log { (log.seen.book ≡ N.book) × (log.seen.log ≡ []) }
-        ensures base { result.core.base ≡ base }
-        ensures state { result.core.state ≡ now }
-        ensures events { result.core.events.items ≡ [] }
-        ensures limit { result.core.limit ≡ limit }
+        ensures made { IfOk result (λ made. (made.core.base ≡ base) × (made.core.state ≡ now)
+            × (made.core.events.items ≡ []) × (made.core.limit ≡ limit)) }
+        ensures denied { OnErr result (WasRefused limit) }
     {
         let Books {
             taken,
@@ -93,8 +95,9 @@ impl<C: Core + Drop, N: Naming<C::Settings>> Recorder<C, N> {
             turns,
         } = books;
         let _counts = now.counts();
-        Recorder {
-            core: Replayed::new(alloc, base, now, limit, log),
+        let core = Replayed::new(alloc, base, now, limit, log)?;
+        Ok(Recorder {
+            core,
             taken,
             refused,
             configured,
@@ -102,15 +105,14 @@ impl<C: Core + Drop, N: Naming<C::Settings>> Recorder<C, N> {
             popped: floor,
             turns,
             totals: Totals::new(),
-        }
+        })
     }
 
     /// Adds what arrived for a stream, and counts its answer in the caller's shares.
     ///
     /// # Errors
     ///
-    /// `CountsUsedUp` where one of the three totals is at its greatest value; `NoMemory` where there is no memory for the step. Nothing is
-    /// added then.
+    /// `CountsUsedUp` where one of the three totals is at its greatest value. Nothing is added then.
     pub fn deliver<R: Wait>(
         &mut self,
         rt: &R,
@@ -140,15 +142,14 @@ impl<C: Core + Drop, N: Naming<C::Settings>> Recorder<C, N> {
         ensures parts { HasSameParts mine.old mine.new }
         ensures used_up { (result ≡ Err HubFault.CountsUsedUp → is_used_up self.old.taken.total self.old.refused.total self.old.configured.total ≡ true)
             × (is_used_up self.old.taken.total self.old.refused.total self.old.configured.total ≡ true → result ≡ Err HubFault.CountsUsedUp) }
-        ensures causes { IfErr result IsOfDelivery }
-        ensures denied { result ≡ Err HubFault.NoMemory → WasRefused 1 }
+        ensures causes { OnErr result (result ≡ Err HubFault.CountsUsedUp) }
         ensures err { OnErr result ((self.new.core.state ≡ self.old.core.state) × HasSameAmounts mine.old mine.new × (mine.new.front ≡ mine.old.front)) }
     {
         self.audit(mine);
         if self.totals.are_used_up() {
             return Err(HubFault::CountsUsedUp);
         }
-        self.add(rt, stream, bytes, datagram, mine)
+        Ok(self.add(rt, stream, bytes, datagram, mine))
     }
 
     /// The caller's shares count no more than the core did.
@@ -175,24 +176,22 @@ impl<C: Core + Drop, N: Naming<C::Settings>> Recorder<C, N> {
         bytes: &[u8],
         datagram: KeptArrival,
         mine: &mut Shares<N>,
-    ) -> Result<Numbered<Outcome>, HubFault>
+    ) -> Numbered<Outcome>
         requires read { WasRead C.Settings.says C.Settings.fits N.settings stream bytes.now (taken_view datagram) }
         requires parts { (0 < mine.old.taken.parts) × (0 < mine.old.refused.parts) × (0 < mine.old.configured.parts) }
         requires free { is_used_up self.old.taken.total self.old.refused.total self.old.configured.total ≡ false }
-        ensures answer { IfOk result (λ numbered. (g : Given) (E : List Entry) → C.stands_for self.old.core.state g E →
-            numbered.answer ≡ (C.rules g E stream (taken_view datagram)).outcome) }
-        ensures stands { OnOk result (C.Settings.says (C.settings_of self.old.core.state) stream bytes.now (taken_view datagram) →
-            Follows C.rules (C.stands_for self.old.core.state) (C.stands_for self.new.core.state) (ToArrive stream bytes.now (taken_view datagram))) }
-        ensures event { OnOk result (self.new.core.events.items ≡ since self.old.core.limit self.old.core.events.items ++ step.Arrive stream datagram ∷ []) }
-        ensures added { IfOk result (λ numbered. HasAdded C.rules N.given (ToArrive stream bytes.now (taken_view datagram)) mine.old.front mine.new.front numbered.step
-            (λ g E. numbered.answer ≡ (C.rules g E stream (taken_view datagram)).outcome)) }
-        ensures taken { IfOk result (λ numbered. mine.new.taken.amount ≡ mine.old.taken.amount + taken_by numbered.answer) }
-        ensures refused { IfOk result (λ numbered. mine.new.refused.amount ≡ mine.old.refused.amount + refused_by numbered.answer) }
-        ensures configured { IfOk result (λ numbered. mine.new.configured.amount ≡ mine.old.configured.amount + configured_by numbered.answer) }
+        ensures answer { (g : Given) (E : List Entry) → C.stands_for self.old.core.state g E →
+            result.answer ≡ (C.rules g E stream (taken_view datagram)).outcome }
+        ensures stands { C.Settings.says (C.settings_of self.old.core.state) stream bytes.now (taken_view datagram) →
+            Follows C.rules (C.stands_for self.old.core.state) (C.stands_for self.new.core.state) (ToArrive stream bytes.now (taken_view datagram)) }
+        ensures event { self.new.core.events.items ≡
+            since self.old.core.limit self.old.core.events.items ++ step.Arrive stream datagram ∷ [] }
+        ensures added { HasAdded C.rules N.given (ToArrive stream bytes.now (taken_view datagram)) mine.old.front mine.new.front result.step
+            (λ g E. result.answer ≡ (C.rules g E stream (taken_view datagram)).outcome) }
+        ensures taken { mine.new.taken.amount ≡ mine.old.taken.amount + taken_by result.answer }
+        ensures refused { mine.new.refused.amount ≡ mine.old.refused.amount + refused_by result.answer }
+        ensures configured { mine.new.configured.amount ≡ mine.old.configured.amount + configured_by result.answer }
         ensures parts { HasSameParts mine.old mine.new }
-        ensures causes { OnErr result (result ≡ Err HubFault.NoMemory) }
-        ensures denied { OnErr result (WasRefused 1) }
-        ensures err { OnErr result ((self.new.core.state ≡ self.old.core.state) × HasSameAmounts mine.old mine.new × (mine.new.front ≡ mine.old.front)) }
     {
         let Recorder {
             core,
@@ -203,40 +202,32 @@ impl<C: Core + Drop, N: Naming<C::Settings>> Recorder<C, N> {
             ..
         } = self;
         let step = core.step();
-        let Ok(outcome) = core.arrive(rt, &mut mine.front, stream, bytes, datagram) else {
-            return Err(HubFault::NoMemory);
-        };
+        let outcome = core.arrive(rt, &mut mine.front, stream, bytes, datagram);
         count(outcome, taken, refused, configured, mine);
         totals.count(outcome);
-        Ok(Numbered {
+        Numbered {
             step,
             answer: outcome,
-        })
+        }
     }
 
     /// Ticks: the instant that is now, and for each column the count up to which a section may be adopted.
-    ///
-    /// # Errors
-    ///
-    /// `NoMemory` where there is no memory for the step. Nothing is added then.
     pub fn tick<M, R: Wait>(
         &mut self,
         rt: &R,
         pops: &mut Pops<N, M>,
         now: u64,
         counts: &[u16; MAX_PMUS],
-    ) -> Result<Numbered<Ticked>, HubFault>
+    ) -> Numbered<Ticked>
         requires { (pops.old.turns.parts ≡ N.turns.parts) × (0 < pops.old.turns.parts) }
-        ensures answer { IfOk result (λ numbered. (g : Given) (E : List Entry) → C.stands_for self.old.core.state g E →
-            numbered.answer ≡ ticked_of (changes E) (tick_answer g E now counts.now)) }
-        ensures stands { OnOk result (Follows C.rules (C.stands_for self.old.core.state) (C.stands_for self.new.core.state) (ToTick now counts.now)) }
-        ensures event { OnOk result (self.new.core.events.items ≡ since self.old.core.limit self.old.core.events.items ++ step.Tick now counts.now ∷ []) }
-        ensures turned { IfOk result (λ numbered. HasTurned C.rules N.given (ToTick now counts.now) pops.old.front pops.new.front numbered.step
-            (λ g E. numbered.answer ≡ ticked_of (changes E) (tick_answer g E now counts.now))) }
+        ensures answer { (g : Given) (E : List Entry) → C.stands_for self.old.core.state g E →
+            result.answer ≡ ticked_of (changes E) (tick_answer g E now counts.now) }
+        ensures stands { Follows C.rules (C.stands_for self.old.core.state) (C.stands_for self.new.core.state) (ToTick now counts.now) }
+        ensures event { self.new.core.events.items ≡
+            since self.old.core.limit self.old.core.events.items ++ step.Tick now counts.now ∷ [] }
+        ensures turned { HasTurned C.rules N.given (ToTick now counts.now) pops.old.front pops.new.front result.step
+            (λ g E. result.answer ≡ ticked_of (changes E) (tick_answer g E now counts.now)) }
         ensures none { HasPoppedNone pops.old pops.new × HasSameShares pops.old pops.new }
-        ensures causes { OnErr result (result ≡ Err HubFault.NoMemory) }
-        ensures denied { OnErr result (WasRefused 1) }
-        ensures err { OnErr result ((self.new.core.state ≡ self.old.core.state) × (pops.new.front ≡ pops.old.front)) }
     {
         let Recorder { core, turns, .. } = self;
         let Pops {
@@ -246,40 +237,27 @@ impl<C: Core + Drop, N: Naming<C::Settings>> Recorder<C, N> {
         } = pops;
         turns.audit(own);
         let step = core.step();
-        match core.tick(rt, front, now, counts) {
-            Ok(answer) => {
-                turns.add(own, 1);
-                Ok(Numbered { step, answer })
-            }
-            Err(_) => Err(HubFault::NoMemory),
-        }
+        let answer = core.tick(rt, front, now, counts);
+        turns.add(own, 1);
+        Numbered { step, answer }
     }
 
     /// Pops the lowest row that closed and was not popped, which is written over the one popped before, and counts it. Whether there was one.
     /// It lies above all rows popped before, and its instant can be tagged.
-    ///
-    /// # Errors
-    ///
-    /// `NoMemory` where there is no memory for the step. Nothing is added then.
-    pub fn pop<M, R: Wait>(
-        &mut self,
-        rt: &R,
-        pops: &mut Pops<N, M>,
-    ) -> Result<Numbered<bool>, HubFault>
+    pub fn pop<M, R: Wait>(&mut self, rt: &R, pops: &mut Pops<N, M>) -> Numbered<bool>
         requires top { (pops.old.top.parts ≡ N.top.parts) × (0 < pops.old.top.parts) }
         requires turns { (pops.old.turns.parts ≡ N.turns.parts) × (0 < pops.old.turns.parts) }
-        ensures answer { IfOk result (λ numbered. (g : Given) (E : List Entry) → C.stands_for self.old.core.state g E → IsPop numbered.answer pops.new.row (pop_answer E)) }
-        ensures stands { OnOk result (Follows C.rules (C.stands_for self.old.core.state) (C.stands_for self.new.core.state) ToPop) }
-        ensures event { OnOk result (self.new.core.events.items ≡ since self.old.core.limit self.old.core.events.items ++ step.Pop ∷ []) }
-        ensures turned { IfOk result (λ numbered. HasTurned C.rules N.given ToPop pops.old.front pops.new.front numbered.step (λ g E. IsPop numbered.answer pops.new.row (pop_answer E))) }
+        ensures answer { (g : Given) (E : List Entry) → C.stands_for self.old.core.state g E →
+            IsPop result.answer pops.new.row (pop_answer E) }
+        ensures stands { Follows C.rules (C.stands_for self.old.core.state) (C.stands_for self.new.core.state) ToPop }
+        ensures event { self.new.core.events.items ≡ since self.old.core.limit self.old.core.events.items ++ step.Pop ∷ [] }
+        ensures turned { HasTurned C.rules N.given ToPop pops.old.front pops.new.front result.step
+            (λ g E. IsPop result.answer pops.new.row (pop_answer E)) }
         // A row that was popped lies above all before, and is counted; only such a row is.
-        ensures row { IfOk result (λ numbered. numbered.answer ≡ true → HasPoppedOne pops.old pops.new) }
-        ensures tagged { IfOk result (λ numbered. numbered.answer ≡ true → (g : Given) → N.given ≡ Some g → pops.new.row.instant < SECONDS * g.output.rate) }
-        ensures none { IfOk result (λ numbered. numbered.answer ≡ false → HasPoppedNone pops.old pops.new) }
+        ensures row { result.answer ≡ true → HasPoppedOne pops.old pops.new }
+        ensures tagged { result.answer ≡ true → (g : Given) → N.given ≡ Some g → pops.new.row.instant < SECONDS * g.output.rate }
+        ensures none { result.answer ≡ false → HasPoppedNone pops.old pops.new }
         ensures parts { HasSameShares pops.old pops.new }
-        ensures causes { OnErr result (result ≡ Err HubFault.NoMemory) }
-        ensures denied { OnErr result (WasRefused 1) }
-        ensures err { OnErr result ((self.new.core.state ≡ self.old.core.state) × HasPoppedNone pops.old pops.new × (pops.new.front ≡ pops.old.front)) }
     {
         let Recorder {
             core,
@@ -299,23 +277,15 @@ impl<C: Core + Drop, N: Naming<C::Settings>> Recorder<C, N> {
         top.audit(all);
         turns.audit(own);
         let step = core.step();
-        match core.pop_into(rt, front, row) {
-            Err(_) => Err(HubFault::NoMemory),
-            Ok(false) => {
-                turns.add(own, 1);
-                Ok(Numbered {
-                    step,
-                    answer: false,
-                })
-            }
-            Ok(true) => {
-                turns.add(own, 1);
-                top.add(all, row.instant - *popped);
-                *popped = row.instant;
-                *count += 1;
-                Ok(Numbered { step, answer: true })
-            }
+        let answer = core.pop_into(rt, front, row);
+        turns.add(own, 1);
+        if !answer {
+            return Numbered { step, answer };
         }
+        top.add(all, row.instant - *popped);
+        *popped = row.instant;
+        *count += 1;
+        Numbered { step, answer }
     }
 
     /// Shows all steps to who pops.

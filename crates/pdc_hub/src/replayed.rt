@@ -1,5 +1,5 @@
 //! A core beside a base from which the steps since lead to it.
-ghost use Rattle.std.specs.Prelude.{◌≡◌, ◌≤◌, ◌<◌, ◌*◌, ◌∷◌, ◌++◌, ℕ, IfOk, List, OnErr, OnOk, Option, Some, [], false, length, true, vec_len};
+ghost use Rattle.std.specs.Prelude.{◌≡◌, ◌≤◌, ◌<◌, ◌*◌, ◌∷◌, ◌++◌, ℕ, IfOk, List, OnErr, Option, Some, [], false, length, true};
 ghost use Rattle.std.specs.List.{list_all};
 ghost use Rattle.pdc_core.specs.Step.{after_answer, is_allowed, ticked_of};
 ghost use Rattle.pdc_core.specs.KeptArrival.{taken_view};
@@ -16,7 +16,7 @@ use crate::naming::Naming;
 use pdc_core::{Core, CoreStep, KeptArrival, Ticked};
 use pdc_life::{MAX_PMUS, Outcome};
 use pdc_log::{Add, Arriving, Front, Log, Popping, Ticking};
-use pdc_memory::make_room;
+use pdc_memory::Held;
 use pdc_row::DueRow;
 use std::alloc::{AllocError, Global};
 use std::marker::PhantomData;
@@ -28,7 +28,8 @@ pub struct Replayed<C: Core + Drop, N: Naming<C::Settings>> {
     pub base: C,
     /// All steps of its life.
     pub log: Log,
-    pub events: Vec<CoreStep>,
+    /// The steps since, with room for as many as the limit.
+    pub events: Held<CoreStep>,
     pub state: C,
     pub limit: usize,
     of: PhantomData<N>,
@@ -37,27 +38,35 @@ pub struct Replayed<C: Core + Drop, N: Naming<C::Settings>> {
     pub ghost base_settings: { ∥ (N.settings ≡ Some (C.settings_of base)) ∥₁ },
     pub ghost state_settings: { ∥ (N.settings ≡ Some (C.settings_of state)) ∥₁ },
     pub ghost allowed: { list_all (is_allowed (C.Settings.fits (C.settings_of base))) events.items ≡ true },
-    pub ghost bounded: { vec_len events ≤ limit },
+    pub ghost bounded: { length events.items ≤ limit },
+    pub ghost room: { events.capacity ≡ limit },
     pub ghost some: { 1 ≤ limit },
 }
 
 impl<C: Core + Drop, N: Naming<C::Settings>> Replayed<C, N> {
-    /// Two cores that were opened alike.
-    pub fn new(alloc: Global, base: C, state: C, limit: usize, log: Log) -> Self
+    /// Two cores that were opened alike, with room for as many steps as the limit.
+    ///
+    /// # Errors
+    ///
+    /// [`AllocError`] where a request for that room was refused.
+    pub fn new(alloc: Global, base: C, state: C, limit: usize, log: Log) -> Result<Self, AllocError>
         requires alike { (g : Given) × (N.given ≡ Some g) × C.stands_for base g [] × C.stands_for state g [] }
         requires settings { (N.settings ≡ Some (C.settings_of base)) × (N.settings ≡ Some (C.settings_of state)) }
         requires limit { 1 ≤ limit }
         requires log { (log.seen.book ≡ N.book) × (log.seen.log ≡ []) }
-        ensures { (result.base ≡ base) × (result.state ≡ state) × (result.events.items ≡ []) × (result.limit ≡ limit) × (result.log ≡ log) }
+        ensures made { IfOk result (λ made. (made.base ≡ base) × (made.state ≡ state)
+            × (made.events.items ≡ []) × (made.limit ≡ limit) × (made.log ≡ log)) }
+        ensures denied { OnErr result (WasRefused limit) }
     {
-        Replayed {
+        let events = Held::with_capacity(alloc, limit)?;
+        Ok(Replayed {
             base,
             log,
-            events: Vec::new(alloc),
+            events,
             state,
             limit,
             of: PhantomData,
-        }
+        })
     }
 
     /// The number of the step that comes next: how many steps the life has.
@@ -73,7 +82,7 @@ impl<C: Core + Drop, N: Naming<C::Settings>> Replayed<C, N> {
         ensures events { self.new.events.items ≡ since self.old.limit self.old.events.items }
         ensures limit { self.new.limit ≡ self.old.limit }
         ensures log { self.new.log ≡ self.old.log }
-        ensures room { vec_len self.new.events < self.new.limit }
+        ensures room { length self.new.events.items < self.new.limit }
     {
         if self.events.len() < self.limit {
             return;
@@ -89,10 +98,6 @@ impl<C: Core + Drop, N: Naming<C::Settings>> Replayed<C, N> {
     }
 
     /// Answers what arrived for a stream, and keeps the step. Where the list is full, the base is brought up first.
-    ///
-    /// # Errors
-    ///
-    /// [`AllocError`] where there is no memory for the step; the state is as it was.
     pub fn arrive<R: Wait>(
         &mut self,
         rt: &R,
@@ -100,44 +105,39 @@ impl<C: Core + Drop, N: Naming<C::Settings>> Replayed<C, N> {
         stream: usize,
         bytes: &[u8],
         taken: KeptArrival,
-    ) -> Result<Outcome, AllocError>
+    ) -> Outcome
         requires read { WasRead C.Settings.says C.Settings.fits N.settings stream bytes.now (taken_view taken) }
-        ensures answer { IfOk result (λ outcome. (g : Given) (E : List Entry) → C.stands_for self.old.state g E → outcome ≡ (C.rules g E stream (taken_view taken)).outcome) }
-        ensures stands { OnOk result (C.Settings.says (C.settings_of self.old.state) stream bytes.now (taken_view taken) →
-            Follows C.rules (C.stands_for self.old.state) (C.stands_for self.new.state) (ToArrive stream bytes.now (taken_view taken))) }
-        ensures logged { OnOk result (HasLogged (ToArrive stream bytes.now (taken_view taken)) self.old.log.seen.log self.new.log.seen.log front.old front.new) }
-        ensures counts { IfOk result (λ outcome. C.counts_of self.new.state ≡ after_answer outcome (C.counts_of self.old.state)) }
+        ensures answer { (g : Given) (E : List Entry) → C.stands_for self.old.state g E →
+            result ≡ (C.rules g E stream (taken_view taken)).outcome }
+        ensures stands { C.Settings.says (C.settings_of self.old.state) stream bytes.now (taken_view taken) →
+            Follows C.rules (C.stands_for self.old.state) (C.stands_for self.new.state) (ToArrive stream bytes.now (taken_view taken)) }
+        ensures logged { HasLogged (ToArrive stream bytes.now (taken_view taken))
+            self.old.log.seen.log self.new.log.seen.log front.old front.new }
+        ensures counts { C.counts_of self.new.state ≡ after_answer result (C.counts_of self.old.state) }
         ensures popped { C.popped_of self.new.state ≡ C.popped_of self.old.state }
-        ensures event { OnOk result (self.new.events.items ≡ since self.old.limit self.old.events.items ++ step.Arrive stream taken ∷ []) }
+        ensures event { self.new.events.items ≡ since self.old.limit self.old.events.items ++ step.Arrive stream taken ∷ [] }
         ensures limit { self.new.limit ≡ self.old.limit }
-        ensures err { OnErr result ((self.new.state ≡ self.old.state) × (self.new.log ≡ self.old.log) × (front.new ≡ front.old)) }
-        ensures denied { OnErr result (WasRefused 1) }
     {
         self.bring_up();
         self.add_arrival(rt, front, stream, bytes, taken)
     }
 
     /// Ticks, and keeps the step. Where the list is full, the base is brought up first.
-    ///
-    /// # Errors
-    ///
-    /// [`AllocError`] where there is no memory for the step; the state is as it was.
     pub fn tick<R: Wait>(
         &mut self,
         rt: &R,
         front: &mut Front<N>,
         now: u64,
         counts: &[u16; MAX_PMUS],
-    ) -> Result<Ticked, AllocError>
-        ensures answer { IfOk result (λ ticked. (g : Given) (E : List Entry) → C.stands_for self.old.state g E → ticked ≡ ticked_of (changes E) (tick_answer g E now counts.now)) }
-        ensures stands { OnOk result (Follows C.rules (C.stands_for self.old.state) (C.stands_for self.new.state) (ToTick now counts.now)) }
-        ensures logged { OnOk result (HasLogged (ToTick now counts.now) self.old.log.seen.log self.new.log.seen.log front.old front.new) }
+    ) -> Ticked
+        ensures answer { (g : Given) (E : List Entry) → C.stands_for self.old.state g E →
+            result ≡ ticked_of (changes E) (tick_answer g E now counts.now) }
+        ensures stands { Follows C.rules (C.stands_for self.old.state) (C.stands_for self.new.state) (ToTick now counts.now) }
+        ensures logged { HasLogged (ToTick now counts.now) self.old.log.seen.log self.new.log.seen.log front.old front.new }
         ensures counts { C.counts_of self.new.state ≡ C.counts_of self.old.state }
         ensures popped { C.popped_of self.new.state ≡ C.popped_of self.old.state }
-        ensures event { OnOk result (self.new.events.items ≡ since self.old.limit self.old.events.items ++ step.Tick now counts.now ∷ []) }
+        ensures event { self.new.events.items ≡ since self.old.limit self.old.events.items ++ step.Tick now counts.now ∷ [] }
         ensures limit { self.new.limit ≡ self.old.limit }
-        ensures err { OnErr result ((self.new.state ≡ self.old.state) × (self.new.log ≡ self.old.log) × (front.new ≡ front.old)) }
-        ensures denied { OnErr result (WasRefused 1) }
     {
         self.bring_up();
         self.add_tick(rt, front, now, counts)
@@ -145,28 +145,18 @@ impl<C: Core + Drop, N: Naming<C::Settings>> Replayed<C, N> {
 
     /// Pops a row, which is written over this one, and keeps the step. Whether there was one; else the row stays. Where the list is full, the
     /// base is brought up first.
-    ///
-    /// # Errors
-    ///
-    /// [`AllocError`] where there is no memory for the step; the state and the row are as they were.
-    pub fn pop_into<R: Wait>(
-        &mut self,
-        rt: &R,
-        front: &mut Front<N>,
-        row: &mut DueRow,
-    ) -> Result<bool, AllocError>
-        ensures answer { IfOk result (λ is_some. (g : Given) (E : List Entry) → C.stands_for self.old.state g E → IsPop is_some row.new (pop_answer E)) }
-        ensures stands { OnOk result (Follows C.rules (C.stands_for self.old.state) (C.stands_for self.new.state) ToPop) }
-        ensures logged { OnOk result (HasLogged ToPop self.old.log.seen.log self.new.log.seen.log front.old front.new) }
-        ensures rises { IfOk result (λ is_some. is_some ≡ true → C.popped_of self.old.state < row.new.instant) }
-        ensures tagged { IfOk result (λ is_some. is_some ≡ true → (g : Given) → N.given ≡ Some g → row.new.instant < SECONDS * g.output.rate) }
-        ensures popped { IfOk result (λ is_some. (is_some ≡ true → C.popped_of self.new.state ≡ row.new.instant) × (is_some ≡ false → C.popped_of self.new.state ≡ C.popped_of self.old.state)) }
-        ensures none { IfOk result (λ is_some. is_some ≡ false → row.new ≡ row.old) }
+    pub fn pop_into<R: Wait>(&mut self, rt: &R, front: &mut Front<N>, row: &mut DueRow) -> bool
+        ensures answer { (g : Given) (E : List Entry) → C.stands_for self.old.state g E → IsPop result row.new (pop_answer E) }
+        ensures stands { Follows C.rules (C.stands_for self.old.state) (C.stands_for self.new.state) ToPop }
+        ensures logged { HasLogged ToPop self.old.log.seen.log self.new.log.seen.log front.old front.new }
+        ensures rises { result ≡ true → C.popped_of self.old.state < row.new.instant }
+        ensures tagged { result ≡ true → (g : Given) → N.given ≡ Some g → row.new.instant < SECONDS * g.output.rate }
+        ensures popped { (result ≡ true → C.popped_of self.new.state ≡ row.new.instant)
+            × (result ≡ false → C.popped_of self.new.state ≡ C.popped_of self.old.state) }
+        ensures none { result ≡ false → row.new ≡ row.old }
         ensures counts { C.counts_of self.new.state ≡ C.counts_of self.old.state }
-        ensures event { OnOk result (self.new.events.items ≡ since self.old.limit self.old.events.items ++ step.Pop ∷ []) }
+        ensures event { self.new.events.items ≡ since self.old.limit self.old.events.items ++ step.Pop ∷ [] }
         ensures limit { self.new.limit ≡ self.old.limit }
-        ensures err { OnErr result ((self.new.state ≡ self.old.state) × (row.new ≡ row.old) × (self.new.log ≡ self.old.log) × (front.new ≡ front.old)) }
-        ensures denied { OnErr result (WasRefused 1) }
     {
         self.bring_up();
         self.add_pop(rt, front, row)
@@ -180,19 +170,19 @@ impl<C: Core + Drop, N: Naming<C::Settings>> Replayed<C, N> {
         stream: usize,
         bytes: &[u8],
         taken: KeptArrival,
-    ) -> Result<Outcome, AllocError>
+    ) -> Outcome
         requires read { WasRead C.Settings.says C.Settings.fits N.settings stream bytes.now (taken_view taken) }
-        requires room { vec_len self.old.events < self.old.limit }
-        ensures answer { IfOk result (λ outcome. (g : Given) (E : List Entry) → C.stands_for self.old.state g E → outcome ≡ (C.rules g E stream (taken_view taken)).outcome) }
-        ensures stands { OnOk result (C.Settings.says (C.settings_of self.old.state) stream bytes.now (taken_view taken) →
-            Follows C.rules (C.stands_for self.old.state) (C.stands_for self.new.state) (ToArrive stream bytes.now (taken_view taken))) }
-        ensures logged { OnOk result (HasLogged (ToArrive stream bytes.now (taken_view taken)) self.old.log.seen.log self.new.log.seen.log front.old front.new) }
-        ensures counts { IfOk result (λ outcome. C.counts_of self.new.state ≡ after_answer outcome (C.counts_of self.old.state)) }
+        requires room { length self.old.events.items < self.old.limit }
+        ensures answer { (g : Given) (E : List Entry) → C.stands_for self.old.state g E →
+            result ≡ (C.rules g E stream (taken_view taken)).outcome }
+        ensures stands { C.Settings.says (C.settings_of self.old.state) stream bytes.now (taken_view taken) →
+            Follows C.rules (C.stands_for self.old.state) (C.stands_for self.new.state) (ToArrive stream bytes.now (taken_view taken)) }
+        ensures logged { HasLogged (ToArrive stream bytes.now (taken_view taken))
+            self.old.log.seen.log self.new.log.seen.log front.old front.new }
+        ensures counts { C.counts_of self.new.state ≡ after_answer result (C.counts_of self.old.state) }
         ensures popped { C.popped_of self.new.state ≡ C.popped_of self.old.state }
-        ensures event { OnOk result (self.new.events.items ≡ self.old.events.items ++ step.Arrive stream taken ∷ []) }
+        ensures event { self.new.events.items ≡ self.old.events.items ++ step.Arrive stream taken ∷ [] }
         ensures limit { self.new.limit ≡ self.old.limit }
-        ensures err { OnErr result ((self.new.state ≡ self.old.state) × (self.new.log ≡ self.old.log) × (front.new ≡ front.old)) }
-        ensures denied { OnErr result (WasRefused 1) }
     {
         let Replayed {
             log,
@@ -200,7 +190,6 @@ impl<C: Core + Drop, N: Naming<C::Settings>> Replayed<C, N> {
             state,
             ..
         } = self;
-        make_room(events, 1)?;
         log.add::<N, R, Arriving<'_>, Add>(
             rt,
             front,
@@ -211,8 +200,8 @@ impl<C: Core + Drop, N: Naming<C::Settings>> Replayed<C, N> {
             },
         );
         let outcome = answered(state, stream, &taken);
-        events.push_reserved(CoreStep::Arrive { stream, taken });
-        Ok(outcome)
+        events.push(CoreStep::Arrive { stream, taken });
+        outcome
     }
 
     /// Ticks, and keeps the step, for which there is a place below the limit.
@@ -222,17 +211,16 @@ impl<C: Core + Drop, N: Naming<C::Settings>> Replayed<C, N> {
         front: &mut Front<N>,
         now: u64,
         counts: &[u16; MAX_PMUS],
-    ) -> Result<Ticked, AllocError>
-        requires room { vec_len self.old.events < self.old.limit }
-        ensures answer { IfOk result (λ ticked. (g : Given) (E : List Entry) → C.stands_for self.old.state g E → ticked ≡ ticked_of (changes E) (tick_answer g E now counts.now)) }
-        ensures stands { OnOk result (Follows C.rules (C.stands_for self.old.state) (C.stands_for self.new.state) (ToTick now counts.now)) }
-        ensures logged { OnOk result (HasLogged (ToTick now counts.now) self.old.log.seen.log self.new.log.seen.log front.old front.new) }
+    ) -> Ticked
+        requires room { length self.old.events.items < self.old.limit }
+        ensures answer { (g : Given) (E : List Entry) → C.stands_for self.old.state g E →
+            result ≡ ticked_of (changes E) (tick_answer g E now counts.now) }
+        ensures stands { Follows C.rules (C.stands_for self.old.state) (C.stands_for self.new.state) (ToTick now counts.now) }
+        ensures logged { HasLogged (ToTick now counts.now) self.old.log.seen.log self.new.log.seen.log front.old front.new }
         ensures counts { C.counts_of self.new.state ≡ C.counts_of self.old.state }
         ensures popped { C.popped_of self.new.state ≡ C.popped_of self.old.state }
-        ensures event { OnOk result (self.new.events.items ≡ self.old.events.items ++ step.Tick now counts.now ∷ []) }
+        ensures event { self.new.events.items ≡ self.old.events.items ++ step.Tick now counts.now ∷ [] }
         ensures limit { self.new.limit ≡ self.old.limit }
-        ensures err { OnErr result ((self.new.state ≡ self.old.state) × (self.new.log ≡ self.old.log) × (front.new ≡ front.old)) }
-        ensures denied { OnErr result (WasRefused 1) }
     {
         let Replayed {
             log,
@@ -240,36 +228,29 @@ impl<C: Core + Drop, N: Naming<C::Settings>> Replayed<C, N> {
             state,
             ..
         } = self;
-        make_room(events, 1)?;
         log.add::<N, R, Ticking<'_>, Add>(rt, front, &Ticking { now, counts });
         let ticked = state.tick(now, counts);
-        events.push_reserved(CoreStep::Tick {
+        events.push(CoreStep::Tick {
             now,
             counts: *counts,
         });
-        Ok(ticked)
+        ticked
     }
 
     /// Pops a row into this one, and keeps the step, for which there is a place below the limit.
-    fn add_pop<R: Wait>(
-        &mut self,
-        rt: &R,
-        front: &mut Front<N>,
-        row: &mut DueRow,
-    ) -> Result<bool, AllocError>
-        requires room { vec_len self.old.events < self.old.limit }
-        ensures answer { IfOk result (λ is_some. (g : Given) (E : List Entry) → C.stands_for self.old.state g E → IsPop is_some row.new (pop_answer E)) }
-        ensures stands { OnOk result (Follows C.rules (C.stands_for self.old.state) (C.stands_for self.new.state) ToPop) }
-        ensures logged { OnOk result (HasLogged ToPop self.old.log.seen.log self.new.log.seen.log front.old front.new) }
-        ensures rises { IfOk result (λ is_some. is_some ≡ true → C.popped_of self.old.state < row.new.instant) }
-        ensures tagged { IfOk result (λ is_some. is_some ≡ true → (g : Given) → N.given ≡ Some g → row.new.instant < SECONDS * g.output.rate) }
-        ensures popped { IfOk result (λ is_some. (is_some ≡ true → C.popped_of self.new.state ≡ row.new.instant) × (is_some ≡ false → C.popped_of self.new.state ≡ C.popped_of self.old.state)) }
-        ensures none { IfOk result (λ is_some. is_some ≡ false → row.new ≡ row.old) }
+    fn add_pop<R: Wait>(&mut self, rt: &R, front: &mut Front<N>, row: &mut DueRow) -> bool
+        requires room { length self.old.events.items < self.old.limit }
+        ensures answer { (g : Given) (E : List Entry) → C.stands_for self.old.state g E → IsPop result row.new (pop_answer E) }
+        ensures stands { Follows C.rules (C.stands_for self.old.state) (C.stands_for self.new.state) ToPop }
+        ensures logged { HasLogged ToPop self.old.log.seen.log self.new.log.seen.log front.old front.new }
+        ensures rises { result ≡ true → C.popped_of self.old.state < row.new.instant }
+        ensures tagged { result ≡ true → (g : Given) → N.given ≡ Some g → row.new.instant < SECONDS * g.output.rate }
+        ensures popped { (result ≡ true → C.popped_of self.new.state ≡ row.new.instant)
+            × (result ≡ false → C.popped_of self.new.state ≡ C.popped_of self.old.state) }
+        ensures none { result ≡ false → row.new ≡ row.old }
         ensures counts { C.counts_of self.new.state ≡ C.counts_of self.old.state }
-        ensures event { OnOk result (self.new.events.items ≡ self.old.events.items ++ step.Pop ∷ []) }
+        ensures event { self.new.events.items ≡ self.old.events.items ++ step.Pop ∷ [] }
         ensures limit { self.new.limit ≡ self.old.limit }
-        ensures err { OnErr result ((self.new.state ≡ self.old.state) × (row.new ≡ row.old) × (self.new.log ≡ self.old.log) × (front.new ≡ front.old)) }
-        ensures denied { OnErr result (WasRefused 1) }
     {
         let Replayed {
             log,
@@ -277,11 +258,10 @@ impl<C: Core + Drop, N: Naming<C::Settings>> Replayed<C, N> {
             state,
             ..
         } = self;
-        make_room(events, 1)?;
         log.add::<N, R, Popping, Add>(rt, front, &Popping);
         let is_some = state.pop_into(row);
-        events.push_reserved(CoreStep::Pop);
-        Ok(is_some)
+        events.push(CoreStep::Pop);
+        is_some
     }
 }
 

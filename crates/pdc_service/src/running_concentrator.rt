@@ -108,7 +108,9 @@ where
     let Ok(state) = core.open_next(alloc, start, floor, &counts) else {
         return not_run(publisher, sink);
     };
-    let (hub, shares, pops) = Hub::<C, N>::new(alloc, core, state, limit, floor, blanks);
+    let Ok((hub, shares, pops)) = Hub::<C, N>::new(alloc, core, state, limit, floor, blanks) else {
+        return not_run(publisher, sink);
+    };
     let crew = Crew {
         shares,
         pops,

@@ -97,23 +97,21 @@ fn arrive<C: Core + Drop, N: Naming<C::Settings>, R: Wait + Clock>(
     Some(())
 }
 
-/// A tick. The number of its step; none where memory was wanted.
+/// A tick. The number of its step.
 fn tick<C: Core + Drop, N: Naming<C::Settings>, R: Wait + Clock>(
     rt: &R,
     hub: &Hub<C, N>,
     pops: &mut Pops<N, ModelMark>,
     ticker: &mut RecordedTicker<'_, Silent, R>,
     now: u64,
-) -> Option<u64>
+) -> u64
     requires top { (pops.old.top.parts ≡ N.top.parts) × (0 < pops.old.top.parts) }
     requires turns { (pops.old.turns.parts ≡ N.turns.parts) × (0 < pops.old.turns.parts) }
     ensures parts { HasSameShares pops.old pops.new }
 {
     let mark = cleared();
     let counts = mark.counts();
-    let Ok(Numbered { step, answer }) = hub.tick(rt, pops, now, &mark) else {
-        return None;
-    };
+    let Numbered { step, answer } = hub.tick(rt, pops, now, &mark);
     ticker.note(
         step,
         &Did::Ticked {
@@ -124,7 +122,7 @@ fn tick<C: Core + Drop, N: Naming<C::Settings>, R: Wait + Clock>(
             used_up: answer.used_up,
         },
     );
-    Some(step)
+    step
 }
 
 /// The layout in force is laid, behind the step with this number. None where memory was wanted.
@@ -160,9 +158,7 @@ fn pop<C: Core + Drop, N: Naming<C::Settings>, R: Wait + Clock>(
     requires turns { (pops.old.turns.parts ≡ N.turns.parts) × (0 < pops.old.turns.parts) }
     ensures parts { HasSameShares pops.old pops.new }
 {
-    let Ok(Numbered { step, answer }) = lived.hub.pop(rt, pops) else {
-        return None;
-    };
+    let Numbered { step, answer } = lived.hub.pop(rt, pops);
     if !answer {
         ticker.note(step, &Did::FoundNone);
         return Some(());
@@ -208,12 +204,12 @@ fn live<C: Core + Drop, N: Naming<C::Settings>, R: Wait + Clock>(
     let mut ticker = RecordedTicker::new(rt, recording, Silent);
     arrive(rt, alloc, lived, &mut mine.shares, 0, &mut first)?;
     arrive(rt, alloc, lived, &mut mine.shares, 1, &mut second)?;
-    let step = tick(rt, lived.hub, &mut mine.pops, &mut ticker, FIRST)?;
+    let step = tick(rt, lived.hub, &mut mine.pops, &mut ticker, FIRST);
     lay(rt, alloc, lived.hub, &mut mine.pops, &mut ticker, step)?;
     pop(rt, alloc, lived, &mut mine.pops, &mut ticker)?;
     arrive(rt, alloc, lived, &mut mine.shares, 1, &mut second)?;
     arrive(rt, alloc, lived, &mut mine.shares, 0, &mut first)?;
-    tick(rt, lived.hub, &mut mine.pops, &mut ticker, FIRST + 1)?;
+    tick(rt, lived.hub, &mut mine.pops, &mut ticker, FIRST + 1);
     pop(rt, alloc, lived, &mut mine.pops, &mut ticker)?;
     pop(rt, alloc, lived, &mut mine.pops, &mut ticker)
 }
@@ -245,7 +241,9 @@ fn live_on<C: Opens, N: Naming<C::Settings>, R: Wait + Clock>(
     let Ok(state) = core.open_next(alloc, 1, 0, &counts) else {
         return None;
     };
-    let (hub, shares, pops) = Hub::<C, N>::new(alloc, core, state, LIMIT, 0, blanks);
+    let Ok((hub, shares, pops)) = Hub::<C, N>::new(alloc, core, state, LIMIT, 0, blanks) else {
+        return None;
+    };
     let lived = Lived {
         settings,
         output,

@@ -48,14 +48,15 @@ fn begin<C: Core + Drop, N: Naming<C::Settings>, R: Wait>(
 {
     deliver(rt, alloc, hub, mine, 0, &streams.first.config)?;
     deliver(rt, alloc, hub, mine, 1, &streams.second.config)?;
-    tick(rt, hub, mine, FIRST)?;
-    pop(rt, hub, mine)?;
-    pop(rt, hub, mine)?;
-    pop(rt, hub, mine)?;
+    tick(rt, hub, mine, FIRST);
+    pop(rt, hub, mine);
+    pop(rt, hub, mine);
+    pop(rt, hub, mine);
     deliver(rt, alloc, hub, mine, 0, &streams.first.config)?;
     deliver(rt, alloc, hub, mine, 1, &streams.second.config)?;
-    tick(rt, hub, mine, FIRST)?;
-    pop(rt, hub, mine)
+    tick(rt, hub, mine, FIRST);
+    pop(rt, hub, mine);
+    Some(())
 }
 
 /// Ten calls: the data of an instant, of each stream and of the first one again, a tick, the row, and then data that is late, the
@@ -79,13 +80,14 @@ fn round<C: Core + Drop, N: Naming<C::Settings>, R: Wait>(
     deliver(rt, alloc, hub, mine, 0, &first)?;
     deliver(rt, alloc, hub, mine, 1, &second)?;
     deliver(rt, alloc, hub, mine, 0, &first)?;
-    tick(rt, hub, mine, FIRST + u64::from(after))?;
-    pop(rt, hub, mine)?;
-    pop(rt, hub, mine)?;
+    tick(rt, hub, mine, FIRST + u64::from(after));
+    pop(rt, hub, mine);
+    pop(rt, hub, mine);
     deliver(rt, alloc, hub, mine, 0, &first)?;
     deliver(rt, alloc, hub, mine, 1, &streams.first.config)?;
     deliver(rt, alloc, hub, mine, 0, &streams.first.config)?;
-    pop(rt, hub, mine)
+    pop(rt, hub, mine);
+    Some(())
 }
 
 /// All calls, on a core at the start of its life, which is the hub's base, and on two more that are opened like it: the hub's state, and the
@@ -113,7 +115,9 @@ fn side_by_side<C: Opens, N: Naming<C::Settings>, R: Wait>(
     let Ok(bare) = base.open_next(alloc, 1, 0, counts) else {
         return None;
     };
-    let (hub, shares, pops) = Hub::<C, N>::new(alloc, base, state, LIMIT, 0, blanks);
+    let Ok((hub, shares, pops)) = Hub::<C, N>::new(alloc, base, state, LIMIT, 0, blanks) else {
+        return None;
+    };
     let shared = &hub;
     let mut mine = Mine {
         bare,

@@ -63,24 +63,21 @@ pub fn deliver<C: Core + Drop, N: Naming<C::Settings>, R: Wait>(
     Some(())
 }
 
-/// Ticks both. None where memory was wanted.
+/// Ticks both.
 pub fn tick<C: Core + Drop, N: Naming<C::Settings>, R: Wait>(
     rt: &R,
     hub: &Hub<C, N>,
     mine: &mut Mine<C, N>,
     now: u64,
-) -> Option<()>
+)
     requires fit { IsFit mine.old N.top.parts N.turns.parts }
     ensures settings { C.settings_of mine.new.bare ≡ C.settings_of mine.old.bare }
     ensures fit { IsFit mine.new N.top.parts N.turns.parts }
 {
     let mark = cleared();
-    let Ok(Numbered { step, answer }) = hub.tick(rt, &mut mine.pops, now, &mark) else {
-        return None;
-    };
+    let Numbered { step, answer } = hub.tick(rt, &mut mine.pops, now, &mark);
     let bare_answer = mine.bare.tick(now, &mark.counts());
     mine.saw(step, answer == bare_answer);
-    Some(())
 }
 
 /// Whether the rows are the same, block by block.
@@ -97,19 +94,17 @@ fn are_same(one: &DueRow, other: &DueRow) -> bool {
             .all(|(a, b)| a.words() == b.words())
 }
 
-/// Pops from both. None where memory was wanted.
+/// Pops from both.
 pub fn pop<C: Core + Drop, N: Naming<C::Settings>, R: Wait>(
     rt: &R,
     hub: &Hub<C, N>,
     mine: &mut Mine<C, N>,
-) -> Option<()>
+)
     requires fit { IsFit mine.old N.top.parts N.turns.parts }
     ensures settings { C.settings_of mine.new.bare ≡ C.settings_of mine.old.bare }
     ensures fit { IsFit mine.new N.top.parts N.turns.parts }
 {
-    let Ok(Numbered { step, answer }) = hub.pop(rt, &mut mine.pops) else {
-        return None;
-    };
+    let Numbered { step, answer } = hub.pop(rt, &mut mine.pops);
     let is_alike = match &mine.bare.pop_due() {
         Some(bare_row) => answer && are_same(&mine.pops.row, bare_row),
         None => !answer,
@@ -118,7 +113,6 @@ pub fn pop<C: Core + Drop, N: Naming<C::Settings>, R: Wait>(
         mine.rows = mine.rows.saturating_add(1);
     }
     mine.saw(step, is_alike);
-    Some(())
 }
 
 /// Whether both show the same: the counts, the counts that wait, and the layout.

@@ -94,14 +94,12 @@ fn opened<'h, N: Naming<Settings> + Send + Sync, M: Mark + Drop, R: Threads + Wa
         publisher,
         sink,
     } = stage;
-    let (hub, shares, pops) = Hub::<Node<RingTable>, N>::new(
-        alloc,
-        base,
-        state,
-        scene.limit,
-        0,
-        blanks,
-    );
+    let limit = scene.limit;
+    let Ok((hub, shares, pops)) = Hub::<Node<RingTable>, N>::new(
+        alloc, base, state, limit, 0, blanks,
+    ) else {
+        return Ok(None);
+    };
     let shared = &hub;
     let mut sources = Vec::new(alloc);
     scene.shown.sections.store(0, Ordering::SeqCst);

@@ -95,8 +95,14 @@ fn call<N: Naming<Settings>, R: Wait>(
             Ok(kept) => told(hub.deliver(rt, 0, &DATA_11, kept, &mut mine.shares)),
             Err(_) => NO_MEMORY,
         },
-        Called::Tick => told(hub.tick(rt, &mut mine.pops, FIRST, &ModelMark::new(1, 0))),
-        Called::Pop => told(hub.pop(rt, &mut mine.pops)),
+        Called::Tick => {
+            hub.tick(rt, &mut mine.pops, FIRST, &ModelMark::new(1, 0));
+            DONE
+        }
+        Called::Pop => {
+            hub.pop(rt, &mut mine.pops);
+            DONE
+        }
         Called::Layout => told(hub.layout(rt, &mut mine.pops, SOC, &mut mine.out)),
     }
 }
@@ -141,14 +147,14 @@ fn attempts<N: Naming<Settings>, R: Wait + Print>(
     Ok(())
 }
 
-/// Makes the call on a hub over these nodes, and again where it is refused.
+/// Makes the call on a hub over these nodes, and again where it is refused. Whether the hub was made.
 fn play_on<N: Naming<Settings>, R: Wait + Print>(
     rt: &R,
     alloc: Global,
     opened: Opened,
     called: Called,
     blanks: Blanks,
-) -> io::Result<()>
+) -> io::Result<bool>
     requires given { N.given ≡ Some (given_of (OfNode opened.settings.now) 1 0 opened.counts 0) }
     requires alike { StandsFor (given_of (OfNode opened.settings.now) 1 0 opened.counts 0) [] opened.base × StandsFor (given_of (OfNode opened.settings.now) 1 0 opened.counts 0) [] opened.state }
     requires settings { (N.settings ≡ Some opened.settings.now) × (opened.base.settings ≡ opened.settings.now) × (opened.state.settings ≡ opened.settings.now) }
@@ -166,23 +172,29 @@ fn play_on<N: Naming<Settings>, R: Wait + Print>(
         ..
     } = opened;
     begin(rt, "Hub::new", made(false))?;
-    let (hub, shares, pops) = Hub::<Node<RingTable>, N>::new(alloc, base, state, LIMIT, 0, blanks);
+    let Ok((hub, shares, pops)) = Hub::<Node<RingTable>, N>::new(
+        alloc, base, state, LIMIT, 0, blanks,
+    ) else {
+        end(rt, NO_MEMORY, made(false))?;
+        return Ok(false);
+    };
     end(rt, DONE, made(true))?;
     let mut mine = Mine {
         shares,
         pops,
         out: Vec::new(alloc),
     };
-    attempts(rt, alloc, settings, &hub, &mut mine, called)
+    attempts(rt, alloc, settings, &hub, &mut mine, called)?;
+    Ok(true)
 }
 
-/// Makes the call on a hub of node 201.
+/// Makes the call on a hub of node 201. Whether the hub was made.
 fn play_one<R: Wait + Print>(
     rt: &R,
     alloc: Global,
     settings: &Settings,
     called: Called,
-) -> io::Result<()>
+) -> io::Result<bool>
     requires streams { 0 < length settings.now.pmus.items }
 {
     let counts = [0; MAX_PMUS];
@@ -198,11 +210,11 @@ fn play_one<R: Wait + Print>(
     play_on::<Brand, R>(rt, alloc, opened, called, blanks)
 }
 
-/// Each call.
+/// Each call, and again where its hub was refused.
 pub fn play<R: Wait + Print>(rt: &R, alloc: Global) -> io::Result<()> {
     let settings = of_node(alloc, 201)?;
     for called in ALL {
-        if !settings.pmus.is_empty() {
+        if !settings.pmus.is_empty() && !play_one(rt, alloc, &settings, called)? {
             play_one(rt, alloc, &settings, called)?;
         }
     }

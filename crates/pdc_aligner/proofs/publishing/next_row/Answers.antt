@@ -1,14 +1,11 @@
-use Rattle.pdc_hub.specs.Pops.{IsPop}
-use Rattle.pdc_life.specs.Answer.{pop_answer}
-use Rattle.pdc_publisher.specs.Publisher.{output_in}
 use Rattle.pdc_aligner.proofs.Rates.{all_tagged}
 use Rattle.pdc_aligner.proofs.Ticking.{pop_ticks}
+use Rattle.pdc_publisher.specs.Publisher.{output_in}
 use Rattle.pdc_aligner.proofs.publishing.next_row.Goals as goal
 
 pub returns-clause-tagged : goal.returns-clause-tagged
-returns-clause-tagged g c =
-    all_tagged g.C.Core.rules g.N.Naming.given c.args.pops.now.front c.pop.new.pops.front (λ numbered h E. IsPop numbered.answer c.pop.new.pops.row (pop_answer E)) (output_in c.args.publisher.now).rate c.pop.new.pops.row.instant c.pop.result c.pop.ensures.turned c.pop.ensures.tagged c.requires.rate
+returns-clause-tagged g c is =
+    all_tagged g.C.Core.rules g.N.Naming.given c.args.pops.now.front c.pop.new.pops.front c.pop.result.step _ (output_in c.args.publisher.now).rate c.pop.new.pops.row.instant c.pop.ensures.turned (c.pop.ensures.tagged is) c.requires.rate
 
 pub returns-clause-ticks : goal.returns-clause-ticks
-returns-clause-ticks g c =
-    pop_ticks g.C.Core.rules g.N.Naming.given c.args.pops.now.front c.pop.new.pops.front (λ numbered h E. IsPop numbered.answer c.pop.new.pops.row (pop_answer E)) c.pop.result _ c.pop.ensures.turned c.pop.ensures.err
+returns-clause-ticks g c = pop_ticks g.C.Core.rules g.N.Naming.given c.args.pops.now.front c.pop.new.pops.front c.pop.result.step _ c.pop.ensures.turned

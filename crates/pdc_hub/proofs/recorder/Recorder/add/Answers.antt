@@ -5,17 +5,17 @@ use Rattle.pdc_hub.specs.Replay.{WasRead}
 use Rattle.pdc_hub.proofs.Replays.{came_more, has_added, turned_same}
 use Rattle.pdc_hub.proofs.recorder.Recorder.add.Goals as goal
 
-pub invariant_of-self-2-clause-came_are : goal.invariant_of-self-2-clause-came_are
-invariant_of-self-2-clause-came_are g c =
+pub invariant_of-self-clause-came_are : goal.invariant_of-self-clause-came_are
+invariant_of-self-clause-came_are g c =
     let old = c.args.self.now in
-    omega (arith, c.count.ensures.once, old.came_are, came_more old.core.log.seen.log c.arrive.new.self.log.seen.log c.args.stream c.args.bytes.now (taken_view c.args.datagram) c.in-Ok.ensures.logged.added)
+    omega (arith, c.count.ensures.once, old.came_are, came_more old.core.log.seen.log c.arrive-outcome.new.self.log.seen.log c.args.stream c.args.bytes.now (taken_view c.args.datagram) c.arrive-outcome.ensures.logged.added)
 
-pub invariant_of-self-2-clause-turns_are : goal.invariant_of-self-2-clause-turns_are
-invariant_of-self-2-clause-turns_are g c =
+pub invariant_of-self-clause-turns_are : goal.invariant_of-self-clause-turns_are
+invariant_of-self-clause-turns_are g c =
     let old = c.args.self.now in
-    old.turns_are ∙ sym (turned_same old.core.log.seen.log c.arrive.new.self.log.seen.log (ToArrive c.args.stream c.args.bytes.now (taken_view c.args.datagram)) refl c.in-Ok.ensures.logged.added)
+    old.turns_are ∙ sym (turned_same old.core.log.seen.log c.arrive-outcome.new.self.log.seen.log (ToArrive c.args.stream c.args.bytes.now (taken_view c.args.datagram)) refl c.arrive-outcome.ensures.logged.added)
 
 pub returns-clause-added : goal.returns-clause-added
 returns-clause-added g c =
     let old = c.args.self.now in
-    rw c.count.ensures.front (has_added g.C.Core.rules (WasRead g.C.Settings.Reads.says g.C.Settings.Reads.fits g.N.Naming.settings) g.N.Naming.given (g.C.Core.stands_for old.core.base) (g.C.Core.stands_for old.core.state) old.core.log.seen.log c.arrive.new.self.log.seen.log c.args.mine.now.front c.arrive.new.front old.core.events.items (ToArrive c.args.stream c.args.bytes.now (taken_view c.args.datagram)) c.step-step.result _ c.in-Ok.ensures.logged c.step-step.ensures (λ h E s. c.in-Ok.ensures.answer h E s) old.core.replays)
+    rw c.count.ensures.front (has_added g.C.Core.rules (WasRead g.C.Settings.Reads.says g.C.Settings.Reads.fits g.N.Naming.settings) g.N.Naming.given (g.C.Core.stands_for old.core.base) (g.C.Core.stands_for old.core.state) old.core.log.seen.log c.arrive-outcome.new.self.log.seen.log c.args.mine.now.front c.arrive-outcome.new.front old.core.events.items (ToArrive c.args.stream c.args.bytes.now (taken_view c.args.datagram)) c.step-step.result _ c.arrive-outcome.ensures.logged c.step-step.ensures (λ h E s. c.arrive-outcome.ensures.answer h E s) old.core.replays)

@@ -1,4 +1,4 @@
-use Rattle.std.proofs.Common.{rules, refl, ◌∙◌, ◌++◌, ◌∷◌, [], ◌≡◌, ap}
+use Rattle.std.proofs.Common.{rules, refl, ◌∙◌, ◌++◌, ◌∷◌, [], ◌≡◌}
 use Rattle.std.proofs.Math.Logic.{∥∥₁_map}
 use Rattle.pdc_core.specs.Step.{is_allowed}
 use Rattle.pdc_core.specs.declared.step.CoreStep.TheVariants as step
@@ -8,17 +8,18 @@ use Rattle.pdc_hub.proofs.Held.{still, tagged}
 use Rattle.pdc_hub.proofs.Replays.{all_more, grown}
 use Rattle.pdc_hub.proofs.replayed.Replayed.add_pop.Goals as goal
 
-pub invariant_of-self-2 : goal.invariant_of-self-2
-invariant_of-self-2 g c =
+pub invariant_of-self : goal.invariant_of-self
+invariant_of-self g c =
     let old = c.args.self.now in
-    let more : c.push_reserved.new.self.items ≡ old.events.items ++ step.Pop ∷ [] = c.push_reserved.ensures.items ∙ ap (λ l. l ++ step.Pop ∷ []) c.make_room.ensures.items in
+    let more : c.push.new.self.items ≡ old.events.items ++ step.Pop ∷ [] = c.push.ensures.items in
     record {
       named = c.add.ensures.named;
-      replays = ∥∥₁_map old.replays (grown g.C.Core.rules (WasRead g.C.Settings.Reads.says g.C.Settings.Reads.fits g.N.Naming.settings) g.N.Naming.given (g.C.Core.stands_for old.base) (g.C.Core.stands_for old.state) (g.C.Core.stands_for c.pop_into-is_some.new.self) old.log.seen.log c.add.new.self.seen.log old.events.items c.push_reserved.new.self.items (step.Pop) (ToPop) c.add.ensures.added more tt tt c.pop_into-is_some.ensures.stands);
+      replays = ∥∥₁_map old.replays (grown g.C.Core.rules (WasRead g.C.Settings.Reads.says g.C.Settings.Reads.fits g.N.Naming.settings) g.N.Naming.given (g.C.Core.stands_for old.base) (g.C.Core.stands_for old.state) (g.C.Core.stands_for c.pop_into-is_some.new.self) old.log.seen.log c.add.new.self.seen.log old.events.items c.push.new.self.items (step.Pop) (ToPop) c.add.ensures.added more tt tt c.pop_into-is_some.ensures.stands);
       base_settings = old.base_settings;
       state_settings = still g.N.Naming.settings (g.C.Core.settings_of old.state) (g.C.Core.settings_of c.pop_into-is_some.new.self) c.pop_into-is_some.ensures.settings old.state_settings;
-      allowed = all_more (is_allowed (g.C.Settings.Reads.fits (g.C.Core.settings_of old.base))) old.events.items c.push_reserved.new.self.items (step.Pop) more old.allowed refl;
+      allowed = all_more (is_allowed (g.C.Settings.Reads.fits (g.C.Core.settings_of old.base))) old.events.items c.push.new.self.items (step.Pop) more old.allowed refl;
       bounded = search rules;
+      room = c.push.ensures.capacity ∙ old.room;
       some = old.some;
     }
 
