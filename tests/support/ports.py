@@ -1,7 +1,6 @@
 """Ports that are free, each for one script alone."""
 
 import contextlib
-import errno
 import random
 import socket
 
@@ -20,14 +19,11 @@ def highest():
 
 
 def is_free(port):
-    """Whether the system lets a UDP and a TCP socket have it, at every address."""
-    for kind in (socket.SOCK_DGRAM, socket.SOCK_STREAM):
-        with socket.socket(socket.AF_INET, kind) as it:
-            try:
-                it.bind(("", port))
-            except OSError as error:
-                if error.errno not in (errno.EADDRINUSE, errno.EACCES):
-                    raise
+    """Whether no UDP and no TCP socket has it, at any address. The system's lists are read: a socket that tried to have the port would go with every program
+    that another thread begins just then, and keep the port from its owner for a moment."""
+    for name in ("udp", "udp6", "tcp", "tcp6"):
+        with contextlib.suppress(FileNotFoundError), open(f"/proc/net/{name}", encoding="ascii") as it:
+            if any(int(line.split()[1].rsplit(":", 1)[1], 16) == port for line in it.readlines()[1:]):
                 return False
     return True
 
