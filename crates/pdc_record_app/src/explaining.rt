@@ -85,33 +85,36 @@ impl Instants {
     }
 }
 
+/// The name of the file at this place; nothing where there is none.
+fn name_at<'a>(names: &[&'a str], place: usize) -> &'a str {
+    match names.get(place) {
+        Some(name) => *name,
+        None => "",
+    }
+}
+
 /// Tells which steps are not in the record, and between which of these files; or that a file has steps that were there already.
 fn tell_gap(out: &mut Vec<u8>, gap: &Gap, names: &[&str]) -> io::Result<()> {
-    let name_of = |place: usize| names.get(place).copied().unwrap_or("");
     let file = gap.file.unwrap_or(0);
+    let name = name_at(names, file);
     if gap.until < gap.from {
+        let (until, from) = (gap.until, gap.from);
         return writeln!(
             out,
-            "{} begins with step {}, where step {} is wanted",
-            name_of(file),
-            gap.until,
-            gap.from
+            "{name} begins with step {until}, where step {from} is wanted"
         );
     }
     print_gap(out, gap)?;
     match gap.file {
         None => writeln!(out, ", are not in the record"),
-        Some(0) => writeln!(
-            out,
-            ", are not in the record: they are before {}",
-            name_of(0)
-        ),
-        Some(file) => writeln!(
-            out,
-            ", are not in the record: they are between {} and {}",
-            name_of(file.saturating_sub(1)),
-            name_of(file)
-        ),
+        Some(0) => writeln!(out, ", are not in the record: they are before {name}"),
+        Some(_) => {
+            let before = name_at(names, file.saturating_sub(1));
+            writeln!(
+                out,
+                ", are not in the record: they are between {before} and {name}"
+            )
+        }
     }
 }
 
