@@ -17,7 +17,7 @@ use Rattle.pdc_table.specs.pdc_open_row.Due as waiting
 use Rattle.pdc_table.specs.Content.{ColumnHasShape, HasShape, HaveShapes}
 use Rattle.pdc_table.specs.pdc_open_row.Row.{blocks_at, blocks_of, qualities_at, qualities_of}
 use Rattle.pdc_table.specs.pdc_open_row.Row as closed
-use Rattle.pdc_table.specs.Steps.{closing_of, staying_of}
+use Rattle.pdc_table.specs.Steps.{closing_of, is_first_whole, staying_of, whole_answer}
 use Rattle.pdc_table.specs.pdc_open_row.Views.{ColumnView, OpenRowView}
 use Rattle.pdc_table.specs.pdc_open_row.declared.wait_rule.WaitRule.{WaitRule}
 use Rattle.pdc_arrival.specs.pdc_life.declared.timing.WaitKind.{WaitKind}
@@ -154,6 +154,14 @@ layout_rule g now = rule_of g.wait_kind g.wait now
 
 abbrev required_by : Given → List Entry → List Bool
 required_by g E = map (is_required g E) (streams_of g)
+
+first_whole_same : (g : Given) (E : List Entry) (is : List ℕ) → is_first_whole (required_by g E) (map (open_row_of g E) is) ≡ life.is_first_whole g E is
+first_whole_same g E [] = refl
+first_whole_same g E (i ∷ is) = all_taken_is (is_required g E) (λ s. is_some (take_of g E s i)) (streams_of g)
+
+-- the lowest open instant is whole in the table where it is in the life
+pub whole_is : (g : Given) (E : List Entry) → whole_answer (content_of g E) ≡ life.is_whole g E
+whole_is g E = first_whole_same g E (open_instants g E)
 
 closes_is : (g : Given) (E : List Entry) (now i : ℕ) → g.wait < 2 ^ 64 → table.closes (required_by g E) (layout_rule g now) (map (aged_row_of g E) (open_instants g E)) (aged_row_of g E i) ≡ closes (is_due g E now) (open_instants g E) i
 closes_is g E now i h = closes_same (required_by g E) (layout_rule g now) (is_due g E now) (aged_row_of g E) i (λ j. due_same g E now j h) (λ j. refl) (open_instants g E)

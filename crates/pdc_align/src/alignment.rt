@@ -253,6 +253,13 @@ impl<T: Table> Alignment<T> {
         self.table.next_due()
     }
 
+    /// Whether the lowest open row was brought all that it waits for.
+    pub(crate) fn has_whole_row(&self) -> bool
+        ensures { result ≡ table.whole_answer self.now.state.content }
+    {
+        self.table.is_whole()
+    }
+
     /// The layout under which rows close.
     pub(crate) fn layout(&self) -> RowLayout
         ensures { layout_view result ≡ row_layout_in self.now.state }

@@ -16,6 +16,7 @@ ghost use Rattle.pdc_arrival.specs.pdc_life.Answer.{bare, outcome_in_time, pop_a
 ghost use Rattle.pdc_arrival.specs.pdc_life.Arrival.{Data, Layout, Stamp};
 ghost use Rattle.pdc_arrival.specs.pdc_life.Given.{Given};
 ghost use Rattle.pdc_arrival.specs.pdc_life.Life.{Arrive, Entry, Pop, Tick, changes};
+ghost use Rattle.pdc_arrival.specs.pdc_life.Row.{is_whole};
 ghost use Rattle.pdc_arrival.specs.pdc_life.Run.{IsRun};
 ghost use Rattle.pdc_arrival.specs.pdc_life.declared.outcome.Outcome.TheVariants.{Candidate};
 ghost use Rattle.pdc_align.specs.State.{row_layout_of};
@@ -164,6 +165,13 @@ impl<T: Table> Alignment<T> {
         ensures { (g : Given) (E : List Entry) → StandsFor g E self.now.state → result ≡ option_map (λ row. row.instant) (pop_answer E) }
     {
         self.next()
+    }
+
+    /// Whether the lowest open instant is whole: each stream that it waits for has come. Where none is open, none is.
+    pub fn is_whole(&self) -> bool
+        ensures { (g : Given) (E : List Entry) → StandsFor g E self.now.state → result ≡ is_whole g E }
+    {
+        self.has_whole_row()
     }
 
     /// The layout under which rows close now: the stamp, and the shapes in force.

@@ -13,6 +13,7 @@ ghost use Rattle.pdc_align.specs.pdc_life.Answer.{IsReadStep, ReadStep, Rules, T
 ghost use Rattle.pdc_align.specs.pdc_life.Given.{Given};
 ghost use Rattle.pdc_align.specs.pdc_life.Life.{Entry, changes, popped};
 ghost use Rattle.pdc_align.specs.pdc_life.Published.{layout_wire};
+ghost use Rattle.pdc_align.specs.pdc_life.Row.{is_whole};
 ghost use Rattle.pdc_align.specs.pdc_arrival.Views.{arrival_view};
 ghost use Rattle.pdc_align.specs.pdc_row.Rising.{AreBelow};
 ghost use Rattle.pdc_align.specs.pdc_row.RowView.{RowView, row_instants, row_view};
@@ -121,6 +122,10 @@ pub trait Core {
         ensures answer { (g : Given) (E : List Entry) → stands_for self.now g E → result ≡ option_map (λ row. row.instant) (pop_answer E) }
         // It can be tagged.
         ensures tagged { (g : Given) (E : List Entry) → stands_for self.now g E → IfSome result (λ instant. instant < SECONDS * g.output.rate) };
+
+    /// Whether the lowest open instant is whole: each stream that it waits for has come. Where none is open, none is.
+    fn is_whole(&self) -> bool
+        ensures { (g : Given) (E : List Entry) → stands_for self.now g E → result ≡ is_whole g E };
 
     /// Appends the frame of the layout in force, dated with this second.
     ///

@@ -6,6 +6,7 @@ ghost use Rattle.pdc_life.specs.Answer.{pop_answer, tick_answer, waiting_counts}
 ghost use Rattle.pdc_life.specs.Given.{Given};
 ghost use Rattle.pdc_life.specs.Life.{Entry, changes};
 ghost use Rattle.pdc_life.specs.Published.{layout_wire};
+ghost use Rattle.pdc_life.specs.Row.{is_whole};
 ghost use Rattle.pdc_hub.specs.Closing.{closing_of};
 ghost use Rattle.pdc_hub.specs.Counted.{HasSameAmounts, HasSameParts, configurations, configured_by, refused_by, taken_by};
 ghost use Rattle.pdc_hub.specs.Pops.{HasPoppedNone, HasPoppedOne, HasSameShares, IsPop, popped_by};
@@ -25,6 +26,7 @@ use crate::shares::{Blanks, Books, Shares};
 use pdc_core::{Core, Counts, KeptArrival, Ticked};
 use pdc_frame::Buffer;
 use pdc_life::{MAX_PMUS, Outcome};
+use pdc_log::Front;
 use pdc_mark::Mark;
 use pdc_ports::Numbered;
 use std::alloc::{AllocError, Global};
@@ -237,6 +239,15 @@ impl<C: Core + Drop, N: Naming<C::Settings>> Hub<C, N> {
         ensures waits { InTheLife C.rules N.given pops.new.front (λ g E. result ≡ waiting_counts g E) }
     {
         self.table.lock(rt).waiting(rt, pops)
+    }
+
+    /// Whether the lowest open instant is whole: each stream that it waits for has come. Where none is open, none is. It is told of a life with
+    /// all that the caller had seen, and what others added since.
+    pub fn is_whole<R: Wait>(&self, rt: &R, seen: &mut Front<N>) -> bool
+        ensures later { IsPrefix seen.old seen.new }
+        ensures whole { InTheLife C.rules N.given seen.new (λ g E. result ≡ is_whole g E) }
+    {
+        self.table.lock(rt).is_whole(rt, seen)
     }
 
     /// No more is to be delivered. Only who pops closes it, with all parts of the share, so no receiver does. Answers what shows it.

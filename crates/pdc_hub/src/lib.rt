@@ -12,6 +12,7 @@ mod fault;
 mod hub;
 mod intake;
 mod ledgers;
+mod looking;
 mod naming;
 mod pops;
 mod receiver;

@@ -1,19 +1,21 @@
 //! One receiver: what it reads of its source, outside the lock, it delivers.
-ghost use Rattle.std.specs.Prelude.{◌≡◌, ◌<◌, ◌≤◌, ◌+◌, ◌^◌, ℕ, IfErr, IfOk, IfSome, IsSome, OnErr, Some, length};
+ghost use Rattle.std.specs.Prelude.{◌≡◌, ◌<◌, ◌≤◌, ◌+◌, ◌^◌, ℕ, IfErr, IfOk, IfSome, IsSome, List, OnErr, Some, length};
 ghost use Rattle.pdc_hub.specs.Closing.{closing_of};
 ghost use Rattle.pdc_hub.specs.Counted.{HasSameParts, configured_by, refused_by, taken_by};
 ghost use Rattle.pdc_ports.specs.Failures.{HasRisen};
-ghost use Rattle.pdc_ports.specs.Heard.{HasTold};
+ghost use Rattle.pdc_ports.specs.Heard.{HasTold, Heard};
 ghost use Rattle.pdc_hub.specs.Faults.{IsOfDelivery, IsOfReceiver};
 ghost use Rattle.pdc_hub.specs.Received.{AreBrought, HasReceived, WasBrought};
 
 use crate::fault::HubFault;
+use crate::hub::Hub;
 use crate::intake::{Intake, Place};
 use crate::ledgers::Ledgers;
 use crate::naming::Naming;
 use crate::shares::Shares;
 use pdc_core::{Core, Reads};
 use pdc_life::Outcome;
+use pdc_log::Front;
 use pdc_ports::{Next, Numbered, Source};
 use std::alloc::Global;
 use std::sync::{OnceToken, Wait};
@@ -103,6 +105,7 @@ pub fn receive<'h, C: Core + Drop, N: Naming<C::Settings>, S: Source, R: Wait>(
                             Outcome::Candidate | Outcome::Known => {}
                         }
                         source.answered(Some(answer));
+                        tell_whole(rt, hub, &shares.front, source);
                     }
                     Err(fault) => {
                         source.answered(None);
@@ -123,6 +126,25 @@ pub fn receive<'h, C: Core + Drop, N: Naming<C::Settings>, S: Source, R: Wait>(
         }
     }
     unreachable!()
+}
+
+/// Tells a source that the lowest open row is whole, where it wants to be told, and it is.
+fn tell_whole<C: Core + Drop, N: Naming<C::Settings>, S: Source, R: Wait>(
+    rt: &R,
+    hub: &Hub<C, N>,
+    front: &Front<N>,
+    source: &mut S,
+)
+    ensures tells { (heard : List Heard) → S.told source.old heard → S.told source.new heard }
+    ensures failures { S.failures_of source.old ≤ S.failures_of source.new }
+    ensures row { S.row_left source.new ≤ S.row_left source.old }
+{
+    if source.wants_whole() {
+        let mut seen = front.again();
+        if hub.is_whole(rt, &mut seen) {
+            source.whole();
+        }
+    }
 }
 
 /// What is handed back.

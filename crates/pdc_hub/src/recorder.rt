@@ -289,7 +289,7 @@ impl<C: Core + Drop, N: Naming<C::Settings>> Recorder<C, N> {
     }
 
     /// Shows all steps to who pops.
-    fn show<M, R: Wait>(&mut self, rt: &R, pops: &mut Pops<N, M>)
+    pub fn show<M, R: Wait>(&mut self, rt: &R, pops: &mut Pops<N, M>)
         requires { (pops.old.turns.parts ≡ N.turns.parts) × (0 < pops.old.turns.parts) }
         ensures core { self.new.core ≡ self.old.core }
         ensures looked { HasLooked pops.old.front pops.new.front }
@@ -331,74 +331,6 @@ impl<C: Core + Drop, N: Naming<C::Settings>> Recorder<C, N> {
             Ok(()) => Ok(()),
             Err(_) => Err(HubFault::NoMemory),
         }
-    }
-
-    /// How arrivals were answered.
-    pub fn counts(&self) -> Counts
-        ensures value { result ≡ C.counts_of self.now.core.state }
-        ensures totals { (result.taken ≡ self.now.taken.total) × (result.refused ≡ self.now.refused.total) × (configurations result ≡ self.now.configured.total) }
-    {
-        self.core.state.counts()
-    }
-
-    /// How arrivals were answered. Who has all parts, and pops, learns that these are the amounts of the shares, and sees the whole log: no more
-    /// came than the shares count, and all ticks and pops are those of who pops.
-    pub fn totals<M, R: Wait>(
-        &mut self,
-        rt: &R,
-        all: &mut Shares<N>,
-        pops: &mut Pops<N, M>,
-    ) -> Counts
-        requires turns { (pops.old.turns.parts ≡ N.turns.parts) × (0 < pops.old.turns.parts) }
-        requires parts { (all.old.taken.parts ≡ N.taken.parts) × (all.old.refused.parts ≡ N.refused.parts) × (all.old.configured.parts ≡ N.configured.parts) }
-        ensures amounts { (result.taken ≡ all.old.taken.amount) × (result.refused ≡ all.old.refused.amount) × (configurations result ≡ all.old.configured.amount) }
-        ensures kept { HasSameAmounts all.old all.new }
-        ensures parts { HasSameParts all.old all.new }
-        ensures same { HasPoppedNone pops.old pops.new × HasSameShares pops.old pops.new }
-        ensures looked { HasLooked pops.old.front pops.new.front }
-        ensures later { IsPrefix all.old.front pops.new.front }
-        ensures came { came_in pops.new.front ≡ (all.old.taken.amount + all.old.refused.amount) + all.old.configured.amount }
-        ensures said { ∥ AreSaid (WasRead C.Settings.says C.Settings.fits N.settings) pops.new.front ∥₁ }
-    {
-        self.show(rt, pops);
-        let counts = self.counts();
-        let Recorder {
-            core,
-            taken,
-            refused,
-            configured,
-            ..
-        } = self;
-        taken.audit(&mut all.taken);
-        refused.audit(&mut all.refused);
-        configured.audit(&mut all.configured);
-        core.log.look(rt, &mut all.front);
-        counts
-    }
-
-    /// Shows all steps to who pops, among them all that these shares saw. Each was read from bytes that say it.
-    pub fn look<M, R: Wait>(&mut self, rt: &R, all: &mut Shares<N>, pops: &mut Pops<N, M>)
-        requires { (pops.old.turns.parts ≡ N.turns.parts) × (0 < pops.old.turns.parts) }
-        ensures kept { HasSameAmounts all.old all.new × HasSameParts all.old all.new }
-        ensures same { HasPoppedNone pops.old pops.new × HasSameShares pops.old pops.new }
-        ensures looked { HasLooked pops.old.front pops.new.front }
-        ensures later { IsPrefix all.old.front pops.new.front }
-        ensures said { ∥ AreSaid (WasRead C.Settings.says C.Settings.fits N.settings) pops.new.front ∥₁ }
-    {
-        self.show(rt, pops);
-        self.core.log.look(rt, &mut all.front);
-    }
-
-    /// For each column the count that waits to be stored.
-    pub fn waiting<M, R: Wait>(&mut self, rt: &R, pops: &mut Pops<N, M>) -> [u16; MAX_PMUS]
-        requires { (pops.old.turns.parts ≡ N.turns.parts) × (0 < pops.old.turns.parts) }
-        ensures value { (g : Given) (E : List Entry) → C.stands_for self.old.core.state g E → result ≡ waiting_counts g E }
-        ensures looked { HasLooked pops.old.front pops.new.front }
-        ensures same { HasPoppedNone pops.old pops.new × HasSameShares pops.old pops.new }
-        ensures waits { InTheLife C.rules N.given pops.new.front (λ g E. result ≡ waiting_counts g E) }
-    {
-        self.show(rt, pops);
-        self.core.state.waiting()
     }
 }
 

@@ -1,5 +1,5 @@
 -- When an open instant closes, and the row that it closes to (this profile).
-use Rattle.std.specs.Prelude.{if◌then◌else◌, ◌+◌, ◌==◌, ◌||◌}
+use Rattle.std.specs.Prelude.{if◌then◌else◌, ◌+◌, ◌==◌, ◌||◌, ◌∷◌, [], false}
 use Rattle.pdc_life.specs.Names.{BlockView, Bool, CellView, filter, filter_map, is_some, List, list_all, map, nat_le, None, not, Option, option_map, quality_of, RowView, SectionFields, Some, time_quality_of, true, ℕ}
 use Rattle.pdc_row.specs.Chosen.{block_or_absent, first_of, present_of}
 use Rattle.pdc_life.specs.Given.{Given, columns_of, streams_of}
@@ -22,6 +22,19 @@ is_over Absolute wait age now i = nat_le (i + wait) now
 -- At a tick after E an instant is due where each stream that it waits for has come, or its wait is over, this tick counted.
 abbrev pub is_due : Given → List Entry → (now i : ℕ) → Bool
 is_due g E now i = list_all (is_not_awaited g E i) (streams_of g) || is_over g.wait_kind g.wait (age_of E i + 1) now i
+
+-- An open instant is whole where each stream that it waits for has come.
+abbrev pub is_whole_at : Given → List Entry → ℕ → Bool
+is_whole_at g E i = list_all (is_not_awaited g E i) (streams_of g)
+
+-- the first of these instants is whole; where there is none, nothing is
+abbrev pub is_first_whole : Given → List Entry → List ℕ → Bool
+is_first_whole g E [] = false
+is_first_whole g E (i ∷ is) = is_whole_at g E i
+
+-- The lowest open instant is whole: the open ones rise.
+abbrev pub is_whole : Given → List Entry → Bool
+is_whole g E = is_first_whole g E (open_instants g E)
 
 -- The instants that close at the tick: the open ones for which every open one up to them is due.
 abbrev pub closing : Given → List Entry → (now : ℕ) → List ℕ

@@ -232,6 +232,10 @@ impl<T: Table> Core for Node<T> {
         self.alignment.next_due()
     }
 
+    fn is_whole(&self) -> bool {
+        self.alignment.is_whole()
+    }
+
     /// Appends the frame of the layout in force: the node's own section, and those in force.
     fn layout_frame<B: Buffer>(&self, soc: u32, out: &mut B) -> Result<(), AllocError> {
         append_layout_frame(

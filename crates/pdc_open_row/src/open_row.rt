@@ -195,11 +195,18 @@ impl OpenRow {
         self.held[column] = NOTHING;
     }
 
+    /// Whether every required stream was taken.
+    pub fn is_whole(&self, required: &[bool]) -> bool
+        ensures { result ≡ all_taken required.now self.now.taken }
+    {
+        all_taken(required, self.taken.as_slice())
+    }
+
     /// Whether every required stream was taken, or the wait is over, at this age.
     pub fn is_due(&self, age: u64, required: &[bool], rule: WaitRule) -> bool
         ensures { result ≡ is_due required.now rule (at_age age self.now) }
     {
-        rule.is_over(age, self.instant) || all_taken(required, self.taken.as_slice())
+        rule.is_over(age, self.instant) || self.is_whole(required)
     }
 
     /// How many columns with a shape hold present blocks in both lanes that differ.

@@ -50,6 +50,19 @@ pub trait Source {
         ensures row { row_left self.new ≤ row_left self.old }
     {}
 
+    /// Whether it wants to be told, behind each of its datagrams, whether the lowest open row is whole. One that says nothing of it never does.
+    fn wants_whole(&self) -> bool {
+        false
+    }
+
+    /// Takes that the lowest open row has come whole: every stream that it waits for was taken. A source that wants to know nothing of it passes
+    /// it over.
+    fn whole(&mut self)
+        ensures tells { (heard : List Heard) → told self.old heard → told self.new heard }
+        ensures failures { failures_of self.old ≤ failures_of self.new }
+        ensures row { row_left self.new ≤ row_left self.old }
+    {}
+
     /// How often its device failed. It stays at its greatest value.
     fn failures(&self) -> u64
         ensures { result ≡ failures_of self.now };

@@ -1,5 +1,5 @@
 -- What each call of a table answers, and what it makes of the content (this profile).
-use Rattle.std.specs.Prelude.{ℕ, ◌+◌, ◌++◌, nat_le, Bool, not, if◌then◌else◌, List, [], ◌∷◌, length, map, drop, Option, Some, None, option_map, slice_set}
+use Rattle.std.specs.Prelude.{ℕ, ◌+◌, ◌++◌, nat_le, Bool, false, not, if◌then◌else◌, List, [], ◌∷◌, length, map, drop, Option, Some, None, option_map, slice_set}
 use Rattle.std.specs.List.{list_all, slice_get}
 use Rattle.pdc_open_row.specs.pdc_cfg.declared.shape.Shape.{Shape}
 use Rattle.pdc_open_row.specs.pdc_row.CellView.{BlockView, CellView}
@@ -7,6 +7,7 @@ use Rattle.pdc_open_row.specs.pdc_row.Quality.{greatest}
 use Rattle.pdc_open_row.specs.pdc_row.Rising.{is_near}
 use Rattle.pdc_open_row.specs.pdc_row.RowView.{RowView}
 use Rattle.pdc_open_row.specs.Chosen.{disagreements_of}
+use Rattle.pdc_open_row.specs.Due.{all_taken}
 use Rattle.pdc_open_row.specs.Row.{row_of}
 use Rattle.pdc_table.specs.OpenInstants.{instants_of}
 use Rattle.pdc_table.specs.Closing.{aged, closing, staying, counter}
@@ -101,6 +102,15 @@ pop_answer c = slice_get c.closed 0
 -- and its instant
 abbrev pub next_answer : Content → Option ℕ
 next_answer c = option_map (λ (row : RowView). row.instant) (pop_answer c)
+
+-- the first of these rows was brought all that it waits for; where there is none, nothing was
+abbrev pub is_first_whole : List Bool → List OpenRowView → Bool
+is_first_whole required [] = false
+is_first_whole required (row ∷ rows) = all_taken required row.taken
+
+-- whether the lowest open row, which is the first, was brought all that it waits for
+abbrev pub whole_answer : Content → Bool
+whole_answer c = is_first_whole c.required c.open_rows
 
 abbrev pub after_pop : Content → Content
 after_pop c = record c { closed = drop 1 c.closed }

@@ -15,7 +15,7 @@ ghost use Rattle.pdc_open_row.specs.Due.{is_due};
 ghost use Rattle.pdc_open_row.specs.Layout.{layout_view};
 ghost use Rattle.pdc_table.specs.RingRows.{base_row, changed, copied, met_row, row_in, rows_in, with_ages};
 ghost use Rattle.pdc_open_row.specs.Views.{OpenRowView, blank_row, without_instant};
-ghost use Rattle.pdc_table.specs.Steps.{disagreements_in};
+ghost use Rattle.pdc_table.specs.Steps.{disagreements_in, is_first_whole};
 ghost use Rattle.pdc_open_row.specs.Taking.{answer_at, is_taken, with_frame, without_column, without_stream};
 
 use crate::ages::Ages;
@@ -307,6 +307,21 @@ pub fn count_due(rows: &Rows, circle: &Circle, required: &[bool], rule: WaitRule
         count += 1;
     }
     count
+}
+
+/// Whether the first open row was brought all that it waits for.
+pub fn is_first_whole(rows: &Rows, circle: &Circle, required: &[bool]) -> bool
+    requires size { length rows.now.places.items ≡ circle.now.window }
+    requires ages_size { length rows.now.ages.items ≡ circle.now.window }
+    ensures { result ≡ is_first_whole required.now (rows_in (with_ages rows.now.places.items rows.now.ages.items) circle.now.window rows.now.open.items) }
+{
+    match rows.open.as_slice().first() {
+        Some(instant) => {
+            let place = circle.place_of(*instant);
+            rows.places.item(place).is_whole(required)
+        }
+        None => false,
+    }
 }
 
 /// The count of disagreements after the rows of these instants closed.

@@ -237,6 +237,10 @@ impl Table for RingTable {
         ring_closing::first(&self.closed.instants)
     }
 
+    fn is_whole(&self) -> bool {
+        ring::is_first_whole(&self.rows, &self.circle, self.required.as_slice())
+    }
+
     fn last(&self) -> u64 {
         self.closed.last
     }

@@ -8,7 +8,7 @@ ghost use Rattle.pdc_table.specs.Content.{Content, HasSizesOf, HaveLayoutShapes,
 ghost use Rattle.pdc_table.specs.KeptRow.{popped_into};
 ghost use Rattle.pdc_open_row.specs.Layout.{layout_view};
 ghost use Rattle.pdc_open_row.specs.Parts.{cut_cells, parts_len};
-ghost use Rattle.pdc_table.specs.Steps.{after_drop_column, after_drop_stream, after_pop, after_put, after_require, after_tick, closed_by, disagreements_after, next_answer, pop_answer, put_answer, shape_of, shapes_given, tick_answer};
+ghost use Rattle.pdc_table.specs.Steps.{after_drop_column, after_drop_stream, after_pop, after_put, after_require, after_tick, closed_by, disagreements_after, next_answer, pop_answer, put_answer, shape_of, shapes_given, tick_answer, whole_answer};
 ghost use Rattle.pdc_open_row.specs.Taking.{body_cells_of, cells_of};
 
 use crate::{MAX_COLUMNS, MAX_LANES, MAX_WINDOW, MIN_WINDOW, PutOutcome, RowLayout, WaitRule};
@@ -197,6 +197,10 @@ pub trait Table: Drop {
     /// The instant of the lowest closed row that was not popped.
     fn next_due(&self) -> Option<u64>
         ensures { result ≡ next_answer (content self.now) };
+
+    /// Whether the lowest open instant has all that it waits for: every required stream was taken. Where none is open, none has.
+    fn is_whole(&self) -> bool
+        ensures { result ≡ whole_answer (content self.now) };
 
     /// The greatest instant closed, at first the floor.
     fn last(&self) -> u64

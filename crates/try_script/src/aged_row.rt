@@ -3,7 +3,7 @@ ghost use Rattle.std.specs.Prelude.{◌≡◌, ℕ, ◌<◌, ◌≤◌, length, 
 ghost use Rattle.std.specs.List.{All};
 ghost use Rattle.pdc_row.specs.RowView.{row_view};
 ghost use Rattle.pdc_table.specs.Closing.{aged};
-ghost use Rattle.pdc_table.specs.pdc_open_row.Due.{is_due};
+ghost use Rattle.pdc_table.specs.pdc_open_row.Due.{all_taken, is_due};
 ghost use Rattle.pdc_table.specs.pdc_open_row.Layout.{layout_view};
 ghost use Rattle.pdc_table.specs.pdc_open_row.Row.{row_of};
 ghost use Rattle.pdc_table.specs.pdc_open_row.Taking.{answer_at, cells_in, is_taken, with_frame, without_column, without_stream};
@@ -103,6 +103,13 @@ impl AgedRow {
         ensures { self.new ≡ aged self.old }
     {
         self.age = self.age.saturating_add(1);
+    }
+
+    /// Whether every required stream was taken.
+    pub fn is_whole(&self, required: &[bool]) -> bool
+        ensures { result ≡ all_taken required.now self.now.taken }
+    {
+        self.row.is_whole(required)
     }
 
     /// Whether every required stream was taken, or the wait is over.

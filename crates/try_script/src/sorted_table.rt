@@ -184,6 +184,13 @@ impl Table for SortedTable {
         Some(row.instant)
     }
 
+    fn is_whole(&self) -> bool {
+        match self.rows.as_slice().first() {
+            Some(row) => row.is_whole(self.required.as_slice()),
+            None => false,
+        }
+    }
+
     fn last(&self) -> u64 {
         self.last
     }

@@ -26,14 +26,14 @@ loop-preserved-in-Ok g c =
     let taken : c.match-answer.taken ≡ c.loop.taken + taken_by c.in-Ok.answer.answer = search (rules, c.match-answer.branch) in
     let refused : c.match-answer.refused ≡ c.loop.refused + refused_by c.in-Ok.answer.answer = search (rules, c.match-answer.branch) in
     let configured : c.hand_in.new.shares.configured.amount ≡ c.loop.shares.configured.amount + configured_by c.in-Ok.answer.answer = c.in-Ok.ensures.configured in
-    let told : (hs : List Heard) → g.S.Source.told c.loop.source hs → g.S.Source.told c.answered.new.self (hs ++ Gave bytes ∷ []) = λ hs t. c.answered.ensures.tells _ (c.in-Datagram.ensures.tells hs t) in (
+    let told : (hs : List Heard) → g.S.Source.told c.loop.source hs → g.S.Source.told c.tell_whole.new.source (hs ++ Gave bytes ∷ []) = λ hs t. c.tell_whole.ensures.tells _ (c.answered.ensures.tells _ (c.in-Datagram.ensures.tells hs t)) in (
       search rules,
       search rules,
       search rules,
       search rules,
       search rules,
       search rules,
-      receiving_on g.S.Source.told c.args.source.now c.loop.source c.answered.new.self g.C.Core.rules g.N.Naming.given c.args.place.stream c.loop.shares.front c.hand_in.new.shares.front c.loop.taken c.loop.refused c.loop.shares.configured.amount c.match-answer.taken c.match-answer.refused c.hand_in.new.shares.configured.amount bytes c.in-Ok.answer.answer
+      receiving_on g.S.Source.told c.args.source.now c.loop.source c.tell_whole.new.source g.C.Core.rules g.N.Naming.given c.args.place.stream c.loop.shares.front c.hand_in.new.shares.front c.loop.taken c.loop.refused c.loop.shares.configured.amount c.match-answer.taken c.match-answer.refused c.hand_in.new.shares.configured.amount bytes c.in-Ok.answer.answer
           c.loop.invariant.6 told answer taken refused configured,
     )
 
