@@ -40,6 +40,7 @@ nothing_run answers Says g output rate every told gave ticker found sources took
   sent = refl;
   whole = tt;
   entries = tt;
+  published = tt;
   aligned = Err NoMemory;
   device = unharmed found.standing;
   ended = AlignerGone;

@@ -1,3 +1,5 @@
+mod Counting
 mod Endings
+mod Headlines
 mod Meetings
 mod Outcomes

@@ -5,6 +5,7 @@ use Rattle.std.proofs.lemmas.List.Sums.{sum-map, sum_by-cons}
 use mathlib.Core.List.{IsPrefix}
 use Rattle.pdc_aligner.specs.Device.{HasDevice}
 use Rattle.pdc_aligner.specs.Laid.{AreDone, IsDone, IsLaid, IsLaidBut, are_done, frames_of, is_done}
+use Rattle.pdc_aligner.specs.Sequence.{instants_of}
 use Rattle.pdc_aligner.specs.Turns.{HasTicked, NeverFall}
 use Rattle.pdc_aligner.proofs.Laying.{are_done_seen, but_seen, done_seen, laid_seen}
 use Rattle.pdc_aligner.proofs.Ticking.{look_ticks}
@@ -33,6 +34,7 @@ use Rattle.pdc_threads.specs.Ended.{AreFor, Ending, HasEndedOf, fault_in, first_
 use Rattle.pdc_threads.specs.OneRun.{Found, IsBrought, IsOneRun}
 use Rattle.pdc_threads.specs.declared.receivers.Counted.{Counted}
 use Rattle.pdc_threads.specs.declared.telling.Totals.{Totals}
+use Rattle.pdc_threads.proofs.Counting.{tells_popped}
 
 -- what a stream brought, by what it is
 abbrev pub StandsAmong : Rules → Given → List ReadStep → ℕ → List (List ℕ × Outcome) → Type 0
@@ -179,11 +181,11 @@ pub one_run : {S K : Type 0} (SaysOf : K → Sayings) (fits : K → ℕ → Arri
     → AreFor (HasEndedOf told (λ s. AreBrought rules named s joined)) 0 sources endings → (complete ≡ true → length endings ≡ length sources)
     → OnOk aligned (IsLaid rules named output rate every seen put) → IsLaidBut rules named output rate every seen put → HasTicked Gave before.stored.counts after.stored.counts (ticks_of seen) aligned
     → OnOk aligned (IsDone rules named seen) → AreDone rules named seen → HasDevice before.standing after.standing aligned → HasHandedOn Took put ended → HasSinkCause ended before.failures after.failures
-    → IfOk outcome (λ totals. aligned ≡ Ok totals.published) → OnOk outcome (ended ≡ AtEndMark) → OnOk outcome (complete ≡ true)
+    → IfOk outcome (λ totals. aligned ≡ Ok totals.published) → IfOk aligned (λ published. published ≡ length (instants_of put)) → OnOk outcome (ended ≡ AtEndMark) → OnOk outcome (complete ≡ true)
     → IfOk outcome (λ totals. totals.receivers.items ≡ map (λ e. e.counted) endings) → fault_in outcome ≡ first_fault (first_of endings) complete aligned ended
     → (g : Given) → named ≡ Some g → ∥ IsOneRun rules (SaysOf now) g output rate every told sources Gave Took before after outcome ∥₁
 one_run SaysOf fits settings now rules named output rate every told sources {Gave} {Took} before after outcome seen joined log complete endings put aligned ended
-    is looked later said came received whole laid but ticked done dones device handed cause same at all entries fault g name =
+    is looked later said came received whole laid but ticked done dones device handed cause same many at all entries fault g name =
     let ticks : ticks_of log ≡ ticks_of seen = look_ticks seen log looked in
     ∥∥₁_elim (done_here rules named seen log outcome aligned g name looked same done dones) ∥∥₁_prop (λ d. ∥∥₁_elim (frames_put rules named output rate every seen log put aligned g name looked laid but) ∥∥₁_prop (λ f. ∥∥₁_elim (all_among told rules named g joined log 0 sources endings name later received) ∥∥₁_prop (λ r. ∥∥₁_map said (λ says.
     let own = own_at told (StandsAmong rules g log) 0 sources endings r in
@@ -208,6 +210,7 @@ one_run SaysOf fits settings now rules named output rate every told sources {Gav
       sent = f.1 ∙ (ap (λ l. l ++ f.0) handed.first ∙ append_assoc handed.given handed.rest f.0);
       whole = all_sent outcome aligned complete ticked.failed put ended handed f.0 (is_done (life_of rules g log) ≡ true) same at all ticked.whole f.2 d.1;
       entries = entries;
+      published = tells_popped g output rate every (life_of rules g log) put f.0 outcome aligned same many f.2 f.1;
       aligned = aligned;
       device = device;
       ended = ended;

@@ -160,6 +160,7 @@ none_conducted answers Says named told sources pace gave ticker output lead last
         sent = sym (ap bytes_of e ∙ none_sent ended) ∙ t.first;
         whole = tt;
         entries = tt;
+        published = tt;
         aligned = Err NoMemory;
         device = record { no_fewer = omega arith; caused = search rules; sound = tt };
         ended = sent;

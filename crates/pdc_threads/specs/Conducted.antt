@@ -1,7 +1,8 @@
 -- All that a run promises, over its inputs (this profile).
-use Rattle.std.specs.Prelude.{◌≡◌, ℕ, List, length, Option, Result, Some}
+use Rattle.std.specs.Prelude.{◌≡◌, ℕ, List, length, map, Option, Result, Some}
 use Rattle.pdc_aligner.specs.Device.{standing_of}
 use Rattle.pdc_aligner.specs.declared.pace.Pace.{Pace}
+use Rattle.pdc_hub.specs.Pops.{popped_by}
 use Rattle.pdc_hub.specs.Replay.{Sayings}
 use Rattle.pdc_hub.specs.declared.fault.HubFault.{HubFault}
 use Rattle.pdc_life.specs.Answer.{Rules}
@@ -12,7 +13,9 @@ use Rattle.pdc_ports.specs.Heard.{Heard}
 use Rattle.pdc_publisher.specs.Publisher.{last_in, lead_in, mark_in, output_in}
 use Rattle.pdc_publisher.specs.declared.publisher.Publisher.{Publisher}
 use Rattle.pdc_threads.specs.OneRun.{Found, IsOneRun, found_by}
-use Rattle.pdc_threads.specs.Run.{ArePublished, HasEach, HasRun, IsCausedByMark, IsCausedBySink, IsSummed}
+use Rattle.pdc_threads.specs.Run.{ArePublished, GivesFrom, HasEach, HasRun, IsCausedByMark, IsCausedBySink, IsSummed}
+use Rattle.pdc_threads.specs.declared.crew.Finished.{Finished}
+use Rattle.pdc_threads.specs.declared.crew.Manned.{Manned}
 use Rattle.pdc_threads.specs.declared.telling.Totals.{Totals}
 
 -- A publisher as a run finds or leaves it: what its frames say, how many instants it reserves ahead, the last one that it published, and how
@@ -38,3 +41,9 @@ pub record HasConducted {S : Type 0} (rules : Rules) (Says : Sayings) (named : O
   pub popped : ArePublished outcome before.popped after.popped
   pub run : HasRun Took before.last after.found.stored.floor outcome
   pub one : (g : Given) → named ≡ Some g → ∥ IsOneRun rules Says g before.output pace.rate pace.layout_every told sources Gave Took before.found after.found outcome ∥₁
+
+-- So a run did it that is over, of the crew that it was given.
+abbrev pub HasRunAs : {N W P M I K : Type 0} {g : _} {h : _} (rules : Rules) (Says : Sayings) (named : Option Given) (told : P → List Heard → Type 0) (gave : I → List ℕ → Type 0) (took : K → K → List (List ℕ) → Type 0) (failures_of : K → ℕ) → Manned N W P M I K g → Finished N M K h → Type 0
+HasRunAs rules Says named told gave took failures_of manned over =
+    HasConducted rules Says named told (map (λ i. i.source) manned.inputs.items) manned.pace (GivesFrom gave manned.aligner.ticker) (took manned.sink over.ran.sink)
+    (publishing_of manned.aligner.publisher (popped_by manned.aligner.pops) (failures_of manned.sink)) (publishing_of over.ran.publisher (popped_by over.pops) (failures_of over.ran.sink)) over.ran.outcome

@@ -3,6 +3,7 @@ pub mod Conducted
 pub mod Counted
 pub mod Crew
 pub mod Ended
+pub mod Headline
 pub mod OneRun
 pub mod Opened
 pub mod Rate

@@ -7,6 +7,7 @@ use Rattle.pdc_hub.specs.Replay.{Sayings}
 use Rattle.pdc_hub.specs.declared.fault.HubFault.{HubFault}
 use Rattle.pdc_life.specs.Answer.{IsLife, ReadStep, Rules}
 use Rattle.pdc_life.specs.Given.{Given}
+use Rattle.pdc_life.specs.Life.{popped}
 use Rattle.pdc_life.specs.declared.outcome.Outcome.{Outcome}
 use Rattle.pdc_log.specs.Among.{IsAmong}
 use Rattle.pdc_log.specs.Log.{brought, life_of, ticks_of}
@@ -37,8 +38,8 @@ pub record IsBrought (complete : Bool) (all own : List (List ℕ × Outcome)) : 
 -- the instants of the ticks, and of one more at most, which failed before it was a step; and no count falls from those that the mark stored
 -- before, over those that the ticks were handed, to those that it stores then. All rows that were due were popped before the next tick, and in
 -- the end where the run is Ok. What the sink took are the first of the frames of the life, in
--- order; all of them where the run is Ok. The entries of the totals are what the receivers counted; or the run tells the first fault of its
--- parts: by the mark's device only where that failed or a fault stood on it, and by the sink only where that failed.
+-- order; all of them where the run is Ok, which tells how many rows were popped. The entries of the totals are what the receivers counted; or
+-- the run tells the first fault of its parts: by the mark's device only where that failed or a fault stood on it, and by the sink only where that failed.
 pub record IsOneRun {S : Type 0} (rules : Rules) (Says : Sayings) (g : Given) (output : Output) (rate every : ℕ) (told : S → List Heard → Type 0) (sources : List S)
     (Gave : List ℕ → Type 0) (Took : List (List ℕ) → Type 0) (before after : Found) (outcome : Result Totals HubFault) : Type 0 where
   pub steps : List ReadStep
@@ -58,6 +59,7 @@ pub record IsOneRun {S : Type 0} (rules : Rules) (Says : Sayings) (g : Given) (o
   pub sent : frames_of g output rate every (life_of rules g steps) ≡ given ++ rest
   pub whole : OnOk outcome ((complete ≡ true) × (failed ≡ []) × (rest ≡ []) × (is_done (life_of rules g steps) ≡ true))
   pub entries : IfOk outcome (λ totals. totals.receivers.items ≡ map (λ e. e.counted) endings)
+  pub published : IfOk outcome (λ totals. totals.published ≡ length (popped (life_of rules g steps)))
   pub aligned : Result ℕ HubFault
   pub device : HasDevice before.standing after.standing aligned
   pub ended : Ended

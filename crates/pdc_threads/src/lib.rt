@@ -4,16 +4,19 @@
 //! The first call to look at is [`run`]. What goes from the aligner to the sender is a [`Message`], through the channel of `pdc_pipe`.
 //!
 //! The promise to the layers above: what the sink took is a prefix of what the aligner put, whose instants strictly rise, lie above the
-//! floor that was stored before, and are at most the floor that is stored then.
+//! floor that was stored before, and are at most the floor that is stored then. What these frames are, in terms of what the sources gave,
+//! is the law [`runs_keep_headline`].
 #![tactic(auto)]
 
 mod crew;
+mod laws;
 mod outside;
 mod receivers;
 mod runs;
 mod telling;
 
 pub use crew::{Crew, Finished, Ran};
+pub use laws::runs_keep_headline;
 pub use outside::{Beside, Outside};
 pub use pdc_aligner::{Aligned, Aligner, Pace, align, tick_cleared};
 pub use pdc_hub::{

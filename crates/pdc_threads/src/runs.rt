@@ -1,5 +1,5 @@
 //! A run of all receivers beside the aligner and the sender.
-ghost use Rattle.std.specs.Prelude.{◌≡◌, ◌≤◌, ◌<◌, ◌+◌, ◌++◌, ◌∷◌, ℕ, Bool, Err, IfErr, IfOk, List, None, Ok, OnOk, Option, Some, [], false, length, map, sum, true, vec_len};
+ghost use Rattle.std.specs.Prelude.{◌≡◌, ◌≤◌, ◌<◌, ◌+◌, ◌++◌, ◌∷◌, ℕ, Bool, Err, IfErr, IfOk, List, None, Ok, OnOk, Option, Some, [], false, length, true, vec_len};
 ghost use Rattle.crossbeam_channel.specs.Claims.{IsSeatAt, view};
 ghost use Rattle.crossbeam_channel.specs.Ends.{receives_on, sends_on};
 ghost use Rattle.pdc_pipe.specs.Pipe.{log};
@@ -15,7 +15,7 @@ ghost use Rattle.pdc_log.specs.Log.{InTheLife, ticks_of};
 ghost use Rattle.pdc_pipe.specs.HandedOn.{HasHandedOn, HasSinkCause};
 ghost use Rattle.pdc_pipe.specs.Writing.{IsOpen, put_by};
 ghost use Rattle.pdc_publisher.specs.Publisher.{last_in, lead_in, mark_in, output_in};
-ghost use Rattle.pdc_threads.specs.Conducted.{HasConducted, publishing_of};
+ghost use Rattle.pdc_threads.specs.Conducted.{HasRunAs};
 ghost use Rattle.pdc_threads.specs.Counted.{HasCounted};
 ghost use Rattle.pdc_threads.specs.Crew.{IsReady};
 ghost use Rattle.pdc_threads.specs.OneRun.{IsOneRun, found_by};
@@ -60,7 +60,7 @@ where
     W::Sink: 's,
     requires ready { IsReady intake.now manned (W.Mark.stored (mark_in manned.aligner.publisher)) }
     requires ends { (receives_on from.now ≡ sends_on manned.aligner.writer.to) × IsSeatAt (receives_on from.now) manned.reader × (view manned.reader ≡ log false true false [] []) }
-    ensures conducted { HasConducted C.rules (C.Settings.says intake.now.settings.now) N.given W.Source.told (map (λ i. i.source) manned.inputs.items) manned.pace (GivesFrom W.Ticker.gave manned.aligner.ticker) (W.Sink.took manned.sink result.ran.sink) (publishing_of manned.aligner.publisher (popped_by manned.aligner.pops) (W.Sink.failures_of manned.sink)) (publishing_of result.ran.publisher (popped_by result.pops) (W.Sink.failures_of result.ran.sink)) result.ran.outcome }
+    ensures conducted { HasRunAs C.rules (C.Settings.says intake.now.settings.now) N.given W.Source.told W.Ticker.gave W.Sink.took W.Sink.failures_of manned result }
     ensures counted { IfOk result.ran.outcome (HasCounted result.shares N.taken.parts N.refused.parts N.configured.parts) }
 {
     let Manned {
@@ -180,7 +180,7 @@ where
     W::Sink: 'x,
     requires ready { IsReady intake.now manned (W.Mark.stored (mark_in manned.aligner.publisher)) }
     requires ends { (receives_on from.now ≡ sends_on manned.aligner.writer.to) × IsSeatAt (receives_on from.now) manned.reader × (view manned.reader ≡ log false true false [] []) }
-    ensures conducted { HasConducted C.rules (C.Settings.says intake.now.settings.now) N.given W.Source.told (map (λ i. i.source) manned.inputs.items) manned.pace (GivesFrom W.Ticker.gave manned.aligner.ticker) (W.Sink.took manned.sink result.ran.sink) (publishing_of manned.aligner.publisher (popped_by manned.aligner.pops) (W.Sink.failures_of manned.sink)) (publishing_of result.ran.publisher (popped_by result.pops) (W.Sink.failures_of result.ran.sink)) result.ran.outcome }
+    ensures conducted { HasRunAs C.rules (C.Settings.says intake.now.settings.now) N.given W.Source.told W.Ticker.gave W.Sink.took W.Sink.failures_of manned result }
     ensures counted { IfOk result.ran.outcome (HasCounted result.shares N.taken.parts N.refused.parts N.configured.parts) }
 {
     thread::scope(
@@ -189,7 +189,7 @@ where
         move |scope| -> Finished<N, W::Mark, W::Sink>
             requires ready { IsReady intake.now manned (W.Mark.stored (mark_in manned.aligner.publisher)) }
             requires ends { (receives_on from.now ≡ sends_on manned.aligner.writer.to) × IsSeatAt (receives_on from.now) manned.reader × (view manned.reader ≡ log false true false [] []) }
-            ensures conducted { HasConducted C.rules (C.Settings.says intake.entry.now.settings.now) N.given W.Source.told (map (λ i. i.source) manned.inputs.items) manned.pace (GivesFrom W.Ticker.gave manned.aligner.ticker) (W.Sink.took manned.sink result.ran.sink) (publishing_of manned.aligner.publisher (popped_by manned.aligner.pops) (W.Sink.failures_of manned.sink)) (publishing_of result.ran.publisher (popped_by result.pops) (W.Sink.failures_of result.ran.sink)) result.ran.outcome }
+            ensures conducted { HasRunAs C.rules (C.Settings.says intake.entry.now.settings.now) N.given W.Source.told W.Ticker.gave W.Sink.took W.Sink.failures_of manned result }
             ensures counted { IfOk result.ran.outcome (HasCounted result.shares N.taken.parts N.refused.parts N.configured.parts) }
         { conduct(scope, rt, alloc, intake, from, manned) },
     )
@@ -231,7 +231,7 @@ where
     requires turns { (crew.pops.turns.parts ≡ N.turns.parts) × (0 < crew.pops.turns.parts) }
     requires begun { crew.pops.front ≡ [] }
     // The totals are the sums over the receivers, and the amounts of the shares, which are whole again: so they are the core's counters.
-    ensures totals { IfOk result.ran.outcome (λ t. (t.taken ≡ sum (map (λ c. c.taken) t.receivers.items)) × (t.refused ≡ sum (map (λ c. c.refused) t.receivers.items))) }
+    ensures totals { IsSummed result.ran.outcome }
     ensures counted { IfOk result.ran.outcome (HasCounted result.shares N.taken.parts N.refused.parts N.configured.parts) }
     // Each source has an entry.
     ensures each { HasEach result.ran.outcome (vec_len crew.sources) }

@@ -66,7 +66,7 @@ returns-clause-conducted g c =
           subst (λ s. HasEndedOf g.W.Source.Source.told (λ s. AreBrought g.C.Core.rules g.N.Naming.given s front) s stream ending) placed.0
           (subst (λ n. HasEndedOf g.W.Source.Source.told (λ s. AreBrought g.C.Core.rules g.N.Naming.given s front) handle.promise.source.value n ending) placed.1 kept.0))
           c.start_all-started.ensures.placed joined.ended.are_kept)
-          all aligned.laid aligned.but aligned.ticked aligned.done aligned.are_done aligned.device t cause c.outcome-outcome.ensures.published c.outcome-outcome.ensures.ended (all_complete outcome (vec_len c.join_all-joined.result.receivers) complete receivers) entries
+          all aligned.laid aligned.but aligned.ticked aligned.done aligned.are_done aligned.device t cause c.outcome-outcome.ensures.published aligned.published c.outcome-outcome.ensures.ended (all_complete outcome (vec_len c.join_all-joined.result.receivers) complete receivers) entries
           (told_of outcome joined.ended.endings c.join_all-joined.result.fault complete c.align_or_close-aligned.result c.settle-sink-2.result.1 joined.ended.first c.outcome-outcome.ensures.told);
     }
 
