@@ -25,7 +25,7 @@ fn export_streams(
 }
 
 /// Writes what comes on standard input as JSON or CSV. The exit status is 0, 1 where a line was refused, and 3 where a stream or memory failed, of
-/// which standard error then tells.
+/// which standard error then tells. Where whoever reads standard output has closed it, it ends in silence with 0.
 ///
 /// # Errors
 ///
@@ -38,6 +38,8 @@ pub fn run_export_command(
     match export_streams(rt, alloc, format) {
         Ok(Shown::All) => Ok(DONE),
         Ok(Shown::SomeRefused) => Ok(REFUSED),
+        // Whoever reads has read enough.
+        Err(ExportFault::Write(fault)) if fault.kind() == io::ErrorKind::BrokenPipe => Ok(DONE),
         Err(fault) => {
             eprintln!(rt; "pdc show: {fault}")?;
             Ok(FAILED)

@@ -19,7 +19,7 @@ fn show_streams(alloc: Global, rt: &(impl Input + Print)) -> Result<Shown, ShowF
 }
 
 /// Shows what comes on standard input. The exit status is 0, 1 where a line was refused, and 3 where a stream or memory failed, of which
-/// standard error then tells.
+/// standard error then tells. Where whoever reads standard output has closed it, it ends in silence with 0.
 ///
 /// # Errors
 ///
@@ -28,6 +28,8 @@ pub fn run_show_command(rt: &(impl Input + Print + Eprint), alloc: Global) -> io
     match show_streams(alloc, rt) {
         Ok(Shown::All) => Ok(DONE),
         Ok(Shown::SomeRefused) => Ok(REFUSED),
+        // Whoever reads has read enough.
+        Err(ShowFault::Write(fault)) if fault.kind() == io::ErrorKind::BrokenPipe => Ok(DONE),
         Err(fault) => {
             eprintln!(rt; "pdc show: {fault}")?;
             Ok(FAILED)
