@@ -8,12 +8,13 @@ use Rattle.toml.specs.Parse.{parse_document}
 use Rattle.toml.specs.View.{items_of, items_view, view}
 use Rattle.toml.specs.declared.value.Value.{Value}
 use Rattle.pdc_settings.specs.Inputs.{EachSays, IsNoInput, IsOneOf, commands_of, streams_in, tcp_of}
-use Rattle.pdc_settings.specs.Network.{IsNetworkFault, IsUnread, fault_at}
+use Rattle.pdc_keys.specs.Places.{IsUnread}
+use Rattle.pdc_settings.specs.Network.{IsNetworkFault, fault_at}
 use Rattle.pdc_settings.specs.Settings.{IsFaultOf}
 use Rattle.pdc_settings.specs.declared.fault.SettingsFault.{SettingsFault}
 use Rattle.pdc_settings.specs.declared.fault.SettingsFault.TheVariants.{Toml, Range, DoubledId, NoMemory}
-use Rattle.pdc_settings.specs.declared.unread.Unread.{Unread}
-use Rattle.pdc_settings.specs.declared.wanted.Wanted.TheVariants as Lacks
+use Rattle.pdc_keys.specs.declared.unread.Unread.{Unread}
+use Rattle.pdc_keys.specs.declared.wanted.Wanted.TheVariants as Lacks
 
 -- each says one, and so does one more value
 says-push : {A : Type 0} (Says : Data → A → Type 0) (values : List Data) (all : List A) (value : Data) (a : A) → EachSays Says (items_of values) all → Says value a → EachSays Says (items_of (values ++ value ∷ [])) (all ++ a ∷ [])

@@ -11,10 +11,10 @@ use Rattle.toml.specs.View.{items_of, items_view, view}
 use Rattle.toml.specs.declared.value.Value.{Value}
 use Rattle.pdc_life.specs.pdc_row.declared.limits.TheConstants.{MAX_PMUS}
 use Rattle.pdc_settings.specs.Entries.{both, count_of, each_of, some_pmus, two_of}
-use Rattle.pdc_settings.specs.Places.{as_place}
-use Rattle.pdc_settings.specs.Network.{IsKeyFault, IsUnread, fault_of, few_outputs, outputs_in}
+use Rattle.pdc_keys.specs.Places.{IsUnread, as_place}
+use Rattle.pdc_settings.specs.Network.{IsKeyFault, fault_of, few_outputs, outputs_in}
 use Rattle.pdc_settings.specs.declared.network.TheConstants.{MAX_OUTPUTS}
-use Rattle.pdc_settings.specs.declared.unread.Unread.{Unread}
+use Rattle.pdc_keys.specs.declared.unread.Unread.{Unread}
 
 both-true : (a b d : Bool) → IsTrue (a && b) → (IsTrue b → IsTrue d) → IsTrue (a && d)
 both-true true b d h k = k h

@@ -12,9 +12,11 @@ use Rattle.pdc_life.specs.declared.timing.WaitKind.TheVariants.{Relative, Absolu
 use Rattle.pdc_life.specs.declared.limits.TheConstants.{MAX_AHEAD, MAX_WAIT}
 use Rattle.pdc_life.specs.pdc_row.declared.limits.TheConstants.{MAX_WINDOW, MIN_WINDOW}
 use Rattle.pdc_publisher.specs.declared.publisher.TheConstants.{MAX_LEAD}
-use Rattle.pdc_settings.specs.Keys.{number_at, number_or, optional_number}
-use Rattle.pdc_settings.specs.declared.limits.TheConstants.{MAX_PORT, MAX_TIME_BASE}
+use Rattle.pdc_keys.specs.Keys.{number_at, number_or, optional_number}
+use Rattle.pdc_keys.specs.declared.limits.TheConstants.{MAX_PORT, MAX_TIME_BASE}
 use Rattle.pdc_settings.specs.declared.service.Service.{Service}
+use Rattle.pdc_settings.specs.declared.service.TickWhen.{TickWhen}
+use Rattle.pdc_settings.specs.declared.service.TickWhen.TheVariants.{Period, Whole}
 use Rattle.pdc_life.specs.declared.timing.Timing.{Timing}
 
 abbrev pub id_in : Members → Option ℕ
@@ -64,6 +66,18 @@ tick_ms_of rate members = optional_number 0 (most_tick_ms rate) (get_member (cod
 abbrev pub tick_ms_in : Members → Option (Option ℕ)
 tick_ms_in members = option_and_then (λ rate. tick_ms_of rate members) (rate_in members)
 
+-- when it ticks, by this name
+abbrev pub tick_named : List ℕ → Option TickWhen
+tick_named name = if pointwise nat_eq name (codes "period") then Some Period else if pointwise nat_eq name (codes "whole") then Some Whole else None
+
+-- when it ticks, as a value says: once a period where it is left out
+abbrev pub tick_of : Option Data → Option TickWhen
+tick_of None = Some Period
+tick_of (Some value) = option_and_then tick_named (as_str value)
+
+abbrev pub tick_in : Members → Option TickWhen
+tick_in members = tick_of (get_member (codes "tick") members)
+
 -- the settings say this of the output
 pub record IsOutput (members : Members) (output : Output) : Type 0 where
   pub id : id_in members ≡ Some output.id.value
@@ -84,6 +98,7 @@ pub record IsService (members : Members) (service : Service) : Type 0 where
   pub layout_every : number_at (codes "layout_every") 1 MAX_PORT members ≡ Some service.layout_every
   pub out_port : number_at (codes "out_port") 1 MAX_PORT members ≡ Some service.out_port
   pub session_port : number_at (codes "session_port") 1 MAX_PORT members ≡ Some service.session_port
+  pub tick : tick_in members ≡ Some service.tick
   pub tick_ms : tick_ms_in members ≡ Some service.tick_ms
 
 -- each of these keys is there, and in its range
@@ -99,7 +114,7 @@ has_timing members =
 abbrev pub has_service : Members → Bool
 has_service members =
     is_some (number_or 0 0 MAX_LEAD (get_member (codes "lead") members)) && (is_some (number_at (codes "layout_every") 1 MAX_PORT members)
-    && (is_some (number_at (codes "out_port") 1 MAX_PORT members) && (is_some (number_at (codes "session_port") 1 MAX_PORT members) && is_some (tick_ms_in members))))
+    && (is_some (number_at (codes "out_port") 1 MAX_PORT members) && (is_some (number_at (codes "session_port") 1 MAX_PORT members) && (is_some (tick_in members) && is_some (tick_ms_in members)))))
 
 abbrev pub has_common : Members → Bool
 has_common members = has_output members && (has_timing members && has_service members)

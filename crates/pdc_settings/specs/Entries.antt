@@ -6,8 +6,8 @@ use Rattle.pdc_life.specs.pdc_row.declared.limits.TheConstants.{MAX_PMUS}
 use Rattle.pdc_life.specs.declared.pmu.Pmu.{Pmu}
 use Rattle.pdc_life.specs.declared.merging.MergedNode.{MergedNode}
 use Rattle.pdc_settings.specs.Common.{time_base_in}
-use Rattle.pdc_settings.specs.Keys.{number_at, number_in}
-use Rattle.pdc_settings.specs.declared.limits.TheConstants.{MAX_PORT}
+use Rattle.pdc_keys.specs.Keys.{number_at, number_in}
+use Rattle.pdc_keys.specs.declared.limits.TheConstants.{MAX_PORT}
 
 -- a PMU, as its table says it
 pub record PmuFields : Type 0 where

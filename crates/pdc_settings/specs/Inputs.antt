@@ -1,30 +1,23 @@
 -- How the frames of each stream come: keys of its table that may be left out (this profile).
-use Rattle.std.specs.Prelude.{◌≡◌, ◌⊎◌, ℕ, List, [], ◌∷◌, codes, if◌then◌else◌, Option, Some, None, IsSomeAnd, option_and_then, option_map, string_bytes}
-use Rattle.std.specs.Net.Grammar.{IsIpText}
+use Rattle.std.specs.Prelude.{◌≡◌, ◌⊎◌, ℕ, List, [], ◌∷◌, codes, if◌then◌else◌, Option, Some, None, option_and_then, option_map, string_bytes}
 use Rattle.std.specs.declared.net.ip_addr.IpAddr.{IpAddr}
 use Rattle.toml.specs.Data.{Data, Items, no_items, item, Members, as_array, as_str, as_table, get_member}
 use Rattle.pdc_settings.specs.Kind.{is_merger}
-use Rattle.pdc_settings.specs.Places.{as_place}
+use Rattle.pdc_keys.specs.Keys.{items_or_none, optional_number}
+use Rattle.pdc_keys.specs.Places.{WritesIp, as_place}
+use Rattle.pdc_keys.specs.declared.limits.TheConstants.{MAX_COUNT}
 use Rattle.pdc_settings.specs.declared.fault.SettingsFault.{SettingsFault}
 use Rattle.pdc_settings.specs.declared.fault.SettingsFault.TheVariants.{Range, NoMemory}
 use Rattle.pdc_settings.specs.declared.input.Input.{Input}
-use Rattle.pdc_settings.specs.declared.wanted.Wanted.TheVariants as Lacks
+use Rattle.pdc_keys.specs.declared.wanted.Wanted.TheVariants as Lacks
 
 -- the tables of the streams: the nodes' of a merger, the PMUs' of a node
-abbrev pub items_or_none : Option Items → Items
-items_or_none None = no_items
-items_or_none (Some values) = values
-
 abbrev pub streams_in : Members → Items
 streams_in members = items_or_none (option_and_then as_array (if is_merger members then get_member (codes "node") members else get_member (codes "pmu") members))
 
 -- the value at a key of one of them
 abbrev pub at_key : List ℕ → Data → Option Data
 at_key key value = option_and_then (get_member key) (as_table value)
-
--- the value is the text of this address
-abbrev pub WritesIp : Data → IpAddr → Type 0
-WritesIp value ip = IsSomeAnd (as_str value) (λ text. IsIpText text ip)
 
 -- a place that may be left out
 abbrev pub place_or_none : Option Data → Option (Option (List ℕ))
@@ -54,17 +47,23 @@ commands_of value = place_beside (at_key (codes "tcp") value) (at_key (codes "co
 abbrev pub HasFrom : Data → Option IpAddr → Type 0
 HasFrom value = IsFrom (at_key (codes "tcp") value) (at_key (codes "from") value)
 
+-- the greatest count that its configurations may have: none where it is left out
+abbrev pub most_count_of : Data → Option (Option ℕ)
+most_count_of value = optional_number 1 MAX_COUNT (at_key (codes "most_count") value)
+
 -- the table of a stream says this of how its frames come
 pub record IsInput (value : Data) (input : Input) : Type 0 where
   pub tcp : tcp_of value ≡ Some (option_map string_bytes input.tcp)
   pub commands : commands_of value ≡ Some (option_map string_bytes input.commands)
   pub from : HasFrom value input.from
+  pub most_count : most_count_of value ≡ Some input.most_count
 
 -- why it says nothing: a key is of another type, or stands beside `tcp`
 abbrev pub IsNoInput : SettingsFault → Data → Type 0
 IsNoInput (Range Lacks.Tcp) value = tcp_of value ≡ None
 IsNoInput (Range Lacks.Commands) value = commands_of value ≡ None
 IsNoInput (Range Lacks.From) value = (from : Option IpAddr) → HasFrom value from → ⊥
+IsNoInput (Range Lacks.MostCount) value = most_count_of value ≡ None
 IsNoInput NoMemory value = Unit {0}
 IsNoInput _ value = ⊥
 

@@ -4,17 +4,17 @@ use Rattle.std.specs.Net.Addr.{IsV4And, ipv4_octets}
 use Rattle.std.specs.declared.net.ip_addr.IpAddr.{IpAddr}
 use Rattle.toml.specs.Data.{Data, Items, Members, as_array, get_member}
 use Rattle.pdc_settings.specs.Entries.{count_of, each_of}
-use Rattle.pdc_settings.specs.Inputs.{EachSays, IsInput, IsNoInput, IsOneOf, WritesIp, streams_in}
-use Rattle.pdc_settings.specs.Keys.{number_or, optional_number}
-use Rattle.pdc_settings.specs.Places.{as_place}
+use Rattle.pdc_settings.specs.Inputs.{EachSays, IsInput, IsNoInput, IsOneOf, streams_in}
+use Rattle.pdc_keys.specs.Keys.{number_or, optional_number}
+use Rattle.pdc_keys.specs.Places.{WritesIp, as_place}
 use Rattle.pdc_settings.specs.declared.fault.SettingsFault.{SettingsFault}
 use Rattle.pdc_settings.specs.declared.fault.SettingsFault.TheVariants.{Range, NoMemory}
-use Rattle.pdc_settings.specs.declared.limits.TheConstants.{MAX_PORT}
+use Rattle.pdc_keys.specs.declared.limits.TheConstants.{MAX_PORT}
 use Rattle.pdc_settings.specs.declared.network.Network.{Network}
 use Rattle.pdc_settings.specs.declared.network.TheConstants.{MAX_OUTPUTS, MAX_RECEIVE_BUFFER, MAX_SESSIONS, MAX_TTL, RECEIVE_BUFFER, SESSIONS, TTL}
-use Rattle.pdc_settings.specs.declared.unread.Unread.{Unread}
-use Rattle.pdc_settings.specs.declared.wanted.Wanted.{Wanted}
-use Rattle.pdc_settings.specs.declared.wanted.Wanted.TheVariants as Lacks
+use Rattle.pdc_keys.specs.declared.unread.Unread.{Unread}
+use Rattle.pdc_keys.specs.declared.wanted.Wanted.{Wanted}
+use Rattle.pdc_keys.specs.declared.wanted.Wanted.TheVariants as Lacks
 
 abbrev pub sessions_in : Members → Option ℕ
 sessions_in members = number_or SESSIONS 1 MAX_SESSIONS (get_member (codes "sessions") members)
@@ -44,11 +44,6 @@ outputs_of (Some value) = option_and_then few_outputs (as_array value)
 
 abbrev pub outputs_in : Members → Option (List (List ℕ))
 outputs_in members = outputs_of (get_member (codes "outputs") members)
-
--- why no texts were read: this lacks, or memory was wanted
-abbrev pub IsUnread : Type 0 → Unread → Type 0
-IsUnread lacks Unread.NoPlace = lacks
-IsUnread lacks Unread.NoMemory = Unit {0}
 
 abbrev pub fault_at : Wanted → Unread → SettingsFault
 fault_at wanted Unread.NoPlace = Range wanted

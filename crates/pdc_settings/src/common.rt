@@ -1,14 +1,14 @@
 //! What a node and the merger are told alike.
 ghost use Rattle.std.specs.Prelude.{◌≡◌, ◌≤◌, IfOk, None, OnErr, OnOk, Some, false, true};
 ghost use Rattle.toml.specs.View.{table_view};
-ghost use Rattle.pdc_settings.specs.Common.{IsOutput, IsService, IsTiming, has_common, has_output, has_service, has_timing, nominal_in, nominal_of, rate_in, tick_ms_in, tick_ms_of, wait_kind_in, wait_kind_named};
+ghost use Rattle.pdc_settings.specs.Common.{IsOutput, IsService, IsTiming, has_common, has_output, has_service, has_timing, nominal_in, nominal_of, rate_in, tick_in, tick_ms_in, tick_ms_of, tick_named, wait_kind_in, wait_kind_named};
 ghost use Rattle.pdc_settings.specs.Settings.{IsCommon};
 
-use crate::keys::{number, number_or, optional_number, value_at};
-use crate::limits::{MAX_PORT, MAX_TIME_BASE, MILLISECONDS};
-use crate::service::Service;
-use crate::wanted::Wanted;
+use crate::service::{Service, TickWhen};
 use pdc_frame::{MAX_ID, MAX_RATE, StreamId};
+use pdc_keys::{
+    MAX_PORT, MAX_TIME_BASE, MILLISECONDS, Wanted, number, number_or, optional_number, value_at,
+};
 use pdc_life::{MAX_AHEAD, MAX_WAIT, MAX_WINDOW, MIN_WINDOW, Timing, WaitKind};
 use pdc_publisher::MAX_LEAD;
 use pdc_row::{Nominal, Output};
@@ -99,6 +99,31 @@ fn timing(table: &Table) -> Result<Timing, Wanted>
     })
 }
 
+fn tick_named(name: &str) -> Option<TickWhen>
+    ensures { result ≡ tick_named name.now }
+{
+    if name == "period" {
+        Some(TickWhen::Period)
+    } else if name == "whole" {
+        Some(TickWhen::Whole)
+    } else {
+        None
+    }
+}
+
+/// When it ticks: once a period where the key is left out.
+fn tick(table: &Table) -> Option<TickWhen>
+    ensures { result ≡ tick_in (table_view table.now) }
+{
+    match value_at(table, "tick") {
+        Some(value) => match value.as_str() {
+            Some(name) => tick_named(name),
+            None => None,
+        },
+        None => Some(TickWhen::Period),
+    }
+}
+
 /// How many milliseconds behind each instant it ticks, fewer than a frame lasts; none where the key is left out.
 fn tick_ms(table: &Table, rate: u16) -> Option<Option<u16>>
     requires { 1 ≤ rate }
@@ -123,6 +148,9 @@ fn service(table: &Table, rate: u16) -> Result<Service, Wanted>
     let layout_every = number(table, "layout_every", 1, most, Wanted::LayoutEvery)?;
     let out_port = number(table, "out_port", 1, most, Wanted::OutPort)?;
     let session_port = number(table, "session_port", 1, most, Wanted::SessionPort)?;
+    let Some(tick) = tick(table) else {
+        return Err(Wanted::Tick);
+    };
     let Some(tick_ms) = tick_ms(table, rate) else {
         return Err(Wanted::TickMs);
     };
@@ -131,6 +159,7 @@ fn service(table: &Table, rate: u16) -> Result<Service, Wanted>
         layout_every: layout_every as u16,
         out_port: out_port as u16,
         session_port: session_port as u16,
+        tick,
         tick_ms,
     })
 }

@@ -1,11 +1,12 @@
 //! A text as a TOML document.
-ghost use Rattle.std.specs.Prelude.{◌≡◌, IfOk, IfErr, IsNone, Some, None, option_map};
+ghost use Rattle.std.specs.Prelude.{◌≡◌, IfOk, IfErr, IsNone, IsSomeAnd, Some, None, map, option_map};
 ghost use Rattle.toml.specs.Parse.{parse_document};
 ghost use Rattle.toml.specs.View.{table_view};
+ghost use Rattle.pdc_keys.specs.Unknown.{unknown_fields, unknown_in};
 ghost use Rattle.pdc_settings.specs.Kind.{IsNoDocument, is_merger};
 
 use crate::fault::SettingsFault;
-use crate::keys::value_at;
+use pdc_keys::{UnknownKey, unknown_keys_in, value_at};
 use std::alloc::Global;
 use toml::Table;
 
@@ -46,4 +47,21 @@ pub fn is_of_merger(alloc: Global, text: &str) -> Result<bool, SettingsFault>
 {
     let table = document(alloc, text)?;
     Ok(is_merger(&table))
+}
+
+/// The keys of a text that nothing reads: those at its top, then those of the tables of nodes, then of PMUs; in each in the order of
+/// their letters.
+///
+/// # Errors
+///
+/// `Toml` where the text is no TOML; `NoMemory` where memory was wanted.
+pub fn unknown_keys(alloc: Global, text: &str) -> Result<Vec<UnknownKey>, SettingsFault>
+    ensures value { IfOk result (λ found. IsSomeAnd (parse_document text.now) (λ members. map unknown_fields found.items ≡ unknown_in members)) }
+    ensures fault { IfErr result (IsNoDocument text.now) }
+{
+    let table = document(alloc, text)?;
+    match unknown_keys_in(alloc, &table) {
+        Ok(found) => Ok(found),
+        Err(_) => Err(SettingsFault::NoMemory),
+    }
 }

@@ -5,10 +5,8 @@ ghost use Rattle.toml.specs.View.{table_view, view};
 ghost use Rattle.pdc_frame.specs.declared.limits.TheConstants.{MAX_ID};
 ghost use Rattle.pdc_settings.specs.Entries.{node_fields, node_in, pmu_fields, pmu_in, port_in, port_of, source_of};
 
-use crate::keys::{number, number_in, value_at};
-use crate::limits::{MAX_PORT, MAX_TIME_BASE};
-use crate::wanted::Wanted;
 use pdc_frame::{MAX_ID, StreamId};
+use pdc_keys::{MAX_PORT, MAX_TIME_BASE, Wanted, number, number_in, value_at};
 use pdc_life::{MergedNode, Pmu};
 use toml::{Table, Value};
 

@@ -1,6 +1,6 @@
 //! Why a text is no settings.
 
-use crate::wanted::Wanted;
+use pdc_keys::Wanted;
 use thiserror::Error;
 
 /// Why a text is no settings: the first of these that holds, in this order. Each prints as its code and its name.

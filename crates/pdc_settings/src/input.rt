@@ -11,4 +11,6 @@ pub struct Input {
     pub commands: Option<String>,
     /// The address that its datagrams come from; left out, any.
     pub from: Option<IpAddr>,
+    /// The greatest count that its configurations may have, 1 to 65535; left out, any.
+    pub most_count: Option<u16>,
 }

@@ -2,17 +2,16 @@
 ghost use Rattle.std.specs.Prelude.{◌≡◌, IfOk, IfErr, None, OnErr, Option, Some, option_map, string_bytes};
 ghost use Rattle.std.specs.declared.net.ip_addr.IpAddr.{IpAddr};
 ghost use Rattle.toml.specs.View.{items_view, table_view, view};
-ghost use Rattle.pdc_settings.specs.Inputs.{EachSays, HasFrom, IsInput, IsNoInput, IsOneOf, at_key, commands_of, streams_in, tcp_of};
-ghost use Rattle.pdc_settings.specs.Network.{IsUnread, fault_at};
-ghost use Rattle.pdc_settings.specs.Places.{as_place};
+ghost use Rattle.pdc_settings.specs.Inputs.{EachSays, HasFrom, IsInput, IsNoInput, IsOneOf, at_key, commands_of, most_count_of, streams_in, tcp_of};
+ghost use Rattle.pdc_settings.specs.Network.{fault_at};
+ghost use Rattle.pdc_keys.specs.Places.{IsUnread, as_place};
 
 use crate::document::is_merger;
 use crate::fault::SettingsFault;
 use crate::input::Input;
-use crate::keys::{value_at, values_at};
-use crate::texts::{ip_of, place_of};
-use crate::unread::Unread;
-use crate::wanted::Wanted;
+use pdc_keys::{
+    MAX_COUNT, Unread, Wanted, ip_of, optional_number_of, place_of, value_at, values_at,
+};
 use std::alloc::Global;
 use std::net::IpAddr;
 use toml::{Table, Value};
@@ -134,6 +133,17 @@ fn address_of(value: &Value) -> Result<Option<IpAddr>, SettingsFault>
     }
 }
 
+/// The key `most_count` of a table.
+fn most_count_of(value: &Value) -> Result<Option<u16>, SettingsFault>
+    ensures value { IfOk result (λ most. most_count_of (view value.now) ≡ Some most) }
+    ensures fault { IfErr result (λ fault. IsNoInput fault (view value.now)) }
+{
+    match optional_number_of(at_key(value, "most_count"), 1, MAX_COUNT) {
+        Some(most) => Ok(most),
+        None => Err(SettingsFault::Range(Wanted::MostCount)),
+    }
+}
+
 /// What the table of a stream says of how its frames come.
 fn read_input(alloc: Global, value: &Value) -> Result<Input, SettingsFault>
     ensures value { IfOk result (IsInput (view value.now)) }
@@ -142,10 +152,12 @@ fn read_input(alloc: Global, value: &Value) -> Result<Input, SettingsFault>
     let tcp = tcp_of(alloc, value)?;
     let commands = commands_of(alloc, value)?;
     let from = address_of(value)?;
+    let most_count = most_count_of(value)?;
     Ok(Input {
         tcp,
         commands,
         from,
+        most_count,
     })
 }
 

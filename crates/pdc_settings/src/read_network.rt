@@ -5,23 +5,19 @@ ghost use Rattle.toml.specs.Data.{as_array, get_member};
 ghost use Rattle.toml.specs.Parse.{parse_document};
 ghost use Rattle.toml.specs.View.{items_view, table_view, view};
 ghost use Rattle.pdc_settings.specs.Entries.{each_of};
-ghost use Rattle.pdc_settings.specs.Inputs.{EachSays, IsInput, WritesIp, streams_in};
-ghost use Rattle.pdc_settings.specs.Network.{IsAddress, IsKeyFault, IsNetwork, IsNetworkFault, IsUnread, few_outputs, fault_of, metrics_port_in, outputs_of, receive_buffer_in, sessions_in, ttl_in};
-ghost use Rattle.pdc_settings.specs.Places.{as_place};
+ghost use Rattle.pdc_settings.specs.Inputs.{EachSays, IsInput, streams_in};
+ghost use Rattle.pdc_settings.specs.Network.{IsAddress, IsKeyFault, IsNetwork, IsNetworkFault, few_outputs, fault_of, metrics_port_in, outputs_of, receive_buffer_in, sessions_in, ttl_in};
+ghost use Rattle.pdc_keys.specs.Places.{IsUnread, as_place};
 ghost use Rattle.pdc_settings.specs.Settings.{IsFaultOf};
 
 use crate::document::document;
 use crate::fault::SettingsFault;
 use crate::input::Input;
-use crate::keys::{number_or, optional_number, value_at};
-use crate::limits::MAX_PORT;
 use crate::network::{
     MAX_OUTPUTS, MAX_RECEIVE_BUFFER, MAX_SESSIONS, MAX_TTL, Network, RECEIVE_BUFFER, SESSIONS, TTL,
 };
 use crate::read_inputs::{fault_of, read_inputs, streams_of};
-use crate::texts::{ip_of, place_of};
-use crate::unread::Unread;
-use crate::wanted::Wanted;
+use pdc_keys::{MAX_PORT, Unread, Wanted, ip_of, number_or, optional_number, place_of, value_at};
 use std::alloc::Global;
 use std::net::IpAddr;
 use toml::{Table, Value};

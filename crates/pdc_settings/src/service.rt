@@ -2,6 +2,15 @@
 ghost use Rattle.std.specs.Prelude.{◌≤◌};
 ghost use Rattle.pdc_publisher.specs.declared.publisher.TheConstants.{MAX_LEAD};
 
+/// When a concentrator ticks: once in the time of a frame, so that `wait` counts ticks of one length.
+#[derive(Clone, Copy, Debug, PartialEq, Eq)]
+pub enum TickWhen {
+    /// At its deadline, when that time is over.
+    Period,
+    /// Before it, as soon as the lowest open row has all that it waits for; else at its deadline.
+    Whole,
+}
+
 /// What the running program does with the rows and frames of a concentrator.
 #[derive(Clone, Copy, Debug)]
 pub struct Service {
@@ -13,6 +22,8 @@ pub struct Service {
     pub out_port: u16,
     /// The TCP port of the sessions, 1 to 65535.
     pub session_port: u16,
+    /// When it ticks; left out, at deadlines alone.
+    pub tick: TickWhen,
     /// How many milliseconds behind each instant of the system's clock it ticks, fewer than a frame lasts; where there is none, a frame's
     /// length apart from the start on.
     pub tick_ms: Option<u16>,

@@ -2,7 +2,7 @@ use Rattle.std.proofs.Common.{◌∙◌, ap, sym, None}
 use Rattle.std.specs.Prelude.{if◌then◌else◌, option_and_then}
 use Rattle.toml.specs.View.{items_view}
 use Rattle.pdc_settings.specs.Entries.{each_of}
-use Rattle.pdc_settings.specs.Places.{as_place}
+use Rattle.pdc_keys.specs.Places.{as_place}
 use Rattle.pdc_settings.specs.Network.{few_outputs}
 use Rattle.pdc_settings.proofs.Tables.{some-outputs}
 use Rattle.pdc_settings.proofs.read_network.few_texts.Goals as goal

@@ -1,7 +1,7 @@
 use Rattle.std.proofs.Common.{◌+◌, ◌∙◌, ◌++◌, ◌∷◌, [], length, ap, map, sym, arith, Some}
 use Rattle.std.specs.Prelude.{if◌then◌else◌, string_bytes}
 use Rattle.std.proofs.lemmas.List.{map_push, length-append}
-use Rattle.pdc_settings.specs.Places.{as_place}
+use Rattle.pdc_keys.specs.Places.{as_place}
 use Rattle.pdc_settings.proofs.Tables.{each-taken, none-taken, unread-of}
 use Rattle.pdc_settings.proofs.read_network.texts_of.Goals as goal
 

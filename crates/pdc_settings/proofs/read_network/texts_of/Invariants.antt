@@ -2,7 +2,7 @@ use Rattle.std.proofs.Common.{◌≡◌, length, map, take, Some}
 use Rattle.std.specs.Prelude.{string_bytes}
 use Rattle.toml.specs.View.{items_view}
 use Rattle.pdc_settings.specs.Entries.{each_of}
-use Rattle.pdc_settings.specs.Places.{as_place}
+use Rattle.pdc_keys.specs.Places.{as_place}
 use Rattle.pdc_settings.proofs.read_network.texts_of.Given as goal
 
 -- the texts of the values so far

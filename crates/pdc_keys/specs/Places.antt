@@ -1,7 +1,10 @@
--- A place on the network, as HOST:PORT.
-use Rattle.std.specs.Prelude.{◌==◌, ℕ, Bool, false, List, [], ◌∷◌, if◌then◌else◌, Option, Some, None, option_and_then}
+-- Places on the network, as HOST:PORT, and addresses, as values of a document.
+use Rattle.std.specs.Prelude.{◌==◌, ℕ, Bool, false, List, [], ◌∷◌, if◌then◌else◌, Option, Some, None, IsSomeAnd, option_and_then}
+use Rattle.std.specs.Net.Grammar.{IsIpText}
 use Rattle.std.specs.Str.{all_ascii_digits}
+use Rattle.std.specs.declared.net.ip_addr.IpAddr.{IpAddr}
 use Rattle.toml.specs.Data.{Data, as_str}
+use Rattle.pdc_keys.specs.declared.unread.Unread.{Unread}
 
 -- the code of a colon
 abbrev pub COLON : ℕ
@@ -33,3 +36,12 @@ place_of text = if is_place text then Some text else None
 
 abbrev pub as_place : Data → Option (List ℕ)
 as_place value = option_and_then place_of (as_str value)
+
+-- the value is the text of this address
+abbrev pub WritesIp : Data → IpAddr → Type 0
+WritesIp value ip = IsSomeAnd (as_str value) (λ text. IsIpText text ip)
+
+-- why no text was read: this lacks, or memory was wanted
+abbrev pub IsUnread : Type 0 → Unread → Type 0
+IsUnread lacks Unread.NoPlace = lacks
+IsUnread lacks Unread.NoMemory = Unit {0}

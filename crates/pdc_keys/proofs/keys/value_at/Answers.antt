@@ -1,5 +1,5 @@
 use Rattle.toml.proofs.Views.{table_get}
-use Rattle.pdc_settings.proofs.keys.value_at.Goals as goal
+use Rattle.pdc_keys.proofs.keys.value_at.Goals as goal
 
 pub returns : goal.returns
 returns c = table_get c.get.result c.args.key.now c.args.table.now.entries c.get.ensures.value

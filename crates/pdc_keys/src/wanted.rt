@@ -19,6 +19,7 @@ pub enum Wanted {
     LayoutEvery,
     OutPort,
     SessionPort,
+    Tick,
     TickMs,
     Pmus,
     PmuStream,
@@ -37,6 +38,7 @@ pub enum Wanted {
     Tcp,
     Commands,
     From,
+    MostCount,
     Sessions,
     MetricsPort,
 }
@@ -57,6 +59,7 @@ impl Wanted {
             Wanted::LayoutEvery => "layout_every: a whole number from 1 to 65535",
             Wanted::OutPort => "out_port: a whole number from 1 to 65535",
             Wanted::SessionPort => "session_port: a whole number from 1 to 65535",
+            Wanted::Tick => "tick: \"period\" or \"whole\", or left out",
             Wanted::TickMs =>
                 "tick_ms: a whole number of milliseconds from 0, below a frame's length, or left out",
             Wanted::Pmus => "pmu: 1 to 16 tables",
@@ -79,6 +82,8 @@ impl Wanted {
                 "commands of a pmu or node: a place HOST:PORT beside port, or left out",
             Wanted::From =>
                 "from of a pmu or node: an IP address beside port, as \"10.0.0.11\", or left out",
+            Wanted::MostCount =>
+                "most_count of a pmu or node: a whole number from 1 to 65535, or left out",
             Wanted::Sessions => "sessions: a whole number from 1 to 64, or left out",
             Wanted::MetricsPort => "metrics_port: a whole number from 1 to 65535, or left out",
         }

@@ -2,20 +2,20 @@
 ghost use Rattle.std.specs.Prelude.{◌≡◌, ◌≤◌, IfSome, IfOk, None, OnErr, Some, ok_or, option_and_then, option_map};
 ghost use Rattle.toml.specs.Data.{as_array, get_member};
 ghost use Rattle.toml.specs.View.{items_view, table_view, view};
-ghost use Rattle.pdc_settings.specs.Keys.{in_range, number_at, number_in, number_or, optional_number};
+ghost use Rattle.pdc_keys.specs.Keys.{in_range, number_at, number_in, number_or, optional_number};
 
 use crate::wanted::Wanted;
 use toml::{Table, Value};
 
 /// The value at a key.
-pub(crate) fn value_at<'t>(table: &'t Table, key: &str) -> Option<&'t Value>
+pub fn value_at<'t>(table: &'t Table, key: &str) -> Option<&'t Value>
     ensures { option_map (λ v. view v.now) result ≡ get_member key.now (table_view table.now) }
 {
     table.get(key)
 }
 
 /// The values of the list at a key.
-pub(crate) fn values_at<'t>(table: &'t Table, key: &str) -> Option<&'t [Value]>
+pub fn values_at<'t>(table: &'t Table, key: &str) -> Option<&'t [Value]>
     ensures { option_map (λ v. items_view v.now) result ≡ option_and_then as_array (get_member key.now (table_view table.now)) }
 {
     match value_at(table, key) {
@@ -38,7 +38,7 @@ fn within(n: i64, least: u64, most: u64) -> Option<u64>
 }
 
 /// The number that a value is, where it is an integer from `least` to `most`.
-pub(crate) fn number_in(value: &Value, least: u64, most: u64) -> Option<u64>
+pub fn number_in(value: &Value, least: u64, most: u64) -> Option<u64>
     ensures { result ≡ number_in least most (Some (view value.now)) }
 {
     match value.as_integer() {
@@ -59,7 +59,7 @@ fn number_at(table: &Table, key: &str, least: u64, most: u64) -> Option<u64>
 }
 
 /// The number at a key that must stand, from `least` to `most`.
-pub(crate) fn number(
+pub fn number(
     table: &Table,
     key: &str,
     least: u64,
@@ -79,7 +79,7 @@ pub(crate) fn number(
 }
 
 /// The number at a key that may be left out, and is `usual` then.
-pub(crate) fn number_or(table: &Table, key: &str, usual: u64, least: u64, most: u64) -> Option<u64>
+pub fn number_or(table: &Table, key: &str, usual: u64, least: u64, most: u64) -> Option<u64>
     requires low { least ≤ usual }
     requires high { usual ≤ most }
     ensures value { result ≡ number_or usual least most (get_member key.now (table_view table.now)) }
@@ -92,20 +92,22 @@ pub(crate) fn number_or(table: &Table, key: &str, usual: u64, least: u64, most: 
     }
 }
 
-/// The number at a key that may be left out, from `least` to `most`: none then.
-pub(crate) fn optional_number(
-    table: &Table,
-    key: &str,
-    least: u16,
-    most: u16,
-) -> Option<Option<u16>>
-    ensures { result ≡ optional_number least most (get_member key.now (table_view table.now)) }
+/// The number of a value that may be left out, from `least` to `most`: none then.
+pub fn optional_number_of(value: Option<&Value>, least: u16, most: u16) -> Option<Option<u16>>
+    ensures { result ≡ optional_number least most (option_map (λ v. view v.now) value.entry) }
 {
-    match value_at(table, key) {
+    match value {
         Some(value) => match number_in(value, u64::from(least), u64::from(most)) {
             Some(number) => Some(Some(number as u16)),
             None => None,
         },
         None => Some(None),
     }
+}
+
+/// The number at a key that may be left out, from `least` to `most`: none then.
+pub fn optional_number(table: &Table, key: &str, least: u16, most: u16) -> Option<Option<u16>>
+    ensures { result ≡ optional_number least most (get_member key.now (table_view table.now)) }
+{
+    optional_number_of(value_at(table, key), least, most)
 }

@@ -3,9 +3,7 @@ ghost use Rattle.std.specs.Prelude.{◌≡◌, IfOk, IfErr, IfSome, None, Some, 
 ghost use Rattle.std.specs.Str.{all_ascii_digits};
 ghost use Rattle.std.specs.declared.net.ip_addr.IpAddr.{IpAddr};
 ghost use Rattle.toml.specs.View.{view};
-ghost use Rattle.pdc_settings.specs.Inputs.{WritesIp};
-ghost use Rattle.pdc_settings.specs.Network.{IsUnread};
-ghost use Rattle.pdc_settings.specs.Places.{as_place, behind_colon, is_place};
+ghost use Rattle.pdc_keys.specs.Places.{IsUnread, WritesIp, as_place, behind_colon, is_place};
 
 use crate::unread::Unread;
 use std::alloc::Global;
@@ -13,7 +11,7 @@ use std::net::IpAddr;
 use toml::Value;
 
 /// The address that a value writes.
-pub(crate) fn ip_of(value: &Value) -> Option<IpAddr>
+pub fn ip_of(value: &Value) -> Option<IpAddr>
     ensures some { IfSome result (WritesIp (view value.now)) }
     ensures none { result ≡ None → (ip : IpAddr) → WritesIp (view value.now) ip → ⊥ }
 {
@@ -59,7 +57,7 @@ fn is_place(text: &[u8]) -> bool
 }
 
 /// The place that a value names.
-pub(crate) fn place_of(alloc: Global, value: &Value) -> Result<String, Unread>
+pub fn place_of(alloc: Global, value: &Value) -> Result<String, Unread>
     ensures value { IfOk result (λ text. as_place (view value.now) ≡ Some (string_bytes text)) }
     ensures fault { IfErr result (IsUnread (as_place (view value.now) ≡ None)) }
 {

@@ -1,6 +1,15 @@
 -- The values at the keys of a settings text (this profile).
 use Rattle.std.specs.Prelude.{ℕ, ℤ, pos, negsuc, List, ◌&&◌, nat_le, if◌then◌else◌, Option, Some, None, option_and_then, option_map}
-use Rattle.toml.specs.Data.{Data, Members, as_integer, get_member}
+use Rattle.toml.specs.Data.{Data, Items, no_items, Members, as_array, as_integer, get_member}
+
+-- the items of a list that may be left out
+abbrev pub items_or_none : Option Items → Items
+items_or_none None = no_items
+items_or_none (Some values) = values
+
+-- the items of the list at a key, where there is one
+abbrev pub items_at : List ℕ → Members → Items
+items_at key members = items_or_none (option_and_then as_array (get_member key members))
 
 -- the number that an integer is, where it lies from `least` to `most`
 abbrev pub in_range : ℕ → ℕ → ℤ → Option ℕ

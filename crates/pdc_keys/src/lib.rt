@@ -1,0 +1,26 @@
+//! Values at the keys of a settings text, what is wanted at each, and keys that nothing reads (this profile).
+//!
+//! The functions to look at first are [`value_at`] and [`number`]; [`Wanted`] names each key with what may stand there.
+//!
+//! To the layers above this crate promises that what is read at a key is what stands there in the document, and is in its range.
+#![tactic(auto)]
+
+mod finding;
+mod keys;
+mod known;
+mod limits;
+mod nearest;
+mod places;
+mod unknown;
+mod unread;
+mod wanted;
+
+pub use finding::unknown_keys_in;
+pub use keys::{
+    number, number_in, number_or, optional_number, optional_number_of, value_at, values_at,
+};
+pub use limits::{MAX_COUNT, MAX_PORT, MAX_TIME_BASE, MILLISECONDS};
+pub use places::{ip_of, place_of};
+pub use unknown::{TableName, UnknownKey};
+pub use unread::Unread;
+pub use wanted::Wanted;

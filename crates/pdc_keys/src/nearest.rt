@@ -1,0 +1,67 @@
+//! Which known name is nearest to one that is not known.
+ghost use Rattle.std.specs.Prelude.{◌≡◌, IfOk, map, option_map};
+ghost use Rattle.pdc_keys.specs.Near.{edits, is_near, is_slip, nearer, nearest_of};
+
+use std::alloc::{AllocError, Global};
+use strsim::osa_distance;
+
+/// How many edits lead from one name to the other.
+fn edits(alloc: Global, key: &str, name: &str) -> Result<usize, AllocError>
+    ensures { IfOk result (λ n. n ≡ edits key.now name.now) }
+{
+    osa_distance(alloc, key, name)
+}
+
+/// Whether so many edits are a slip, in a name of this length.
+fn is_slip(len: usize, edits: usize) -> bool
+    ensures { result ≡ is_slip len edits }
+{
+    edits < len && (edits <= 2 || edits <= len / 3)
+}
+
+/// Whether a name is near.
+fn is_near(alloc: Global, key: &str, name: &str) -> Result<bool, AllocError>
+    ensures { IfOk result (λ answer. answer ≡ is_near key.now name.now) }
+{
+    let edits = edits(alloc, key, name)?;
+    Ok(is_slip(key.len(), edits))
+}
+
+/// The nearer of both.
+fn nearer(
+    alloc: Global,
+    key: &str,
+    name: &'static str,
+    other: Option<&'static str>,
+) -> Result<Option<&'static str>, AllocError>
+    ensures { IfOk result (λ found. option_map (λ n. n.now) found ≡ nearer key.now name.now (option_map (λ n. n.now) other.entry)) }
+{
+    let Some(other) = other else {
+        return Ok(Some(name));
+    };
+    let (here, there) = (edits(alloc, key, name)?, edits(alloc, key, other)?);
+    if here <= there {
+        Ok(Some(name))
+    } else {
+        Ok(Some(other))
+    }
+}
+
+/// The nearest of those that are near.
+pub(crate) fn nearest_of(
+    alloc: Global,
+    key: &str,
+    names: &[&'static str],
+) -> Result<Option<&'static str>, AllocError>
+    ensures { IfOk result (λ found. option_map (λ n. n.now) found ≡ nearest_of key.now (map (λ n. n.now) names.now)) }
+{
+    let Some((name, others)) = names.split_first() else {
+        return Ok(None);
+    };
+    let found = nearest_of(alloc, key, others)?;
+    if is_near(alloc, key, name)? {
+        nearer(alloc, key, name, found)
+    } else {
+        Ok(found)
+    }
+}
