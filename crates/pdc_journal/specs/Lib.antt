@@ -1,1 +1,6 @@
 pub mod Among
+pub mod Complaint
+pub mod Head
+pub mod Histogram
+pub mod Moment
+pub mod Spell

@@ -1,15 +1,18 @@
 //! What is told of a sender whose frames are refused for what it is or says.
+ghost use Rattle.std.specs.Prelude.{◌≡◌, MatchOption, None, Some};
+ghost use Rattle.pdc_journal.specs.Complaint.{complaint_of, is_due, last_of, looked_at};
 
+use crate::moment::Moment;
 use pdc_cfg::CfgFault;
 use pdc_ports::Refusal;
-use std::rt::Clock;
-use std::time::{Duration, Instant};
 
 /// How long nothing more is told of the same sender, in seconds.
 const PAUSE: u64 = 60;
 
 /// What there is to tell of a refusal, and to do; nothing of those that come and go.
-pub fn complaint_of(cause: Refusal) -> Option<&'static str> {
+pub fn complaint_of(cause: Refusal) -> Option<&'static str>
+    ensures { MatchOption result (complaint_of cause ≡ None) (λ text. complaint_of cause ≡ Some text.now) }
+{
     match cause {
         Refusal::WrongId => Some("frames of another stream come to its port"),
         Refusal::WrongTimeBase => Some("its configuration has another TIME_BASE than the settings"),
@@ -37,29 +40,28 @@ pub fn complaint_of(cause: Refusal) -> Option<&'static str> {
     }
 }
 
-/// When something was told of a sender.
+/// When something was told of a sender: once a minute at most.
 #[derive(Drop)]
 pub struct Complaints {
-    last: Option<Instant>,
+    last: Option<Moment>,
 }
 
 impl Complaints {
     /// Nothing was told yet.
-    pub fn new() -> Complaints {
+    pub fn new() -> Complaints
+        ensures { last_of result ≡ None }
+    {
         Complaints { last: None }
     }
 
     /// Whether something more is told now: nothing was for a minute. It counts as told then.
-    pub fn is_due<R: Clock>(&mut self, rt: &R) -> bool {
-        let is_due = match self.last {
-            Some(last) => match last.elapsed(rt) {
-                Ok(gone) => gone >= Duration::from_secs(PAUSE),
-                Err(_) => false,
-            },
-            None => true,
-        };
+    pub fn is_due(&mut self, now: Moment) -> bool
+        ensures due { result ≡ is_due now self.old }
+        ensures after { self.new ≡ looked_at now self.old }
+    {
+        let is_due = Moment::is_long_ago(self.last, PAUSE, now);
         if is_due {
-            self.last = Instant::now(rt).ok();
+            self.last = Some(now);
         }
         is_due
     }

@@ -1,12 +1,15 @@
 //! How a run stands, for those who ask.
 
+use crate::histogram::Histogram;
 use crate::left_out::MAX_SOURCES;
 use crate::tags::Tags;
 use arrayvec::ArrayVec;
 use pdc_block::{Block, cut, is_absent};
 use pdc_cfg::{ConfigView, MAX_SECTIONS, Shape};
 use pdc_frame::Frame;
+use std::rt::Clock;
 use std::sync::{Mutex, Wait};
+use std::time::SystemTime;
 
 /// The most instants that are open at once: as many as the largest window has.
 const MAX_OPEN: usize = 256;
@@ -38,6 +41,17 @@ pub struct Standing {
     pub change: u32,
     /// The sources of the layout in force, in its order.
     pub sources: [MeasuredSource; MAX_SOURCES],
+    /// How long it took from an instant's time to its publishing, by the system's clock.
+    pub latency: Histogram,
+    /// How long it took from the last data that was taken for an instant to its publishing, likewise.
+    pub holding: Histogram,
+}
+
+/// An instant that is open, and when data was taken for it last, in microseconds since 1970.
+#[derive(Clone, Copy, Debug, Default)]
+struct OpenInstant {
+    instant: u64,
+    last: u64,
 }
 
 /// What is kept of a run.
@@ -47,7 +61,7 @@ struct Kept {
     /// The shapes of the layout in force, the own one first.
     shapes: ArrayVec<Shape, MAX_SECTIONS>,
     /// The instants that are open.
-    open: ArrayVec<u64, MAX_OPEN>,
+    open: ArrayVec<OpenInstant, MAX_OPEN>,
 }
 
 /// How a run stands: the threads that take and send tell it, and whoever asks is answered at once.
@@ -109,11 +123,40 @@ fn count_absent(sources: &mut [MeasuredSource], blocks: &[Block]) {
     }
 }
 
+/// Microseconds since 1970; 0 where the clock cannot be read.
+fn micros_now<R: Clock>(rt: &R) -> u64 {
+    let Ok(now) = SystemTime::now(rt) else {
+        return 0;
+    };
+    match now.duration_since(SystemTime::UNIX_EPOCH) {
+        Ok(since) => u64::try_from(since.as_micros()).unwrap_or(u64::MAX),
+        Err(_) => 0,
+    }
+}
+
+/// The microseconds since 1970 of a time tag: a second, and counts of which so many are a second.
+fn micros_of(soc: u32, frac: u32, time_base: u32) -> u64 {
+    let parts = (u64::from(frac) * 1_000_000)
+        .checked_div(u64::from(time_base))
+        .unwrap_or(0);
+    u64::from(soc) * 1_000_000 + parts
+}
+
+/// When data was taken last for this instant, if it is open.
+fn last_of(open: &[OpenInstant], instant: u64) -> Option<u64> {
+    for one in open {
+        if one.instant == instant {
+            return Some(one.last);
+        }
+    }
+    None
+}
+
 /// The instants of these that lie above this one.
-fn above(open: &[u64], instant: u64) -> ArrayVec<u64, MAX_OPEN> {
+fn above(open: &[OpenInstant], instant: u64) -> ArrayVec<OpenInstant, MAX_OPEN> {
     let mut left = ArrayVec::new();
     for one in open {
-        if *one > instant {
+        if one.instant > instant {
             let _full = left.try_push(*one);
         }
     }
@@ -134,6 +177,8 @@ impl Measured {
                     start: 0,
                     change: 0,
                     sources: [NO_SOURCE; MAX_SOURCES],
+                    latency: Histogram::new(),
+                    holding: Histogram::new(),
                 },
                 shapes: ArrayVec::new(),
                 open: ArrayVec::new(),
@@ -151,14 +196,20 @@ impl Measured {
         kept.standing.change = change;
     }
 
-    /// This data frame was published.
-    pub fn publish<R: Wait>(&self, rt: &R, frame: &Frame) {
+    /// This data frame was published, now by the system's clock.
+    pub fn publish<R: Wait + Clock>(&self, rt: &R, frame: &Frame) {
+        let now = micros_now(rt);
+        let time = micros_of(frame.soc, frame.frac, self.tags.time_base);
         let instant = self.tags.instant(frame.soc, frame.frac);
         let mut kept = self.kept.lock(rt);
         if let Ok(blocks) = cut(&kept.shapes, frame.payload) {
             count_absent(&mut kept.standing.sources, &blocks);
         }
+        kept.standing.latency.observe(now.saturating_sub(time));
         if let Some(instant) = instant {
+            if let Some(last) = last_of(&kept.open, instant) {
+                kept.standing.holding.observe(now.saturating_sub(last));
+            }
             kept.open = above(&kept.open, instant);
         }
         kept.standing.published = kept.standing.published.saturating_add(1);
@@ -166,16 +217,24 @@ impl Measured {
         kept.standing.tag = (frame.soc, frame.frac);
     }
 
-    /// Data for this instant was taken.
-    pub fn take<R: Wait>(&self, rt: &R, instant: u64) {
+    /// Data for this instant was taken, now by the system's clock.
+    pub fn take<R: Wait + Clock>(&self, rt: &R, instant: u64) {
+        let last = micros_now(rt);
         let mut kept = self.kept.lock(rt);
         let is_published = match kept.standing.last {
             Some(last) => instant <= last,
             None => false,
         };
-        if !is_published && !kept.open.contains(&instant) {
-            let _full = kept.open.try_push(instant);
+        if is_published {
+            return;
         }
+        for one in kept.open.iter_mut() {
+            if one.instant == instant {
+                one.last = last;
+                return;
+            }
+        }
+        let _full = kept.open.try_push(OpenInstant { instant, last });
     }
 
     /// How the run stands.

@@ -3,6 +3,7 @@ ghost use Rattle.std.specs.Prelude.{◌≡◌, ◌≤◌, ◌<◌, ℕ, length};
 
 use crate::complaint::{Complaints, complaint_of};
 use crate::journal::Journal;
+use crate::moment::Moment;
 use crate::spell::{LONG, Spell};
 use crate::tally::Tally;
 use crate::watchers::Watchers;
@@ -44,7 +45,7 @@ impl<'a, S: Source + Drop, R: Wait + Clock> ObservedSource<'a, S, R> {
             journal,
             tally,
             inner,
-            silence: Spell::begun(rt),
+            silence: Spell::begun(Moment::now(rt)),
             unread: None,
             complaints: Complaints::new(),
             watchers,
@@ -105,7 +106,7 @@ fn complain<R: Wait + Clock>(
     cause: Refusal,
 ) {
     if let Some(what) = complaint_of(cause) {
-        if complaints.is_due(rt) {
+        if complaints.is_due(Moment::now(rt)) {
             journal.tell(rt, complaint_text(alloc, tally, cause, what));
         }
     }
@@ -120,7 +121,7 @@ fn hear<R: Wait + Clock>(
     silence: &mut Spell,
 ) {
     journal.note(rt, again_text(alloc, tally));
-    *silence = Spell::begun(rt);
+    *silence = Spell::begun(Moment::now(rt));
 }
 
 /// Data was refused for want of a configuration.
@@ -133,11 +134,11 @@ fn miss<R: Wait + Clock>(
 ) {
     match unread {
         Some(spell) => {
-            if spell.is_due(rt) {
+            if spell.is_due(Moment::now(rt)) {
                 journal.tell(rt, unread_text(alloc, tally));
             }
         }
-        None => *unread = Some(Spell::begun(rt)),
+        None => *unread = Some(Spell::begun(Moment::now(rt))),
     }
 }
 
@@ -170,12 +171,12 @@ impl<'a, S: Source + Drop, R: Wait + Clock> Source for ObservedSource<'a, S, R> 
         match next {
             Next::Datagram(len) => {
                 if !self.silence.is_told() {
-                    self.silence = Spell::begun(rt);
+                    self.silence = Spell::begun(Moment::now(rt));
                 }
                 self.watchers.see(&buffer[..len]);
             }
             Next::Idle => {
-                if self.silence.is_due(rt) {
+                if self.silence.is_due(Moment::now(rt)) {
                     journal.tell(rt, silence_text(alloc, tally));
                 }
             }
@@ -225,5 +226,13 @@ impl<'a, S: Source + Drop, R: Wait + Clock> Source for ObservedSource<'a, S, R> 
 
     fn failures(&self) -> u64 {
         self.inner.failures()
+    }
+
+    fn wants_whole(&self) -> bool {
+        self.inner.wants_whole()
+    }
+
+    fn whole(&mut self) {
+        self.inner.whole();
     }
 }

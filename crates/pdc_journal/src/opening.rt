@@ -3,6 +3,7 @@
 use crate::measured::Measured;
 use crate::tags::Tags;
 use pdc_ports::Outcome;
+use std::rt::Clock;
 use std::sync::Wait;
 
 /// A stream whose data opens instants.
@@ -30,7 +31,7 @@ impl<'a> Opening<'a> {
     }
 
     /// The datagram that came last was answered so.
-    pub fn answered<R: Wait>(&mut self, rt: &R, outcome: Outcome) {
+    pub fn answered<R: Wait + Clock>(&mut self, rt: &R, outcome: Outcome) {
         if outcome == Outcome::Taken {
             if let Some(instant) = self.instant {
                 self.measured.take(rt, instant);

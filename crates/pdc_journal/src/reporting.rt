@@ -5,6 +5,7 @@ use crate::counters::{
 };
 use crate::journal::Journal;
 use crate::left_out::LeftOut;
+use crate::moment::Moment;
 use crate::output_tally::OutputTally;
 use crate::tally::Tally;
 use pdc_ports::{Ticker, Told};
@@ -12,7 +13,6 @@ use std::alloc::Global;
 use std::rt::Clock;
 use std::sync::Wait;
 use std::sync::atomic::{AtomicU64, Ordering};
-use std::time::{Duration, Instant};
 
 /// Where a run counts, which is read each time that it is told.
 #[derive(Clone, Copy)]
@@ -38,9 +38,10 @@ pub struct Reporting<'a, T: Ticker + Drop, R: Clock + Wait> {
     journal: &'a Journal,
     counters: RunCounters<'a>,
     ticker: T,
-    every: Option<Duration>,
+    /// After how many seconds the counters are told, if they are.
+    every: Option<u32>,
     /// When the last line was told, or else the ticker was made.
-    since: Option<Instant>,
+    since: Moment,
 }
 
 impl<'a, T: Ticker + Drop, R: Clock + Wait> Reporting<'a, T, R> {
@@ -53,13 +54,6 @@ impl<'a, T: Ticker + Drop, R: Clock + Wait> Reporting<'a, T, R> {
         ticker: T,
         every: Option<u32>,
     ) -> Reporting<'a, T, R> {
-        let (every, since) = match every {
-            None => (None, None),
-            Some(seconds) => (
-                Some(Duration::from_secs(u64::from(seconds))),
-                Instant::now(rt).ok(),
-            ),
-        };
         Reporting {
             rt,
             alloc,
@@ -67,7 +61,7 @@ impl<'a, T: Ticker + Drop, R: Clock + Wait> Reporting<'a, T, R> {
             counters,
             ticker,
             every,
-            since,
+            since: Moment::now(rt),
         }
     }
 }
@@ -80,17 +74,14 @@ impl<'a, T: Ticker + Drop, R: Clock + Wait> Ticker for Reporting<'a, T, R> {
     }
 
     fn wants_counts(&self) -> bool {
-        match (self.every, self.since) {
-            (Some(every), Some(since)) => match since.elapsed(self.rt) {
-                Ok(gone) => gone >= every,
-                Err(_) => false,
-            },
-            _ => false,
+        match self.every {
+            Some(every) => self.since.is_past(u64::from(every), Moment::now(self.rt)),
+            None => false,
         }
     }
 
     fn tell(&mut self, told: &Told) {
-        self.since = Instant::now(self.rt).ok();
+        self.since = Moment::now(self.rt);
         let unsent = self.counters.unsent.load(Ordering::Relaxed);
         self.journal
             .tell(self.rt, counters_line(self.alloc, told, unsent));

@@ -1,7 +1,8 @@
 //! How long something lasts.
+ghost use Rattle.std.specs.Prelude.{◌≡◌};
+ghost use Rattle.pdc_journal.specs.Spell.{begun_at, is_due, looked_at, was_told};
 
-use std::rt::Clock;
-use std::time::{Duration, Instant};
+use crate::moment::Moment;
 
 /// How long it lasts until it is told, in seconds.
 pub const LONG: u64 = 5;
@@ -9,35 +10,35 @@ pub const LONG: u64 = 5;
 /// Something that lasts, as a silence, and is told once when it has for five seconds.
 #[derive(Drop)]
 pub struct Spell {
-    since: Option<Instant>,
+    since: Moment,
     is_told: bool,
 }
 
 impl Spell {
-    /// It begins now. Where the clock cannot be read it is never told.
-    pub fn begun<R: Clock>(rt: &R) -> Spell {
+    /// It begins at this moment. Where that is unknown it is never told.
+    pub fn begun(since: Moment) -> Spell
+        ensures { result ≡ begun_at since }
+    {
         Spell {
-            since: Instant::now(rt).ok(),
+            since,
             is_told: false,
         }
     }
 
     /// Whether it is to be told now: it has lasted long enough, and was not told. It counts as told then.
-    pub fn is_due<R: Clock>(&mut self, rt: &R) -> bool {
-        let is_long = match self.since {
-            Some(since) => match since.elapsed(rt) {
-                Ok(gone) => gone >= Duration::from_secs(LONG),
-                Err(_) => false,
-            },
-            None => false,
-        };
-        let is_due = is_long && !self.is_told;
+    pub fn is_due(&mut self, now: Moment) -> bool
+        ensures due { result ≡ is_due now self.old }
+        ensures after { self.new ≡ looked_at now self.old }
+    {
+        let is_due = self.since.is_past(LONG, now) && !self.is_told;
         self.is_told = self.is_told || is_due;
         is_due
     }
 
     /// Whether it was told.
-    pub fn is_told(&self) -> bool {
+    pub fn is_told(&self) -> bool
+        ensures { result ≡ was_told self.now }
+    {
         self.is_told
     }
 }

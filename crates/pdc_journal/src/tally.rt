@@ -33,6 +33,8 @@ pub struct Tally {
     strangers: AtomicU64,
     /// How many connections over which it came were lost, or refused.
     lost: AtomicU64,
+    /// How many configurations were left out for their count.
+    left_out: AtomicU64,
 }
 
 impl Tally {
@@ -43,6 +45,7 @@ impl Tally {
             counts: Mutex::new(Counts::new()),
             strangers: AtomicU64::new(0),
             lost: AtomicU64::new(0),
+            left_out: AtomicU64::new(0),
         }
     }
 
@@ -74,5 +77,15 @@ impl Tally {
     /// How many connections were lost or refused.
     pub fn lost(&self) -> u64 {
         self.lost.load(Ordering::Relaxed)
+    }
+
+    /// Counts a configuration that was left out for its count.
+    pub fn leave_out(&self) {
+        self.left_out.fetch_add(1, Ordering::Relaxed);
+    }
+
+    /// How many configurations were left out for their count.
+    pub fn left_out(&self) -> u64 {
+        self.left_out.load(Ordering::Relaxed)
     }
 }

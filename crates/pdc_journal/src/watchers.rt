@@ -3,6 +3,7 @@
 use crate::left_out::Compared;
 use crate::opening::Opening;
 use pdc_ports::Outcome;
+use std::rt::Clock;
 use std::sync::Wait;
 
 /// What looks at the datagrams of a stream: of a node's, what the merger leaves out, and where the run is measured, the instants that its data
@@ -25,7 +26,7 @@ impl<'a> Watchers<'a> {
     }
 
     /// The datagram that came last was answered so.
-    pub fn answered<R: Wait>(&mut self, rt: &R, outcome: Outcome) {
+    pub fn answered<R: Wait + Clock>(&mut self, rt: &R, outcome: Outcome) {
         if let Some(compared) = &mut self.compared {
             compared.answered(rt, outcome);
         }

@@ -1,6 +1,6 @@
 //! Families of samples.
 
-use pdc_journal::Of;
+use pdc_journal::{BOUNDS, Histogram, Of};
 use std::alloc::AllocError;
 use std::fmt::Write;
 
@@ -41,6 +41,39 @@ pub fn append_seconds(family: Family, micros: i64, text: &mut String) -> Result<
     let size = micros.unsigned_abs();
     let (seconds, parts) = (size / 1_000_000, size % 1_000_000);
     write!(text, "{name} {sign}{seconds}.{parts:06}\n")
+}
+
+/// Appends seconds, of which these are millionths.
+fn append_decimal(micros: u64, text: &mut String) -> Result<(), AllocError> {
+    let (seconds, parts) = (micros / 1_000_000, micros % 1_000_000);
+    write!(text, "{seconds}.{parts:06}")
+}
+
+/// Appends a sample of a histogram: how many were at most this bound.
+fn append_bucket(name: &str, bound: u64, most: u64, text: &mut String) -> Result<(), AllocError> {
+    write!(text, "{name}_bucket{{le=\"")?;
+    append_decimal(bound, text)?;
+    write!(text, "\"}} {most}\n")
+}
+
+/// Appends a histogram of lengths of time: for each bound how many were at most it, their sum, and how many there were.
+pub fn append_histogram(
+    name: &str,
+    help: &str,
+    histogram: &Histogram,
+    text: &mut String,
+) -> Result<(), AllocError> {
+    write!(text, "# HELP {name} {help}\n# TYPE {name} histogram\n")?;
+    let mut count = 0u64;
+    for (bound, here) in BOUNDS.iter().zip(histogram.counts.iter()) {
+        count = count.saturating_add(*here);
+        append_bucket(name, *bound, count, text)?;
+    }
+    let above = histogram.counts.last().copied().unwrap_or(0);
+    count = count.saturating_add(above);
+    write!(text, "{name}_bucket{{le=\"+Inf\"}} {count}\n{name}_sum ")?;
+    append_decimal(histogram.sum, text)?;
+    write!(text, "\n{name}_count {count}\n")
 }
 
 /// What a stream is, as its label says, and its id.

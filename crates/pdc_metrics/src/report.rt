@@ -1,7 +1,8 @@
 //! All samples of a run.
 
 use crate::families::{
-    Family, append_cause, append_head, append_of, append_output, append_seconds, append_single,
+    Family, append_cause, append_head, append_histogram, append_of, append_output, append_seconds,
+    append_single,
 };
 use crate::metered::Metered;
 use crate::time::{now_micros, tag_micros};
@@ -33,6 +34,12 @@ const LOST: Family = Family {
     name: "pdc_connections_lost_total",
     is_counter: true,
     help: "Connections that ended or were refused.",
+};
+
+const COUNT_LEFT_OUT: Family = Family {
+    name: "pdc_configurations_left_out_total",
+    is_counter: true,
+    help: "Configurations that were left out, since their count was above most_count.",
 };
 
 const PUBLISHED: Family = Family {
@@ -165,12 +172,22 @@ fn append_lost(tallies: &[Tally], text: &mut String) -> Result<(), AllocError> {
     Ok(())
 }
 
+/// How many configurations of each stream were left out.
+fn append_count_left_out(tallies: &[Tally], text: &mut String) -> Result<(), AllocError> {
+    append_head(COUNT_LEFT_OUT, text)?;
+    for tally in tallies {
+        append_of(COUNT_LEFT_OUT, tally.of, tally.left_out(), text)?;
+    }
+    Ok(())
+}
+
 /// What was taken and refused of each stream, and how its datagrams came.
 fn append_streams<R: Wait>(rt: &R, tallies: &[Tally], text: &mut String) -> Result<(), AllocError> {
     append_taken(rt, tallies, text)?;
     append_refused(rt, tallies, text)?;
     append_strangers(tallies, text)?;
-    append_lost(tallies, text)
+    append_lost(tallies, text)?;
+    append_count_left_out(tallies, text)
 }
 
 /// What could not be sent to each further destination.
@@ -277,6 +294,22 @@ fn append_last<R: Clock>(
     }
 }
 
+/// How long frames took: from their instant's time, and from the last data that was taken for it.
+fn append_latency(standing: &Standing, text: &mut String) -> Result<(), AllocError> {
+    append_histogram(
+        "pdc_publish_latency_seconds",
+        "From an instant's time to its publishing, by the system's clock.",
+        &standing.latency,
+        text,
+    )?;
+    append_histogram(
+        "pdc_publish_after_arrival_seconds",
+        "From the last data that was taken for an instant to its publishing.",
+        &standing.holding,
+        text,
+    )
+}
+
 /// All samples of a run that stands so.
 fn append_all<R: Wait + Clock>(
     rt: &R,
@@ -288,6 +321,7 @@ fn append_all<R: Wait + Clock>(
     append_published(metered, standing, text)?;
     append_sources(rt, metered, standing, text)?;
     append_now(metered, standing, text)?;
+    append_latency(standing, text)?;
     append_last(rt, metered.measured.tags.time_base, standing, text)
 }
 
