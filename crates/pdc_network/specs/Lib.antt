@@ -1,3 +1,2 @@
-pub mod Deadlines
-pub mod Instants
-pub mod Paces
+pub mod CountLimit
+pub mod Inquiry

@@ -1,11 +1,10 @@
 //! Frames over a TCP connection.
 ghost use Rattle.std.specs.Prelude.{◌≡◌, ◌≤◌, ◌<◌, ℕ, IfOk, IfSome, length};
 
-use crate::inquiry::Inquiry;
+use crate::inquiry::{Inquiry, PATIENCE};
 use crate::loss::Loss;
-use crate::since::Since;
 use pdc_frame::{Command, Framer, Step, StreamId};
-use pdc_journal::{Journal, Tally};
+use pdc_journal::{Journal, Moment, Tally};
 use pdc_ports::{Next, Outcome};
 use pdc_session::{Counting, Unread, tell};
 use std::alloc::{AllocError, Global};
@@ -24,9 +23,6 @@ const CONNECT_LIMIT: u64 = 3000;
 
 /// How long a command may take to be written, in milliseconds.
 const WRITE_LIMIT: u64 = 500;
-
-/// After how many seconds without a byte a connection is lost, and after how many from its first byte to the end of a frame.
-const PATIENCE: u64 = 5;
 
 /// After how many seconds a connection is made anew: the first time, and at most.
 const FIRST_WAIT: u64 = 1;
@@ -48,9 +44,9 @@ pub struct Connection<'a, R: Net<Listener = TcpListener, Stream = TcpStream> + C
     framer: Framer,
     unread: Unread,
     /// Since when nothing came, or else the connection is lost.
-    since: Since,
+    since: Moment,
     /// Since when a frame is coming that is not whole, if one is.
-    begun: Option<Since>,
+    begun: Option<Moment>,
     /// After how many seconds it is made anew.
     wait: u64,
     inquiry: Inquiry,
@@ -147,11 +143,11 @@ fn cut(framer: &mut Framer, unread: &mut Unread, buffer: &mut [u8]) -> Result<Op
 }
 
 /// Whether a frame of which some bytes came, and that is not whole, has been coming for too long.
-fn is_slow<R: Clock>(rt: &R, begun: &mut Option<Since>) -> bool {
+fn is_slow<R: Clock>(rt: &R, begun: &mut Option<Moment>) -> bool {
     match begun {
-        Some(begun) => begun.is_over(rt, PATIENCE),
+        Some(begun) => begun.is_past(PATIENCE, Moment::now(rt)),
         None => {
-            *begun = Some(Since::now(rt));
+            *begun = Some(Moment::now(rt));
             false
         }
     }
@@ -181,7 +177,7 @@ impl<'a, R: Net<Listener = TcpListener, Stream = TcpStream> + Clock + Wait> Conn
             stream: None,
             framer: Framer::new(alloc)?,
             unread: Unread::new(alloc)?,
-            since: Since::now(rt),
+            since: Moment::now(rt),
             begun: None,
             wait: 0,
             inquiry: Inquiry::new(),
@@ -193,7 +189,7 @@ impl<'a, R: Net<Listener = TcpListener, Stream = TcpStream> + Clock + Wait> Conn
         self.stream = None;
         self.tally.lose();
         self.wait = self.wait.saturating_mul(2).clamp(FIRST_WAIT, LONGEST_WAIT);
-        self.since = Since::now(self.rt);
+        self.since = Moment::now(self.rt);
         let text = loss_text(self.alloc, self.tally, self.to, &loss, self.wait);
         self.journal.tell(self.rt, text);
     }
@@ -211,9 +207,9 @@ impl<'a, R: Net<Listener = TcpListener, Stream = TcpStream> + Clock + Wait> Conn
         };
         self.unread = unread;
         self.stream = Some(stream);
-        self.since = Since::now(self.rt);
+        self.since = Moment::now(self.rt);
         self.begun = None;
-        self.inquiry.note(self.rt);
+        self.inquiry.note(Moment::now(self.rt));
         self.journal.note(
             self.rt,
             text_of(self.alloc, self.tally, self.to, "connected"),
@@ -223,7 +219,7 @@ impl<'a, R: Net<Listener = TcpListener, Stream = TcpStream> + Clock + Wait> Conn
 
     /// Makes it where its time has come, and else waits a little.
     fn open_when_due(&mut self) {
-        if self.wait > 0 && !self.since.is_over(self.rt, self.wait) {
+        if self.wait > 0 && !self.since.is_past(self.wait, Moment::now(self.rt)) {
             thread::sleep(self.rt, Duration::from_millis(TURN));
             return;
         }
@@ -242,7 +238,7 @@ impl<'a, R: Net<Listener = TcpListener, Stream = TcpStream> + Clock + Wait> Conn
         };
         match read(&mut self.unread, stream)? {
             Heard::Bytes => {
-                self.since = Since::now(self.rt);
+                self.since = Moment::now(self.rt);
                 let whole = cut(&mut self.framer, &mut self.unread, buffer)?;
                 if whole.is_none() && is_slow(self.rt, &mut self.begun) {
                     return Err(Loss::Slow);
@@ -250,7 +246,7 @@ impl<'a, R: Net<Listener = TcpListener, Stream = TcpStream> + Clock + Wait> Conn
                 Ok(whole)
             }
             Heard::Nothing => {
-                if self.since.is_over(self.rt, PATIENCE) {
+                if self.since.is_past(PATIENCE, Moment::now(self.rt)) {
                     return Err(Loss::Silent);
                 }
                 Ok(None)
@@ -286,7 +282,7 @@ impl<'a, R: Net<Listener = TcpListener, Stream = TcpStream> + Clock + Wait> Conn
 
     /// Asks for the configuration.
     fn ask_again(&mut self) {
-        self.inquiry.note(self.rt);
+        self.inquiry.note(Moment::now(self.rt));
         if let Some(stream) = &mut self.stream {
             let _told = tell(self.id, Command::SendCfg2, stream);
         }
@@ -295,7 +291,7 @@ impl<'a, R: Net<Listener = TcpListener, Stream = TcpStream> + Clock + Wait> Conn
     /// Takes how its last frame was answered. Where it was refused for want of the configuration of its data, that is asked for again.
     pub fn answered(&mut self, outcome: Option<Outcome>) {
         if let Some(outcome) = outcome {
-            if self.inquiry.is_called_for(self.rt, outcome) {
+            if self.inquiry.is_called_for(Moment::now(self.rt), outcome) {
                 self.ask_again();
             }
         }

@@ -2,6 +2,7 @@
 ghost use Rattle.std.specs.Prelude.{◌≡◌, ◌≤◌, ◌<◌, ℕ, length};
 
 use crate::connection::Connection;
+use crate::count_limit::CountLimit;
 use crate::port::Port;
 use pdc_ports::{Next, Numbered, Outcome, Source};
 use std::net::{Net, TcpListener, TcpStream};
@@ -21,6 +22,8 @@ enum Way<'a, R: Net<Listener = TcpListener, Stream = TcpStream> + Clock + Wait> 
 /// The frames of a stream, at a port or over a connection. When it ends, its sender is told to send no more, where it was asked.
 pub struct Link<'a, R: Net<Listener = TcpListener, Stream = TcpStream> + Clock + Wait> {
     way: Way<'a, R>,
+    /// Which configurations it leaves out, if it leaves out any.
+    limit: Option<CountLimit<'a, R>>,
     /// How many datagrams it gave since it was idle last.
     in_a_row: u32,
     failures: u64,
@@ -31,6 +34,7 @@ impl<'a, R: Net<Listener = TcpListener, Stream = TcpStream> + Clock + Wait> Link
     pub fn at(port: Port<'a, R>) -> Link<'a, R> {
         Link {
             way: Way::Port(port),
+            limit: None,
             in_a_row: 0,
             failures: 0,
         }
@@ -40,9 +44,15 @@ impl<'a, R: Net<Listener = TcpListener, Stream = TcpStream> + Clock + Wait> Link
     pub fn over(connection: Connection<'a, R>) -> Link<'a, R> {
         Link {
             way: Way::Connection(connection),
+            limit: None,
             in_a_row: 0,
             failures: 0,
         }
+    }
+
+    /// Leaves out what this limit leaves out, if there is one.
+    pub fn set_limit(&mut self, limit: Option<CountLimit<'a, R>>) {
+        self.limit = limit;
     }
 
     /// How many bytes of datagrams wait at its port at most, where there is one and the system tells it.
@@ -58,6 +68,7 @@ impl<'a, R: Net<Listener = TcpListener, Stream = TcpStream> + Clock + Wait> Drop
     fn drop(self) {
         let Link {
             way,
+            limit: _,
             in_a_row: _,
             failures: _,
         } = self;
@@ -88,6 +99,12 @@ impl<'a, R: Net<Listener = TcpListener, Stream = TcpStream> + Clock + Wait> Sour
             Way::Port(port) => port.next(buffer),
             Way::Connection(connection) => connection.next(buffer),
         };
+        if let (Next::Datagram(len), Some(limit)) = (next, &mut self.limit) {
+            if limit.leaves_out(&buffer[..len]) {
+                self.in_a_row = 0;
+                return Next::Idle;
+            }
+        }
         match next {
             Next::Datagram(_) => self.in_a_row += 1,
             Next::Fault => self.failures = self.failures.saturating_add(1),

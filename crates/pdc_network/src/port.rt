@@ -1,18 +1,14 @@
 //! Frames at a UDP port.
 ghost use Rattle.std.specs.Prelude.{◌≡◌, ◌≤◌, ◌<◌, ℕ, length};
 
-use crate::inquiry::Inquiry;
-use crate::since::Since;
+use crate::inquiry::{Inquiry, PATIENCE};
 use crate::udp_source::UdpSource;
 use pdc_frame::{Command, StreamId};
-use pdc_journal::Tally;
+use pdc_journal::{Moment, Tally};
 use pdc_ports::{Next, Outcome, Source};
 use pdc_session::command_frame;
 use std::net::SocketAddr;
 use std::rt::Clock;
-
-/// After how many seconds without data it is asked for again.
-const PATIENCE: u64 = 5;
 
 /// The frames that come to a UDP port. Where its sender is to be asked, it is told by commands from this port to send its configuration
 /// and its data: at the begin, and again after each five seconds in which no data came, or none was taken for want of a configuration; and where
@@ -26,7 +22,7 @@ pub struct Port<'a, R: Clock> {
     /// Where the commands go; where there is none, it is not asked for.
     commands: Option<SocketAddr>,
     /// Since when it was asked for, or came last; where there is none, it was not asked for yet.
-    asked: Option<Since>,
+    asked: Option<Moment>,
     inquiry: Inquiry,
 }
 
@@ -52,10 +48,7 @@ impl<'a, R: Clock> Port<'a, R> {
 
     /// Whether it is to be asked for again.
     fn is_due(&self) -> bool {
-        match &self.asked {
-            Some(asked) => asked.is_over(self.rt, PATIENCE),
-            None => true,
-        }
+        Moment::is_long_ago(self.asked, PATIENCE, Moment::now(self.rt))
     }
 
     /// Tells the sender to send its configuration, and its data.
@@ -66,8 +59,8 @@ impl<'a, R: Clock> Port<'a, R> {
         );
         let _sent = self.source.send(config.as_slice(), to);
         let _sent = self.source.send(data.as_slice(), to);
-        self.asked = Some(Since::now(self.rt));
-        self.inquiry.note(self.rt);
+        self.asked = Some(Moment::now(self.rt));
+        self.inquiry.note(Moment::now(self.rt));
     }
 
     /// What comes next.
@@ -101,9 +94,9 @@ impl<'a, R: Clock> Port<'a, R> {
         let Some(to) = self.commands else {
             return;
         };
-        self.asked = Some(Since::now(self.rt));
+        self.asked = Some(Moment::now(self.rt));
         if let Some(outcome) = outcome {
-            if self.inquiry.is_called_for(self.rt, outcome) {
+            if self.inquiry.is_called_for(Moment::now(self.rt), outcome) {
                 self.ask(to);
             }
         }

@@ -1,6 +1,6 @@
 use Rattle.std.proofs.Common.{rules, arith}
-use Rattle.pdc_network.proofs.Due.{before_first, behind_first_by}
-use Rattle.pdc_network.proofs.deadlines.Deadlines.wait_at.Goals as goal
+use Rattle.pdc_ticking.proofs.Due.{before_first, behind_first_by}
+use Rattle.pdc_ticking.proofs.deadlines.Deadlines.wait_at.Goals as goal
 
 pub returns-then-moment-self : goal.returns-then-moment-self
 returns-then-moment-self c = before_first c.args.self.now.first c.args.self.now.span c.args.self.now.parts c.args.moment (search rules) (search rules)

@@ -1,9 +1,17 @@
 //! What was now at the last tick.
+ghost use Rattle.std.specs.Prelude.{◌≡◌, nat_le};
 
 use std::rt::Clock;
 use std::sync::atomic::{AtomicU64, Ordering};
 use std::sync::{Condvar, Mutex, Wait};
 use std::time::Duration;
+
+/// Whether an instant is now at a tick of this now, or was before.
+pub fn is_reached(instant: u64, now: u64) -> bool
+    ensures { result ≡ nat_le instant now }
+{
+    instant <= now
+}
 
 /// The instant that was now at the last tick, for those who wait for a later one.
 #[derive(Drop)]
@@ -36,9 +44,9 @@ impl LastTick {
         self.note(rt, u64::MAX);
     }
 
-    /// Whether this instant was now at the last tick, or an earlier one.
-    pub fn is_at(&self, instant: u64) -> bool {
-        instant <= self.seen.load(Ordering::Relaxed)
+    /// What was now at the last tick.
+    pub fn seen(&self) -> u64 {
+        self.seen.load(Ordering::Relaxed)
     }
 
     /// Waits until a tick comes at which this instant is now or was, and at most so long.
@@ -46,6 +54,6 @@ impl LastTick {
         let held = self.now.lock(rt);
         let _woken = self
             .ticked
-            .wait_timeout_while(rt, held, most, |now| *now < instant);
+            .wait_timeout_while(rt, held, most, |now| !is_reached(instant, *now));
     }
 }

@@ -1,7 +1,10 @@
 //! When ticks are due.
-ghost use Rattle.std.specs.Prelude.{◌≡◌, ◌+◌, ◌*◌, ◌/◌, ◌≤◌};
-ghost use Rattle.pdc_network.specs.declared.deadlines.TheConstants.{NANOSECONDS};
-ghost use Rattle.pdc_network.specs.Deadlines.{IsNextDeadline};
+ghost use Rattle.std.specs.Prelude.{◌≡◌, ◌+◌, ◌*◌, ◌/◌, ◌≤◌, ◌<◌, ◌↔◌, IsTrue};
+ghost use Rattle.pdc_ticking.specs.declared.deadlines.TheConstants.{NANOSECONDS};
+ghost use Rattle.pdc_ticking.specs.Deadlines.{IsNextDeadline};
+ghost use Rattle.pdc_ticking.specs.Waiting.{IsEarly, IsWaiting};
+
+use crate::waiting::Waiting;
 
 /// The nanoseconds in a second.
 pub(crate) const NANOSECONDS: u64 = 1_000_000_000;
@@ -21,7 +24,7 @@ pub struct Deadlines {
 }
 
 impl Deadlines {
-    ghost use Rattle.pdc_network.specs.Paces.{first_of, parts_of, span_of};
+    ghost use Rattle.pdc_ticking.specs.Paces.{first_of, parts_of, span_of};
 
     /// Deadlines the length of a frame apart, in whole nanoseconds, from the start on; at so many frames in a second.
     pub fn from_start(rate: u16) -> Deadlines
@@ -62,6 +65,33 @@ impl Deadlines {
         let gone = u128::from(moment - self.first) * u128::from(self.parts);
         let over = (gone % u128::from(self.span)) as u64;
         (self.span - over + (parts - 1)) / parts
+    }
+
+    /// Whether the tick of the deadline `given` was given before it: it lies above the moment, no later than the second deadline above it.
+    fn is_early(&self, moment: u64, given: u64) -> bool
+        ensures { IsTrue result ↔ IsEarly (first_of self.now) (span_of self.now) (parts_of self.now) moment given }
+    {
+        if given <= moment {
+            return false;
+        }
+        let wait = self.wait_at(moment);
+        if given - moment <= wait {
+            return true;
+        }
+        let next = moment + wait;
+        given - next <= self.wait_at(next)
+    }
+
+    /// How a ticker waits at a moment that may be woken before its deadline, where the last tick that it gave was that of the deadline
+    /// `given`: so it gives one tick between two deadlines. A clock that was set back a little changes nothing of that.
+    pub fn waiting_at(&self, moment: u64, given: u64) -> Waiting
+        ensures { IsWaiting (first_of self.now) (span_of self.now) (parts_of self.now) moment given result }
+    {
+        if self.is_early(moment, given) {
+            Waiting::Sleep(given - moment)
+        } else {
+            Waiting::ForWake(self.wait_at(moment))
+        }
     }
 
     /// The length from one to the next, in whole nanoseconds.

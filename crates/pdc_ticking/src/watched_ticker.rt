@@ -1,14 +1,17 @@
 //! A ticker whose ticks others wait for, and that tells of ticks that come late.
-ghost use Rattle.std.specs.Prelude.{◌≤◌, ℕ, List};
+ghost use Rattle.std.specs.Prelude.{◌≡◌, ◌≤◌, ℕ, List, Some, if◌then◌else◌, nat_le};
+ghost use Rattle.std.specs.Duration.{as_nanos};
+ghost use Rattle.pdc_journal.specs.Moment.{is_long_ago};
+ghost use Rattle.pdc_ticking.specs.Ticks.{time_since};
 
 use crate::last_tick::LastTick;
-use pdc_journal::Journal;
+use pdc_journal::{Journal, Moment};
 use pdc_ports::{Did, Ticker, Told};
 use std::alloc::Global;
 use std::rt::Clock;
 use std::sync::Wait;
 use std::sync::atomic::{AtomicU64, Ordering};
-use std::time::{Duration, Instant};
+use std::time::Duration;
 
 /// By how much a tick is late that is told, in milliseconds.
 const LATE: u64 = 200;
@@ -30,26 +33,38 @@ pub struct WatchedTicker<'a, K: Ticker + Drop, R: Wait + Clock> {
     /// From one tick to the next, no less is late.
     most: Duration,
     /// When the last tick was given, and when it was made.
-    given: Option<Instant>,
-    made: Option<Instant>,
+    given: Option<Moment>,
+    made: Option<Moment>,
     /// When a late tick was told last.
-    told: Option<Instant>,
+    told: Option<Moment>,
     inner: K,
 }
 
-/// How long ago that was; nothing where the clock cannot be read.
-fn since<R: Clock>(rt: &R, moment: Option<Instant>) -> Duration {
+/// How long ago that was; nothing where it never was, or the clock cannot be read.
+fn since(moment: Option<Moment>, now: Moment) -> Duration
+    ensures { as_nanos result ≡ time_since moment now }
+{
     match moment {
-        Some(moment) => moment.elapsed(rt).unwrap_or(Duration::ZERO),
+        Some(moment) => moment.until(now).unwrap_or(Duration::ZERO),
         None => Duration::ZERO,
     }
 }
 
+/// Whether a tick is late that came so long after the one before, where no less than `most` is late.
+fn is_late(gone: Duration, most: Duration) -> bool
+    ensures { result ≡ nat_le (as_nanos most) (as_nanos gone) }
+{
+    gone.as_nanos() >= most.as_nanos()
+}
+
 /// Whether a late tick is told now, where one was told then. It counts as told now.
-fn is_to_be_told<R: Clock>(rt: &R, told: &mut Option<Instant>) -> bool {
-    let is_due = told.is_none() || since(rt, *told) >= Duration::from_secs(PAUSE);
+fn is_to_be_told(told: &mut Option<Moment>, now: Moment) -> bool
+    ensures due { result ≡ is_long_ago 10 told.old now }
+    ensures after { told.new ≡ (if is_long_ago 10 told.old now then Some now else told.old) }
+{
+    let is_due = Moment::is_long_ago(*told, PAUSE, now);
     if is_due {
-        *told = Instant::now(rt).ok();
+        *told = Some(now);
     }
     is_due
 }
@@ -110,17 +125,18 @@ impl<'a, K: Ticker + Drop, R: Wait + Clock> Ticker for WatchedTicker<'a, K, R> {
     ghost gave = { λ s nows. K.gave s.inner nows };
 
     fn next(&mut self) -> Option<u64> {
-        let asked = since(self.rt, self.given);
-        let making = asked.saturating_sub(since(self.rt, self.made));
+        let now = Moment::now(self.rt);
+        let asked = since(self.given, now);
+        let making = asked.saturating_sub(since(self.made, now));
         let next = self.inner.next();
-        let gone = since(self.rt, self.given);
-        if gone >= self.most {
+        let gone = since(self.given, Moment::now(self.rt));
+        if is_late(gone, self.most) {
             self.late.fetch_add(1, Ordering::Relaxed);
-            if is_to_be_told(self.rt, &mut self.told) {
+            if is_to_be_told(&mut self.told, Moment::now(self.rt)) {
                 self.tell_late(gone, making, asked);
             }
         }
-        self.given = Instant::now(self.rt).ok();
+        self.given = Some(Moment::now(self.rt));
         if next.is_none() {
             self.last_tick.end(self.rt);
         }
@@ -131,7 +147,7 @@ impl<'a, K: Ticker + Drop, R: Wait + Clock> Ticker for WatchedTicker<'a, K, R> {
         self.inner.note(step, did);
         if let Did::Ticked { now, .. } = did {
             self.last_tick.note(self.rt, *now);
-            self.made = Instant::now(self.rt).ok();
+            self.made = Some(Moment::now(self.rt));
         }
     }
 

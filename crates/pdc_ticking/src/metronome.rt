@@ -17,15 +17,13 @@ pub trait Timepiece {
         ensures none { IfNone result ((times : List ℕ) → showed self.old times → showed self.new times) };
 }
 
-/// The system's clocks, and deadlines by one of them.
+/// Deadlines by one of the system's clocks.
 #[derive(Drop)]
-pub struct Metronome<C: Clock + Drop> {
-    clock: C,
-    deadlines: Deadlines,
+pub(crate) struct Pace<C: Clock + Drop> {
+    pub(crate) clock: C,
+    pub(crate) deadlines: Deadlines,
     /// When the first deadline was, by the clock that never goes back; deadlines lie behind 1970 by the system's clock where there is none.
     start: Option<Instant>,
-    /// The deadline that was slept to last.
-    last: u64,
 }
 
 /// How many nanoseconds a length has, the greatest number of 64 bits where they do not hold it.
@@ -42,10 +40,10 @@ pub(crate) fn time_now<C: Clock>(clock: &C) -> Option<Duration> {
     )
 }
 
-impl<C: Clock + Drop> Metronome<C> {
+impl<C: Clock + Drop> Pace<C> {
     /// At so many frames in a second: deadlines so many milliseconds behind each instant of the system's clock, or else the length of a frame
     /// apart from now on.
-    pub fn new(clock: C, rate: u16, tick_ms: Option<u16>) -> Metronome<C>
+    pub(crate) fn new(clock: C, rate: u16, tick_ms: Option<u16>) -> Pace<C>
         requires { 1 ≤ rate }
     {
         let start = match tick_ms {
@@ -56,16 +54,15 @@ impl<C: Clock + Drop> Metronome<C> {
             Some(milliseconds) => Deadlines::behind_instants(rate, milliseconds),
             None => Deadlines::from_start(rate),
         };
-        Metronome {
+        Pace {
             clock,
             deadlines,
             start,
-            last: 0,
         }
     }
 
     /// Where the clock stands that deadlines lie by.
-    fn moment(&self) -> Option<u64> {
+    pub(crate) fn moment(&self) -> Option<u64> {
         let gone = match self.start {
             Some(start) => start.elapsed(&self.clock).ok()?,
             None => time_now(&self.clock)?,
@@ -73,11 +70,40 @@ impl<C: Clock + Drop> Metronome<C> {
         Some(nanoseconds_of(gone))
     }
 
+    /// The time since 1970 in nanoseconds; none where it cannot be read.
+    pub(crate) fn time(&self) -> Option<u128> {
+        match time_now(&self.clock) {
+            Some(now) => Some(now.as_nanos()),
+            None => None,
+        }
+    }
+}
+
+/// The system's clocks, and the sleep to each of the deadlines that lie by one of them.
+#[derive(Drop)]
+pub struct Metronome<C: Clock + Drop> {
+    pace: Pace<C>,
+    /// The deadline that was slept to last.
+    last: u64,
+}
+
+impl<C: Clock + Drop> Metronome<C> {
+    /// At so many frames in a second: deadlines so many milliseconds behind each instant of the system's clock, or else the length of a frame
+    /// apart from now on.
+    pub fn new(clock: C, rate: u16, tick_ms: Option<u16>) -> Metronome<C>
+        requires { 1 ≤ rate }
+    {
+        Metronome {
+            pace: Pace::new(clock, rate, tick_ms),
+            last: 0,
+        }
+    }
+
     /// Sleeps to the first deadline above now, and above the last one, which a clock that was set back a little shows again.
     fn sleep_to_deadline(&mut self) {
-        let length = self.deadlines.length();
-        let Some(now) = self.moment() else {
-            thread::sleep(&self.clock, Duration::from_nanos(length));
+        let length = self.pace.deadlines.length();
+        let Some(now) = self.pace.moment() else {
+            thread::sleep(&self.pace.clock, Duration::from_nanos(length));
             return;
         };
         let from = if now < self.last && self.last - now < length {
@@ -85,13 +111,13 @@ impl<C: Clock + Drop> Metronome<C> {
         } else {
             now
         };
-        self.last = from.saturating_add(self.deadlines.wait_at(from));
+        self.last = from.saturating_add(self.pace.deadlines.wait_at(from));
         // A clock that is being set may show less than was slept: once more, then.
         for _ in 0..2 {
-            match self.moment() {
+            match self.pace.moment() {
                 Some(now) if now < self.last => {
                     let left = (self.last - now).min(length.saturating_mul(2));
-                    thread::sleep(&self.clock, Duration::from_nanos(left));
+                    thread::sleep(&self.pace.clock, Duration::from_nanos(left));
                 }
                 _ => return,
             }
@@ -102,9 +128,6 @@ impl<C: Clock + Drop> Metronome<C> {
 impl<C: Clock + Drop> Timepiece for Metronome<C> {
     fn at_next_deadline(&mut self) -> Option<u128> {
         self.sleep_to_deadline();
-        match time_now(&self.clock) {
-            Some(now) => Some(now.as_nanos()),
-            None => None,
-        }
+        self.pace.time()
     }
 }

@@ -1,8 +1,9 @@
 //! A source that waits for a tick that is late.
 ghost use Rattle.std.specs.Prelude.{◌≡◌, ◌≤◌, ◌<◌, ℕ, length};
+ghost use Rattle.pdc_ticking.specs.Ticks.{awaited};
 
 use crate::clock::instant_at;
-use crate::last_tick::LastTick;
+use crate::last_tick::{LastTick, is_reached};
 use crate::metronome::time_now;
 use pdc_journal::Tags;
 use pdc_ports::{Next, Numbered, Outcome, Source};
@@ -25,20 +26,30 @@ pub struct Patience<'a> {
 }
 
 impl<'a> Patience<'a> {
+    /// Which now is waited for after a tick with this now: the least that takes these bytes as data, where the tick would refuse them as
+    /// ahead. None where they are no data of an instant, or are not ahead.
+    pub fn awaited(&self, bytes: &[u8], last: u64) -> Option<u64>
+        ensures { result ≡ awaited self.now.tags.rate self.now.tags.time_base self.now.ahead bytes.now last }
+    {
+        let instant = self.tags.instant_of_data(bytes)?;
+        let least = instant.saturating_sub(self.ahead);
+        if is_reached(least, last) {
+            None
+        } else {
+            Some(least)
+        }
+    }
+
     /// Waits for the next ticks where these bytes are data that the last tick would refuse as ahead, and a tick by the system's clock would not:
     /// so this concentrator is late, and not the PMU's clock ahead. A second at most.
     fn hold<R: Wait + Clock>(&self, rt: &R, bytes: &[u8]) {
-        let Some(instant) = self.tags.instant_of_data(bytes) else {
+        let Some(least) = self.awaited(bytes, self.last_tick.seen()) else {
             return;
         };
-        let least = instant.saturating_sub(self.ahead);
-        if self.last_tick.is_at(least) {
-            return;
-        }
         let Some(now) = time_now(rt) else {
             return;
         };
-        if least <= instant_at(now.as_nanos(), self.tags.rate) {
+        if is_reached(least, instant_at(now.as_nanos(), self.tags.rate)) {
             let most = Duration::from_millis(LONGEST_HOLD);
             self.last_tick.wait_for(rt, least, most);
         }
@@ -86,5 +97,13 @@ impl<'a, S: Source + Drop, R: Wait + Clock> Source for HoldingSource<'a, S, R> {
 
     fn failures(&self) -> u64 {
         self.inner.failures()
+    }
+
+    fn wants_whole(&self) -> bool {
+        self.inner.wants_whole()
+    }
+
+    fn whole(&mut self) {
+        self.inner.whole();
     }
 }

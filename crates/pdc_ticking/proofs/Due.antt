@@ -2,7 +2,7 @@
 use Rattle.std.proofs.Common.{◌≡◌, sym, subst, ap, ◌∙◌, ℕ, ◌+◌, ◌-◌, ◌*◌, ◌/◌, ◌%◌, ◌≤◌, ◌<◌, arith}
 use Rattle.std.proofs.Math.Nat.{add-mul-div_right, div-mul-le_self, lt_of_mul-lt-mul_right, mul-le-mul_right}
 use Rattle.std.proofs.lemmas.Nat.{div-add-mod', div-mul-add, le-div, mod_below}
-use Rattle.pdc_network.specs.Deadlines.{IsNextDeadline, deadline_of}
+use Rattle.pdc_ticking.specs.Deadlines.{IsNextDeadline, deadline_of}
 
 -- a later number has no earlier deadline
 not_earlier : (first span parts less more : ℕ) → 1 ≤ parts → less ≤ more → deadline_of first span parts less ≤ deadline_of first span parts more

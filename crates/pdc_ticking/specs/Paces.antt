@@ -1,6 +1,6 @@
 -- The deadlines of a ticker (this profile).
 use Rattle.std.specs.Prelude.{ℕ}
-use Rattle.pdc_network.specs.declared.deadlines.Deadlines.{Deadlines}
+use Rattle.pdc_ticking.specs.declared.deadlines.Deadlines.{Deadlines}
 
 -- the first one
 abbrev pub first_of : Deadlines → ℕ

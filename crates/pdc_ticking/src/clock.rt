@@ -1,6 +1,6 @@
 //! Ticks by a clock.
 ghost use Rattle.std.specs.Prelude.{◌≡◌, ℕ, List, map};
-ghost use Rattle.pdc_network.specs.Instants.{instant_of};
+ghost use Rattle.pdc_ticking.specs.Instants.{instant_of};
 
 use crate::deadlines::NANOSECONDS;
 use crate::metronome::Timepiece;
