@@ -10,9 +10,9 @@ ghost use Rattle.pdc_startup.specs.declared.described.Step.TheVariants.{BeginRec
 
 use crate::host::Host;
 use crate::serving::{Consumers, Opened, Serving, run_serving};
-use crate::telling::begun_text;
+use crate::telling::{begun_text, unknown_text};
 use pdc_mark::Mark;
-use pdc_recording::Series;
+use pdc_settings::unknown_keys;
 use pdc_startup::{
     Begun, Described, Files, Machine, Observed, OutputsSink, RunOptions, ServiceFault,
 };
@@ -25,29 +25,40 @@ struct Watched<'a, M: Mark + Drop> {
     observed: &'a Observed,
 }
 
-/// What a run has once a link to the sender of each stream is open: its mark, the links, in order, the files of its record, where it is
-/// recorded, and how many bytes of datagrams wait at a port at most, where the system tells it.
+/// What a run has once a link to the sender of each stream is open: its mark, the links, in order, and how many bytes of datagrams wait at a
+/// port at most, where the system tells it.
 #[derive(Drop)]
-struct Linked<'a, S: Source + Drop, M: Mark + Drop> {
+struct Linked<S: Source + Drop, M: Mark + Drop> {
     mark: Begun<M>,
     sources: Vec<S>,
-    record: Option<Series<'a>>,
     buffer: Option<u32>,
+}
+
+/// Tells of the keys of the settings file that nothing reads: they are passed over, and may be slips.
+fn tell_unknown<R: Host>(rt: &R, observed: &Observed, file: &str, described: &Described) {
+    let alloc = rt.alloc();
+    let Ok(unknown) = unknown_keys(alloc, described.text.as_str()) else {
+        return;
+    };
+    for key in &unknown {
+        observed.journal.tell(rt, unknown_text(alloc, file, key));
+    }
 }
 
 /// Tries the steps behind the links, in their order, and runs the concentrator that the settings describe.
 fn serve_linked<M: Machine, S: Source + Send + Drop, R: Host>(
     rt: &R,
     machine: &mut M,
+    files: &Files<'_>,
     options: &RunOptions,
     described: &Described,
     observed: &Observed,
-    linked: Linked<'_, S, M::Mark>,
+    linked: Linked<S, M::Mark>,
 ) -> Result<Totals, ServiceFault>
     requires { vec_len linked.sources ≡ streams_of described.now.concentrator }
     ensures totals { IfOk result AreSums }
     ensures each { IfOk result (HaveEach (streams_of described.now.concentrator)) }
-    ensures opened { HasOpened M.tried machine.old machine.new described.now (λ described stored. WasHanded M.fresh M.Outputs.took (kind_of described.concentrator) stored result) (Some (M.Mark.stored (begun_mark linked.entry.mark))) (OpenSink ∷ OpenListener ∷ OpenMetrics ∷ []) result }
+    ensures opened { HasOpened M.tried machine.old machine.new described.now (λ described stored. WasHanded M.fresh M.Outputs.took (kind_of described.concentrator) stored result) (Some (M.Mark.stored (begun_mark linked.entry.mark))) (OpenSink ∷ OpenListener ∷ OpenMetrics ∷ BeginRecord files.now ∷ []) result }
 {
     let alloc = rt.alloc();
     let concentrator = &described.concentrator;
@@ -55,16 +66,19 @@ fn serve_linked<M: Machine, S: Source + Send + Drop, R: Host>(
     let outputs = machine.open_outputs(rt, described)?;
     let listener = machine.open_listener(rt, described)?;
     let metrics = machine.open_metrics(rt, described)?;
+    // A startup that fails leaves no file of a record.
+    let record = machine.open_record(rt, files, described, &linked.mark)?;
     let (start, floor) = (linked.mark.start(), linked.mark.floor());
     observed.journal.note(
         rt,
         begun_text(alloc, concentrator, network, start, floor, linked.buffer),
     );
+    tell_unknown(rt, observed, files.settings, described);
     let opened = Opened {
         mark: linked.mark,
         sources: linked.sources,
         sink: OutputsSink::new(outputs, observed.outputs.as_slice()),
-        record: linked.record,
+        record,
     };
     let consumers = Consumers {
         listener,
@@ -91,19 +105,17 @@ fn serve_watched<M: Machine, R: Host>(
 ) -> Result<Totals, ServiceFault>
     ensures totals { IfOk result AreSums }
     ensures each { IfOk result (HaveEach (streams_of described.now.concentrator)) }
-    ensures opened { HasOpened M.tried machine.old machine.new described.now (λ described stored. WasHanded M.fresh M.Outputs.took (kind_of described.concentrator) stored result) (Some (M.Mark.stored (begun_mark watched.entry.mark))) (BeginRecord files.now ∷ OpenSources ∷ OpenSink ∷ OpenListener ∷ OpenMetrics ∷ []) result }
+    ensures opened { HasOpened M.tried machine.old machine.new described.now (λ described stored. WasHanded M.fresh M.Outputs.took (kind_of described.concentrator) stored result) (Some (M.Mark.stored (begun_mark watched.entry.mark))) (OpenSources ∷ OpenSink ∷ OpenListener ∷ OpenMetrics ∷ BeginRecord files.now ∷ []) result }
 {
     let Watched { mark, observed } = watched;
-    let record = machine.open_record(rt, files, described, &mark)?;
     let sources = machine.open_links(rt, described, observed)?;
     let buffer = sources.first().and_then(|source| source.buffer());
     let linked = Linked {
         mark,
         sources,
-        record,
         buffer,
     };
-    serve_linked(rt, machine, options, described, observed, linked)
+    serve_linked(rt, machine, files, options, described, observed, linked)
 }
 
 /// Tries the steps behind the settings, in their order, and runs the concentrator that these describe. What is watched of the run is lent to
@@ -138,8 +150,8 @@ fn serve_described<M: Machine, R: Host>(
 ///
 /// # Errors
 ///
-/// The first fault: of the settings file, the mark file, the start that is stored, the first file of the record, the ports and places of the PMUs in their order, the
-/// port of the frames, the further destinations in their order, the port of the sessions, that of the counters, or the run.
+/// The first fault: of the settings file, the mark file, the start that is stored, the ports and places of the PMUs in their order, the
+/// port of the frames, the further destinations in their order, the port of the sessions, that of the counters, the first file of the record, or the run.
 pub fn serve_node<M: Machine, R: Host>(
     rt: &R,
     machine: &mut M,
@@ -162,8 +174,8 @@ pub fn serve_node<M: Machine, R: Host>(
 ///
 /// # Errors
 ///
-/// The first fault: of the settings file, the mark file, the start that is stored, the first file of the record, the ports or places of node A and node B, the
-/// port of the frames, the further destinations in their order, the port of the sessions, that of the counters, or the run.
+/// The first fault: of the settings file, the mark file, the start that is stored, the ports or places of node A and node B, the
+/// port of the frames, the further destinations in their order, the port of the sessions, that of the counters, the first file of the record, or the run.
 pub fn serve_merger<M: Machine, R: Host>(
     rt: &R,
     machine: &mut M,

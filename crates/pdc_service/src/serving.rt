@@ -17,11 +17,11 @@ use crate::telling::unsent_text;
 use pdc_journal::{AnnouncingSink, CountingSink, Journal, Reporting, RunCounters};
 use pdc_mark::Mark;
 use pdc_metrics::{Metered, serve_metrics};
-use pdc_network::{ClockTicker, Metronome, WatchedTicker};
 use pdc_recording::{RecordedTicker, Series, Shelf, write_record};
 use pdc_server::{Naming, Recent, RememberingSink, serve};
 use pdc_startup::{Begun, Concentrator, Observed, RunOptions, ServiceFault, observe_all, plan_of};
 use pdc_threads::{HubFault, Sink, Source, Totals};
+use pdc_ticking::{ClockTicker, TickTime, WatchedTicker};
 use std::alloc::Global;
 use std::marker::Brand;
 use std::net::TcpListener;
@@ -192,7 +192,8 @@ fn run_observed<
     let Some(sources) = observe_all(rt, alloc, concentrator, observed, sources) else {
         return Err(ServiceFault::Run(HubFault::NoMemory));
     };
-    let time = Metronome::new(rt, output.rate, service.tick_ms);
+    let wake = observed.wake.as_ref();
+    let time = TickTime::new(rt, output.rate, service.tick_ms, wake);
     let clock = ClockTicker::new(time, output.rate, options.ticks, &signs.is_clock_unreadable);
     let ticker = Reporting::new(
         rt,

@@ -1,6 +1,6 @@
 //! What a concentrator tells at its begin and its end.
 
-use pdc_settings::{Input, Network};
+use pdc_settings::{Input, Network, UnknownKey};
 use pdc_startup::Concentrator;
 use std::alloc::{AllocError, Global};
 use std::fmt::Write;
@@ -93,4 +93,9 @@ pub fn unsent_text(alloc: Global, unsent: u64) -> Result<String, AllocError> {
     format!(in alloc;
         "unsent={unsent}: so many frames could not be sent, or not be kept for the sessions"
     )
+}
+
+/// The line of a key of the settings file that nothing reads.
+pub fn unknown_text(alloc: Global, file: &str, key: &UnknownKey) -> Result<String, AllocError> {
+    format!(in alloc; "{file}: {key}")
 }

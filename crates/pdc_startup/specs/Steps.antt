@@ -50,7 +50,7 @@ IsFaultOf OpenMetrics fault = IsOfListener fault
 
 -- the steps behind the settings, in their order
 abbrev pub steps_with : Files → List Step
-steps_with files = BeginMark files ∷ BeginRecord files ∷ OpenSources ∷ OpenSink ∷ OpenListener ∷ OpenMetrics ∷ []
+steps_with files = BeginMark files ∷ OpenSources ∷ OpenSink ∷ OpenListener ∷ OpenMetrics ∷ BeginRecord files ∷ []
 
 -- A step that failed was the last that was tried: the startup ended by its fault, which is one of the step's own. One that did not fail was
 -- followed by what is to follow.

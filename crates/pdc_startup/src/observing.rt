@@ -8,16 +8,16 @@ use pdc_journal::{
     Tags, Tally, Watchers,
 };
 use pdc_metrics::Metered;
-use pdc_network::{HoldingSource, LastTick, Patience};
 use pdc_ports::Source;
 use pdc_recording::{RecordedSource, Recording};
-use pdc_settings::Network;
+use pdc_settings::{Network, TickWhen};
+use pdc_ticking::{HoldingSource, LastTick, Patience, Wake, WakingSource};
 use std::alloc::{AllocError, Global};
 use std::rt::Clock;
 use std::sync::Wait;
 
 /// What is watched of a run: the lines that it tells, the tally of each stream, in their order, and of each further destination, what its
-/// threads say, when it ticked last, what the merger leaves out, how the run stands, where that is served, and what is recorded of it.
+/// threads say, when it ticked last, by what it is woken, what the merger leaves out, how the run stands, where that is served, and what is recorded of it.
 #[derive(Drop)]
 pub struct Observed {
     pub journal: Journal,
@@ -25,6 +25,7 @@ pub struct Observed {
     pub outputs: Vec<OutputTally>,
     pub signs: Signs,
     pub last_tick: LastTick,
+    pub wake: Option<Wake>,
     pub left_out: Option<LeftOut>,
     pub measured: Option<Measured>,
     pub recording: Option<Recording>,
@@ -68,6 +69,14 @@ fn measured_of(concentrator: &Concentrator, network: &Network) -> Option<Measure
     }
 }
 
+/// By what the aligner is woken, where it ticks as soon as a row is whole.
+fn wake_of(concentrator: &Concentrator) -> Option<Wake> {
+    match concentrator.service_settings().tick {
+        TickWhen::Whole => Some(Wake::new()),
+        TickWhen::Period => None,
+    }
+}
+
 impl Observed {
     /// Nothing was told and counted yet.
     ///
@@ -87,6 +96,7 @@ impl Observed {
             outputs: outputs_of(alloc, network)?,
             signs: Signs::new(),
             last_tick: LastTick::new(),
+            wake: wake_of(concentrator),
             left_out: match concentrator {
                 Concentrator::Node(_) => None,
                 Concentrator::Merger(settings) => Some(LeftOut::new(&settings.life.sources)),
@@ -152,10 +162,14 @@ fn patience_of<'a>(
     })
 }
 
-/// A source of a run: it is watched, recorded where the run is, and held back where the run is late.
-pub type Watched<'a, S, R> = HoldingSource<'a, RecordedSource<'a, ObservedSource<'a, S, R>, R>, R>;
+/// A source of a run that is watched, recorded where the run is, and held back where the run is late.
+type Held<'a, S, R> = HoldingSource<'a, RecordedSource<'a, ObservedSource<'a, S, R>, R>, R>;
 
-/// The sources, each watched, recorded where the run is, and held back where it is late; none where there is no memory for them.
+/// Such a source, which wakes the aligner where it is to tick as soon as a row is whole.
+pub type Watched<'a, S, R> = WakingSource<'a, Held<'a, S, R>, R>;
+
+/// The sources, each watched, recorded where the run is, held back where it is late, and waking the aligner where it is to be woken; none where
+/// there is no memory for them.
 pub fn observe_all<'a, S: Source + Drop, R: Wait + Clock>(
     rt: &'a R,
     alloc: Global,
@@ -177,6 +191,7 @@ pub fn observe_all<'a, S: Source + Drop, R: Wait + Clock>(
         let source = RecordedSource::new(rt, alloc, recording, number, source);
         let patience = patience_of(concentrator, observed, watched.len());
         let source = HoldingSource::new(rt, patience, source);
+        let source = WakingSource::new(rt, observed.wake.as_ref(), source);
         if watched.push(source).is_err() {
             return None;
         }

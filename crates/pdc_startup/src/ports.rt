@@ -9,7 +9,9 @@ use crate::observing::Observed;
 use pdc_frame::StreamId;
 use pdc_hub::HubFault;
 use pdc_journal::{Journal, Tally};
-use pdc_network::{Connection, Destination, Link, Port, UdpOutputs, UdpSink, UdpSource};
+use pdc_network::{
+    Connection, CountLimit, Destination, Link, Port, UdpOutputs, UdpSink, UdpSource,
+};
 use pdc_settings::{Input, Network};
 use std::alloc::Global;
 use std::io;
@@ -96,13 +98,13 @@ fn stream_numbered<'n, 'a>(
     }
 }
 
-/// The link to the sender of the stream: a connection where it is asked for over TCP, and else its port.
-fn open_link<'a, R: Net<Listener = TcpListener, Stream = TcpStream> + Clock + Wait>(
+/// The link to the sender of the stream, without its limit: a connection where it is asked for over TCP, and else its port.
+fn open_way<'a, R: Net<Listener = TcpListener, Stream = TcpStream> + Clock + Wait>(
     rt: &'a R,
     alloc: Global,
     network: &Network,
     journal: &'a Journal,
-    stream: Stream<'_, 'a>,
+    stream: &Stream<'_, 'a>,
 ) -> Result<Link<'a, R>, ServiceFault>
     ensures faults { IfErr result IsOfSources }
 {
@@ -117,6 +119,24 @@ fn open_link<'a, R: Net<Listener = TcpListener, Stream = TcpStream> + Clock + Wa
     let mut source = open_source(rt, network, stream.port)?;
     source.read_only(input.from);
     Ok(Link::at(Port::new(rt, tally, source, id, commands)))
+}
+
+/// The link to the sender of the stream, which leaves out configurations with a count above the one that its table allows.
+fn open_link<'a, R: Net<Listener = TcpListener, Stream = TcpStream> + Clock + Wait>(
+    rt: &'a R,
+    alloc: Global,
+    network: &Network,
+    journal: &'a Journal,
+    stream: &Stream<'_, 'a>,
+) -> Result<Link<'a, R>, ServiceFault>
+    ensures faults { IfErr result IsOfSources }
+{
+    let mut link = open_way(rt, alloc, network, journal, stream)?;
+    if let Some(most) = stream.input.most_count {
+        let limit = CountLimit::new(rt, alloc, journal, stream.tally, most);
+        link.set_limit(Some(limit));
+    }
+    Ok(link)
 }
 
 /// A link for each of these ports, in their order.
@@ -137,7 +157,7 @@ fn open_all<'a, R: Net<Listener = TcpListener, Stream = TcpStream> + Clock + Wai
         let Some(stream) = stream_numbered(network, concentrator, observed, number, *port) else {
             return Err(ServiceFault::Run(HubFault::NoMemory));
         };
-        let link = open_link(rt, alloc, network, &observed.journal, stream)?;
+        let link = open_link(rt, alloc, network, &observed.journal, &stream)?;
         match links.push(link) {
             Ok(()) => {}
             Err(_) => return Err(ServiceFault::Run(HubFault::NoMemory)),

@@ -11,7 +11,7 @@ returns-in_err-mark-clause-opened g c =
     let d = c.args.described.now in
     let p = err_from_is_err_and c.from_residual.result c.from_residual.ensures.1 in
     rw (p.1, p.2)
-    (stops tried d (BeginMark c.args.files.now) (BeginRecord c.args.files.now ∷ OpenSources ∷ OpenSink ∷ OpenListener ∷ OpenMetrics ∷ []) c.in_err-mark.field-0.0 c.in_err-mark.ensures.told c.in_err-mark.ensures.faults)
+    (stops tried d (BeginMark c.args.files.now) (OpenSources ∷ OpenSink ∷ OpenListener ∷ OpenMetrics ∷ BeginRecord c.args.files.now ∷ []) c.in_err-mark.field-0.0 c.in_err-mark.ensures.told c.in_err-mark.ensures.faults)
 
 pub returns-in_default-clause-opened : goal.returns-in_default-clause-opened
 returns-in_default-clause-opened g c =
@@ -19,7 +19,7 @@ returns-in_default-clause-opened g c =
     let d = c.args.described.now in
     let files = c.args.files.now in
     (begins tried d files (g.M.Mark.Mark.stored (begun_mark c.in_ok-mark.mark)) c.in_ok-mark.ensures.told
-    (wants_memory tried _ d (BeginRecord files) (OpenSources ∷ OpenSink ∷ OpenListener ∷ OpenMetrics ∷ [])))
+    (wants_memory tried _ d OpenSources (OpenSink ∷ OpenListener ∷ OpenMetrics ∷ BeginRecord files ∷ [])))
 
 pub returns-clause-opened : goal.returns-clause-opened
 returns-clause-opened g c =
