@@ -34,7 +34,7 @@ from .frames import (
 )
 from .pair import IDENTS, NAMES, Pair
 from .ports import Ports
-from .programs import PDC, RECORD, TOP, WATCH, Program, Room, settings
+from .programs import CHECK, PDC, RECORD, TOP, WATCH, Program, Room, settings
 from .script import Failed, fail, script, skip, sleep_to, until
 from .sockets import HOST, Consumer, Devices, Reader, Server, configure, counters, datagrams, dropped, queues, until_read
 from .watched import Watched

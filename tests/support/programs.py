@@ -25,6 +25,7 @@ def program(name, *words):
 
 
 PDC = program("PDC")
+CHECK = program("CHECK")
 WATCH = program("WATCH", "watch")
 RECORD = program("RECORD")
 

@@ -1,0 +1,4 @@
+pub mod Alone
+pub mod Levels
+pub mod Ports
+pub mod Together

@@ -1,0 +1,109 @@
+//! The ports at which a concentrator listens, and when two are one.
+ghost use Rattle.std.specs.Prelude.{◌≡◌};
+ghost use Rattle.pdc_check.specs.Ports.{is_alike, same_kind, shared, twice};
+
+use crate::finding::Finding;
+use crate::misfit::Misfit;
+use pdc_settings::TableName;
+use std::fmt;
+use std::fmt::{Display, Formatter};
+use std::net::IpAddr;
+
+/// The key of a port.
+#[derive(Clone, Copy, Debug, PartialEq, Eq)]
+pub enum PortKey {
+    /// `port` in the table of a PMU or of a node.
+    Table(TableName),
+    /// `session_port`.
+    Session,
+    /// `metrics_port`.
+    Metrics,
+}
+
+impl Display for PortKey {
+    fn fmt<W: fmt::Write>(&self, f: &mut Formatter<W>) -> fmt::Result {
+        match self {
+            PortKey::Table(table) => write!(f, "port of {table}"),
+            PortKey::Session => f.write_str("session_port"),
+            PortKey::Metrics => f.write_str("metrics_port"),
+        }
+    }
+}
+
+/// A port at which it listens.
+#[derive(Clone, Copy, Debug)]
+pub struct UsedPort {
+    /// Its key.
+    pub key: PortKey,
+    /// It is one of TCP, and else of UDP.
+    pub is_tcp: bool,
+    /// Its address.
+    pub address: IpAddr,
+    /// Its number, 1 to 65535.
+    pub port: u16,
+}
+
+/// Whether the addresses of two ports are one.
+#[derive(Clone, Copy, Debug, PartialEq, Eq)]
+pub enum Meeting {
+    /// They are two.
+    Apart,
+    /// One is each address of its machine, whichever that is.
+    Perhaps,
+    /// They are one.
+    Same,
+}
+
+/// Whether two addresses are one. The loopback of one machine is that of the other only where both are one machine, and they are taken
+/// for one: whoever gives several files with it means to run them here.
+pub fn meeting_of(one: IpAddr, other: IpAddr) -> Meeting {
+    if one == other && !one.is_unspecified() {
+        Meeting::Same
+    } else if one.is_unspecified() || other.is_unspecified() {
+        Meeting::Perhaps
+    } else {
+        Meeting::Apart
+    }
+}
+
+fn same_kind(one: bool, other: bool) -> bool
+    ensures { result ≡ same_kind one other }
+{
+    if one { other } else { !other }
+}
+
+/// Whether they are alike, beside their addresses.
+fn is_alike(one: &UsedPort, other: &UsedPort) -> bool
+    ensures { result ≡ is_alike one.now other.now }
+{
+    same_kind(one.is_tcp, other.is_tcp) && one.port == other.port
+}
+
+/// What is odd about two ports of one concentrator.
+pub fn twice(one: &UsedPort, other: &UsedPort, meeting: Meeting) -> Option<Finding>
+    ensures { result ≡ twice one.now other.now meeting }
+{
+    if !is_alike(one, other) {
+        return None;
+    }
+    match meeting {
+        Meeting::Apart => None,
+        Meeting::Perhaps | Meeting::Same => {
+            Some(Finding::PortTwice(one.key, other.key, one.port))
+        }
+    }
+}
+
+/// What does not fit of the ports of two.
+pub fn shared(one: &UsedPort, other: &UsedPort, meeting: Meeting) -> Option<Misfit>
+    ensures { result ≡ shared one.now other.now meeting }
+{
+    if !is_alike(one, other) {
+        return None;
+    }
+    match meeting {
+        Meeting::Apart => None,
+        Meeting::Perhaps => Some(Misfit::PerhapsSamePort(one.key, other.key, one.port)),
+        Meeting::Same => Some(Misfit::SamePort(one.key, other.key, one.port)),
+    }
+}

@@ -1,0 +1,192 @@
+//! Checking the files.
+
+use crate::printing::{Totals, tell, tell_of_two};
+use pdc_check::{
+    Level, Misfit, Outline, alike, findings, misfits, port_findings, port_misfits, read_outline,
+};
+use pdc_settings::{SettingsFault, unknown_keys};
+use std::alloc::Global;
+use std::fs::File;
+use std::rt::Files;
+use std::{fs, io};
+
+/// The exit statuses.
+const DONE: u8 = 0;
+
+const REFUSED: u8 = 1;
+
+const FAILED: u8 = 3;
+
+/// A file whose settings were read.
+#[derive(Drop)]
+struct Checked<'a> {
+    file: &'a str,
+    outline: Outline,
+}
+
+/// Tells why a file is no settings, in the words of the run.
+fn tell_fault(
+    rt: &impl Print,
+    totals: &mut Totals,
+    file: &str,
+    fault: SettingsFault,
+) -> io::Result<()> {
+    match fault {
+        SettingsFault::Toml => tell(rt, totals, Level::Error, file, &"it is no TOML"),
+        SettingsFault::Range(wanted) => tell(rt, totals, Level::Error, file, &wanted),
+        SettingsFault::DoubledId => {
+            let text = "two ids are the same that must differ";
+            tell(rt, totals, Level::Error, file, &text)
+        }
+        SettingsFault::NoMemory => tell(rt, totals, Level::Error, file, &"it is not read"),
+    }
+}
+
+/// Tells the keys of a text that nothing reads.
+fn tell_unknown(
+    rt: &(impl Print + AllocGlobal),
+    totals: &mut Totals,
+    file: &str,
+    text: &str,
+) -> io::Result<()> {
+    // (what is no document is told by who reads it)
+    if let Ok(unknown) = unknown_keys(rt.alloc(), text) {
+        for key in &unknown {
+            tell(rt, totals, Level::Warning, file, key)?;
+        }
+    }
+    Ok(())
+}
+
+/// Tells what is odd in a file by itself.
+fn tell_alone(
+    rt: &(impl Print + AllocGlobal),
+    totals: &mut Totals,
+    file: &str,
+    outline: &Outline,
+) -> io::Result<()> {
+    let alloc = rt.alloc();
+    for finding in &findings(alloc, outline)? {
+        tell(rt, totals, finding.level(), file, finding)?;
+    }
+    for finding in &port_findings(alloc, &outline.ports)? {
+        tell(rt, totals, finding.level(), file, finding)?;
+    }
+    Ok(())
+}
+
+/// Tells what of a file does not fit another one.
+fn tell_all(
+    rt: &impl Print,
+    totals: &mut Totals,
+    one: &Checked<'_>,
+    other: &Checked<'_>,
+    found: &[Misfit],
+) -> io::Result<()> {
+    for misfit in found {
+        tell_of_two(rt, totals, misfit.level(), one.file, misfit, other.file)?;
+    }
+    Ok(())
+}
+
+/// Tells what of two files does not fit.
+fn tell_pair(
+    rt: &(impl Print + AllocGlobal),
+    totals: &mut Totals,
+    one: &Checked<'_>,
+    other: &Checked<'_>,
+) -> io::Result<()> {
+    let alloc = rt.alloc();
+    let found = alike(alloc, &one.outline, &other.outline)?;
+    tell_all(rt, totals, one, other, &found)?;
+    let found = port_misfits(alloc, &one.outline.ports, &other.outline.ports)?;
+    tell_all(rt, totals, one, other, &found)?;
+    let found = misfits(alloc, &one.outline, &other.outline)?;
+    tell_all(rt, totals, one, other, &found)?;
+    let found = misfits(alloc, &other.outline, &one.outline)?;
+    tell_all(rt, totals, other, one, &found)
+}
+
+/// Tells what is wrong in a text by itself, and returns its outline where it is settings.
+fn check_text(
+    rt: &(impl Print + AllocGlobal),
+    totals: &mut Totals,
+    file: &str,
+    text: &str,
+) -> io::Result<Option<Outline>> {
+    tell_unknown(rt, totals, file, text)?;
+    match read_outline(rt.alloc(), text) {
+        Ok(outline) => {
+            tell_alone(rt, totals, file, &outline)?;
+            Ok(Some(outline))
+        }
+        Err(fault) => {
+            tell_fault(rt, totals, file, fault)?;
+            Ok(None)
+        }
+    }
+}
+
+/// Tells what is wrong in a file by itself; one that is not UTF-8 is no TOML.
+fn check_bytes(
+    rt: &(impl Print + AllocGlobal),
+    totals: &mut Totals,
+    file: &str,
+    bytes: Vec<u8>,
+) -> io::Result<Option<Outline>> {
+    match String::from_utf8(bytes) {
+        Ok(text) => check_text(rt, totals, file, &text),
+        Err(_) => {
+            tell_fault(rt, totals, file, SettingsFault::Toml)?;
+            Ok(None)
+        }
+    }
+}
+
+/// Tells what of each two files does not fit.
+fn check_pairs(
+    rt: &(impl Print + AllocGlobal),
+    totals: &mut Totals,
+    files: &[Checked<'_>],
+) -> io::Result<()> {
+    for (at, other) in files.iter().enumerate() {
+        for one in files.iter().take(at) {
+            tell_pair(rt, totals, one, other)?;
+        }
+    }
+    Ok(())
+}
+
+/// Tells how many errors and warnings there are, and answers the exit status.
+fn end(rt: &impl Print, count: usize, totals: Totals) -> io::Result<u8> {
+    let (errors, warnings) = (totals.errors, totals.warnings);
+    println!(rt; "files={count} errors={errors} warnings={warnings}")?;
+    Ok(if errors == 0 { DONE } else { REFUSED })
+}
+
+/// Checks the files, each by itself and then each with each other.
+pub fn run_check<R: Files<File = File> + Print + Eprint + AllocGlobal>(
+    rt: &R,
+    files: &[&str],
+) -> io::Result<u8> {
+    let mut totals = Totals {
+        errors: 0,
+        warnings: 0,
+    };
+    let mut checked = Vec::new(rt.alloc());
+    for file in files {
+        let bytes = match fs::read(rt, *file) {
+            Ok(bytes) => bytes,
+            Err(error) => {
+                eprintln!(rt; "device fault")?;
+                eprintln!(rt; "pdc check: {file}: {error}")?;
+                return Ok(FAILED);
+            }
+        };
+        if let Some(outline) = check_bytes(rt, &mut totals, file, bytes)? {
+            checked.push(Checked { file, outline })?;
+        }
+    }
+    check_pairs(rt, &mut totals, &checked)?;
+    end(rt, files.len(), totals)
+}
