@@ -11,7 +11,7 @@ use pdc_metrics::Metered;
 use pdc_ports::Source;
 use pdc_recording::{RecordedSource, Recording};
 use pdc_settings::{Network, TickWhen};
-use pdc_ticking::{HoldingSource, LastTick, Patience, Wake, WakingSource};
+use pdc_ticking::{HoldingSource, LastTick, Patience, Wake};
 use std::alloc::{AllocError, Global};
 use std::rt::Clock;
 use std::sync::Wait;
@@ -162,11 +162,9 @@ fn patience_of<'a>(
     })
 }
 
-/// A source of a run that is watched, recorded where the run is, and held back where the run is late.
-type Held<'a, S, R> = HoldingSource<'a, RecordedSource<'a, ObservedSource<'a, S, R>, R>, R>;
-
-/// Such a source, which wakes the aligner where it is to tick as soon as a row is whole.
-pub type Watched<'a, S, R> = WakingSource<'a, Held<'a, S, R>, R>;
+/// A source of a run: it is watched, recorded where the run is, and held back where the run is late; it wakes the aligner where that is to tick
+/// as soon as a row is whole.
+pub type Watched<'a, S, R> = HoldingSource<'a, RecordedSource<'a, ObservedSource<'a, S, R>, R>, R>;
 
 /// The sources, each watched, recorded where the run is, held back where it is late, and waking the aligner where it is to be woken; none where
 /// there is no memory for them.
@@ -190,8 +188,7 @@ pub fn observe_all<'a, S: Source + Drop, R: Wait + Clock>(
         let recording = observed.recording.as_ref();
         let source = RecordedSource::new(rt, alloc, recording, number, source);
         let patience = patience_of(concentrator, observed, watched.len());
-        let source = HoldingSource::new(rt, patience, source);
-        let source = WakingSource::new(rt, observed.wake.as_ref(), source);
+        let source = HoldingSource::new(rt, patience, observed.wake.as_ref(), source);
         if watched.push(source).is_err() {
             return None;
         }

@@ -5,6 +5,7 @@ ghost use Rattle.pdc_ticking.specs.Ticks.{awaited};
 use crate::clock::instant_at;
 use crate::last_tick::{LastTick, is_reached};
 use crate::metronome::time_now;
+use crate::wake::Wake;
 use pdc_journal::Tags;
 use pdc_ports::{Next, Numbered, Outcome, Source};
 use std::rt::Clock;
@@ -57,20 +58,28 @@ impl<'a> Patience<'a> {
 }
 
 /// Gives what the inner source gives, and as the inner source does. Data that only a tick which is late would refuse it gives once that tick has
-/// come; meanwhile the inner source is not read, and what comes waits at its port.
+/// come; meanwhile the inner source is not read, and what comes waits at its port. Where the lowest open row has come whole by its datagram, it
+/// calls the ticker, if there is a wake.
 #[derive(Drop)]
 pub struct HoldingSource<'a, S: Source + Drop, R: Wait + Clock> {
     rt: &'a R,
     patience: Option<Patience<'a>>,
+    wake: Option<&'a Wake>,
     inner: S,
 }
 
 impl<'a, S: Source + Drop, R: Wait + Clock> HoldingSource<'a, S, R> {
-    /// Holds back by this patience, or nothing.
-    pub fn new(rt: &'a R, patience: Option<Patience<'a>>, inner: S) -> HoldingSource<'a, S, R> {
+    /// Holds back by this patience, or nothing; and calls by this wake, or nobody.
+    pub fn new(
+        rt: &'a R,
+        patience: Option<Patience<'a>>,
+        wake: Option<&'a Wake>,
+        inner: S,
+    ) -> HoldingSource<'a, S, R> {
         HoldingSource {
             rt,
             patience,
+            wake,
             inner,
         }
     }
@@ -100,10 +109,12 @@ impl<'a, S: Source + Drop, R: Wait + Clock> Source for HoldingSource<'a, S, R> {
     }
 
     fn wants_whole(&self) -> bool {
-        self.inner.wants_whole()
+        self.wake.is_some()
     }
 
     fn whole(&mut self) {
-        self.inner.whole();
+        if let Some(wake) = self.wake {
+            wake.call(self.rt);
+        }
     }
 }

@@ -6,7 +6,7 @@
 //! A concentrator that was held up has an old now until it ticks again. A [`HoldingSource`] keeps back what that tick alone would refuse, until it
 //! has come; [`WatchedTicker`] notes each tick for it in [`LastTick`], and tells of ticks that came late.
 //!
-//! A ticker that is to tick as soon as all data of a row is there ticks by a [`WokenTimepiece`]: a [`WakingSource`] calls it by a [`Wake`], and
+//! A ticker that is to tick as soon as all data of a row is there ticks by a [`WokenTimepiece`]: a [`HoldingSource`] calls it by a [`Wake`], and
 //! between two deadlines it gives one tick, at the call or else at the second of them.
 #![tactic(auto)]
 
@@ -18,7 +18,6 @@ mod metronome;
 mod tick_time;
 mod waiting;
 mod wake;
-mod waking_source;
 mod watched_ticker;
 mod woken_timepiece;
 
@@ -30,6 +29,5 @@ pub use metronome::{Metronome, Timepiece};
 pub use tick_time::TickTime;
 pub use waiting::Waiting;
 pub use wake::Wake;
-pub use waking_source::WakingSource;
 pub use watched_ticker::WatchedTicker;
 pub use woken_timepiece::WokenTimepiece;
