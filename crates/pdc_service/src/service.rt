@@ -58,7 +58,7 @@ fn serve_linked<M: Machine, S: Source + Send + Drop, R: Host>(
     requires { vec_len linked.sources ≡ streams_of described.now.concentrator }
     ensures totals { IfOk result AreSums }
     ensures each { IfOk result (HaveEach (streams_of described.now.concentrator)) }
-    ensures opened { HasOpened M.tried machine.old machine.new described.now (λ described stored. WasHanded M.fresh M.Outputs.took (kind_of described.concentrator) stored result) (Some (M.Mark.stored (begun_mark linked.entry.mark))) (OpenSink ∷ OpenListener ∷ OpenMetrics ∷ BeginRecord files.now ∷ []) result }
+    ensures opened { HasOpened M.tried machine.old machine.new described.now (λ described stored. WasHanded M.fresh M.Outputs.took (kind_of described.concentrator) stored result) (Some (M.Mark.stored (begun_mark linked.mark))) (OpenSink ∷ OpenListener ∷ OpenMetrics ∷ BeginRecord files.now ∷ []) result }
 {
     let alloc = rt.alloc();
     let concentrator = &described.concentrator;
