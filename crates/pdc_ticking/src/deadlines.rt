@@ -2,7 +2,7 @@
 ghost use Rattle.std.specs.Prelude.{◌≡◌, ◌+◌, ◌*◌, ◌/◌, ◌≤◌, ◌<◌, ◌↔◌, IsTrue};
 ghost use Rattle.pdc_ticking.specs.declared.deadlines.TheConstants.{NANOSECONDS};
 ghost use Rattle.pdc_ticking.specs.Deadlines.{IsNextDeadline};
-ghost use Rattle.pdc_ticking.specs.Waiting.{IsEarly, IsWaiting};
+ghost use Rattle.pdc_ticking.specs.Waiting.{HasSpare, IsEarly, IsWaiting};
 
 use crate::waiting::Waiting;
 
@@ -11,6 +11,9 @@ pub(crate) const NANOSECONDS: u64 = 1_000_000_000;
 
 /// The nanoseconds in a millisecond.
 const MILLISECOND: u64 = 1_000_000;
+
+/// In how many times from one deadline to the next one tick more may be given.
+const SPARE_IN: u64 = 10;
 
 /// The moments at which a tick is due, in nanoseconds: the first one, and others `span / parts` apart. What is done at one of them moves none.
 #[derive(Clone, Copy, Debug)]
@@ -82,15 +85,26 @@ impl Deadlines {
         given - next <= self.wait_at(next)
     }
 
-    /// How a ticker waits at a moment that may be woken before its deadline, where the last tick that it gave was that of the deadline
-    /// `given`: so it gives one tick between two deadlines. A clock that was set back a little changes nothing of that.
-    pub fn waiting_at(&self, moment: u64, given: u64) -> Waiting
-        ensures { IsWaiting (first_of self.now) (span_of self.now) (parts_of self.now) moment given result }
+    /// Whether a tick more may be given at a moment, where the last such tick was given at `spent`: ten lengths from one deadline to the next
+    /// have passed since, or the clock was set back behind it.
+    fn has_spare(&self, moment: u64, spent: u64) -> bool
+        ensures { IsTrue result ↔ HasSpare (span_of self.now) (parts_of self.now) moment spent }
     {
-        if self.is_early(moment, given) {
-            Waiting::Sleep(given - moment)
-        } else {
+        moment < spent || moment - spent >= SPARE_IN * self.length()
+    }
+
+    /// How a ticker waits at a moment that may be woken before its deadline, where the last tick that it gave was that of the deadline
+    /// `given`, and the last one more was at `spent`: so it gives one tick between two deadlines, and one more in ten of these times at most. A
+    /// clock that was set back a little changes nothing of the first.
+    pub fn waiting_at(&self, moment: u64, given: u64, spent: u64) -> Waiting
+        ensures { IsWaiting (first_of self.now) (span_of self.now) (parts_of self.now) moment given spent result }
+    {
+        if !self.is_early(moment, given) {
             Waiting::ForWake(self.wait_at(moment))
+        } else if self.has_spare(moment, spent) {
+            Waiting::ForSpare(given - moment)
+        } else {
+            Waiting::Sleep(given - moment)
         }
     }
 

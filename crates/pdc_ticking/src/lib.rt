@@ -7,7 +7,7 @@
 //! has come; [`WatchedTicker`] notes each tick for it in [`LastTick`], and tells of ticks that came late.
 //!
 //! A ticker that is to tick as soon as all data of a row is there ticks by a [`WokenTimepiece`]: a [`HoldingSource`] calls it by a [`Wake`], and
-//! between two deadlines it gives one tick, at the call or else at the second of them.
+//! between two deadlines it gives one tick, at the call or else at the second of them, and one more in ten such times at most.
 #![tactic(auto)]
 
 mod clock;

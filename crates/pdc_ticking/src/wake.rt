@@ -26,6 +26,11 @@ impl Wake {
         self.called.notify_one();
     }
 
+    /// Nobody called, whoever did: what they called for has been done.
+    pub fn forget<R: Wait>(&self, rt: &R) {
+        *self.is_called.lock(rt) = false;
+    }
+
     /// Waits until somebody calls or has called since the last wait, and at most so long; whether somebody did.
     pub fn wait_called<R: Wait + Clock>(&self, rt: &R, most: Duration) -> bool {
         let held = self.is_called.lock(rt);

@@ -1,6 +1,5 @@
 //! Time of a ticker that may be woken before its deadline.
 ghost use Rattle.std.specs.Prelude.{◌≡◌, ◌++◌, ◌∷◌, ◌≤◌, [], ℕ, IfNone, IfSome, List};
-ghost use Rattle.pdc_ticking.specs.declared.waiting.Waiting.TheVariants.{ForWake};
 ghost use Rattle.pdc_ticking.specs.Woken.{IsTickAfter, WaitsBy};
 
 use crate::metronome::{Pace, Timepiece};
@@ -15,7 +14,8 @@ use std::time::Duration;
 const MOST_SLEEPS: u32 = 4;
 
 /// The system's clocks, and deadlines by one of them, before each of which a call may wake it once. Between two deadlines it shows one
-/// time: at the call, or else at the second of them. A call that comes in the rest of that time is found behind the deadline.
+/// time: at the call, or else at the second of them. A call that comes in the rest of that time is found behind the deadline; but once in ten
+/// such times it is found at once, so that a ticker does not stay behind by a deadline that it was late once.
 #[derive(Drop)]
 pub struct WokenTimepiece<'a, R: Wait + Clock> {
     rt: &'a R,
@@ -23,6 +23,8 @@ pub struct WokenTimepiece<'a, R: Wait + Clock> {
     pace: Pace<&'a R>,
     /// The deadline up to which a time was shown.
     given: u64,
+    /// When a time was shown that was one more.
+    spent: u64,
 }
 
 impl<'a, R: Wait + Clock> WokenTimepiece<'a, R> {
@@ -36,15 +38,20 @@ impl<'a, R: Wait + Clock> WokenTimepiece<'a, R> {
             wake,
             pace: Pace::new(rt, rate, tick_ms),
             given: 0,
+            spent: 0,
         }
     }
 
     /// How it waits now; none where the clock cannot be read.
     fn waiting(&self) -> Option<(u64, Waiting)>
-        ensures { IfSome result (λ found. WaitsBy self.now.pace.deadlines found.0 self.now.given found.1) }
+        ensures { IfSome result (λ found. WaitsBy self.now.pace.deadlines found.0 self.now.given self.now.spent found.1) }
     {
         let moment = self.pace.moment()?;
-        Some((moment, self.pace.deadlines.waiting_at(moment, self.given)))
+        let waiting = self
+            .pace
+            .deadlines
+            .waiting_at(moment, self.given, self.spent);
+        Some((moment, waiting))
     }
 
     /// Sleeps for so many nanoseconds.
@@ -58,15 +65,17 @@ impl<'a, R: Wait + Clock> WokenTimepiece<'a, R> {
             .wait_called(self.rt, Duration::from_nanos(nanoseconds))
     }
 
-    /// Sleeps to the deadline whose tick was given early, if it was. Where the clock stands then, and how many nanoseconds it is to the next
-    /// deadline; none where the clock cannot be read, or does not go on.
-    fn behind_given(&self) -> Option<(u64, u64)>
-        ensures { IfSome result (λ found. WaitsBy self.now.pace.deadlines found.0 self.now.given (ForWake found.1)) }
+    /// Waits up to the deadline whose tick was given early, if it was, or until it is woken for the one to spare. Where the clock stood then, and
+    /// how it waits; none where the clock cannot be read, or does not go on.
+    fn behind_given(&self) -> Option<(u64, Waiting)>
+        ensures { IfSome result (λ found. WaitsBy self.now.pace.deadlines found.0 self.now.given self.now.spent found.1) }
     {
         for _ in 0..MOST_SLEEPS {
-            match self.waiting()? {
-                (_, Waiting::Sleep(nanoseconds)) => self.sleep(nanoseconds),
-                (moment, Waiting::ForWake(nanoseconds)) => return Some((moment, nanoseconds)),
+            let (moment, waiting) = self.waiting()?;
+            match waiting {
+                Waiting::Sleep(nanoseconds) => self.sleep(nanoseconds),
+                Waiting::ForSpare(nanoseconds) if !self.wait(nanoseconds) => {}
+                _ => return Some((moment, waiting)),
             }
         }
         None
@@ -74,13 +83,14 @@ impl<'a, R: Wait + Clock> WokenTimepiece<'a, R> {
 
     /// Waits until the next tick is due.
     fn wait_for_tick(&mut self)
-        ensures { IsTickAfter self.old.pace.deadlines self.old.given self.new.given }
+        ensures { IsTickAfter self.old.pace.deadlines self.old.given self.old.spent self.new.given self.new.spent }
     {
         match self.behind_given() {
-            Some((moment, nanoseconds)) => {
+            Some((moment, Waiting::ForSpare(_))) => self.spent = moment,
+            Some((moment, Waiting::ForWake(nanoseconds))) => {
                 self.wait_to(moment.saturating_add(nanoseconds), nanoseconds);
             }
-            None => {
+            _ => {
                 self.wait(self.pace.deadlines.length());
             }
         }
@@ -89,7 +99,7 @@ impl<'a, R: Wait + Clock> WokenTimepiece<'a, R> {
     /// Waits to be woken, and at most to this deadline, which is so many nanoseconds ahead. Its tick is given then.
     fn wait_to(&mut self, deadline: u64, nanoseconds: u64)
         ensures given { self.new.given ≡ deadline }
-        ensures pace { self.new.pace ≡ self.old.pace }
+        ensures same { (self.new.pace ≡ self.old.pace) × (self.new.spent ≡ self.old.spent) }
     {
         self.given = deadline;
         let mut left = nanoseconds;
@@ -108,6 +118,8 @@ impl<'a, R: Wait + Clock> WokenTimepiece<'a, R> {
 
 impl<'a, R: Wait + Clock> Timepiece for WokenTimepiece<'a, R> {
     fn at_next_deadline(&mut self) -> Option<u128> {
+        // What was called for before is done: its rows are out.
+        self.wake.forget(self.rt);
         self.wait_for_tick();
         self.pace.time()
     }
