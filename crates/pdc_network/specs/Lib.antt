@@ -1,2 +1,4 @@
 pub mod CountLimit
+pub mod Host
 pub mod Inquiry
+pub mod Round

@@ -1,6 +1,7 @@
 //! Frames over a TCP connection.
 ghost use Rattle.std.specs.Prelude.{◌≡◌, ◌≤◌, ◌<◌, ℕ, IfOk, IfSome, length};
 
+use crate::addresses::Addresses;
 use crate::inquiry::{Inquiry, PATIENCE};
 use crate::loss::Loss;
 use pdc_frame::{Command, Framer, Step, StreamId};
@@ -31,7 +32,7 @@ const LONGEST_WAIT: u64 = 30;
 
 /// The frames of a stream over a connection to its sender, which is told to send its configuration and its data. One that is lost, refused
 /// or silent for five seconds, or whose frame takes five seconds to come, is made anew: after a second, and each further time after twice
-/// as long, up to 30 seconds.
+/// as long, up to 30 seconds. Where its host has several addresses, the next one is tried after one that was not connected to.
 #[derive(Drop)]
 pub struct Connection<'a, R: Net<Listener = TcpListener, Stream = TcpStream> + Clock + Wait> {
     rt: &'a R,
@@ -39,7 +40,7 @@ pub struct Connection<'a, R: Net<Listener = TcpListener, Stream = TcpStream> + C
     journal: &'a Journal,
     tally: &'a Tally,
     id: StreamId,
-    to: SocketAddr,
+    to: Addresses,
     stream: Option<Counting<TcpStream>>,
     framer: Framer,
     unread: Unread,
@@ -154,7 +155,7 @@ fn is_slow<R: Clock>(rt: &R, begun: &mut Option<Moment>) -> bool {
 }
 
 impl<'a, R: Net<Listener = TcpListener, Stream = TcpStream> + Clock + Wait> Connection<'a, R> {
-    /// The frames of the stream `id`, over a connection to this address that is not made yet, with what counts for it.
+    /// The frames of the stream `id`, over a connection to one of these addresses that is not made yet, with what counts for it.
     ///
     /// # Errors
     ///
@@ -165,7 +166,7 @@ impl<'a, R: Net<Listener = TcpListener, Stream = TcpStream> + Clock + Wait> Conn
         journal: &'a Journal,
         tally: &'a Tally,
         id: StreamId,
-        to: SocketAddr,
+        to: Addresses,
     ) -> Result<Connection<'a, R>, AllocError> {
         Ok(Connection {
             rt,
@@ -190,13 +191,16 @@ impl<'a, R: Net<Listener = TcpListener, Stream = TcpStream> + Clock + Wait> Conn
         self.tally.lose();
         self.wait = self.wait.saturating_mul(2).clamp(FIRST_WAIT, LONGEST_WAIT);
         self.since = Moment::now(self.rt);
-        let text = loss_text(self.alloc, self.tally, self.to, &loss, self.wait);
+        let text = loss_text(self.alloc, self.tally, self.to.current(), &loss, self.wait);
         self.journal.tell(self.rt, text);
+        if let Loss::Refused(_) = loss {
+            self.to.turn();
+        }
     }
 
     /// Makes it, and asks for the stream.
     fn open(&mut self) -> Result<(), Loss> {
-        let mut stream = connect(self.rt, &self.to).map_err(Loss::Refused)?;
+        let mut stream = connect(self.rt, &self.to.current()).map_err(Loss::Refused)?;
         ask(self.id, &mut stream)?;
         let Ok(framer) = Framer::new(self.alloc) else {
             return Err(Loss::Untold);
@@ -212,7 +216,7 @@ impl<'a, R: Net<Listener = TcpListener, Stream = TcpStream> + Clock + Wait> Conn
         self.inquiry.note(Moment::now(self.rt));
         self.journal.note(
             self.rt,
-            text_of(self.alloc, self.tally, self.to, "connected"),
+            text_of(self.alloc, self.tally, self.to.current(), "connected"),
         );
         Ok(())
     }

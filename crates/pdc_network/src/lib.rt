@@ -10,6 +10,7 @@
 //! is told, counted, and made anew. Configurations above a [`CountLimit`] it leaves out.
 #![tactic(auto)]
 
+mod addresses;
 mod connection;
 mod count_limit;
 mod datagrams;
@@ -22,6 +23,7 @@ mod receive_buffer;
 mod udp_sink;
 mod udp_source;
 
+pub use addresses::Addresses;
 pub use connection::Connection;
 pub use count_limit::CountLimit;
 pub use datagrams::{ListenFault, listen};

@@ -10,7 +10,7 @@ use pdc_frame::StreamId;
 use pdc_hub::HubFault;
 use pdc_journal::{Journal, Tally};
 use pdc_network::{
-    Connection, CountLimit, Destination, Link, Port, UdpOutputs, UdpSink, UdpSource,
+    Addresses, Connection, CountLimit, Destination, Link, Port, UdpOutputs, UdpSink, UdpSource,
 };
 use pdc_settings::{Input, Network};
 use std::alloc::Global;
@@ -41,6 +41,25 @@ fn open_source<R: Net>(rt: &R, network: &Network, port: u16) -> Result<UdpSource
     Ok(source)
 }
 
+/// How many addresses of a host are looked at.
+const MOST_ADDRESSES: usize = 16;
+
+/// The addresses that a text `HOST:PORT` names, looked up once.
+fn addresses_of<R: Net>(rt: &R, text: &str) -> io::Result<Addresses> {
+    let mut found = text.to_socket_addrs(rt)?;
+    let Some(first) = found.next() else {
+        return Err(io::Error::from(ErrorKind::NotFound));
+    };
+    let mut addresses = Addresses::new(first);
+    for _ in 1..MOST_ADDRESSES {
+        match found.next() {
+            Some(address) => addresses.push(address),
+            None => break,
+        }
+    }
+    Ok(addresses)
+}
+
 /// The address that a text `HOST:PORT` names, looked up once.
 fn address_of<R: Net>(rt: &R, text: &str) -> io::Result<SocketAddr> {
     match text.to_socket_addrs(rt)?.next() {
@@ -60,6 +79,23 @@ fn asked_at<R: Net>(
     match text {
         Some(text) => match address_of(rt, text.as_str()) {
             Ok(address) => Ok(Some(address)),
+            Err(error) => Err(ServiceFault::Input(id.value, error)),
+        },
+        None => Ok(None),
+    }
+}
+
+/// The addresses of the host that a stream is asked for at over TCP, if it is.
+fn connected_to<R: Net>(
+    rt: &R,
+    id: StreamId,
+    text: &Option<String>,
+) -> Result<Option<Addresses>, ServiceFault>
+    ensures faults { IfErr result IsOfSources }
+{
+    match text {
+        Some(text) => match addresses_of(rt, text.as_str()) {
+            Ok(addresses) => Ok(Some(addresses)),
             Err(error) => Err(ServiceFault::Input(id.value, error)),
         },
         None => Ok(None),
@@ -109,7 +145,7 @@ fn open_way<'a, R: Net<Listener = TcpListener, Stream = TcpStream> + Clock + Wai
     ensures faults { IfErr result IsOfSources }
 {
     let (id, input, tally) = (stream.id, stream.input, stream.tally);
-    if let Some(to) = asked_at(rt, id, &input.tcp)? {
+    if let Some(to) = connected_to(rt, id, &input.tcp)? {
         return match Connection::new(rt, alloc, journal, tally, id, to) {
             Ok(connection) => Ok(Link::over(connection)),
             Err(_) => Err(ServiceFault::Run(HubFault::NoMemory)),

@@ -1,0 +1,56 @@
+//! The addresses of a host.
+ghost use Rattle.std.specs.Prelude.{◌≡◌, ◌≤◌, ◌<◌};
+ghost use Rattle.pdc_network.specs.Round.{next_place};
+
+use std::net::SocketAddr;
+
+/// How many addresses of a host are tried.
+const MAX_ADDRESSES: usize = 8;
+
+/// The addresses of a host in the order in which the system named them, at most eight, one of which is tried at a time.
+#[derive(Clone, Copy, Debug)]
+pub struct Addresses {
+    all: [SocketAddr; MAX_ADDRESSES],
+    count: usize,
+    at: usize,
+    pub ghost within: { at < count },
+    pub ghost most: { count ≤ 8 },
+}
+
+impl Addresses {
+    ghost use Rattle.pdc_network.specs.Host.{count_of, place_of};
+
+    /// A host of one address.
+    pub fn new(first: SocketAddr) -> Addresses
+        ensures { (count_of result ≡ 1) × (place_of result ≡ 0) }
+    {
+        Addresses {
+            all: [first; MAX_ADDRESSES],
+            count: 1,
+            at: 0,
+        }
+    }
+
+    /// One address more; the ninth and all behind it are left out.
+    pub fn push(&mut self, address: SocketAddr)
+        ensures { place_of self.new ≡ place_of self.old }
+    {
+        if self.count < MAX_ADDRESSES {
+            self.all[self.count] = address;
+            self.count += 1;
+        }
+    }
+
+    /// The one that is tried now.
+    pub fn current(&self) -> SocketAddr {
+        self.all[self.at]
+    }
+
+    /// The next one is tried from now on, and behind the last the first.
+    pub fn turn(&mut self)
+        ensures { (place_of self.new ≡ next_place (count_of self.old) (place_of self.old)) × (count_of self.new ≡ count_of self.old) }
+    {
+        let next = self.at + 1;
+        self.at = if self.count <= next { 0 } else { next };
+    }
+}
