@@ -21,26 +21,28 @@ const ABOUT: &str =
 const VERSION: &str = "0.1.0";
 
 const EXAMPLES: &str = "Examples:
-  pdc show < captured.hex     print what captured frames say
+  pdc show < captured.hex     print what captured frames contain
   pdc play a.toml b.toml m.toml < script.txt
                               play events on two nodes and a merger
-  pdc mark-init a.mark 201 50 make the mark file of node 201 at 50 frames a second
-  pdc mark-convert old new    make a mark file of version 2 out of one of version 1
-  pdc mark-show a.mark        print what a mark file holds
-  pdc mark-forget old new     make a mark file without the counts of another
+  pdc mark-init a.mark 201 50 make the mark file of node 201 at 50 frames per second
+  pdc mark-convert old new    make a mark file of version 2 from one of version 1
+  pdc mark-show a.mark        print what a mark file contains
+  pdc mark-forget old new     make a copy of a mark file whose configuration counts are 0
+  pdc check a.toml b.toml m.toml
+                              check settings files before you run them
   pdc node a.toml a.mark 3000 run a node for 3000 ticks
   pdc merge m.toml m.mark 3000
                               run the merger for 3000 ticks
-  pdc pmu 11 50 3000 4811     simulate PMU 11 at 50 frames a second
-  pdc listen 4751 | pdc show  print what the frames that come to a UDP port say
+  pdc pmu 11 50 3000 4811     simulate PMU 11 at 50 frames per second
+  pdc listen 4751 | pdc show  print what the frames that arrive at a UDP port contain
   pdc watch a.toml b.toml m.toml
-                              show the pair on a page
-  pdc replay a.record.*       play a record of a run again, and compare
+                              show the pair on a web page
+  pdc replay a.record.*       replay a recorded run and compare the results
   pdc explain a.record.* 2026-11-24T12:03:04.580Z
-                              tell what became of each PMU at an instant
-  pdc help show               tell more of a command
+                              explain what happened to each PMU at an instant
+  pdc help show               print the full help of a command
 
-Exit status: 0 done, 1 refused input, 2 wrong arguments, 3 a device failed or memory ran out";
+Exit status: 0 done, 1 input was refused, 2 wrong arguments, 3 a device failed or memory ran out";
 
 /// The program without its commands.
 fn program<'a>(alloc: Global) -> Result<Command<'a>, AllocError> {

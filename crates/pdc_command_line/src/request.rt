@@ -107,9 +107,9 @@ pub struct Running<'a> {
     pub mark: &'a str,
     /// After how many ticks it ends, at least 1; where there is none, it goes on until it is stopped.
     pub ticks: Option<u32>,
-    /// After how many seconds counters are told again; where there is none, they are not.
+    /// After how many seconds counters are reported again; if there is none, they are not.
     pub every: Option<u32>,
-    /// Whether faults alone are told, and counters where they are asked for.
+    /// Whether only faults are reported, and counters if they are asked for.
     pub is_quiet: bool,
     /// Where it is recorded, if it is.
     pub record: Option<Record<'a>>,
