@@ -75,7 +75,7 @@ fn with_files<'a>(alloc: Global) -> Result<Command<'a>, AllocError> {
     with(alloc, pdc, &MARK_FORGET)
 }
 
-/// The program with all its commands: those that run on the network stand behind.
+/// The program with all its commands: those that run on the network come last.
 fn pdc<'a>(alloc: Global) -> Result<Command<'a>, AllocError> {
     let pdc = with(alloc, with_files(alloc), &NODE);
     let pdc = with(alloc, pdc, &MERGE);
@@ -83,7 +83,7 @@ fn pdc<'a>(alloc: Global) -> Result<Command<'a>, AllocError> {
     with(alloc, pdc, &LISTEN)
 }
 
-/// What is asked of a command with this name that wants no number, by the words behind it.
+/// The request of a command with this name that takes no number, from the words behind it.
 fn plain_request_of<'a>(name: &str, words: &ArgMatches<'a>) -> Option<Request<'a>> {
     match name {
         "show" => Some(Request::Show(show_form(words))),
@@ -95,7 +95,7 @@ fn plain_request_of<'a>(name: &str, words: &ArgMatches<'a>) -> Option<Request<'a
     }
 }
 
-/// What is asked of the command with this name, by the words behind it.
+/// The request of the command with this name, from the words behind it.
 fn request_of<'a>(name: &str, words: &ArgMatches<'a>) -> Result<Option<Request<'a>>, Wrong<'a>> {
     match name {
         "mark-init" => Ok(mark_init_request(words)?.map(Request::MarkInit)),
@@ -107,19 +107,19 @@ fn request_of<'a>(name: &str, words: &ArgMatches<'a>) -> Result<Option<Request<'
     }
 }
 
-/// What is wrong with the words of the command with this name, as `clap` tells it.
+/// What is wrong with the words of the command with this name, as `clap` reports it.
 fn refused(alloc: Global, name: &str, wrong: &Wrong<'_>) -> Result<Error, AllocError> {
     match name {
         "mark-init" => error_of(alloc, &MARK_INIT, wrong),
         "node" => error_of(alloc, &NODE, wrong),
         "merge" => error_of(alloc, &MERGE, wrong),
         "pmu" => error_of(alloc, &PMU, wrong),
-        // the last one that wants a number
+        // the last one that takes a number
         _ => error_of(alloc, &LISTEN, wrong),
     }
 }
 
-/// What is asked by the words that the parser has read.
+/// The request of the words that the parser has read.
 fn asked_of<'a>(alloc: Global, matches: &ArgMatches<'a>) -> Result<Option<Request<'a>>, Error> {
     let Some((name, words)) = matches.subcommand() else {
         return Ok(None);
@@ -130,12 +130,12 @@ fn asked_of<'a>(alloc: Global, matches: &ArgMatches<'a>) -> Result<Option<Reques
     }
 }
 
-/// The request that the words after the program's name make; `None` where no command is named, which the parser
-/// refuses before.
+/// The request that the words after the program's name make; `None` if no command is named, which the parser
+/// refuses first.
 ///
 /// # Errors
 ///
-/// What `clap` has to say: the help that was asked for, or what is wrong.
+/// What `clap` reports: the help that was asked for, or what is wrong.
 pub fn parse<'a>(alloc: Global, words: &'a [String]) -> Result<Option<Request<'a>>, Error> {
     let matches = pdc(alloc)?.try_get_matches_from(words)?;
     asked_of(alloc, &matches)

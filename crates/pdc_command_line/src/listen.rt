@@ -34,11 +34,11 @@ pub const LISTEN: Told<'static> = Told {
     ],
 };
 
-/// What is asked by these words; `None` where one is missing, which the parser refuses before.
+/// The request that these words make; `None` if a word is missing, which the parser refuses first.
 ///
 /// # Errors
 ///
-/// A number is none, or out of its range.
+/// A word is not a number, or the number is out of its range.
 pub fn listen_request<'a>(matches: &ArgMatches<'a>) -> Result<Option<Request<'a>>, Wrong<'a>> {
     let Some(port) = matches.get_str("PORT") else {
         return Ok(None);

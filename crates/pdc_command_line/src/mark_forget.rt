@@ -43,7 +43,7 @@ pub const MARK_FORGET: Told<'static> = Told {
     ],
 };
 
-/// What is asked by these words; `None` where one is missing, which the parser refuses before.
+/// The request that these words make; `None` if a word is missing, which the parser refuses first.
 pub fn mark_forget_request<'a>(matches: &ArgMatches<'a>) -> Option<Request<'a>> {
     let (Some(old), Some(new)) = (matches.get_str("OLD"), matches.get_str("NEW")) else {
         return None;

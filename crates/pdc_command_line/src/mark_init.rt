@@ -40,11 +40,11 @@ pub const MARK_INIT: Told<'static> = Told {
     ],
 };
 
-/// What is asked by these words; `None` where one is missing, which the parser refuses before.
+/// The request that these words make; `None` if a word is missing, which the parser refuses first.
 ///
 /// # Errors
 ///
-/// A number is none, or out of its range.
+/// A word is not a number, or the number is out of its range.
 pub fn mark_init_request<'a>(matches: &ArgMatches<'a>) -> Result<Option<MarkInit<'a>>, Wrong<'a>>
     ensures asked { IfOk result (λ asked. IfSome asked (AsksFor (found_of matches.now))) }
     ensures missing { IfOk result (λ asked. IfNone asked (LacksWord (found_of matches.now))) }

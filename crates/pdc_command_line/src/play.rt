@@ -79,7 +79,7 @@ pub const PLAY: Told<'static> = Told {
     ],
 };
 
-/// What is asked by these words; `None` where one is missing, which the parser refuses before.
+/// The request that these words make; `None` if a word is missing, which the parser refuses first.
 pub fn play_request<'a>(matches: &ArgMatches<'a>) -> Option<Request<'a>> {
     let (Some(a), Some(b), Some(m)) = (
         matches.get_str("A"),

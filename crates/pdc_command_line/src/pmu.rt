@@ -175,11 +175,11 @@ fn simulated<'a>(beat: Beat, matches: &ArgMatches<'a>) -> Result<Simulated<'a>, 
     })
 }
 
-/// What is asked by these words; `None` where one is missing, which the parser refuses before.
+/// The request that these words make; `None` if a word is missing, which the parser refuses first.
 ///
 /// # Errors
 ///
-/// A number is none, or out of its range.
+/// A word is not a number, or the number is out of its range.
 pub fn pmu_request<'a>(matches: &ArgMatches<'a>) -> Result<Option<Request<'a>>, Wrong<'a>> {
     let (Some(id), Some(rate), Some(count)) = (
         matches.get_str("ID"),

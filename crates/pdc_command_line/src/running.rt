@@ -64,7 +64,7 @@ same options, sessions and faults: see `pdc help node`.
 Example, a minute at 50 frames per second:
   pdc merge m.toml m.mark 3000";
 
-/// What both want.
+/// The words, options and flags of both.
 const WANTED: &[Wanted<'static>] = &[
     Wanted("SETTINGS", Form::Word, "The settings file"),
     Wanted("MARK", Form::Word, "The mark file"),
@@ -136,11 +136,11 @@ fn record_of<'a>(matches: &ArgMatches<'a>) -> Result<Option<Record<'a>>, Wrong<'
     }
 }
 
-/// What is asked of `node` or of `merge` by these words; `None` where one is missing, which the parser refuses before.
+/// The run of `node` or `merge` that these words ask for; `None` if a word is missing, which the parser refuses first.
 ///
 /// # Errors
 ///
-/// A number is none, or out of its range.
+/// A word is not a number, or the number is out of its range.
 pub fn running<'a>(matches: &ArgMatches<'a>) -> Result<Option<Running<'a>>, Wrong<'a>> {
     let (Some(settings), Some(mark)) = (matches.get_str("SETTINGS"), matches.get_str("MARK")) else {
         return Ok(None);
