@@ -75,7 +75,7 @@ impl<'a, R: Wait + Clock> CountLimit<'a, R> {
         self.journal.tell(
             self.rt,
             format!(in self.alloc;
-                "{of}: a configuration is ignored, because its count is above most_count = {most}"
+                "{of}: a configuration is left out, since its count is above most_count = {most}"
             ),
         );
     }
