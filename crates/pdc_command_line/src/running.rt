@@ -91,12 +91,12 @@ const WANTED: &[Wanted<'static>] = &[
     Wanted(
         "record-size",
         Form::Beside("MEBIBYTES", "record"),
-        "The greatest size of a file of the record, 1 to 65536; default 64",
+        "The greatest size of each record file, 1 to 65536; default 64",
     ),
     Wanted(
         "record-keep",
         Form::Beside("FILES", "record"),
-        "The number of last files of the record to keep; default all",
+        "Keep only this many of the last record files; default all",
     ),
 ];
 
