@@ -17,7 +17,7 @@ In each file it looks for a key that is missing, of the wrong type or out of its
 must differ; a key that nothing reads, for which it names the nearest known key; a port that two
 keys have; a port that accepts data from anyone; and settings that store each frame on the disk.
 
-Between any two files it looks for ids that must differ, rates that differ, and ports that both have.
+Between any two files it looks for ids that must differ, rates that differ and ports that both have.
 For a node and the merger it also checks whether the merger takes the node, with the node's
 TIME_BASE and at the port that the node sends to, or by TCP at the node's sessions; whether the
 PMUs' sources are among the merger's, in the same order; whether the merger waits as long as the
