@@ -6,14 +6,14 @@ use crate::port::PortKey;
 use pdc_settings::TableName;
 use thiserror::Error;
 
-/// How grave it is.
+/// How serious it is.
 #[derive(Clone, Copy, Debug, PartialEq, Eq)]
 pub enum Level {
-    /// It does not run, or not as it is meant.
+    /// It does not run, or not as intended.
     Error,
-    /// It runs, and may not be meant so.
+    /// It runs, and may not be intended.
     Warning,
-    /// It is as it is.
+    /// It is worth knowing.
     Note,
 }
 
@@ -21,18 +21,18 @@ pub enum Level {
 #[derive(Clone, Copy, Debug, PartialEq, Eq, Error)]
 pub enum Finding {
     /// No instants are reserved ahead.
-    #[error("lead: 0, so each frame waits for a store, three syncs of the disk; the rate is usual")]
+    #[error("lead: 0, so each frame waits for three syncs of the disk; the usual value is the rate")]
     NoLead,
-    /// Anybody's datagrams are read at the port of this table.
-    #[error("from of {0}: left out, so whoever can send to port {1} is taken for it")]
+    /// The port of this table accepts datagrams from anyone.
+    #[error("from of {0}: missing, so anyone who can send to port {1} can pass for it")]
     Open(TableName, u16),
-    /// Two keys want one port.
-    #[error("{1}: {2} is the {0} too")]
+    /// Two keys have one port.
+    #[error("{1}: {2} is also the {0}")]
     PortTwice(PortKey, PortKey, u16),
 }
 
 impl Finding {
-    /// How grave it is.
+    /// How serious it is.
     pub fn level(self) -> Level
         ensures { result ≡ level_of_finding self }
     {

@@ -18,39 +18,39 @@ pub enum Misfit {
     #[error("id: {0} is the id of a source in")]
     IdOfSource(u16),
     /// They have other rates: this one's, and the other's.
-    #[error("rate: {0}, and not the {1} in")]
+    #[error("rate: {0}, but {1} in")]
     OtherRate(u16, u16),
-    /// Both want one port of one address.
+    /// Both have one port of one address.
     #[error("{0}: {2} is also the {1} in")]
     SamePort(PortKey, PortKey, u16),
-    /// Both want one port, where they are on one machine.
-    #[error("{0}: where both run on one machine, {2} is also the {1} in")]
+    /// Both have one port, if they are on one machine.
+    #[error("{0}: if both run on one machine, {2} is also the {1} in")]
     PerhapsSamePort(PortKey, PortKey, u16),
     /// The merger takes no node of its id.
-    #[error("id: {0} is that of no node in")]
+    #[error("id: {0} is not the id of a node in")]
     NotMerged(u16),
-    /// The merger is told of another TIME_BASE: this node's, and the one that it is told of.
-    #[error("time_base: {0}, and not the {1} of {2} in")]
+    /// The merger has another TIME_BASE for this node: the node's, and the one that the merger has.
+    #[error("time_base: {0}, but {1} for {2} in")]
     OtherTimeBase(u32, u32, TableName),
     /// Its frames go to another port than the merger takes them at.
-    #[error("outputs: none goes to {0}, the port of {1} in")]
+    #[error("outputs: none goes to port {0}, the port of {1} in")]
     NotSent(u16, TableName),
     /// Its sessions are at another port than the merger asks at.
-    #[error("session_port: {0}, and not the {1} in tcp of {2} in")]
+    #[error("session_port: {0}, but {1} in tcp of {2} in")]
     NotServed(u16, u16, TableName),
     /// Its sources are not those of the merger, or in another order.
-    #[error("source: those of the PMUs are not, in this order, among those in")]
+    #[error("source: the PMUs' sources are not, in this order, among the sources in")]
     OtherSources,
     /// The merger waits less long than its node: its own wait, and the node's.
-    #[error("wait: {0}, below the {1} in")]
+    #[error("wait: {0}, less than the {1} in")]
     ShortWait(u64, u64),
-    /// Of two blocks of a PMU the merger shows this node's.
-    #[error("node: where both nodes have data of a PMU, that of {0} is shown, which is told in")]
+    /// Of two blocks of a PMU the merger sends this node's.
+    #[error("node: if both nodes have data of a PMU, the merger sends that of node {0}, set up in")]
     Preferred(u16),
 }
 
 impl Misfit {
-    /// How grave it is.
+    /// How serious it is.
     pub fn level(self) -> Level
         ensures { result ≡ level_of_misfit self }
     {

@@ -3,24 +3,27 @@
 use clap::{Arg, ArgAction, Command, Error};
 use std::alloc::{AllocError, Global};
 
-const ABOUT: &str = "Tell what is wrong in settings, and what of several does not fit";
+const ABOUT: &str = "Check settings files, each by itself and against the others";
 
 const LONG: &str =
-    "Reads settings files as `pdc node` and `pdc merge` would, opens no port and no mark, and prints a line for each thing that is wrong or
-may not be meant so:
-  error    FILE: KEY: ..   it would not run, or not as it is meant
-  warning  FILE: KEY: ..   it runs, and may not be meant so
-  note     FILE: KEY: ..   it is so
-Whose a file is, its key `node` says: it is the merger's where there is one, and else a node's.
+    "Reads settings files as `pdc node` and `pdc merge` do, but opens no port and no mark. It prints a
+line for each thing that is wrong or may not be intended:
+  error    FILE: KEY: ..   it does not run, or not as intended
+  warning  FILE: KEY: ..   it runs, but may not be intended
+  note     FILE: KEY: ..   it is worth knowing
+A file with the key `node` is the merger's; any other is a node's.
 
-Of one file: a key that is missing, of another type or out of its range; two ids that must differ; a key that nothing reads, with the
-known key that is nearest; a port that two keys want; a port that is open to everybody; a store for each frame.
+In each file it looks for a key that is missing, of the wrong type or out of its range; two ids that
+must differ; a key that nothing reads, for which it names the nearest known key; a port that two
+keys have; a port that accepts data from anyone; and settings that store each frame on the disk.
 
-Of several files, each with each other: ids that must differ; rates that are not the same; ports that both want. Of a node and the merger
-also: whether the merger takes the node, at the TIME_BASE and at the port that it sends to, or by TCP at its sessions; whether the PMUs'
-sources are among the merger's, in the same order; whether the merger waits as long; and which node's data it prefers.
+Between any two files it looks for ids that must differ, rates that differ and ports that both have.
+For a node and the merger it also checks whether the merger takes the node, with the node's
+TIME_BASE and at the port that the node sends to, or by TCP at the node's sessions; whether the
+PMUs' sources are among the merger's, in the same order; whether the merger waits as long as the
+node; and which node's data the merger prefers.
 
-Status 0 says that there is no error, 1 that there is one, and 3 that a file cannot be read.
+The exit status is 0 if there is no error, 1 if there is one, and 3 if a file cannot be read.
 
 Examples:
   pdc check /etc/pdc/a.toml
@@ -39,7 +42,7 @@ fn check<'a>(alloc: Global) -> Result<Command<'a>, AllocError> {
         .required(true)
         .num_args(1..)
         .action(ArgAction::Append)
-        .help("Files of settings, of nodes and of the merger");
+        .help("Settings files of nodes and of the merger");
     Command::new(alloc, "check")
         .bin_name("pdc check")?
         .about(ABOUT)
@@ -62,7 +65,7 @@ fn pdc<'a>(alloc: Global) -> Result<Command<'a>, AllocError> {
 ///
 /// # Errors
 ///
-/// What `clap` has to say: the help that was asked for, or what is wrong.
+/// What `clap` reports: the help that was asked for, or what is wrong.
 pub fn words_of<'a>(alloc: Global, words: &'a [String]) -> Result<Asked<'a>, Error> {
     let matches = pdc(alloc)?.try_get_matches_from(words)?;
     let mut files = Vec::new(alloc);

@@ -21,26 +21,28 @@ const ABOUT: &str =
 const VERSION: &str = "0.1.0";
 
 const EXAMPLES: &str = "Examples:
-  pdc show < captured.hex     print what captured frames say
+  pdc show < captured.hex     print what captured frames contain
   pdc play a.toml b.toml m.toml < script.txt
                               play events on two nodes and a merger
-  pdc mark-init a.mark 201 50 make the mark file of node 201 at 50 frames a second
-  pdc mark-convert old new    make a mark file of version 2 out of one of version 1
-  pdc mark-show a.mark        print what a mark file holds
-  pdc mark-forget old new     make a mark file without the counts of another
+  pdc mark-init a.mark 201 50 make the mark file of node 201 at 50 frames per second
+  pdc mark-convert old new    make a mark file of version 2 from one of version 1
+  pdc mark-show a.mark        print what a mark file contains
+  pdc mark-forget old new     make a copy of a mark file whose configuration counts are 0
+  pdc check a.toml b.toml m.toml
+                              check settings files before you run them
   pdc node a.toml a.mark 3000 run a node for 3000 ticks
   pdc merge m.toml m.mark 3000
                               run the merger for 3000 ticks
-  pdc pmu 11 50 3000 4811     simulate PMU 11 at 50 frames a second
-  pdc listen 4751 | pdc show  print what the frames that come to a UDP port say
+  pdc pmu 11 50 3000 4811     simulate PMU 11 at 50 frames per second
+  pdc listen 4751 | pdc show  print what the frames that arrive at a UDP port contain
   pdc watch a.toml b.toml m.toml
-                              show the pair on a page
-  pdc replay a.record.*       play a record of a run again, and compare
+                              show the pair on a web page
+  pdc replay a.record.*       replay a recorded run and compare the results
   pdc explain a.record.* 2026-11-24T12:03:04.580Z
-                              tell what became of each PMU at an instant
-  pdc help show               tell more of a command
+                              explain what happened to each PMU at an instant
+  pdc help show               print the full help of a command
 
-Exit status: 0 done, 1 refused input, 2 wrong arguments, 3 a device failed or memory ran out";
+Exit status: 0 done, 1 input was refused, 2 wrong arguments, 3 a device failed or memory ran out";
 
 /// The program without its commands.
 fn program<'a>(alloc: Global) -> Result<Command<'a>, AllocError> {
@@ -73,7 +75,7 @@ fn with_files<'a>(alloc: Global) -> Result<Command<'a>, AllocError> {
     with(alloc, pdc, &MARK_FORGET)
 }
 
-/// The program with all its commands: those that run on the network stand behind.
+/// The program with all its commands: those that run on the network come last.
 fn pdc<'a>(alloc: Global) -> Result<Command<'a>, AllocError> {
     let pdc = with(alloc, with_files(alloc), &NODE);
     let pdc = with(alloc, pdc, &MERGE);
@@ -81,7 +83,7 @@ fn pdc<'a>(alloc: Global) -> Result<Command<'a>, AllocError> {
     with(alloc, pdc, &LISTEN)
 }
 
-/// What is asked of a command with this name that wants no number, by the words behind it.
+/// The request of a command with this name that takes no number, from the words behind it.
 fn plain_request_of<'a>(name: &str, words: &ArgMatches<'a>) -> Option<Request<'a>> {
     match name {
         "show" => Some(Request::Show(show_form(words))),
@@ -93,7 +95,7 @@ fn plain_request_of<'a>(name: &str, words: &ArgMatches<'a>) -> Option<Request<'a
     }
 }
 
-/// What is asked of the command with this name, by the words behind it.
+/// The request of the command with this name, from the words behind it.
 fn request_of<'a>(name: &str, words: &ArgMatches<'a>) -> Result<Option<Request<'a>>, Wrong<'a>> {
     match name {
         "mark-init" => Ok(mark_init_request(words)?.map(Request::MarkInit)),
@@ -105,19 +107,19 @@ fn request_of<'a>(name: &str, words: &ArgMatches<'a>) -> Result<Option<Request<'
     }
 }
 
-/// What is wrong with the words of the command with this name, as `clap` tells it.
+/// What is wrong with the words of the command with this name, as `clap` reports it.
 fn refused(alloc: Global, name: &str, wrong: &Wrong<'_>) -> Result<Error, AllocError> {
     match name {
         "mark-init" => error_of(alloc, &MARK_INIT, wrong),
         "node" => error_of(alloc, &NODE, wrong),
         "merge" => error_of(alloc, &MERGE, wrong),
         "pmu" => error_of(alloc, &PMU, wrong),
-        // the last one that wants a number
+        // the last one that takes a number
         _ => error_of(alloc, &LISTEN, wrong),
     }
 }
 
-/// What is asked by the words that the parser has read.
+/// The request of the words that the parser has read.
 fn asked_of<'a>(alloc: Global, matches: &ArgMatches<'a>) -> Result<Option<Request<'a>>, Error> {
     let Some((name, words)) = matches.subcommand() else {
         return Ok(None);
@@ -128,12 +130,12 @@ fn asked_of<'a>(alloc: Global, matches: &ArgMatches<'a>) -> Result<Option<Reques
     }
 }
 
-/// The request that the words after the program's name make; `None` where no command is named, which the parser
-/// refuses before.
+/// The request that the words after the program's name make; `None` if no command is named, which the parser
+/// refuses first.
 ///
 /// # Errors
 ///
-/// What `clap` has to say: the help that was asked for, or what is wrong.
+/// What `clap` reports: the help that was asked for, or what is wrong.
 pub fn parse<'a>(alloc: Global, words: &'a [String]) -> Result<Option<Request<'a>>, Error> {
     let matches = pdc(alloc)?.try_get_matches_from(words)?;
     asked_of(alloc, &matches)

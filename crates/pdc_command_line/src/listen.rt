@@ -5,14 +5,15 @@ use crate::words::{Form, Told, Wanted, optional_number_of, short_number_of};
 use crate::wrong::Wrong;
 use clap::ArgMatches;
 
-const ABOUT: &str = "Print the datagrams that come to a UDP port";
+const ABOUT: &str = "Print the datagrams that arrive at a UDP port";
 
 const LONG: &str =
-    "Prints each datagram that comes to PORT on 127.0.0.1 as one line of hexadecimal, as `pdc show` reads it. Each
-line is flushed, so that another command can stand behind it. It ends after COUNT datagrams, and goes on until
-it is stopped where no COUNT is given.
+    "Prints each datagram that arrives at PORT on 127.0.0.1 as one line of hexadecimal, which `pdc show`
+can read. It flushes each line, so that you can pipe its output into another command. It ends after
+COUNT datagrams; without COUNT it runs until you stop it.
 
-A port that cannot be opened, as one where another program listens, gives `device fault` and status 3.
+If it cannot open the port, for example because another program uses it, it prints `device fault`
+and ends with status 3.
 
 Example, what the merger of examples/pair sends:
   pdc listen 4751 100 | pdc show";
@@ -28,16 +29,16 @@ pub const LISTEN: Told<'static> = Told {
         Wanted(
             "COUNT",
             Form::Optional,
-            "After how many datagrams it ends, 1 to 4294967295",
+            "The number of datagrams after which it ends, 1 to 4294967295",
         ),
     ],
 };
 
-/// What is asked by these words; `None` where one is missing, which the parser refuses before.
+/// The request that these words make; `None` if a word is missing, which the parser refuses first.
 ///
 /// # Errors
 ///
-/// A number is none, or out of its range.
+/// A word is not a number, or the number is out of its range.
 pub fn listen_request<'a>(matches: &ArgMatches<'a>) -> Result<Option<Request<'a>>, Wrong<'a>> {
     let Some(port) = matches.get_str("PORT") else {
         return Ok(None);

@@ -4,22 +4,22 @@ use crate::request::{MarkConvert, Request};
 use crate::words::{Form, Told, Wanted};
 use clap::ArgMatches;
 
-const ABOUT: &str = "Make a mark file of version 2 out of one of version 1";
+const ABOUT: &str = "Make a mark file of version 2 from one of version 1";
 
 const LONG: &str =
-    "Reads a mark file of version 1, which has 128 bytes, and makes a new one of version 2
-of it. The new one has the same id, data rate, starts and instant; its counts are 0.
-The old file stays as it is.
+    "Reads a mark file of version 1, which has 128 bytes, and makes a new file of version 2 from it. The
+new file has the same id, data rate, start number and instant; its counts are 0. The old file stays
+as it is.
 
-Prints the number of starts and the instant up to which all is published:
+Prints the number of starts and the instant up to which everything was published:
   start=1 floor=57478860001
 
-Refusals, with status 1; then no file is made:
-  mark exists       there is a file NEW, which is left as it is
-  M1 NoMark         OLD has not 128 bytes
+In these cases it makes no file and ends with status 1:
+  mark exists       the file NEW exists, and stays as it is
+  M1 NoMark         OLD does not have 128 bytes
   M2 Damaged        OLD has no open slot
-A file that cannot be read or made gives `device fault`, and a device that fails then
-gives `M4 Device`, both with status 3.
+If it cannot read or make a file, it prints `device fault`; if a device fails after that, it prints
+`M4 Device`. Both end it with status 3.
 
 Example:
   pdc mark-convert a.mark a2.mark";
@@ -36,7 +36,7 @@ pub const MARK_CONVERT: Told<'static> = Told {
     ],
 };
 
-/// What is asked by these words; `None` where one is missing, which the parser refuses before.
+/// The request that these words make; `None` if a word is missing, which the parser refuses first.
 pub fn mark_convert_request<'a>(matches: &ArgMatches<'a>) -> Option<Request<'a>> {
     let (Some(old), Some(new)) = (matches.get_str("OLD"), matches.get_str("NEW")) else {
         return None;

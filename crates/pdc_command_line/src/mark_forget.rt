@@ -4,29 +4,29 @@ use crate::request::{MarkForget, Request};
 use crate::words::{Form, Told, Wanted};
 use clap::ArgMatches;
 
-const ABOUT: &str = "Make a mark file without the counts of another";
+const ABOUT: &str = "Make a copy of a mark file whose configuration counts are 0";
 
 const LONG: &str =
-    "Makes a new mark file of the same id, data rate, start and floor as OLD, with counts 0. OLD stays
-as it is. Prints what `pdc mark-show` prints of OLD, and what is given up.
+    "Makes a new mark file with the id, data rate, start and floor of OLD, and with all counts 0. OLD
+stays as it is. It prints what `pdc mark-show` prints of OLD, and what you give up.
 
-It is for a configuration count that was too high once, as a test device or a forged frame may
-bring it: it stays in the mark, and the PMU's own configurations are refused as C8 StaleCount
-from then on. With the new mark in place of the old one they are taken again. No instant goes
-out twice: start and floor are kept.
+Use it if a configuration count was too high once, for example because of a test device or a forged
+frame. The mark keeps that count, and the node refuses the PMU's own configurations from then on as
+C8 StaleCount. Once the new mark is in place of the old one, the node accepts them again. It
+publishes no instant twice, because the new mark has the same start and floor.
 
-One promise is given up by it, this once: that the configuration counts that are adopted of a
-PMU never fall. It is safe where the node is stopped, no frame of an older configuration of any
-of its PMUs is on its way any more, and each PMU sends the configuration that is in force at it.
-Both nodes and the merger need it: docs/TROUBLESHOOTING.md has the whole way.
+You give up one promise, this once: that the adopted configuration counts of a PMU never fall. This
+is safe if the node is stopped, no frame of an older configuration of any of its PMUs is still on
+its way, and each PMU sends the configuration that it uses now. Both nodes and the merger need a
+new mark: docs/TROUBLESHOOTING.md describes all the steps.
 
-Refusals, with status 1; then no file is made:
-  mark exists       there is a file NEW, which is left as it is
-  M1 NoMark         OLD has not 256 bytes
+In these cases it makes no file and ends with status 1:
+  mark exists       the file NEW exists, and stays as it is
+  M1 NoMark         OLD does not have 256 bytes
   M2 Damaged        OLD has no open slot
   M6 OldMark        OLD is of version 1: see `pdc help mark-convert`
-A file that cannot be opened or made, also where a node runs with it, gives `device fault`, and
-a device that fails then gives `M4 Device`, both with status 3.
+If it cannot open or make a file, for example because a node runs with OLD, it prints
+`device fault`; if a device fails after that, it prints `M4 Device`. Both end it with status 3.
 
 Example:
   pdc mark-forget a.mark a.new.mark";
@@ -43,7 +43,7 @@ pub const MARK_FORGET: Told<'static> = Told {
     ],
 };
 
-/// What is asked by these words; `None` where one is missing, which the parser refuses before.
+/// The request that these words make; `None` if a word is missing, which the parser refuses first.
 pub fn mark_forget_request<'a>(matches: &ArgMatches<'a>) -> Option<Request<'a>> {
     let (Some(old), Some(new)) = (matches.get_str("OLD"), matches.get_str("NEW")) else {
         return None;

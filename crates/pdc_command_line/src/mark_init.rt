@@ -12,12 +12,13 @@ use pdc_frame::{MAX_ID, StreamId};
 const ABOUT: &str = "Make the mark file of a node or a merger";
 
 const LONG: &str =
-    "Makes a mark file: what a node or a merger has to remember over a stop, so that it never publishes
-one instant twice. It holds the number of its starts, and the instant up to which all is published.
+    "Makes a mark file, in which a node or a merger keeps what it must remember across a stop, so that it
+never publishes an instant twice: the number of its starts, and the instant up to which everything
+was published.
 
-Make one for each node and for the merger, once, before its first start.
-A file that exists is left as it is: the command prints `mark exists` and ends with status 1.
-A file that cannot be made gives `device fault` and status 3.
+Make one for each node and one for the merger, once, before its first start. If the file exists, the
+command leaves it as it is, prints `mark exists` and ends with status 1. If it cannot make the file,
+it prints `device fault` and ends with status 3.
 
 Example:
   pdc mark-init /var/lib/pdc/a.mark 201 50";
@@ -34,16 +35,16 @@ pub const MARK_INIT: Told<'static> = Told {
         Wanted(
             "RATE",
             Form::Word,
-            "The data rate, 1 to 240 frames a second",
+            "The data rate, 1 to 240 frames per second",
         ),
     ],
 };
 
-/// What is asked by these words; `None` where one is missing, which the parser refuses before.
+/// The request that these words make; `None` if a word is missing, which the parser refuses first.
 ///
 /// # Errors
 ///
-/// A number is none, or out of its range.
+/// A word is not a number, or the number is out of its range.
 pub fn mark_init_request<'a>(matches: &ArgMatches<'a>) -> Result<Option<MarkInit<'a>>, Wrong<'a>>
     ensures asked { IfOk result (λ asked. IfSome asked (AsksFor (found_of matches.now))) }
     ensures missing { IfOk result (λ asked. IfNone asked (LacksWord (found_of matches.now))) }

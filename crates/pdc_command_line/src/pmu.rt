@@ -12,23 +12,25 @@ use pdc_frame::{MAX_ID, StreamId};
 const ABOUT: &str = "Simulate a PMU: send its configuration and data to UDP ports, or over TCP";
 
 const LONG: &str =
-    "Sends the frames of a simulated PMU to each PORT on 127.0.0.1, or to another place HOST:PORT, as one would need
-to try a node: first one configuration (count 1, one phasor, TIME_BASE 1000000), and then COUNT data frames, one
-for each instant as the clock reaches it. The phasor counts: 0, 1, 2, .. up to 32767, and then from 0 again.
+    "Sends the frames of a simulated PMU, so that you can try a node. They go to each PORT on 127.0.0.1,
+or to another place HOST:PORT. It first sends one configuration (count 1, one phasor, TIME_BASE
+1000000), then COUNT data frames, one for each instant as the clock reaches it. The phasor counts
+0, 1, 2, .. up to 32767, and then from 0 again.
 
-ID is its stream id, RATE its frames in a second. With --config-every the configuration goes out again each time
-that so many seconds have gone by: so what starts later takes its data too.
+ID is the stream id, RATE the number of frames per second. With --config-every it sends the
+configuration again every SECONDS seconds, so that a node that starts later accepts its data too.
 
-With --grid it is the PMU of a bus of a simulated grid, which is the same grid for all ids: three voltages and three
-currents of 50 Hz, with a load that is switched each minute and a swing of 0.3 Hz between buses with odd and with
-even ids, and the load's breaker as a digital word.
+With --grid it simulates a PMU at one bus of a grid, which is the same grid for all ids. It sends
+three voltages and three currents of 50 Hz, with a load that switches every minute and a swing of
+0.3 Hz between the buses with odd ids and those with even ids, and the load's breaker as a digital
+word.
 
-With --tcp it listens at a TCP port, as most PMUs do, and serves up to 4 consumers: it answers the commands of the
-standard, and sends data to each while that is on.
+With --tcp it listens at a TCP port, as most PMUs do, and serves up to 4 consumers. It answers the
+commands of the standard, and sends data to each consumer that has switched data on.
 
-Example, PMU 11 for a minute at 50 frames a second, to the ports of two nodes:
+Example, PMU 11 for a minute at 50 frames per second, to the ports of two nodes:
   pdc pmu 11 50 3000 4811 4911
-Example, PMU 12 that waits to be asked:
+Example, PMU 12, which waits for a consumer to ask:
   pdc pmu 12 50 3000 --tcp 0.0.0.0:4712";
 
 /// The command and its help.
@@ -42,28 +44,32 @@ pub const PMU: Told<'static> = Told {
         Wanted(
             "RATE",
             Form::Word,
-            "The data rate, 1 to 240 frames a second",
+            "The data rate, 1 to 240 frames per second",
         ),
-        Wanted("COUNT", Form::Word, "How many data frames, 1 to 4294967295"),
+        Wanted(
+            "COUNT",
+            Form::Word,
+            "The number of data frames, 1 to 4294967295",
+        ),
         Wanted(
             "PORT",
             Form::UpToSixteen,
-            "The UDP ports, each 1 to 65535 or HOST:PORT, at most 16; at least one without --tcp",
+            "Up to 16 UDP ports, each 1 to 65535 or HOST:PORT; at least one without --tcp",
         ),
         Wanted(
             "tcp",
             Form::Option("PORT"),
-            "Serve up to 4 consumers at this TCP port of 127.0.0.1, or at ADDRESS:PORT",
+            "Serve up to 4 consumers at this port of 127.0.0.1 or ADDRESS:PORT",
         ),
         Wanted(
             "config-every",
             Form::Option("SECONDS"),
-            "Send the configuration again every so many seconds, 1 to 86400",
+            "Send the configuration again every SECONDS seconds, 1 to 86400",
         ),
         Wanted(
             "grid",
             Form::Flag,
-            "Simulate a bus of a grid, in place of one phasor that counts",
+            "Simulate one bus of a grid, instead of one phasor that counts",
         ),
     ],
 };
@@ -169,11 +175,11 @@ fn simulated<'a>(beat: Beat, matches: &ArgMatches<'a>) -> Result<Simulated<'a>, 
     })
 }
 
-/// What is asked by these words; `None` where one is missing, which the parser refuses before.
+/// The request that these words make; `None` if a word is missing, which the parser refuses first.
 ///
 /// # Errors
 ///
-/// A number is none, or out of its range.
+/// A word is not a number, or the number is out of its range.
 pub fn pmu_request<'a>(matches: &ArgMatches<'a>) -> Result<Option<Request<'a>>, Wrong<'a>> {
     let (Some(id), Some(rate), Some(count)) = (
         matches.get_str("ID"),

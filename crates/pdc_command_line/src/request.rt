@@ -14,7 +14,7 @@ pub const MAX_PLACES: usize = 16;
 /// The most mebibytes of a file of a record.
 pub const MAX_RECORD_SIZE: u32 = 65536;
 
-/// How many mebibytes it has where nothing is said.
+/// How many mebibytes it has by default.
 pub const RECORD_SIZE: u32 = 64;
 
 /// The most seconds from one line of counters, or one configuration, to the next: a day.
@@ -105,11 +105,11 @@ pub struct Running<'a> {
     pub settings: &'a str,
     /// The name of the mark file.
     pub mark: &'a str,
-    /// After how many ticks it ends, at least 1; where there is none, it goes on until it is stopped.
+    /// After how many ticks it ends, at least 1; if there is none, it runs until it is stopped.
     pub ticks: Option<u32>,
-    /// After how many seconds counters are told again; where there is none, they are not.
+    /// After how many seconds counters are reported again; if there is none, they are not.
     pub every: Option<u32>,
-    /// Whether faults alone are told, and counters where they are asked for.
+    /// Whether only faults are reported, and counters if they are asked for.
     pub is_quiet: bool,
     /// Where it is recorded, if it is.
     pub record: Option<Record<'a>>,
@@ -122,7 +122,7 @@ pub struct Record<'a> {
     pub name: &'a str,
     /// How many mebibytes a file has at most, 1 to 65536.
     pub size: u32,
-    /// How many files stay, at least 1; where there is none, all do.
+    /// How many files stay, at least 1; if there is none, all do.
     pub keep: Option<u32>,
 }
 
@@ -131,7 +131,7 @@ pub struct Record<'a> {
 pub struct Listen {
     /// The number of the port, at least 1.
     pub port: u16,
-    /// After how many datagrams it ends; where there is none, it goes on.
+    /// After how many datagrams it ends; if there is none, it goes on.
     pub count: Option<u32>,
 }
 
@@ -164,7 +164,7 @@ pub struct Simulated<'a> {
     pub places: ArrayVec<Place<'a>, MAX_PLACES>,
     /// The TCP port at which up to four consumers are served.
     pub tcp: Option<Place<'a>>,
-    /// After how many seconds its configuration is sent again; where there is none, it is sent once.
+    /// After how many seconds its configuration is sent again; if there is none, it is sent once.
     pub config_every: Option<u32>,
     /// Whether it is a PMU at a bus of a simulated grid.
     pub is_grid: bool,

@@ -9,89 +9,94 @@ const ABOUT_NODE: &str =
     "Run a node: align the streams of PMUs and send one frame for each instant";
 
 const LONG_NODE: &str =
-    "Runs a node. The frames of each PMU come as UDP datagrams to the port that the settings name for it, or over TCP
-from the place that they name, are aligned by their time tags, and one data frame for each instant goes out to 127.0.0.1 at `out_port`; a
-configuration goes out at each change, and again after each `layout_every` ticks.
+    "Runs a node. The frames of each PMU arrive as UDP datagrams at the port that the settings name for
+it, or over TCP from the place that they name. The node aligns them by their time tags, and sends
+one data frame for each instant to 127.0.0.1 at `out_port`. It sends a configuration at each change,
+and again after every `layout_every` ticks.
 
-SETTINGS is a TOML file, MARK the mark file that `pdc mark-init` made for this node. Each run stores a
-start of its own there, and no instant goes out before it is stored, so that whenever the node dies, and
-however often it is started again, the instants that it publishes strictly rise.
+SETTINGS is a TOML file, MARK the mark file that `pdc mark-init` made for this node. Each run stores
+its own start number in MARK, and publishes no instant before MARK covers it. So the instants that
+the node publishes strictly rise, whenever it dies and however often you start it again.
 
-It runs for TICKS ticks, one for each frame time, then prints
+It runs for TICKS ticks, one per frame time, then prints this line and ends:
   taken=N refused=N published=N
-and ends: data frames that were taken, datagrams that were refused, rows that were published. Without TICKS it
-runs until it is stopped.
+The line counts data frames that were accepted, datagrams that were refused, and rows that were
+published. Without TICKS the node runs until you stop it. After a fault it prints only the fault.
 
-On standard error it tells, with the time in front, how it begins, each layout that it adopts, a PMU that is
-silent for 5 seconds or whose data has no configuration, and a port that is read no more; --quiet leaves out all
-but faults. With --every it tells besides, each time that so many seconds have gone by, what it counted until
-then: the same as at the end, the instant that was published last, how many frames could not be sent, and how
-many datagrams each cause refused, in all and of each PMU. A reader that stops holds nothing up: lines are
-dropped then, and their number is told.
+The node reports on standard error, with the time at the front of each line: how it begins, each
+layout that it adopts, a PMU that is silent for 5 seconds or whose data has no configuration, and a
+port that it no longer reads. With --quiet it reports only faults. With --every it also reports its
+counters every SECONDS seconds: the three above, the instant that it published last, how many frames
+could not be sent, and how many datagrams each cause refused, in all and for each PMU. If nobody
+reads these lines, the run goes on: the node drops lines and reports how many.
 
-With --record it writes down each datagram with its time and its answer, each tick, and each frame that goes out,
-for `pdc replay`, which checks them, and `pdc explain`, which tells why a block is absent. START is the number of the
-life, one more at each run, so that no file is written over. The run does not wait for the disk: where that is too slow,
-the record has a gap, and a line tells it.
+With --record it writes a record to FILE.START.000001 and the files that follow: each datagram with
+its time and its answer, each tick, and each frame that it sends. START is the start number, which
+rises at each run, so that no file is overwritten. `pdc replay` checks the record, and `pdc explain`
+explains why a block is absent. The run does not wait for the disk: if the disk is too slow, the
+record has a gap, and a line reports it.
 
-Consumers ask for its header, configuration and data over TCP at `session_port`, by the commands of the standard.
+Consumers ask for the header, the configuration and the data over TCP at `session_port`, with the
+commands of the standard. A consumer that has data off and sends nothing for a minute is
+disconnected, which frees its place.
 
-Faults, on standard error, with status 1: S1 Toml, S2 Range and S3 DoubledId of the settings; M1 NoMark,
-M2 Damaged, M3 OtherOwner, M5 StartsUsedUp and M6 OldMark of the mark. With status 3: `device fault` where
-a file or a port cannot be opened, where another process has the mark, where a file of the record is there already, and where the clock cannot be read; and
-what stops a run: H1 SourceFault, H2 SinkFault, H3 NoMemory, M4 Device. A frame that the system does not send is
-lost for its reader alone: it is counted, and the run goes on.
+The node prints faults on standard error. These end it with status 1: S1 Toml, S2 Range and
+S3 DoubledId of the settings; M1 NoMark, M2 Damaged, M3 OtherOwner, M5 StartsUsedUp and M6 OldMark
+of the mark. These end it with status 3: `device fault` if it cannot open a file or a port, another
+process has the mark, a file of the record exists already, or it cannot read the clock; and
+H1 SourceFault, H2 SinkFault, H3 NoMemory and M4 Device, which stop a run. If the system does not
+send a frame, only its reader loses it: the node counts the frame and goes on.
 
-Example, a minute at 50 frames a second:
+Example, a minute at 50 frames per second:
   pdc node a.toml a.mark 3000";
 
 const ABOUT_MERGE: &str = "Run the merger: join the streams of two nodes into one";
 
 const LONG_MERGE: &str =
-    "Runs the merger. The frames of nodes A and B come as UDP datagrams to the ports that the settings name for
-them, and one data frame for each instant goes out to 127.0.0.1 at `out_port`, so that one node may be lost
-and no reader downstream sees it.
+    "Runs the merger. The frames of nodes A and B arrive as UDP datagrams at the ports that the settings
+name for them. The merger sends one data frame for each instant to 127.0.0.1 at `out_port`. If one
+node fails, no reader downstream notices.
 
-SETTINGS is a TOML file with two tables `node`, MARK the mark file that `pdc mark-init` made for the merger.
-It runs for TICKS ticks or until it is stopped, prints what `pdc node` prints, and has the same options, sessions
-and faults.
+SETTINGS is a TOML file with two tables `node`, MARK the mark file that `pdc mark-init` made for the
+merger. It runs for TICKS ticks or until you stop it. It prints what `pdc node` prints, and has the
+same options, sessions and faults: see `pdc help node`.
 
-Example, a minute at 50 frames a second:
+Example, a minute at 50 frames per second:
   pdc merge m.toml m.mark 3000";
 
-/// What both want.
+/// The words, options and flags of both.
 const WANTED: &[Wanted<'static>] = &[
     Wanted("SETTINGS", Form::Word, "The settings file"),
     Wanted("MARK", Form::Word, "The mark file"),
     Wanted(
         "TICKS",
         Form::Optional,
-        "After how many ticks it ends, 1 to 4294967295; left out, it runs until it is stopped",
+        "The number of ticks to run, 1 to 4294967295; without it, it runs until you stop it",
     ),
     Wanted(
         "every",
         Form::Option("SECONDS"),
-        "Tell counters on standard error every so many seconds, 1 to 86400",
+        "Report counters on standard error every SECONDS seconds, 1 to 86400",
     ),
     Wanted(
         "quiet",
         Form::Flag,
-        "Tell faults alone on standard error, and counters where --every asks for them",
+        "Report only faults, and counters if --every asks for them",
     ),
     Wanted(
         "record",
         Form::Option("FILE"),
-        "Write down what happens, to FILE.START.000001 and files that follow it",
+        "Record the run in FILE.START.000001 and the files that follow",
     ),
     Wanted(
         "record-size",
         Form::Beside("MEBIBYTES", "record"),
-        "How large a file of the record grows, 1 to 65536; left out, 64",
+        "The greatest size of each record file, 1 to 65536; default 64",
     ),
     Wanted(
         "record-keep",
         Form::Beside("FILES", "record"),
-        "How many files of the record stay, the last ones; left out, all",
+        "Keep only this many of the last record files; default all",
     ),
 ];
 
@@ -131,11 +136,11 @@ fn record_of<'a>(matches: &ArgMatches<'a>) -> Result<Option<Record<'a>>, Wrong<'
     }
 }
 
-/// What is asked of `node` or of `merge` by these words; `None` where one is missing, which the parser refuses before.
+/// The run of `node` or `merge` that these words ask for; `None` if a word is missing, which the parser refuses first.
 ///
 /// # Errors
 ///
-/// A number is none, or out of its range.
+/// A word is not a number, or the number is out of its range.
 pub fn running<'a>(matches: &ArgMatches<'a>) -> Result<Option<Running<'a>>, Wrong<'a>> {
     let (Some(settings), Some(mark)) = (matches.get_str("SETTINGS"), matches.get_str("MARK")) else {
         return Ok(None);

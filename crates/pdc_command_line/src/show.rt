@@ -4,54 +4,55 @@ use crate::request::ShowForm;
 use crate::words::{Form, Told, Wanted};
 use clap::ArgMatches;
 
-const ABOUT: &str = "Print what frames in hexadecimal say";
+const ABOUT: &str = "Print what frames in hexadecimal contain";
 
 const LONG: &str =
-    "Reads lines of hexadecimal from standard input, one frame a line, and prints what each frame says.
-What was printed is flushed before each read, so the command can stand behind a live source.
+    "Reads lines of hexadecimal from standard input, one frame per line, and prints what each frame
+contains. It flushes its output before each read, so that its input can be a live source.
 
 Input:
-  Spaces are passed over, and so are empty lines. Digits may be in either case.
-  A data frame is read by the last CFG-2 shown, which must be of the same id.
-  A run makes at most 1000000 reads of up to 65536 bytes; an input that goes on is status 3.
+  Spaces and empty lines are ignored. Digits may be in either case.
+  A data frame is read with the last CFG-2 shown, which must have the same id.
+  A run makes at most 1000000 reads of up to 65536 bytes; a longer input ends it with status 3.
 
-Lines of a configuration (CFG-1 or CFG-2), and one for each PMU:
+Lines of a configuration (CFG-1 or CFG-2), one for the frame and one for each PMU:
   cfg2 id=11 time_base=1000000 rate=50 pmus=1
   pmu 11 count=1 phasors=1 analogs=0 digitals=0 rectangular
     id         the stream, 1 to 65534
-    time_base  counts of FRACSEC in a second
-    rate       frames a second; below zero, seconds a frame
+    time_base  counts of FRACSEC per second
+    rate       frames per second; if below zero, seconds per frame
     pmu        the id of the data's source
-    count      the number of changes that its configuration has had
+    count      how often its configuration has changed
     polar or rectangular   the form of its phasors
 
-Lines of a data frame, and one for each PMU:
+Lines of a data frame, one for the frame and one for each PMU:
   data id=11 soc=1149577200 frac=20000 quality=00 instant=57478860001
   pmu 11 stat=0000 phasors=[14635,0] freq=2500 dfreq=0 analogs=[] digitals=[]
     soc        seconds since 1970-01-01 00:00 UTC, leap seconds not counted
     frac       the count of FRACSEC: divided by time_base it is the fraction of the second
-    quality    time quality in hexadecimal; the low digit is a number, the greater the worse
-    instant    the number of the frame since 1970 at this rate; none where the tag is of no frame
-    stat       STAT in hexadecimal: bits 15 and 14 the error class, bit 13 out of sync
+    quality    time quality in hexadecimal; the greater its low digit, the worse
+    instant    the number of the frame since 1970 at this rate, or none if the tag fits no frame
+    stat       STAT in hexadecimal: bits 15 and 14 are the error class, bit 13 says out of sync
     phasors    16-bit words, not scaled: real,imaginary or magnitude@angle
-    freq       mHz off the nominal frequency
-    dfreq      change of frequency, Hz a second times 100
-    analogs    signed 16-bit words, not scaled; digitals are in hexadecimal
+    freq       deviation from the nominal frequency, in mHz
+    dfreq      rate of change of frequency, in Hz per second times 100
+    analogs    signed 16-bit words, not scaled
+    digitals   16-bit words in hexadecimal
 
 Lines of a header frame and of a command frame:
   header id=11 bytes=3
   command id=11 cmd=2
     cmd        1 data off, 2 data on, 3 header, 4 CFG-1, 5 CFG-2, 6 CFG-3
 
-With --format json there is one JSON object a line for each frame, and one for each line that is
-refused; with --format csv one row for each block of a data frame, below a row of names.
-Phasors are then in volts or amperes by PHUNIT, as magnitude and angle and as real and imaginary
+With --format json it prints one JSON object per line, for each frame and for each refused line.
+With --format csv it prints a row of names, then one row for each block of a data frame. In both
+forms phasors are in volts or amperes by PHUNIT, as magnitude and angle and as real and imaginary
 part, the frequency is in Hz, analogs are multiplied by the factor of ANUNIT, and the time is UTC.
-In CSV the columns are those of the first CFG-2; what has no column and what is refused is told on
+The first CFG-2 decides the columns of CSV. What has no column, and what is refused, is reported on
 standard error.
 
-A frame that is refused gives its code and name, and a line that is no hexadecimal gives
-`line N: not hex`. The program goes on after either, and ends with status 1.
+For a refused frame it prints the code and name of the refusal, and for a line that is not
+hexadecimal `line N: not hex`. It goes on after either, and ends with status 1.
 
 Refusals:
   F1 Short          fewer than 16 bytes
@@ -60,13 +61,13 @@ Refusals:
   F4 BadCheck       CHK is not the check word of the bytes before it
   F5 BadId          IDCODE is 0 or 65535
   C1 WrongKind      a CFG-3 frame, which is not shown
-  C2 Cut            a configuration ends too early, or goes on too long
+  C2 Cut            a configuration that is too short or too long
   C3 TooMany        not 1 to 17 PMUs, or one with over 32 phasors, 32 analogs or 8 digitals
   C4 FloatFormat    FORMAT asks for floating-point numbers
-  B1 NoConfig       data with no CFG-2 of its id before it
+  B1 NoConfig       data without an earlier CFG-2 of its id
   B2 WrongLength    data that is longer or shorter than its configuration says
-  N2 Cut            a command frame whose payload has not two bytes
-  N3 UnknownCommand a command that is none of 1 to 6
+  N2 Cut            a command frame whose payload does not have two bytes
+  N3 UnknownCommand a command that is not 1 to 6
 
 Examples:
   pdc listen 4751 | pdc show --format csv > day.csv
@@ -84,7 +85,7 @@ pub const SHOW: Told<'static> = Told {
     wanted: &[Wanted(
         "format",
         Form::OneOf("FORMAT", FORMATS),
-        "Write for programs: json or csv",
+        "Print for programs, as json or csv",
     )],
 };
 

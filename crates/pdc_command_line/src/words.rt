@@ -1,4 +1,4 @@
-//! What commands want: words, options and flags.
+//! The words, options and flags that commands take.
 ghost use Rattle.std.specs.Prelude.{ℕ, ◌≤◌, IfErr, IfOk};
 ghost use Rattle.pdc_command_line.specs.Number.{IsNumber};
 
@@ -7,10 +7,10 @@ use crate::wrong::Wrong;
 use clap::{Arg, ArgAction, Command};
 use std::alloc::{AllocError, Global};
 
-/// In which form something is wanted.
+/// The form of a word, an option or a flag.
 #[derive(Clone, Copy)]
 pub enum Form<'a> {
-    /// A word that has to be there.
+    /// A word that must be there.
     Word,
     /// A word that may be left out.
     Optional,
@@ -18,7 +18,7 @@ pub enum Form<'a> {
     UpToSixteen,
     /// An option `--name VALUE` with this value, which may be left out.
     Option(&'a str),
-    /// An option `--name VALUE` with this value, which is wanted beside the option of the other name alone.
+    /// An option `--name VALUE` with this value, which is allowed only with the option of the other name.
     Beside(&'a str, &'a str),
     /// An option `--name VALUE` with one of these values, which may be left out.
     OneOf(&'a str, &'a [&'a str]),
@@ -26,11 +26,11 @@ pub enum Form<'a> {
     Flag,
 }
 
-/// What a command wants: its name, its form, and its line of the help.
+/// A word, an option or a flag of a command: its name, its form, and its line of the help.
 #[derive(Clone, Copy)]
 pub struct Wanted<'a>(pub &'a str, pub Form<'a>, pub &'a str);
 
-/// A command as its help tells it.
+/// A command as its help describes it.
 #[derive(Clone, Copy)]
 pub struct Told<'a> {
     /// Its name,
@@ -41,7 +41,7 @@ pub struct Told<'a> {
     pub about: &'a str,
     /// and at length.
     pub long: &'a str,
-    /// What it wants, in this order.
+    /// Its words, options and flags, in this order.
     pub wanted: &'a [Wanted<'a>],
 }
 
@@ -70,7 +70,7 @@ fn in_form<'a>(arg: Arg<'a>, name: &'a str, form: Form<'a>) -> Result<Arg<'a>, A
     })
 }
 
-/// What is wanted, as `clap` reads it.
+/// The word, option or flag, as `clap` reads it.
 fn arg<'a>(alloc: Global, wanted: &Wanted<'a>) -> Result<Arg<'a>, AllocError> {
     let Wanted(name, form, help) = *wanted;
     in_form(Arg::new(alloc, name).help(help), name, form)
@@ -92,7 +92,7 @@ pub fn command_of<'a>(alloc: Global, told: &Told<'a>) -> Result<Command<'a>, All
 ///
 /// # Errors
 ///
-/// It writes none, or one out of this range.
+/// It is not a number, or out of this range.
 pub fn number_of<'a>(name: &'static str, text: &'a str, most: u32) -> Result<u32, Wrong<'a>>
     ensures found { IfOk result (IsNumber text.now) }
     ensures low { IfOk result (λ n. 1 ≤ n) }
@@ -109,7 +109,7 @@ pub fn number_of<'a>(name: &'static str, text: &'a str, most: u32) -> Result<u32
 ///
 /// # Errors
 ///
-/// The text writes none, or one out of this range.
+/// The text is not a number, or out of this range.
 pub fn short_number_of<'a>(name: &'static str, text: &'a str, most: u16) -> Result<u16, Wrong<'a>>
     ensures found { IfOk result (IsNumber text.now) }
     ensures low { IfOk result (λ n. 1 ≤ n) }
@@ -126,7 +126,7 @@ pub fn short_number_of<'a>(name: &'static str, text: &'a str, most: u16) -> Resu
 ///
 /// # Errors
 ///
-/// The text writes none, or one out of this range.
+/// The text is not a number, or out of this range.
 pub fn optional_number_of<'a>(
     name: &'static str,
     text: Option<&'a str>,

@@ -5,21 +5,21 @@ use clap::Error;
 use clap::error::ErrorKind;
 use std::alloc::{AllocError, Global};
 
-/// What is wrong with the words of a command. It owns nothing: what is told of it is made once, where the words are refused.
+/// What is wrong with the words of a command. It owns nothing: its message is made once, where the words are refused.
 #[derive(Clone, Copy)]
 pub enum Wrong<'a> {
-    /// A word is no whole number from 1 to the greatest that is wanted.
+    /// A word is not a whole number from 1 to the greatest that is allowed.
     Number {
         /// Its name, as the help has it.
         name: &'static str,
-        /// What stands there.
+        /// The word.
         text: &'a str,
         /// The greatest.
         most: u32,
     },
-    /// More ports are named than a simulated PMU sends to.
+    /// The words name more ports than a simulated PMU sends to.
     TooManyPorts,
-    /// A simulated PMU is to send nowhere, and to serve nobody.
+    /// A simulated PMU would send nowhere and serve nobody.
     NoPort,
 }
 
@@ -32,20 +32,18 @@ fn kind_of(wrong: &Wrong<'_>) -> ErrorKind {
     }
 }
 
-/// What is told of it.
+/// The message for it.
 fn message_of(alloc: Global, wrong: &Wrong<'_>) -> Result<String, AllocError> {
     match wrong {
         Wrong::Number { name, text, most } => format!(in alloc;
-            "invalid value '{text}' for '{name}': a whole number from 1 to {most} is wanted"
+            "invalid value '{text}' for '{name}': it must be a whole number from 1 to {most}"
         ),
-        Wrong::TooManyPorts => {
-            String::from_str(alloc, "at most 16 values of '[PORT]...' are wanted")
-        }
-        Wrong::NoPort => String::from_str(alloc, "a PORT or --tcp is wanted"),
+        Wrong::TooManyPorts => { String::from_str(alloc, "'[PORT]...' takes at most 16 values") }
+        Wrong::NoPort => String::from_str(alloc, "a PORT or --tcp is required"),
     }
 }
 
-/// What is wrong with the words of this command, as `clap` tells it.
+/// What is wrong with the words of this command, as `clap` reports it.
 ///
 /// # Errors
 ///

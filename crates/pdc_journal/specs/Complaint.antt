@@ -10,7 +10,7 @@ use Rattle.pdc_journal.specs.declared.moment.Moment.{Moment}
 
 -- what there is to tell of a configuration that is none: of one with values in floating point alone
 abbrev pub of_config : CfgFault → Option (List ℕ)
-of_config FloatFormat = Some (codes "its configuration has values in floating point, which are not read")
+of_config FloatFormat = Some (codes "its configuration has values in floating point, which are not supported")
 of_config WrongKind = None
 of_config Cut = None
 of_config TooMany = None
@@ -18,15 +18,15 @@ of_config TooMany = None
 -- What there is to tell of a refusal: of what only somebody can mend who sets up the sender, or this concentrator. Late data, a second copy
 -- and the like come and go, and nothing is told of each.
 abbrev pub complaint_of : Refusal → Option (List ℕ)
-complaint_of WrongId = Some (codes "frames of another stream come to its port")
-complaint_of WrongTimeBase = Some (codes "its configuration has another TIME_BASE than the settings")
-complaint_of WrongRate = Some (codes "its configuration has another data rate than the settings; data goes on as if it had not come")
-complaint_of WrongSource = Some (codes "its configuration has another IDCODE than the settings")
+complaint_of WrongId = Some (codes "frames of another stream arrive at its port")
+complaint_of WrongTimeBase = Some (codes "its configuration has a different TIME_BASE than the settings")
+complaint_of WrongRate = Some (codes "its configuration has a different data rate than the settings; it is ignored, and data goes on")
+complaint_of WrongSource = Some (codes "its configuration has a different IDCODE than the settings")
 complaint_of (NoConfiguration fault) = of_config fault
-complaint_of StaleCount = Some (codes "its configuration has a lower count than one before: raise the count there")
-complaint_of CountConflict = Some (codes "it sends another configuration under the same count; its data goes on under the one in force: raise the count there")
-complaint_of BadOwnBlock = Some (codes "its layout is not what the settings say: compare its settings with these")
-complaint_of UnknownSource = Some (codes "its layout is not what the settings say: compare its settings with these")
+complaint_of StaleCount = Some (codes "its configuration has a lower count than an earlier one: raise the count at the sender")
+complaint_of CountConflict = Some (codes "it sends a different configuration under the same count; its data is read with the one in force: raise the count at the sender")
+complaint_of BadOwnBlock = Some (codes "its layout does not match these settings: compare its settings with these")
+complaint_of UnknownSource = Some (codes "its layout does not match these settings: compare its settings with these")
 complaint_of (NoFrame _) = None
 complaint_of OldStamp = None
 complaint_of BadTag = None

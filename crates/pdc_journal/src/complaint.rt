@@ -1,4 +1,4 @@
-//! What is told of a sender whose frames are refused for what it is or says.
+//! What is reported of a sender whose frames are refused for what it is or says.
 ghost use Rattle.std.specs.Prelude.{◌≡◌, MatchOption, None, Some};
 ghost use Rattle.pdc_journal.specs.Complaint.{complaint_of, is_due, last_of, looked_at};
 
@@ -14,27 +14,29 @@ pub fn complaint_of(cause: Refusal) -> Option<&'static str>
     ensures { MatchOption result (complaint_of cause ≡ None) (λ text. complaint_of cause ≡ Some text.now) }
 {
     match cause {
-        Refusal::WrongId => Some("frames of another stream come to its port"),
-        Refusal::WrongTimeBase => Some("its configuration has another TIME_BASE than the settings"),
+        Refusal::WrongId => Some("frames of another stream arrive at its port"),
+        Refusal::WrongTimeBase => Some(
+            "its configuration has a different TIME_BASE than the settings",
+        ),
         Refusal::WrongRate => {
             Some(
-                "its configuration has another data rate than the settings; data goes on as if it had not come",
+                "its configuration has a different data rate than the settings; it is ignored, and data goes on",
             )
         }
-        Refusal::WrongSource => Some("its configuration has another IDCODE than the settings"),
+        Refusal::WrongSource => Some("its configuration has a different IDCODE than the settings"),
         Refusal::NoConfiguration(CfgFault::FloatFormat) => Some(
-            "its configuration has values in floating point, which are not read",
+            "its configuration has values in floating point, which are not supported",
         ),
         Refusal::StaleCount => Some(
-            "its configuration has a lower count than one before: raise the count there",
+            "its configuration has a lower count than an earlier one: raise the count at the sender",
         ),
         Refusal::CountConflict => {
             Some(
-                "it sends another configuration under the same count; its data goes on under the one in force: raise the count there",
+                "it sends a different configuration under the same count; its data is read with the one in force: raise the count at the sender",
             )
         }
         Refusal::BadOwnBlock | Refusal::UnknownSource => {
-            Some("its layout is not what the settings say: compare its settings with these")
+            Some("its layout does not match these settings: compare its settings with these")
         }
         _ => None,
     }

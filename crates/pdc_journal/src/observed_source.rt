@@ -53,39 +53,39 @@ impl<'a, S: Source + Drop, R: Wait + Clock> ObservedSource<'a, S, R> {
     }
 }
 
-/// What is told of a silence.
+/// The line about a silence.
 fn silence_text(alloc: Global, tally: &Tally) -> Result<String, AllocError> {
     let of = tally.of;
-    format!(in alloc; "no datagram of {of} for {LONG} seconds")
+    format!(in alloc; "no datagram from {of} for {LONG} seconds")
 }
 
-/// What is told of its end.
+/// The line about its end.
 fn again_text(alloc: Global, tally: &Tally) -> Result<String, AllocError> {
     let of = tally.of;
     format!(in alloc; "{of} sends again")
 }
 
-/// What is told of data without a configuration.
+/// The line about data without a configuration.
 fn unread_text(alloc: Global, tally: &Tally) -> Result<String, AllocError> {
     let of = tally.of;
     format!(in alloc;
-        "data of {of} for {LONG} seconds and no configuration: it is refused until its CFG-2 frame comes"
+        "data from {of} for {LONG} seconds without a configuration: it is refused until a CFG-2 frame arrives"
     )
 }
 
-/// What is told once such data is taken.
+/// The line once that data is accepted.
 fn taken_text(alloc: Global, tally: &Tally) -> Result<String, AllocError> {
     let of = tally.of;
-    format!(in alloc; "data of {of} is taken")
+    format!(in alloc; "data from {of} is accepted")
 }
 
-/// What is told where the stream is read no more.
+/// The line about a stream that is no longer read.
 fn ended_text(alloc: Global, tally: &Tally, why: &str) -> Result<String, AllocError> {
     let of = tally.of;
-    format!(in alloc; "{of} is not read any more: {why}")
+    format!(in alloc; "{of} is no longer read: {why}")
 }
 
-/// What is told of a refusal that says something of the sender.
+/// The line about a refusal that says something about the sender.
 fn complaint_text(
     alloc: Global,
     tally: &Tally,
@@ -202,7 +202,7 @@ impl<'a, S: Source + Drop, R: Wait + Clock> Source for ObservedSource<'a, S, R> 
                 ended_text(
                     alloc,
                     tally,
-                    "memory ran out, or a counter is at its greatest value",
+                    "memory ran out, or a counter reached its greatest value",
                 ),
             );
             return;

@@ -53,13 +53,13 @@ pub struct Connection<'a, R: Net<Listener = TcpListener, Stream = TcpStream> + C
     inquiry: Inquiry,
 }
 
-/// What is told of a connection.
+/// The line about a connection.
 fn text_of(alloc: Global, tally: &Tally, to: SocketAddr, what: &str) -> Result<String, AllocError> {
     let of = tally.of;
     format!(in alloc; "{of} at {to}: {what}")
 }
 
-/// What is told of its loss.
+/// The line about its loss.
 fn loss_text(
     alloc: Global,
     tally: &Tally,
@@ -68,7 +68,7 @@ fn loss_text(
     wait: u64,
 ) -> Result<String, AllocError> {
     let of = tally.of;
-    format!(in alloc; "{of} at {to}: {loss}; tried again in {wait} s")
+    format!(in alloc; "{of} at {to}: {loss}; next try in {wait} s")
 }
 
 /// Sets the limits of a connection; what is written to it goes out at once.

@@ -20,20 +20,20 @@ const PAUSE: u64 = 20;
 /// After how many pauses a step that is not there yet is given up.
 const PATIENCE: u32 = 100;
 
-/// What is told of a gap.
+/// The line about a gap.
 fn gap_text(alloc: Global, from: u64, until: u64) -> Result<String, AllocError> {
     let last = until.saturating_sub(1);
     format!(in alloc; "steps {from} to {last} are not in the record: its queue was full")
 }
 
-/// What is told where a record cannot be written.
+/// The line about a record that cannot be written.
 fn lost_text(
     alloc: Global,
     path: Result<String, AllocError>,
     error: &io::Error,
 ) -> Result<String, AllocError> {
     let path = path?;
-    format!(in alloc; "{path}: {error}: the record is not written any more")
+    format!(in alloc; "{path}: {error}: the record is no longer written")
 }
 
 /// Writes that steps are missing.

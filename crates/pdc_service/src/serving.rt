@@ -109,7 +109,7 @@ fn serve_counters<R: Wait + Clock + RandomSource>(
     if serve_metrics(rt, alloc, listener, metered, &observed.signs.has_ended).is_err() {
         observed.journal.tell(
             rt,
-            String::from_str(alloc, "the counters are not served any more"),
+            String::from_str(alloc, "the counters are no longer served"),
         );
     }
 }

@@ -1,4 +1,4 @@
-//! What a concentrator tells at its begin and its end.
+//! What a concentrator reports when it begins and when it ends.
 
 use pdc_settings::{Input, Network, UnknownKey};
 use pdc_startup::Concentrator;
@@ -72,7 +72,7 @@ fn append_places(
     }
 }
 
-/// What is told at the begin of a life: the id, the start, the floor, the ports, and how many bytes of datagrams wait at a port at most,
+/// The line when a life begins: the id, the start, the floor, the ports, and how many bytes of datagrams wait at a port at most,
 /// where the system tells it.
 pub fn begun_text(
     alloc: Global,
@@ -88,10 +88,10 @@ pub fn begun_text(
     Ok(text)
 }
 
-/// What is told at the end where frames could not be sent.
+/// The line at the end if frames could not be sent.
 pub fn unsent_text(alloc: Global, unsent: u64) -> Result<String, AllocError> {
     format!(in alloc;
-        "unsent={unsent}: so many frames could not be sent, or not be kept for the sessions"
+        "unsent={unsent}: this many frames could not be sent, or not be kept for the sessions"
     )
 }
 

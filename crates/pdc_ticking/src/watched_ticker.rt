@@ -105,12 +105,12 @@ impl<'a, K: Ticker + Drop, R: Wait + Clock> WatchedTicker<'a, K, R> {
         } else if publishing >= waiting {
             (
                 publishing,
-                "while rows were published: the mark was stored, or the sender was waited for",
+                "while rows were published: the run stored the mark, or waited for the sender",
             )
         } else {
             (
                 waiting,
-                "while it slept to its time: the machine was busy, or stood still",
+                "while it slept until the tick: the machine was busy, or stood still",
             )
         };
         let (gone, longest) = (gone.as_millis(), longest.as_millis());
