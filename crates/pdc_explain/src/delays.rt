@@ -1,5 +1,6 @@
-//! How late the data of each stream comes.
+//! How late the data of each stream comes, and what that adds.
 
+use crate::last_to_come::{Heard, LastToCome};
 use crate::spread::{NO_DELAY, Spread};
 use pdc_align::Arrival;
 use pdc_life::{MAX_WAIT, Outcome, Refusal};
@@ -12,6 +13,9 @@ use std::io::Write;
 /// How many instants are looked back upon.
 const SPAN: u64 = 4096;
 
+/// Nothing, in a column.
+const NONE: &str = "      none";
+
 /// An instant of which data came.
 #[derive(Clone, Copy)]
 struct Seen {
@@ -22,13 +26,14 @@ struct Seen {
     streams: u64,
 }
 
-/// How late the data of each stream of a record comes: after its instant, and counted as the wait of its row.
+/// How late the data of each stream of a record comes: after its instant, counted as the wait of its row, and after that of all others.
 #[derive(Drop)]
 pub struct Delays {
     alloc: Global,
     about: Option<About>,
     spreads: Vec<Spread>,
     seen: Vec<Seen>,
+    last_to_come: LastToCome,
     ticks: u64,
     /// The instant of the last tick's now.
     now: u64,
@@ -63,6 +68,7 @@ impl Delays {
             about: None,
             spreads: Vec::new(alloc),
             seen,
+            last_to_come: LastToCome::new(alloc)?,
             ticks: 0,
             now: 0,
         })
@@ -90,16 +96,19 @@ impl Delays {
         Some(self.ticks.saturating_sub(seen.ticks))
     }
 
-    /// Data came.
-    fn hear(&mut self, stream: usize, time: u64, datagram: &[u8]) {
+    /// Data came, and was taken or not.
+    fn hear(&mut self, heard: Heard, is_taken: bool, datagram: &[u8]) {
         let Some(about) = &self.about else {
             return;
         };
-        let Some(Arrival::Data { instant, .. }) = about.read(stream, datagram) else {
+        let Some(Arrival::Data { instant, .. }) = about.read(heard.stream, datagram) else {
             return;
         };
         let (is_relative, start) = (about.is_relative(), time_of(instant, about.rate()));
-        let Some(ticks) = self.ticks_since(stream, instant) else {
+        if is_taken {
+            self.last_to_come.take(instant, heard);
+        }
+        let Some(ticks) = self.ticks_since(heard.stream, instant) else {
             return;
         };
         let past = if is_relative {
@@ -107,15 +116,22 @@ impl Delays {
         } else {
             self.now.saturating_sub(instant)
         };
-        if let Some(spread) = self.spreads.as_mut_slice().get_mut(stream) {
-            spread.add(time, start, past.saturating_add(1));
+        if let Some(spread) = self.spreads.as_mut_slice().get_mut(heard.stream) {
+            spread.add(heard.time, start, past.saturating_add(1));
         }
     }
 
-    /// A file begins.
-    fn begin(&mut self, about: About) -> Result<(), AllocError> {
+    /// A file begins, with this step.
+    fn begin(&mut self, step: u64, about: About) -> Result<(), AllocError> {
         for _ in self.spreads.len()..about.streams() {
             self.spreads.push(Spread::new(self.alloc)?)?;
+        }
+        let goes_on = match &self.about {
+            Some(before) => step > 0 && before.start == about.start,
+            None => false,
+        };
+        if !goes_on {
+            self.last_to_come.begin(about.streams())?;
         }
         self.about = Some(about);
         Ok(())
@@ -130,13 +146,20 @@ impl Delays {
         match &entry.what {
             What::Begun(begun) => {
                 let about = About::of(self.alloc, begun)?;
-                self.begin(about)?;
+                self.begin(entry.step, about)?;
             }
             What::Arrived {
                 stream,
                 outcome,
                 datagram,
-            } if is_counted(*outcome) => self.hear(usize::from(*stream), entry.time, datagram),
+            } if is_counted(*outcome) => {
+                let heard = Heard {
+                    stream: usize::from(*stream),
+                    step: entry.step,
+                    time: entry.time,
+                };
+                self.hear(heard, *outcome == Outcome::Taken, datagram);
+            }
             What::Ticked { now, .. } => {
                 self.ticks = self.ticks.saturating_add(1);
                 self.now = *now;
@@ -147,12 +170,17 @@ impl Delays {
     }
 }
 
+/// Tenths, in a column.
+fn print_tenths<W: Write>(writer: &mut W, tenths: u64) -> io::Result<()> {
+    write!(writer, " {:>7}.{}", tenths / 10, tenths % 10)
+}
+
 /// A delay in tenths of a millisecond from [`NO_DELAY`] on, in a column.
 fn print_delay<W: Write>(writer: &mut W, delay: u64) -> io::Result<()> {
     let late = delay.saturating_sub(NO_DELAY);
     let early = NO_DELAY.saturating_sub(delay);
     if early == 0 {
-        write!(writer, " {:>7}.{}", late / 10, late % 10)
+        print_tenths(writer, late)
     } else if early < 100 {
         write!(writer, "      -{}.{}", early / 10, early % 10)
     } else {
@@ -166,24 +194,64 @@ fn node_prefix(stream: usize) -> &'static str {
     if stream == 0 { "A " } else { "B " }
 }
 
-/// The line of a stream.
-fn tell_spread<W: Write>(writer: &mut W, name: &str, id: u16, spread: &Spread) -> io::Result<()> {
-    write!(writer, "{name}{id:<7} {:>10}", spread.count)?;
-    if spread.count == 0 {
-        return writeln!(writer);
+/// Of how many in a hundred instants the stream's data came last, and what that added, in columns.
+fn print_added<W: Write>(
+    writer: &mut W,
+    last_to_come: &LastToCome,
+    stream: usize,
+) -> io::Result<()> {
+    let Some(additions) = last_to_come.of_stream(stream) else {
+        return Ok(());
+    };
+    match last_to_come.share_of(additions) {
+        Some(thousandths) => print_tenths(writer, thousandths)?,
+        None => write!(writer, "{NONE}")?,
     }
+    for thousandths in [500, 990] {
+        if additions.count > 0 {
+            print_tenths(writer, additions.tenths(thousandths))?;
+        } else {
+            write!(writer, "{NONE}")?;
+        }
+    }
+    Ok(())
+}
+
+/// How the data of a stream is spread, in columns.
+fn print_spread<W: Write>(writer: &mut W, spread: &Spread) -> io::Result<()> {
     for thousandths in [100, 500, 900, 990, 999] {
         print_delay(writer, spread.tenths(thousandths))?;
     }
     print_delay(writer, spread.greatest)?;
     match spread.wait() {
-        Some(wait) => writeln!(writer, " {wait:>6}"),
-        None => writeln!(writer, "   none"),
+        Some(wait) => write!(writer, " {wait:>6}"),
+        None => write!(writer, "   none"),
     }
 }
 
+/// The line of a stream.
+fn tell_stream<W: Write>(
+    writer: &mut W,
+    name: &str,
+    stream: usize,
+    delays: &Delays,
+    spread: &Spread,
+) -> io::Result<()> {
+    let id = match &delays.about {
+        Some(about) => about.stream_id(stream),
+        None => 0,
+    };
+    write!(writer, "{name}{id:<7} {:>10}", spread.count)?;
+    if spread.count > 0 {
+        print_spread(writer, spread)?;
+        print_added(writer, &delays.last_to_come, stream)?;
+    }
+    writeln!(writer)
+}
+
 /// Tells the spread of delays of each stream: how many milliseconds after its instant 10, 50, 90, 99 and 99.9 of a hundred had come, and the
-/// greatest, negative of clocks that run ahead; and the wait that would have kept all but one in a thousand.
+/// greatest, negative of clocks that run ahead; and the wait that would have kept all but one in a thousand. Then of how many in a hundred
+/// instants its data came last of all, and how many milliseconds that added for 50 and 99 of a hundred of these.
 ///
 /// # Errors
 ///
@@ -199,7 +267,7 @@ pub fn tell_delays<W: Write>(writer: &mut W, delays: &Delays) -> io::Result<()> 
     };
     writeln!(
         writer,
-        "{head}       data      10 %      50 %      90 %      99 %    99.9 %  greatest   wait"
+        "{head}       data      10 %      50 %      90 %      99 %    99.9 %  greatest   wait    last % adds 50 % adds 99 %"
     )?;
     let mut stream = 0;
     for spread in &delays.spreads {
@@ -208,7 +276,7 @@ pub fn tell_delays<W: Write>(writer: &mut W, delays: &Delays) -> io::Result<()> 
         } else {
             ""
         };
-        tell_spread(writer, name, about.stream_id(stream), spread)?;
+        tell_stream(writer, name, stream, delays, spread)?;
         stream = stream.saturating_add(1);
     }
     Ok(())

@@ -1,5 +1,6 @@
 //! What became of an instant, in words: of each PMU whether it was shown, and why not; when the row opened, what it waited for, at which tick it
-//! closed and when its frame went out. And over a whole record, which instants had an absent block, and how late the data of each stream came.
+//! closed and when its frame went out. And over a whole record, which instants had an absent block, and how late the data of each stream
+//! came and what that added.
 //!
 //! The first type to look at is [`Follower`], which takes the entries of a record and gives the [`Story`] of each instant; [`tell_story`]
 //! tells one, and [`Delays`] has the spread of delays.
@@ -10,6 +11,7 @@
 mod cause;
 mod delays;
 mod lanes;
+mod last_to_come;
 mod ranges;
 mod row_lines;
 mod spread;

@@ -4,10 +4,10 @@ use pdc_life::MAX_WAIT;
 use std::alloc::{AllocError, Global};
 
 /// How many nanoseconds are told apart: a tenth of a millisecond.
-const STEP: u64 = 100_000;
+pub const STEP: u64 = 100_000;
 
 /// The longest delay that is told apart, in steps: ten seconds. It is also how long before its instant data may come and be told apart.
-const STEPS: u64 = 100_000;
+pub const STEPS: u64 = 100_000;
 
 /// Delays in tenths of a millisecond are counted up from this number, which stands for none: below it are those of clocks that run ahead.
 pub const NO_DELAY: u64 = STEPS;
@@ -26,7 +26,7 @@ pub struct Spread {
 }
 
 /// So many zeros.
-fn zeros(alloc: Global, count: u64) -> Result<Vec<u64>, AllocError> {
+pub fn zeros(alloc: Global, count: u64) -> Result<Vec<u64>, AllocError> {
     let mut numbers = Vec::new(alloc);
     for _ in 0..count {
         numbers.push(0)?;
@@ -35,14 +35,21 @@ fn zeros(alloc: Global, count: u64) -> Result<Vec<u64>, AllocError> {
 }
 
 /// Counts one more at this place.
-fn count_at(numbers: &mut Vec<u64>, place: u64) {
+pub fn count_at(numbers: &mut Vec<u64>, place: u64) {
     if let Some(number) = numbers.as_mut_slice().get_mut(place as usize) {
         *number = number.saturating_add(1);
     }
 }
 
+/// Counts one less at this place.
+pub fn uncount_at(numbers: &mut Vec<u64>, place: u64) {
+    if let Some(number) = numbers.as_mut_slice().get_mut(place as usize) {
+        *number = number.saturating_sub(1);
+    }
+}
+
 /// The first place up to which so many are counted.
-fn place_of(numbers: &[u64], wanted: u64) -> u64 {
+pub fn place_of(numbers: &[u64], wanted: u64) -> u64 {
     let mut sum: u64 = 0;
     let mut place: u64 = 0;
     for number in numbers {
@@ -92,7 +99,7 @@ impl Spread {
 }
 
 /// So many in a thousand of a count, rounded up.
-fn share(count: u64, thousandths: u64) -> u64 {
+pub fn share(count: u64, thousandths: u64) -> u64 {
     let (whole, part) = (count / 1000, count % 1000);
     whole.saturating_mul(thousandths).saturating_add(
         part.saturating_mul(thousandths).saturating_add(999) / 1000,

@@ -45,7 +45,9 @@ another and have the same causes have a line together. Instants between rows tha
 and when no tick came about them, since the node was held up.
 --delays gives for each PMU how many milliseconds after its instant 10, 50, 90, 99 and 99.9 of a hundred frames came, and the greatest
 delay; and the `wait` that would have kept all but one in a thousand. Where a PMU's clock runs ahead, they are negative, and so is a span
-where the clock of the record was set back in between.
+where the clock of the record was set back in between. Behind that it tells what the PMU adds: of the instants for which data of two or
+more was taken, of how many in a hundred its data came last, and by how many milliseconds behind that of all others, for 50 and 99 of a
+hundred of these. At the merger a line is a node's.
 
 Examples:
   pdc explain a.record.* 2026-11-24T12:03:04.580Z
