@@ -1,2 +1,3 @@
 pub mod Presence
 pub mod Agreement
+pub mod Delays

@@ -1,6 +1,7 @@
 //! What was heard on a stream.
 
 use crate::cell::MAX_RATE;
+use crate::delays::Delays;
 use crate::pmu::Moment;
 use crate::presence::Presence;
 use crate::station::Station;
@@ -23,6 +24,8 @@ pub struct Heard {
     pub since_ms: u64,
     /// How many data frames came in the last tenths of seconds.
     pub arrivals: Presence,
+    /// How far behind their instants they came.
+    pub delays: Delays,
     /// How many data frames came.
     pub frames: u64,
     /// How many of them fit no configuration that came.
@@ -100,6 +103,7 @@ impl Heard {
             came_ms: 0,
             since_ms: now_ms,
             arrivals: Presence::new(alloc)?,
+            delays: Delays::new(alloc)?,
             frames: 0,
             unread: 0,
             start: 0,
@@ -157,6 +161,7 @@ impl Heard {
         self.start = stamp.start;
         self.change = stamp.change;
         self.last_ms = moment.ms;
+        self.delays.note(self.came_ms.saturating_sub(moment.ms));
         Some(moment)
     }
 }

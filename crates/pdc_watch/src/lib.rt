@@ -11,6 +11,7 @@
 
 mod agreement;
 mod cell;
+mod delays;
 mod heard;
 mod page;
 mod phasors;
@@ -34,6 +35,7 @@ mod who;
 
 pub use agreement::Agreement;
 pub use cell::{Cell, MAX_RATE, due};
+pub use delays::{DELAYS, Delays, percentile, place_of};
 pub use heard::Heard;
 pub use page::PAGE;
 pub use pmu::Pmu;

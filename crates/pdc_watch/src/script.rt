@@ -53,6 +53,21 @@ function drawAgreement() {
       : `In all ${whole(instants)} instants that both nodes published, the blocks present in both were equal`;
 }
 
+// How far behind their instants the last frames of a stream came: in words, and as a bar of one length for all boxes.
+function drawDelays({ behindMedianMs: median, behindP99Ms: most }) {
+  const strip = make('p', { class: 'delays', 'data-median': median ?? '', 'data-most': most ?? '' });
+  if (median === null || most === null) {
+    strip.append('behind the instant: –');
+    return strip;
+  }
+  const longest = Math.max(100, ...data.streams.map(stream => stream.behindP99Ms ?? 0));
+  const svg = make('svg', { 'aria-hidden': 'true', viewBox: '0 0 200 4', preserveAspectRatio: 'none' },
+    make('rect', { class: 'track', width: 200, height: 4 }), make('rect', { class: 'most', width: 200 * most / longest, height: 4 }),
+    make('rect', { class: 'median', width: 200 * median / longest, height: 4 }));
+  strip.append(`behind the instant: half of the frames ${median} ms at most, 99 of 100 ${most} ms`, svg);
+  return strip;
+}
+
 // The box of a node or of the merger.
 function drawBox(stream) {
   const box = at('box-' + stream.name);
@@ -65,6 +80,7 @@ function drawBox(stream) {
     make('h2', {}, make('span', {}, (stream.name === 'M' ? 'Merger M ' : 'Node ' + stream.name + ' '), make('small', {}, stream.address)),
       make('span', { class: 'state' }, stream.alive ? '● alive' : seen ? '✕ not alive' : '✕ not seen')),
     make('dl', {}, ...rows.flatMap(([name, value]) => [make('dt', {}, name), make('dd', { 'data-of': name }, String(value))])),
+    drawDelays(stream),
     ...(stream.connected ? [] : [make('p', { class: 'keys' }, 'no connection, tried again each second')]));
 }
 

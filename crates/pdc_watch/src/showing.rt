@@ -133,9 +133,9 @@ fn shown_of<'a>(
     let last = last_tenth(watch.newest_ms, now_ms);
     let heard = &watch.heard;
     let mut streams = Vec::new(alloc);
-    streams.push(stream_shown(&heard.a, "A", addresses.a.as_str(), rate, now_ms))?;
-    streams.push(stream_shown(&heard.b, "B", addresses.b.as_str(), rate, now_ms))?;
-    streams.push(stream_shown(&heard.m, "M", addresses.m.as_str(), rate, now_ms))?;
+    streams.push(stream_shown(alloc, &heard.a, "A", addresses.a.as_str(), rate, now_ms)?)?;
+    streams.push(stream_shown(alloc, &heard.b, "B", addresses.b.as_str(), rate, now_ms)?)?;
+    streams.push(stream_shown(alloc, &heard.m, "M", addresses.m.as_str(), rate, now_ms)?)?;
     let agreement = watch.agreement;
     Ok(Shown {
         now_ms,

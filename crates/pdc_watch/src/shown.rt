@@ -28,6 +28,8 @@ pub struct ShownStream<'a> {
     pub change: u32,
     pub last_ms: Option<u64>,
     pub behind_ms: Option<i64>,
+    pub behind_median_ms: Option<u16>,
+    pub behind_p99_ms: Option<u16>,
     pub frames_a_second: u32,
     pub frames: u64,
     pub unread: u64,

@@ -39,6 +39,11 @@ section, .box { background: var(--face); border: 1px solid var(--line); border-r
 dl { display: grid; grid-template-columns: auto 1fr auto 1fr; gap: 0 .5rem; margin: 0; font-size: .85rem; }
 dt { color: var(--soft); }
 dd { margin: 0; white-space: nowrap; }
+.box .delays { margin: .2rem 0 0; font-size: .85rem; color: var(--soft); }
+.delays svg { display: block; width: 100%; height: .3rem; }
+.track { fill: var(--none); }
+.most { fill: var(--warn); }
+.median { fill: var(--good); }
 .flow { display: none; }
 .flow path { fill: none; stroke: var(--soft); stroke-width: 1.5; vector-effect: non-scaling-stroke; }
 #matrix { width: 100%; display: block; }
