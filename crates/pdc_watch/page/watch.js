@@ -41,6 +41,16 @@ function statWords(stat) {
   return said.length ? said.join(', ') : 'good data, in sync';
 }
 
+const age = ms => Math.floor((data.nowMs - ms) / 1000) + ' s';
+
+// The state of a PMU's newest data, and what is to be said of it: that there is none, how old it is, or that STAT warns of its values.
+function doubt(pmu) {
+  if (pmu.cameMs === null) return { state: 'none', said: 'no data yet' };
+  const error = ERRORS[pmu.stat >> 14 & 3];
+  if (pmu.old) return { state: error ? 'unusable' : 'old', said: `${age(pmu.cameMs)} old${error ? ', ' + error : ''}` };
+  return { state: error ? 'unusable' : 'good', said: error };
+}
+
 function drawAgreement() {
   const { instants, equal, different } = data.agreement;
   const line = at('agreement');
@@ -61,7 +71,7 @@ function drawDelays({ behindMedianMs: median, behindP99Ms: most }) {
   const svg = make('svg', { 'aria-hidden': 'true', viewBox: '0 0 200 4', preserveAspectRatio: 'none' },
     make('rect', { class: 'track', width: 200, height: 4 }), make('rect', { class: 'most', width: 200 * most / longest, height: 4 }),
     make('rect', { class: 'median', width: 200 * median / longest, height: 4 }));
-  strip.append(`behind the instant: half of the frames ${median} ms at most, 99 of 100 ${most} ms`, svg);
+  strip.append(`behind the instant: median ${median} ms, 99 of 100 within ${most} ms`, svg);
   return strip;
 }
 
@@ -70,7 +80,7 @@ function drawBox(stream) {
   const box = at('box-' + stream.name);
   const seen = stream.frames > 0;
   box.dataset.state = stream.alive ? 'alive' : 'dead';
-  const rows = [[stream.alive ? 'since' : seen ? 'last heard' : 'waiting since', second(stream.sinceMs)], ['rate', stream.framesASecond + ' frames/s'],
+  const rows = [[stream.alive ? 'since' : seen ? 'last heard' : 'waiting since', second(stream.sinceMs) + (seen && !stream.alive ? `, ${age(stream.sinceMs)} old` : '')], ['rate', stream.framesASecond + ' frames/s'],
     ['start', seen ? stream.start : '–'], ['last instant', stream.lastMs === null ? '–' : utc(stream.lastMs)],
     ['change', seen ? stream.change : '–'], ['behind', stream.behindMs === null ? '–' : stream.behindMs + ' ms']];
   put('box-' + stream.name,
@@ -88,7 +98,7 @@ function drawPair() {
   data.streams.forEach(drawBox);
   const merger = data.streams[2];
   put('pmus', ...data.pmus.map(pmu => make('li', { class: isLate(pmu) ? 'late' : '', 'data-pmu': pmu.source, 'data-state': isLate(pmu) ? 'away' : 'here' },
-    `${isLate(pmu) ? '✕' : '●'} ${pmu.source} ${pmu.name}`)));
+    `${isLate(pmu) ? '✕' : '●'} ${pmu.source} ${pmu.name}`, make('small', {}, doubt(pmu).said))));
   at('out').dataset.state = merger.alive ? 'alive' : 'dead';
   at('rate').textContent = merger.framesASecond + ' frames/s';
   at('outstate').textContent = merger.alive ? 'goes on' : 'stands still';
@@ -202,6 +212,9 @@ function drawPhasors() {
   const pmu = data.pmus.find(pmu => String(pmu.source) === source);
   const against = data.pmus.find(pmu => String(pmu.source) === reference);
   const zero = against ? polar(against.phasors[0]).angle : 0;
+  // What is said of the values that are shown, and of those that their angles are told against.
+  const { state, said } = pmu ? doubt(pmu) : { state: 'none', said: '' };
+  const reserve = against && against !== pmu && doubt(against).said ? `angles against ${against.source}: ${doubt(against).said}` : '';
   const drawn = [make('circle', { class: 'axis', r: 100 }), make('circle', { class: 'axis', r: 50 }), make('path', { class: 'axis', d: 'M-104 0H104M0-104V104' })];
   const lines = [];
   const phasors = pmu ? pmu.phasors.map(phasor => ({ ...phasor, ...polar(phasor) })) : [];
@@ -216,10 +229,13 @@ function drawPhasors() {
     lines.push(make('tr', {}, make('td', { style: `color:${color}` }, phasor.name), make('td', {}, amount(phasor.size, phasor.unit)), make('td', {}, angle.toFixed(2) + '°')));
   });
   if (pmu) {
-    lines.push(make('tr', {}, make('td', {}, 'frequency'), make('td', {}, pmu.frequencyHz.toFixed(3) + ' Hz'), make('td', {}, pmu.rocofHzPerS.toFixed(2) + ' Hz/s')));
+    lines.push(make('tr', {}, make('td', {}, 'frequency'), make('td', {}, pmu.frequencyHz === null ? '–' : pmu.frequencyHz.toFixed(3) + ' Hz'),
+      make('td', {}, pmu.rocofHzPerS === null ? '–' : pmu.rocofHzPerS.toFixed(2) + ' Hz/s')));
     pmu.analogs.forEach(analog => lines.push(make('tr', {}, make('td', {}, analog.name), make('td', {}, String(analog.value)), make('td', {}, 'counts'))));
     pmu.digitals.forEach((word, place) => lines.push(make('tr', {}, make('td', {}, 'digital ' + (place + 1)), make('td', {}, word.toString(16).toUpperCase().padStart(4, '0')), make('td', {}, 'hex'))));
   }
+  at('polar').dataset.state = state;
+  at('doubt').textContent = [said, reserve].filter(text => text).join('; ');
   at('circle').replaceChildren(...drawn);
   put('values', ...lines);
 }

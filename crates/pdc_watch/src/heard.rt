@@ -1,5 +1,6 @@
 //! What was heard on a stream.
 
+use crate::age::is_old;
 use crate::cell::MAX_RATE;
 use crate::delays::Delays;
 use crate::pmu::Moment;
@@ -37,16 +38,8 @@ pub struct Heard {
     pub last_ms: u64,
 }
 
-/// How long a stream of so many frames a second may be silent, in ms.
-pub fn patience(rate: u32) -> u64 {
-    2000u64
-        .checked_div(u64::from(rate))
-        .unwrap_or(0)
-        .saturating_add(1000)
-}
-
-/// The instant of a frame, under its TIME_BASE.
-fn moment_of(frame: &Frame, time_base: u32, rate: u32) -> Option<Moment> {
+/// The instant of a frame that came then, under its TIME_BASE.
+fn moment_of(frame: &Frame, time_base: u32, rate: u32, came_ms: u64) -> Option<Moment> {
     if rate == 0 || rate > MAX_RATE || time_base >= COUNT_LIMIT {
         return None;
     }
@@ -54,6 +47,7 @@ fn moment_of(frame: &Frame, time_base: u32, rate: u32) -> Option<Moment> {
     Some(Moment {
         instant,
         ms: instant.saturating_mul(1000).checked_div(u64::from(rate))?,
+        came_ms,
     })
 }
 
@@ -112,9 +106,9 @@ impl Heard {
         })
     }
 
-    /// Whether it lives: a data frame came, and not longer ago than its patience.
+    /// Whether it lives: a data frame came, and the last one is not old.
     pub fn is_alive(&self, rate: u32, now_ms: u64) -> bool {
-        self.came_ms > 0 && now_ms.saturating_sub(self.came_ms) < patience(rate)
+        self.came_ms > 0 && !is_old(self.came_ms, now_ms, rate)
     }
 
     /// A data frame came.
@@ -157,7 +151,7 @@ impl Heard {
         if stamp.change % 65536 != u32::from(own.count) {
             return None;
         }
-        let moment = moment_of(frame, self.time_base, rate)?;
+        let moment = moment_of(frame, self.time_base, rate, self.came_ms)?;
         self.start = stamp.start;
         self.change = stamp.change;
         self.last_ms = moment.ms;

@@ -9,6 +9,7 @@
 //! no other host for anything.
 #![tactic(auto)]
 
+mod age;
 mod agreement;
 mod cell;
 mod delays;
@@ -33,6 +34,7 @@ mod style;
 mod watch;
 mod who;
 
+pub use age::{is_old, patience};
 pub use agreement::Agreement;
 pub use cell::{Cell, MAX_RATE, due};
 pub use delays::{DELAYS, Delays, percentile, place_of};
