@@ -6,11 +6,14 @@
 //! [`serve_many`] is the HTTP server below it, of many connections on one thread, none of which waits for another; the page of a pair is
 //! served by it too. What a request is and how it is answered is the kit's `http_server`; a peer that says nothing, says it slowly or does
 //! not read is left after three seconds, and the one after the 256th waits until one of them has gone.
+//!
+//! [`is_own_request`] tells requests that name this machine's loopback from those that name another host, which neither server answers.
 #![tactic(auto)]
 
 mod families;
 mod http_serving;
 mod metered;
+mod own_host;
 mod report;
 mod serving;
 mod site;
@@ -18,5 +21,6 @@ mod time;
 
 pub use http_serving::serve_many;
 pub use metered::Metered;
+pub use own_host::{is_own_host, is_own_name, is_own_request, loopback_port};
 pub use report::metrics_text;
 pub use serving::serve_metrics;

@@ -2,6 +2,7 @@
 
 use crate::http_serving::serve_many;
 use crate::metered::Metered;
+use crate::own_host::loopback_port;
 use crate::site::Site;
 use std::alloc::Global;
 use std::hash::RandomState;
@@ -16,7 +17,7 @@ use std::sync::atomic::AtomicBool;
 ///
 /// # Errors
 ///
-/// The clock, or the system's random bytes, cannot be read.
+/// The clock, the system's random bytes or the listener's address cannot be read.
 pub fn serve_metrics<R: Wait + Clock + RandomSource>(
     rt: &R,
     alloc: Global,
@@ -25,6 +26,11 @@ pub fn serve_metrics<R: Wait + Clock + RandomSource>(
     ending: &AtomicBool,
 ) -> io::Result<()> {
     let keys = RandomState::new(rt)?;
-    let mut site = Site { rt, alloc, metered };
+    let mut site = Site {
+        rt,
+        alloc,
+        metered,
+        own_port: loopback_port(listener)?,
+    };
     serve_many(rt, alloc, keys, &mut site, listener, ending)
 }

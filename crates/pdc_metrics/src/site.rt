@@ -2,6 +2,7 @@
 ghost use Rattle.std.specs.Prelude.{⊤};
 
 use crate::metered::Metered;
+use crate::own_host::is_own_request;
 use crate::report::metrics_text;
 use bytes::Bytes;
 use http::{HeaderValue, Request, StatusCode, header};
@@ -19,6 +20,8 @@ pub struct Site<'a, R: Wait + Clock> {
     pub rt: &'a R,
     pub alloc: Global,
     pub metered: Metered<'a>,
+    /// The port of the loopback that is served; none where another address is.
+    pub own_port: Option<u16>,
 }
 
 /// What a request asks for.
@@ -27,6 +30,8 @@ enum Asked {
     Metrics,
     Unknown,
     WrongMethod,
+    /// A host that is not this one.
+    WrongHost,
 }
 
 /// What this method and this path ask for.
@@ -37,6 +42,14 @@ fn route_of(method: &str, path: &str) -> Asked {
         Asked::Metrics
     } else {
         Asked::WrongMethod
+    }
+}
+
+/// What a request asks for. Where the loopback is served, it names the loopback.
+fn asked_by(request: &Request<Bytes>, own_port: Option<u16>) -> Asked {
+    match own_port {
+        Some(port) if !is_own_request(request, port) => Asked::WrongHost,
+        _ => route_of(request.method().as_str(), request.uri().path()),
     }
 }
 
@@ -56,7 +69,7 @@ impl<R: Wait + Clock> Service for Site<'_, R> {
         response: &mut Response,
     ) -> Result<(), AllocError> {
         response.add_header(header::CONNECTION, HeaderValue::from_static("close"))?;
-        match route_of(request.method().as_str(), request.uri().path()) {
+        match asked_by(request, self.own_port) {
             Asked::Metrics => {
                 let text = metrics_text(self.rt, self.alloc, &self.metered)?;
                 let body = Bytes::from_vec(text.into_bytes())?;
@@ -68,6 +81,16 @@ impl<R: Wait + Clock> Service for Site<'_, R> {
                     response,
                     HeaderValue::from_static("text/plain; charset=utf-8"),
                     Bytes::from_static(b"not found: the counters are at /metrics\n"),
+                )
+            }
+            Asked::WrongHost => {
+                response.status = StatusCode::MISDIRECTED_REQUEST;
+                fill(
+                    response,
+                    HeaderValue::from_static("text/plain; charset=utf-8"),
+                    Bytes::from_static(
+                        b"misdirected: ask at 127.0.0.1, [::1] or localhost, with the port of the counters\n",
+                    ),
                 )
             }
             Asked::WrongMethod => {

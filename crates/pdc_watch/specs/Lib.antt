@@ -1,2 +1,4 @@
 pub mod Presence
 pub mod Agreement
+pub mod Age
+pub mod Delays

@@ -1,6 +1,8 @@
 //! What was heard on a stream.
 
+use crate::age::is_old;
 use crate::cell::MAX_RATE;
+use crate::delays::Delays;
 use crate::pmu::Moment;
 use crate::presence::Presence;
 use crate::station::Station;
@@ -23,6 +25,8 @@ pub struct Heard {
     pub since_ms: u64,
     /// How many data frames came in the last tenths of seconds.
     pub arrivals: Presence,
+    /// How far behind their instants they came.
+    pub delays: Delays,
     /// How many data frames came.
     pub frames: u64,
     /// How many of them fit no configuration that came.
@@ -34,16 +38,8 @@ pub struct Heard {
     pub last_ms: u64,
 }
 
-/// How long a stream of so many frames a second may be silent, in ms.
-pub fn patience(rate: u32) -> u64 {
-    2000u64
-        .checked_div(u64::from(rate))
-        .unwrap_or(0)
-        .saturating_add(1000)
-}
-
-/// The instant of a frame, under its TIME_BASE.
-fn moment_of(frame: &Frame, time_base: u32, rate: u32) -> Option<Moment> {
+/// The instant of a frame that came then, under its TIME_BASE.
+fn moment_of(frame: &Frame, time_base: u32, rate: u32, came_ms: u64) -> Option<Moment> {
     if rate == 0 || rate > MAX_RATE || time_base >= COUNT_LIMIT {
         return None;
     }
@@ -51,6 +47,7 @@ fn moment_of(frame: &Frame, time_base: u32, rate: u32) -> Option<Moment> {
     Some(Moment {
         instant,
         ms: instant.saturating_mul(1000).checked_div(u64::from(rate))?,
+        came_ms,
     })
 }
 
@@ -100,6 +97,7 @@ impl Heard {
             came_ms: 0,
             since_ms: now_ms,
             arrivals: Presence::new(alloc)?,
+            delays: Delays::new(alloc)?,
             frames: 0,
             unread: 0,
             start: 0,
@@ -108,9 +106,9 @@ impl Heard {
         })
     }
 
-    /// Whether it lives: a data frame came, and not longer ago than its patience.
+    /// Whether it lives: a data frame came, and the last one is not old.
     pub fn is_alive(&self, rate: u32, now_ms: u64) -> bool {
-        self.came_ms > 0 && now_ms.saturating_sub(self.came_ms) < patience(rate)
+        self.came_ms > 0 && !is_old(self.came_ms, now_ms, rate)
     }
 
     /// A data frame came.
@@ -153,10 +151,11 @@ impl Heard {
         if stamp.change % 65536 != u32::from(own.count) {
             return None;
         }
-        let moment = moment_of(frame, self.time_base, rate)?;
+        let moment = moment_of(frame, self.time_base, rate, self.came_ms)?;
         self.start = stamp.start;
         self.change = stamp.change;
         self.last_ms = moment.ms;
+        self.delays.note(self.came_ms.saturating_sub(moment.ms));
         Some(moment)
     }
 }

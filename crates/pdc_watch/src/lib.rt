@@ -9,8 +9,10 @@
 //! no other host for anything.
 #![tactic(auto)]
 
+mod age;
 mod agreement;
 mod cell;
+mod delays;
 mod heard;
 mod page;
 mod phasors;
@@ -32,8 +34,10 @@ mod style;
 mod watch;
 mod who;
 
+pub use age::{is_old, patience};
 pub use agreement::Agreement;
 pub use cell::{Cell, MAX_RATE, due};
+pub use delays::{DELAYS, Delays, percentile, place_of};
 pub use heard::Heard;
 pub use page::PAGE;
 pub use pmu::Pmu;

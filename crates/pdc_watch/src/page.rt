@@ -39,7 +39,7 @@ pub const PAGE: &str = r##"<!doctype html>
   </section>
   <section id="phasors" aria-labelledby="phasors-title">
     <h2 id="phasors-title">Phasors</h2>
-    <p><label>PMU <select id="chosen"></select></label> <label>angles against <select id="reference"></select></label></p>
+    <p><label>PMU <select id="chosen"></select></label> <label>angles against <select id="reference"></select></label> <strong id="doubt"></strong></p>
     <div id="polar"><svg id="circle" viewBox="-128 -108 256 216" role="img" aria-label="Polar diagram; the table has its values"></svg>
     <table><thead><tr><th>phasor</th><th>magnitude</th><th>angle</th></tr></thead><tbody id="values"></tbody></table></div>
   </section>

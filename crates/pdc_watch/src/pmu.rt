@@ -13,6 +13,8 @@ pub struct Moment {
     pub instant: u64,
     /// When it was, in ms since 1970.
     pub ms: u64,
+    /// When the frame came.
+    pub came_ms: u64,
 }
 
 /// What is known of a PMU: what came of it on each stream, and its newest data.
@@ -27,6 +29,8 @@ pub struct Pmu {
     /// The instant of its newest data, and when that was, in ms since 1970; 0 where none came.
     pub instant: u64,
     pub ms: u64,
+    /// When the first frame with it came; 0 where none did.
+    pub came_ms: u64,
     /// Its words.
     pub words: Vec<u16>,
 }
@@ -48,6 +52,7 @@ impl Pmu {
             strip: Strip::new(alloc)?,
             instant: 0,
             ms: 0,
+            came_ms: 0,
             words: Vec::new(alloc),
         })
     }
@@ -67,6 +72,7 @@ impl Pmu {
         if moment.instant > self.instant {
             self.instant = moment.instant;
             self.ms = moment.ms;
+            self.came_ms = moment.came_ms;
             self.words.clear();
             self.words.extend_from_slice(words)?;
             self.keep_point(block);

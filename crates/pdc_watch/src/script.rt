@@ -44,6 +44,16 @@ function statWords(stat) {
   return said.length ? said.join(', ') : 'good data, in sync';
 }
 
+const age = ms => Math.floor((data.nowMs - ms) / 1000) + ' s';
+
+// The state of a PMU's newest data, and what is to be said of it: that there is none, how old it is, or that STAT warns of its values.
+function doubt(pmu) {
+  if (pmu.cameMs === null) return { state: 'none', said: 'no data yet' };
+  const error = ERRORS[pmu.stat >> 14 & 3];
+  if (pmu.old) return { state: error ? 'unusable' : 'old', said: `${age(pmu.cameMs)} old${error ? ', ' + error : ''}` };
+  return { state: error ? 'unusable' : 'good', said: error };
+}
+
 function drawAgreement() {
   const { instants, equal, different } = data.agreement;
   const line = at('agreement');
@@ -53,18 +63,34 @@ function drawAgreement() {
       : `In all ${whole(instants)} instants that both nodes published, the blocks present in both were equal`;
 }
 
+// How far behind their instants the last frames of a stream came: in words, and as a bar of one length for all boxes.
+function drawDelays({ behindMedianMs: median, behindP99Ms: most }) {
+  const strip = make('p', { class: 'delays', 'data-median': median ?? '', 'data-most': most ?? '' });
+  if (median === null || most === null) {
+    strip.append('behind the instant: –');
+    return strip;
+  }
+  const longest = Math.max(100, ...data.streams.map(stream => stream.behindP99Ms ?? 0));
+  const svg = make('svg', { 'aria-hidden': 'true', viewBox: '0 0 200 4', preserveAspectRatio: 'none' },
+    make('rect', { class: 'track', width: 200, height: 4 }), make('rect', { class: 'most', width: 200 * most / longest, height: 4 }),
+    make('rect', { class: 'median', width: 200 * median / longest, height: 4 }));
+  strip.append(`behind the instant: median ${median} ms, 99 of 100 within ${most} ms`, svg);
+  return strip;
+}
+
 // The box of a node or of the merger.
 function drawBox(stream) {
   const box = at('box-' + stream.name);
   const seen = stream.frames > 0;
   box.dataset.state = stream.alive ? 'alive' : 'dead';
-  const rows = [[stream.alive ? 'since' : seen ? 'last heard' : 'waiting since', second(stream.sinceMs)], ['rate', stream.framesASecond + ' frames/s'],
+  const rows = [[stream.alive ? 'since' : seen ? 'last heard' : 'waiting since', second(stream.sinceMs) + (seen && !stream.alive ? `, ${age(stream.sinceMs)} old` : '')], ['rate', stream.framesASecond + ' frames/s'],
     ['start', seen ? stream.start : '–'], ['last instant', stream.lastMs === null ? '–' : utc(stream.lastMs)],
     ['change', seen ? stream.change : '–'], ['behind', stream.behindMs === null ? '–' : stream.behindMs + ' ms']];
   put('box-' + stream.name,
     make('h2', {}, make('span', {}, (stream.name === 'M' ? 'Merger M ' : 'Node ' + stream.name + ' '), make('small', {}, stream.address)),
       make('span', { class: 'state' }, stream.alive ? '● alive' : seen ? '✕ not alive' : '✕ not seen')),
     make('dl', {}, ...rows.flatMap(([name, value]) => [make('dt', {}, name), make('dd', { 'data-of': name }, String(value))])),
+    drawDelays(stream),
     ...(stream.connected ? [] : [make('p', { class: 'keys' }, 'no connection, tried again each second')]));
 }
 
@@ -75,7 +101,7 @@ function drawPair() {
   data.streams.forEach(drawBox);
   const merger = data.streams[2];
   put('pmus', ...data.pmus.map(pmu => make('li', { class: isLate(pmu) ? 'late' : '', 'data-pmu': pmu.source, 'data-state': isLate(pmu) ? 'away' : 'here' },
-    `${isLate(pmu) ? '✕' : '●'} ${pmu.source} ${pmu.name}`)));
+    `${isLate(pmu) ? '✕' : '●'} ${pmu.source} ${pmu.name}`, make('small', {}, doubt(pmu).said))));
   at('out').dataset.state = merger.alive ? 'alive' : 'dead';
   at('rate').textContent = merger.framesASecond + ' frames/s';
   at('outstate').textContent = merger.alive ? 'goes on' : 'stands still';
@@ -189,6 +215,9 @@ function drawPhasors() {
   const pmu = data.pmus.find(pmu => String(pmu.source) === source);
   const against = data.pmus.find(pmu => String(pmu.source) === reference);
   const zero = against ? polar(against.phasors[0]).angle : 0;
+  // What is said of the values that are shown, and of those that their angles are told against.
+  const { state, said } = pmu ? doubt(pmu) : { state: 'none', said: '' };
+  const reserve = against && against !== pmu && doubt(against).said ? `angles against ${against.source}: ${doubt(against).said}` : '';
   const drawn = [make('circle', { class: 'axis', r: 100 }), make('circle', { class: 'axis', r: 50 }), make('path', { class: 'axis', d: 'M-104 0H104M0-104V104' })];
   const lines = [];
   const phasors = pmu ? pmu.phasors.map(phasor => ({ ...phasor, ...polar(phasor) })) : [];
@@ -203,10 +232,13 @@ function drawPhasors() {
     lines.push(make('tr', {}, make('td', { style: `color:${color}` }, phasor.name), make('td', {}, amount(phasor.size, phasor.unit)), make('td', {}, angle.toFixed(2) + '°')));
   });
   if (pmu) {
-    lines.push(make('tr', {}, make('td', {}, 'frequency'), make('td', {}, pmu.frequencyHz.toFixed(3) + ' Hz'), make('td', {}, pmu.rocofHzPerS.toFixed(2) + ' Hz/s')));
+    lines.push(make('tr', {}, make('td', {}, 'frequency'), make('td', {}, pmu.frequencyHz === null ? '–' : pmu.frequencyHz.toFixed(3) + ' Hz'),
+      make('td', {}, pmu.rocofHzPerS === null ? '–' : pmu.rocofHzPerS.toFixed(2) + ' Hz/s')));
     pmu.analogs.forEach(analog => lines.push(make('tr', {}, make('td', {}, analog.name), make('td', {}, String(analog.value)), make('td', {}, 'counts'))));
     pmu.digitals.forEach((word, place) => lines.push(make('tr', {}, make('td', {}, 'digital ' + (place + 1)), make('td', {}, word.toString(16).toUpperCase().padStart(4, '0')), make('td', {}, 'hex'))));
   }
+  at('polar').dataset.state = state;
+  at('doubt').textContent = [said, reserve].filter(text => text).join('; ');
   at('circle').replaceChildren(...drawn);
   put('values', ...lines);
 }

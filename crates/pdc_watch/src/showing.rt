@@ -2,6 +2,7 @@
 ghost use Rattle.std.specs.Prelude.{◌≤◌};
 ghost use Rattle.pdc_watch.specs.declared.cell.TheConstants.{MAX_RATE};
 
+use crate::age::is_old;
 use crate::heard::Heard;
 use crate::phasors::{analogs_of, digitals_of, phasors_of};
 use crate::pmu::Pmu;
@@ -26,9 +27,14 @@ const MILLI: f64 = 1000.0;
 
 const CENTI: f64 = 100.0;
 
-/// The word as a signed number.
-fn signed_at(words: &[u16], place: usize) -> i16 {
-    words.get(place).copied().unwrap_or(0).cast_signed()
+/// The word as a signed number, if there is one.
+fn signed_at(words: &[u16], place: usize) -> Option<i16> {
+    words.get(place).map(|word| word.cast_signed())
+}
+
+/// A time that is 0 where there is none.
+fn known(ms: u64) -> Option<u64> {
+    if ms > 0 { Some(ms) } else { None }
 }
 
 /// The strips of a PMU that end with this fifth of a second: frequency and its change.
@@ -48,13 +54,14 @@ fn strips_of(
     Ok((freqs, dfreqs))
 }
 
-/// What is shown of a PMU.
+/// What is shown of a PMU now. Where nothing came of it, it has no values.
 fn pmu_shown<'a>(
     alloc: Global,
     pmu: &Pmu,
     station: &'a Station,
     rate: u32,
     last: u64,
+    now_ms: u64,
 ) -> Result<ShownPmu<'a>, AllocError>
     requires { rate ≤ MAX_RATE }
 {
@@ -70,10 +77,13 @@ fn pmu_shown<'a>(
         source: pmu.source,
         name: station.name.as_str(),
         nominal_hz: nominal,
-        last_ms: if pmu.ms > 0 { Some(pmu.ms) } else { None },
-        stat: u32::from(words.first().copied().unwrap_or(0)),
-        frequency_hz: f64::from(nominal) + f64::from(signed_at(words, freq)) / MILLI,
-        rocof_hz_per_s: f64::from(signed_at(words, freq + 1)) / CENTI,
+        last_ms: known(pmu.ms),
+        came_ms: known(pmu.came_ms),
+        old: pmu.came_ms > 0 && is_old(pmu.came_ms, now_ms, rate),
+        stat: words.first().copied(),
+        frequency_hz: signed_at(words, freq).map(|deviation| f64::from(nominal)
+            + f64::from(deviation) / MILLI),
+        rocof_hz_per_s: signed_at(words, freq + 1).map(|change| f64::from(change) / CENTI),
         presence: rows_of(
             alloc,
             &pmu.presence,
@@ -112,11 +122,16 @@ fn last_tenth(newest_ms: u64, now_ms: u64) -> u64 {
 }
 
 /// What is shown of all PMUs.
-fn pmus_shown(alloc: Global, watch: &Watch, last: u64) -> Result<Vec<ShownPmu<'_>>, AllocError> {
+fn pmus_shown(
+    alloc: Global,
+    watch: &Watch,
+    last: u64,
+    now_ms: u64,
+) -> Result<Vec<ShownPmu<'_>>, AllocError> {
     let mut pmus = Vec::new(alloc);
     for pmu in watch.pmus.as_slice() {
         if let Some(station) = station_of(&watch.heard, pmu.source) {
-            pmus.push(pmu_shown(alloc, pmu, station, watch.rate, last)?)?;
+            pmus.push(pmu_shown(alloc, pmu, station, watch.rate, last, now_ms)?)?;
         }
     }
     Ok(pmus)
@@ -133,9 +148,9 @@ fn shown_of<'a>(
     let last = last_tenth(watch.newest_ms, now_ms);
     let heard = &watch.heard;
     let mut streams = Vec::new(alloc);
-    streams.push(stream_shown(&heard.a, "A", addresses.a.as_str(), rate, now_ms))?;
-    streams.push(stream_shown(&heard.b, "B", addresses.b.as_str(), rate, now_ms))?;
-    streams.push(stream_shown(&heard.m, "M", addresses.m.as_str(), rate, now_ms))?;
+    streams.push(stream_shown(alloc, &heard.a, "A", addresses.a.as_str(), rate, now_ms)?)?;
+    streams.push(stream_shown(alloc, &heard.b, "B", addresses.b.as_str(), rate, now_ms)?)?;
+    streams.push(stream_shown(alloc, &heard.m, "M", addresses.m.as_str(), rate, now_ms)?)?;
     let agreement = watch.agreement;
     Ok(Shown {
         now_ms,
@@ -143,7 +158,7 @@ fn shown_of<'a>(
         rate,
         until_ms: last.saturating_add(1).saturating_mul(100),
         streams,
-        pmus: pmus_shown(alloc, watch, last)?,
+        pmus: pmus_shown(alloc, watch, last, now_ms)?,
         agreement: ShownAgreement {
             instants: agreement.equal.saturating_add(agreement.different),
             equal: agreement.equal,

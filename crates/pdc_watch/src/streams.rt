@@ -1,7 +1,9 @@
 //! What is shown of a stream.
 
+use crate::delays::percentile;
 use crate::heard::Heard;
 use crate::shown::ShownStream;
+use std::alloc::{AllocError, Global};
 
 /// By how many ms the instant of the last frame lay behind the clock when it came; below zero, before it.
 fn behind(heard: &Heard) -> i64 {
@@ -13,14 +15,16 @@ fn behind(heard: &Heard) -> i64 {
 
 /// What is shown of a stream.
 pub fn stream_shown<'a>(
+    alloc: Global,
     heard: &Heard,
     name: &'static str,
     address: &'a str,
     rate: u32,
     now_ms: u64,
-) -> ShownStream<'a> {
+) -> Result<ShownStream<'a>, AllocError> {
     let told = heard.last_ms > 0;
-    ShownStream {
+    let delays = heard.delays.sorted(alloc)?;
+    Ok(ShownStream {
         name,
         address,
         connected: heard.connected,
@@ -30,8 +34,10 @@ pub fn stream_shown<'a>(
         change: heard.change,
         last_ms: if told { Some(heard.last_ms) } else { None },
         behind_ms: if told { Some(behind(heard)) } else { None },
+        behind_median_ms: percentile(delays.as_slice(), 50),
+        behind_p99_ms: percentile(delays.as_slice(), 99),
         frames_a_second: heard.frames_a_second(now_ms),
         frames: heard.frames,
         unread: heard.unread,
-    }
+    })
 }

@@ -89,6 +89,7 @@ pub fn run<
             alloc,
             watch: &watch,
             addresses: &addresses,
+            port,
         };
         let served = serve_many(rt, alloc, keys, &mut site, &listener, &ending);
         ending.store(true, Ordering::SeqCst);

@@ -5,6 +5,7 @@ use crate::reader::now_ms;
 use bytes::Bytes;
 use http::{HeaderValue, Request, StatusCode, header};
 use http_server::{Response, Service};
+use pdc_metrics::is_own_request;
 use pdc_watch::{Asked, PAGE, SCRIPT, STYLE, Three, Watch, json_of, route_of};
 use std::alloc::{AllocError, Global};
 use std::rt::Clock;
@@ -21,6 +22,8 @@ pub struct Site<'a, R: Wait + Clock> {
     pub alloc: Global,
     pub watch: &'a Mutex<Watch>,
     pub addresses: &'a Three<String>,
+    /// The port of the page.
+    pub port: u16,
 }
 
 impl<R: Wait + Clock> Site<'_, R> {
@@ -50,6 +53,18 @@ fn fill(response: &mut Response, kind: HeaderValue, body: Bytes) -> Result<(), A
     response.body.push(body)
 }
 
+/// Answers a request that names another host than this machine's loopback.
+fn misdirect(response: &mut Response) -> Result<(), AllocError> {
+    response.status = StatusCode::MISDIRECTED_REQUEST;
+    fill(
+        response,
+        HeaderValue::from_static("text/plain; charset=utf-8"),
+        Bytes::from_static(
+            b"misdirected: ask at 127.0.0.1, [::1] or localhost, with the port of the page\n",
+        ),
+    )
+}
+
 impl<R: Wait + Clock> Service for Site<'_, R> {
     ghost answers = { λ _ _ _ _. ⊤ };
 
@@ -59,6 +74,9 @@ impl<R: Wait + Clock> Service for Site<'_, R> {
         response: &mut Response,
     ) -> Result<(), AllocError> {
         response.add_header(header::CONNECTION, HeaderValue::from_static("close"))?;
+        if !is_own_request(request, self.port) {
+            return misdirect(response);
+        }
         match route_of(request.method().as_str(), request.uri().path()) {
             Asked::Page => fill(
                 response,
