@@ -211,9 +211,9 @@ class Consumer:
 class Server:
     """A PMU that waits to be asked over TCP."""
 
-    def __init__(self, port, ident):
+    def __init__(self, port, ident, host=HOST):
         self.ident = ident
-        self.socket = socket.create_server((HOST, port))
+        self.socket = socket.create_server((host, port))
         self.socket.settimeout(90)
 
     def asked(self):
