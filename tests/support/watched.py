@@ -13,12 +13,13 @@ PMUS = (11, 12, 13)
 
 
 class Watched:
-    """What runs, by its name: a, b, m, the PMUs and the page."""
+    """What runs, by its name: a, b, m, the PMUs and the page. The merger waits for a node twice as many ticks as the nodes for a PMU, and its stream is so far
+    behind where a node is gone."""
 
-    def __init__(self, room):
+    def __init__(self, room, wait=25):
         self.room, self.page = room, room.ports.one()
         self.url = f"http://{HOST}:{self.page}/"
-        self.pair = Pair(room, [Device(it) for it in PMUS], wait=25, layout_every=100, more={"m": {"wait": 50}}, window=256)
+        self.pair = Pair(room, [Device(it) for it in PMUS], wait=wait, layout_every=100, more={"m": {"wait": 2 * wait}}, window=256)
         self.programs = {name: self.pair.begin(name, "--quiet") for name in "abm"}
         for device, ports in self.pair.places():
             words = [*ports, "--grid", "--config-every", 1]
