@@ -8,23 +8,23 @@ use std::alloc::{AllocError, Global};
 const ABOUT: &str = "Play the record of a life again, and explain it";
 
 const LONG_REPLAY: &str =
-    "Plays the record of a life again on a node, or on the merger, that begins as the record says: each datagram, tick and pop is made
-again, and each answer, each published frame and each layout is compared with what was recorded.
+    "Plays a record again. A node, or the merger, begins as the record says. It is given each datagram, tick and pop of the record, and each
+of its answers, published frames and layouts is compared with the recorded one.
 
-FILE.. are the files of a record in their order, as `a.record.*`, and those of the lives behind it. What is recorded alike prints
+FILE.. are the files of a record in their order, as `a.record.*`, and those of later lives. If all are the same it prints
   12000345 steps, 239998 frames: as recorded
-and gives status 0; else the first difference is told with its number and both sides, with status 1. Steps that are not in the
-record end the replay there, with status 1; a file that is cut off is read up to the cut, and that is said.
+and ends with status 0. Otherwise it prints the first difference, with its number and both sides, and ends with status 1. If steps are
+missing in the record it stops there, with status 1. It reads a file that is cut off up to the cut, and reports that.
 
-Files of two nodes, A and then B, of the merger M, or of two of the three may be given together. Each record is replayed, and of each
-instant it is told which of them had which block
+You can give files of node A, node B and the merger M together, in this order, or of two of the three. It replays each record, and
+prints for each instant which of them had which block:
   57478860001 2006-06-06T07:00:00.020Z  11 A B M  12 A . M
-with a point where a row has no block of the PMU, a dash where there is no row, and counts behind the names where they are not the
-same. At the end it is told that all agree on every block that is present under one count; or, with status 1, the first two that do not.
+A point means that the row has no block of the PMU, a dash that there is no row. Counts follow the names if they differ. At the end it
+prints that all agree on every block that is present under one count; or, with status 1, the first two that do not.
 
---frames prints the layouts and frames in hexadecimal, for `pdc show`; what is said of them then goes to standard error.
---plain plays the record of one life also on a plain program, which is written another way and proved by itself: it asks each rule of
-the whole list of steps. So it is for short records, of at most 4000 steps.
+--frames prints the layouts and frames in hexadecimal, for `pdc show`; everything else then goes to standard error.
+--plain also plays the record of one life on a plain program, which is written another way and proved by itself. That program looks
+at the whole list of steps for each rule, so it is for short records, of at most 4000 steps.
 
 Examples:
   pdc replay a.record.*
@@ -32,22 +32,22 @@ Examples:
   pdc replay --frames a.record.* | pdc show";
 
 const LONG_EXPLAIN: &str =
-    "Tells out of the record of a life what became of an instant: a line for each PMU, whether it was shown, and why not; when the row
-opened, what it waited for, at which tick it closed and when its frame went out. At the merger it tells of each PMU which node's block
-was shown. Times are in UTC: a datagram's is when it came, that of all else when it was written down.
+    "Explains from a record what happened at an instant. A line for each PMU says whether its block was shown, and why not. Further lines say
+when the row opened, what it waited for, at which tick it closed and when its frame went out. At the merger the line of a PMU says
+which node's block was shown. Times are in UTC: of a datagram, when it came; of all else, when it was written down.
 
-FILE.. are the files of a record in their order; the first ones may be gone. Those of several nodes and of the merger may be given
-together: each record is explained for itself, below a line that says whose it is. INSTANT is the number of the instant, as `pdc show` prints
-it, or its time, as 2026-11-24T12:03:04.580Z.
+FILE.. are the files of a record in their order; the first ones may be gone. You can give the files of several nodes and of the merger
+together: each record is explained by itself, below a line that says whose it is. INSTANT is the number of the instant, as `pdc show`
+prints it, or its time, as 2026-11-24T12:03:04.580Z.
 
---absent lists each instant of which a block is absent, with its cause, and at its end how often each cause was; instants that follow one
-another and have the same causes have a line together. Instants between rows that have no row are listed too, with what came of each PMU;
-and when no tick came about them, since the node was held up.
---delays gives for each PMU how many milliseconds after its instant 10, 50, 90, 99 and 99.9 of a hundred frames came, and the greatest
-delay; and the `wait` that would have kept all but one in a thousand. Where a PMU's clock runs ahead, they are negative, and so is a span
-where the clock of the record was set back in between. Behind that it tells what the PMU adds: of the instants for which data of two or
-more was taken, of how many in a hundred its data came last, and by how many milliseconds behind that of all others, for 50 and 99 of a
-hundred of these. At the merger a line is a node's.
+--absent lists each instant in which a block is absent, with its cause, and at the end how often each cause was. Consecutive instants
+with the same causes share a line. It also lists instants between rows that have no row, with what came of each PMU, and reports when
+the node was held up and no tick came about them.
+--delays prints for each PMU how many milliseconds after its instant 10, 50, 90, 99 and 99.9 of a hundred frames came, the greatest
+delay, and the `wait` that would have kept all but one in a thousand. Delays are negative if a PMU's clock runs ahead, and so is a span in
+which the clock of the record was set back. Three columns say what the PMU adds, counted over the instants with data of two PMUs or more:
+for how many in a hundred of them its data came last, and how many milliseconds after all other data, for 50 and 99 of a hundred of
+these. At the merger a line is a node's.
 
 Examples:
   pdc explain a.record.* 2026-11-24T12:03:04.580Z
@@ -120,7 +120,7 @@ const REPLAY: Told<'static> = Told {
 const EXPLAIN: Told<'static> = Told {
     name: "explain",
     full_name: "pdc explain",
-    about: "Tell out of a record what became of an instant",
+    about: "Explain from a record what happened at an instant",
     long: LONG_EXPLAIN,
     words: (
         "FILE.. INSTANT",
@@ -128,7 +128,7 @@ const EXPLAIN: Told<'static> = Told {
     ),
     choices: &[
         ("absent", "List the instants with an absent block"),
-        ("delays", "Tell how late the data of each PMU comes"),
+        ("delays", "Print how late the data of each PMU comes"),
     ],
 };
 
@@ -211,7 +211,7 @@ fn instant_of(alloc: Global, word: Option<&str>) -> Result<Wanted, Error> {
         Some(wanted) => Ok(wanted),
         None => Err(wrong(
             alloc,
-            "behind the files an instant is wanted: its number, or its time as 2026-11-24T12:03:04.580Z",
+            "an instant must follow the files: its number, or its time as 2026-11-24T12:03:04.580Z",
         )?),
     }
 }
@@ -223,7 +223,7 @@ fn question_of(
     words: &mut Vec<&str>,
 ) -> Result<Question, Error> {
     match (matches.get_flag("absent"), matches.get_flag("delays")) {
-        (true, true) => Err(wrong(alloc, "--absent and --delays are asked for one by one")?),
+        (true, true) => Err(wrong(alloc, "--absent and --delays cannot be given together")?),
         (true, false) => Ok(Question::Instants(Wanted::All)),
         (false, true) => Ok(Question::Delays),
         (false, false) => Ok(Question::Instants(instant_of(alloc, words.pop())?)),
@@ -233,7 +233,7 @@ fn question_of(
 /// There are files.
 fn some_files(alloc: Global, files: &[&str]) -> Result<(), Error> {
     if files.is_empty() {
-        return Err(wrong(alloc, "before the instant the files of a record are wanted")?);
+        return Err(wrong(alloc, "the files of a record must come before the instant")?);
     }
     Ok(())
 }

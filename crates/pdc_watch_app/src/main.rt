@@ -1,4 +1,4 @@
-//! `pdc watch`: a page on which a pair is seen to work. It is a program of its own beside the pair, a consumer of the sessions of both
+//! `pdc watch`: a page that shows a pair at work. It is a program of its own beside the pair, a
 //! nodes and of the merger, and serves the page at 127.0.0.1.
 #![tactic(auto)]
 

@@ -5,12 +5,12 @@ use clap::{Arg, ArgAction, Command, Error};
 use std::alloc::{AllocError, Global};
 
 const LONG: &str =
-    "Serves a page at http://127.0.0.1:PORT/ on which a pair is seen to work: whether both nodes and the merger live, whose data came
+    "Serves a page at http://127.0.0.1:PORT/ that shows a pair at work: whether both nodes and the merger are alive, which PMU's data came
 on which of the three streams, what it says, and whether both nodes published the same.
 
-A.toml, B.toml and M.toml are the settings of node A, node B and the merger. It is a consumer of the session of each, at `address` and
-`session_port` of the settings; one that cannot be reached is tried again each second. It changes nothing of the pair, and runs until it
-is stopped. What the page reads is at /data.json.
+A.toml, B.toml and M.toml are the settings of node A, node B and the merger. The program connects to the session of each, at `address`
+and `session_port` of the settings, and tries again each second if it cannot. It changes nothing in the pair, and runs until you stop
+it. The page reads /data.json.
 
 Example, beside examples/pair/run:
   pdc watch a.toml b.toml m.toml";
@@ -40,7 +40,7 @@ fn command<'a>(alloc: Global) -> Result<Command<'a>, AllocError> {
     Command::new(alloc, "watch")
         .no_binary_name(true)
         .bin_name("pdc watch")?
-        .about("Serve a page on which a pair is seen to work")
+        .about("Serve a page that shows a pair at work")
         .long_about(LONG)
         .arg(word(alloc, "A", "The settings file of node A"))?
         .arg(word(alloc, "B", "The settings file of node B"))?
@@ -57,7 +57,7 @@ fn command<'a>(alloc: Global) -> Result<Command<'a>, AllocError> {
 /// What is wrong with a port.
 fn no_port(alloc: Global, text: &str) -> Result<Error, AllocError> {
     let message = format!(in alloc;
-        "invalid value '{text}' for '--port <PORT>': a whole number from 1 to 65535 is wanted"
+        "invalid value '{text}' for '--port <PORT>': it must be a whole number from 1 to 65535"
     )?;
     let mut command = command(alloc)?;
     command.error(ErrorKind::ValueValidation, message.as_str())
