@@ -1,4 +1,4 @@
-//! `pdc watch`: a page that shows a pair at work. It is a program of its own beside the pair, a
+//! `pdc watch`: a page that shows a pair at work. It is a program of its own beside the pair, a consumer of the sessions of both
 //! nodes and of the merger, and serves the page at 127.0.0.1.
 #![tactic(auto)]
 
