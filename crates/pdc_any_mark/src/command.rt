@@ -21,10 +21,9 @@ const FAILED: u8 = 3;
 
 /// What is given up by a mark without counts, and when that is safe.
 const GIVEN_UP: &str =
-    "The new mark has the same id, rate, start and floor; its counts are 0. With it one promise is given up, this once: that the
-configuration counts that are adopted of a PMU never fall. An older configuration of a PMU would be adopted again, and its data
-read by it. It is safe where no frame of an older configuration is on its way any more, and each PMU sends the configuration
-that is in force at it.";
+    "The new mark has the same id, rate, start and floor, and its counts are 0. This gives up one promise, this once: that the
+configuration count adopted from a PMU never falls. If a frame of an older configuration of a PMU arrives, it is adopted again, and
+data is read with it. This is safe once no such frame is on its way any more, and each PMU sends the configuration that it has now.";
 
 /// Why a mark file was not shown, or not made.
 #[derive(Debug, Drop, Error)]
@@ -122,19 +121,19 @@ fn refuse(rt: &impl Eprint, command: &str, of: &RefusalOf<'_>) -> io::Result<u8>
             rt,
             command,
             of,
-            &"it has not the 256 bytes of a mark",
+            &"it does not have the 256 bytes of a mark",
         )?,
         Refusal::Refused(MarkFault::OldMark) => complain(
             rt,
             command,
             of,
-            &"it is a mark of version 1: pdc mark-convert",
+            &"it is a mark of version 1: run pdc mark-convert",
         )?,
         Refusal::Refused(MarkFault::Damaged) => complain(
             rt,
             command,
             of,
-            &"neither of its slots is open",
+            &"neither of its two slots is valid",
         )?,
         Refusal::Refused(_) => complain(rt, command, of, &"the device failed")?,
     }

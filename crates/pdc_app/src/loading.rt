@@ -24,7 +24,7 @@ pub fn report_load(
             complain_of(rt, command, file, &"two ids are the same that must differ")
         }
         LoadFault::Refused(SettingsFault::NoMemory) => {
-            complain_of(rt, command, file, &"it is not read")
+            complain_of(rt, command, file, &"it cannot be read")
         }
     }
 }

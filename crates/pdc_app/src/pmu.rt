@@ -38,7 +38,7 @@ fn report_simulation(
                 kind: "UDP ",
                 at: *to,
             };
-            complain_at(rt, "pmu", &port, &"a frame is not sent")
+            complain_at(rt, "pmu", &port, &"a frame could not be sent")
         }
         SimulationFault::Clock(error) => complain_of(rt, "pmu", "the clock", error),
         SimulationFault::NotSent(None)

@@ -28,7 +28,7 @@ fn complain_of_output(
     eprintln!(rt; "pdc {command}: {settings}: outputs, number {number}: {error}")
 }
 
-/// Tells that a stream is not asked for.
+/// Reports that a stream cannot be asked for.
 fn complain_of_input(
     rt: &impl Eprint,
     command: &str,
@@ -36,7 +36,7 @@ fn complain_of_input(
     id: u16,
     error: &io::Error,
 ) -> io::Result<()> {
-    eprintln!(rt; "pdc {command}: {settings}: where stream {id} is asked for: {error}")
+    eprintln!(rt; "pdc {command}: {settings}: the host of stream {id}: {error}")
 }
 
 /// Tells that the record was not begun.
@@ -62,7 +62,12 @@ fn tell_fault(
         ServiceFault::Settings(fault) => report_load(rt, command, settings, fault),
         ServiceFault::MarkUnopened(error) => complain_of(rt, command, mark, error),
         ServiceFault::MarkInUse => complain_of(rt, command, mark, &"in use by another process"),
-        ServiceFault::Mark(_) => complain_of(rt, command, mark, &"the mark is not begun"),
+        ServiceFault::Mark(_) => complain_of(
+            rt,
+            command,
+            mark,
+            &"the run cannot begin with this mark",
+        ),
         ServiceFault::Port(at, error) => {
             complain_at(rt, command, &NamedPort { kind: "", at: *at }, error)
         }
