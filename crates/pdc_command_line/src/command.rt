@@ -13,12 +13,11 @@ use crate::show::{SHOW, show_form};
 use crate::words::{Told, command_of};
 use crate::wrong::{Wrong, error_of};
 use clap::{ArgMatches, Command, Error};
+use pdc_version::VERSION;
 use std::alloc::{AllocError, Global};
 
 const ABOUT: &str =
     "A synchrophasor concentrator for frames of IEEE C37.118.2-2011 in 16-bit formats";
-
-const VERSION: &str = "0.1.0";
 
 const EXAMPLES: &str = "Examples:
   pdc show < captured.hex     print what captured frames contain

@@ -3,6 +3,7 @@
 use clap::error::ErrorKind;
 use clap::{Arg, ArgAction, ArgMatches, Command, Error};
 use pdc_explain::{Wanted, wanted_of};
+use pdc_version::VERSION;
 use std::alloc::{AllocError, Global};
 
 const ABOUT: &str = "Play the record of a life again, and explain it";
@@ -155,8 +156,10 @@ fn flag<'a>(alloc: Global, choice: &Choice) -> Arg<'a> {
 fn command_of<'a>(alloc: Global, told: &Told<'a>) -> Result<Command<'a>, AllocError> {
     let mut command = Command::new(alloc, told.name)
         .bin_name(told.full_name)?
+        .display_name(told.full_name)?
         .about(told.about)
         .long_about(told.long)
+        .version(VERSION)
         .arg(many(alloc, &told.words))?;
     for choice in told.choices {
         command = command.arg(flag(alloc, choice))?;

@@ -8,11 +8,9 @@ use crate::described::Described;
 use crate::fault::ServiceFault;
 use pdc_mark::Mark;
 use pdc_recording::{Begun as BegunEntry, Limits, Role, Series, Shelf, nanoseconds_now};
+use pdc_version::VERSION_NUMBERS;
 use std::alloc::Global;
 use std::rt::Clock;
-
-/// The version of the program: major, minor, patch.
-const PROGRAM: [u16; 3] = [0, 1, 0];
 
 /// Where a life is recorded.
 #[derive(Clone, Copy, Debug)]
@@ -50,7 +48,7 @@ pub fn open_record<'a, M: Mark + Drop, R: Clock + Shelf>(
         floor: mark.floor(),
         counts: mark.counts(),
         now: 0,
-        program: PROGRAM,
+        program: VERSION_NUMBERS,
         settings: described.text.as_bytes(),
     };
     Series::open(

@@ -2,6 +2,7 @@
 
 use clap::error::ErrorKind;
 use clap::{Arg, ArgAction, Command, Error};
+use pdc_version::VERSION;
 use std::alloc::{AllocError, Global};
 
 const LONG: &str =
@@ -40,8 +41,10 @@ fn command<'a>(alloc: Global) -> Result<Command<'a>, AllocError> {
     Command::new(alloc, "watch")
         .no_binary_name(true)
         .bin_name("pdc watch")?
+        .display_name("pdc watch")?
         .about("Serve a page that shows a pair at work")
         .long_about(LONG)
+        .version(VERSION)
         .arg(word(alloc, "A", "The settings file of node A"))?
         .arg(word(alloc, "B", "The settings file of node B"))?
         .arg(word(alloc, "M", "The settings file of the merger"))?
