@@ -5,11 +5,11 @@ ghost use Rattle.pdc_disk.specs.FileDisk.{seen_of};
 use crate::any_mark::AnyMark;
 use pdc_disk::FileDisk;
 use pdc_mark::MarkFault;
-use std::fmt::Display;
+use std::fmt::{Display, Formatter};
 use std::fs::File;
 use std::io::ErrorKind;
 use std::rt::Files;
-use std::{fs, io};
+use std::{fmt, fs, io};
 use thiserror::Error;
 
 /// The exit statuses.
@@ -25,9 +25,9 @@ const GIVEN_UP: &str =
 configuration count adopted from a PMU never falls. If a frame of an older configuration of a PMU arrives, it is adopted again, and
 data is read with it. This is safe once no such frame is on its way any more, and each PMU sends the configuration that it has now.";
 
-/// Why a mark file was not shown, or not made.
+/// Why a mark file is not read, or was not made. It prints as the first line of a command that ends by it; [`MarkFileFault::reason`] says more.
 #[derive(Debug, Drop, Error)]
-enum Refusal {
+pub enum MarkFileFault {
     /// There is a file of the new name.
     #[error("mark exists")]
     Exists,
@@ -39,37 +39,79 @@ enum Refusal {
     Refused(MarkFault),
 }
 
-/// A fault, and the file that it is of.
-type RefusalOf<'a> = (&'a str, Refusal);
+impl MarkFileFault {
+    /// The reason, in words that may follow the name of the file.
+    pub fn reason(&self) -> Reason<'_> {
+        Reason { fault: self }
+    }
+}
 
-/// The mark in this file.
-fn read<R: Files<File = File>>(files: &R, file: &str) -> Result<AnyMark, Refusal> {
-    let disk = FileDisk::open(files, file).map_err(Refusal::Unopened)?;
+/// Why a mark file is not read, or was not made, in words.
+#[derive(Clone, Copy, Debug)]
+pub struct Reason<'a> {
+    fault: &'a MarkFileFault,
+}
+
+impl Display for Reason<'_> {
+    fn fmt<W: fmt::Write>(&self, f: &mut Formatter<W>) -> fmt::Result {
+        match self.fault {
+            MarkFileFault::Exists => f.write_str("it is left as it is"),
+            MarkFileFault::Unopened(error) if error.kind() == ErrorKind::WouldBlock => {
+                f.write_str("in use by another process")
+            }
+            MarkFileFault::Unopened(error) => write!(f, "{error}"),
+            MarkFileFault::Refused(MarkFault::NoMark) => {
+                f.write_str("it does not have the 256 bytes of a mark")
+            }
+            MarkFileFault::Refused(MarkFault::OldMark) => {
+                f.write_str("it is a mark of version 1: run pdc mark-convert")
+            }
+            MarkFileFault::Refused(MarkFault::Damaged) => {
+                f.write_str("neither of its two slots is valid")
+            }
+            MarkFileFault::Refused(_) => f.write_str("the device failed"),
+        }
+    }
+}
+
+/// A fault, and the file that it is of.
+type RefusalOf<'a> = (&'a str, MarkFileFault);
+
+/// Reads the mark in this file, whoever owns it. The file is locked meanwhile, as a run locks it.
+///
+/// # Errors
+///
+/// The file cannot be opened, or another process has it; it is no mark, or the device failed.
+pub fn read_mark_file<R: Files<File = File>>(
+    files: &R,
+    file: &str,
+) -> Result<AnyMark, MarkFileFault> {
+    let disk = FileDisk::open(files, file).map_err(MarkFileFault::Unopened)?;
     match AnyMark::read(disk) {
         Ok(mark) => Ok(mark),
-        Err(refused) => Err(Refusal::Refused(refused.fault)),
+        Err(refused) => Err(MarkFileFault::Refused(refused.fault)),
     }
 }
 
 /// A new file of this name, which is empty.
-fn new_file<R: Files<File = File>>(files: &R, file: &str) -> Result<FileDisk, Refusal>
+fn new_file<R: Files<File = File>>(files: &R, file: &str) -> Result<FileDisk, MarkFileFault>
     ensures { IfOk result (λ disk. seen_of disk ≡ []) }
 {
     match FileDisk::create(files, file) {
         Ok(disk) => Ok(disk),
-        Err(error) if error.kind() == ErrorKind::AlreadyExists => Err(Refusal::Exists),
-        Err(error) => Err(Refusal::Unopened(error)),
+        Err(error) if error.kind() == ErrorKind::AlreadyExists => Err(MarkFileFault::Exists),
+        Err(error) => Err(MarkFileFault::Unopened(error)),
     }
 }
 
 /// Makes the file of this mark without its counts. One that could not be filled is taken away again, if the device still can.
-fn make<R: Files<File = File>>(files: &R, file: &str, mark: &AnyMark) -> Result<(), Refusal> {
+fn make<R: Files<File = File>>(files: &R, file: &str, mark: &AnyMark) -> Result<(), MarkFileFault> {
     let disk = new_file(files, file)?;
     match mark.forget_counts(disk) {
         Ok(_) => Ok(()),
         Err(fault) => {
             let _ = fs::remove_file(files, file);
-            Err(Refusal::Refused(fault))
+            Err(MarkFileFault::Refused(fault))
         }
     }
 }
@@ -83,61 +125,26 @@ fn forget<'a, R: Files<File = File>>(
 ) -> Result<AnyMark, RefusalOf<'a>> {
     match fs::exists(files, new) {
         Ok(false) => {}
-        Ok(true) => return Err((new, Refusal::Exists)),
-        Err(error) => return Err((new, Refusal::Unopened(error))),
+        Ok(true) => return Err((new, MarkFileFault::Exists)),
+        Err(error) => return Err((new, MarkFileFault::Unopened(error))),
     }
-    let mark = read(files, old).map_err(|refusal| (old, refusal))?;
+    let mark = read_mark_file(files, old).map_err(|refusal| (old, refusal))?;
     match make(files, new, &mark) {
         Ok(()) => Ok(mark),
         Err(refusal) => Err((new, refusal)),
     }
 }
 
-/// Prints the fault to standard error, and on a second line the command, the file and the reason.
-fn complain<T: Display>(
-    rt: &impl Eprint,
-    command: &str,
-    of: &RefusalOf<'_>,
-    reason: &T,
-) -> io::Result<()> {
-    let (file, refusal) = of;
-    eprintln!(rt; "{refusal}\npdc {command}: {file}: {reason}")
-}
-
-/// Tells why a command ended, and answers the exit status.
+/// Tells why a command ended, its fault in a first line and the file and the reason in a second one, and answers the exit status.
 fn refuse(rt: &impl Eprint, command: &str, of: &RefusalOf<'_>) -> io::Result<u8> {
-    let status = match &of.1 {
-        Refusal::Exists
-        | Refusal::Refused(MarkFault::NoMark | MarkFault::Damaged | MarkFault::OldMark) => REFUSED,
+    let (file, refusal) = of;
+    eprintln!(rt; "{refusal}\npdc {command}: {file}: {}", refusal.reason())?;
+    Ok(match refusal {
+        MarkFileFault::Exists
+        | MarkFileFault::Refused(MarkFault::NoMark | MarkFault::Damaged | MarkFault::OldMark) =>
+            REFUSED,
         _ => FAILED,
-    };
-    match &of.1 {
-        Refusal::Exists => complain(rt, command, of, &"it is left as it is")?,
-        Refusal::Unopened(error) if error.kind() == ErrorKind::WouldBlock => {
-            complain(rt, command, of, &"in use by another process")?;
-        }
-        Refusal::Unopened(error) => complain(rt, command, of, error)?,
-        Refusal::Refused(MarkFault::NoMark) => complain(
-            rt,
-            command,
-            of,
-            &"it does not have the 256 bytes of a mark",
-        )?,
-        Refusal::Refused(MarkFault::OldMark) => complain(
-            rt,
-            command,
-            of,
-            &"it is a mark of version 1: run pdc mark-convert",
-        )?,
-        Refusal::Refused(MarkFault::Damaged) => complain(
-            rt,
-            command,
-            of,
-            &"neither of its two slots is valid",
-        )?,
-        Refusal::Refused(_) => complain(rt, command, of, &"the device failed")?,
-    }
-    Ok(status)
+    })
 }
 
 /// Shows the mark in a file, and answers the exit status.
@@ -145,7 +152,7 @@ pub fn run_mark_show_command<R: Files<File = File> + Print + Eprint>(
     rt: &R,
     file: &str,
 ) -> io::Result<u8> {
-    match read(rt, file) {
+    match read_mark_file(rt, file) {
         Ok(mark) => {
             println!(rt; "{mark}")?;
             Ok(DONE)

@@ -10,4 +10,6 @@ mod command;
 mod forget;
 
 pub use any_mark::AnyMark;
-pub use command::{run_mark_forget_command, run_mark_show_command};
+pub use command::{
+    MarkFileFault, Reason, read_mark_file, run_mark_forget_command, run_mark_show_command,
+};

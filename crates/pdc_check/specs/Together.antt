@@ -3,7 +3,7 @@ use Rattle.std.specs.Prelude.{◌==◌, ◌&&◌, ◌||◌, not, ℕ, Bool, true
 use Rattle.std.specs.List.{list_any}
 use Rattle.std.specs.Option.{option_to_list}
 use Rattle.pdc_check.specs.declared.misfit.Misfit.{Misfit}
-use Rattle.pdc_check.specs.declared.misfit.Misfit.TheVariants.{IdOfSource, NotMerged, NotSent, NotServed, OtherRate, OtherSources, OtherTimeBase, Preferred, SameId, ShortWait}
+use Rattle.pdc_check.specs.declared.misfit.Misfit.TheVariants.{IdOfSource, NotMerged, NotSent, NotServed, OtherOwner, OtherRate, OtherSources, OtherTimeBase, Preferred, SameId, ShortWait}
 use Rattle.pdc_check.specs.declared.outline.Outline.{Outline}
 use Rattle.pdc_check.specs.declared.outline.Stream.{Stream}
 
@@ -76,3 +76,13 @@ alike one other = option_to_list (same_id one other) ++ option_to_list (other_ra
 
 abbrev pub misfits : (one other : Outline) → List Misfit
 misfits one other = option_to_list (id_of_source one other) ++ by_kind one other
+
+-- settings, and the id and the rate of the mark beside them
+abbrev pub other_owner : Outline → ℕ → Option Misfit
+other_owner settings id = if settings.id == id then None else Some (OtherOwner settings.id id)
+
+abbrev pub other_mark_rate : Outline → ℕ → Option Misfit
+other_mark_rate settings rate = if settings.rate == rate then None else Some (OtherRate settings.rate rate)
+
+abbrev pub of_mark : Outline → (id rate : ℕ) → List Misfit
+of_mark settings id rate = option_to_list (other_owner settings id) ++ option_to_list (other_mark_rate settings rate)

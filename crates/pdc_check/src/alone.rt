@@ -2,6 +2,7 @@
 ghost use Rattle.std.specs.Prelude.{◌≡◌, ◌++◌, IfOk, OnOk};
 ghost use Rattle.std.specs.Option.{option_to_list};
 ghost use Rattle.pdc_check.specs.Alone.{findings, is_open, no_lead, open_streams};
+ghost use Rattle.pdc_check.specs.Ports.{port_findings, twice_in};
 
 use crate::finding::Finding;
 use crate::outline::{Outline, Stream};
@@ -63,20 +64,46 @@ pub fn findings(alloc: Global, outline: &Outline) -> Result<Vec<Finding>, AllocE
     Ok(found)
 }
 
-/// The ports that it has twice: each behind the first is compared with those in front of it.
+/// Adds what of a port is odd beside each of some others.
+fn push_twice(
+    found: &mut Vec<Finding>,
+    one: &UsedPort,
+    others: &[UsedPort],
+) -> Result<(), AllocError>
+    ensures { OnOk result (found.new.items ≡ found.old.items ++ twice_in one.now others.now) }
+{
+    match others.split_first() {
+        Some((other, behind)) => {
+            let meeting = meeting_of(one.address, other.address);
+            push_some(found, twice(one, other, meeting))?;
+            push_twice(found, one, behind)
+        }
+        None => Ok(()),
+    }
+}
+
+/// Adds what is odd about each two of these ports.
+fn push_ports(found: &mut Vec<Finding>, ports: &[UsedPort]) -> Result<(), AllocError>
+    ensures { OnOk result (found.new.items ≡ found.old.items ++ port_findings ports.now) }
+{
+    match ports.split_first() {
+        Some((one, others)) => {
+            push_twice(found, one, others)?;
+            push_ports(found, others)
+        }
+        None => Ok(()),
+    }
+}
+
+/// The ports that it has twice: each is compared with those behind it.
 ///
 /// # Errors
 ///
 /// Memory was wanted, and none was to be had.
-pub fn port_findings(alloc: Global, ports: &[UsedPort]) -> Result<Vec<Finding>, AllocError> {
+pub fn port_findings(alloc: Global, ports: &[UsedPort]) -> Result<Vec<Finding>, AllocError>
+    ensures { IfOk result (λ found. found.items ≡ port_findings ports.now) }
+{
     let mut found = Vec::new(alloc);
-    for (at, other) in ports.iter().enumerate() {
-        for one in ports.iter().take(at) {
-            push_some(
-                &mut found,
-                twice(one, other, meeting_of(one.address, other.address)),
-            )?;
-        }
-    }
+    push_ports(&mut found, ports)?;
     Ok(found)
 }

@@ -20,4 +20,4 @@ pub use misfit::Misfit;
 pub use outline::{Outline, Stream};
 pub use port::{Meeting, PortKey, UsedPort, meeting_of, shared, twice};
 pub use reading::read_outline;
-pub use together::{alike, misfits, port_misfits};
+pub use together::{alike, mark_misfits, misfits, port_misfits};

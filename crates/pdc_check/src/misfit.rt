@@ -17,6 +17,9 @@ pub enum Misfit {
     /// It publishes under the id of one of the other's sources.
     #[error("id: {0} is the id of a source in")]
     IdOfSource(u16),
+    /// The mark beside it is of another id: its own, and the mark's.
+    #[error("id: {0}, but {1} in")]
+    OtherOwner(u16, u16),
     /// They have other rates: this one's, and the other's.
     #[error("rate: {0}, but {1} in")]
     OtherRate(u16, u16),

@@ -1,6 +1,6 @@
 //! The ports at which a concentrator listens, and when two are one.
 ghost use Rattle.std.specs.Prelude.{◌≡◌};
-ghost use Rattle.pdc_check.specs.Ports.{is_alike, same_kind, shared, twice};
+ghost use Rattle.pdc_check.specs.Ports.{is_alike, is_any, is_one_address, meeting_of, same_kind, shared, twice};
 
 use crate::finding::Finding;
 use crate::misfit::Misfit;
@@ -54,13 +54,41 @@ pub enum Meeting {
     Same,
 }
 
+/// Whether it is each address of its machine, `0.0.0.0` or `::`.
+fn is_any(address: IpAddr) -> bool
+    ensures { result ≡ is_any address }
+{
+    match address {
+        IpAddr::V4(ip) => ip.octets().iter().all(|byte| *byte == 0),
+        IpAddr::V6(ip) => ip.octets().iter().all(|byte| *byte == 0),
+    }
+}
+
+/// Whether they have the same bytes.
+fn is_one_address(one: IpAddr, other: IpAddr) -> bool
+    ensures { result ≡ is_one_address one other }
+{
+    match (one, other) {
+        (IpAddr::V4(one), IpAddr::V4(other)) => one.octets() == other.octets(),
+        (IpAddr::V4(one), IpAddr::V6(other)) => {
+            one.octets().as_slice() == other.octets().as_slice()
+        }
+        (IpAddr::V6(one), IpAddr::V4(other)) => {
+            one.octets().as_slice() == other.octets().as_slice()
+        }
+        (IpAddr::V6(one), IpAddr::V6(other)) => one.octets() == other.octets(),
+    }
+}
+
 /// Whether two addresses are one. The loopback of one machine is that of the other only where both are one machine, and they are taken
 /// for one: whoever gives several files with it means to run them here.
-pub fn meeting_of(one: IpAddr, other: IpAddr) -> Meeting {
-    if one == other && !one.is_unspecified() {
-        Meeting::Same
-    } else if one.is_unspecified() || other.is_unspecified() {
+pub fn meeting_of(one: IpAddr, other: IpAddr) -> Meeting
+    ensures { result ≡ meeting_of one other }
+{
+    if is_any(one) || is_any(other) {
         Meeting::Perhaps
+    } else if is_one_address(one, other) {
+        Meeting::Same
     } else {
         Meeting::Apart
     }

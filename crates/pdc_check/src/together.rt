@@ -2,7 +2,8 @@
 ghost use Rattle.std.specs.Prelude.{◌≡◌, ◌++◌, ◌==◌, IfOk, OnOk, option_copied};
 ghost use Rattle.std.specs.List.{list_any};
 ghost use Rattle.std.specs.Option.{option_to_list};
-ghost use Rattle.pdc_check.specs.Together.{alike, are_among, by_kind, id_of_source, is_first, misfits, not_sent, not_served, of_merger, of_node, of_stream, other_rate, other_sources, other_time_base, preferred, same_id, short_wait, stream_of};
+ghost use Rattle.pdc_check.specs.Ports.{port_misfits, shared_in};
+ghost use Rattle.pdc_check.specs.Together.{alike, are_among, by_kind, id_of_source, is_first, misfits, not_sent, not_served, of_mark, of_merger, of_node, of_stream, other_mark_rate, other_owner, other_rate, other_sources, other_time_base, preferred, same_id, short_wait, stream_of};
 
 use crate::misfit::Misfit;
 use crate::outline::{Outline, Stream};
@@ -232,6 +233,80 @@ pub fn misfits(alloc: Global, one: &Outline, other: &Outline) -> Result<Vec<Misf
     Ok(found)
 }
 
+fn other_owner(settings: &Outline, id: u16) -> Option<Misfit>
+    ensures { result ≡ other_owner settings.now id }
+{
+    if settings.id == id {
+        None
+    } else {
+        Some(Misfit::OtherOwner(settings.id, id))
+    }
+}
+
+fn other_mark_rate(settings: &Outline, rate: u16) -> Option<Misfit>
+    ensures { result ≡ other_mark_rate settings.now rate }
+{
+    if settings.rate == rate {
+        None
+    } else {
+        Some(Misfit::OtherRate(settings.rate, rate))
+    }
+}
+
+/// What of settings does not fit a mark of this id and rate. The name of the mark's file is wanted behind it.
+///
+/// # Errors
+///
+/// Memory was wanted, and none was to be had.
+pub fn mark_misfits(
+    alloc: Global,
+    settings: &Outline,
+    id: u16,
+    rate: u16,
+) -> Result<Vec<Misfit>, AllocError>
+    ensures { IfOk result (λ found. found.items ≡ of_mark settings.now id rate) }
+{
+    let mut found = Vec::new(alloc);
+    push_some(&mut found, other_owner(settings, id))?;
+    push_some(&mut found, other_mark_rate(settings, rate))?;
+    Ok(found)
+}
+
+/// Adds what of a port does not fit each of the other's.
+fn push_shared(
+    found: &mut Vec<Misfit>,
+    one: &UsedPort,
+    others: &[UsedPort],
+) -> Result<(), AllocError>
+    ensures { OnOk result (found.new.items ≡ found.old.items ++ shared_in one.now others.now) }
+{
+    match others.split_first() {
+        Some((other, behind)) => {
+            let meeting = meeting_of(one.address, other.address);
+            push_some(found, shared(one, other, meeting))?;
+            push_shared(found, one, behind)
+        }
+        None => Ok(()),
+    }
+}
+
+/// Adds what of each port does not fit each of the other's.
+fn push_ports(
+    found: &mut Vec<Misfit>,
+    ones: &[UsedPort],
+    others: &[UsedPort],
+) -> Result<(), AllocError>
+    ensures { OnOk result (found.new.items ≡ found.old.items ++ port_misfits ones.now others.now) }
+{
+    match ones.split_first() {
+        Some((one, behind)) => {
+            push_shared(found, one, others)?;
+            push_ports(found, behind, others)
+        }
+        None => Ok(()),
+    }
+}
+
 /// The ports that two concentrators both want.
 ///
 /// # Errors
@@ -241,15 +316,10 @@ pub fn port_misfits(
     alloc: Global,
     ones: &[UsedPort],
     others: &[UsedPort],
-) -> Result<Vec<Misfit>, AllocError> {
+) -> Result<Vec<Misfit>, AllocError>
+    ensures { IfOk result (λ found. found.items ≡ port_misfits ones.now others.now) }
+{
     let mut found = Vec::new(alloc);
-    for one in ones {
-        for other in others {
-            push_some(
-                &mut found,
-                shared(one, other, meeting_of(one.address, other.address)),
-            )?;
-        }
-    }
+    push_ports(&mut found, ones, others)?;
     Ok(found)
 }

@@ -1,8 +1,10 @@
 //! Checking the files.
 
 use crate::printing::{Totals, tell, tell_of_two};
+use pdc_any_mark::read_mark_file;
 use pdc_check::{
-    Level, Misfit, Outline, alike, findings, misfits, port_findings, port_misfits, read_outline,
+    Level, Misfit, Outline, alike, findings, mark_misfits, misfits, port_findings, port_misfits,
+    read_outline,
 };
 use pdc_settings::{SettingsFault, unknown_keys};
 use std::alloc::Global;
@@ -107,6 +109,25 @@ fn tell_pair(
     tell_all(rt, totals, other, one, &found)
 }
 
+/// Tells what of settings does not fit the mark in a file.
+fn tell_mark<R: Files<File = File> + Print + AllocGlobal>(
+    rt: &R,
+    totals: &mut Totals,
+    checked: &Checked<'_>,
+    mark: &str,
+) -> io::Result<()> {
+    match read_mark_file(rt, mark) {
+        Ok(found) => {
+            let found = mark_misfits(rt.alloc(), &checked.outline, found.id, found.rate)?;
+            for misfit in &found {
+                tell_of_two(rt, totals, misfit.level(), checked.file, misfit, mark)?;
+            }
+            Ok(())
+        }
+        Err(fault) => tell(rt, totals, Level::Error, mark, &fault.reason()),
+    }
+}
+
 /// Tells what is wrong in a text by itself, and returns its outline where it is settings.
 fn check_text(
     rt: &(impl Print + AllocGlobal),
@@ -164,17 +185,18 @@ fn end(rt: &impl Print, count: usize, totals: Totals) -> io::Result<u8> {
     Ok(if errors == 0 { DONE } else { REFUSED })
 }
 
-/// Checks the files, each by itself and then each with each other.
+/// Checks the files, each by itself and with its mark, where one is given, and then each with each other.
 pub fn run_check<R: Files<File = File> + Print + Eprint + AllocGlobal>(
     rt: &R,
     files: &[&str],
+    marks: &[&str],
 ) -> io::Result<u8> {
     let mut totals = Totals {
         errors: 0,
         warnings: 0,
     };
     let mut checked = Vec::new(rt.alloc());
-    for file in files {
+    for (at, file) in files.iter().enumerate() {
         let bytes = match fs::read(rt, *file) {
             Ok(bytes) => bytes,
             Err(error) => {
@@ -184,7 +206,11 @@ pub fn run_check<R: Files<File = File> + Print + Eprint + AllocGlobal>(
             }
         };
         if let Some(outline) = check_bytes(rt, &mut totals, file, bytes)? {
-            checked.push(Checked { file, outline })?;
+            let settings = Checked { file, outline };
+            if let Some(mark) = marks.get(at) {
+                tell_mark(rt, &mut totals, &settings, mark)?;
+            }
+            checked.push(settings)?;
         }
     }
     check_pairs(rt, &mut totals, &checked)?;

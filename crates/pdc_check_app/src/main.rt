@@ -13,7 +13,7 @@ use words::words_of;
 /// Does what the words ask for, and answers the exit status.
 fn run(rt: &HostRuntime, words: &[String]) -> io::Result<u8> {
     match words_of(rt.alloc(), words) {
-        Ok(asked) => run_check(rt, &asked.files),
+        Ok(asked) => run_check(rt, &asked.files, &asked.marks),
         Err(error) => {
             error.print(rt)?;
             Ok(error.exit_code() as u8)

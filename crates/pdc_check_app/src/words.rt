@@ -1,6 +1,8 @@
 //! The words of the command line.
 
+use clap::error::ErrorKind;
 use clap::{Arg, ArgAction, Command, Error};
+use pdc_version::VERSION;
 use std::alloc::{AllocError, Global};
 
 const ABOUT: &str = "Check settings files, each by itself and against the others";
@@ -23,17 +25,24 @@ TIME_BASE and at the port that the node sends to, or by TCP at the node's sessio
 PMUs' sources are among the merger's, in the same order; whether the merger waits as long as the
 node; and which node's data the merger prefers.
 
+With --mark it also reads a mark file and checks that it belongs to the id and the rate of its
+settings: `pdc node` would refuse another one. The first --mark is that of the first FILE, and so
+on. A mark that is in use cannot be read: stop the node first.
+
 The exit status is 0 if there is no error, 1 if there is one, and 3 if a file cannot be read.
 
 Examples:
   pdc check /etc/pdc/a.toml
-  pdc check a.toml b.toml m.toml";
+  pdc check a.toml b.toml m.toml
+  pdc check a.toml --mark a.mark";
 
 /// What is asked for.
 #[derive(Drop)]
 pub struct Asked<'a> {
     /// The settings files.
     pub files: Vec<&'a str>,
+    /// The mark files of the first of them, in their order.
+    pub marks: Vec<&'a str>,
 }
 
 /// The command.
@@ -43,11 +52,19 @@ fn check<'a>(alloc: Global) -> Result<Command<'a>, AllocError> {
         .num_args(1..)
         .action(ArgAction::Append)
         .help("Settings files of nodes and of the merger");
+    let mark = Arg::new(alloc, "mark")
+        .long("mark")
+        .value_name("MARK")
+        .action(ArgAction::Append)
+        .help("The mark file of the first FILE; given again, of the second one, and so on");
     Command::new(alloc, "check")
         .bin_name("pdc check")?
+        .display_name("pdc check")?
         .about(ABOUT)
         .long_about(LONG)
-        .arg(files)
+        .version(VERSION)
+        .arg(files)?
+        .arg(mark)
 }
 
 /// The program with its command.
@@ -61,6 +78,15 @@ fn pdc<'a>(alloc: Global) -> Result<Command<'a>, AllocError> {
         .subcommand(check(alloc)?)
 }
 
+/// There are no more marks than files.
+fn few_marks(alloc: Global, asked: Asked<'_>) -> Result<Asked<'_>, Error> {
+    if asked.marks.len() > asked.files.len() {
+        let message = "there are more marks than settings files: give each --mark for one FILE";
+        return Err(check(alloc)?.error(ErrorKind::ValueValidation, message)?);
+    }
+    Ok(asked)
+}
+
 /// What these words ask for.
 ///
 /// # Errors
@@ -68,9 +94,10 @@ fn pdc<'a>(alloc: Global) -> Result<Command<'a>, AllocError> {
 /// What `clap` reports: the help that was asked for, or what is wrong.
 pub fn words_of<'a>(alloc: Global, words: &'a [String]) -> Result<Asked<'a>, Error> {
     let matches = pdc(alloc)?.try_get_matches_from(words)?;
-    let mut files = Vec::new(alloc);
+    let (mut files, mut marks) = (Vec::new(alloc), Vec::new(alloc));
     if let Some((_, inner)) = matches.subcommand() {
         files.extend_from_slice(inner.get_strs("FILE").unwrap_or(&[]))?;
+        marks.extend_from_slice(inner.get_strs("mark").unwrap_or(&[]))?;
     }
-    Ok(Asked { files })
+    few_marks(alloc, Asked { files, marks })
 }
