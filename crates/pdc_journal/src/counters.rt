@@ -2,7 +2,8 @@
 
 use crate::left_out::MergedSource;
 use crate::output_tally::OutputTally;
-use crate::tally::{Of, Tally};
+use crate::tally::Tally;
+use pdc_complaints::Of;
 use pdc_ports::{Counts, Refusal, Told};
 use std::alloc::{AllocError, Global};
 
