@@ -65,6 +65,15 @@ pub fn left_out_line(alloc: Global, merged: &MergedSource) -> Result<String, All
     )
 }
 
+/// The line of a PMU of which the merger's frames have no data: `PMU 12: missing, no data of it from either node`.
+///
+/// # Errors
+///
+/// [`AllocError`] where there is no memory for it.
+pub fn missing_line(alloc: Global, source: u16) -> Result<String, AllocError> {
+    format!(in alloc; "PMU {source}: missing, no data of it from either node")
+}
+
 /// The line of a destination to which frames could not be sent, with the system's reason for the last one:
 /// `output 10.0.1.5:4741: unsent=N, Network is unreachable (os error 101)`.
 ///
