@@ -1,43 +1,12 @@
--- What is told of a sender whose frames are refused for what it is or says, and when (this profile).
-use Rattle.std.specs.Prelude.{ℕ, List, Option, None, Some, Bool, codes, if◌then◌else◌}
-use Rattle.pdc_life.specs.declared.outcome.Refusal.{Refusal}
-use Rattle.pdc_life.specs.declared.outcome.Refusal.TheVariants.{NoFrame, WrongId, NoConfiguration, WrongTimeBase, WrongRate, WrongSource, BadOwnBlock, UnknownSource, OldStamp, StaleCount, CountConflict, BadTag, NoConfig, WrongLength, OtherStamp, Late, Ahead, OutOfWindow, Duplicate, Conflict}
-use Rattle.pdc_cfg.specs.declared.fault.CfgFault.{CfgFault}
-use Rattle.pdc_cfg.specs.declared.fault.CfgFault.TheVariants.{WrongKind, Cut, TooMany, FloatFormat}
+-- When something is told of a sender whose frames are refused (this profile).
+use Rattle.std.specs.Prelude.{ℕ, List, Option, None, Some, Bool, replicate, slice_index_or, slice_set, if◌then◌else◌}
+use Rattle.pdc_complaints.specs.pdc_life.Causes.{number_of}
+use Rattle.pdc_complaints.specs.pdc_life.declared.outcome.Refusal.{Refusal}
+use Rattle.pdc_complaints.specs.pdc_life.declared.outcome.TheConstants.{CAUSES}
 use Rattle.pdc_journal.specs.Moment.{is_long_ago}
 use Rattle.pdc_journal.specs.declared.complaint.Complaints.{Complaints}
+use Rattle.pdc_journal.specs.declared.complaint.CauseComplaints.{CauseComplaints}
 use Rattle.pdc_journal.specs.declared.moment.Moment.{Moment}
-
--- what there is to tell of a configuration that is none: of one with values in floating point alone
-abbrev pub of_config : CfgFault → Option (List ℕ)
-of_config FloatFormat = Some (codes "its configuration has values in floating point, which are not supported")
-of_config WrongKind = None
-of_config Cut = None
-of_config TooMany = None
-
--- What there is to tell of a refusal: of what only somebody can mend who sets up the sender, or this concentrator. Late data, a second copy
--- and the like come and go, and nothing is told of each.
-abbrev pub complaint_of : Refusal → Option (List ℕ)
-complaint_of WrongId = Some (codes "frames of another stream arrive at its port")
-complaint_of WrongTimeBase = Some (codes "its configuration has a different TIME_BASE than the settings")
-complaint_of WrongRate = Some (codes "its configuration has a different data rate than the settings; it is ignored, and data goes on")
-complaint_of WrongSource = Some (codes "its configuration has a different IDCODE than the settings")
-complaint_of (NoConfiguration fault) = of_config fault
-complaint_of StaleCount = Some (codes "its configuration has a lower count than an earlier one: raise the count at the sender")
-complaint_of CountConflict = Some (codes "it sends a different configuration under the same count; its data is read with the one in force: raise the count at the sender")
-complaint_of BadOwnBlock = Some (codes "its layout does not match these settings: compare its settings with these")
-complaint_of UnknownSource = Some (codes "its layout does not match these settings: compare its settings with these")
-complaint_of (NoFrame _) = None
-complaint_of OldStamp = None
-complaint_of BadTag = None
-complaint_of NoConfig = None
-complaint_of WrongLength = None
-complaint_of OtherStamp = None
-complaint_of Late = None
-complaint_of Ahead = None
-complaint_of OutOfWindow = None
-complaint_of Duplicate = None
-complaint_of Conflict = None
 
 -- when something was told of a sender last, if ever
 abbrev pub last_of : Complaints → Option Moment
@@ -50,3 +19,20 @@ is_due now complaints = is_long_ago 60 complaints.last now
 -- then it is what was told last
 abbrev pub looked_at : (now : Moment) → Complaints → Complaints
 looked_at now complaints = record { last = if is_due now complaints then Some now else complaints.last }
+
+-- no cause was told yet
+abbrev pub none_told : CauseComplaints
+none_told = record { last = replicate CAUSES None }
+
+-- when a cause was told last, if ever
+abbrev pub last_told : Refusal → CauseComplaints → Option Moment
+last_told cause complaints = slice_index_or complaints.last (number_of cause) None
+
+-- it is told now: it was not within the minute before
+abbrev pub is_due_of : Refusal → (now : Moment) → CauseComplaints → Bool
+is_due_of cause now complaints = is_long_ago 60 (last_told cause complaints) now
+
+-- then it is the one that was told now, and each other one stays as it is
+abbrev pub looked_at_of : Refusal → (now : Moment) → CauseComplaints → CauseComplaints
+looked_at_of cause now complaints =
+    if is_due_of cause now complaints then record { last = slice_set complaints.last (number_of cause) (Some now) } else complaints

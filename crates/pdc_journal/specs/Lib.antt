@@ -4,3 +4,4 @@ pub mod Head
 pub mod Histogram
 pub mod Moment
 pub mod Spell
+pub mod Presence

@@ -101,6 +101,9 @@ fn announce<R: Wait + Clock>(
     if let (Kind::DataFrame, Some(measured)) = (frame.kind, followers.measured) {
         measured.publish(rt, &frame);
     }
+    if let Some(left_out) = followers.left_out {
+        left_out.missing.see(rt, alloc, journal, &frame);
+    }
     if frame.kind != Kind::Cfg2 {
         return;
     }

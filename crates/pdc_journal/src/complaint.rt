@@ -1,46 +1,12 @@
-//! What is reported of a sender whose frames are refused for what it is or says.
-ghost use Rattle.std.specs.Prelude.{◌≡◌, MatchOption, None, Some};
-ghost use Rattle.pdc_journal.specs.Complaint.{complaint_of, is_due, last_of, looked_at};
+//! When something was reported of a sender.
+ghost use Rattle.std.specs.Prelude.{◌≡◌, None};
+ghost use Rattle.pdc_journal.specs.Complaint.{is_due, is_due_of, last_of, looked_at, looked_at_of, none_told};
 
 use crate::moment::Moment;
-use pdc_cfg::CfgFault;
-use pdc_ports::Refusal;
+use pdc_complaints::{CAUSES, Refusal};
 
 /// How long nothing more is told of the same sender, in seconds.
 const PAUSE: u64 = 60;
-
-/// What there is to tell of a refusal, and to do; nothing of those that come and go.
-pub fn complaint_of(cause: Refusal) -> Option<&'static str>
-    ensures { MatchOption result (complaint_of cause ≡ None) (λ text. complaint_of cause ≡ Some text.now) }
-{
-    match cause {
-        Refusal::WrongId => Some("frames of another stream arrive at its port"),
-        Refusal::WrongTimeBase => Some(
-            "its configuration has a different TIME_BASE than the settings",
-        ),
-        Refusal::WrongRate => {
-            Some(
-                "its configuration has a different data rate than the settings; it is ignored, and data goes on",
-            )
-        }
-        Refusal::WrongSource => Some("its configuration has a different IDCODE than the settings"),
-        Refusal::NoConfiguration(CfgFault::FloatFormat) => Some(
-            "its configuration has values in floating point, which are not supported",
-        ),
-        Refusal::StaleCount => Some(
-            "its configuration has a lower count than an earlier one: raise the count at the sender",
-        ),
-        Refusal::CountConflict => {
-            Some(
-                "it sends a different configuration under the same count; its data is read with the one in force: raise the count at the sender",
-            )
-        }
-        Refusal::BadOwnBlock | Refusal::UnknownSource => {
-            Some("its layout does not match these settings: compare its settings with these")
-        }
-        _ => None,
-    }
-}
 
 /// When something was told of a sender: once a minute at most.
 #[derive(Drop)]
@@ -64,6 +30,36 @@ impl Complaints {
         let is_due = Moment::is_long_ago(self.last, PAUSE, now);
         if is_due {
             self.last = Some(now);
+        }
+        is_due
+    }
+}
+
+/// When each cause of refusal was told of a sender: each once a minute at most.
+#[derive(Drop)]
+pub struct CauseComplaints {
+    last: [Option<Moment>; CAUSES],
+}
+
+impl CauseComplaints {
+    /// None was told yet.
+    pub fn new() -> CauseComplaints
+        ensures { result ≡ none_told }
+    {
+        CauseComplaints {
+            last: [None; CAUSES],
+        }
+    }
+
+    /// Whether this cause is told now: it was not for a minute. It counts as told then, and each other one stays as it is.
+    pub fn is_due(&mut self, cause: Refusal, now: Moment) -> bool
+        ensures due { result ≡ is_due_of cause now self.old }
+        ensures after { self.new ≡ looked_at_of cause now self.old }
+    {
+        let number = cause.number();
+        let is_due = Moment::is_long_ago(self.last[number], PAUSE, now);
+        if is_due {
+            self.last[number] = Some(now);
         }
         is_due
     }

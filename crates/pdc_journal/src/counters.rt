@@ -2,7 +2,8 @@
 
 use crate::left_out::MergedSource;
 use crate::output_tally::OutputTally;
-use crate::tally::{Of, Tally};
+use crate::tally::Tally;
+use pdc_complaints::Of;
 use pdc_ports::{Counts, Refusal, Told};
 use std::alloc::{AllocError, Global};
 
@@ -62,6 +63,15 @@ pub fn left_out_line(alloc: Global, merged: &MergedSource) -> Result<String, All
     format!(in alloc;
         "PMU {source}: left_out={left_out}, blocks under a count that was not in force"
     )
+}
+
+/// The line of a PMU of which the merger's frames have no data: `PMU 12: missing, no data of it from either node`.
+///
+/// # Errors
+///
+/// [`AllocError`] where there is no memory for it.
+pub fn missing_line(alloc: Global, source: u16) -> Result<String, AllocError> {
+    format!(in alloc; "PMU {source}: missing, no data of it from either node")
 }
 
 /// The line of a destination to which frames could not be sent, with the system's reason for the last one:

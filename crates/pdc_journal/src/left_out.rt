@@ -1,5 +1,6 @@
 //! Blocks that the merger leaves out.
 
+use crate::missing::Missing;
 use arrayvec::ArrayVec;
 use pdc_block::{cut, is_absent};
 use pdc_cfg::{ConfigView, MAX_SECTIONS, Shape, read_config};
@@ -23,10 +24,12 @@ pub struct MergedSource {
 }
 
 /// How many blocks the merger left out of each source, since they came under a count that is not in force with it. It is told of the merger's
-/// layouts, and of what its nodes send.
+/// layouts, and of what its nodes send. Beside it stands of which sources no data comes.
 #[derive(Drop)]
 pub struct LeftOut {
     sources: Mutex<[MergedSource; MAX_SOURCES]>,
+    /// The sources of which its frames have no data.
+    pub missing: Missing,
 }
 
 impl LeftOut {
@@ -43,11 +46,13 @@ impl LeftOut {
         }
         LeftOut {
             sources: Mutex::new(merged),
+            missing: Missing::new(sources),
         }
     }
 
     /// The merger adopted this layout.
     pub fn adopt<R: Wait>(&self, rt: &R, config: &ConfigView) {
+        self.missing.adopt(rt, config);
         let mut sources = self.sources.lock(rt);
         for section in config.sections.iter().skip(1) {
             for merged in sources.iter_mut() {

@@ -1,20 +1,21 @@
 //! A source that is watched.
 ghost use Rattle.std.specs.Prelude.{◌≡◌, ◌≤◌, ◌<◌, ℕ, length};
 
-use crate::complaint::{Complaints, complaint_of};
+use crate::hearing::Hearing;
 use crate::journal::Journal;
 use crate::moment::Moment;
 use crate::spell::{LONG, Spell};
 use crate::tally::Tally;
 use crate::watchers::Watchers;
+use pdc_complaints::{again_text, ended_text, silence_text, taken_text, unread_text};
 use pdc_ports::{Next, Numbered, Outcome, Refusal, Source};
-use std::alloc::{AllocError, Global};
+use std::alloc::Global;
 use std::rt::Clock;
 use std::sync::Wait;
 
 /// Gives what the inner source gives. It counts the answers, and tells when nothing came for five seconds, and when something is taken again;
 /// when data has come for five seconds and no configuration is in force, and when it is taken then; when its frames are refused for what they
-/// say of their sender, once a minute; and when the stream is read no more, and why.
+/// say of their sender, each cause once a minute; and when the stream is read no more, and why.
 #[derive(Drop)]
 pub struct ObservedSource<'a, S: Source + Drop, R: Wait + Clock> {
     rt: &'a R,
@@ -25,17 +26,18 @@ pub struct ObservedSource<'a, S: Source + Drop, R: Wait + Clock> {
     silence: Spell,
     /// Since when data was refused for want of a configuration.
     unread: Option<Spell>,
-    complaints: Complaints,
+    hearing: Hearing,
     watchers: Watchers<'a>,
 }
 
 impl<'a, S: Source + Drop, R: Wait + Clock> ObservedSource<'a, S, R> {
-    /// Watches a source, whose silence begins now, with what looks at its datagrams.
+    /// Watches a source, whose silence begins now, with what is heard of its sender and what looks at its datagrams.
     pub fn new(
         rt: &'a R,
         alloc: Global,
         journal: &'a Journal,
         tally: &'a Tally,
+        hearing: Hearing,
         watchers: Watchers<'a>,
         inner: S,
     ) -> ObservedSource<'a, S, R> {
@@ -47,67 +49,8 @@ impl<'a, S: Source + Drop, R: Wait + Clock> ObservedSource<'a, S, R> {
             inner,
             silence: Spell::begun(Moment::now(rt)),
             unread: None,
-            complaints: Complaints::new(),
+            hearing,
             watchers,
-        }
-    }
-}
-
-/// The line about a silence.
-fn silence_text(alloc: Global, tally: &Tally) -> Result<String, AllocError> {
-    let of = tally.of;
-    format!(in alloc; "no datagram from {of} for {LONG} seconds")
-}
-
-/// The line about its end.
-fn again_text(alloc: Global, tally: &Tally) -> Result<String, AllocError> {
-    let of = tally.of;
-    format!(in alloc; "{of} sends again")
-}
-
-/// The line about data without a configuration.
-fn unread_text(alloc: Global, tally: &Tally) -> Result<String, AllocError> {
-    let of = tally.of;
-    format!(in alloc;
-        "data from {of} for {LONG} seconds without a configuration: it is refused until a CFG-2 frame arrives"
-    )
-}
-
-/// The line once that data is accepted.
-fn taken_text(alloc: Global, tally: &Tally) -> Result<String, AllocError> {
-    let of = tally.of;
-    format!(in alloc; "data from {of} is accepted")
-}
-
-/// The line about a stream that is no longer read.
-fn ended_text(alloc: Global, tally: &Tally, why: &str) -> Result<String, AllocError> {
-    let of = tally.of;
-    format!(in alloc; "{of} is no longer read: {why}")
-}
-
-/// The line about a refusal that says something about the sender.
-fn complaint_text(
-    alloc: Global,
-    tally: &Tally,
-    cause: Refusal,
-    what: &str,
-) -> Result<String, AllocError> {
-    let (of, cause) = (tally.of, cause.text());
-    format!(in alloc; "{of}: {cause}: {what}")
-}
-
-/// A datagram was refused.
-fn complain<R: Wait + Clock>(
-    rt: &R,
-    alloc: Global,
-    journal: &Journal,
-    tally: &Tally,
-    complaints: &mut Complaints,
-    cause: Refusal,
-) {
-    if let Some(what) = complaint_of(cause) {
-        if complaints.is_due(Moment::now(rt)) {
-            journal.tell(rt, complaint_text(alloc, tally, cause, what));
         }
     }
 }
@@ -120,7 +63,7 @@ fn hear<R: Wait + Clock>(
     tally: &Tally,
     silence: &mut Spell,
 ) {
-    journal.note(rt, again_text(alloc, tally));
+    journal.note(rt, again_text(alloc, tally.of));
     *silence = Spell::begun(Moment::now(rt));
 }
 
@@ -135,7 +78,7 @@ fn miss<R: Wait + Clock>(
     match unread {
         Some(spell) => {
             if spell.is_due(Moment::now(rt)) {
-                journal.tell(rt, unread_text(alloc, tally));
+                journal.tell(rt, unread_text(alloc, tally.of, LONG));
             }
         }
         None => *unread = Some(Spell::begun(Moment::now(rt))),
@@ -152,7 +95,7 @@ fn take<R: Wait + Clock>(
 ) {
     if let Some(spell) = unread {
         if spell.is_told() {
-            journal.note(rt, taken_text(alloc, tally));
+            journal.note(rt, taken_text(alloc, tally.of));
         }
         *unread = None;
     }
@@ -173,15 +116,16 @@ impl<'a, S: Source + Drop, R: Wait + Clock> Source for ObservedSource<'a, S, R> 
                 if !self.silence.is_told() {
                     self.silence = Spell::begun(Moment::now(rt));
                 }
+                self.hearing.see(&buffer[..len]);
                 self.watchers.see(&buffer[..len]);
             }
             Next::Idle => {
                 if self.silence.is_due(Moment::now(rt)) {
-                    journal.tell(rt, silence_text(alloc, tally));
+                    journal.tell(rt, silence_text(alloc, tally.of, LONG));
                 }
             }
-            Next::Fault => journal.tell(rt, ended_text(alloc, tally, "its port failed")),
-            Next::Stuck => journal.tell(rt, ended_text(alloc, tally, "it gave up")),
+            Next::Fault => journal.tell(rt, ended_text(alloc, tally.of, "its port failed")),
+            Next::Stuck => journal.tell(rt, ended_text(alloc, tally.of, "it gave up")),
             Next::End => {}
         }
         next
@@ -201,13 +145,14 @@ impl<'a, S: Source + Drop, R: Wait + Clock> Source for ObservedSource<'a, S, R> 
                 rt,
                 ended_text(
                     alloc,
-                    tally,
+                    tally.of,
                     "memory ran out, or a counter reached its greatest value",
                 ),
             );
             return;
         };
         tally.count(rt, outcome);
+        self.hearing.answered(rt, alloc, journal, tally.of, outcome);
         self.watchers.answered(rt, outcome);
         if self.silence.is_told() && !matches!(outcome, Outcome::Refused(_)) {
             hear(rt, alloc, journal, tally, &mut self.silence);
@@ -215,9 +160,6 @@ impl<'a, S: Source + Drop, R: Wait + Clock> Source for ObservedSource<'a, S, R> 
         match outcome {
             Outcome::Refused(Refusal::NoConfig) => {
                 miss(rt, alloc, journal, tally, &mut self.unread);
-            }
-            Outcome::Refused(cause) => {
-                complain(rt, alloc, journal, tally, &mut self.complaints, cause);
             }
             Outcome::Taken => take(rt, alloc, journal, tally, &mut self.unread),
             _ => {}

@@ -1,7 +1,7 @@
 //! A ticker that tells counters.
 
 use crate::counters::{
-    counters_line, left_out_line, lost_line, output_line, strangers_line, tally_line,
+    counters_line, left_out_line, lost_line, missing_line, output_line, strangers_line, tally_line,
 };
 use crate::journal::Journal;
 use crate::left_out::LeftOut;
@@ -29,7 +29,7 @@ pub struct RunCounters<'a> {
 
 /// Ticks as another ticker does. Each time that so many seconds have gone by, if any are asked for, it tells a line of counters, and one
 /// more for each stream of which anything was refused, to whose port strangers sent, or whose connections were lost, for each destination
-/// that frames could not be sent to, and for each PMU of which the merger left out blocks. Where the clock cannot be read there is no
+/// that frames could not be sent to, and for each PMU that the merger has no data of, or left out blocks of. Where the clock cannot be read there is no
 /// line.
 #[derive(Drop)]
 pub struct Reporting<'a, T: Ticker + Drop, R: Clock + Wait> {
@@ -105,6 +105,9 @@ impl<'a, T: Ticker + Drop, R: Clock + Wait> Ticker for Reporting<'a, T, R> {
             }
         }
         if let Some(left_out) = self.counters.left_out {
+            for source in left_out.missing.pmus(self.rt) {
+                self.journal.tell(self.rt, missing_line(self.alloc, source));
+            }
             for merged in left_out.sources(self.rt) {
                 if merged.left_out > 0 {
                     self.journal

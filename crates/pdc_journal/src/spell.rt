@@ -8,7 +8,7 @@ use crate::moment::Moment;
 pub const LONG: u64 = 5;
 
 /// Something that lasts, as a silence, and is told once when it has for five seconds.
-#[derive(Drop)]
+#[derive(Clone, Copy, Debug)]
 pub struct Spell {
     since: Moment,
     is_told: bool,

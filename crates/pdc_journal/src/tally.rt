@@ -1,27 +1,9 @@
 //! How the datagrams of one stream were answered.
 
+use pdc_complaints::Of;
 use pdc_ports::{Counts, Outcome};
-use std::fmt;
 use std::sync::atomic::{AtomicU64, Ordering};
 use std::sync::{Mutex, Wait};
-
-/// Whose stream it is.
-#[derive(Clone, Copy, Debug, PartialEq, Eq)]
-pub enum Of {
-    /// Of the PMU with this stream id.
-    Pmu(u16),
-    /// Of the node with this id.
-    Node(u16),
-}
-
-impl fmt::Display for Of {
-    fn fmt<W: fmt::Write>(&self, f: &mut fmt::Formatter<W>) -> fmt::Result {
-        match self {
-            Of::Pmu(id) => write!(f, "PMU {id}"),
-            Of::Node(id) => write!(f, "node {id}"),
-        }
-    }
-}
 
 /// How the datagrams of one stream were answered and how they came, which one thread counts and another reads.
 #[derive(Drop)]

@@ -7,7 +7,7 @@ use crate::loss::Loss;
 use pdc_frame::{Command, Framer, Step, StreamId};
 use pdc_journal::{Journal, Moment, Tally};
 use pdc_ports::{Next, Outcome};
-use pdc_session::{Counting, Unread, tell};
+use pdc_session::{Counting, Unread, end_if_gone, tell};
 use std::alloc::{AllocError, Global};
 use std::io::ErrorKind;
 use std::net::{Net, SocketAddr, TcpListener, TcpStream};
@@ -73,6 +73,7 @@ fn loss_text(
 
 /// Sets the limits of a connection; what is written to it goes out at once.
 fn set_up(stream: &TcpStream) -> io::Result<()> {
+    end_if_gone(stream);
     stream.set_read_timeout(Some(Duration::from_millis(TURN)))?;
     stream.set_write_timeout(Some(Duration::from_millis(WRITE_LIMIT)))?;
     stream.set_nodelay(true)

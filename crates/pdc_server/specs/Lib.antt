@@ -7,3 +7,4 @@ pub mod Laws
 pub mod Places
 pub mod Stamps
 pub mod Stream
+pub mod Silence

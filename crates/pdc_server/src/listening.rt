@@ -2,10 +2,14 @@
 use crate::consumer::Consumer;
 use crate::line::Line;
 use crate::naming::Naming;
+use crate::porter::{Leaving, Porter};
 use crate::recent::Recent;
+use crate::seats::Seats;
+use pdc_session::end_if_gone;
 use std::alloc::Global;
 use std::io::{Read, Write};
-use std::net::{OpenListener, OpenStream};
+use std::net::{OpenListener, OpenStream, SocketAddr};
+use std::os::fd::AsRawFd;
 use std::rt::Clock;
 use std::sync::Wait;
 use std::sync::atomic::{AtomicU64, Ordering};
@@ -29,7 +33,8 @@ const WRITE_LIMIT: u64 = 1000;
 const SILENCE: u64 = 60;
 
 /// Sets the limits of a connection; what is written to it goes out at once.
-fn set_up<S: OpenStream>(stream: &S) -> io::Result<()> {
+fn set_up<S: OpenStream + AsRawFd>(stream: &S) -> io::Result<()> {
+    end_if_gone(stream);
     stream.set_read_timeout(Some(Duration::from_millis(QUIET)))?;
     stream.set_write_timeout(Some(Duration::from_millis(WRITE_LIMIT)))?;
     stream.set_nodelay(true)
@@ -75,63 +80,152 @@ fn wait_for_more<N: Naming, S, R: Wait + Clock>(
     }
 }
 
-/// Serves one consumer to the end of its session, or until it has been silent for a minute while data is off: so that who says nothing keeps
-/// others out for no longer.
-fn serve_one<N: Naming, S: Read + Write + OpenStream + Drop, R: Wait + Clock>(
+/// Who is served, and who hears of it.
+#[derive(Drop)]
+pub struct Reception<'a, P: Porter> {
+    /// How many are served.
+    pub present: &'a AtomicU64,
+    /// Their places.
+    pub seats: &'a Seats,
+    /// Who hears of those that are disconnected.
+    pub porter: &'a P,
+}
+
+/// How a session ended.
+#[derive(Drop)]
+enum Left<S> {
+    /// By the consumer, by a fault, or with the run.
+    Itself,
+    /// The consumer was disconnected.
+    By(Leaving),
+    /// It gave way to the one who came from this address.
+    For(S, SocketAddr),
+}
+
+/// How a session ended whose turn failed.
+fn left_of<S: Drop>(line: &Line<S>) -> Left<S> {
+    if line.has_stalled() {
+        Left::By(Leaving::Stalled)
+    } else {
+        Left::Itself
+    }
+}
+
+/// Whether the consumer sent or got something in its turn, before which it had got data up to this instant.
+fn is_active(consumer: &Consumer, got: u64) -> bool {
+    consumer.was_heard() || consumer.got() != got
+}
+
+/// Serves one consumer at a place to the end of its session, or until it has been silent for a minute while data is off, or gives way to
+/// another: so that who says nothing keeps others out for no longer.
+fn serve_one<N: Naming, L: OpenListener, P: Porter, R: Wait + Clock>(
     rt: &R,
     alloc: Global,
     recent: &Recent<N>,
-    stream: S,
-) {
+    listener: &L,
+    reception: &Reception<'_, P>,
+    stream: L::Stream,
+    number: usize,
+) -> Left<L::Stream>
+where
+    L::Stream: Read + Write + OpenStream + AsRawFd + Drop,
+{
     if set_up(&stream).is_err() {
-        return;
+        return Left::Itself;
     }
     let mut line = Line::new(stream);
     let Ok(mut consumer) = Consumer::new(alloc, recent.id()) else {
-        return;
+        return Left::Itself;
     };
     let mut since = Instant::now(rt).ok();
     for _ in rt.forever() {
         wait_for_more(rt, recent, &consumer, &mut line);
-        if recent.closed(rt)
-            || consumer
-                .turn(rt, recent, second_now(rt), &mut line)
-                .is_err()
+        if recent.closed(rt) {
+            return Left::Itself;
+        }
+        let got = consumer.got();
+        if consumer
+            .turn(rt, recent, second_now(rt), &mut line)
+            .is_err()
         {
-            return;
+            return left_of(&line);
         }
         if !consumer.is_silent() {
             since = Instant::now(rt).ok();
         } else if is_over(rt, since) {
-            return;
+            return Left::By(Leaving::Silent);
+        }
+        if is_active(&consumer, got) {
+            reception.seats.hear(rt, number);
+        } else if reception.seats.gives_way(rt, number) {
+            if let Ok((stream, from)) = listener.accept() {
+                return Left::For(stream, from);
+            }
         }
     }
     unreachable!()
 }
 
-/// Serves the consumers of the stream that is kept, as they connect, one after the other, until no more is to come, and counts in `present`
-/// who is served. The listener's `accept` is one that does not wait.
-pub fn serve<N: Naming, L: OpenListener, R: Wait + Clock>(
+/// Serves one consumer at a free place. Answers the one that it gave way to, if it did.
+fn receive<N: Naming, L: OpenListener, P: Porter, R: Wait + Clock>(
     rt: &R,
     alloc: Global,
     recent: &Recent<N>,
     listener: &L,
-    present: &AtomicU64,
+    reception: &Reception<'_, P>,
+    stream: L::Stream,
+    from: SocketAddr,
+) -> Option<(L::Stream, SocketAddr)>
+where
+    L::Stream: Read + Write + OpenStream + AsRawFd + Drop,
+{
+    let number = reception.seats.take(rt)?;
+    reception.present.fetch_add(1, Ordering::Relaxed);
+    if reception.seats.is_full(rt) {
+        reception.porter.is_full();
+    }
+    let left = serve_one(rt, alloc, recent, listener, reception, stream, number);
+    reception.present.fetch_sub(1, Ordering::Relaxed);
+    reception.seats.leave(rt, number);
+    match left {
+        Left::Itself => None,
+        Left::By(why) => {
+            reception.porter.left(from, why);
+            None
+        }
+        Left::For(stream, comes) => {
+            reception.porter.left(from, Leaving::GaveWay);
+            Some((stream, comes))
+        }
+    }
+}
+
+/// Serves the consumers of the stream that is kept, as they connect, one after the other, until no more is to come. The listener's `accept`
+/// is one that does not wait.
+pub fn serve<N: Naming, L: OpenListener, P: Porter, R: Wait + Clock>(
+    rt: &R,
+    alloc: Global,
+    recent: &Recent<N>,
+    listener: &L,
+    reception: &Reception<'_, P>,
 )
 where
-    L::Stream: Read + Write + OpenStream,
+    L::Stream: Read + Write + OpenStream + AsRawFd + Drop,
 {
+    let mut comes: Option<(L::Stream, SocketAddr)> = None;
     for _ in rt.forever() {
         if recent.closed(rt) {
             return;
         }
-        match listener.accept() {
-            Ok((stream, _)) => {
-                present.fetch_add(1, Ordering::Relaxed);
-                serve_one(rt, alloc, recent, stream);
-                present.fetch_sub(1, Ordering::Relaxed);
+        let next = match comes.take() {
+            Some(visitor) => Some(visitor),
+            None => listener.accept().ok(),
+        };
+        match next {
+            Some((stream, from)) => {
+                comes = receive(rt, alloc, recent, listener, reception, stream, from);
             }
-            Err(_) => thread::sleep(rt, Duration::from_millis(LOOK)),
+            None => thread::sleep(rt, Duration::from_millis(LOOK)),
         }
     }
     unreachable!()

@@ -14,6 +14,7 @@
 mod either;
 mod handed;
 mod host;
+mod porter;
 mod running_concentrator;
 mod service;
 mod serving;

@@ -12,6 +12,7 @@ use crate::host::Host;
 use crate::serving::{Consumers, Opened, Serving, run_serving};
 use crate::telling::{begun_text, unknown_text};
 use pdc_mark::Mark;
+use pdc_server::Seats;
 use pdc_settings::unknown_keys;
 use pdc_startup::{
     Begun, Described, Files, Machine, Observed, OutputsSink, RunOptions, ServiceFault,
@@ -83,6 +84,7 @@ fn serve_linked<M: Machine, S: Source + Send + Drop, R: Host>(
     let consumers = Consumers {
         listener,
         most: network.sessions,
+        seats: Seats::new(network.sessions),
         metrics,
     };
     let serving = Serving {

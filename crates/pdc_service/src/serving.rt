@@ -13,12 +13,13 @@ ghost use Rattle.pdc_hub.specs.declared.fault.HubFault.TheVariants.{NoMemory};
 
 use crate::either::run_concentrator;
 use crate::handed::hand_over;
+use crate::porter::JournalPorter;
 use crate::telling::unsent_text;
 use pdc_journal::{AnnouncingSink, CountingSink, Journal, Reporting, RunCounters};
 use pdc_mark::Mark;
 use pdc_metrics::{Metered, serve_metrics};
 use pdc_recording::{RecordedTicker, Series, Shelf, write_record};
-use pdc_server::{Naming, Recent, RememberingSink, serve};
+use pdc_server::{Naming, Recent, Reception, RememberingSink, Seats, serve};
 use pdc_startup::{Begun, Concentrator, Observed, RunOptions, ServiceFault, observe_all, plan_of};
 use pdc_threads::{HubFault, Sink, Source, Totals};
 use pdc_ticking::{ClockTicker, TickTime, WatchedTicker};
@@ -46,6 +47,7 @@ pub struct Opened<'a, S: Source + Drop, M: Mark + Drop, K: Sink + Drop> {
 pub struct Consumers {
     pub listener: TcpListener,
     pub most: u8,
+    pub seats: Seats,
     pub metrics: Option<TcpListener>,
 }
 
@@ -58,6 +60,29 @@ pub struct Serving<'a> {
     pub observed: &'a Observed,
 }
 
+/// Serves consumers, one after the other, until the run ends.
+fn serve_consumers<N: Naming, R: Wait + Clock>(
+    rt: &R,
+    alloc: Global,
+    recent: &Recent<N>,
+    serving: &Serving<'_>,
+) {
+    let consumers = serving.consumers;
+    let porter = JournalPorter {
+        rt,
+        alloc,
+        journal: &serving.observed.journal,
+        port: serving.concentrator.service_settings().session_port,
+        most: consumers.most,
+    };
+    let reception = Reception {
+        present: &serving.observed.signs.consumers,
+        seats: &consumers.seats,
+        porter: &porter,
+    };
+    serve(rt, alloc, recent, &consumers.listener, &reception);
+}
+
 /// Starts a thread that serves consumers, one after the other, and answers whether it was started.
 fn start_session<'s, E: 's, N: Naming + Send + 's, R: Wait + Clock + Sync + 's>(
     scope: &'s Scope<'s, E>,
@@ -66,10 +91,8 @@ fn start_session<'s, E: 's, N: Naming + Send + 's, R: Wait + Clock + Sync + 's>(
     recent: &'s Recent<N>,
     serving: &'s Serving<'s>,
 ) -> bool {
-    let listener = &serving.consumers.listener;
-    let present = &serving.observed.signs.consumers;
     scope
-        .spawn(move || -> () { serve(rt, alloc, recent, listener, present) })
+        .spawn(move || -> () { serve_consumers(rt, alloc, recent, serving) })
         .is_ok()
 }
 

@@ -10,6 +10,7 @@
 mod begun;
 mod concentrator;
 mod described;
+mod expecting;
 mod fault;
 mod files;
 mod machine;

@@ -2,10 +2,11 @@
 ghost use Rattle.std.specs.Prelude.{◌≡◌, IfSome, vec_len};
 
 use crate::concentrator::Concentrator;
+use crate::expecting::expected_of;
 use crate::signs::Signs;
 use pdc_journal::{
-    Compared, Followers, Journal, LeftOut, Measured, ObservedSource, Of, Opening, OutputTally,
-    Tags, Tally, Watchers,
+    Compared, Followers, Hearing, Journal, LeftOut, Measured, ObservedSource, Of, Opening,
+    OutputTally, Tags, Tally, Watchers,
 };
 use pdc_metrics::Metered;
 use pdc_ports::Source;
@@ -182,8 +183,13 @@ pub fn observe_all<'a, S: Source + Drop, R: Wait + Clock>(
         let Some(tally) = observed.tallies.get(watched.len()) else {
             return None;
         };
+        let Some(expected) = expected_of(concentrator, watched.len()) else {
+            return None;
+        };
+        let hearing = Hearing::new(expected);
         let watchers = watchers_of(observed, concentrator.stream_tags(watched.len()));
-        let source = ObservedSource::new(rt, alloc, &observed.journal, tally, watchers, source);
+        let journal = &observed.journal;
+        let source = ObservedSource::new(rt, alloc, journal, tally, hearing, watchers, source);
         let number = u16::try_from(watched.len()).unwrap_or(u16::MAX);
         let recording = observed.recording.as_ref();
         let source = RecordedSource::new(rt, alloc, recording, number, source);
