@@ -1,9 +1,10 @@
 //! Answering at the socket.
 
 use crate::answer::Head;
+use crate::control::Control;
 use crate::request::{Form, Request, request_of};
 use crate::socket::{ControlSocket, MOST_WAITING, answer};
-use std::io::Read;
+use std::io::{ErrorKind, Read};
 use std::os::unix::net::UnixStream;
 use std::rt::Clock;
 use std::sync::Wait;
@@ -13,25 +14,32 @@ use std::{io, thread};
 /// From one look for somebody to the next, in milliseconds.
 const PAUSE: u64 = 20;
 
-/// How many bytes of a request are read at most, in at most so many reads.
+/// How many bytes of a request are read at most, and by how many reads of at most so many milliseconds: it is waited for a second at most, however
+/// slowly it comes.
 const MOST_BYTES: usize = 64;
 
-const READS: u64 = 4;
+const READS: u64 = 20;
 
-/// How long is waited for what somebody sends, and until an answer is taken, in milliseconds.
-const PATIENCE: u64 = 1000;
+const READ_MS: u64 = 50;
 
-/// The request that comes over this connection; none where nothing comes soon, or something else.
-fn read_request(stream: &mut UnixStream) -> io::Result<Option<Request>> {
-    stream.set_read_timeout(Some(Duration::from_millis(PATIENCE)))?;
-    stream.set_write_timeout(Some(Duration::from_millis(PATIENCE)))?;
+/// How long an answer may take to be taken, in milliseconds.
+const WRITE_MS: u64 = 1000;
+
+/// The request that comes over this connection; none where nothing comes soon, or something else. Once the run has ended it is not waited for.
+fn read_request(control: &Control, stream: &mut UnixStream) -> io::Result<Option<Request>> {
+    stream.set_read_timeout(Some(Duration::from_millis(READ_MS)))?;
+    stream.set_write_timeout(Some(Duration::from_millis(WRITE_MS)))?;
     let mut bytes = [0u8; MOST_BYTES];
     let mut len = 0;
     for _ in 0..READS {
         let Some(room) = bytes.get_mut(len..) else {
             return Ok(None);
         };
-        let count = stream.read(room)?;
+        let count = match stream.read(room) {
+            Ok(count) => count,
+            Err(error) if error.kind() == ErrorKind::WouldBlock && !control.has_ended() => continue,
+            Err(error) => return Err(error),
+        };
         len += count;
         let read = &bytes[..len];
         if count == 0 || read.ends_with(b"\n") {
@@ -62,7 +70,7 @@ fn answer_status<R: Wait + Clock>(
 /// Answers who has connected. Who stops the run waits for its end.
 fn serve_one<R: Wait + Clock>(rt: &R, socket: &ControlSocket<'_>, stream: UnixStream) {
     let mut stream = stream;
-    match read_request(&mut stream) {
+    match read_request(&socket.control, &mut stream) {
         Ok(Some(Request::Stop)) => {
             socket.control.stop();
             let _kept = socket.keep(rt, stream);
