@@ -2,6 +2,7 @@
 #![tactic(auto)]
 
 mod complaint;
+mod controlling;
 mod listen;
 mod loading;
 mod mark_convert;
@@ -10,6 +11,7 @@ mod play;
 mod pmu;
 mod running;
 
+use controlling::{run_status_command, run_stop_command};
 use listen::run_listen_command;
 use mark_convert::{mark_convert_status, report_mark_convert};
 use mark_init::{mark_init_status, report_mark_init};
@@ -79,6 +81,8 @@ fn main(rt: HostRuntime) -> io::Result<ExitCode> {
             Request::MarkForget(asked) => run_mark_forget_command(&rt, asked.old, asked.new),
             Request::Node(request) => run_node_command(&rt, request),
             Request::Merge(request) => run_merge_command(&rt, request),
+            Request::Stop(path) => run_stop_command(&rt, path),
+            Request::Status(asked) => run_status_command(&rt, asked),
             Request::Pmu(request) => run_pmu_command(&rt, request),
             Request::Listen(request) => run_listen_command(&rt, request),
         },

@@ -1,14 +1,16 @@
 //! The commands `node` and `merge`.
 
-use crate::DONE;
 use crate::complaint::{NamedPort, complain, complain_at, complain_of, print_fault};
+use crate::controlling::{end_control, open_control};
 use crate::loading::report_load;
+use crate::{DONE, FAILED};
 use pdc_command_line::Running;
 use pdc_service::{
-    Files, Host, Limits, RecordFile, RunOptions, ServiceFault, ThisMachine, Totals, serve_merger,
-    serve_node,
+    Control, ControlSocket, Files, Host, HubFault, Limits, RecordFile, RunOptions, ServiceFault,
+    ThisMachine, Totals, serve_control, serve_merger, serve_node,
 };
-use std::io;
+use std::thread::Scope;
+use std::{io, thread};
 
 /// Prints what a run counted.
 fn report_totals(rt: &impl Print, totals: &Totals) -> io::Result<u8> {
@@ -124,33 +126,112 @@ fn files_of<'a>(request: &Running<'a>) -> Files<'a> {
     }
 }
 
-/// For how long it runs, and what it tells.
-fn options_of(request: &Running) -> RunOptions {
+/// For how long it runs, what it tells, and by what it is stopped before.
+fn options_of<'a>(request: &Running, control: Option<&'a Control>) -> RunOptions<'a> {
     RunOptions {
         ticks: request.ticks,
         every: request.every,
         is_quiet: request.is_quiet,
+        control,
+    }
+}
+
+/// What runs.
+#[derive(Clone, Copy)]
+enum Role {
+    Node,
+    Merger,
+}
+
+impl Role {
+    /// The command that runs it.
+    fn command(self) -> &'static str {
+        match self {
+            Role::Node => "node",
+            Role::Merger => "merge",
+        }
+    }
+}
+
+/// Runs it to its end.
+fn serve<R: Host>(
+    rt: &R,
+    role: Role,
+    request: &Running,
+    control: Option<&Control>,
+) -> Result<Totals, ServiceFault> {
+    let (files, options) = (files_of(request), options_of(request, control));
+    match role {
+        Role::Node => serve_node(rt, &mut ThisMachine, &files, &options),
+        Role::Merger => serve_merger(rt, &mut ThisMachine, &files, &options),
+    }
+}
+
+/// Runs it to its end, with a thread beside it that answers at the socket.
+fn serve_beside<'s, E: 's, R: Host + 's>(
+    scope: &'s Scope<'s, E>,
+    rt: &'s R,
+    role: Role,
+    request: &Running,
+    socket: &'s ControlSocket<'s>,
+) -> Result<Totals, ServiceFault> {
+    if scope
+        .spawn(move || -> () { serve_control(rt, socket) })
+        .is_err()
+    {
+        return Err(ServiceFault::Run(HubFault::NoMemory));
+    }
+    let outcome = serve(rt, role, request, Some(&socket.control));
+    socket.control.end();
+    outcome
+}
+
+/// Runs it to its end, under control at the socket.
+fn serve_controlled<R: Host>(
+    rt: &R,
+    role: Role,
+    request: &Running,
+    socket: &ControlSocket<'_>,
+) -> Result<Totals, ServiceFault> {
+    thread::scope(
+        thread::scope_env(),
+        rt,
+        |scope| -> Result<Totals, ServiceFault> { serve_beside(scope, rt, role, request, socket) },
+    )
+}
+
+/// Runs it to its end under control at the socket of this path, tells what came of it to all who ended it, and answers the exit status.
+fn run_controlled<R: Host + Print>(
+    rt: &R,
+    role: Role,
+    request: &Running,
+    path: &str,
+) -> io::Result<u8> {
+    let Some(socket) = open_control(rt, role.command(), path)? else {
+        return Ok(FAILED);
+    };
+    let outcome = serve_controlled(rt, role, request, &socket);
+    end_control(rt, &socket, &outcome);
+    report_run(rt, role.command(), request, outcome)
+}
+
+/// Runs it to its end, and answers the exit status.
+fn run_role<R: Host + Print>(rt: &R, role: Role, request: &Running) -> io::Result<u8> {
+    match request.control {
+        Some(path) => run_controlled(rt, role, request, path),
+        None => {
+            let outcome = serve(rt, role, request, None);
+            report_run(rt, role.command(), request, outcome)
+        }
     }
 }
 
 /// Runs a node, and answers the exit status.
 pub fn run_node_command<R: Host + Print>(rt: &R, request: &Running) -> io::Result<u8> {
-    let outcome = serve_node(
-        rt,
-        &mut ThisMachine,
-        &files_of(request),
-        &options_of(request),
-    );
-    report_run(rt, "node", request, outcome)
+    run_role(rt, Role::Node, request)
 }
 
 /// Runs the merger, and answers the exit status.
 pub fn run_merge_command<R: Host + Print>(rt: &R, request: &Running) -> io::Result<u8> {
-    let outcome = serve_merger(
-        rt,
-        &mut ThisMachine,
-        &files_of(request),
-        &options_of(request),
-    );
-    report_run(rt, "merge", request, outcome)
+    run_role(rt, Role::Merger, request)
 }

@@ -1,5 +1,6 @@
 //! The commands of `pdc`, and their help.
 
+use crate::control::{STATUS, STOP, status_request};
 use crate::listen::{LISTEN, listen_request};
 use crate::mark_convert::{MARK_CONVERT, mark_convert_request};
 use crate::mark_forget::{MARK_FORGET, mark_forget_request};
@@ -32,6 +33,8 @@ const EXAMPLES: &str = "Examples:
   pdc node a.toml a.mark 3000 run a node for 3000 ticks
   pdc merge m.toml m.mark 3000
                               run the merger for 3000 ticks
+  pdc stop a.control          stop a run that was started with --control a.control
+  pdc status a.control        print the counters of that run
   pdc pmu 11 50 3000 4811     simulate PMU 11 at 50 frames per second
   pdc listen 4751 | pdc show  print what the frames that arrive at a UDP port contain
   pdc watch a.toml b.toml m.toml
@@ -78,6 +81,8 @@ fn with_files<'a>(alloc: Global) -> Result<Command<'a>, AllocError> {
 fn pdc<'a>(alloc: Global) -> Result<Command<'a>, AllocError> {
     let pdc = with(alloc, with_files(alloc), &NODE);
     let pdc = with(alloc, pdc, &MERGE);
+    let pdc = with(alloc, pdc, &STOP);
+    let pdc = with(alloc, pdc, &STATUS);
     let pdc = with(alloc, pdc, &PMU);
     with(alloc, pdc, &LISTEN)
 }
@@ -90,6 +95,8 @@ fn plain_request_of<'a>(name: &str, words: &ArgMatches<'a>) -> Option<Request<'a
         "mark-convert" => mark_convert_request(words),
         "mark-show" => words.get_str("FILE").map(Request::MarkShow),
         "mark-forget" => mark_forget_request(words),
+        "stop" => words.get_str("PATH").map(Request::Stop),
+        "status" => status_request(words),
         _ => None,
     }
 }

@@ -5,6 +5,7 @@
 #![tactic(auto)]
 
 mod command;
+mod control;
 mod listen;
 mod mark_convert;
 mod mark_forget;
@@ -22,5 +23,5 @@ mod wrong;
 pub use command::parse;
 pub use request::{
     Listen, MAX_PLACES, MAX_RATE, MarkConvert, MarkForget, MarkInit, Place, Play, Record, Request,
-    Running, ShowForm, Simulated,
+    Running, ShowForm, Simulated, Status,
 };

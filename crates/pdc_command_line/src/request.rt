@@ -39,6 +39,10 @@ pub enum Request<'a> {
     Node(Running<'a>),
     /// Run the merger.
     Merge(Running<'a>),
+    /// Stop the run whose control socket has this path.
+    Stop(&'a str),
+    /// Print how a run stands.
+    Status(Status<'a>),
     /// Simulate a PMU.
     Pmu(Simulated<'a>),
     /// Print the datagrams that come to a port.
@@ -113,6 +117,17 @@ pub struct Running<'a> {
     pub is_quiet: bool,
     /// Where it is recorded, if it is.
     pub record: Option<Record<'a>>,
+    /// The path of its control socket, if it has one.
+    pub control: Option<&'a str>,
+}
+
+/// A run whose counters are to be printed.
+#[derive(Clone, Copy, Debug)]
+pub struct Status<'a> {
+    /// The path of its control socket.
+    pub path: &'a str,
+    /// Whether they are printed as a JSON object.
+    pub is_json: bool,
 }
 
 /// The record of a run that is to be written.

@@ -36,6 +36,12 @@ rises at each run, so that no file is overwritten. `pdc replay` checks the recor
 explains why a block is absent. The run does not wait for the disk: if the disk is too slow, the
 record has a gap, and a line reports it.
 
+With --control it makes a Unix socket at PATH that only its own user can use. `pdc stop PATH` ends
+the run as after its last tick, and `pdc status PATH` prints its counters. A signal ends the run too,
+but without its totals, without switching off the PMUs that it asked, and without the last second of
+the record. The socket is removed at the end. One that a run left behind which was killed is taken
+over; if a run answers there, or PATH is a file that is not a socket, the node does not start.
+
 Consumers ask for the header, the configuration and the data over TCP at `session_port`, with the
 commands of the standard. A consumer that has data off and sends nothing for a minute is
 disconnected, which frees its place.
@@ -43,9 +49,9 @@ disconnected, which frees its place.
 The node prints faults on standard error. These end it with status 1: S1 Toml, S2 Range and
 S3 DoubledId of the settings; M1 NoMark, M2 Damaged, M3 OtherOwner, M5 StartsUsedUp and M6 OldMark
 of the mark. These end it with status 3: `device fault` if it cannot open a file or a port, another
-process has the mark, a file of the record exists already, or it cannot read the clock; and
-H1 SourceFault, H2 SinkFault, H3 NoMemory and M4 Device, which stop a run. If the system does not
-send a frame, only its reader loses it: the node counts the frame and goes on.
+process has the mark, a file of the record exists already, it cannot make the control socket, or it
+cannot read the clock; and H1 SourceFault, H2 SinkFault, H3 NoMemory and M4 Device, which stop a run.
+If the system does not send a frame, only its reader loses it: the node counts the frame and goes on.
 
 Example, a minute at 50 frames per second:
   pdc node a.toml a.mark 3000";
@@ -97,6 +103,11 @@ const WANTED: &[Wanted<'static>] = &[
         "record-keep",
         Form::Beside("FILES", "record"),
         "Keep only this many of the last record files; default all",
+    ),
+    Wanted(
+        "control",
+        Form::Option("PATH"),
+        "Listen at a Unix socket for `pdc stop PATH` and `pdc status PATH`",
     ),
 ];
 
@@ -156,5 +167,6 @@ pub fn running<'a>(matches: &ArgMatches<'a>) -> Result<Option<Running<'a>>, Wron
         every,
         is_quiet: matches.get_flag("quiet"),
         record: record_of(matches)?,
+        control: matches.get_str("control"),
     }))
 }

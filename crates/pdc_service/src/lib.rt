@@ -23,9 +23,10 @@ mod telling;
 pub use handed::{Handed, hand_over};
 pub use host::Host;
 pub use pdc_startup::{
-    Begun, Files, Limits, LoadFault, MAX_LIMIT, Machine, Plan, RecordFile, RunOptions,
-    ServiceFault, ThisMachine, read_settings_text,
+    AskFault, Begun, Control, ControlFault, ControlSocket, Files, Form, Head, Limits, LoadFault,
+    MAX_LIMIT, MAX_PATH, Machine, Plan, RecordFile, Request, RunOptions, ServiceFault, ThisMachine,
+    ask, read_settings_text, serve_control,
 };
-pub use pdc_threads::{Beside, Outlet, Outside, Totals};
+pub use pdc_threads::{Beside, HubFault, Outlet, Outside, Totals};
 pub use running_concentrator::{run_merger, run_node};
 pub use service::{serve_merger, serve_node};

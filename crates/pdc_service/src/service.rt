@@ -51,7 +51,7 @@ fn serve_linked<M: Machine, S: Source + Send + Drop, R: Host>(
     rt: &R,
     machine: &mut M,
     files: &Files<'_>,
-    options: &RunOptions,
+    options: &RunOptions<'_>,
     described: &Described,
     observed: &Observed,
     linked: Linked<S, M::Mark>,
@@ -101,7 +101,7 @@ fn serve_watched<M: Machine, R: Host>(
     rt: &R,
     machine: &mut M,
     files: &Files<'_>,
-    options: &RunOptions,
+    options: &RunOptions<'_>,
     described: &Described,
     watched: Watched<'_, M::Mark>,
 ) -> Result<Totals, ServiceFault>
@@ -126,7 +126,7 @@ fn serve_described<M: Machine, R: Host>(
     rt: &R,
     machine: &mut M,
     files: &Files<'_>,
-    options: &RunOptions,
+    options: &RunOptions<'_>,
     described: &Described,
 ) -> Result<Totals, ServiceFault>
     ensures totals { IfOk result AreSums }
@@ -158,7 +158,7 @@ pub fn serve_node<M: Machine, R: Host>(
     rt: &R,
     machine: &mut M,
     files: &Files<'_>,
-    options: &RunOptions,
+    options: &RunOptions<'_>,
 ) -> Result<Totals, ServiceFault>
     // The totals are the sums over the receivers.
     ensures totals { IfOk result AreSums }
@@ -182,7 +182,7 @@ pub fn serve_merger<M: Machine, R: Host>(
     rt: &R,
     machine: &mut M,
     files: &Files<'_>,
-    options: &RunOptions,
+    options: &RunOptions<'_>,
 ) -> Result<Totals, ServiceFault>
     ensures totals { IfOk result AreSums }
     // Node A and node B have an entry each.

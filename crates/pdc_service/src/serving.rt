@@ -20,7 +20,9 @@ use pdc_mark::Mark;
 use pdc_metrics::{Metered, serve_metrics};
 use pdc_recording::{RecordedTicker, Series, Shelf, write_record};
 use pdc_server::{Naming, Recent, Reception, RememberingSink, Seats, serve};
-use pdc_startup::{Begun, Concentrator, Observed, RunOptions, ServiceFault, observe_all, plan_of};
+use pdc_startup::{
+    Begun, Concentrator, ControlledTicker, Observed, RunOptions, ServiceFault, observe_all, plan_of,
+};
 use pdc_threads::{HubFault, Sink, Source, Totals};
 use pdc_ticking::{ClockTicker, TickTime, WatchedTicker};
 use std::alloc::Global;
@@ -55,7 +57,7 @@ pub struct Consumers {
 #[derive(Drop)]
 pub struct Serving<'a> {
     pub concentrator: &'a Concentrator,
-    pub options: &'a RunOptions,
+    pub options: &'a RunOptions<'a>,
     pub consumers: &'a Consumers,
     pub observed: &'a Observed,
 }
@@ -218,19 +220,14 @@ fn run_observed<
     let wake = observed.wake.as_ref();
     let time = TickTime::new(rt, output.rate, service.tick_ms, wake);
     let clock = ClockTicker::new(time, output.rate, options.ticks, &signs.is_clock_unreadable);
-    let ticker = Reporting::new(
-        rt,
-        alloc,
-        journal,
-        RunCounters {
-            tallies: observed.tallies.as_slice(),
-            unsent: &signs.unsent,
-            outputs: observed.outputs.as_slice(),
-            left_out: observed.left_out.as_ref(),
-        },
-        clock,
-        options.every,
-    );
+    let counters = RunCounters {
+        tallies: observed.tallies.as_slice(),
+        unsent: &signs.unsent,
+        outputs: observed.outputs.as_slice(),
+        left_out: observed.left_out.as_ref(),
+    };
+    let ticker = Reporting::new(rt, alloc, journal, counters, clock, options.every);
+    let ticker = ControlledTicker::new(rt, alloc, options.control, counters, ticker);
     let ticker = RecordedTicker::new(rt, observed.recording.as_ref(), ticker);
     let ticker = WatchedTicker::new(
         rt,

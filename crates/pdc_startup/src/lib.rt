@@ -31,6 +31,10 @@ pub use machine::{Machine, ThisMachine};
 pub use observing::{Observed, observe_all};
 pub use options::RunOptions;
 pub use outputs_sink::OutputsSink;
+pub use pdc_control::{
+    AskFault, Control, ControlFault, ControlSocket, ControlledTicker, Form, Head, MAX_PATH,
+    Request, ask, serve_control,
+};
 pub use pdc_recording::Limits;
 pub use plan::{MAX_LIMIT, Plan, plan_of};
 pub use recorded::RecordFile;

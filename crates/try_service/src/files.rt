@@ -13,11 +13,12 @@ use std::{env, fs, io};
 use try_script::SettingsText;
 
 /// A run of so many ticks that tells no more than faults.
-fn ticks(count: u32) -> RunOptions {
+fn ticks(count: u32) -> RunOptions<'static> {
     RunOptions {
         ticks: Some(count),
         every: None,
         is_quiet: true,
+        control: None,
     }
 }
 

@@ -59,16 +59,27 @@ mark-init|a|201|1e1 -> status 2
 mark-init|a|201|65537 -> status 2
 mark-init|a|201|99999999999999999999 -> status 2
 mark-init|a|1|1 -> Some(MarkInit(MarkInit { file: "a", id: StreamId { value: 1 }, rate: 1 }))
-node|a.toml|a.mark|4294967295 -> Some(Node(Running { settings: "a.toml", mark: "a.mark", ticks: Some(4294967295), every: None, is_quiet: false, record: None }))
-node|a.toml|a.mark -> Some(Node(Running { settings: "a.toml", mark: "a.mark", ticks: None, every: None, is_quiet: false, record: None }))
+node|a.toml|a.mark|4294967295 -> Some(Node(Running { settings: "a.toml", mark: "a.mark", ticks: Some(4294967295), every: None, is_quiet: false, record: None, control: None }))
+node|a.toml|a.mark -> Some(Node(Running { settings: "a.toml", mark: "a.mark", ticks: None, every: None, is_quiet: false, record: None, control: None }))
 node|a.toml -> status 2
-merge|m.toml|m.mark|--quiet|--every|10 -> Some(Merge(Running { settings: "m.toml", mark: "m.mark", ticks: None, every: Some(10), is_quiet: true, record: None }))
-node|a.toml|a.mark|--record|a.record -> Some(Node(Running { settings: "a.toml", mark: "a.mark", ticks: None, every: None, is_quiet: false, record: Some(Record { name: "a.record", size: 64, keep: None }) }))
-node|a.toml|a.mark|--record|a.record|--record-size|1|--record-keep|3 -> Some(Node(Running { settings: "a.toml", mark: "a.mark", ticks: None, every: None, is_quiet: false, record: Some(Record { name: "a.record", size: 1, keep: Some(3) }) }))
+merge|m.toml|m.mark|--quiet|--every|10 -> Some(Merge(Running { settings: "m.toml", mark: "m.mark", ticks: None, every: Some(10), is_quiet: true, record: None, control: None }))
+node|a.toml|a.mark|--record|a.record -> Some(Node(Running { settings: "a.toml", mark: "a.mark", ticks: None, every: None, is_quiet: false, record: Some(Record { name: "a.record", size: 64, keep: None }), control: None }))
+node|a.toml|a.mark|--record|a.record|--record-size|1|--record-keep|3 -> Some(Node(Running { settings: "a.toml", mark: "a.mark", ticks: None, every: None, is_quiet: false, record: Some(Record { name: "a.record", size: 1, keep: Some(3) }), control: None }))
 node|a.toml|a.mark|--record|a.record|--record-size|65537 -> status 2
 node|a.toml|a.mark|0 -> status 2
 node|a.toml|a.mark|4294967296 -> status 2
-merge|m.toml|m.mark|1 -> Some(Merge(Running { settings: "m.toml", mark: "m.mark", ticks: Some(1), every: None, is_quiet: false, record: None }))
+node|a.toml|a.mark|--control|a.control -> Some(Node(Running { settings: "a.toml", mark: "a.mark", ticks: None, every: None, is_quiet: false, record: None, control: Some("a.control") }))
+node|a.toml|a.mark|--control -> status 2
+stop|a.control -> Some(Stop("a.control"))
+stop -> status 2
+stop|a.control|x -> status 2
+status|a.control -> Some(Status(Status { path: "a.control", is_json: false }))
+status|--json|a.control -> Some(Status(Status { path: "a.control", is_json: true }))
+status|a.control|--format|json -> status 2
+status|--json -> status 2
+stop|--help -> status 0
+help|status -> status 0
+merge|m.toml|m.mark|1 -> Some(Merge(Running { settings: "m.toml", mark: "m.mark", ticks: Some(1), every: None, is_quiet: false, record: None, control: None }))
 merge|m.toml|m.mark|1|x -> status 2
 pmu|11|50|3|4811|4911 -> Some(Pmu(Simulated { id: StreamId { value: 11 }, rate: 50, count: 3, places: [Port(4811), Port(4911)], tcp: None, config_every: None, is_grid: false }))
 pmu|11|50|3|4811|--config-every|5 -> Some(Pmu(Simulated { id: StreamId { value: 11 }, rate: 50, count: 3, places: [Port(4811)], tcp: None, config_every: Some(5), is_grid: false }))
@@ -82,8 +93,8 @@ pmu|11|50|3|--tcp|0.0.0.0:4712 -> Some(Pmu(Simulated { id: StreamId { value: 11 
 pmu|11|50|3|4811|--grid -> Some(Pmu(Simulated { id: StreamId { value: 11 }, rate: 50, count: 3, places: [Port(4811)], tcp: None, config_every: None, is_grid: true }))
 pmu|11|50|3|--tcp|0 -> status 2
 pmu|--help -> status 0
-node|--every|10|a.toml|a.mark|5 -> Some(Node(Running { settings: "a.toml", mark: "a.mark", ticks: Some(5), every: Some(10), is_quiet: false, record: None }))
-merge|m.toml|m.mark|5|--every=86400 -> Some(Merge(Running { settings: "m.toml", mark: "m.mark", ticks: Some(5), every: Some(86400), is_quiet: false, record: None }))
+node|--every|10|a.toml|a.mark|5 -> Some(Node(Running { settings: "a.toml", mark: "a.mark", ticks: Some(5), every: Some(10), is_quiet: false, record: None, control: None }))
+merge|m.toml|m.mark|5|--every=86400 -> Some(Merge(Running { settings: "m.toml", mark: "m.mark", ticks: Some(5), every: Some(86400), is_quiet: false, record: None, control: None }))
 node|a.toml|a.mark|5|--every|0 -> status 2
 node|a.toml|a.mark|5|--every|86401 -> status 2
 node|a.toml|a.mark|5|--every -> status 2
@@ -95,7 +106,7 @@ listen -> status 2
 "#;
 
 /// How many they are.
-const ROWS: usize = 85;
+const ROWS: usize = 96;
 
 /// The words of a line.
 fn words(alloc: Global, line: &str) -> Result<Vec<String>, AllocError> {
