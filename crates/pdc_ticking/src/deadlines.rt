@@ -1,9 +1,10 @@
 //! When ticks are due.
-ghost use Rattle.std.specs.Prelude.{◌≡◌, ◌+◌, ◌*◌, ◌/◌, ◌≤◌, ◌<◌, ◌↔◌, IsTrue};
+ghost use Rattle.std.specs.Prelude.{◌≡◌, ◌+◌, ◌-◌, ◌*◌, ◌/◌, ◌^◌, ◌≤◌, ◌<◌, ◌↔◌, IsTrue, Some, min, if◌then◌else◌};
 ghost use Rattle.pdc_ticking.specs.declared.deadlines.TheConstants.{NANOSECONDS};
 ghost use Rattle.pdc_ticking.specs.Deadlines.{IsNextDeadline};
-ghost use Rattle.pdc_ticking.specs.Waiting.{HasSpare, IsEarly, IsWaiting};
+ghost use Rattle.pdc_ticking.specs.Waiting.{IsEarly, IsWaiting, leaves};
 
+use crate::found::{Found, Given};
 use crate::waiting::Waiting;
 
 /// The nanoseconds in a second.
@@ -12,8 +13,8 @@ pub(crate) const NANOSECONDS: u64 = 1_000_000_000;
 /// The nanoseconds in a millisecond.
 const MILLISECOND: u64 = 1_000_000;
 
-/// In how many times from one deadline to the next one tick more may be given.
-const SPARE_IN: u64 = 10;
+/// How much more late calls would wait than one that is left, before it is.
+const WORTH: u128 = 10;
 
 /// The moments at which a tick is due, in nanoseconds: the first one, and others `span / parts` apart. What is done at one of them moves none.
 #[derive(Clone, Copy, Debug)]
@@ -85,26 +86,45 @@ impl Deadlines {
         given - next <= self.wait_at(next)
     }
 
-    /// Whether a tick more may be given at a moment, where the last such tick was given at `spent`: ten lengths from one deadline to the next
-    /// have passed since, or the clock was set back behind it.
-    fn has_spare(&self, moment: u64, spent: u64) -> bool
-        ensures { IsTrue result ↔ HasSpare (span_of self.now) (parts_of self.now) moment spent }
+    /// How a ticker waits at a moment that may be woken before its deadline, where the last tick that it gave was that of the deadline
+    /// `given`: so it gives one tick between two deadlines, and a clock that was set back a little changes nothing of that.
+    pub fn waiting_at(&self, moment: u64, given: u64) -> Waiting
+        ensures { IsWaiting (first_of self.now) (span_of self.now) (parts_of self.now) moment given result }
     {
-        moment < spent || moment - spent >= SPARE_IN * self.length()
+        if self.is_early(moment, given) {
+            Waiting::Sleep(given - moment)
+        } else {
+            Waiting::ForWake(self.wait_at(moment))
+        }
     }
 
-    /// How a ticker waits at a moment that may be woken before its deadline, where the last tick that it gave was that of the deadline
-    /// `given`, and the last one more was at `spent`: so it gives one tick between two deadlines, and one more in ten of these times at most. A
-    /// clock that was set back a little changes nothing of the first.
-    pub fn waiting_at(&self, moment: u64, given: u64, spent: u64) -> Waiting
-        ensures { IsWaiting (first_of self.now) (span_of self.now) (parts_of self.now) moment given spent result }
+    /// Whether a late call is left for the one after it, where one was left last at `left`. Then what it called for goes out by the next call, one
+    /// length from a deadline to the next later; and ticks come at calls again, where they came behind them. Each call since then
+    /// would have waited ten times as long together, had all been as late as this one.
+    pub fn leaves(&self, found: Found, left: Option<u64>) -> bool
+        ensures { result ≡ leaves (span_of self.now / parts_of self.now) found.moment found.late left }
     {
-        if !self.is_early(moment, given) {
-            Waiting::ForWake(self.wait_at(moment))
-        } else if self.has_spare(moment, spent) {
-            Waiting::ForSpare(given - moment)
+        let Some(left) = left else {
+            return found.late >= 1;
+        };
+        let length = u128::from(self.length());
+        u128::from(found.moment.abs_diff(left)) * u128::from(found.late)
+            >= WORTH * (length * length)
+    }
+
+    /// What a ticker notes that found this, and had noted that: it gives the tick of the next deadline, and may leave a late call.
+    pub fn noted(&self, found: Found, given: Given) -> Given
+        ensures deadline { result.deadline ≡ min (found.moment + found.wait) (2 ^ 64 - 1) }
+        ensures left { result.left ≡ (if leaves (span_of self.now / parts_of self.now) found.moment found.late given.left then Some found.moment else given.left) }
+    {
+        let left = if self.leaves(found, given.left) {
+            Some(found.moment)
         } else {
-            Waiting::Sleep(given - moment)
+            given.left
+        };
+        Given {
+            deadline: found.moment.saturating_add(found.wait),
+            left,
         }
     }
 

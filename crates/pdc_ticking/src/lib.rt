@@ -7,11 +7,12 @@
 //! has come; [`WatchedTicker`] notes each tick for it in [`LastTick`], and tells of ticks that came late.
 //!
 //! A ticker that is to tick as soon as all data of a row is there ticks by a [`WokenTimepiece`]: a [`HoldingSource`] calls it by a [`Wake`], and
-//! between two deadlines it gives one tick, at the call or else at the second of them, and one more in ten such times at most.
+//! between two deadlines it gives one tick, at the call or else at the second of them.
 #![tactic(auto)]
 
 mod clock;
 mod deadlines;
+mod found;
 mod holding_source;
 mod last_tick;
 mod metronome;
@@ -23,6 +24,7 @@ mod woken_timepiece;
 
 pub use clock::{ClockTicker, instant_at};
 pub use deadlines::Deadlines;
+pub use found::{Found, Given};
 pub use holding_source::{HoldingSource, Patience};
 pub use last_tick::LastTick;
 pub use metronome::{Metronome, Timepiece};
