@@ -75,6 +75,13 @@ function drawDelays({ behindMedianMs: median, behindP99Ms: most }) {
   return strip;
 }
 
+// Which PMUs were absent of the merger's stream in the last second.
+function drawAbsent() {
+  const absent = data.pmus.filter(pmu => pmu.presence.some(row => row.stream === 'M' && !/[wg]/.test(row.cells.slice(-10))));
+  return make('p', { class: 'absences', 'data-absent': absent.map(pmu => pmu.source).join(' ') },
+    absent.length ? `absent: ${absent.length} of ${data.pmus.length}, ${absent.map(pmu => pmu.source + ' ' + pmu.name).join(', ')}` : `absent: none of ${data.pmus.length}`);
+}
+
 // The box of a node or of the merger.
 function drawBox(stream) {
   const box = at('box-' + stream.name);
@@ -87,7 +94,7 @@ function drawBox(stream) {
     make('h2', {}, make('span', {}, (stream.name === 'M' ? 'Merger M ' : 'Node ' + stream.name + ' '), make('small', {}, stream.address)),
       make('span', { class: 'state' }, stream.alive ? '● alive' : seen ? '✕ not alive' : '✕ not seen')),
     make('dl', {}, ...rows.flatMap(([name, value]) => [make('dt', {}, name), make('dd', { 'data-of': name }, String(value))])),
-    drawDelays(stream),
+    drawDelays(stream), ...(stream.name === 'M' ? [drawAbsent()] : []),
     ...(stream.connected ? [] : [make('p', { class: 'keys' }, 'no connection, tried again each second')]));
 }
 
@@ -240,18 +247,27 @@ function drawPhasors() {
   put('values', ...lines);
 }
 
+// The step of an axis over such a range: 1, 2 or 5 of a power of ten, and no less than the least, so that it has four steps and a few.
+function roundStep(range, least) {
+  for (let power = least; power < 1e9; power *= 10) for (const factor of [1, 2, 5]) if (power * factor * 4 >= range) return power * factor;
+  return range;
+}
+
 // A strip: one line for each PMU, with gaps where nothing came.
 function drawStrip(id, unit, digits, values) {
   const all = values.flat().filter(value => value !== null);
   let low = Math.min(...all), high = Math.max(...all);
   const drawn = [];
   if (all.length) {
-    const middle = (low + high) / 2, reach = Math.max((high - low) / 2 * 1.1, 2 * 10 ** -digits);
-    low = middle - reach; high = middle + reach;
-    [high, middle, low].forEach((value, place) => {
-      const y = 8 + place * 52;
-      drawn.push(make('path', { class: 'axis', d: `M70 ${y}H600` }), make('text', { class: 'soft', x: 66, y: y + 3, 'text-anchor': 'end' }, value.toFixed(digits) + ' ' + unit));
-    });
+    const step = roundStep(high - low, 10 ** -digits);
+    let bottom = Math.floor(low / step + 1e-6), top = Math.ceil(high / step - 1e-6);
+    if (top - bottom < 2) { bottom--; top = bottom + 2; }
+    low = bottom * step; high = top * step;
+    for (let line = bottom; line <= top; line++) {
+      const y = 112 - (line - bottom) / (top - bottom) * 104;
+      drawn.push(make('path', { class: 'axis', d: `M70 ${y}H600` }),
+        make('text', { class: 'soft', x: 66, y: y + 3, 'text-anchor': 'end', 'data-value': (line * step).toFixed(digits) }, (line * step).toFixed(digits) + ' ' + unit));
+    }
     values.forEach((points, place) => {
       const runs = [[]];
       points.forEach((value, k) => {

@@ -1,5 +1,5 @@
 //! How far behind their instants the last frames of a stream came.
-ghost use Rattle.std.specs.Prelude.{◌≡◌, ◌≤◌, length};
+ghost use Rattle.std.specs.Prelude.{◌≡◌, ◌≤◌, length, min, slice_get};
 ghost use Rattle.pdc_watch.specs.Delays.{place_of_share};
 ghost use Rattle.pdc_watch.specs.declared.delays.TheConstants.{DELAYS};
 
@@ -30,6 +30,7 @@ pub fn place_of(count: usize, share: usize) -> usize
 /// The delay that so many of a hundred do not exceed, of these in rising order; none where there is none.
 pub fn percentile(sorted: &[u16], share: usize) -> Option<u16>
     requires { share ≤ 100 }
+    ensures { result ≡ slice_get sorted.now (place_of_share (min (length sorted.now) DELAYS) share) }
 {
     let place = place_of(sorted.len().min(DELAYS), share);
     sorted.get(place).copied()

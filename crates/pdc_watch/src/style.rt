@@ -44,6 +44,7 @@ dl { display: grid; grid-template-columns: auto 1fr auto 1fr; gap: 0 .5rem; marg
 dt { color: var(--soft); }
 dd { margin: 0; white-space: nowrap; }
 .box .delays { display: flex; flex-wrap: wrap; gap: 0 .6rem; align-items: center; font-size: .85rem; color: var(--soft); }
+.box .absences { font-size: .85rem; color: var(--soft); }
 .delays svg { flex: 1; min-width: 5rem; height: .35rem; }
 .track { fill: var(--none); }
 .most { fill: var(--warn); }
