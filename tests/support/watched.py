@@ -19,7 +19,9 @@ class Watched:
     def __init__(self, room, wait=25):
         self.room, self.page = room, room.ports.one()
         self.url = f"http://{HOST}:{self.page}/"
-        self.pair = Pair(room, [Device(it) for it in PMUS], wait=wait, layout_every=100, more={"m": {"wait": 2 * wait}}, window=256)
+        more = {name: {"metrics_port": room.ports.one()} for name in "abm"}
+        more["m"]["wait"] = 2 * wait
+        self.pair = Pair(room, [Device(it) for it in PMUS], wait=wait, layout_every=100, more=more, window=256)
         self.programs = {name: self.pair.begin(name, "--quiet") for name in "abm"}
         for device, ports in self.pair.places():
             words = [*ports, "--grid", "--config-every", 1]

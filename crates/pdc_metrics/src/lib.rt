@@ -14,6 +14,7 @@ mod families;
 mod http_serving;
 mod metered;
 mod own_host;
+mod process;
 mod report;
 mod serving;
 mod site;

@@ -5,12 +5,14 @@ use crate::families::{
     append_single,
 };
 use crate::metered::Metered;
+use crate::process::append_process;
 use crate::time::{now_micros, tag_micros};
 use pdc_journal::{LeftOut, Of, OutputTally, Refusal, Standing, Tally};
 use std::alloc::{AllocError, Global};
 use std::rt::Clock;
 use std::sync::Wait;
 use std::sync::atomic::Ordering;
+use std::time::Instant;
 
 const TAKEN: Family = Family {
     name: "pdc_frames_taken_total",
@@ -325,7 +327,7 @@ fn append_all<R: Wait + Clock>(
     append_last(rt, metered.measured.tags.time_base, standing, text)
 }
 
-/// All samples of a run, as Prometheus reads them.
+/// All samples of a run that has been served since then, as Prometheus reads them.
 ///
 /// # Errors
 ///
@@ -334,9 +336,11 @@ pub fn metrics_text<R: Wait + Clock>(
     rt: &R,
     alloc: Global,
     metered: &Metered,
+    begun: Instant,
 ) -> Result<String, AllocError> {
     let standing = metered.measured.standing(rt);
     let mut text = String::new(alloc);
+    append_process(rt, begun, &mut text)?;
     append_all(rt, metered, &standing, &mut text)?;
     Ok(text)
 }

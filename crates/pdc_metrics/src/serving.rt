@@ -12,6 +12,7 @@ use std::random::RandomSource;
 use std::rt::Clock;
 use std::sync::Wait;
 use std::sync::atomic::AtomicBool;
+use std::time::Instant;
 
 /// Serves the counters at `/metrics` to all who connect, until all is to end. The listener's `accept` is one that does not wait.
 ///
@@ -30,6 +31,7 @@ pub fn serve_metrics<R: Wait + Clock + RandomSource>(
         rt,
         alloc,
         metered,
+        begun: Instant::now(rt)?,
         own_port: loopback_port(listener)?,
     };
     serve_many(rt, alloc, keys, &mut site, listener, ending)

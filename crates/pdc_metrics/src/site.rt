@@ -10,6 +10,7 @@ use http_server::{Response, Service};
 use std::alloc::{AllocError, Global};
 use std::rt::Clock;
 use std::sync::Wait;
+use std::time::Instant;
 
 /// The type of the text format.
 const METRICS: &str = "text/plain; version=0.0.4; charset=utf-8";
@@ -20,6 +21,8 @@ pub struct Site<'a, R: Wait + Clock> {
     pub rt: &'a R,
     pub alloc: Global,
     pub metered: Metered<'a>,
+    /// Since when the counters are served.
+    pub begun: Instant,
     /// The port of the loopback that is served; none where another address is.
     pub own_port: Option<u16>,
 }
@@ -71,7 +74,7 @@ impl<R: Wait + Clock> Service for Site<'_, R> {
         response.add_header(header::CONNECTION, HeaderValue::from_static("close"))?;
         match asked_by(request, self.own_port) {
             Asked::Metrics => {
-                let text = metrics_text(self.rt, self.alloc, &self.metered)?;
+                let text = metrics_text(self.rt, self.alloc, &self.metered, self.begun)?;
                 let body = Bytes::from_vec(text.into_bytes())?;
                 fill(response, HeaderValue::from_static(METRICS), body)
             }

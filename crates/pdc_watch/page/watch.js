@@ -75,6 +75,14 @@ function drawDelays({ behindMedianMs: median, behindP99Ms: most }) {
   return strip;
 }
 
+// How late a concentrator published in the last minute, by its own counters, which tell bounds; nothing where they cannot be read.
+function drawPublished({ publishedMedianMs: half, publishedP99Ms: most, afterDataMedianMs: halfOfData, afterDataP99Ms: mostOfData }) {
+  if ([half, most, halfOfData, mostOfData].includes(null)) return [];
+  const within = ms => ms === 65535 ? 'over 1 s' : `≤ ${ms} ms`;
+  return [make('p', { class: 'published', 'data-median': half, 'data-most': most, 'data-median-of-data': halfOfData, 'data-most-of-data': mostOfData },
+    `published: ${within(half)}, 99 of 100 ${within(most)}; after data: ${within(halfOfData)}, ${within(mostOfData)}`)];
+}
+
 // Which PMUs were absent of the merger's stream in the last second.
 function drawAbsent() {
   const absent = data.pmus.filter(pmu => pmu.presence.some(row => row.stream === 'M' && !/[wg]/.test(row.cells.slice(-10))));
@@ -94,7 +102,7 @@ function drawBox(stream) {
     make('h2', {}, make('span', {}, (stream.name === 'M' ? 'Merger M ' : 'Node ' + stream.name + ' '), make('small', {}, stream.address)),
       make('span', { class: 'state' }, stream.alive ? '● alive' : seen ? '✕ not alive' : '✕ not seen')),
     make('dl', {}, ...rows.flatMap(([name, value]) => [make('dt', {}, name), make('dd', { 'data-of': name }, String(value))])),
-    drawDelays(stream), ...(stream.name === 'M' ? [drawAbsent()] : []),
+    drawDelays(stream), ...drawPublished(stream), ...(stream.name === 'M' ? [drawAbsent()] : []),
     ...(stream.connected ? [] : [make('p', { class: 'keys' }, 'no connection, tried again each second')]));
 }
 

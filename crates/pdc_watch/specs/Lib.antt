@@ -1,4 +1,5 @@
 pub mod Presence
+pub mod Within
 pub mod Agreement
 pub mod Age
 pub mod Delays

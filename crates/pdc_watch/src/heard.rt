@@ -3,6 +3,7 @@
 use crate::age::is_old;
 use crate::cell::MAX_RATE;
 use crate::delays::Delays;
+use crate::metered::Metered;
 use crate::pmu::Moment;
 use crate::presence::Presence;
 use crate::station::Station;
@@ -27,6 +28,8 @@ pub struct Heard {
     pub arrivals: Presence,
     /// How far behind their instants they came.
     pub delays: Delays,
+    /// How late it published, by its own counters.
+    pub metered: Metered,
     /// How many data frames came.
     pub frames: u64,
     /// How many of them fit no configuration that came.
@@ -98,6 +101,7 @@ impl Heard {
             since_ms: now_ms,
             arrivals: Presence::new(alloc)?,
             delays: Delays::new(alloc)?,
+            metered: Metered::new(alloc),
             frames: 0,
             unread: 0,
             start: 0,

@@ -3,6 +3,7 @@
 use crate::delays::percentile;
 use crate::heard::Heard;
 use crate::shown::ShownStream;
+use crate::within::{Lateness, bound_ms};
 use std::alloc::{AllocError, Global};
 
 /// By how many ms the instant of the last frame lay behind the clock when it came; below zero, before it.
@@ -11,6 +12,16 @@ fn behind(heard: &Heard) -> i64 {
         .came_ms
         .cast_signed()
         .saturating_sub(heard.last_ms.cast_signed())
+}
+
+/// Within how many ms so many of a hundred were published, behind the last data that was taken for them, or behind their instants.
+fn within(metered: Option<Lateness>, is_behind_data: bool, share: u8) -> Option<u16> {
+    let lateness = metered?;
+    if is_behind_data {
+        bound_ms(&lateness.behind_data, share)
+    } else {
+        bound_ms(&lateness.behind_instant, share)
+    }
 }
 
 /// What is shown of a stream.
@@ -24,6 +35,7 @@ pub fn stream_shown<'a>(
 ) -> Result<ShownStream<'a>, AllocError> {
     let told = heard.last_ms > 0;
     let delays = heard.delays.sorted(alloc)?;
+    let metered = heard.metered.last_minute();
     Ok(ShownStream {
         name,
         address,
@@ -36,6 +48,10 @@ pub fn stream_shown<'a>(
         behind_ms: if told { Some(behind(heard)) } else { None },
         behind_median_ms: percentile(delays.as_slice(), 50),
         behind_p99_ms: percentile(delays.as_slice(), 99),
+        published_median_ms: within(metered, false, 50),
+        published_p99_ms: within(metered, false, 99),
+        after_data_median_ms: within(metered, true, 50),
+        after_data_p99_ms: within(metered, true, 99),
         frames_a_second: heard.frames_a_second(now_ms),
         frames: heard.frames,
         unread: heard.unread,

@@ -12,6 +12,7 @@ use crate::present::PresentBlock;
 use crate::published::{Published, PublishedFrame};
 use crate::station::Station;
 use crate::who::{Three, Who};
+use crate::within::Lateness;
 use pdc_block::{ConfigView, Frame, Kind, read_body, read_config};
 use std::alloc::{AllocError, Global};
 
@@ -140,6 +141,22 @@ impl Watch {
     /// Takes whether there is a connection.
     pub fn connect(&mut self, who: Who, connected: bool) {
         self.heard.of_mut(who).connected = connected;
+    }
+
+    /// Takes what a concentrator counts itself of how late it published; nothing where its counters cannot be read.
+    ///
+    /// # Errors
+    ///
+    /// [`AllocError`] where there is no memory for it.
+    pub fn meter(&mut self, who: Who, reading: Option<&Lateness>) -> Result<(), AllocError> {
+        let metered = &mut self.heard.of_mut(who).metered;
+        match reading {
+            Some(reading) => metered.note(reading),
+            None => {
+                metered.forget();
+                Ok(())
+            }
+        }
     }
 
     /// Takes a configuration.

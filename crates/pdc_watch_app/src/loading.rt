@@ -21,6 +21,8 @@ pub struct Session {
     pub rate: u16,
     /// Where it is served.
     pub to: SocketAddr,
+    /// The port of the counters, where they are served on this machine.
+    pub metrics: Option<u16>,
     pub ghost rate_high: { rate ≤ MAX_RATE },
 }
 
@@ -54,14 +56,25 @@ fn reached(address: IpAddr, port: u16) -> SocketAddr {
     SocketAddr::new(loopback, port)
 }
 
+/// The port of the counters of a concentrator whose session is there: they are served at 127.0.0.1 of its own machine.
+fn metrics_of(to: SocketAddr, metrics_port: Option<u16>) -> Option<u16> {
+    if to.ip().is_loopback() {
+        metrics_port
+    } else {
+        None
+    }
+}
+
 /// The session of the node that this text describes.
 fn node_session(alloc: Global, text: &str) -> Result<Session, SettingsFault> {
     let settings = NodeSettings::from_toml(alloc, text)?;
     let network = Network::from_toml(alloc, text)?;
+    let to = reached(network.address, settings.service.session_port);
     Ok(Session {
         id: settings.life.output.id,
         rate: settings.life.output.rate,
-        to: reached(network.address, settings.service.session_port),
+        to,
+        metrics: metrics_of(to, network.metrics_port),
     })
 }
 
@@ -69,10 +82,12 @@ fn node_session(alloc: Global, text: &str) -> Result<Session, SettingsFault> {
 fn merger_session(alloc: Global, text: &str) -> Result<Session, SettingsFault> {
     let settings = MergerSettings::from_toml(alloc, text)?;
     let network = Network::from_toml(alloc, text)?;
+    let to = reached(network.address, settings.service.session_port);
     Ok(Session {
         id: settings.life.output.id,
         rate: settings.life.output.rate,
-        to: reached(network.address, settings.service.session_port),
+        to,
+        metrics: metrics_of(to, network.metrics_port),
     })
 }
 

@@ -3,6 +3,7 @@
 #![tactic(auto)]
 
 mod loading;
+mod meter;
 mod reader;
 mod running;
 mod site;

@@ -42,15 +42,15 @@ pub fn now_ms(clock: &impl Clock) -> u64 {
 }
 
 /// Connects to this address.
-fn connect<R: Net<Listener = TcpListener, Stream = TcpStream>>(
+pub fn connect<R: Net<Listener = TcpListener, Stream = TcpStream>>(
     rt: &R,
     to: &SocketAddr,
-) -> io::Result<Counting<TcpStream>> {
+) -> io::Result<TcpStream> {
     let stream = TcpStream::connect_timeout(rt, to, Duration::from_millis(LIMIT))?;
     stream.set_read_timeout(Some(Duration::from_millis(TURN)))?;
     stream.set_write_timeout(Some(Duration::from_millis(LIMIT)))?;
     stream.set_nodelay(true)?;
-    Ok(Counting::new(stream))
+    Ok(stream)
 }
 
 /// Whether a read only waited.
@@ -112,7 +112,7 @@ impl<'a, R: Net<Listener = TcpListener, Stream = TcpStream> + Clock + Wait> Read
 
     /// Connects, and asks for the configuration and the data.
     fn open(&self) -> Option<Reading> {
-        let mut stream = connect(self.rt, &self.session.to).ok()?;
+        let mut stream = Counting::new(connect(self.rt, &self.session.to).ok()?);
         let framer = Framer::new(self.alloc).ok()?;
         let unread = Unread::new(self.alloc).ok()?;
         if !self.ask(&mut stream) || tell(self.session.id, Command::DataOn, &mut stream).is_err() {

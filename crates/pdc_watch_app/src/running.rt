@@ -1,6 +1,7 @@
-//! The whole program: a thread for each session, and one that serves the page.
+//! The whole program: a thread for each session, one that reads the counters of the pair, and one that serves the page.
 
 use crate::loading::Session;
+use crate::meter::Meter;
 use crate::reader::{Reader, now_ms};
 use crate::site::Site;
 use pdc_metrics::serve_many;
@@ -21,6 +22,15 @@ fn start_reader<
     R: Net<Listener = TcpListener, Stream = TcpStream> + Wait + Clock + Sync + 's,
 >(scope: &'s Scope<'s, E>, reader: Reader<'s, R>) -> bool {
     scope.spawn(move || -> () { reader.read() }).is_ok()
+}
+
+/// Starts the thread that reads the counters, and answers whether it was started.
+fn start_meter<
+    's,
+    E: 's,
+    R: Net<Listener = TcpListener, Stream = TcpStream> + Wait + Clock + Sync + 's,
+>(scope: &'s Scope<'s, E>, meter: Meter<'s, R>) -> bool {
+    scope.spawn(move || -> () { meter.read() }).is_ok()
 }
 
 /// Starts the threads of all sessions, and answers whether all were started.
@@ -80,7 +90,14 @@ pub fn run<
     let ending = AtomicBool::new(false);
     println!(rt; "pdc watch: http://127.0.0.1:{port}/")?;
     thread::scope(thread::scope_env(), rt, |scope| -> io::Result<()> {
-        if !start_readers(scope, rt, alloc, pair, &watch, &ending) {
+        let meter = Meter {
+            rt,
+            alloc,
+            pair,
+            watch: &watch,
+            ending: &ending,
+        };
+        if !start_readers(scope, rt, alloc, pair, &watch, &ending) || !start_meter(scope, meter) {
             ending.store(true, Ordering::SeqCst);
             return Err(io::ErrorKind::OutOfMemory.into());
         }
