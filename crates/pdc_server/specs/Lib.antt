@@ -7,4 +7,3 @@ pub mod Laws
 pub mod Places
 pub mod Stamps
 pub mod Stream
-pub mod Silence

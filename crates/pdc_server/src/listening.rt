@@ -2,9 +2,8 @@
 use crate::consumer::Consumer;
 use crate::line::Line;
 use crate::naming::Naming;
-use crate::porter::{Leaving, Porter};
 use crate::recent::Recent;
-use crate::seats::Seats;
+use pdc_seats::{Leaving, Porter, Seats};
 use pdc_session::end_if_gone;
 use std::alloc::Global;
 use std::io::{Read, Write};

@@ -1,6 +1,6 @@
 //! Who has been silent longest.
 ghost use Rattle.std.specs.Prelude.{◌≡◌, ◌≤◌, ◌+◌, length};
-ghost use Rattle.pdc_server.specs.Silence.{gives_way, longer, longest};
+ghost use Rattle.pdc_seats.specs.Silence.{gives_way, longer, longest};
 
 /// For how long a consumer has been silent.
 #[derive(Clone, Copy, Debug, PartialEq, Eq)]

@@ -1,6 +1,6 @@
 -- Which consumer gives way where all places are taken (this profile).
 use Rattle.std.specs.Prelude.{◌≡◌, refl, ℕ, ◌+◌, ◌==◌, ◌&&◌, Bool, true, false, nat_le, List, [], ◌∷◌, if◌then◌else◌, Option, Some, None}
-use Rattle.pdc_server.specs.declared.silence.Silence.{Silence}
+use Rattle.pdc_seats.specs.declared.silence.Silence.{Silence}
 
 -- of the silence of the consumer with a number and of one behind it the longer; the first where both are equally long
 abbrev pub longer : (number : ℕ) → (millis : Option ℕ) → (later : Option Silence) → Option Silence

@@ -63,6 +63,18 @@ fn first_free(since: &[Option<Instant>]) -> Option<usize> {
     None
 }
 
+/// Whether the consumer at this place gives way, by since when each is silent.
+fn gives_way_in<R: Clock>(rt: &R, since: &[Option<Instant>], most: usize, number: usize) -> bool {
+    if count_taken(since) < most {
+        return false;
+    }
+    let mut silences = [None; MOST_SEATS];
+    for (place, one) in silences.iter_mut().zip(since.iter()) {
+        *place = millis_since(rt, *one);
+    }
+    gives_way(number, GIVES_WAY, &silences)
+}
+
 impl Seats {
     /// So many places, 64 at most, all of them free.
     pub fn new(most: u8) -> Seats {
@@ -76,7 +88,7 @@ impl Seats {
     }
 
     /// Takes the first free place for a consumer that has just come, and answers its number; none where there is none.
-    pub(crate) fn take<R: Wait + Clock>(&self, rt: &R) -> Option<usize> {
+    pub fn take<R: Wait + Clock>(&self, rt: &R) -> Option<usize> {
         let now = Instant::now(rt).ok();
         let mut taken = self.taken.lock(rt);
         let number = first_free(&taken.since)?;
@@ -87,7 +99,7 @@ impl Seats {
     }
 
     /// Whether all places are taken, and that was not told for a minute. It counts as told then.
-    pub(crate) fn is_full<R: Wait + Clock>(&self, rt: &R) -> bool {
+    pub fn is_full<R: Wait + Clock>(&self, rt: &R) -> bool {
         let mut taken = self.taken.lock(rt);
         if count_taken(&taken.since) < self.most {
             return false;
@@ -103,7 +115,7 @@ impl Seats {
     }
 
     /// The consumer at this place sent or got something.
-    pub(crate) fn hear<R: Wait + Clock>(&self, rt: &R, number: usize) {
+    pub fn hear<R: Wait + Clock>(&self, rt: &R, number: usize) {
         let now = Instant::now(rt).ok();
         let mut taken = self.taken.lock(rt);
         if let Some(place) = taken.since.get_mut(number) {
@@ -112,7 +124,7 @@ impl Seats {
     }
 
     /// The consumer at this place has gone.
-    pub(crate) fn leave<R: Wait>(&self, rt: &R, number: usize) {
+    pub fn leave<R: Wait>(&self, rt: &R, number: usize) {
         let mut taken = self.taken.lock(rt);
         if let Some(place) = taken.since.get_mut(number) {
             *place = None;
@@ -121,15 +133,8 @@ impl Seats {
 
     /// Whether the consumer at this place gives way to one who comes: all places are taken, and it has been silent longest, for ten seconds at
     /// least.
-    pub(crate) fn gives_way<R: Wait + Clock>(&self, rt: &R, number: usize) -> bool {
-        let since = self.taken.lock(rt).since;
-        if count_taken(&since) < self.most {
-            return false;
-        }
-        let mut silences = [None; MOST_SEATS];
-        for (place, one) in silences.iter_mut().zip(since.iter()) {
-            *place = millis_since(rt, *one);
-        }
-        gives_way(number, GIVES_WAY, &silences)
+    pub fn gives_way<R: Wait + Clock>(&self, rt: &R, number: usize) -> bool {
+        let taken = self.taken.lock(rt);
+        gives_way_in(rt, &taken.since, self.most, number)
     }
 }
