@@ -15,11 +15,10 @@ use std::{io, thread};
 /// How often the counters are read, in milliseconds.
 const PERIOD: u64 = 5000;
 
-/// The most bytes of an answer that are read.
-const MOST: usize = 1 << 20;
-
-/// How many bytes a read takes at most.
+/// How many bytes a read takes at most, and how many reads of an answer there are: it has at most 4 MiB.
 const PIECE: usize = 4096;
+
+const READS: u32 = 1024;
 
 /// How many reads of an answer may bring nothing, each for as long as a read waits.
 const IDLE: u32 = 40;
@@ -39,12 +38,15 @@ fn read_all<S: Read>(alloc: Global, stream: &mut S) -> io::Result<Vec<u8>> {
     let mut answer = Vec::new(alloc);
     let mut piece = [0u8; PIECE];
     let mut idle = 0u32;
-    while idle < IDLE && answer.len() < MOST {
+    for _ in 0..READS {
         match stream.read(&mut piece) {
             Ok(0) => return Ok(answer),
             Ok(len) => answer.extend_from_slice(piece.get(..len).unwrap_or(&[]))?,
-            Err(error) if error.kind() == ErrorKind::WouldBlock => idle += 1,
+            Err(error) if error.kind() == ErrorKind::WouldBlock => idle = idle.saturating_add(1),
             Err(error) => return Err(error),
+        }
+        if idle > IDLE {
+            break;
         }
     }
     Err(ErrorKind::TimedOut.into())
