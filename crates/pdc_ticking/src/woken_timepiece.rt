@@ -14,6 +14,9 @@ use std::time::Duration;
 /// How often it sleeps to one deadline at most, where the clock is being set meanwhile.
 const MOST_SLEEPS: u32 = 5;
 
+/// How many calls of one instant it waits for at most.
+const MOST_CALLS: u32 = 64;
+
 /// The system's clocks, and deadlines by one of them, before each of which a call may wake it once. Between two deadlines it shows one
 /// time: at the call, or else at the second of them. A call that comes in the rest of that time is late, and found behind the deadline. Where it is
 /// left then, the next call is waited for: so a ticker does not stay behind by a deadline that it was late once.
@@ -119,7 +122,25 @@ impl<'a, R: Wait + Clock> WokenTimepiece<'a, R> {
         if found.late == 0 || is_left {
             self.wait_to(self.given.deadline, found.wait);
         }
+        if is_left {
+            self.wait_for_rest(self.given.deadline);
+        }
         Some(found)
+    }
+
+    /// Waits until no call came for half the time between two deadlines, and at most to this one. The instant that was left is whole, so that each
+    /// datagram of the next one calls, the first of them too.
+    fn wait_for_rest(&self, deadline: u64) {
+        let pause = self.pace.deadlines.length() / 2;
+        for _ in 0..MOST_CALLS {
+            let left = match self.pace.moment() {
+                Some(now) if now < deadline => (deadline - now).min(pause),
+                _ => return,
+            };
+            if !self.wait(left) {
+                return;
+            }
+        }
     }
 
     /// Waits to be woken, and at most to this deadline, which is so many nanoseconds ahead.
