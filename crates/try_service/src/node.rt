@@ -8,12 +8,12 @@ use crate::scripted::{Gauges, Paced, Watched};
 use pdc_life::Settings;
 use pdc_mark::ModelMark;
 use pdc_network::{UdpSink, UdpSource};
-use pdc_server::{Naming, Recent, RememberingSink, serve};
+use pdc_server::{Leaving, Naming, Porter, Recent, Reception, RememberingSink, Seats, serve};
 use pdc_service::{Begun, Plan, Totals, hand_over, run_node};
 use pdc_settings::NodeSettings;
 use std::alloc::Global;
 use std::marker::Brand;
-use std::net::{Net, TcpListener, TcpStream, UdpSocket};
+use std::net::{Net, SocketAddr, TcpListener, TcpStream, UdpSocket};
 use std::rt::Clock;
 use std::sync::Wait;
 use std::sync::atomic::{AtomicU64, Ordering};
@@ -35,6 +35,33 @@ struct Trial<'s, N: Naming> {
     settings: &'s Settings,
     recent: &'s Recent<N>,
     gauges: &'s Gauges,
+}
+
+/// Nobody hears of consumers.
+#[derive(Clone, Copy)]
+struct Nobody;
+
+impl Porter for Nobody {
+    fn is_full(&self) {}
+
+    fn left(&self, _from: SocketAddr, _why: Leaving) {}
+}
+
+/// Serves consumers, one after the other, until the node ends. There are more places than the trial has consumers.
+fn serve_consumers<N: Naming, R: Wait + Clock>(
+    rt: &R,
+    alloc: Global,
+    recent: &Recent<N>,
+    listener: &TcpListener,
+    present: &AtomicU64,
+) {
+    let seats = Seats::new(8);
+    let reception = Reception {
+        present,
+        seats: &seats,
+        porter: &Nobody,
+    };
+    serve(rt, alloc, recent, listener, &reception);
 }
 
 /// A source that counts what it delivered here.
@@ -175,7 +202,7 @@ fn conduct<
         { run_it(rt, alloc, settings, recent, gauges, wires) },
     );
     let sessions = scope.spawn(move || -> () {
-        serve(rt, alloc, recent, &listener, &gauges.present)
+        serve_consumers(rt, alloc, recent, &listener, &gauges.present)
     });
     let driven = drive(rt, alloc, port, &frames);
     gauges.done.store(1, Ordering::SeqCst);
