@@ -7,11 +7,14 @@ use std::process::Abort;
 
 const NOTHING: &str = "{\"nowMs\":2500,\"begunMs\":1000,\"rate\":50,\"untilMs\":1600,\"streams\":[\
 {\"name\":\"A\",\"address\":\"a:1\",\"connected\":false,\"alive\":false,\"sinceMs\":1000,\"start\":0,\"change\":0,\"lastMs\":null,\
-\"behindMs\":null,\"behindMedianMs\":null,\"behindP99Ms\":null,\"framesASecond\":0,\"frames\":0,\"unread\":0},\
+\"behindMs\":null,\"behindMedianMs\":null,\"behindP99Ms\":null,\"publishedMedianMs\":null,\"publishedP99Ms\":null,\"afterDataMedianMs\":null,\
+\"afterDataP99Ms\":null,\"framesASecond\":0,\"frames\":0,\"unread\":0},\
 {\"name\":\"B\",\"address\":\"b:2\",\"connected\":false,\"alive\":false,\"sinceMs\":1000,\"start\":0,\"change\":0,\"lastMs\":null,\
-\"behindMs\":null,\"behindMedianMs\":null,\"behindP99Ms\":null,\"framesASecond\":0,\"frames\":0,\"unread\":0},\
+\"behindMs\":null,\"behindMedianMs\":null,\"behindP99Ms\":null,\"publishedMedianMs\":null,\"publishedP99Ms\":null,\"afterDataMedianMs\":null,\
+\"afterDataP99Ms\":null,\"framesASecond\":0,\"frames\":0,\"unread\":0},\
 {\"name\":\"M\",\"address\":\"m:3\",\"connected\":false,\"alive\":false,\"sinceMs\":1000,\"start\":0,\"change\":0,\"lastMs\":null,\
-\"behindMs\":null,\"behindMedianMs\":null,\"behindP99Ms\":null,\"framesASecond\":0,\"frames\":0,\"unread\":0}],\
+\"behindMs\":null,\"behindMedianMs\":null,\"behindP99Ms\":null,\"publishedMedianMs\":null,\"publishedP99Ms\":null,\"afterDataMedianMs\":null,\
+\"afterDataP99Ms\":null,\"framesASecond\":0,\"frames\":0,\"unread\":0}],\
 \"pmus\":[],\"agreement\":{\"instants\":0,\"equal\":0,\"different\":0}}";
 
 fn addresses(alloc: Global) -> Result<Three<String>, AllocError> {
